@@ -1,0 +1,7 @@
+pub mod Causes
+pub mod Images
+pub mod Lines
+pub mod Play
+pub mod Script
+pub mod Told
+pub mod Transcript

@@ -1,0 +1,71 @@
+-- The connections of a wire, and what its calls do to them.
+use Rattle.std.specs.Prelude.{◌≡◌, ◌<◌, ◌≤◌, ◌+◌, ℕ, suc, Bool, true, false, List, [], ◌∷◌, ◌++◌, length, not, nat_eq}
+use Rattle.std.specs.List.{list_any, filter}
+use Rattle.tc_io.specs.declared.wire.Ev.{Ev}
+use Rattle.tc_io.specs.declared.wire.Ev.TheVariants.{Opened, Read, Ended, Quiet, Shut}
+use Rattle.tc_io.specs.declared.wire.Sent.{Sent}
+use Rattle.tc_io.specs.declared.wire.Sent.TheVariants.{Took, NotYet, Gone}
+use Rattle.tc_io.specs.declared.wire.Dialled.{Dialled}
+use Rattle.tc_io.specs.declared.wire.Dialled.TheVariants.{Conn, NotNow}
+
+abbrev pub has : List ℕ → ℕ → Bool
+has xs c = list_any (nat_eq c) xs
+
+abbrev pub without : ℕ → List ℕ → List ℕ
+without c xs = filter (λ d. not (nat_eq d c)) xs
+
+-- an event that may come where these are open and ended, and the numbers below given were given
+abbrev pub MayCome : List ℕ → List ℕ → ℕ → List ℕ → Bool → Ev → Type 0
+MayCome conns ended given paused busy (Opened c) = (given ≤ c) × (has conns c ≡ false)
+MayCome conns ended given paused busy (Read c n) = (0 < n) × (n ≤ 4096) × (has conns c ≡ true) × (has ended c ≡ false) × (has paused c ≡ false)
+MayCome conns ended given paused busy (Ended c) = (has conns c ≡ true) × (has ended c ≡ false)
+MayCome conns ended given paused busy Quiet = Unit {0}
+MayCome conns ended given paused busy Shut = busy ≡ false
+
+-- the open connections after an event
+abbrev pub open_after : List ℕ → Ev → List ℕ
+open_after conns (Opened c) = conns ++ c ∷ []
+open_after conns (Read c n) = conns
+open_after conns (Ended c) = conns
+open_after conns Quiet = conns
+open_after conns Shut = conns
+
+-- those of which no more input comes
+abbrev pub ended_after : List ℕ → Ev → List ℕ
+ended_after ended (Opened c) = ended
+ended_after ended (Read c n) = ended
+ended_after ended (Ended c) = c ∷ ended
+ended_after ended Quiet = ended
+ended_after ended Shut = ended
+
+abbrev pub given_after : ℕ → Ev → ℕ
+given_after given (Opened c) = c + 1
+given_after given (Read c n) = given
+given_after given (Ended c) = given
+given_after given Quiet = given
+given_after given Shut = given
+
+-- an answer of a dial that may come
+abbrev pub MayDial : ℕ → Dialled → Type 0
+MayDial given (Conn c) = given ≤ c
+MayDial given NotNow = Unit {0}
+
+abbrev pub open_dialled : List ℕ → Dialled → List ℕ
+open_dialled conns (Conn c) = conns ++ c ∷ []
+open_dialled conns NotNow = conns
+
+abbrev pub given_dialled : ℕ → Dialled → ℕ
+given_dialled given (Conn c) = c + 1
+given_dialled given NotNow = given
+
+-- what a send may take of what it was offered
+abbrev pub CanTake : List ℕ → Sent → Type 0
+CanTake offered (Took n) = (0 < n) × (n ≤ length offered)
+CanTake offered NotYet = Unit {0}
+CanTake offered Gone = Unit {0}
+
+-- what a send may take of so many bytes
+abbrev pub MayTake : ℕ → Sent → Type 0
+MayTake offered (Took n) = (0 < n) × (n ≤ offered)
+MayTake offered NotYet = Unit {0}
+MayTake offered Gone = Unit {0}

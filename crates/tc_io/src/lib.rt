@@ -1,0 +1,27 @@
+//! The outside as four traits, a volume of files, a wire of connections, a sink and a clock, and each of them in memory.
+#![tactic(auto)]
+
+mod act;
+mod clock;
+mod entries;
+mod mem_sink;
+mod mem_volume;
+mod mem_wire;
+mod numbers;
+mod peers;
+mod playing;
+mod sink;
+mod step_clock;
+mod volume;
+mod wire;
+
+pub use act::Act;
+pub use clock::Clock;
+pub use mem_sink::MemSink;
+pub use mem_volume::MemVolume;
+pub use mem_wire::MemWire;
+pub use numbers::Numbers;
+pub use sink::Sink;
+pub use step_clock::StepClock;
+pub use volume::Volume;
+pub use wire::{At, Dialled, Entry, Ev, Sent, Wire};

@@ -1,0 +1,184 @@
+//! A wire: connections, the bytes that come of them and those that are sent to them.
+ghost use Rattle.std.specs.Prelude.{◌≡◌, ◌⊎◌, ◌<◌, ℕ, Bool, true, false, List, [], ◌∷◌, Option, length, IfOk, OnOk, OnErr, is_ok, nat_eq, not};
+ghost use Rattle.std.specs.List.{list_any, filter};
+ghost use Rattle.tc_io.specs.Causes.{HasCause};
+ghost use Rattle.tc_io.specs.Told.{Adds};
+
+use crate::numbers::Numbers;
+use tc_base::{Blob, Fault};
+
+/// Where a wire listens.
+#[derive(Debug, Drop)]
+pub enum At {
+    /// The two standard streams, as connection 0.
+    Pipe,
+    /// An address.
+    Host { host: Blob, port: u16 },
+}
+
+/// What happened on a wire.
+#[derive(Clone, Copy, Debug, PartialEq, Eq)]
+pub enum Ev {
+    /// A connection opened. Its number is above all that were given before.
+    Opened(u32),
+    /// So many bytes came of a connection, 1 to 4096.
+    Read(u32, usize),
+    /// No more input comes of a connection; said once of each.
+    Ended(u32),
+    /// Nothing is ready.
+    Quiet,
+    /// No event will come any more.
+    Shut,
+}
+
+/// What a connection took of the bytes that it was offered.
+#[derive(Clone, Copy, Debug, PartialEq, Eq)]
+pub enum Sent {
+    /// So many from the front, at least 1.
+    Took(usize),
+    /// None, for now.
+    NotYet,
+    /// None, and it will take none any more.
+    Gone,
+}
+
+/// What came of a connection outwards.
+#[derive(Clone, Copy, Debug, PartialEq, Eq)]
+pub enum Dialled {
+    /// It is open under this number, which is above all that were given before.
+    Conn(u32),
+    /// There is none, for now. This is no fault.
+    NotNow,
+}
+
+/// One line of a transcript.
+#[derive(Debug, Drop)]
+pub enum Entry {
+    Open {
+        at: At,
+    },
+    Dial {
+        host: Blob,
+        port: u16,
+        answer: Dialled,
+    },
+    Event {
+        paused: Numbers,
+        busy: bool,
+        ev: Ev,
+        bytes: Blob,
+    },
+    Send {
+        conn: u32,
+        bytes: Blob,
+        answer: Sent,
+    },
+    Close {
+        conn: u32,
+    },
+}
+
+pub trait Wire {
+    ghost use Rattle.tc_io.specs.declared.wire.At.{At};
+    ghost use Rattle.tc_io.specs.declared.wire.Dialled.TheVariants.{NotNow};
+    ghost use Rattle.tc_io.specs.declared.wire.Entry.{Entry};
+    ghost use Rattle.tc_io.specs.declared.wire.Entry.TheVariants.{Open, Dial, Event, Send, Close};
+    ghost use Rattle.tc_io.specs.Lines.{MayCome, MayDial, CanTake, open_after, open_dialled, ended_after, given_after, given_dialled, without};
+    ghost use Rattle.tc_io.specs.Transcript.{bytes_of};
+    ghost use Rattle.tc_io.specs.Script.{Script, Plays};
+
+    /// How often a call failed.
+    ghost faults: { Self → ℕ };
+
+    /// Whether an `open` succeeded.
+    ghost opened: { Self → Bool };
+
+    /// The connections that are open.
+    ghost conns: { Self → List ℕ };
+
+    /// The connections of which no more input comes.
+    ghost ended: { Self → List ℕ };
+
+    /// Each number that was given is below it.
+    ghost given: { Self → ℕ };
+
+    /// What happened so far, where it tells that.
+    ghost transcript: { Self → Option (List Entry) };
+
+    /// What it will still play, where it tells that. Such a wire takes all the bytes that it is offered.
+    ghost plays: { Self → Option Script };
+
+    /// Starts to listen, or takes the two standard streams.
+    fn open(&mut self, at: &At) -> Result<(), Fault>
+        requires { opened self.old ≡ false }
+        ensures opened { opened self.new ≡ is_ok result }
+        ensures conns { conns self.new ≡ conns self.old }
+        ensures ended { ended self.new ≡ ended self.old }
+        ensures given { given self.new ≡ given self.old }
+        ensures told { OnOk result (Adds (transcript self.old) (transcript self.new) (Open at.now ∷ [])) }
+        ensures told_err { OnErr result (Adds (transcript self.old) (transcript self.new) [] ⊎ Adds (transcript self.old) (transcript self.new) (Open at.now ∷ [])) }
+        ensures plays { OnOk result (Plays (plays self.old) (plays self.new) (Open at.now ∷ [])) }
+        ensures cause { HasCause (faults self.old) (faults self.new) result };
+
+    /// Starts a connection outwards.
+    fn dial(&mut self, host: &[u8], port: u16) -> Result<Dialled, Fault>
+        requires { opened self.old ≡ true }
+        ensures opened { opened self.new ≡ true }
+        ensures may { IfOk result (λ answer. MayDial (given self.old) answer) }
+        ensures conns { IfOk result (λ answer. conns self.new ≡ open_dialled (conns self.old) answer) }
+        ensures conns_err { OnErr result (conns self.new ≡ conns self.old) }
+        ensures ended { ended self.new ≡ ended self.old }
+        ensures given { IfOk result (λ answer. given self.new ≡ given_dialled (given self.old) answer) }
+        ensures given_err { OnErr result (given self.new ≡ given self.old) }
+        ensures told { IfOk result (λ answer. Adds (transcript self.old) (transcript self.new) (Dial host.now port answer ∷ [])) }
+        ensures told_err { OnErr result (Adds (transcript self.old) (transcript self.new) [] ⊎ Adds (transcript self.old) (transcript self.new) (Dial host.now port NotNow ∷ [])) }
+        ensures plays { IfOk result (λ answer. Plays (plays self.old) (plays self.new) (Dial host.now port answer ∷ [])) }
+        ensures cause { HasCause (faults self.old) (faults self.new) result };
+
+    /// Gives one event. No read comes of a paused connection. Where `busy` is true it doesn't wait, and `Shut` doesn't come.
+    fn next(&mut self, paused: &[u32], busy: bool, into: &mut [u8; 4096]) -> Result<Ev, Fault>
+        requires { opened self.old ≡ true }
+        ensures opened { opened self.new ≡ true }
+        ensures may { IfOk result (λ ev. MayCome (conns self.old) (ended self.old) (given self.old) paused.now busy ev) }
+        ensures conns { IfOk result (λ ev. conns self.new ≡ open_after (conns self.old) ev) }
+        ensures conns_err { OnErr result (conns self.new ≡ conns self.old) }
+        ensures ended { IfOk result (λ ev. ended self.new ≡ ended_after (ended self.old) ev) }
+        ensures ended_err { OnErr result (ended self.new ≡ ended self.old) }
+        ensures given { IfOk result (λ ev. given self.new ≡ given_after (given self.old) ev) }
+        ensures given_err { OnErr result (given self.new ≡ given self.old) }
+        ensures told { IfOk result (λ ev. Adds (transcript self.old) (transcript self.new) (Event paused.now busy ev (bytes_of ev into.new) ∷ [])) }
+        ensures told_err { OnErr result (Adds (transcript self.old) (transcript self.new) []) }
+        ensures plays { IfOk result (λ ev. Plays (plays self.old) (plays self.new) (Event paused.now busy ev (bytes_of ev into.new) ∷ [])) }
+        ensures cause { HasCause (faults self.old) (faults self.new) result };
+
+    /// Offers bytes to a connection.
+    fn send(&mut self, conn: u32, bytes: &[u8]) -> Result<Sent, Fault>
+        requires opened { opened self.old ≡ true }
+        requires is_open { list_any (nat_eq conn) (conns self.old) ≡ true }
+        requires some { 0 < length bytes.now }
+        ensures opened { opened self.new ≡ true }
+        ensures conns { conns self.new ≡ conns self.old }
+        ensures ended { ended self.new ≡ ended self.old }
+        ensures given { given self.new ≡ given self.old }
+        ensures can { IfOk result (λ sent. CanTake bytes.now sent) }
+        ensures told { IfOk result (λ sent. Adds (transcript self.old) (transcript self.new) (Send conn bytes.now sent ∷ [])) }
+        ensures told_err { OnErr result (Adds (transcript self.old) (transcript self.new) []) }
+        ensures plays { IfOk result (λ sent. Plays (plays self.old) (plays self.new) (Send conn bytes.now sent ∷ [])) }
+        ensures cause { HasCause (faults self.old) (faults self.new) result };
+
+    /// Ends a connection. Also where it fails, the connection is open no more.
+    fn close(&mut self, conn: u32) -> Result<(), Fault>
+        requires opened { opened self.old ≡ true }
+        requires is_open { list_any (nat_eq conn) (conns self.old) ≡ true }
+        ensures opened { opened self.new ≡ true }
+        ensures conns { conns self.new ≡ without conn (conns self.old) }
+        ensures ended { ended self.new ≡ ended self.old }
+        ensures given { given self.new ≡ given self.old }
+        ensures told { OnOk result (Adds (transcript self.old) (transcript self.new) (Close conn ∷ [])) }
+        ensures told_err { OnErr result (Adds (transcript self.old) (transcript self.new) []) }
+        ensures plays { OnOk result (Plays (plays self.old) (plays self.new) (Close conn ∷ [])) }
+        ensures cause { HasCause (faults self.old) (faults self.new) result };
+
+    /// Nothing is open before an `open` succeeds.
+    ghost none_before: { (w : Self) → opened w ≡ false → conns w ≡ [] };
+}
