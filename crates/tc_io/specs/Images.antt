@@ -1,5 +1,5 @@
 -- What calls make of files, and what a stop between or within them may leave.
-use Rattle.std.specs.Prelude.{◌≡◌, ◌⊎◌, ℕ, ◌+◌, ◌-◌, ◌<◌, ◌≤◌, List, [], ◌∷◌, ◌++◌, length, take, drop, nat_eq, if◌then◌else◌}
+use Rattle.std.specs.Prelude.{◌≡◌, ◌⊎◌, ℕ, ◌+◌, ◌-◌, ◌<◌, ◌≤◌, List, [], ◌∷◌, length, take, drop, nat_eq, if◌then◌else◌}
 use Rattle.tc_base.specs.Files.{Files, wrote}
 
 -- what is done to one file

@@ -1,5 +1,5 @@
 -- The connections of a wire, and what its calls do to them.
-use Rattle.std.specs.Prelude.{◌≡◌, ◌<◌, ◌≤◌, ◌+◌, ℕ, suc, Bool, true, false, List, [], ◌∷◌, ◌++◌, length, not, nat_eq}
+use Rattle.std.specs.Prelude.{◌≡◌, ◌<◌, ◌≤◌, ◌+◌, ℕ, Bool, true, false, List, [], ◌∷◌, ◌++◌, length, not, nat_eq}
 use Rattle.std.specs.List.{list_any, filter}
 use Rattle.tc_io.specs.declared.wire.Ev.{Ev}
 use Rattle.tc_io.specs.declared.wire.Ev.TheVariants.{Opened, Read, Ended, Quiet, Shut}

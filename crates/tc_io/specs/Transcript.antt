@@ -1,11 +1,7 @@
 -- What a transcript says of one connection.
-use Rattle.std.specs.Prelude.{ℕ, List, [], ◌∷◌, ◌++◌, take, nat_eq, if◌then◌else◌}
+use Rattle.std.specs.Prelude.{ℕ, List, [], take}
 use Rattle.tc_io.specs.declared.wire.Ev.{Ev}
 use Rattle.tc_io.specs.declared.wire.Ev.TheVariants as event
-use Rattle.tc_io.specs.declared.wire.Sent.{Sent}
-use Rattle.tc_io.specs.declared.wire.Sent.TheVariants.{Took, NotYet, Gone}
-use Rattle.tc_io.specs.declared.wire.Entry.{Entry}
-use Rattle.tc_io.specs.declared.wire.Entry.TheVariants.{Open, Dial, Event, Send, Close}
 
 -- the bytes that an event left in the buffer
 abbrev pub bytes_of : Ev → List ℕ → List ℕ

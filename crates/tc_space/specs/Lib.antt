@@ -1,0 +1,4 @@
+pub mod Errors
+pub mod Moments
+pub mod NoFiles
+pub mod Ranges

@@ -1,0 +1,139 @@
+ghost use Rattle.std.specs.Prelude.{◌≡◌, ◌≢◌, ◌+◌, ◌-◌, ◌^◌, ◌≤◌, ◌<◌, ◌⊎◌, true, false, Bool, List, ℕ, length, take, drop, min, OnOk, OnErr, IfOk, IsErrOf, Option, Some};
+ghost use Rattle.tc_base.specs.Files.{Files, wrote};
+ghost use Rattle.tc_io.specs.Causes.{Rose, HasCause};
+ghost use Rattle.tc_space.specs.Moments.{LeavesOnly, Steady};
+ghost use Rattle.tc_space.specs.Ranges.{IsDataFile, Passes};
+
+use crate::errors::SpaceErr;
+use tc_base::Fault;
+
+/// Files that are read and written, and kept by commits. The data files are 0 and 2 to 18.
+///
+/// After a refusal of `write`, `cut` or `commit` the space isn't sound: its owner takes the volume back and opens it again.
+pub trait Space {
+    /// Whether it tells its files.
+    ghost tells: { Type 0 };
+
+    /// The files now.
+    ghost now: { Self → Files };
+
+    /// The files kept, or none where they can't be recovered.
+    ghost kept: { Self → Option Files };
+
+    /// The moment, as a number that doesn't fall.
+    ghost moment: { Self → ℕ };
+
+    /// What a stop at some moment from that one on leaves, once recovery is done.
+    ghost left: { Self → ℕ → Option Files → Type 0 };
+
+    /// Whether it may be used.
+    ghost sound: { Self → Type 0 };
+
+    /// The same, as `is_sound` answers it.
+    ghost flag: { Self → Bool };
+
+    /// Whether `write` or `cut` was called since the last commit.
+    ghost touched: { Self → Bool };
+
+    /// The greatest length of each file.
+    ghost limit: { Self → ℕ → ℕ };
+
+    /// The undo log has no room for the old bytes of so many bytes of a file from a place on.
+    ghost overfills: { Self → ℕ → ℕ → ℕ → Type 0 };
+
+    /// How many bytes were asked for by reads, up to the greatest number.
+    ghost bytes_read: { Self → ℕ };
+
+    /// How often a call of the volume failed.
+    ghost faults: { Self → ℕ };
+
+    /// Whether it may be used.
+    fn is_sound(&self) -> bool
+        ensures { result ≡ flag self.now };
+
+    /// The length of a data file.
+    fn len(&self, file: u32) -> u64
+        requires sound { sound self.now }
+        requires file { IsDataFile file }
+        ensures { tells → result ≡ length (now self.now file) };
+
+    /// Fills `into` with the bytes of a data file from a place on. It takes no memory.
+    fn read(&mut self, file: u32, at: u64, into: &mut [u8]) -> Result<(), Fault>
+        requires sound { sound self.old }
+        requires file { IsDataFile file }
+        requires inside { tells → at + length into.old ≤ length (now self.old file) }
+        ensures bytes { OnOk result (tells → into.new ≡ take (length into.old) (drop at (now self.old file))) }
+        ensures now { tells → (g : ℕ) → now self.new g ≡ now self.old g }
+        ensures steady { tells → Steady moment left kept self.old self.new }
+        ensures sound { sound self.new }
+        ensures touched { touched self.new ≡ touched self.old }
+        ensures limit { limit self.new ≡ limit self.old }
+        ensures counted { bytes_read self.new ≡ min (bytes_read self.old + length into.old) (2 ^ 64 - 1) }
+        ensures cause { HasCause (faults self.old) (faults self.new) result };
+
+    /// Writes all the bytes over a data file from a place on, which may make it longer. It takes no memory.
+    fn write(&mut self, file: u32, at: u64, bytes: &[u8]) -> Result<(), SpaceErr>
+        requires sound { sound self.old }
+        requires file { IsDataFile file }
+        requires inside { tells → at ≤ length (now self.old file) }
+        ensures wrote { OnOk result (tells → now self.new file ≡ wrote at bytes.now (now self.old file)) }
+        ensures others { OnOk result (tells → (g : ℕ) → g ≢ file → now self.new g ≡ now self.old g) }
+        ensures steady { tells → Steady moment left kept self.old self.new }
+        ensures sound { OnOk result (sound self.new) }
+        ensures spoiled { OnErr result (flag self.new ≡ false) }
+        ensures touched { touched self.new ≡ true }
+        ensures limit { limit self.new ≡ limit self.old }
+        ensures counted { bytes_read self.new ≡ bytes_read self.old }
+        ensures full { IsErrOf result SpaceErr.Full → Passes (limit self.old file) (overfills self.old file at (length bytes.now)) at (length bytes.now) }
+        ensures room { OnOk result (at + length bytes.now ≤ limit self.old file) }
+        ensures no_memory { IsErrOf result SpaceErr.Memory → ⊥ }
+        ensures later { faults self.old ≤ faults self.new }
+        ensures cause { IsErrOf result SpaceErr.Fault → Rose (faults self.old) (faults self.new) };
+
+    /// Shortens a data file to a length. It takes no memory.
+    fn cut(&mut self, file: u32, len: u64) -> Result<(), SpaceErr>
+        requires sound { sound self.old }
+        requires file { IsDataFile file }
+        requires inside { tells → len ≤ length (now self.old file) }
+        ensures cut { OnOk result (tells → now self.new file ≡ take len (now self.old file)) }
+        ensures others { OnOk result (tells → (g : ℕ) → g ≢ file → now self.new g ≡ now self.old g) }
+        ensures steady { tells → Steady moment left kept self.old self.new }
+        ensures sound { OnOk result (sound self.new) }
+        ensures spoiled { OnErr result (flag self.new ≡ false) }
+        ensures touched { touched self.new ≡ true }
+        ensures limit { limit self.new ≡ limit self.old }
+        ensures counted { bytes_read self.new ≡ bytes_read self.old }
+        ensures full { IsErrOf result SpaceErr.Full → (size : ℕ) × overfills self.old file len size }
+        ensures no_memory { IsErrOf result SpaceErr.Memory → ⊥ }
+        ensures later { faults self.old ≤ faults self.new }
+        ensures cause { IsErrOf result SpaceErr.Fault → Rose (faults self.old) (faults self.new) };
+
+    /// Makes the files now the kept ones. It takes no memory.
+    fn commit(&mut self) -> Result<(), Fault>
+        requires { sound self.old }
+        ensures now { tells → (g : ℕ) → now self.new g ≡ now self.old g }
+        ensures kept { OnOk result (tells → kept self.new ≡ Some (now self.old)) }
+        ensures moments { tells → LeavesOnly moment left self.old self.new (λ o. (o ≡ kept self.old) ⊎ (o ≡ Some (now self.old))) }
+        ensures sound { OnOk result (sound self.new) }
+        ensures spoiled { OnErr result (flag self.new ≡ false) }
+        ensures touched { OnOk result (touched self.new ≡ false) }
+        ensures limit { limit self.new ≡ limit self.old }
+        ensures counted { bytes_read self.new ≡ bytes_read self.old }
+        ensures cause { HasCause (faults self.old) (faults self.new) result };
+
+    /// Gives up what was written since the last commit: the space isn't sound any more, and the kept files stay.
+    fn spoil(&mut self)
+        ensures spoiled { flag self.new ≡ false }
+        ensures steady { tells → Steady moment left kept self.old self.new }
+        ensures limit { limit self.new ≡ limit self.old }
+        ensures counted { bytes_read self.new ≡ bytes_read self.old }
+        ensures faults { faults self.new ≡ faults self.old };
+
+    /// While it is sound a stop leaves the kept files and nothing else.
+    ghost only_kept: { (s : Self) (o : Option Files) → tells → sound s → left s (moment s) o → o ≡ kept s };
+
+    /// What is left from a later moment on is left from an earlier one on.
+    ghost earlier: { (s : Self) (t u : ℕ) (o : Option Files) → t ≤ u → left s u o → left s t o };
+
+    ghost flagged: { (s : Self) → sound s → flag s ≡ true };
+}
