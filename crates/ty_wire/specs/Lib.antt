@@ -1,0 +1,6 @@
+pub mod Frames
+pub mod Parsed
+pub mod Prefixes
+pub mod Reading
+pub mod Spelling
+pub mod Taking
