@@ -1,0 +1,12 @@
+//! The program's work.
+#![tactic(auto)]
+
+mod deliver;
+mod outgoing;
+mod server;
+mod store;
+mod top;
+mod turn;
+mod words;
+
+pub use top::{Ran, run};
