@@ -12,7 +12,7 @@ use Rattle.tc_io.specs.declared.wire.Entry.{Entry}
 use Rattle.tc_io.specs.declared.wire.Entry.TheVariants.{Open, Dial, Event, Send, Close}
 use Rattle.ty_wire.specs.Spelling.{reply_bytes}
 use Rattle.tk_top.specs.Database.{Contents, reply_to, contents_after, contents_by, replies_to}
-use Rattle.tk_top.specs.World.{World, start, names, heard, sent, closed, placed, next_request, round, happens, after}
+use Rattle.tk_top.specs.World.{World, start, names, heard, sent, placed, next_request, round, happens, after}
 
 pub record Owes (w : World) : Type 0 where
   pub contents : w.contents ≡ contents_by w.placed empty

@@ -51,12 +51,15 @@ pub rounds : (s0 s1 s2 : Server) (a b : Told) (ev : Ev) → Hears s0 s1 a b ev �
 rounds s0 s1 s2 a b ev hears serves = (
   Event hears.paused hears.busy ev hears.bytes ∷ [],
   hears.told,
-  λ w h. (record {
-    holds = holds_counted s2 (round (heard w ev hears.bytes)) (serves (heard w ev hears.bytes) (hears.holds w h));
-    bytes = hears.bytes;
-    is = refl;
-    shut = λ e. hears.shut e w h;
-  }, (hears.asked w h, tt)),
+  λ w h. (
+    record {
+      holds = holds_counted s2 (round (heard w ev hears.bytes)) (serves (heard w ev hears.bytes) (hears.holds w h));
+      bytes = hears.bytes;
+      is = refl;
+      shut = λ e. hears.shut e w h;
+    },
+    (hears.asked w h, tt),
+  ),
 )
 
 -- ---- what the rounds keep
@@ -130,9 +133,11 @@ turn_shut s0 s1 a b ev is h = (
       let over = h.shut is w k in
       let v = record w { shut = true; events = w.events + 1 } in
       let ends : counted (round (heard w ev h.bytes)) ≡ v = ap (λ (e : Ev). counted (round (heard w e h.bytes))) is ∙ ap counted (shut_round w over) in
-      let there : Holds s1 (record w { shut = true }) = subst (λ (e : Ev). Holds s1 (heard w e h.bytes)) is (h.holds w k) in
-      (subst (λ (z : World). Holds s1 z × (z.shut ≡ true) × (z.gone ≡ false → IsServed z) × (z.opens ≡ w.opens)) (sym ends)
-      (holds_counted s1 (record w { shut = true }) there, refl, λ g. let i = over g in record { none = i.none; told = i.told }, refl), (h.asked w k, tt)),
+      let there : Holds s1 (record w { shut = true }) = subst (λ (e : Ev). Holds s1 (heard w e h.bytes)) is (h.holds w k) in (
+        subst (λ (z : World). Holds s1 z × (z.shut ≡ true) × (z.gone ≡ false → IsServed z) × (z.opens ≡ w.opens)) (sym ends)
+            (holds_counted s1 (record w { shut = true }) there, refl, λ g. let i = over g in record { none = i.none; told = i.told }, refl),
+        (h.asked w k, tt),
+      ),
 )
 
 pub dismiss_err : (s0 s1 s2 : Server) (a b c : Told) (ev : Ev) → Hears s0 s1 a b ev → ((w : World) → Holds s1 w → Holds s2 (round w)) → Tells b c s2 (λ w v. v ≡ w) → Tells a c s0 Fails

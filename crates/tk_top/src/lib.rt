@@ -9,4 +9,4 @@ mod top;
 mod turn;
 mod words;
 
-pub use top::{Ran, run};
+pub use top::{Ran, line_of, run};

@@ -45,7 +45,8 @@ fn serve<W: Wire, K: Clock>(alloc: Global, wire: &mut W, clock: &mut K) -> u8
 
 ghost use Rattle.tk_top.specs.Lines.{line};
 
-fn line_of(status: u8) -> &'static [u8]
+/// The line that is written to the standard error at a status, nothing at 0.
+pub fn line_of(status: u8) -> &'static [u8]
     ensures { result.now ≡ line status }
 {
     match status {
