@@ -1,5 +1,5 @@
 //! A wire that plays a script.
-ghost use Rattle.std.specs.Prelude.{◌≡◌, ◌≤◌, OnOk, OnErr, false, ◌++◌, ◌∷◌, [], Some, None, Option, if◌then◌else◌};
+ghost use Rattle.std.specs.Prelude.{◌≡◌, ◌≤◌, IfOk, OnOk, OnErr, false, ◌++◌, ◌∷◌, [], Some, None, Option, if◌then◌else◌};
 
 use crate::act::Act;
 use crate::wire::{At, Dialled, Entry, Ev, Sent, Wire};
@@ -34,7 +34,10 @@ pub struct MemWire {
 
 impl MemWire {
     /// A wire with an empty script.
-    pub fn new(alloc: Global) -> Result<MemWire, AllocError> {
+    pub fn new(alloc: Global) -> Result<MemWire, AllocError>
+        ensures unopened { IfOk result (λ w. w.opened ≡ false) }
+        ensures empty { IfOk result (λ w. (w.acts.items ≡ []) × (w.dials.items ≡ []) × (w.answers.items ≡ []) × (w.fails.items ≡ []) × (w.log.items ≡ [])) }
+    {
         Ok(MemWire {
             alloc,
             acts: Vec::new(alloc),
@@ -57,7 +60,11 @@ impl MemWire {
     }
 
     /// Adds an event to the script.
-    pub fn act(&mut self, act: Act) -> Result<(), AllocError> {
+    pub fn act(&mut self, act: Act) -> Result<(), AllocError>
+        ensures ok { OnOk result (self.new.acts.items ≡ self.old.acts.items ++ act ∷ []) }
+        ensures err { OnErr result (self.new.acts.items ≡ self.old.acts.items) }
+        ensures opened { self.new.opened ≡ self.old.opened }
+    {
         self.acts.push(act)?;
         Ok(())
     }
@@ -65,6 +72,7 @@ impl MemWire {
     /// Adds reads of bytes of a connection, each of at most `piece` bytes, as many as it takes.
     pub fn feed(&mut self, conn: u32, bytes: &[u8], piece: usize) -> Result<(), AllocError>
         requires { (1 ≤ piece) × (piece ≤ 4096) }
+        ensures opened { self.new.opened ≡ self.old.opened }
     {
         for part in bytes.chunks(piece) {
             let part = Blob::from_slice(self.alloc, part)?;
@@ -74,19 +82,30 @@ impl MemWire {
     }
 
     /// Gives the send of that number, counted from 1, another answer. A `Took(n)` takes at most what is offered.
-    pub fn answer_at(&mut self, call: u64, answer: Sent) -> Result<(), AllocError> {
+    pub fn answer_at(&mut self, call: u64, answer: Sent) -> Result<(), AllocError>
+        ensures ok { OnOk result (self.new.answers.items ≡ self.old.answers.items ++ (call, answer) ∷ []) }
+        ensures err { OnErr result (self.new.answers.items ≡ self.old.answers.items) }
+        ensures opened { self.new.opened ≡ self.old.opened }
+    {
         self.answers.push((call, answer))?;
         Ok(())
     }
 
     /// Adds an answer of a dial. When none is left, a dial gives `NotNow`.
-    pub fn dial_gives(&mut self, answer: Dialled) -> Result<(), AllocError> {
+    pub fn dial_gives(&mut self, answer: Dialled) -> Result<(), AllocError>
+        ensures ok { OnOk result (self.new.dials.items ≡ self.old.dials.items ++ answer ∷ []) }
+        ensures err { OnErr result (self.new.dials.items ≡ self.old.dials.items) }
+        ensures opened { self.new.opened ≡ self.old.opened }
+    {
         self.dials.push(answer)?;
         Ok(())
     }
 
     /// Names the calls of `open`, `dial`, `next`, `send` and `close`, counted together from 1, that answer a fault.
-    pub fn fail_at(&mut self, calls: Vec<u64>) {
+    pub fn fail_at(&mut self, calls: Vec<u64>)
+        ensures fails { self.new.fails.items ≡ calls.items }
+        ensures opened { self.new.opened ≡ self.old.opened }
+    {
         self.fails = calls;
     }
 

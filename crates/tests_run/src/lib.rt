@@ -1,0 +1,5 @@
+//! Runs of the top call over wires that play a script.
+#![tactic(auto)]
+
+#[cfg(test)]
+mod tests;
