@@ -1,1 +1,3 @@
+pub mod ChosenImages
 pub mod PlayedReads
+pub mod Writes

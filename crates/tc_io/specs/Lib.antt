@@ -1,5 +1,10 @@
 pub mod Causes
+pub mod Chosen
+pub mod Counted
+pub mod History
+pub mod Honest
 pub mod Images
+pub mod Kept
 pub mod Lines
 pub mod Play
 pub mod Script

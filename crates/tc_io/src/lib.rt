@@ -2,8 +2,14 @@
 #![tactic(auto)]
 
 mod act;
+mod changes;
+mod choice;
 mod clock;
+mod counts;
+mod disk;
 mod entries;
+mod file_bytes;
+mod file_set;
 mod mem_sink;
 mod mem_volume;
 mod mem_wire;
@@ -16,6 +22,7 @@ mod volume;
 mod wire;
 
 pub use act::Act;
+pub use choice::Choice;
 pub use clock::Clock;
 pub use mem_sink::MemSink;
 pub use mem_volume::MemVolume;

@@ -1,5 +1,6 @@
 ghost use Rattle.std.specs.Prelude.{◌≡◌, Some, []};
 
+use crate::counts::fault;
 use crate::sink::Sink;
 use std::alloc::Global;
 use tc_base::Fault;
@@ -45,10 +46,7 @@ impl Sink for MemSink {
     fn put(&mut self, bytes: &[u8]) -> Result<(), Fault> {
         match self.bytes.extend_from_slice(bytes) {
             Ok(()) => Ok(()),
-            Err(_) => {
-                self.starved = self.starved.saturating_add(1);
-                Err(Fault)
-            }
+            Err(_) => Err(fault(&mut self.starved)),
         }
     }
 }

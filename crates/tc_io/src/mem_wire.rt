@@ -2,6 +2,7 @@
 ghost use Rattle.std.specs.Prelude.{◌≡◌, ◌≤◌, IfOk, OnOk, OnErr, false, ◌++◌, ◌∷◌, [], Some, None, Option, if◌then◌else◌};
 
 use crate::act::Act;
+use crate::counts::{fault, is_listed, starve};
 use crate::wire::{At, Dialled, Entry, Ev, Sent, Wire};
 use crate::{entries, peers, playing};
 use std::alloc::{AllocError, Global};
@@ -134,30 +135,6 @@ impl MemWire {
     }
 }
 
-// Counts a call. Answers whether it is listed to fail.
-fn is_listed(calls: &mut u64, fails: &[u64]) -> bool {
-    *calls = calls.saturating_add(1);
-    fails.contains(calls)
-}
-
-// Counts a fault.
-fn fault(faults: &mut u64) -> Fault
-    ensures rose { Rose faults.old faults.new }
-    ensures later { faults.old ≤ faults.new }
-{
-    *faults = faults.saturating_add(1);
-    Fault
-}
-
-// Counts a call that found no memory, which is a fault too.
-fn starve(starved: &mut u64, faults: &mut u64) -> Fault
-    ensures rose { Rose faults.old faults.new }
-    ensures later { faults.old ≤ faults.new }
-{
-    *starved = starved.saturating_add(1);
-    fault(faults)
-}
-
 // The answer of a send: all bytes are taken where the list has no other.
 fn answer_of(answers: &[(u64, Sent)], number: u64, offered: usize) -> Sent
     requires { 0 < offered }
@@ -187,7 +164,6 @@ fn taken_of(answer: Sent, offered: usize) -> usize
 }
 
 ghost use Rattle.std.specs.Prelude.{◌<◌, ℕ};
-ghost use Rattle.tc_io.specs.Causes.{Rose};
 ghost use Rattle.tc_io.specs.Lines.{MayTake};
 ghost use Rattle.tc_io.specs.declared.wire.Sent.TheVariants.{Took};
 

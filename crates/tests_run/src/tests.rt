@@ -61,7 +61,7 @@ fn ran(alloc: Global, words: &Vec<String>, mut wire: MemWire) -> Result<Ended, A
     let mut out = MemSink::new(alloc);
     let mut err = MemSink::new(alloc);
     let mut clock = StepClock::new(7, 0);
-    let vol = MemVolume::new()?;
+    let vol = MemVolume::new(alloc)?;
     let ran = run(alloc, words, vol, &mut wire, &mut out, &mut err, &mut clock);
     Ok(Ended {
         status: ran.status,

@@ -31,7 +31,7 @@ fn main(rt: HostRuntime) -> ExitCode {
     let Ok(words) = args.skip(1).collect::<Vec<String>>(alloc) else {
         return give_up(&mut err, 5);
     };
-    let Ok(vol) = MemVolume::new() else {
+    let Ok(vol) = MemVolume::new(alloc) else {
         return give_up(&mut err, 5);
     };
     let Ok(mut wire) = PipeWire::new(alloc, rt.stdin(), rt.stdout()) else {

@@ -1,0 +1,24 @@
+-- A history of calls, the oldest first.
+use Rattle.std.specs.Prelude.{◌≡◌, ℕ, List, [], ◌∷◌, ◌++◌, map, reverse}
+use Rattle.std.proofs.Common.{ap, ◌∙◌}
+use Rattle.std.proofs.lemmas.List.{map-append, reverse-append}
+use Rattle.tc_io.specs.Images.{Step, loaded, written, cut_to, synced, Calls}
+use Rattle.tc_io.specs.declared.changes.Change.{Change}
+use Rattle.tc_io.specs.declared.changes.Change.TheVariants.{Loaded, Written, CutTo, Synced}
+use Rattle.tc_io.specs.declared.changes.Call.{Call}
+
+abbrev pub step_of : Change → Step
+step_of (Loaded bytes) = loaded bytes
+step_of (Written at bytes) = written at bytes
+step_of (CutTo len) = cut_to len
+step_of Synced = synced
+
+abbrev pub call_of : Call → ℕ × Step
+call_of c = (c.file, step_of c.change)
+
+-- the calls of a history, the newest first
+abbrev pub calls_of : List Call → Calls
+calls_of history = reverse (map call_of history)
+
+pub calls_push : (history : List Call) (c : Call) → calls_of (history ++ c ∷ []) ≡ call_of c ∷ calls_of history
+calls_push history c = ap (λ (l : Calls). reverse l) (map-append call_of history (c ∷ [])) ∙ reverse-append (map call_of history) (call_of c ∷ [])
