@@ -1,5 +1,5 @@
 //! Fields of a text of bytes, read from left to right.
-ghost use Rattle.std.specs.Prelude.{◌≡◌, slice_index};
+ghost use Rattle.std.specs.Prelude.{◌≡◌, ◌<◌, ◌≤◌, ◌^◌, slice_index, IfOk};
 ghost use Rattle.tc_base.specs.Reading.{Gives, size_at, bytes_at};
 
 /// Why no whole value stands at the front of bytes.
@@ -21,7 +21,8 @@ fn byte_or_zero(bytes: &[u8], i: usize) -> u8
 /// Four bytes, the greatest first, of a number that is at most `limit`, and the bytes behind them. Where fewer than four
 /// stand there, the missing ones count as zeros: the least number that they can come to be.
 pub fn read_size(limit: usize, bytes: &[u8]) -> Result<(usize, &[u8]), NotWhole>
-    ensures { Gives (λ x. (x.0, x.1.now)) result (size_at limit bytes.now) }
+    ensures size { Gives (λ x. (x.0, x.1.now)) result (size_at limit bytes.now) }
+    ensures small { IfOk result (λ x. (x.0 ≤ limit) × (x.0 < 2 ^ 32)) }
 {
     let least = u32::from_be_bytes([
         byte_or_zero(bytes, 0),

@@ -6,5 +6,6 @@ pub mod Fine
 pub mod Settled
 pub mod Turned
 pub mod Owing
+pub mod Refusals
 pub mod Running
 pub mod TheWords

@@ -17,7 +17,6 @@ use Rattle.tc_base.specs.declared.fields.NotWhole.TheVariants.{Part as Part'}
 use Rattle.ty_wire.specs.Taking.{IsRead}
 use Rattle.ty_wire.specs.declared.reading.Front.{Front as Take}
 use Rattle.ty_wire.specs.declared.reading.Front.TheVariants.{Whole, Part, Bad}
-use Rattle.tc_base.specs.declared.request.Request.TheVariants.{Put, Get}
 use Rattle.tc_base.proofs.Exact.{same_whole}
 use Rattle.ty_wire.proofs.Answered.{whole}
 use Rattle.tk_top.specs.Database.{Contents, reply_to, contents_after}
@@ -90,11 +89,6 @@ holds_placed s t w r rest h o fits parts store waiting unread client had gone = 
   owed = ap (λ (l : List ℕ). l ++ reply_bytes (reply_to r w.contents)) h.owed ∙ append_assoc w.out s.waiting (reply_bytes (reply_to r w.contents)) ∙ ap (λ (l : List ℕ). w.out ++ l) (ap (λ (m : _). s.waiting ++ reply_bytes (reply_to r m)) (sym h.contents) ∙ sym waiting);
   over = λ shut g. absurd (let a = shut in let b = o in cc);
 }
-
-pub spelling_some : (r : Request) (rest : List ℕ) → [] ≡ spelling r ++ rest → ⊥
-unfolding spelling
-spelling_some (Put key value) rest e = absurd cc
-spelling_some (Get key) rest e = absurd cc
 
 pub not_whole : (bytes : List ℕ) (t : Take) → IsRead bytes t → ((n : ℕ) → t ≡ Whole n → ⊥) → (e : NotWhole) × (request_at bytes ≡ Err e)
 not_whole bytes (Whole n) is others = absurd (others n refl)

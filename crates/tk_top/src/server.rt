@@ -1,7 +1,7 @@
 //! What the server holds: the database, one connection, its unread bytes and those that wait to be sent.
 ghost use Rattle.std.specs.Prelude.{◌≡◌, ◌++◌, OnOk};
 ghost use Rattle.ty_wire.specs.Spelling.{reply_bytes};
-ghost use Rattle.tk_top.specs.Database.{reply_to, contents_after, value_reply};
+ghost use Rattle.tk_top.specs.Database.{reply_to, contents_after, value_reply, refusal_of};
 
 use crate::outgoing::Outgoing;
 use crate::store::Store;
@@ -40,6 +40,17 @@ fn looked_up(alloc: Global, store: &Store, key: &Blob) -> Result<Reply, AllocErr
 ghost use Rattle.std.specs.Prelude.{IfOk};
 ghost use Rattle.std.specs.FinMap as map;
 
+// The reply to a request that isn't served.
+fn refusal(request: &Request) -> Reply
+    ensures { result ≡ refusal_of request.now }
+{
+    match request {
+        Request::PutNr { .. } => Reply::Silent,
+        Request::Misc { .. } => Reply::FailMisc,
+        _ => Reply::Fail,
+    }
+}
+
 /// Serves a request, whose reply goes behind the bytes that wait.
 pub fn answer(
     alloc: Global,
@@ -59,6 +70,7 @@ pub fn answer(
             let reply = looked_up(alloc, store, &key)?;
             waiting.add(&reply)
         }
+        other => waiting.add(&refusal(&other)),
     }
 }
 

@@ -1,2 +1,5 @@
-pub mod Requests
 pub mod Answered
+pub mod ExactForms
+pub mod ItemLemmas
+pub mod ItemLoops
+pub mod Requests

@@ -1,182 +1,252 @@
 -- Reading a request is exact.
-use Rattle.std.proofs.Common.{◌≡◌, ℕ, ◌≤◌, List, [], ◌∷◌, ◌++◌, length, Ok, Err, refl, sym, ap, subst, ◌∙◌, arith, inl, inr, replicate}
-use Rattle.std.specs.Int.{w32, to_be_bytes}
-use Rattle.std.proofs.lemmas.List.{append-nil, length-replicate}
+use Rattle.std.proofs.Common.{◌≡◌, ◌⊎◌, inl, inr, ℕ, ◌+◌, ◌^◌, ◌<◌, ◌≤◌, Bool, true, false, cond, eqb, List, [], ◌∷◌, ◌++◌, length, Ok, Err, refl, sym, ap, subst, ◌∙◌, arith, length-append}
+use Rattle.std.specs.Prelude.{Option, Some, None, nat_eq, FitsSigned}
+use Rattle.std.specs.Int.{w32, to_be_bytes, cast_signed, cast_unsigned}
+use Rattle.std.proofs.lemmas.Bool.{cases_eq, ne_eqb}
+use Rattle.std.proofs.lemmas.List.{append-nil}
+use Rattle.std.proofs.Common.{eq-eqb}
+use Rattle.std.proofs.lemmas.Int.{of_z-to_z, to_z-of_z}
+use Rattle.std.proofs.Math.Facts.{sfits_to_z}
 use Rattle.tc_base.specs.declared.request.Request.{Request}
-use Rattle.tc_base.specs.declared.request.Request.TheVariants.{Put, Get}
+use Rattle.tc_base.specs.declared.request.Request.TheVariants.{Put, PutKeep, PutCat, PutShl, PutNr, Out, Get, MGet, Vsiz, IterInit, IterNext, FwmKeys, AddInt, AddDouble, Ext, Sync, Optimize, Vanish, Copy, Restore, SetMst, Rnum, Size, Stat, Misc, Repl}
 use Rattle.tc_base.specs.declared.fields.NotWhole.TheVariants.{Bad}
-use Rattle.ty_wire.specs.Spelling.{size, spelling, Fits}
-use Rattle.tc_base.specs.Reading.{◌>>=◌, size_at, bytes_at}
-use Rattle.ty_wire.specs.Reading.{put_at, get_at, fields_at, command_at, request_at}
+use Rattle.tc_base.specs.Reading.{Front, ◌>>=◌, byte_at}
 use Rattle.tc_base.proofs.Exact.{IsExact, Then, Tagged, Cases, exact_then, exact_done, exact_as, exact_case, exact_none, exact_tagged}
-use Rattle.tc_base.proofs.ExactFields.{IsSize, exact_size, exact_bytes}
+use Rattle.ty_wire.specs.Form.{Field, text, word, long, Heads, Values, heads, header, AllFit, body, items_bytes, AllShort, head_bytes, long_bytes, Form, form_bytes, FormFits}
+use Rattle.ty_wire.specs.Form as form
+use Rattle.ty_wire.specs.Spelling.{form as form_of, spelling, Fits, InRange, key_text, value_text}
+use Rattle.ty_wire.specs.Reading.{taken_by, room, Entry, plain, counted, command_of, read_by, values_at, counted_at, named_entries, number_entries, bare_entries, key_entries, entries, pick, fields_at, command_at, request_at}
+use Rattle.ty_wire.proofs.ExactForms.{Ends, AllSmall, IsForm, exact_values, Lot, IsCounted, exact_counted}
 
-abbrev IsText : ℕ → List ℕ → List ℕ → Type 0
-IsText n xs text = (length xs ≡ n) × (text ≡ xs)
+-- ---- one entry of the table
 
-abbrev Ends : Request → Request → List ℕ → Type 0
-Ends r z text = (z ≡ r) × (text ≡ [])
+abbrev pub Of : Entry → Request → List ℕ → Type 0
+Of (plain c fs build) r t = (v : Values fs) × (r ≡ build v) × IsForm fs v t
+Of (counted c fs most build) r t = (l : Lot fs) × (r ≡ build l.0 l.1) × IsCounted fs most l t
 
-some_then : {A B : Type 0} (S : A → List ℕ → Type 0) (T : A → B → List ℕ → Type 0) → ((x : A) × (text : List ℕ) × S x text) → ((x : A) → (y : B) × (text : List ℕ) × T x y text) → (y : B) × (text : List ℕ) × Then S T y text
-some_then S T a f = let b = f a.0 in (b.0, a.1 ++ b.1, (a.0, a.1, b.1, a.2, b.2, refl))
+abbrev pub IsLittle : Entry → Type 0
+IsLittle (plain c fs build) = AllSmall fs
+IsLittle (counted c fs most build) = AllSmall fs × (most < 2 ^ 32)
 
-some_size : (limit : ℕ) → (k : ℕ) × (text : List ℕ) × IsSize limit k text
-some_size limit = (0, to_be_bytes w32 0, (omega arith, refl))
+exact_map : {A B : Type 0} (S : A → List ℕ → Type 0) (f : A → B) (p : List ℕ → Front A) → IsExact S p → IsExact (Then S (λ x. Ends (f x))) (λ bytes. p bytes >>= λ x. Ok (f x.0, x.1))
+exact_map S f p h = exact_then S (λ x. Ends (f x)) p (λ x rest. Ok (f x, rest)) h (λ x. exact_done (f x)) (λ x. (f x, [], (refl, refl)))
 
-some_text : (n : ℕ) → (xs : List ℕ) × (text : List ℕ) × IsText n xs text
-some_text n = let zeros : List ℕ = replicate n 0 in (zeros, zeros, (length-replicate {A = ℕ} n 0, refl))
+no_more : (t front back : List ℕ) → t ≡ front ++ back → back ≡ [] → t ≡ front
+no_more t front back parts none = parts ∙ ap (λ (l : List ℕ). front ++ l) none ∙ append-nil front
 
-some_end : (r : Request) → (z : Request) × (text : List ℕ) × Ends r z text
-some_end r = (r, [], (refl, refl))
+exact_entry : (e : Entry) → IsLittle e → IsExact (Of e) (read_by e)
+exact_entry (plain c fs build) little =
+    exact_as (Then (IsForm fs) (λ v. Ends (build v))) (Of (plain c fs build)) _
+    (λ r t h. (h.0, h.4.0, subst (IsForm fs h.0) (sym (no_more t h.1 h.2 h.5 h.4.1)) h.3))
+    (λ r t h. (h.0, t, [], h.2, (h.1, refl), sym (append-nil t)))
+    (exact_map (IsForm fs) build (values_at fs) (exact_values fs little))
+exact_entry (counted c fs most build) little =
+    exact_as (Then (IsCounted fs most) (λ l. Ends (build l.0 l.1))) (Of (counted c fs most build)) _
+    (λ r t h. (h.0, h.4.0, subst (IsCounted fs most h.0) (sym (no_more t h.1 h.2 h.5 h.4.1)) h.3))
+    (λ r t h. (h.0, t, [], h.2, (h.1, refl), sym (append-nil t)))
+    (exact_map (IsCounted fs most) (λ l. build l.0 l.1) (counted_at fs most) (exact_counted fs most little.0 little.1))
 
--- ---- put
+-- ---- the table
 
-abbrev Put4 : ℕ → List ℕ → Request → List ℕ → Type 0
-Put4 v key = Then (IsText v) (λ value. Ends (Put key value))
+abbrev pub Picked : List Entry → ℕ → Request → List ℕ → Type 0
+Picked [] c r t = ⊥
+Picked (e ∷ es) c r t = Cases c (command_of e) (Of e) (Picked es c) r t
 
-abbrev Put3 : ℕ → ℕ → Request → List ℕ → Type 0
-Put3 k v = Then (IsText k) (λ key. Put4 v key)
+abbrev pub AllLittle : List Entry → Type 0
+AllLittle [] = Unit {0}
+AllLittle (e ∷ es) = IsLittle e × AllLittle es
 
-abbrev Put2 : ℕ → Request → List ℕ → Type 0
-Put2 k = Then (IsSize 16777216) (λ v. Put3 k v)
+exact_pick : (es : List Entry) → AllLittle es → (c : ℕ) → IsExact (Picked es c) (pick es c)
+exact_pick [] little c = exact_none
+exact_pick (e ∷ es) little c = exact_case c (command_of e) (Of e) (Picked es c) (read_by e) (pick es c) (exact_entry e little.0) (exact_pick es little.1 c)
 
-abbrev pub SpellsPut : Request → List ℕ → Type 0
-SpellsPut r text = (key : List ℕ) × (value : List ℕ) × (r ≡ Put key value) × Fits (Put key value) × (text ≡ size key ++ (size value ++ (key ++ value)))
+key_small : 1048576 < 2 ^ 32
+key_small = omega arith
 
-some4 : (v : ℕ) (key : List ℕ) → (r : Request) × (text : List ℕ) × Put4 v key r text
-some4 v key = some_then (IsText v) (λ value. Ends (Put key value)) (some_text v) (λ value. some_end (Put key value))
+value_small : 16777216 < 2 ^ 32
+value_small = omega arith
 
-some3 : (k v : ℕ) → (r : Request) × (text : List ℕ) × Put3 k v r text
-some3 k v = some_then (IsText k) (λ key. Put4 v key) (some_text k) (λ key. some4 v key)
+all_little : AllLittle entries
+all_little =
+    ((key_small, (value_small, tt)), ((key_small, (value_small, tt)), ((key_small, (value_small, tt)), ((key_small, (value_small, (tt, tt))), ((key_small, (value_small, tt)),
+    ((key_small, tt), ((key_small, tt), ((tt, key_small), ((key_small, tt), ((key_small, tt), ((key_small, tt),
+    (tt, (tt, (tt, (tt, (tt, (tt, (tt,
+    ((key_small, (tt, tt)), ((key_small, (tt, tt)), ((key_small, (tt, (tt, tt))), ((key_small, (tt, (key_small, (value_small, tt)))),
+    ((key_small, (tt, (tt, tt))), ((key_small, (tt, (tt, (tt, tt)))), (((key_small, (tt, tt)), value_small), ((tt, (tt, tt)), tt))))))))))))))))))))))))))
 
-some2 : (k : ℕ) → (r : Request) × (text : List ℕ) × Put2 k r text
-some2 k = some_then (IsSize 16777216) (λ v. Put3 k v) (some_size 16777216) (λ v. some3 k v)
+-- ---- from the table to the spelling
 
-put_text : (text t1 t2 t3 t4 t5 t6 t7 t8 key value : List ℕ) (k v : ℕ) → text ≡ t1 ++ t2 → t1 ≡ to_be_bytes w32 k → t2 ≡ t3 ++ t4 → t3 ≡ to_be_bytes w32 v → t4 ≡ t5 ++ t6 → t5 ≡ key → t6 ≡ t7 ++ t8 → t7 ≡ value → t8 ≡ [] → length key ≡ k → length value ≡ v → text ≡ size key ++ (size value ++ (key ++ value))
-put_text text t1 t2 t3 t4 t5 t6 t7 t8 key value k v e1 f1 e2 f3 e4 f5 e6 f7 f8 lk lv =
-    let end : t6 ≡ value = e6 ∙ ap (λ (l : List ℕ). t7 ++ l) f8 ∙ append-nil t7 ∙ f7 in
-    let body : t4 ≡ key ++ value = e4 ∙ ap (λ (l : List ℕ). l ++ t6) f5 ∙ ap (λ (l : List ℕ). key ++ l) end in
-    let sized : t2 ≡ size value ++ (key ++ value) = e2 ∙ ap (λ (l : List ℕ). l ++ t4) (f3 ∙ ap (to_be_bytes w32) (sym lv)) ∙ ap (λ (l : List ℕ). size value ++ l) body in
-    e1 ∙ ap (λ (l : List ℕ). l ++ t2) (f1 ∙ ap (to_be_bytes w32) (sym lk)) ∙ ap (λ (l : List ℕ). size key ++ l) sized
+abbrev Spelled : ℕ → Request → List ℕ → Type 0
+Spelled c r t = Fits r × (spelling r ≡ 0xC8 ∷ c ∷ t)
 
-exact_put : IsExact SpellsPut put_at
-unfolding put_at
-exact_put =
-    exact_as (Then (IsSize 1048576) Put2) SpellsPut _
-    (λ r text h.
-    let k = h.0 in
-    let s = h.4 in
-    let p = s.4 in
-    let q = p.4 in
-    let key = p.0 in
-    let value = q.0 in (
-      key,
-      value,
-      q.4.0,
-      (subst (λ (n : ℕ). n ≤ 1048576) (sym p.3.0) h.3.0, subst (λ (n : ℕ). n ≤ 16777216) (sym q.3.0) s.3.0),
-      put_text text h.1 h.2 s.1 s.2 p.1 p.2 q.1 q.2 key value k s.0 h.5 h.3.1 s.5 s.3.1 p.5 p.3.1 q.5 q.3.1 q.4.1 p.3.0 q.3.0,
-    ))
-    (λ r text h.
-    let key = h.0 in
-    let value = h.1 in (
-      length key,
-      size key,
-      size value ++ (key ++ value),
-      (h.3.0, refl),
-      (
-        length value,
-        size value,
-        key ++ value,
-        (h.3.1, refl),
-        (key, key, value, (refl, refl), (value, value, [], (refl, refl), (h.2, refl), sym (append-nil value)), refl),
-        refl,
-      ),
-      h.4,
-    ))
-    (exact_then (IsSize 1048576) Put2 (size_at 1048576) (λ k rest. size_at 16777216 rest >>= λ v. bytes_at k v.1 >>= λ key. bytes_at v.0 key.1 >>= λ value. Ok (Put key.0 value.0, value.1)) (exact_size 1048576 (omega arith))
-    (λ k. exact_then (IsSize 16777216) (λ v. Put3 k v) (size_at 16777216) (λ v rest. bytes_at k rest >>= λ key. bytes_at v key.1 >>= λ value. Ok (Put key.0 value.0, value.1)) (exact_size 16777216 (omega arith))
-    (λ v. exact_then (IsText k) (λ key. Put4 v key) (bytes_at k) (λ key rest. bytes_at v rest >>= λ value. Ok (Put key value.0, value.1)) (exact_bytes k)
-    (λ key. exact_then (IsText v) (λ value. Ends (Put key value)) (bytes_at v) (λ value rest. Ok (Put key value, rest)) (exact_bytes v) (λ value. exact_done (Put key value)) (λ value. some_end (Put key value)))
-    (λ key. some4 v key))
-    (λ v. some3 k v))
-    some2)
+-- what an entry builds has the entry's form
+abbrev pub Sound : Entry → Type 0
+Sound (plain c fs build) = (v : Values fs) → AllFit fs (heads fs v) → (form_of (build v) ≡ form.plain c fs v) × InRange (build v)
+Sound (counted c fs most build) = ((l : Lot fs) → (form_of (build l.0 l.1) ≡ form.counted c fs l.0 most l.1) × InRange (build l.0 l.1)) × ((h : Heads fs) → AllFit fs h → taken_by fs h ≤ 33554426)
 
--- ---- get
+abbrev pub AllSound : List Entry → Type 0
+AllSound [] = Unit {0}
+AllSound (e ∷ es) = Sound e × AllSound es
 
-abbrev pub SpellsGet : Request → List ℕ → Type 0
-SpellsGet r text = (key : List ℕ) × (r ≡ Get key) × (length key ≤ 1048576) × (text ≡ size key ++ key)
+fields_length : (fs : List Field) (v : Values fs) → length (header fs (heads fs v)) + length (body fs v) ≡ taken_by fs (heads fs v)
+fields_length [] v = refl
+fields_length (text most ∷ fs) v = omega (arith, fields_length fs v.1, length-append (to_be_bytes w32 (length v.0)) (header fs (heads fs v.1)), length-append v.0 (body fs v.1))
+fields_length (word ∷ fs) v = omega (arith, fields_length fs v.1, length-append (to_be_bytes w32 v.0) (header fs (heads fs v.1)))
+fields_length (long ∷ fs) v = omega (arith, fields_length fs v.1, length-append (long_bytes v.0) (header fs (heads fs v.1)))
 
-abbrev Get2 : ℕ → Request → List ℕ → Type 0
-Get2 k = Then (IsText k) (λ key. Ends (Get key))
+whole_length : (c : ℕ) (fs : List Field) (most : ℕ) (l : Lot fs) → length (form_bytes (form.counted c fs l.0 most l.1)) ≡ 6 + taken_by fs (heads fs l.0) + length (items_bytes l.1)
+whole_length c fs most l =
+    let behind = body fs l.0 ++ items_bytes l.1 in
+    omega (arith, fields_length fs l.0, length-append (header fs (heads fs l.0)) (to_be_bytes w32 (length l.1) ++ behind), length-append (to_be_bytes w32 (length l.1)) behind, length-append (body fs l.0) (items_bytes l.1))
 
-exact_get : IsExact SpellsGet get_at
-unfolding get_at
-exact_get =
-    exact_as (Then (IsSize 1048576) Get2) SpellsGet _
-    (λ r text h.
-    let p = h.4 in
-    let key = p.0 in (
-      key,
-      p.4.0,
-      subst (λ (n : ℕ). n ≤ 1048576) (sym p.3.0) h.3.0,
-      h.5 ∙ ap (λ (l : List ℕ). l ++ h.2) (h.3.1 ∙ ap (to_be_bytes w32) (sym p.3.0)) ∙ ap (λ (l : List ℕ). size key ++ l) (p.5 ∙ ap (λ (l : List ℕ). p.1 ++ l) p.4.1 ∙ append-nil p.1 ∙ p.3.1),
-    ))
-    (λ r text h.
-    let key = h.0 in
-    (length key, size key, key, (h.2, refl), (key, key, [], (refl, refl), (h.1, refl), sym (append-nil key)), h.3))
-    (exact_then (IsSize 1048576) Get2 (size_at 1048576) (λ k rest. bytes_at k rest >>= λ key. Ok (Get key.0, key.1)) (exact_size 1048576 (omega arith))
-    (λ k. exact_then (IsText k) (λ key. Ends (Get key)) (bytes_at k) (λ key rest. Ok (Get key, rest)) (exact_bytes k) (λ key. exact_done (Get key)) (λ key. some_end (Get key)))
-    (λ k. some_then (IsText k) (λ key. Ends (Get key)) (some_text k) (λ key. some_end (Get key))))
+entry_to : (e : Entry) → Sound e → (r : Request) (t : List ℕ) → Of e r t → Spelled (command_of e) r t
+unfolding spelling
+entry_to (plain c fs build) sound r t h =
+    let s = sound h.0 h.2.0 in
+    subst (λ (q : Request). Spelled c q t) (sym h.1)
+    ((subst FormFits (sym s.0) h.2.0, s.1), ap form_bytes s.0 ∙ ap (λ (l : List ℕ). 0xC8 ∷ c ∷ l) (sym h.2.1))
+entry_to (counted c fs most build) sound r t h =
+    let l = h.0 in
+    let s = sound.0 l in
+    let fits : length (form_bytes (form.counted c fs l.0 most l.1)) ≤ 33554432 = omega (arith, whole_length c fs most l, h.2.2, sound.1 (heads fs l.0) h.2.0) in
+    subst (λ (q : Request). Spelled c q t) (sym h.1)
+    ((subst FormFits (sym s.0) (h.2.0, h.2.1, fits), s.1), ap form_bytes s.0 ∙ ap (λ (z : List ℕ). 0xC8 ∷ c ∷ z) (sym h.2.3))
+
+picked_to : (es : List Entry) → AllSound es → (c : ℕ) (r : Request) (t : List ℕ) → Picked es c r t → Spelled c r t
+picked_to [] sound c r t h = absurd h
+picked_to (e ∷ es) sound c r t (inl h) = subst (λ (k : ℕ). Spelled k r t) (sym h.0) (entry_to e sound.0 r t h.1)
+picked_to (e ∷ es) sound c r t (inr h) = picked_to es sound.1 c r t h.1
+
+signed_form : (v : Values (key_text ∷ word ∷ [])) → v.1.0 ≤ 4294967295 → (form_of (FwmKeys v.0 (cast_signed w32 v.1.0)) ≡ form.plain 0x58 (key_text ∷ word ∷ []) v) × FitsSigned w32 (cast_signed w32 v.1.0)
+signed_form v fits =
+    (ap (λ (n : ℕ). form.plain 0x58 (key_text ∷ word ∷ []) (v.0, (n, tt))) (of_z-to_z w32 v.1.0 (omega (arith, fits))), sfits_to_z {w = w32} (omega (arith, fits)))
+
+all_sound : AllSound entries
+all_sound =
+    (λ v f. (refl, tt), (λ v f. (refl, tt), (λ v f. (refl, tt), (λ v f. (refl, tt), (λ v f. (refl, tt),
+    (λ v f. (refl, tt), (λ v f. (refl, tt), ((λ l. (refl, tt), λ h f. omega arith), (λ v f. (refl, tt), (λ v f. (refl, tt), (λ v f. (refl, tt),
+    (λ v f. (refl, tt), (λ v f. (refl, tt), (λ v f. (refl, tt), (λ v f. (refl, tt), (λ v f. (refl, tt), (λ v f. (refl, tt), (λ v f. (refl, tt),
+    (λ v f. signed_form v f.1.0, (λ v f. (refl, tt), (λ v f. (refl, tt), (λ v f. (refl, tt),
+    (λ v f. (refl, tt), (λ v f. (refl, tt), ((λ l. (refl, tt), λ h f. omega (arith, f.0)), (λ v f. (refl, tt), tt))))))))))))))))))))))))))
+
+-- ---- from the spelling to the table
+
+abbrev find : List Entry → ℕ → Option Entry
+find [] c = None
+find (e ∷ es) c = cond (nat_eq c (command_of e)) (Some e) (find es c)
+
+test_of : (b : Bool) (x y : Option Entry) (e : Entry) → cond b (Some e) y ≡ x → (b ≡ true) ⊎ (b ≡ false)
+test_of true x y e h = inl refl
+test_of false x y e h = inr refl
+
+same_some : (a b : Entry) → ◌≡◌ {A = Option Entry} (Some a) (Some b) → a ≡ b
+same_some a b e = cc
+
+picked_at : (es : List Entry) (c : ℕ) (e : Entry) (r : Request) (t : List ℕ) → find es c ≡ Some e → Of e r t → Picked es c r t
+picked_at [] c e r t found h = absurd cc
+picked_at (d ∷ es) c e r t found h = elim (cases_eq c (command_of d)) [
+  | inl is ↦
+      let here : cond (nat_eq c (command_of d)) (Some d) (find es c) ≡ Some d = ap (λ (b : Bool). cond b (Some d) (find es c)) (eq-eqb c (command_of d) is) in
+      inl (is, subst (λ (k : Entry). Of k r t) (sym (same_some d e (sym here ∙ found))) h)
+  | inr other ↦
+      let there : cond (nat_eq c (command_of d)) (Some d) (find es c) ≡ find es c = ap (λ (b : Bool). cond b (Some d) (find es c)) (ne_eqb c (command_of d) other) in
+      inr (other, picked_at es c e r t (sym there ∙ found) h)
+]
+
+heads_same : (c d : ℕ) (x y : List ℕ) → 0xC8 ∷ c ∷ x ≡ 0xC8 ∷ d ∷ y → (c ≡ d) × (x ≡ y)
+heads_same c d x y e = (cc, cc)
+
+from_plain : (c : ℕ) (fs : List Field) (build : Values fs → Request) (v : Values fs) (r : Request) → find entries c ≡ Some (plain c fs build) → r ≡ build v → form_of r ≡ form.plain c fs v → Fits r
+    → (d : ℕ) (t : List ℕ) → spelling r ≡ 0xC8 ∷ d ∷ t → Picked entries d r t
+unfolding spelling
+from_plain c fs build v r found is has fits d t e =
+    let whole : 0xC8 ∷ c ∷ (header fs (heads fs v) ++ body fs v) ≡ 0xC8 ∷ d ∷ t = sym (ap form_bytes has) ∙ e in
+    let s = heads_same c d _ t whole in
+    subst (λ (k : ℕ). Picked entries k r t) s.0 (picked_at entries c (plain c fs build) r t found (v, is, (subst FormFits has fits.0, sym s.1)))
+
+from_counted : (c : ℕ) (fs : List Field) (most : ℕ) (build : Values fs → List (List ℕ) → Request) (l : Lot fs) (r : Request) → find entries c ≡ Some (counted c fs most build) → r ≡ build l.0 l.1 → form_of r ≡ form.counted c fs l.0 most l.1 → Fits r
+    → (d : ℕ) (t : List ℕ) → spelling r ≡ 0xC8 ∷ d ∷ t → Picked entries d r t
+unfolding spelling
+from_counted c fs most build l r found is has fits d t e =
+    let whole : 0xC8 ∷ c ∷ (header fs (heads fs l.0) ++ (to_be_bytes w32 (length l.1) ++ (body fs l.0 ++ items_bytes l.1))) ≡ 0xC8 ∷ d ∷ t = sym (ap form_bytes has) ∙ e in
+    let s = heads_same c d _ t whole in
+    let f = subst FormFits has fits.0 in
+    let left : length (items_bytes l.1) ≤ room fs (heads fs l.0) = omega (arith, whole_length c fs most l, f.2) in
+    subst (λ (k : ℕ). Picked entries k r t) s.0 (picked_at entries c (counted c fs most build) r t found (l, is, (f.0, f.1, left, sym s.1)))
+
+picked_back : (r : Request) → Fits r → (d : ℕ) (t : List ℕ) → spelling r ≡ 0xC8 ∷ d ∷ t → Picked entries d r t
+picked_back (Put key value) fits d t e = from_plain 0x10 _ _ (key, (value, tt)) (Put key value) refl refl refl fits d t e
+picked_back (PutKeep key value) fits d t e = from_plain 0x11 _ _ (key, (value, tt)) (PutKeep key value) refl refl refl fits d t e
+picked_back (PutCat key value) fits d t e = from_plain 0x12 _ _ (key, (value, tt)) (PutCat key value) refl refl refl fits d t e
+picked_back (PutShl key value width) fits d t e = from_plain 0x13 _ _ (key, (value, (width, tt))) (PutShl key value width) refl refl refl fits d t e
+picked_back (PutNr key value) fits d t e = from_plain 0x18 _ _ (key, (value, tt)) (PutNr key value) refl refl refl fits d t e
+picked_back (Out key) fits d t e = from_plain 0x20 _ _ (key, tt) (Out key) refl refl refl fits d t e
+picked_back (Get key) fits d t e = from_plain 0x30 _ _ (key, tt) (Get key) refl refl refl fits d t e
+picked_back (Vsiz key) fits d t e = from_plain 0x38 _ _ (key, tt) (Vsiz key) refl refl refl fits d t e
+picked_back IterInit fits d t e = from_plain 0x50 _ _ tt IterInit refl refl refl fits d t e
+picked_back IterNext fits d t e = from_plain 0x51 _ _ tt IterNext refl refl refl fits d t e
+picked_back (AddInt key number) fits d t e = from_plain 0x60 _ _ (key, (number, tt)) (AddInt key number) refl refl refl fits d t e
+picked_back (AddDouble key integer fraction) fits d t e = from_plain 0x61 _ _ (key, (integer, (fraction, tt))) (AddDouble key integer fraction) refl refl refl fits d t e
+picked_back (Ext name options key value) fits d t e = from_plain 0x68 _ _ (name, (options, (key, (value, tt)))) (Ext name options key value) refl refl refl fits d t e
+picked_back Sync fits d t e = from_plain 0x70 _ _ tt Sync refl refl refl fits d t e
+picked_back (Optimize text') fits d t e = from_plain 0x71 _ _ (text', tt) (Optimize text') refl refl refl fits d t e
+picked_back Vanish fits d t e = from_plain 0x72 _ _ tt Vanish refl refl refl fits d t e
+picked_back (Copy path) fits d t e = from_plain 0x73 _ _ (path, tt) (Copy path) refl refl refl fits d t e
+picked_back (Restore path timestamp options) fits d t e = from_plain 0x74 _ _ (path, (timestamp, (options, tt))) (Restore path timestamp options) refl refl refl fits d t e
+picked_back (SetMst host port timestamp options) fits d t e = from_plain 0x78 _ _ (host, (port, (timestamp, (options, tt)))) (SetMst host port timestamp options) refl refl refl fits d t e
+picked_back Rnum fits d t e = from_plain 0x80 _ _ tt Rnum refl refl refl fits d t e
+picked_back Size fits d t e = from_plain 0x81 _ _ tt Size refl refl refl fits d t e
+picked_back Stat fits d t e = from_plain 0x88 _ _ tt Stat refl refl refl fits d t e
+picked_back (Repl timestamp server) fits d t e = from_plain 0xA0 _ _ (timestamp, (server, tt)) (Repl timestamp server) refl refl refl fits d t e
+picked_back (MGet keys) fits d t e = from_counted 0x31 _ _ _ (tt, keys) (MGet keys) refl refl refl fits d t e
+picked_back (Misc name options args) fits d t e = from_counted 0x90 _ _ _ ((name, (options, tt)), args) (Misc name options args) refl refl refl fits d t e
+picked_back (FwmKeys prefix maximum) fits d t e = from_plain 0x58 _ _ (prefix, (cast_unsigned w32 maximum, tt)) (FwmKeys prefix maximum) refl (ap (FwmKeys prefix) (sym (to_z-of_z w32 maximum fits.1))) refl fits d t e
 
 -- ---- a request
 
 abbrev pub Spells : Request → List ℕ → Type 0
-Spells r text = Fits r × (text ≡ spelling r)
+Spells r t = Fits r × (t ≡ spelling r)
 
-abbrev None : Request → List ℕ → Type 0
-None r text = ⊥
-
-abbrev Fields : ℕ → Request → List ℕ → Type 0
-Fields command = Cases command 16 SpellsPut (Cases command 48 SpellsGet None)
+abbrev Nothing : Request → List ℕ → Type 0
+Nothing r t = ⊥
 
 abbrev Command : ℕ → Request → List ℕ → Type 0
-Command magic = Cases magic 200 (Tagged Fields) None
+Command magic = Cases magic 0xC8 (Tagged (Picked entries)) Nothing
 
-fields_to : (command : ℕ) (r : Request) (text back : List ℕ) → Fields command r back → text ≡ 200 ∷ command ∷ back → Spells r text
+command_to : (magic : ℕ) (r : Request) (t back : List ℕ) → Command magic r back → t ≡ magic ∷ back → Spells r t
+command_to magic r t back (inl m) e =
+    let c = m.1 in
+    let s = picked_to entries all_sound c.0 r c.1 c.2 in
+    (s.0, e ∙ ap (λ (n : ℕ). n ∷ back) m.0 ∙ ap (λ (l : List ℕ). 0xC8 ∷ l) c.3 ∙ sym s.1)
+command_to magic r t back (inr nothing) e = absurd nothing.1
+
+spells_to : (r : Request) (t : List ℕ) → Tagged Command r t → Spells r t
+spells_to r t h = command_to h.0 r t h.1 h.2 h.3
+
+-- each spelling begins so
+begins : (r : Request) → (c : ℕ) × (t : List ℕ) × (spelling r ≡ 0xC8 ∷ c ∷ t)
 unfolding spelling
-fields_to command r text back (inl p) e =
-    let s = p.1 in
-    let whole : text ≡ 200 ∷ 16 ∷ (size s.0 ++ (size s.1 ++ (s.0 ++ s.1))) = e ∙ ap (λ (n : ℕ). 200 ∷ n ∷ back) p.0 ∙ ap (λ (l : List ℕ). 200 ∷ 16 ∷ l) s.4 in
-    subst (λ (q : Request). Spells q text) (sym s.2) (s.3, whole)
-fields_to command r text back (inr (_, inl g)) e =
-    let s = g.1 in
-    let whole : text ≡ 200 ∷ 48 ∷ (size s.0 ++ s.0) = e ∙ ap (λ (n : ℕ). 200 ∷ n ∷ back) g.0 ∙ ap (λ (l : List ℕ). 200 ∷ 48 ∷ l) s.3 in
-    subst (λ (q : Request). Spells q text) (sym s.1) (s.2, whole)
-fields_to command r text back (inr (_, inr nothing)) e = absurd nothing.1
+begins r = form_begins (form_of r)
+  where
+    form_begins : (f : Form) → (c : ℕ) × (t : List ℕ) × (form_bytes f ≡ 0xC8 ∷ c ∷ t)
+    form_begins (form.plain c fs v) = (c, _, refl)
+    form_begins (form.counted c fs v most items) = (c, _, refl)
 
-command_to : (magic : ℕ) (r : Request) (text back : List ℕ) → Command magic r back → text ≡ magic ∷ back → Spells r text
-command_to magic r text back (inl m) e =
-    let t = m.1 in
-    fields_to t.0 r text t.1 t.2 (e ∙ ap (λ (n : ℕ). n ∷ back) m.0 ∙ ap (λ (l : List ℕ). 200 ∷ l) t.3)
-command_to magic r text back (inr nothing) e = absurd nothing.1
+spells_back : (r : Request) (t : List ℕ) → Spells r t → Tagged Command r t
+spells_back r t h =
+    let b = begins r in
+    (0xC8, b.0 ∷ b.1, inl (refl, (b.0, b.1, picked_back r h.0 b.0 b.1 b.2, refl)), h.1 ∙ b.2)
 
-spells_to : (r : Request) (text : List ℕ) → Tagged Command r text → Spells r text
-spells_to r text h = command_to h.0 r text h.1 h.2 h.3
+exact_fields : (c : ℕ) → IsExact (Picked entries c) (fields_at c)
+unfolding fields_at
+exact_fields c = exact_pick entries all_little c
 
-spells_back : (r : Request) (text : List ℕ) → Spells r text → Tagged Command r text
-unfolding spelling
-spells_back (Put key value) text h = (200, _, inl (refl, (16, _, inl (refl, (key, value, refl, h.0, refl)), refl)), h.1)
-spells_back (Get key) text h = (200, _, inl (refl, (48, _, inr (λ e. absurd (omega (arith, e)), inl (refl, (key, refl, h.0, refl))), refl)), h.1)
-
-exact_fields : (command : ℕ) → IsExact (Fields command) (fields_at command)
-exact_fields command = exact_case command 16 SpellsPut (Cases command 48 SpellsGet None) put_at _ exact_put (exact_case command 48 SpellsGet None get_at (λ rest. Err Bad) exact_get exact_none)
-
-some_put : (r : Request) × (text : List ℕ) × Fields 16 r text
-some_put = (Put [] [], size [] ++ size [], inl (refl, ([], [], refl, (omega arith, omega arith), refl)))
+some_picked : (r : Request) × (t : List ℕ) × Picked entries 0x50 r t
+some_picked = (IterInit, [], picked_at entries 0x50 (plain 0x50 [] (λ v. IterInit)) IterInit [] refl (tt, refl, (tt, refl)))
 
 exact_command : (magic : ℕ) → IsExact (Command magic) (command_at magic)
-exact_command magic = exact_case magic 200 (Tagged Fields) None _ (λ rest. Err Bad) (exact_tagged Fields fields_at 16 exact_fields some_put) exact_none
+exact_command magic = exact_case magic 0xC8 (Tagged (Picked entries)) Nothing _ (λ rest. Err Bad) (exact_tagged (Picked entries) fields_at 0x50 exact_fields some_picked) exact_none
 
 pub exact_request : IsExact Spells request_at
 unfolding request_at
-exact_request = exact_as (Tagged Command) Spells _ spells_to spells_back (exact_tagged Command command_at 200 exact_command (some_put.0, 16 ∷ some_put.1, inl (refl, (16, some_put.1, some_put.2, refl))))
+exact_request = exact_as (Tagged Command) Spells _ spells_to spells_back (exact_tagged Command command_at 0xC8 exact_command (some_picked.0, 0x50 ∷ some_picked.1, inl (refl, (0x50, some_picked.1, some_picked.2, refl))))

@@ -1,6 +1,9 @@
+pub mod Form
 pub mod Frames
+pub mod Items
 pub mod Parsed
 pub mod Prefixes
 pub mod Reading
 pub mod Spelling
 pub mod Taking
+pub mod Updating

@@ -1,9 +1,13 @@
 //! Requests and replies as bytes: one spelling each, read exactly.
 #![tactic(auto)]
 
+mod items;
 mod parsed;
 mod reading;
+mod shapes;
+mod updating;
 mod writing;
 
 pub use reading::{Front, read_request, take};
+pub use updating::is_updating;
 pub use writing::write_reply;

@@ -1,16 +1,22 @@
 //! The request at the front of bytes.
-ghost use Rattle.std.specs.Prelude.{◌≡◌, IfOk};
+ghost use Rattle.std.specs.Prelude.{◌≡◌, IfOk, [], ◌∷◌};
 ghost use Rattle.tc_base.specs.Reading.{Gives};
 ghost use Rattle.tc_base.specs.declared.request.Request.{Request};
-ghost use Rattle.ty_wire.specs.Reading.{put_at, get_at, request_at};
-ghost use Rattle.ty_wire.specs.Parsed.{parsed};
-ghost use Rattle.ty_wire.specs.Spelling.{spelling, Fits};
+ghost use Rattle.ty_wire.specs.Form.{word};
+ghost use Rattle.ty_wire.specs.Reading.{pick, counted_at, named_entries, number_entries, bare_entries, key_entries, entries, request_at};
+ghost use Rattle.ty_wire.specs.Parsed.{parsed, texts, IsWhole, AreWhole};
+ghost use Rattle.ty_wire.specs.Spelling.{key_text, spelling, Fits};
 ghost use Rattle.ty_wire.specs.Prefixes.{IsPrefix};
 ghost use Rattle.ty_wire.specs.Taking.{Takes, IsRead};
 
-use crate::parsed::Parsed;
+use crate::items::{copy_items, skip_items};
+use crate::parsed::{Items, Parsed};
+use crate::shapes::{
+    Read, ext_of, key_longs_of, key_of, key_word_of, master_of, pair_of, repl_of, restore_of,
+    shift_of, word_of,
+};
 use std::alloc::{AllocError, Global};
-use tc_base::{Blob, KEY_MOST, NotWhole, Request, VALUE_MOST, read_bytes, read_size};
+use tc_base::{Blob, Blobs, KEY_MOST, NotWhole, REQUEST_MOST, Request, VALUE_MOST, read_bytes, read_size};
 
 /// What stands at the front of bytes.
 #[derive(Clone, Copy, Debug, PartialEq, Eq)]
@@ -23,35 +29,182 @@ pub enum Front {
     Bad,
 }
 
-#[tactic(auto, unfolding(crate::specs::Reading::put_at))]
-fn put_of(bytes: &[u8]) -> Result<(Parsed<'_>, &[u8]), NotWhole>
-    ensures { Gives (λ x. (parsed x.0, x.1.now)) result (put_at bytes.now) }
+// A count and so many keys.
+fn keys_of(bytes: &[u8]) -> Read<'_, Items<'_>>
+    ensures read { Gives (λ x. ((tt, texts x.0), x.1.now)) result (counted_at [] 1048576 bytes.now) }
+    ensures whole { IfOk result (λ x. AreWhole x.0) }
 {
-    let (k, rest) = read_size(KEY_MOST, bytes)?;
-    let (v, rest) = read_size(VALUE_MOST, rest)?;
-    let (key, rest) = read_bytes(k, rest)?;
-    let (value, rest) = read_bytes(v, rest)?;
-    Ok((Parsed::Put(key, value), rest))
+    let left = REQUEST_MOST - 6;
+    let (count, bytes) = read_size(left / 4, bytes)?;
+    let rest = skip_items(KEY_MOST, count, left, bytes)?;
+    Ok((
+        Items {
+            count,
+            most: KEY_MOST,
+            left,
+            bytes,
+        },
+        rest,
+    ))
 }
 
-#[tactic(auto, unfolding(crate::specs::Reading::get_at))]
-fn get_of(bytes: &[u8]) -> Result<(Parsed<'_>, &[u8]), NotWhole>
-    ensures { Gives (λ x. (parsed x.0, x.1.now)) result (get_at bytes.now) }
+// A name, options, a count and so many arguments.
+fn call_of(bytes: &[u8]) -> Read<'_, (&[u8], u32, Items<'_>)>
+    ensures read { Gives (λ x. (((x.0.0.now, (x.0.1, tt)), texts x.0.2), x.1.now)) result (counted_at (key_text ∷ word ∷ []) 16777216 bytes.now) }
+    ensures whole { IfOk result (λ x. AreWhole x.0.2) }
 {
-    let (k, rest) = read_size(KEY_MOST, bytes)?;
-    let (key, rest) = read_bytes(k, rest)?;
-    Ok((Parsed::Get(key), rest))
+    let (n, rest) = read_size(KEY_MOST, bytes)?;
+    let (options, rest) = word_of(rest)?;
+    let left = REQUEST_MOST - 14 - n;
+    let (count, rest) = read_size(left / 4, rest)?;
+    let (name, bytes) = read_bytes(n, rest)?;
+    let rest = skip_items(VALUE_MOST, count, left, bytes)?;
+    let args = Items {
+        count,
+        most: VALUE_MOST,
+        left,
+        bytes,
+    };
+    Ok(((name, options, args), rest))
 }
 
-#[tactic(auto, unfolding(crate::specs::Reading::request_at))]
-fn request_of(bytes: &[u8]) -> Result<(Parsed<'_>, &[u8]), NotWhole>
-    ensures { Gives (λ x. (parsed x.0, x.1.now)) result (request_at bytes.now) }
+fn named_of(command: u8, bytes: &[u8]) -> Read<'_, Parsed<'_>>
+    ensures read { Gives (λ x. (parsed x.0, x.1.now)) result (pick named_entries command bytes.now) }
+    ensures whole { IfOk result (λ x. IsWhole x.0) }
+{
+    match command {
+        0x74 => {
+            let ((path, timestamp, options), rest) = restore_of(bytes)?;
+            Ok((Parsed::Restore(path, timestamp, options), rest))
+        }
+        0x78 => {
+            let ((host, port, timestamp, options), rest) = master_of(bytes)?;
+            Ok((Parsed::SetMst(host, port, timestamp, options), rest))
+        }
+        0x90 => {
+            let ((name, options, args), rest) = call_of(bytes)?;
+            Ok((Parsed::Misc(name, options, args), rest))
+        }
+        0xA0 => {
+            let ((timestamp, server), rest) = repl_of(bytes)?;
+            Ok((Parsed::Repl(timestamp, server), rest))
+        }
+        _ => Err(NotWhole::Bad),
+    }
+}
+
+fn number_of(command: u8, bytes: &[u8]) -> Read<'_, Parsed<'_>>
+    ensures read { Gives (λ x. (parsed x.0, x.1.now)) result (pick number_entries command bytes.now) }
+    ensures whole { IfOk result (λ x. IsWhole x.0) }
+{
+    match command {
+        0x58 => {
+            let ((prefix, maximum), rest) = key_word_of(bytes)?;
+            Ok((Parsed::FwmKeys(prefix, maximum.cast_signed()), rest))
+        }
+        0x60 => {
+            let ((key, number), rest) = key_word_of(bytes)?;
+            Ok((Parsed::AddInt(key, number), rest))
+        }
+        0x61 => {
+            let ((key, integer, fraction), rest) = key_longs_of(bytes)?;
+            Ok((Parsed::AddDouble(key, integer, fraction), rest))
+        }
+        0x68 => {
+            let ((name, options, key, value), rest) = ext_of(bytes)?;
+            Ok((Parsed::Ext(name, options, key, value), rest))
+        }
+        _ => named_of(command, bytes),
+    }
+}
+
+fn bare_of(command: u8, bytes: &[u8]) -> Read<'_, Parsed<'_>>
+    ensures read { Gives (λ x. (parsed x.0, x.1.now)) result (pick bare_entries command bytes.now) }
+    ensures whole { IfOk result (λ x. IsWhole x.0) }
+{
+    match command {
+        0x50 => Ok((Parsed::IterInit, bytes)),
+        0x51 => Ok((Parsed::IterNext, bytes)),
+        0x70 => Ok((Parsed::Sync, bytes)),
+        0x72 => Ok((Parsed::Vanish, bytes)),
+        0x80 => Ok((Parsed::Rnum, bytes)),
+        0x81 => Ok((Parsed::Size, bytes)),
+        0x88 => Ok((Parsed::Stat, bytes)),
+        _ => number_of(command, bytes),
+    }
+}
+
+fn keyed_of(command: u8, bytes: &[u8]) -> Read<'_, Parsed<'_>>
+    ensures read { Gives (λ x. (parsed x.0, x.1.now)) result (pick key_entries command bytes.now) }
+    ensures whole { IfOk result (λ x. IsWhole x.0) }
+{
+    match command {
+        0x20 => {
+            let (key, rest) = key_of(bytes)?;
+            Ok((Parsed::Out(key), rest))
+        }
+        0x30 => {
+            let (key, rest) = key_of(bytes)?;
+            Ok((Parsed::Get(key), rest))
+        }
+        0x31 => {
+            let (keys, rest) = keys_of(bytes)?;
+            Ok((Parsed::MGet(keys), rest))
+        }
+        0x38 => {
+            let (key, rest) = key_of(bytes)?;
+            Ok((Parsed::Vsiz(key), rest))
+        }
+        0x71 => {
+            let (text, rest) = key_of(bytes)?;
+            Ok((Parsed::Optimize(text), rest))
+        }
+        0x73 => {
+            let (path, rest) = key_of(bytes)?;
+            Ok((Parsed::Copy(path), rest))
+        }
+        _ => bare_of(command, bytes),
+    }
+}
+
+fn stored_of(command: u8, bytes: &[u8]) -> Read<'_, Parsed<'_>>
+    ensures read { Gives (λ x. (parsed x.0, x.1.now)) result (pick entries command bytes.now) }
+    ensures whole { IfOk result (λ x. IsWhole x.0) }
+{
+    match command {
+        0x10 => {
+            let ((key, value), rest) = pair_of(bytes)?;
+            Ok((Parsed::Put(key, value), rest))
+        }
+        0x11 => {
+            let ((key, value), rest) = pair_of(bytes)?;
+            Ok((Parsed::PutKeep(key, value), rest))
+        }
+        0x12 => {
+            let ((key, value), rest) = pair_of(bytes)?;
+            Ok((Parsed::PutCat(key, value), rest))
+        }
+        0x13 => {
+            let ((key, value, width), rest) = shift_of(bytes)?;
+            Ok((Parsed::PutShl(key, value, width), rest))
+        }
+        0x18 => {
+            let ((key, value), rest) = pair_of(bytes)?;
+            Ok((Parsed::PutNr(key, value), rest))
+        }
+        _ => keyed_of(command, bytes),
+    }
+}
+
+#[tactic(auto, unfolding(crate::specs::Reading::request_at, crate::specs::Reading::fields_at))]
+fn request_of(bytes: &[u8]) -> Read<'_, Parsed<'_>>
+    ensures read { Gives (λ x. (parsed x.0, x.1.now)) result (request_at bytes.now) }
+    ensures whole { IfOk result (λ x. IsWhole x.0) }
 {
     match bytes {
         [] => Err(NotWhole::Part),
         [0xC8] => Err(NotWhole::Part),
-        [0xC8, 0x10, rest @ ..] => put_of(rest),
-        [0xC8, 0x30, rest @ ..] => get_of(rest),
+        [0xC8, command, rest @ ..] => stored_of(*command, rest),
         _ => Err(NotWhole::Bad),
     }
 }
@@ -68,17 +221,119 @@ pub fn take(bytes: &[u8]) -> Front
     }
 }
 
+fn blob(alloc: Global, bytes: &[u8]) -> Result<Blob, AllocError>
+    ensures { IfOk result (λ b. b ≡ bytes.now) }
+{
+    Blob::from_slice(alloc, bytes)
+}
+
+fn both(alloc: Global, key: &[u8], value: &[u8]) -> Result<(Blob, Blob), AllocError>
+    ensures { IfOk result (λ b. (b.0 ≡ key.now) × (b.1 ≡ value.now)) }
+{
+    Ok((blob(alloc, key)?, blob(alloc, value)?))
+}
+
+fn list(alloc: Global, items: Items<'_>) -> Result<Blobs, AllocError>
+    requires { AreWhole items }
+    ensures { IfOk result (λ b. b ≡ texts items.entry) }
+{
+    copy_items(alloc, items.most, items.count, items.left, items.bytes)
+}
+
+// A copy of a request whose texts lie where they were read.
 fn copied(alloc: Global, p: Parsed<'_>) -> Result<Request, AllocError>
+    requires { IsWhole p }
     ensures { IfOk result (λ r. r ≡ parsed p.entry) }
 {
     match p {
-        Parsed::Put(key, value) => Ok(Request::Put {
-            key: Blob::from_slice(alloc, key)?,
-            value: Blob::from_slice(alloc, value)?,
+        Parsed::Put(key, value) => {
+            let (key, value) = both(alloc, key, value)?;
+            Ok(Request::Put { key, value })
+        }
+        Parsed::PutKeep(key, value) => {
+            let (key, value) = both(alloc, key, value)?;
+            Ok(Request::PutKeep { key, value })
+        }
+        Parsed::PutCat(key, value) => {
+            let (key, value) = both(alloc, key, value)?;
+            Ok(Request::PutCat { key, value })
+        }
+        Parsed::PutShl(key, value, width) => {
+            let (key, value) = both(alloc, key, value)?;
+            Ok(Request::PutShl { key, value, width })
+        }
+        Parsed::PutNr(key, value) => {
+            let (key, value) = both(alloc, key, value)?;
+            Ok(Request::PutNr { key, value })
+        }
+        Parsed::Out(key) => Ok(Request::Out {
+            key: blob(alloc, key)?,
         }),
         Parsed::Get(key) => Ok(Request::Get {
-            key: Blob::from_slice(alloc, key)?,
+            key: blob(alloc, key)?,
         }),
+        Parsed::MGet(keys) => Ok(Request::MGet {
+            keys: list(alloc, keys)?,
+        }),
+        Parsed::Vsiz(key) => Ok(Request::Vsiz {
+            key: blob(alloc, key)?,
+        }),
+        Parsed::IterInit => Ok(Request::IterInit),
+        Parsed::IterNext => Ok(Request::IterNext),
+        Parsed::FwmKeys(prefix, maximum) => Ok(Request::FwmKeys {
+            prefix: blob(alloc, prefix)?,
+            maximum,
+        }),
+        Parsed::AddInt(key, number) => Ok(Request::AddInt {
+            key: blob(alloc, key)?,
+            number,
+        }),
+        Parsed::AddDouble(key, integer, fraction) => Ok(Request::AddDouble {
+            key: blob(alloc, key)?,
+            integer,
+            fraction,
+        }),
+        Parsed::Ext(name, options, key, value) => {
+            let name = blob(alloc, name)?;
+            let (key, value) = both(alloc, key, value)?;
+            Ok(Request::Ext {
+                name,
+                options,
+                key,
+                value,
+            })
+        }
+        Parsed::Sync => Ok(Request::Sync),
+        Parsed::Optimize(text) => Ok(Request::Optimize {
+            text: blob(alloc, text)?,
+        }),
+        Parsed::Vanish => Ok(Request::Vanish),
+        Parsed::Copy(path) => Ok(Request::Copy {
+            path: blob(alloc, path)?,
+        }),
+        Parsed::Restore(path, timestamp, options) => Ok(Request::Restore {
+            path: blob(alloc, path)?,
+            timestamp,
+            options,
+        }),
+        Parsed::SetMst(host, port, timestamp, options) => Ok(Request::SetMst {
+            host: blob(alloc, host)?,
+            port,
+            timestamp,
+            options,
+        }),
+        Parsed::Rnum => Ok(Request::Rnum),
+        Parsed::Size => Ok(Request::Size),
+        Parsed::Stat => Ok(Request::Stat),
+        Parsed::Misc(name, options, args) => {
+            let name = blob(alloc, name)?;
+            Ok(Request::Misc {
+                name,
+                options,
+                args: list(alloc, args)?,
+            })
+        }
+        Parsed::Repl(timestamp, server) => Ok(Request::Repl { timestamp, server }),
     }
 }
 

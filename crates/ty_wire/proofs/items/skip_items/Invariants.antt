@@ -1,0 +1,9 @@
+use Rattle.std.proofs.Common.{◌-◌, ◌*◌, ◌≤◌, ℕ, List}
+use Rattle.ty_wire.proofs.ItemLoops.{Ahead}
+use Rattle.ty_wire.proofs.items.skip_items.Given as goal
+
+abbrev pub invariant-loop-i : goal.invariant-loop-i
+invariant-loop-i l = record {
+  room : 4 * (l.count - l.i) ≤ l.spare;
+  ahead : (xs : List (List ℕ)) × Ahead l.most l.count l.left l.bytes (l.count - l.i) l.spare l.rest xs;
+}

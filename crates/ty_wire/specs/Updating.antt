@@ -1,0 +1,26 @@
+-- Which requests change contents where they succeed.
+use Rattle.std.specs.Prelude.{◌≡◌, ◌⊎◌, ℕ, List, Contains, codes}
+use Rattle.tc_base.specs.declared.request.Request.{Request}
+use Rattle.tc_base.specs.declared.request.Request.TheVariants.{Put, PutKeep, PutCat, PutShl, PutNr, Out, Get, MGet, Vsiz, IterInit, IterNext, FwmKeys, AddInt, AddDouble, Ext, Sync, Optimize, Vanish, Copy, Restore, SetMst, Rnum, Size, Stat, Misc, Repl}
+
+-- a misc of this name stores
+abbrev pub IsUpdatingName : List ℕ → Type 0
+IsUpdatingName name =
+    (name ≡ codes "put") ⊎ ((name ≡ codes "putkeep") ⊎ ((name ≡ codes "putcat") ⊎ ((name ≡ codes "out") ⊎ ((name ≡ codes "putlist")
+    ⊎ ((name ≡ codes "outlist") ⊎ ((name ≡ codes "putdup") ⊎ ((name ≡ codes "vanish") ⊎ (name ≡ codes "setindex"))))))))
+
+-- a search removes what it finds where `out` is among its arguments
+abbrev pub IsUpdatingCall : List ℕ → List (List ℕ) → Type 0
+IsUpdatingCall name args = IsUpdatingName name ⊎ ((name ≡ codes "search") × Contains args (codes "out"))
+
+abbrev pub IsUpdating : Request → Type 0
+IsUpdating (Put key value) = Unit {0}
+IsUpdating (PutKeep key value) = Unit {0}
+IsUpdating (PutCat key value) = Unit {0}
+IsUpdating (PutShl key value width) = Unit {0}
+IsUpdating (PutNr key value) = Unit {0}
+IsUpdating (Out key) = Unit {0}
+IsUpdating (AddInt key number) = Unit {0}
+IsUpdating Vanish = Unit {0}
+IsUpdating (Misc name options args) = IsUpdatingCall name args
+IsUpdating _ = ⊥
