@@ -1,0 +1,5 @@
+//! Tables of the protocol's bytes.
+#![tactic(auto)]
+
+#[cfg(test)]
+mod tests;
