@@ -6,47 +6,99 @@ use crate::seq::{Blobs, Pairs};
 #[derive(Debug, Drop)]
 pub enum Request {
     /// Sets the value of a key.
-    Put { key: Blob, value: Blob },
+    Put {
+        key: Blob,
+        value: Blob,
+    },
     /// Sets the value of a key that isn't held.
-    PutKeep { key: Blob, value: Blob },
+    PutKeep {
+        key: Blob,
+        value: Blob,
+    },
     /// Joins a value behind that of a key.
-    PutCat { key: Blob, value: Blob },
+    PutCat {
+        key: Blob,
+        value: Blob,
+    },
     /// Joins a value behind that of a key, and keeps the last `width` bytes.
-    PutShl { key: Blob, value: Blob, width: u32 },
+    PutShl {
+        key: Blob,
+        value: Blob,
+        width: u32,
+    },
     /// Sets the value of a key, with no reply.
-    PutNr { key: Blob, value: Blob },
+    PutNr {
+        key: Blob,
+        value: Blob,
+    },
     /// Removes a key.
-    Out { key: Blob },
+    Out {
+        key: Blob,
+    },
     /// Asks for the value of a key.
-    Get { key: Blob },
+    Get {
+        key: Blob,
+    },
     /// Asks for the values of keys.
-    MGet { keys: Blobs },
+    MGet {
+        keys: Blobs,
+    },
     /// Asks for the size of the value of a key.
-    Vsiz { key: Blob },
+    Vsiz {
+        key: Blob,
+    },
     /// Begins the walk over the keys.
     IterInit,
     /// Asks for the next key of the walk.
     IterNext,
     /// Asks for the keys that begin with a prefix, at most `maximum`, all where it is negative.
-    FwmKeys { prefix: Blob, maximum: i32 },
+    FwmKeys {
+        prefix: Blob,
+        maximum: i32,
+    },
     /// Adds to the number that a key holds.
-    AddInt { key: Blob, number: u32 },
+    AddInt {
+        key: Blob,
+        number: u32,
+    },
     /// Adds to the fraction that a key holds; always refused.
-    AddDouble { key: Blob, integer: u64, fraction: u64 },
+    AddDouble {
+        key: Blob,
+        integer: u64,
+        fraction: u64,
+    },
     /// Calls a script; always refused.
-    Ext { name: Blob, options: u32, key: Blob, value: Blob },
+    Ext {
+        name: Blob,
+        options: u32,
+        key: Blob,
+        value: Blob,
+    },
     /// Brings the database to the disk.
     Sync,
     /// Packs the database.
-    Optimize { text: Blob },
+    Optimize {
+        text: Blob,
+    },
     /// Removes all keys.
     Vanish,
     /// Copies the database's files.
-    Copy { path: Blob },
+    Copy {
+        path: Blob,
+    },
     /// Restores the database from an update log.
-    Restore { path: Blob, timestamp: u64, options: u32 },
+    Restore {
+        path: Blob,
+        timestamp: u64,
+        options: u32,
+    },
     /// Names a master; always refused.
-    SetMst { host: Blob, port: u32, timestamp: u64, options: u32 },
+    SetMst {
+        host: Blob,
+        port: u32,
+        timestamp: u64,
+        options: u32,
+    },
     /// Asks for the number of records.
     Rnum,
     /// Asks for the size of the contents.
@@ -54,9 +106,16 @@ pub enum Request {
     /// Asks for a few lines on the database.
     Stat,
     /// Calls a function by its name.
-    Misc { name: Blob, options: u32, args: Blobs },
+    Misc {
+        name: Blob,
+        options: u32,
+        args: Blobs,
+    },
     /// Asks for the update records above a timestamp.
-    Repl { timestamp: u64, server: u32 },
+    Repl {
+        timestamp: u64,
+        server: u32,
+    },
 }
 
 /// What a client is answered.

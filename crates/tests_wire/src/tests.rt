@@ -13,48 +13,133 @@ struct Case {
 
 fn cases(alloc: Global) -> Result<Vec<Case>, AllocError> {
     let mut cases = Vec::new(alloc);
-    add(&mut cases, "put", b"\xC8\x10\0\0\0\x03\0\0\0\x05onefirst", true)?;
-    add(&mut cases, "putkeep", b"\xC8\x11\0\0\0\x03\0\0\0\x05onefirst", true)?;
-    add(&mut cases, "putcat", b"\xC8\x12\0\0\0\x03\0\0\0\x05onefirst", true)?;
-    add(&mut cases, "putshl", b"\xC8\x13\0\0\0\x01\0\0\0\x02\0\0\0\x04kde", true)?;
+    add(
+        &mut cases,
+        "put",
+        b"\xC8\x10\0\0\0\x03\0\0\0\x05onefirst",
+        true,
+    )?;
+    add(
+        &mut cases,
+        "putkeep",
+        b"\xC8\x11\0\0\0\x03\0\0\0\x05onefirst",
+        true,
+    )?;
+    add(
+        &mut cases,
+        "putcat",
+        b"\xC8\x12\0\0\0\x03\0\0\0\x05onefirst",
+        true,
+    )?;
+    add(
+        &mut cases,
+        "putshl",
+        b"\xC8\x13\0\0\0\x01\0\0\0\x02\0\0\0\x04kde",
+        true,
+    )?;
     add(&mut cases, "putnr", b"\xC8\x18\0\0\0\x01\0\0\0\0k", true)?;
     add(&mut cases, "out", b"\xC8\x20\0\0\0\x03one", true)?;
     add(&mut cases, "get", b"\xC8\x30\0\0\0\x03one", false)?;
-    add(&mut cases, "mget", b"\xC8\x31\0\0\0\x03\0\0\0\x03one\0\0\0\x03one\0\0\0\x01x", false)?;
+    add(
+        &mut cases,
+        "mget",
+        b"\xC8\x31\0\0\0\x03\0\0\0\x03one\0\0\0\x03one\0\0\0\x01x",
+        false,
+    )?;
     add(&mut cases, "mget of none", b"\xC8\x31\0\0\0\0", false)?;
     add(&mut cases, "vsiz", b"\xC8\x38\0\0\0\x03one", false)?;
     add(&mut cases, "iterinit", b"\xC8\x50", false)?;
     add(&mut cases, "iternext", b"\xC8\x51", false)?;
-    add(&mut cases, "fwmkeys", b"\xC8\x58\0\0\0\x01\xFF\xFF\xFF\xFFk", false)?;
+    add(
+        &mut cases,
+        "fwmkeys",
+        b"\xC8\x58\0\0\0\x01\xFF\xFF\xFF\xFFk",
+        false,
+    )?;
     Ok(cases)
 }
 
 fn more_cases(alloc: Global) -> Result<Vec<Case>, AllocError> {
     let mut cases = Vec::new(alloc);
     add(&mut cases, "addint", b"\xC8\x60\0\0\0\x01\0\0\0\x01n", true)?;
-    add(&mut cases, "adddouble", b"\xC8\x61\0\0\0\x01\0\0\0\0\0\0\0\x01\0\0\0\0\0\0\0\x02n", false)?;
-    add(&mut cases, "ext", b"\xC8\x68\0\0\0\x01\0\0\0\0\0\0\0\x01\0\0\0\x01fkv", false)?;
+    add(
+        &mut cases,
+        "adddouble",
+        b"\xC8\x61\0\0\0\x01\0\0\0\0\0\0\0\x01\0\0\0\0\0\0\0\x02n",
+        false,
+    )?;
+    add(
+        &mut cases,
+        "ext",
+        b"\xC8\x68\0\0\0\x01\0\0\0\0\0\0\0\x01\0\0\0\x01fkv",
+        false,
+    )?;
     add(&mut cases, "sync", b"\xC8\x70", false)?;
     add(&mut cases, "optimize", b"\xC8\x71\0\0\0\x02no", false)?;
     add(&mut cases, "vanish", b"\xC8\x72", true)?;
     add(&mut cases, "copy", b"\xC8\x73\0\0\0\x02to", false)?;
-    add(&mut cases, "restore", b"\xC8\x74\0\0\0\x01\0\0\0\0\0\0\0\x07\0\0\0\0p", false)?;
-    add(&mut cases, "setmst", b"\xC8\x78\0\0\0\x01\0\0\x07\xBA\0\0\0\0\0\0\0\x07\0\0\0\0h", false)?;
+    add(
+        &mut cases,
+        "restore",
+        b"\xC8\x74\0\0\0\x01\0\0\0\0\0\0\0\x07\0\0\0\0p",
+        false,
+    )?;
+    add(
+        &mut cases,
+        "setmst",
+        b"\xC8\x78\0\0\0\x01\0\0\x07\xBA\0\0\0\0\0\0\0\x07\0\0\0\0h",
+        false,
+    )?;
     add(&mut cases, "rnum", b"\xC8\x80", false)?;
     add(&mut cases, "size", b"\xC8\x81", false)?;
     add(&mut cases, "stat", b"\xC8\x88", false)?;
-    add(&mut cases, "repl", b"\xC8\xA0\0\0\0\0\0\0\0\0\0\0\0\x09", false)?;
+    add(
+        &mut cases,
+        "repl",
+        b"\xC8\xA0\0\0\0\0\0\0\0\0\0\0\0\x09",
+        false,
+    )?;
     Ok(cases)
 }
 
 fn calls(alloc: Global) -> Result<Vec<Case>, AllocError> {
     let mut cases = Vec::new(alloc);
-    add(&mut cases, "misc putdup", b"\xC8\x90\0\0\0\x06\0\0\0\0\0\0\0\x02putdup\0\0\0\x01k\0\0\0\x012", true)?;
-    add(&mut cases, "misc get", b"\xC8\x90\0\0\0\x03\0\0\0\x01\0\0\0\x01get\0\0\0\x03one", false)?;
-    add(&mut cases, "misc vanish", b"\xC8\x90\0\0\0\x06\0\0\0\0\0\0\0\0vanish", true)?;
-    add(&mut cases, "misc search", b"\xC8\x90\0\0\0\x06\0\0\0\0\0\0\0\x01search\0\0\0\x05count", false)?;
-    add(&mut cases, "misc search with out", b"\xC8\x90\0\0\0\x06\0\0\0\0\0\0\0\x02search\0\0\0\x01x\0\0\0\x03out", true)?;
-    add(&mut cases, "misc of another name", b"\xC8\x90\0\0\0\x06\0\0\0\0\0\0\0\0nosuch", false)?;
+    add(
+        &mut cases,
+        "misc putdup",
+        b"\xC8\x90\0\0\0\x06\0\0\0\0\0\0\0\x02putdup\0\0\0\x01k\0\0\0\x012",
+        true,
+    )?;
+    add(
+        &mut cases,
+        "misc get",
+        b"\xC8\x90\0\0\0\x03\0\0\0\x01\0\0\0\x01get\0\0\0\x03one",
+        false,
+    )?;
+    add(
+        &mut cases,
+        "misc vanish",
+        b"\xC8\x90\0\0\0\x06\0\0\0\0\0\0\0\0vanish",
+        true,
+    )?;
+    add(
+        &mut cases,
+        "misc search",
+        b"\xC8\x90\0\0\0\x06\0\0\0\0\0\0\0\x01search\0\0\0\x05count",
+        false,
+    )?;
+    add(
+        &mut cases,
+        "misc search with out",
+        b"\xC8\x90\0\0\0\x06\0\0\0\0\0\0\0\x02search\0\0\0\x01x\0\0\0\x03out",
+        true,
+    )?;
+    add(
+        &mut cases,
+        "misc of another name",
+        b"\xC8\x90\0\0\0\x06\0\0\0\0\0\0\0\0nosuch",
+        false,
+    )?;
     Ok(cases)
 }
 
@@ -148,7 +233,12 @@ fn requests_that_change_contents_are_told(rt: HostRuntime) -> Result<(), Fail> {
     let alloc = rt.alloc();
     for table in [cases(alloc)?, more_cases(alloc)?, calls(alloc)?] {
         for case in &table {
-            assert_eq!(rt; updates(alloc, case.bytes)?, Some(case.updates), "{}", case.name);
+            assert_eq!(rt;
+                updates(alloc, case.bytes)?,
+                Some(case.updates),
+                "{}",
+                case.name
+            );
         }
     }
     Ok(())
@@ -158,11 +248,19 @@ fn text_of(request: &Request) -> &[u8] {
     match request {
         Request::MGet { keys } => {
             let keys = keys.as_slice();
-            if keys.len() == 3 { keys[2].as_slice() } else { b"?" }
+            if keys.len() == 3 {
+                keys[2].as_slice()
+            } else {
+                b"?"
+            }
         }
         Request::Misc { args, .. } => {
             let args = args.as_slice();
-            if args.len() == 2 { args[1].as_slice() } else { b"?" }
+            if args.len() == 2 {
+                args[1].as_slice()
+            } else {
+                b"?"
+            }
         }
         Request::PutShl { value, .. } => value.as_slice(),
         Request::Ext { key, .. } => key.as_slice(),
@@ -174,8 +272,14 @@ fn text_of(request: &Request) -> &[u8] {
 fn fields_are_read_as_they_stand(rt: HostRuntime) -> Result<(), Fail> {
     let alloc = rt.alloc();
     let rows: [(&[u8], &[u8]); 4] = [
-        (b"\xC8\x31\0\0\0\x03\0\0\0\x03one\0\0\0\x03one\0\0\0\x01x", b"x"),
-        (b"\xC8\x90\0\0\0\x06\0\0\0\0\0\0\0\x02putdup\0\0\0\x01k\0\0\0\x012", b"2"),
+        (
+            b"\xC8\x31\0\0\0\x03\0\0\0\x03one\0\0\0\x03one\0\0\0\x01x",
+            b"x",
+        ),
+        (
+            b"\xC8\x90\0\0\0\x06\0\0\0\0\0\0\0\x02putdup\0\0\0\x01k\0\0\0\x012",
+            b"2",
+        ),
         (b"\xC8\x13\0\0\0\x01\0\0\0\x02\0\0\0\x04kde", b"de"),
         (b"\xC8\x68\0\0\0\x01\0\0\0\0\0\0\0\x02\0\0\0\x01fkkv", b"kk"),
     ];
@@ -214,9 +318,27 @@ fn replies_have_their_bytes(rt: HostRuntime) -> Result<(), Fail> {
     assert!(rt; is_spelled(alloc, &Reply::FailMisc, b"\x01\0\0\0\0")?);
     assert!(rt; is_spelled(alloc, &Reply::Silent, b"")?);
     assert!(rt; is_spelled(alloc, &Reply::Done, b"\0")?);
-    assert!(rt; is_spelled(alloc, &Reply::Four { number: 0x8000_0000 }, b"\0\x80\0\0\0")?);
-    assert!(rt; is_spelled(alloc, &Reply::Eight { number: 0x0000_0001_0000_0002 }, b"\0\0\0\0\x01\0\0\0\x02")?);
-    let first = Reply::Value { value: blob(alloc, b"first")? };
+    assert!(rt;
+        is_spelled(
+            alloc,
+            &Reply::Four {
+                number: 0x8000_0000
+            },
+            b"\0\x80\0\0\0"
+        )?
+    );
+    assert!(rt;
+        is_spelled(
+            alloc,
+            &Reply::Eight {
+                number: 0x0000_0001_0000_0002
+            },
+            b"\0\0\0\0\x01\0\0\0\x02"
+        )?
+    );
+    let first = Reply::Value {
+        value: blob(alloc, b"first")?,
+    };
     assert!(rt; is_spelled(alloc, &first, b"\0\0\0\0\x05first")?);
     let list = list_of_two(alloc)?;
     assert!(rt; is_spelled(alloc, &list, b"\0\0\0\0\x02\0\0\0\x01b\0\0\0\0")?);

@@ -1,5 +1,5 @@
 -- Fields, and texts with a count, are read exactly.
-use Rattle.std.proofs.Common.{◌≡◌, ◌⊎◌, inl, inr, ℕ, zero, suc, ◌+◌, ◌-◌, ◌*◌, ◌/◌, ◌%◌, ◌^◌, ◌<◌, ◌≤◌, min, Bool, true, false, cond, List, [], ◌∷◌, ◌++◌, length, replicate, Ok, Err, refl, sym, ap, subst, ◌∙◌, append_assoc, arith, length-append}
+use Rattle.std.proofs.Common.{◌≡◌, inl, inr, ℕ, zero, suc, ◌+◌, ◌-◌, ◌*◌, ◌/◌, ◌%◌, ◌^◌, ◌<◌, ◌≤◌, min, List, [], ◌∷◌, ◌++◌, length, replicate, Ok, refl, sym, ap, subst, ◌∙◌, append_assoc, arith, length-append}
 use Rattle.std.specs.Int.{w32, to_be_bytes}
 use Rattle.std.proofs.lemmas.List.{append-nil, length-replicate, nil_from_length}
 use Rattle.tc_base.specs.declared.fields.NotWhole.TheVariants.{Part}
@@ -8,7 +8,7 @@ use Rattle.tc_base.proofs.Exact.{IsBytes, IsBytes-rest, IsExact, Then, bind_ok, 
 use Rattle.tc_base.proofs.ExactFields.{IsSize, exact_size, exact_bytes}
 use Rattle.ty_wire.specs.Form.{Field, text, word, long, Heads, Values, heads, long_bytes, head_bytes, HeadFits, header, AllFit, body, items_bytes, AllShort}
 use Rattle.ty_wire.proofs.ItemLemmas.{count_short}
-use Rattle.ty_wire.specs.Reading.{long_at, head_at, heads_then, body_then, values_at, taken_by, room, items_at, counted_at}
+use Rattle.ty_wire.specs.Reading.{long_at, head_at, heads_then, body_then, values_at, room, items_at, counted_at}
 
 abbrev IsText : ℕ → List ℕ → List ℕ → Type 0
 IsText n xs t = (length xs ≡ n) × (t ≡ xs)
@@ -245,8 +245,7 @@ items_back most n left [] t h = absurd (omega (arith, h.0))
 items_back most n left (x ∷ xs) t h =
     let few : length xs ≡ n = omega (arith, h.0) in
     let all = first_size x xs in
-    let least = count_short xs in
-    (
+    let least = count_short xs in (
       length x,
       to_be_bytes w32 (length x),
       x ++ items_bytes xs,
@@ -309,8 +308,7 @@ counted_back : (fs : List Field) (most : ℕ) (l : Lot fs) (t : List ℕ) → Is
 counted_back fs most l t h =
     let hs = heads fs l.0 in
     let xs = l.1 in
-    let count : length xs ≤ room fs hs / 4 = omega (arith, h.2, count_short xs) in
-    (
+    let count : length xs ≤ room fs hs / 4 = omega (arith, h.2, count_short xs) in (
       hs,
       to_be_bytes w32 (length xs) ++ (body fs l.0 ++ items_bytes xs),
       h.0,

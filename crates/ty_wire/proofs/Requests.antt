@@ -1,5 +1,5 @@
 -- Reading a request is exact.
-use Rattle.std.proofs.Common.{◌≡◌, ◌⊎◌, inl, inr, ℕ, ◌+◌, ◌^◌, ◌<◌, ◌≤◌, Bool, true, false, cond, eqb, List, [], ◌∷◌, ◌++◌, length, Ok, Err, refl, sym, ap, subst, ◌∙◌, arith, length-append}
+use Rattle.std.proofs.Common.{◌≡◌, ◌⊎◌, inl, inr, ℕ, ◌+◌, ◌^◌, ◌<◌, ◌≤◌, Bool, true, false, cond, List, [], ◌∷◌, ◌++◌, length, Ok, Err, refl, sym, ap, subst, ◌∙◌, arith, length-append}
 use Rattle.std.specs.Prelude.{Option, Some, None, nat_eq, FitsSigned}
 use Rattle.std.specs.Int.{w32, to_be_bytes, cast_signed, cast_unsigned}
 use Rattle.std.proofs.lemmas.Bool.{cases_eq, ne_eqb}
@@ -10,12 +10,12 @@ use Rattle.std.proofs.Math.Facts.{sfits_to_z}
 use Rattle.tc_base.specs.declared.request.Request.{Request}
 use Rattle.tc_base.specs.declared.request.Request.TheVariants.{Put, PutKeep, PutCat, PutShl, PutNr, Out, Get, MGet, Vsiz, IterInit, IterNext, FwmKeys, AddInt, AddDouble, Ext, Sync, Optimize, Vanish, Copy, Restore, SetMst, Rnum, Size, Stat, Misc, Repl}
 use Rattle.tc_base.specs.declared.fields.NotWhole.TheVariants.{Bad}
-use Rattle.tc_base.specs.Reading.{Front, ◌>>=◌, byte_at}
+use Rattle.tc_base.specs.Reading.{Front, ◌>>=◌}
 use Rattle.tc_base.proofs.Exact.{IsExact, Then, Tagged, Cases, exact_then, exact_done, exact_as, exact_case, exact_none, exact_tagged}
 use Rattle.ty_wire.specs.Form.{Field, text, word, long, Heads, Values, heads, header, AllFit, body, items_bytes, AllShort, head_bytes, long_bytes, Form, form_bytes, FormFits}
 use Rattle.ty_wire.specs.Form as form
-use Rattle.ty_wire.specs.Spelling.{form as form_of, spelling, Fits, InRange, key_text, value_text}
-use Rattle.ty_wire.specs.Reading.{taken_by, room, Entry, plain, counted, command_of, read_by, values_at, counted_at, named_entries, number_entries, bare_entries, key_entries, entries, pick, fields_at, command_at, request_at}
+use Rattle.ty_wire.specs.Spelling.{form as form_of, spelling, Fits, InRange, key_text}
+use Rattle.ty_wire.specs.Reading.{taken_by, room, Entry, plain, counted, command_of, read_by, values_at, counted_at, entries, pick, fields_at, command_at, request_at}
 use Rattle.ty_wire.proofs.ExactForms.{Ends, AllSmall, IsForm, exact_values, Lot, IsCounted, exact_counted}
 
 -- ---- one entry of the table
@@ -67,12 +67,73 @@ value_small : 16777216 < 2 ^ 32
 value_small = omega arith
 
 all_little : AllLittle entries
-all_little =
-    ((key_small, (value_small, tt)), ((key_small, (value_small, tt)), ((key_small, (value_small, tt)), ((key_small, (value_small, (tt, tt))), ((key_small, (value_small, tt)),
-    ((key_small, tt), ((key_small, tt), ((tt, key_small), ((key_small, tt), ((key_small, tt), ((key_small, tt),
-    (tt, (tt, (tt, (tt, (tt, (tt, (tt,
-    ((key_small, (tt, tt)), ((key_small, (tt, tt)), ((key_small, (tt, (tt, tt))), ((key_small, (tt, (key_small, (value_small, tt)))),
-    ((key_small, (tt, (tt, tt))), ((key_small, (tt, (tt, (tt, tt)))), (((key_small, (tt, tt)), value_small), ((tt, (tt, tt)), tt))))))))))))))))))))))))))
+all_little = (
+  (key_small, (value_small, tt)),
+  (
+    (key_small, (value_small, tt)),
+    (
+      (key_small, (value_small, tt)),
+      (
+        (key_small, (value_small, (tt, tt))),
+        (
+          (key_small, (value_small, tt)),
+          (
+            (key_small, tt),
+            (
+              (key_small, tt),
+              (
+                (tt, key_small),
+                (
+                  (key_small, tt),
+                  (
+                    (key_small, tt),
+                    (
+                      (key_small, tt),
+                      (
+                        tt,
+                        (
+                          tt,
+                          (
+                            tt,
+                            (
+                              tt,
+                              (
+                                tt,
+                                (
+                                  tt,
+                                  (
+                                    tt,
+                                    (
+                                      (key_small, (tt, tt)),
+                                      (
+                                        (key_small, (tt, tt)),
+                                        (
+                                          (key_small, (tt, (tt, tt))),
+                                          (
+                                            (key_small, (tt, (key_small, (value_small, tt)))),
+                                            ((key_small, (tt, (tt, tt))), ((key_small, (tt, (tt, (tt, tt)))), (((key_small, (tt, tt)), value_small), ((tt, (tt, tt)), tt)))),
+                                          ),
+                                        ),
+                                      ),
+                                    ),
+                                  ),
+                                ),
+                              ),
+                            ),
+                          ),
+                        ),
+                      ),
+                    ),
+                  ),
+                ),
+              ),
+            ),
+          ),
+        ),
+      ),
+    ),
+  ),
+)
 
 -- ---- from the table to the spelling
 
@@ -122,12 +183,73 @@ signed_form v fits =
     (ap (λ (n : ℕ). form.plain 0x58 (key_text ∷ word ∷ []) (v.0, (n, tt))) (of_z-to_z w32 v.1.0 (omega (arith, fits))), sfits_to_z {w = w32} (omega (arith, fits)))
 
 all_sound : AllSound entries
-all_sound =
-    (λ v f. (refl, tt), (λ v f. (refl, tt), (λ v f. (refl, tt), (λ v f. (refl, tt), (λ v f. (refl, tt),
-    (λ v f. (refl, tt), (λ v f. (refl, tt), ((λ l. (refl, tt), λ h f. omega arith), (λ v f. (refl, tt), (λ v f. (refl, tt), (λ v f. (refl, tt),
-    (λ v f. (refl, tt), (λ v f. (refl, tt), (λ v f. (refl, tt), (λ v f. (refl, tt), (λ v f. (refl, tt), (λ v f. (refl, tt), (λ v f. (refl, tt),
-    (λ v f. signed_form v f.1.0, (λ v f. (refl, tt), (λ v f. (refl, tt), (λ v f. (refl, tt),
-    (λ v f. (refl, tt), (λ v f. (refl, tt), ((λ l. (refl, tt), λ h f. omega (arith, f.0)), (λ v f. (refl, tt), tt))))))))))))))))))))))))))
+all_sound = (
+  λ v f. (refl, tt),
+  (
+    λ v f. (refl, tt),
+    (
+      λ v f. (refl, tt),
+      (
+        λ v f. (refl, tt),
+        (
+          λ v f. (refl, tt),
+          (
+            λ v f. (refl, tt),
+            (
+              λ v f. (refl, tt),
+              (
+                (λ l. (refl, tt), λ h f. omega arith),
+                (
+                  λ v f. (refl, tt),
+                  (
+                    λ v f. (refl, tt),
+                    (
+                      λ v f. (refl, tt),
+                      (
+                        λ v f. (refl, tt),
+                        (
+                          λ v f. (refl, tt),
+                          (
+                            λ v f. (refl, tt),
+                            (
+                              λ v f. (refl, tt),
+                              (
+                                λ v f. (refl, tt),
+                                (
+                                  λ v f. (refl, tt),
+                                  (
+                                    λ v f. (refl, tt),
+                                    (
+                                      λ v f. signed_form v f.1.0,
+                                      (
+                                        λ v f. (refl, tt),
+                                        (
+                                          λ v f. (refl, tt),
+                                          (
+                                            λ v f. (refl, tt),
+                                            (λ v f. (refl, tt), (λ v f. (refl, tt), ((λ l. (refl, tt), λ h f. omega (arith, f.0)), (λ v f. (refl, tt), tt)))),
+                                          ),
+                                        ),
+                                      ),
+                                    ),
+                                  ),
+                                ),
+                              ),
+                            ),
+                          ),
+                        ),
+                      ),
+                    ),
+                  ),
+                ),
+              ),
+            ),
+          ),
+        ),
+      ),
+    ),
+  ),
+)
 
 -- ---- from the spelling to the table
 

@@ -1,5 +1,5 @@
 -- The whole requests at the front of a text of bytes.
-use Rattle.std.specs.Prelude.{◌≡◌, ℕ, List, [], ◌∷◌, ◌++◌, All}
+use Rattle.std.specs.Prelude.{◌≡◌, ℕ, List, ◌++◌, All}
 use Rattle.std.specs.List.{flat_map}
 use Rattle.tc_base.specs.declared.request.Request.{Request}
 use Rattle.ty_wire.specs.Prefixes.{IsPrefix}

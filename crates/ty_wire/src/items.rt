@@ -17,12 +17,7 @@ fn read_item(limit: usize, bytes: &[u8]) -> Result<(&[u8], &[u8]), NotWhole>
 }
 
 /// What stands behind so many texts.
-pub fn skip_items(
-    most: usize,
-    count: usize,
-    left: usize,
-    bytes: &[u8],
-) -> Result<&[u8], NotWhole>
+pub fn skip_items(most: usize, count: usize, left: usize, bytes: &[u8]) -> Result<&[u8], NotWhole>
     requires { 4 * count ≤ left }
     ensures { Skips (λ x. x.now) result (items_at most count left bytes.now) }
 {

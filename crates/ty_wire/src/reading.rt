@@ -16,7 +16,9 @@ use crate::shapes::{
     shift_of, word_of,
 };
 use std::alloc::{AllocError, Global};
-use tc_base::{Blob, Blobs, KEY_MOST, NotWhole, REQUEST_MOST, Request, VALUE_MOST, read_bytes, read_size};
+use tc_base::{
+    Blob, Blobs, KEY_MOST, NotWhole, REQUEST_MOST, Request, VALUE_MOST, read_bytes, read_size,
+};
 
 /// What stands at the front of bytes.
 #[derive(Clone, Copy, Debug, PartialEq, Eq)]

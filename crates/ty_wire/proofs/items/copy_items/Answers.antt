@@ -1,5 +1,4 @@
-use Rattle.std.proofs.Common.{◌≡◌, ◌+◌, ◌-◌, ◌*◌, ℕ, List, suc, [], ◌∷◌, ◌++◌, arith, length, sym, subst, ap, ◌∙◌}
-use Rattle.ty_wire.specs.Reading.{items_at}
+use Rattle.std.proofs.Common.{◌≡◌, ◌+◌, ◌-◌, ℕ, List, suc, [], ◌∷◌, ◌++◌, arith, length, sym, subst, ap, ◌∙◌}
 use Rattle.ty_wire.proofs.ItemLoops.{Ahead, ahead_step, ahead_stop, not_refused}
 use Rattle.ty_wire.proofs.items.copy_items.Goals as goal
 
@@ -15,5 +14,5 @@ loop-i-preserved c =
     record {
       room = omega (arith, c.loop-i.invariant.room, c.min-limit.ensures, c.in-Ok.ensures.short, one);
       ahead = subst (Ahead c.args.most c.args.count c.args.left c.args.bytes.now (c.args.count - (c.loop-i.i + 1)) (c.loop-i.spare - 4 - length c.in-Ok.item.now) c.in-Ok.behind.now) (sym more)
-        (ahead_step _ _ _ _ _ _ _ _ _ _ _ _ c.loop-i.invariant.ahead one c.min-limit.ensures c.in-Ok.ensures.item);
+          (ahead_step _ _ _ _ _ _ _ _ _ _ _ _ c.loop-i.invariant.ahead one c.min-limit.ensures c.in-Ok.ensures.item);
     }

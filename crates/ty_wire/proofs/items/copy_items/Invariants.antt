@@ -1,4 +1,4 @@
-use Rattle.std.proofs.Common.{◌-◌, ◌*◌, ◌≤◌, ℕ, List}
+use Rattle.std.proofs.Common.{◌-◌, ◌*◌, ◌≤◌}
 use Rattle.ty_wire.proofs.ItemLoops.{Ahead}
 use Rattle.ty_wire.proofs.items.copy_items.Given as goal
 

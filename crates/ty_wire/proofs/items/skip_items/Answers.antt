@@ -1,4 +1,4 @@
-use Rattle.std.proofs.Common.{◌≡◌, ◌+◌, ◌-◌, ◌*◌, suc, [], ◌∷◌, ◌++◌, arith}
+use Rattle.std.proofs.Common.{◌≡◌, ◌+◌, ◌-◌, suc, [], ◌∷◌, ◌++◌, arith}
 use Rattle.ty_wire.proofs.ItemLoops.{ahead_step, ahead_stop}
 use Rattle.ty_wire.proofs.items.skip_items.Goals as goal
 

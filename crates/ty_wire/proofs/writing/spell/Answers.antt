@@ -1,6 +1,5 @@
 use Rattle.std.proofs.Common.{arith}
 use Rattle.ty_wire.proofs.ItemLemmas.{list_fits, pairs_fit}
-use Rattle.ty_wire.proofs.Requests.{exact_request}
 use Rattle.ty_wire.proofs.writing.spell.Goals as goal
 
 pub spell_size-requires : goal.spell_size-requires
