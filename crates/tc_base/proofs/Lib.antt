@@ -1,2 +1,6 @@
+pub mod Decimals
+pub mod Endians
 pub mod Exact
 pub mod ExactFields
+pub mod Hashing
+pub mod Vnums
