@@ -2,7 +2,8 @@
 use Rattle.std.proofs.Common.{◌≡◌, ℕ, zero, suc, ◌+◌, ◌-◌, ◌*◌, ◌/◌, ◌%◌, ◌^◌, ◌<◌, ◌≤◌, List, [], ◌∷◌, ◌++◌, length, take, drop, set, get_or, refl, sym, ap, ◌∙◌, arith, add-one, add-zero, length-set, append_assoc, length-append, length-drop, lit<, reverse}
 use Rattle.std.proofs.lemmas.List.{drop_more, take_more, take_more_set, drop-set, drop-set-lt, take-set-le, take-append-drop, length-take-le, reverse-append, reverse-reverse, length-reverse, append-nil, get_or-take, get_or-drop, drop_at, take_at}
 use Rattle.std.proofs.Math.Nat.{pow-suc, pow-le-pow_right}
-use Rattle.tc_base.specs.Endian.{le_number, le_bytes, be_number, be_bytes, field, put_at}
+use Rattle.tc_base.specs.Endian.{le_number, le_bytes, be_number, be_bytes, field}
+use Rattle.tc_base.specs.Files.{wrote}
 
 pub le-cons : (b : ℕ) (bytes : List ℕ) → le_number (b ∷ bytes) ≡ b + 256 * le_number bytes
 unfolding le_number
@@ -93,12 +94,12 @@ written_more at w i rest n cur old less inside h =
       long = length-set cur (at + i) (rest % 256) ∙ h.long;
     }
 
-pub written_all : (at w rest n : ℕ) (cur old : List ℕ) → at + w ≤ length old → Written at w w rest n cur old → cur ≡ put_at at (le_bytes w n) old
-unfolding put_at
+pub written_all : (at w rest n : ℕ) (cur old : List ℕ) → at + w ≤ length old → Written at w w rest n cur old → cur ≡ wrote at (le_bytes w n) old
+unfolding wrote
 written_all at w rest n cur old inside h =
     let none : le_bytes (w - w) rest ≡ [] = let z : w - w ≡ 0 = omega arith in rw z (le_bytes-zero rest) in
     let front : take (at + w) cur ≡ take at old ++ le_bytes w n = sym (append-nil (take (at + w) cur)) ∙ ap (λ (l : List ℕ). take (at + w) cur ++ l) (sym none) ∙ h.front in
-    sym (take-append-drop (at + w) cur) ∙ rw (front, h.back, length-le_bytes w n) (append_assoc (take at old) (le_bytes w n) (drop (at + w) old))
+    sym (take-append-drop (at + w) cur) ∙ rw (front, h.back, length-le_bytes w n) refl
 
 -- ---- written from the back
 
@@ -132,10 +133,10 @@ backed_more at w i rest n cur old less inside h =
       long = length-set cur j (rest % 256) ∙ h.long;
     }
 
-pub backed_all : (at w rest n : ℕ) (cur old : List ℕ) → at + w ≤ length old → Backed at w w rest n cur old → cur ≡ put_at at (be_bytes w n) old
-unfolding put_at
+pub backed_all : (at w rest n : ℕ) (cur old : List ℕ) → at + w ≤ length old → Backed at w w rest n cur old → cur ≡ wrote at (be_bytes w n) old
+unfolding wrote
 backed_all at w rest n cur old inside h =
     let none : be_bytes (w - w) rest ≡ [] = let z : w - w ≡ 0 = omega arith in rw z (ap reverse (le_bytes-zero rest)) in
     let here : at + w - w ≡ at = omega arith in
     let back : drop at cur ≡ be_bytes w n ++ drop (at + w) old = ap (λ (m : ℕ). drop m cur) (sym here) ∙ ap (λ (l : List ℕ). l ++ drop (at + w - w) cur) (sym none) ∙ h.back in
-    sym (take-append-drop at cur) ∙ rw (h.front, back, length-be_bytes w n) refl
+    sym (take-append-drop at cur) ∙ rw (h.front, back, length-be_bytes w n) (sym (append_assoc (take at old) (be_bytes w n) (drop (at + w) old)))

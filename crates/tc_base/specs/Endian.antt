@@ -1,5 +1,5 @@
 -- Numbers in a fixed count of bytes.
-use Rattle.std.specs.Prelude.{ℕ, zero, suc, ◌+◌, ◌*◌, ◌/◌, ◌%◌, List, [], ◌∷◌, ◌++◌, length, take, drop, reverse}
+use Rattle.std.specs.Prelude.{ℕ, zero, suc, ◌+◌, ◌*◌, ◌/◌, ◌%◌, List, [], ◌∷◌, take, drop, reverse}
 
 -- the number that bytes spell, the least byte first
 unfoldable pub le_number : List ℕ → ℕ
@@ -21,7 +21,3 @@ be_bytes width n = reverse (le_bytes width n)
 -- that many bytes at a place
 abbrev pub field : ℕ → ℕ → List ℕ → List ℕ
 field at width bytes = take width (drop at bytes)
-
--- bytes with others written over them at a place
-unfoldable pub put_at : ℕ → List ℕ → List ℕ → List ℕ
-put_at at new bytes = take at bytes ++ (new ++ drop (at + length new) bytes)

@@ -1,6 +1,7 @@
 //! Numbers in a field of one to eight bytes.
 ghost use Rattle.std.specs.Prelude.{◌≡◌, ◌+◌, ◌^◌, ◌<◌, ◌≤◌, length};
-ghost use Rattle.tc_base.specs.Endian.{le_number, le_bytes, be_number, be_bytes, field, put_at};
+ghost use Rattle.tc_base.specs.Endian.{le_number, le_bytes, be_number, be_bytes, field};
+ghost use Rattle.tc_base.specs.Files.{wrote};
 
 /// The number in a field of `width` bytes at a place, the least byte first.
 pub fn get_le(bytes: &[u8], at: usize, width: usize) -> u64
@@ -23,7 +24,7 @@ pub fn set_le(bytes: &mut [u8], at: usize, width: usize, n: u64)
     requires width { width ≤ 8 }
     requires inside { at + width ≤ length bytes.old }
     requires fits { n < 256 ^ width }
-    ensures after { bytes.new ≡ put_at at (le_bytes width n) bytes.old }
+    ensures after { bytes.new ≡ wrote at (le_bytes width n) bytes.old }
     ensures read_back { le_number (le_bytes width n) ≡ n }
 {
     let mut rest = n;
@@ -54,7 +55,7 @@ pub fn set_be(bytes: &mut [u8], at: usize, width: usize, n: u64)
     requires width { width ≤ 8 }
     requires inside { at + width ≤ length bytes.old }
     requires fits { n < 256 ^ width }
-    ensures after { bytes.new ≡ put_at at (be_bytes width n) bytes.old }
+    ensures after { bytes.new ≡ wrote at (be_bytes width n) bytes.old }
     ensures read_back { be_number (be_bytes width n) ≡ n }
 {
     let mut rest = n;
