@@ -1,6 +1,6 @@
 -- Numbers in fields of bytes.
-use Rattle.std.proofs.Common.{◌≡◌, ℕ, zero, suc, ◌+◌, ◌-◌, ◌*◌, ◌/◌, ◌%◌, ◌^◌, ◌<◌, ◌≤◌, List, [], ◌∷◌, ◌++◌, length, take, drop, set, get_or, refl, sym, ap, ◌∙◌, arith, add-one, add-zero, length-set, append_assoc, length-append, length-drop, lit<, reverse}
-use Rattle.std.proofs.lemmas.List.{drop_more, take_more, take_more_set, drop-set, drop-set-lt, take-set-le, take-append-drop, length-take-le, reverse-append, reverse-reverse, length-reverse, append-nil, get_or-take, get_or-drop, drop_at, take_at}
+use Rattle.std.proofs.Common.{◌≡◌, ℕ, zero, suc, ◌+◌, ◌-◌, ◌*◌, ◌/◌, ◌%◌, ◌^◌, ◌<◌, ◌≤◌, List, [], ◌∷◌, ◌++◌, length, take, drop, set, get_or, refl, sym, ap, ◌∙◌, arith, add-one, length-set, append_assoc, length-drop, lit<, reverse}
+use Rattle.std.proofs.lemmas.List.{drop_more, take_more, take_more_set, drop-set, drop-set-lt, take-set-le, take-append-drop, length-take-le, reverse-append, reverse-reverse, length-reverse, append-nil, get_or-take, get_or-drop}
 use Rattle.std.proofs.Math.Nat.{pow-suc, pow-le-pow_right}
 use Rattle.tc_base.specs.Endian.{le_number, le_bytes, be_number, be_bytes, field}
 use Rattle.tc_base.specs.Files.{wrote}
@@ -87,9 +87,9 @@ written_more at w i rest n cur old less inside h =
     record {
       front =
           rw (along, take_more_set cur (at + i) (rest % 256) within) (
-            append_assoc (take (at + i) cur) (rest % 256 ∷ []) (le_bytes k (rest / 256))
-            ∙ ap (λ (l : List ℕ). take (at + i) cur ++ l) (sym (le_bytes-suc k rest) ∙ ap (λ (m : ℕ). le_bytes m rest) (sym split))
-            ∙ h.front);
+          append_assoc (take (at + i) cur) (rest % 256 ∷ []) (le_bytes k (rest / 256))
+          ∙ ap (λ (l : List ℕ). take (at + i) cur ++ l) (sym (le_bytes-suc k rest) ∙ ap (λ (m : ℕ). le_bytes m rest) (sym split))
+          ∙ h.front);
       back = drop-set-lt (at + w) cur (at + i) (rest % 256) (omega arith) ∙ h.back;
       long = length-set cur (at + i) (rest % 256) ∙ h.long;
     }
@@ -126,9 +126,9 @@ backed_more at w i rest n cur old less inside h =
     record {
       back =
           rw (here, drop-set cur j (rest % 256) within, next) (
-            sym (append_assoc (be_bytes k (rest / 256)) (rest % 256 ∷ []) (drop (at + w - i) cur))
-            ∙ ap (λ (l : List ℕ). l ++ drop (at + w - i) cur) (sym (be_bytes-suc k rest) ∙ ap (λ (m : ℕ). be_bytes m rest) (sym split))
-            ∙ h.back);
+          sym (append_assoc (be_bytes k (rest / 256)) (rest % 256 ∷ []) (drop (at + w - i) cur))
+          ∙ ap (λ (l : List ℕ). l ++ drop (at + w - i) cur) (sym (be_bytes-suc k rest) ∙ ap (λ (m : ℕ). be_bytes m rest) (sym split))
+          ∙ h.back);
       front = take-set-le at cur j (rest % 256) low ∙ h.front;
       long = length-set cur j (rest % 256) ∙ h.long;
     }

@@ -2,5 +2,6 @@ pub mod Decimals
 pub mod Endians
 pub mod Exact
 pub mod ExactFields
+pub mod ExactNumbers
 pub mod Hashing
 pub mod Vnums

@@ -1,7 +1,6 @@
 -- Varying numbers are read exactly where they are spelled.
-use Rattle.std.proofs.Common.{◌≡◌, ◌≢◌, ◌⊎◌, ◌↔◌, inl, inr, ℕ, zero, suc, ◌+◌, ◌-◌, ◌*◌, ◌/◌, ◌%◌, ◌^◌, ◌<◌, ◌≤◌, Bool, true, false, cond, ltb, leb, List, [], ◌∷◌, ◌++◌, length, take, drop, get_or, refl, sym, ap, subst, ◌∙◌, arith, lit<, add-one, set, append_assoc, length-set, Result, Ok, Err, length-append}
+use Rattle.std.proofs.Common.{◌≡◌, ◌⊎◌, ◌↔◌, inl, inr, ℕ, zero, suc, ◌+◌, ◌-◌, ◌*◌, ◌/◌, ◌%◌, ◌^◌, ◌<◌, ◌≤◌, true, false, ltb, leb, List, [], ◌∷◌, ◌++◌, length, take, drop, get_or, refl, sym, ap, subst, ◌∙◌, arith, lit<, add-one, set, append_assoc, length-set, Result, Ok, Err, length-append}
 use Rattle.std.specs.Result.{IfOk}
-use Rattle.std.specs.List.{prefix_len}
 use Rattle.std.proofs.lemmas.Bool.{cases_lt, lt-ltb, le-ltb, le-leb, lt-leb}
 use Rattle.std.proofs.lemmas.List.{get_or_past, length-take-le, append-nil, take_more_set, drop_more, drop_all}
 use Rattle.std.proofs.Math.Nat.{pow-suc, pow-le-pow_right, mul-le-mul_right}
@@ -235,18 +234,27 @@ nine_at bytes e = ap (λ (n : ℕ). get_or bytes n 0) (sym e)
 
 pub wide_exactly : (bytes : List ℕ) → (vnum_at bytes ≡ Err Wide) ↔ IsWide bytes
 wide_exactly bytes = elim (outcome bytes) [
-  | is_whole h k z w e ↦ (λ s. absurd (let r = sym e ∙ s in cc), λ s. absurd (elim s [
+  | is_whole h k z w e ↦ (
+    λ s. absurd (let r = sym e ∙ s in cc),
+    λ s. absurd (elim s [
       | inl ten ↦ omega (arith, ten, k)
       | inr nine ↦ elim w [ inl few ↦ omega (arith, few, nine.0) | inr one ↦ omega (arith, one, nine.1, nine_at bytes nine.0) ]
-    ]))
-  | is_short k h e ↦ (λ s. absurd (let r = sym e ∙ s in cc), λ s. absurd (elim s [
+    ]),
+  )
+  | is_short k h e ↦ (
+    λ s. absurd (let r = sym e ∙ s in cc),
+    λ s. absurd (elim s [
       | inl ten ↦ omega (arith, ten, k)
       | inr nine ↦ let p = get_or_past bytes 9 0 (omega (arith, h, nine.0)) in omega (arith, p, nine.1)
-    ]))
-  | is_second h k some z e ↦ (λ s. absurd (let r = sym e ∙ s in cc), λ s. absurd (elim s [
+    ]),
+  )
+  | is_second h k some z e ↦ (
+    λ s. absurd (let r = sym e ∙ s in cc),
+    λ s. absurd (elim s [
       | inl ten ↦ omega (arith, ten, k)
       | inr nine ↦ omega (arith, z, nine.1, nine_at bytes nine.0)
-    ]))
+    ]),
+  )
   | is_wide w e ↦ (λ s. elim w [ inl ten ↦ inl ten | inr nine ↦ inr (nine.0, rw (nine_at bytes nine.0) nine.1) ], λ s. e)
 ]
 
@@ -271,7 +279,7 @@ pub record Found (bytes : List ℕ) (n len : ℕ) : Type 0 where
   pub long : len ≡ length (vnum n)
   pub front : take len bytes ≡ vnum n
 
-found_whole : (bytes : List ℕ) → IsBytes bytes → tops bytes < length bytes → tops bytes < 10 → (tops bytes ≡ 0) ⊎ (0 < last bytes) → (tops bytes < 9) ⊎ (last bytes ≤ 1) → Found bytes (value_of bytes) (tops bytes + 1)
+pub found_whole : (bytes : List ℕ) → IsBytes bytes → tops bytes < length bytes → tops bytes < 10 → (tops bytes ≡ 0) ⊎ (0 < last bytes) → (tops bytes < 9) ⊎ (last bytes ≤ 1) → Found bytes (value_of bytes) (tops bytes + 1)
 unfolding vnum
 found_whole bytes are h k z w =
     let b = between bytes h in
@@ -315,12 +323,12 @@ again n rest below =
       | is_short k' h' e ↦ absurd (omega (arith, h, h'))
       | is_second h' k' some z e ↦ absurd (omega (arith, z, r.ending some))
       | is_wide w e ↦ absurd (elim w [
-          | inl ten ↦ omega (arith, ten, k)
-          | inr nine ↦
-              let p : 128 ^ tops bytes ≡ 128 ^ 9 = ap (λ (m : ℕ). 128 ^ m) nine.0 in
-              let l : last bytes * 128 ^ 9 ≤ value_of bytes = subst (λ (m : ℕ). last bytes * m ≤ value_of bytes) p b.low in
-              omega (arith, l, nine.1, r.value, below)
-        ])
+        | inl ten ↦ omega (arith, ten, k)
+        | inr nine ↦
+            let p : 128 ^ tops bytes ≡ 128 ^ 9 = ap (λ (m : ℕ). 128 ^ m) nine.0 in
+            let l : last bytes * 128 ^ 9 ≤ value_of bytes = subst (λ (m : ℕ). last bytes * m ≤ value_of bytes) p b.low in
+            omega (arith, l, nine.1, r.value, below)
+      ])
     ]
   where
     pairs : (a b c d : ℕ) → a ≡ b → c ≡ d → ◌≡◌ {A = Result (ℕ × ℕ) NumErr} (Ok (a, c)) (Ok (b, d))

@@ -1,5 +1,7 @@
 -- Numbers in a fixed count of bytes.
-use Rattle.std.specs.Prelude.{ℕ, zero, suc, ◌+◌, ◌*◌, ◌/◌, ◌%◌, List, [], ◌∷◌, take, drop, reverse}
+use Rattle.std.specs.Prelude.{ℕ, zero, suc, ◌+◌, ◌*◌, ◌/◌, ◌%◌, List, [], ◌∷◌, length, take, drop, reverse, nat_lt, if◌then◌else◌, Ok, Err}
+use Rattle.tc_base.specs.declared.fields.NotWhole.TheVariants.{Part}
+use Rattle.tc_base.specs.Reading.{Front}
 
 -- the number that bytes spell, the least byte first
 unfoldable pub le_number : List ℕ → ℕ
@@ -21,3 +23,7 @@ be_bytes width n = reverse (le_bytes width n)
 -- that many bytes at a place
 abbrev pub field : ℕ → ℕ → List ℕ → List ℕ
 field at width bytes = take width (drop at bytes)
+
+-- a number of that many bytes at the front, the least first, and the bytes behind it
+unfoldable pub le_front : ℕ → List ℕ → Front ℕ
+le_front width bytes = if nat_lt (length bytes) width then Err Part else Ok (le_number (take width bytes), drop width bytes)

@@ -1,9 +1,11 @@
 -- Varying numbers: base 128, the least group first. Each group but the last is stored as its complement in 8 bits, so that its
 -- top bit is set; the last is stored as it is.
-use Rattle.std.specs.Prelude.{◌≡◌, ℕ, zero, suc, ◌+◌, ◌-◌, ◌*◌, ◌/◌, ◌%◌, ◌<◌, ◌≤◌, ◌⊎◌, List, [], ◌∷◌, length, nat_lt, nat_le, if◌then◌else◌, slice_index, Result, Ok, Err}
+use Rattle.std.specs.Prelude.{◌≡◌, ℕ, zero, suc, ◌+◌, ◌-◌, ◌*◌, ◌/◌, ◌%◌, ◌<◌, ◌≤◌, ◌⊎◌, List, [], ◌∷◌, length, nat_lt, nat_le, if◌then◌else◌, slice_index, drop, Result, Ok, Err}
 use Rattle.std.specs.List.{prefix_len}
 use Rattle.tc_base.specs.declared.number.NumErr.{NumErr}
 use Rattle.tc_base.specs.declared.number.NumErr.TheVariants.{Short, Second, Wide}
+use Rattle.tc_base.specs.declared.fields.NotWhole.TheVariants.{Part, Bad}
+use Rattle.tc_base.specs.Reading.{Front}
 
 -- a number in at most that many groups
 unfoldable pub groups : ℕ → ℕ → List ℕ
@@ -48,3 +50,13 @@ vnum_at bytes =
     if nat_lt (tops bytes) 10
     then (if nat_lt (tops bytes) (length bytes) then ended (tops bytes) (slice_index bytes (tops bytes)) (value_of bytes) else Err Short)
     else Err Wide
+
+-- the same as a reading: the number and the bytes behind it
+abbrev pub fronted : List ℕ → Result (ℕ × ℕ) NumErr → Front ℕ
+fronted bytes (Ok x) = Ok (x.0, drop x.1 bytes)
+fronted bytes (Err Short) = Err Part
+fronted bytes (Err Second) = Err Bad
+fronted bytes (Err Wide) = Err Bad
+
+unfoldable pub vnum_front : List ℕ → Front ℕ
+vnum_front bytes = fronted bytes (vnum_at bytes)

@@ -1,7 +1,10 @@
 //! Numbers in a field of one to eight bytes.
 ghost use Rattle.std.specs.Prelude.{◌≡◌, ◌+◌, ◌^◌, ◌<◌, ◌≤◌, length};
-ghost use Rattle.tc_base.specs.Endian.{le_number, le_bytes, be_number, be_bytes, field};
+ghost use Rattle.tc_base.specs.Endian.{le_number, le_bytes, be_number, be_bytes, field, le_front};
+ghost use Rattle.tc_base.specs.Reading.{Gives};
 ghost use Rattle.tc_base.specs.Files.{wrote};
+
+use crate::fields::NotWhole;
 
 /// The number in a field of `width` bytes at a place, the least byte first.
 pub fn get_le(bytes: &[u8], at: usize, width: usize) -> u64
@@ -63,4 +66,16 @@ pub fn set_be(bytes: &mut [u8], at: usize, width: usize, n: u64)
         bytes[at + width - 1 - i] = (rest % 256) as u8;
         rest /= 256;
     }
+}
+
+/// A number of `width` bytes at the front of the bytes, the least byte first, and the bytes behind it.
+pub fn read_le(width: usize, bytes: &[u8]) -> Result<(u64, &[u8]), NotWhole>
+    requires some { 1 ≤ width }
+    requires width { width ≤ 8 }
+    ensures { Gives (λ x. (x.0, x.1.now)) result (le_front width bytes.now) }
+{
+    if bytes.len() < width {
+        return Err(NotWhole::Part);
+    }
+    Ok((get_le(bytes, 0, width), &bytes[width..]))
 }

@@ -1,8 +1,10 @@
 //! Varying numbers: one to ten bytes for a number below 2^64.
 ghost use Rattle.std.specs.Prelude.{◌≡◌, ℕ, ◌+◌, ◌*◌, ◌^◌, ◌<◌, ◌≤◌, ◌↔◌, ◌++◌, List, length, take, IfOk, OnOk, OnErr, Ok, Err};
-ghost use Rattle.tc_base.specs.Vnum.{vnum, vnum_at, ended, IsShort, IsSecond, IsWide};
+ghost use Rattle.tc_base.specs.Vnum.{vnum, vnum_at, vnum_front, ended, IsShort, IsSecond, IsWide};
+ghost use Rattle.tc_base.specs.Reading.{Gives};
 
 use crate::blob::Blob;
+use crate::fields::NotWhole;
 use std::alloc::AllocError;
 use thiserror::Error;
 
@@ -26,7 +28,8 @@ fn end(behind: usize, last: u8, low: u64, scale: u64) -> Result<(u64, usize), Nu
     requires ends { last < 128 }
     requires scale { scale ≡ 128 ^ behind }
     requires low { low < scale }
-    ensures { result ≡ ended behind last (low + last * scale) }
+    ensures read { result ≡ ended behind last (low + last * scale) }
+    ensures len { IfOk result (λ x. x.1 ≡ behind + 1) }
 {
     if behind > 0 && last == 0 {
         return Err(NumErr::Second);
@@ -39,7 +42,8 @@ fn end(behind: usize, last: u8, low: u64, scale: u64) -> Result<(u64, usize), Nu
 
 // The number at the front, as the definition of reading says.
 fn scan(bytes: &[u8]) -> Result<(u64, usize), NumErr>
-    ensures { result ≡ vnum_at bytes.now }
+    ensures read { result ≡ vnum_at bytes.now }
+    ensures within { IfOk result (λ x. x.1 ≤ length bytes.now) }
 {
     let mut low: u64 = 0;
     let mut scale: u64 = 1;
@@ -74,6 +78,18 @@ pub fn read_vnum(bytes: &[u8]) -> Result<(u64, usize), NumErr>
     ensures no_front { (m n : ℕ) (rest : List ℕ) → m < 2 ^ 64 → n < 2 ^ 64 → vnum n ≡ vnum m ++ rest → m ≡ n }
 {
     scan(bytes)
+}
+
+/// The number whose spelling stands at the front of the bytes, and the bytes behind it.
+pub fn read_number(bytes: &[u8]) -> Result<(u64, &[u8]), NotWhole>
+    ensures { Gives (λ x. (x.0, x.1.now)) result (vnum_front bytes.now) }
+{
+    match scan(bytes) {
+        Ok((n, len)) => Ok((n, &bytes[len..])),
+        Err(NumErr::Short) => Err(NotWhole::Part),
+        Err(NumErr::Second) => Err(NotWhole::Bad),
+        Err(NumErr::Wide) => Err(NotWhole::Bad),
+    }
 }
 
 // The spelling in a buffer, and its length.

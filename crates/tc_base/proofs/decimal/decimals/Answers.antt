@@ -1,4 +1,4 @@
-use Rattle.std.proofs.Common.{◌≡◌, ◌∙◌, ℕ, ◌-◌, ◌<◌, ◌≤◌, get_or, sym, ap, arith}
+use Rattle.std.proofs.Common.{◌≡◌, ◌∙◌, ℕ, ◌-◌, ◌≤◌, get_or, sym, ap, arith}
 use Rattle.tc_base.specs.Decimal.{digits, nine}
 use Rattle.tc_base.proofs.Decimals.{decimal-nil, in_run, nine_in, nine_past, nine_more, nine_all, ten_more}
 use Rattle.tc_base.proofs.decimal.decimals.Goals as goal
@@ -23,9 +23,10 @@ digit c = elim c.if-i-run.branch [
 
 pub loop-i-preserved : goal.loop-i-preserved
 loop-i-preserved c =
-    let d = digit c in
-    (nine_more c.args.rest.now c.loop-i.i c.loop-i.value c.from.result c.loop-i-test.true c.loop-i.invariant.0 d.0
-     , ten_more c.loop-i.value c.loop-i.i c.from.result c.loop-i.invariant.1 d.1)
+    let d = digit c in (
+      nine_more c.args.rest.now c.loop-i.i c.loop-i.value c.from.result c.loop-i-test.true c.loop-i.invariant.0 d.0,
+      ten_more c.loop-i.value c.loop-i.i c.from.result c.loop-i.invariant.1 d.1,
+    )
 
 pub returns-clause-value : goal.returns-clause-value
 returns-clause-value c = nine_all c.args.rest.now c.loop-i.i c.loop-i.value (omega arith) c.loop-i.invariant.0

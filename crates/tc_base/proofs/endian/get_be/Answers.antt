@@ -1,4 +1,4 @@
-use Rattle.std.proofs.Common.{◌≡◌, ◌∙◌, ℕ, ◌+◌, ◌*◌, ◌<◌, get_or, length, take, sym, ap, arith}
+use Rattle.std.proofs.Common.{◌≡◌, ◌∙◌, ◌+◌, ◌<◌, sym, ap, arith}
 use Rattle.std.proofs.lemmas.List.{take_all}
 use Rattle.tc_base.specs.Endian.{be_number, field}
 use Rattle.tc_base.proofs.Endians.{le-nil, fits_more, below_more, field_at, length-field, be_more}
@@ -19,9 +19,10 @@ overflow_add-n c =
 pub loop-i-preserved : goal.loop-i-preserved
 loop-i-preserved c =
     let byte : c.from.result < 256 = omega (arith, c.from.ensures, c.type_inv.bytes (c.args.at + c.loop-i.i)) in
-    let long = length-field c.args.at c.args.width c.args.bytes.now c.requires.inside in
-    (be_more (field c.args.at c.args.width c.args.bytes.now) c.loop-i.i c.loop-i.n c.from.result (omega (arith, long)) c.loop-i.invariant.0 (c.from.ensures ∙ sym (field_at c.args.at c.args.width c.loop-i.i c.args.bytes.now c.loop-i-test.true))
-     , below_more c.loop-i.n c.loop-i.i c.from.result c.loop-i.invariant.1 byte)
+    let long = length-field c.args.at c.args.width c.args.bytes.now c.requires.inside in (
+      be_more (field c.args.at c.args.width c.args.bytes.now) c.loop-i.i c.loop-i.n c.from.result (omega (arith, long)) c.loop-i.invariant.0 (c.from.ensures ∙ sym (field_at c.args.at c.args.width c.loop-i.i c.args.bytes.now c.loop-i-test.true)),
+      below_more c.loop-i.n c.loop-i.i c.from.result c.loop-i.invariant.1 byte,
+    )
 
 pub returns-clause-value : goal.returns-clause-value
 returns-clause-value c =

@@ -1,4 +1,4 @@
-use Rattle.std.proofs.Common.{◌≡◌, ◌∙◌, ℕ, ◌+◌, ◌-◌, ◌*◌, ◌<◌, get_or, length, drop, sym, ap, arith}
+use Rattle.std.proofs.Common.{◌≡◌, ◌∙◌, ℕ, ◌+◌, ◌-◌, ◌<◌, get_or, drop, sym, ap, arith}
 use Rattle.std.proofs.lemmas.List.{drop_all}
 use Rattle.tc_base.specs.Endian.{le_number, field}
 use Rattle.tc_base.proofs.Endians.{le-nil, fits_more, below_more, field_at, length-field, le_more}
@@ -24,9 +24,10 @@ loop-i-preserved c =
     let long = length-field c.args.at c.args.width c.args.bytes.now c.requires.inside in
     let here : c.args.at + c.args.width - 1 - c.loop-i.i ≡ c.args.at + (c.args.width - 1 - c.loop-i.i) = omega arith in
     let read : c.from.result ≡ get_or (field c.args.at c.args.width c.args.bytes.now) (c.args.width - 1 - c.loop-i.i) 0 =
-        c.from.ensures ∙ ap (λ (m : ℕ). get_or c.args.bytes.now m 0) here ∙ sym (field_at c.args.at c.args.width (c.args.width - 1 - c.loop-i.i) c.args.bytes.now (omega arith)) in
-    (le_more (field c.args.at c.args.width c.args.bytes.now) c.args.width c.loop-i.i c.loop-i.n c.from.result long c.loop-i-test.true c.loop-i.invariant.0 read
-     , below_more c.loop-i.n c.loop-i.i c.from.result c.loop-i.invariant.1 byte)
+    c.from.ensures ∙ ap (λ (m : ℕ). get_or c.args.bytes.now m 0) here ∙ sym (field_at c.args.at c.args.width (c.args.width - 1 - c.loop-i.i) c.args.bytes.now (omega arith)) in (
+      le_more (field c.args.at c.args.width c.args.bytes.now) c.args.width c.loop-i.i c.loop-i.n c.from.result long c.loop-i-test.true c.loop-i.invariant.0 read,
+      below_more c.loop-i.n c.loop-i.i c.from.result c.loop-i.invariant.1 byte,
+    )
 
 pub returns-clause-value : goal.returns-clause-value
 returns-clause-value c =

@@ -1,4 +1,4 @@
-use Rattle.std.proofs.Common.{◌≡◌, ◌∙◌, ℕ, ◌-◌, ◌%◌, List, length, drop, sym, ap, arith}
+use Rattle.std.proofs.Common.{◌∙◌, ◌-◌, length, sym, ap, arith}
 use Rattle.std.proofs.lemmas.List.{drop_all}
 use Rattle.tc_base.specs.Hashes.{back_hash}
 use Rattle.tc_base.proofs.Hashing.{back-nil, back_more}

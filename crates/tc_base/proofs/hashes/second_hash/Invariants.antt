@@ -1,4 +1,4 @@
-use Rattle.std.proofs.Common.{◌≡◌, ◌-◌, ◌^◌, ◌<◌, length, drop}
+use Rattle.std.proofs.Common.{◌≡◌, ◌-◌, length, drop}
 use Rattle.tc_base.specs.Hashes.{back_hash}
 use Rattle.tc_base.proofs.hashes.second_hash.Given as goal
 

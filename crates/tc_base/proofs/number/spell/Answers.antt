@@ -1,5 +1,4 @@
-use Rattle.std.proofs.Common.{◌≡◌, ◌∙◌, ℕ, ◌+◌, ◌<◌, ◌≤◌, length, take, set, refl, sym, ap, subst, arith}
-use Rattle.tc_base.specs.Vnum.{vnum}
+use Rattle.std.proofs.Common.{◌≡◌, ℕ, refl, subst, arith}
 use Rattle.tc_base.proofs.Vnums.{Spelling, spelling_none, spelling_more, spelling_done, spelling_long}
 use Rattle.tc_base.proofs.number.spell.Goals as goal
 
