@@ -1,5 +1,5 @@
 //! Numbers in a field of one to eight bytes.
-ghost use Rattle.std.specs.Prelude.{◌≡◌, ◌+◌, ◌^◌, ◌<◌, ◌≤◌, length};
+ghost use Rattle.std.specs.Prelude.{◌≡◌, ◌+◌, ◌^◌, ◌<◌, ◌≤◌, IfOk, length};
 ghost use Rattle.tc_base.specs.Endian.{le_number, le_bytes, be_number, be_bytes, field, le_front};
 ghost use Rattle.tc_base.specs.Reading.{Gives};
 ghost use Rattle.tc_base.specs.Files.{wrote};
@@ -72,7 +72,8 @@ pub fn set_be(bytes: &mut [u8], at: usize, width: usize, n: u64)
 pub fn read_le(width: usize, bytes: &[u8]) -> Result<(u64, &[u8]), NotWhole>
     requires some { 1 ≤ width }
     requires width { width ≤ 8 }
-    ensures { Gives (λ x. (x.0, x.1.now)) result (le_front width bytes.now) }
+    ensures read { Gives (λ x. (x.0, x.1.now)) result (le_front width bytes.now) }
+    ensures fits { IfOk result (λ x. x.0 < 256 ^ width) }
 {
     if bytes.len() < width {
         return Err(NotWhole::Part);
