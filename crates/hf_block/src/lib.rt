@@ -3,8 +3,10 @@
 
 mod block;
 mod reading;
-
+mod walking;
+mod writing;
 
 pub use block::{Block, BlockAt, Blocks};
 pub use reading::{BlockErr, read_block};
-
+pub use walking::{WHOLE_BLOCKS, WalkErr};
+pub use writing::write_rec;

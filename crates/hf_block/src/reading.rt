@@ -22,7 +22,7 @@ pub enum BlockErr {
 }
 
 // The bytes before the key of a record with a key and a value of these sizes.
-fn head_len(key: u64, value: u64) -> u64
+pub(crate) fn head_len(key: u64, value: u64) -> u64
     ensures value { result ≡ 12 + length (vnum key) + length (vnum value) }
     ensures most { result ≤ 32 }
 {
