@@ -26,20 +26,32 @@ padded u n some =
     let f : n + y ≡ (n / u + 1) * u = omega (arith, mod-add-div' n u, low) in
     sym (add-mul-mod_self_right (n + y % u) (y / u) u) ∙ ap (λ (m : ℕ). m % u) (sym e ∙ f) ∙ mul-mod_left (n / u + 1) u
 
-length-rec_head : (hash left right pad key value : ℕ) → length (rec_head hash left right pad key value) ≡ 12 + length (vnum key) + length (vnum value)
+pub length-rec_head : (hash left right pad key value : ℕ) → length (rec_head hash left right pad key value) ≡ 12 + length (vnum key) + length (vnum value)
 unfolding rec_head
 length-rec_head hash left right pad key value =
-    omega (arith, length-le_bytes 1 hash, length-append (le_bytes 1 hash) (le_bytes 4 left ++ (le_bytes 4 right ++ (le_bytes 2 pad ++ (vnum key ++ vnum value)))),
-      length-le_bytes 4 left, length-append (le_bytes 4 left) (le_bytes 4 right ++ (le_bytes 2 pad ++ (vnum key ++ vnum value))),
-      length-le_bytes 4 right, length-append (le_bytes 4 right) (le_bytes 2 pad ++ (vnum key ++ vnum value)),
-      length-le_bytes 2 pad, length-append (le_bytes 2 pad) (vnum key ++ vnum value), length-append (vnum key) (vnum value))
+    omega (
+      arith,
+      length-le_bytes 1 hash,
+      length-append (le_bytes 1 hash) (le_bytes 4 left ++ (le_bytes 4 right ++ (le_bytes 2 pad ++ (vnum key ++ vnum value)))),
+      length-le_bytes 4 left,
+      length-append (le_bytes 4 left) (le_bytes 4 right ++ (le_bytes 2 pad ++ (vnum key ++ vnum value))),
+      length-le_bytes 4 right,
+      length-append (le_bytes 4 right) (le_bytes 2 pad ++ (vnum key ++ vnum value)),
+      length-le_bytes 2 pad,
+      length-append (le_bytes 2 pad) (vnum key ++ vnum value),
+      length-append (vnum key) (vnum value),
+    )
 
 pub length-held : (r : Record) → length (spell (held r)) ≡ 12 + length (vnum (length r.key)) + length (vnum (length r.value)) + length r.key + length r.value + length r.pad
 unfolding spell
 length-held r =
-    omega (arith, length-rec_head r.hash r.left r.right (length r.pad) (length r.key) (length r.value),
+    omega (
+      arith,
+      length-rec_head r.hash r.left r.right (length r.pad) (length r.key) (length r.value),
       length-append (rec_head r.hash r.left r.right (length r.pad) (length r.key) (length r.value)) (r.key ++ (r.value ++ r.pad)),
-      length-append r.key (r.value ++ r.pad), length-append r.value r.pad)
+      length-append r.key (r.value ++ r.pad),
+      length-append r.value r.pad,
+    )
 
 pub record_aligned : (hash left right : ℕ) (key value : List ℕ) (u : ℕ) → 1 ≤ u → length (record_bytes hash left right key value u) % u ≡ 0
 unfolding record_bytes
@@ -70,7 +82,7 @@ record_is hash left right key value old u pad is =
 
 pub more_zeros : (old : List ℕ) (count rest n : ℕ) → n ≤ rest → rest ≤ count → n ≤ 256 → (old ++ replicate (count - rest) 0) ++ take n (replicate 256 0) ≡ old ++ replicate (count - (rest - n)) 0
 more_zeros old count rest n le within few =
-    let t : take n (replicate 256 0) ≡ replicate n 0 = take-replicate n 256 0 few in
+    let t : ◌≡◌ {A = List ℕ} (take n (replicate 256 0)) (replicate n 0) = take-replicate n 256 0 few in
     let s : count - rest + n ≡ count - (rest - n) = omega arith in
     append_assoc old (replicate (count - rest) 0) (take n (replicate 256 0)) ∙ ap (λ (l : List ℕ). old ++ l) (ap (λ (l : List ℕ). replicate (count - rest) 0 ++ l) t ∙ replicate-append-replicate (count - rest) n 0 ∙ ap (λ (m : ℕ). replicate m 0) s)
 

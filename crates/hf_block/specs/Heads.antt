@@ -1,5 +1,5 @@
 -- The heads of blocks. Numbers have the least byte first.
-use Rattle.std.specs.Prelude.{◌≡◌, ℕ, ◌+◌, ◌-◌, ◌%◌, ◌^◌, ◌<◌, List, [], ◌∷◌, ◌++◌, length, replicate}
+use Rattle.std.specs.Prelude.{◌≡◌, ℕ, ◌+◌, ◌^◌, ◌<◌, List, ◌∷◌, ◌++◌, length}
 use Rattle.tc_base.specs.Endian.{le_bytes}
 use Rattle.tc_base.specs.Vnum.{vnum}
 use Rattle.hf_block.specs.declared.block.Block.{Block}

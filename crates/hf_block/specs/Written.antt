@@ -1,8 +1,7 @@
 -- A record as it is written.
-use Rattle.std.specs.Prelude.{ℕ, ◌+◌, ◌-◌, ◌%◌, List, [], ◌∷◌, ◌++◌, length, replicate}
+use Rattle.std.specs.Prelude.{ℕ, ◌+◌, ◌-◌, ◌%◌, List, ◌∷◌, ◌++◌, length, replicate}
 use Rattle.tc_base.specs.Endian.{le_bytes}
 use Rattle.tc_base.specs.Vnum.{vnum}
-use Rattle.hf_block.specs.Heads.{rec_head}
 use Rattle.hf_block.specs.Pieces.{Record, held, spell}
 
 -- what n bytes lack up to the least multiple of the unit

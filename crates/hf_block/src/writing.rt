@@ -4,8 +4,8 @@ ghost use Rattle.hf_block.specs.Written.{padding, front_bytes, record_bytes};
 ghost use Rattle.hf_block.specs.Heads.{rec_head};
 ghost use Rattle.tc_base.specs.Vnum.{vnum};
 
-use std::alloc::AllocError;
 use crate::reading::head_len;
+use std::alloc::AllocError;
 use tc_base::{Blob, put_vnum, set_le};
 
 // The bytes that fill up a block behind so many bytes of head, key and value.
@@ -53,7 +53,15 @@ fn put_zeros(count: u64, into: &mut Blob) -> Result<(), AllocError>
 }
 
 // The whole record. An `Err` may have added some of it.
-fn put_record(hash: u8, left: u64, right: u64, key: &[u8], value: &[u8], unit: u64, into: &mut Blob) -> Result<(), AllocError>
+fn put_record(
+    hash: u8,
+    left: u64,
+    right: u64,
+    key: &[u8],
+    value: &[u8],
+    unit: u64,
+    into: &mut Blob,
+) -> Result<(), AllocError>
     requires left { left < 2 ^ 32 }
     requires right { right < 2 ^ 32 }
     requires some { 1 ≤ unit }
@@ -73,7 +81,15 @@ fn put_record(hash: u8, left: u64, right: u64, key: &[u8], value: &[u8], unit: u
 
 /// Adds a record behind the bytes: its head, key and value, and zeros up to the least multiple of the unit. An `Err` changes
 /// nothing.
-pub fn write_rec(hash: u8, left: u64, right: u64, key: &[u8], value: &[u8], unit: u64, into: &mut Blob) -> Result<(), AllocError>
+pub fn write_rec(
+    hash: u8,
+    left: u64,
+    right: u64,
+    key: &[u8],
+    value: &[u8],
+    unit: u64,
+    into: &mut Blob,
+) -> Result<(), AllocError>
     requires left { left < 2 ^ 32 }
     requires right { right < 2 ^ 32 }
     requires some { 1 ≤ unit }

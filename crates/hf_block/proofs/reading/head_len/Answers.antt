@@ -1,4 +1,4 @@
-use Rattle.std.proofs.Common.{◌≤◌, length, arith}
+use Rattle.std.proofs.Common.{arith}
 use Rattle.hf_block.proofs.Blocking.{vnum_most}
 use Rattle.hf_block.proofs.reading.head_len.Goals as goal
 

@@ -1,4 +1,4 @@
-use Rattle.std.proofs.Common.{◌≡◌, ◌∙◌, ap, arith, Err}
+use Rattle.std.proofs.Common.{◌∙◌, ap, arith, Err}
 use Rattle.tc_base.specs.declared.fields.NotWhole.{NotWhole}
 use Rattle.tc_base.specs.Reading.{Front}
 use Rattle.hf_block.specs.declared.block.Block.{Block}

@@ -1,4 +1,4 @@
-use Rattle.std.proofs.Common.{◌≡◌, ◌∙◌, List, ℕ, ◌++◌, ap, arith}
+use Rattle.std.proofs.Common.{◌∙◌, List, ℕ, ◌++◌, ap, arith}
 use Rattle.std.proofs.lemmas.Result.{on_ok_weaker}
 use Rattle.hf_block.proofs.Padding.{front_is}
 use Rattle.hf_block.proofs.writing.put_front.Goals as goal
