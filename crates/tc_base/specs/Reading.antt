@@ -33,3 +33,11 @@ size_at limit bytes =
 -- that many bytes
 abbrev pub bytes_at : ℕ → List ℕ → Front (List ℕ)
 bytes_at n bytes = if nat_lt (length bytes) n then Err Part else Ok (take n bytes, drop n bytes)
+
+-- one behind the other
+abbrev pub both : {A B : Type 0} → (List ℕ → Front A) → (List ℕ → Front B) → List ℕ → Front (A × B)
+both p q bytes = p bytes >>= λ x. q x.1 >>= λ y. Ok ((x.0, y.0), y.1)
+
+-- the value seen as another
+abbrev pub mapped : {A B : Type 0} → (A → B) → (List ℕ → Front A) → List ℕ → Front B
+mapped f p bytes = p bytes >>= λ x. Ok (f x.0, x.1)

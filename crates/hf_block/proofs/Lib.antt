@@ -1,0 +1,4 @@
+pub mod Blocking
+pub mod Listing
+pub mod NextBlock
+pub mod Padding

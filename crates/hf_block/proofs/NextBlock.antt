@@ -1,0 +1,172 @@
+-- The next block, from its head.
+use Rattle.std.proofs.Common.{◌≡◌, ◌∙◌, ◌⊎◌, inl, inr, ℕ, ◌+◌, ◌-◌, ◌^◌, ◌<◌, ◌≤◌, Bool, true, false, List, [], ◌∷◌, ◌++◌, length, take, drop, Result, Ok, refl, sym, ap, subst, arith, append_assoc, length-append, length-drop}
+use Rattle.std.proofs.lemmas.List.{take_at, drop_at, take-append-drop, length-take-le}
+use Rattle.std.proofs.lemmas.Bool.{cases_lt}
+use Rattle.std.proofs.Math.Nat.{mod-eq_of_lt}
+use Rattle.std.proofs.Math.Seq.{take-add}
+use Rattle.tc_base.specs.Vnum.{vnum}
+use Rattle.tc_base.proofs.Endians.{length-le_bytes}
+use Rattle.hf_block.specs.declared.block.Block.{Block}
+use Rattle.hf_block.specs.declared.block.Block.TheVariants.{Rec, Free}
+use Rattle.hf_block.specs.declared.reading.BlockErr.{BlockErr}
+use Rattle.hf_block.specs.Heads.{rec_head, free_head, head_bytes, Fits, IsPrefix}
+use Rattle.hf_block.specs.Pieces.{Record, Piece, held, free, spell, size_of, is_free, IsSize, IsWhole, spell_all, IsFilled}
+use Rattle.hf_block.specs.Walks.{total, is_free_block, IsNext}
+use Rattle.hf_block.proofs.Blocking.{vnum_most}
+use Rattle.hf_block.proofs.Padding.{length-rec_head, length-held}
+
+-- ---- lists
+
+pub take_behind : (head rest : List ℕ) (n m : ℕ) → n ≡ length head + m → take n (head ++ rest) ≡ head ++ take m rest
+take_behind head rest n m e =
+    ap (λ (k : ℕ). take k (head ++ rest)) e ∙ take-add (length head) m (head ++ rest) ∙ rw (take_at head rest (length head) refl, drop_at head rest (length head) refl) refl
+
+three_parts : (a b c : ℕ) (r : List ℕ) → take a r ++ (take b (drop a r) ++ take c (drop (a + b) r)) ≡ take (a + b + c) r
+three_parts a b c r =
+    sym (take-add (a + b) c r ∙ ap (λ (l : List ℕ). l ++ take c (drop (a + b) r)) (take-add a b r) ∙ append_assoc (take a r) (take b (drop a r)) (take c (drop (a + b) r)))
+
+-- ---- from a head to a block
+
+pub record Cut (unit n : ℕ) (kind : Bool) (bytes : List ℕ) : Type 0 where
+  pub piece : Piece
+  pub whole : IsWhole unit piece
+  pub is : take n bytes ≡ spell piece
+  pub size : size_of piece ≡ n
+  pub of_kind : is_free piece ≡ kind
+
+length-free_head : (size : ℕ) → length (free_head size) ≡ 5
+unfolding free_head
+length-free_head size = omega (arith, length-le_bytes 4 size)
+
+sized : (unit n : ℕ) (p : Piece) → size_of p ≡ n → IsSize unit n → IsSize unit (size_of p)
+sized unit n p e h = subst (λ (m : ℕ). IsSize unit m) (sym e) h
+
+cut_rec : (unit hash left right pad key value head : ℕ) (bytes : List ℕ) → Fits (Rec hash left right pad key value head) → IsPrefix (rec_head hash left right pad key value) bytes → IsSize unit (head + key + value + pad) → head + key + value + pad ≤ length bytes → Cut unit (head + key + value + pad) false bytes
+unfolding spell
+cut_rec unit hash left right pad key value head bytes fits pre is le =
+    let h : List ℕ = rec_head hash left right pad key value in
+    let rest : List ℕ = pre.0 in
+    let hl : length h ≡ head = length-rec_head hash left right pad key value ∙ sym fits.6 in
+    let room : key + value + pad ≤ length rest = omega (arith, ap length pre.1, length-append h rest, hl, le) in
+    let k : List ℕ = take key rest in
+    let v : List ℕ = take value (drop key rest) in
+    let p : List ℕ = take pad (drop (key + value) rest) in
+    let kl : length k ≡ key = length-take-le key rest (omega (arith, room)) in
+    let vl : length v ≡ value = length-take-le value (drop key rest) (omega (arith, room, length-drop key rest)) in
+    let pl : length p ≡ pad = length-take-le pad (drop (key + value) rest) (omega (arith, room, length-drop (key + value) rest)) in
+    let r : Record = record { hash = hash; left = left; right = right; key = k; value = v; pad = p } in
+    let spelled : take (head + key + value + pad) bytes ≡ spell (held r) =
+    ap (λ (l : List ℕ). take (head + key + value + pad) l) pre.1
+    ∙ take_behind h rest (head + key + value + pad) (key + value + pad) (omega (arith, hl))
+    ∙ rw (kl, vl, pl) (ap (λ (l : List ℕ). h ++ l) (sym (three_parts key value pad rest))) in
+    let size : size_of (held r) ≡ head + key + value + pad = sym (ap length spelled) ∙ length-take-le (head + key + value + pad) bytes le in
+    record {
+      piece = held r;
+      whole = record { fits = (fits.0, fits.1, fits.2, subst (λ (n : ℕ). n < 2 ^ 16) (sym pl) fits.3); size = sized unit (head + key + value + pad) (held r) size is };
+      is = spelled;
+      size = size;
+      of_kind = refl;
+    }
+
+cut_free : (unit size : ℕ) (bytes : List ℕ) → 5 ≤ unit → Fits (Free size) → IsPrefix (free_head size) bytes → IsSize unit size → size ≤ length bytes → Cut unit size true bytes
+unfolding spell
+cut_free unit size bytes some fits pre is le =
+    let rest : List ℕ = pre.0 in
+    let hl = length-free_head size in
+    let large : 5 ≤ size = aligned_large unit size some is in
+    let tail : List ℕ = take (size - 5) rest in
+    let spelled : take size bytes ≡ spell (free size tail) =
+    ap (λ (l : List ℕ). take size l) pre.1 ∙ take_behind (free_head size) rest size (size - 5) (omega (arith, hl, large)) in
+    let long : size_of (free size tail) ≡ size = sym (ap length spelled) ∙ length-take-le size bytes le in
+    record { piece = free size tail; whole = record { fits = long; size = sized unit size (free size tail) long is }; is = spelled; size = long; of_kind = refl }
+  where
+    aligned_large : (unit size : ℕ) → 5 ≤ unit → IsSize unit size → 5 ≤ size
+    aligned_large unit size some is = elim (cases_lt size unit) [
+      | inl less ↦ absurd (omega (arith, is.some, is.aligned, mod-eq_of_lt less))
+      | inr more ↦ omega (arith, some, more)
+    ]
+
+pub cut : (unit : ℕ) (b : Block) (bytes : List ℕ) → 5 ≤ unit → Fits b → IsPrefix (head_bytes b) bytes → IsSize unit (total b) → total b ≤ length bytes → Cut unit (total b) (is_free_block b) bytes
+cut unit (Rec hash left right pad key value head) bytes some fits pre is le = cut_rec unit hash left right pad key value head bytes fits pre is le
+cut unit (Free size) bytes some fits pre is le = cut_free unit size bytes some fits pre is le
+
+-- ---- from a block to its head
+
+pub block_of : Piece → Block
+block_of (held r) = Rec r.hash r.left r.right (length r.pad) (length r.key) (length r.value) (12 + length (vnum (length r.key)) + length (vnum (length r.value)))
+block_of (free size tail) = Free size
+
+pub record Headed (p : Piece) : Type 0 where
+  pub fits : Fits (block_of p)
+  pub front : IsPrefix (head_bytes (block_of p)) (spell p)
+  pub short : length (head_bytes (block_of p)) ≤ 32
+  pub size : total (block_of p) ≡ size_of p
+
+pub headed : (unit : ℕ) (p : Piece) → IsWhole unit p → Headed p
+unfolding block_of spell
+headed unit (held r) w =
+    let l = length-held r in
+    let b = w.size.below in
+    let k = vnum_most (length r.key) (omega (arith, l, b)) in
+    let v = vnum_most (length r.value) (omega (arith, l, b)) in
+    record {
+      fits = (w.fits.0, w.fits.1, w.fits.2, w.fits.3, omega (arith, l, b), omega (arith, l, b), refl);
+      front = (r.key ++ (r.value ++ r.pad), refl);
+      short = omega (arith, k, v, length-rec_head r.hash r.left r.right (length r.pad) (length r.key) (length r.value));
+      size = omega (arith, l);
+    }
+headed unit (free size tail) w = record {
+  fits = omega (arith, w.fits, w.size.below);
+  front = (tail, refl);
+  short = omega (arith, length-free_head size);
+  size = sym w.fits;
+}
+
+-- the front of the bytes has the head of the first block
+pub front_headed : (unit : ℕ) (q : Piece) (more bytes front : List ℕ) → IsWhole unit q → bytes ≡ spell q ++ more → front ≡ take (length front) bytes → (length front ≡ length bytes) ⊎ (32 ≤ length front) → IsPrefix (head_bytes (block_of q)) front
+front_headed unit q more bytes front w is part enough =
+    let h = headed unit q w in
+    let head : List ℕ = head_bytes (block_of q) in
+    let all : bytes ≡ head ++ (h.front.0 ++ more) = is ∙ ap (λ (l : List ℕ). l ++ more) h.front.1 ∙ append_assoc head h.front.0 more in
+    let long : length head ≤ length front = elim enough [
+      | inl same ↦ omega (arith, same, ap length all, length-append head (h.front.0 ++ more))
+      | inr much ↦ omega (arith, much, h.short)
+    ] in
+    (take (length front - length head) (h.front.0 ++ more), part ∙ ap (λ (l : List ℕ). take (length front) l) all ∙ take_behind head (h.front.0 ++ more) (length front) (length front - length head) (omega (arith, long)))
+
+-- ---- what reading the front says of the rest
+
+abbrev Again : List ℕ → Result Block BlockErr → Type 0
+Again front r = (b : Block) → Fits b → IsPrefix (head_bytes b) front → r ≡ Ok b
+
+some_head : (b : Block) → 0 < length (head_bytes b)
+unfolding rec_head free_head
+some_head (Rec hash left right pad key value head) = omega arith
+some_head (Free size) = omega arith
+
+-- the first of whole blocks is the one that was read
+first_is : (unit : ℕ) (r : Result Block BlockErr) (bytes front : List ℕ) → Again front r → front ≡ take (length front) bytes → (length front ≡ length bytes) ⊎ (32 ≤ length front) → (q : Piece) (qs : List Piece) → IsFilled unit bytes (q ∷ qs) → r ≡ Ok (block_of q)
+first_is unit r bytes front again part enough q qs filled =
+    again (block_of q) (headed unit q filled.whole.0).fits (front_headed unit q (spell_all qs) bytes front filled.whole.0 filled.is part enough)
+
+pub is_next : (unit : ℕ) (b : Block) (bytes front : List ℕ) → 5 ≤ unit → Again front (Ok b) → Fits b → IsPrefix (head_bytes b) front → front ≡ take (length front) bytes → (length front ≡ length bytes) ⊎ (32 ≤ length front) → IsSize unit (total b) → total b ≤ length bytes → IsNext unit (total b) (is_free_block b) bytes
+is_next unit b bytes front some again fits pre part enough is le =
+    let whole : bytes ≡ head_bytes b ++ (pre.0 ++ drop (length front) bytes) =
+    sym (take-append-drop (length front) bytes) ∙ ap (λ (l : List ℕ). l ++ drop (length front) bytes) (sym part ∙ pre.1) ∙ append_assoc (head_bytes b) pre.0 (drop (length front) bytes) in
+    let c = cut unit b bytes some fits (pre.0 ++ drop (length front) bytes, whole) is le in
+    record { piece = c.piece; whole = c.whole; is = c.is; size = c.size; kind = c.of_kind; rest = behind }
+  where
+    behind : (ps : List Piece) → IsFilled unit bytes ps → (qs : List Piece) × IsFilled unit (drop (total b) bytes) qs
+    behind [] filled = absurd (omega (arith, ap length filled.is, is.some, le))
+    behind (q ∷ qs) filled =
+        let e = first_is unit (Ok b) bytes front again part enough q qs filled in
+        let same : b ≡ block_of q = cc in
+        let n : total b ≡ size_of q = ap total same ∙ (headed unit q filled.whole.0).size in
+        (qs, record { whole = filled.whole.1; is = ap (λ (l : List ℕ). drop (total b) l) filled.is ∙ drop_at (spell q) (spell_all qs) (total b) (sym n) })
+
+pub no_blocks : (unit : ℕ) (r : Result Block BlockErr) (bytes front : List ℕ) → 0 < length bytes → Again front r → front ≡ take (length front) bytes → (length front ≡ length bytes) ⊎ (32 ≤ length front) → ((b : Block) → r ≡ Ok b → IsSize unit (total b) → total b ≤ length bytes → ⊥) → (ps : List Piece) → IsFilled unit bytes ps → ⊥
+no_blocks unit r bytes front some again part enough bad [] filled = omega (arith, ap length filled.is, some)
+no_blocks unit r bytes front some again part enough bad (q ∷ qs) filled =
+    let h = headed unit q filled.whole.0 in
+    let e = first_is unit r bytes front again part enough q qs filled in
+    bad (block_of q) e (subst (λ (n : ℕ). IsSize unit n) (sym h.size) filled.whole.0.size) (omega (arith, h.size, ap length filled.is, length-append (spell q) (spell_all qs)))

@@ -1,0 +1,99 @@
+-- Blocks are filled up to a multiple of the unit.
+use Rattle.std.proofs.Common.{◌≡◌, ◌∙◌, ℕ, ◌+◌, ◌-◌, ◌*◌, ◌/◌, ◌%◌, ◌<◌, ◌≤◌, List, [], ◌∷◌, ◌++◌, length, take, replicate, refl, sym, ap, arith, append_assoc, length-append}
+use Rattle.std.proofs.Math.Nat.{add-mul-mod_self_right, mul-mod_left, mod-add-div'}
+use Rattle.std.proofs.lemmas.List.{append-nil, length-replicate, take-replicate, replicate-append-replicate}
+use Rattle.tc_base.specs.Endian.{le_bytes}
+use Rattle.tc_base.specs.Files.{wrote}
+use Rattle.tc_base.specs.Vnum.{vnum}
+use Rattle.tc_base.proofs.Endians.{length-le_bytes}
+use Rattle.hf_block.specs.Heads.{rec_head}
+use Rattle.hf_block.specs.Pieces.{Record, held, spell}
+use Rattle.hf_block.specs.Written.{padding, front_bytes, content, written, record_bytes}
+
+pub mod-sum : (a b c u : ℕ) → (a % u + b % u + c % u) % u ≡ (a + b + c) % u
+mod-sum a b c u =
+    let e : a + b + c ≡ (a % u + b % u + c % u) + (a / u + b / u + c / u) * u = omega (arith, mod-add-div' a u, mod-add-div' b u, mod-add-div' c u) in
+    sym (ap (λ (n : ℕ). n % u) e ∙ add-mul-mod_self_right (a % u + b % u + c % u) (a / u + b / u + c / u) u)
+
+pub padding_is : (a b c u : ℕ) → (u - (a % u + b % u + c % u) % u) % u ≡ padding u (a + b + c)
+padding_is a b c u = ap (λ (r : ℕ). (u - r) % u) (mod-sum a b c u)
+
+pub padded : (u n : ℕ) → 1 ≤ u → (n + padding u n) % u ≡ 0
+padded u n some =
+    let y : ℕ = u - n % u in
+    let low : n % u < u = omega arith in
+    let e : n + y ≡ (n + y % u) + (y / u) * u = omega (arith, mod-add-div' y u) in
+    let f : n + y ≡ (n / u + 1) * u = omega (arith, mod-add-div' n u, low) in
+    sym (add-mul-mod_self_right (n + y % u) (y / u) u) ∙ ap (λ (m : ℕ). m % u) (sym e ∙ f) ∙ mul-mod_left (n / u + 1) u
+
+pub length-rec_head : (hash left right pad key value : ℕ) → length (rec_head hash left right pad key value) ≡ 12 + length (vnum key) + length (vnum value)
+unfolding rec_head
+length-rec_head hash left right pad key value =
+    omega (
+      arith,
+      length-le_bytes 1 hash,
+      length-append (le_bytes 1 hash) (le_bytes 4 left ++ (le_bytes 4 right ++ (le_bytes 2 pad ++ (vnum key ++ vnum value)))),
+      length-le_bytes 4 left,
+      length-append (le_bytes 4 left) (le_bytes 4 right ++ (le_bytes 2 pad ++ (vnum key ++ vnum value))),
+      length-le_bytes 4 right,
+      length-append (le_bytes 4 right) (le_bytes 2 pad ++ (vnum key ++ vnum value)),
+      length-le_bytes 2 pad,
+      length-append (le_bytes 2 pad) (vnum key ++ vnum value),
+      length-append (vnum key) (vnum value),
+    )
+
+pub length-held : (r : Record) → length (spell (held r)) ≡ 12 + length (vnum (length r.key)) + length (vnum (length r.value)) + length r.key + length r.value + length r.pad
+unfolding spell
+length-held r =
+    omega (
+      arith,
+      length-rec_head r.hash r.left r.right (length r.pad) (length r.key) (length r.value),
+      length-append (rec_head r.hash r.left r.right (length r.pad) (length r.key) (length r.value)) (r.key ++ (r.value ++ r.pad)),
+      length-append r.key (r.value ++ r.pad),
+      length-append r.value r.pad,
+    )
+
+pub record_aligned : (hash left right : ℕ) (key value : List ℕ) (u : ℕ) → 1 ≤ u → length (record_bytes hash left right key value u) % u ≡ 0
+unfolding record_bytes
+record_aligned hash left right key value u some =
+    let l = length-held (written hash left right key value u) in
+    let z : length (replicate (padding u (content key value)) 0) ≡ padding u (content key value) = length-replicate {A = ℕ} (padding u (content key value)) 0 in
+    ap (λ (n : ℕ). n % u) (omega (arith, l, z)) ∙ padded u (content key value) some
+
+-- the head's first twelve bytes
+pub front_is : (hash left right pad : ℕ) (a b c : List ℕ) → hash < 256
+    → a ≡ wrote 2 (le_bytes 4 left) (0xC8 ∷ hash ∷ 0 ∷ 0 ∷ 0 ∷ 0 ∷ 0 ∷ 0 ∷ 0 ∷ 0 ∷ 0 ∷ 0 ∷ []) → b ≡ wrote 6 (le_bytes 4 right) a → c ≡ wrote 10 (le_bytes 2 pad) b
+    → c ≡ front_bytes hash left right pad
+unfolding wrote le_bytes front_bytes
+front_is hash left right pad a b c small e1 e2 e3 =
+    let h : hash % 256 ≡ hash = omega arith in
+    e3 ∙ rw (e2, e1, h) refl
+
+seam : (old a b c d e f k v z : List ℕ) → (((((old ++ 200 ∷ (a ++ (b ++ (c ++ d)))) ++ e) ++ f) ++ k) ++ v) ++ z ≡ old ++ ((200 ∷ (a ++ (b ++ (c ++ (d ++ (e ++ f)))))) ++ (k ++ (v ++ z)))
+seam old a b c d e f k v z = simp append_assoc
+
+-- one after the other
+pub record_is : (hash left right : ℕ) (key value old : List ℕ) (u pad : ℕ) → pad ≡ padding u (content key value)
+    → (((((old ++ front_bytes hash left right pad) ++ vnum (length key)) ++ vnum (length value)) ++ key) ++ value) ++ replicate pad 0 ≡ old ++ record_bytes hash left right key value u
+unfolding front_bytes record_bytes spell rec_head
+record_is hash left right key value old u pad is =
+    let z : length (replicate (padding u (content key value)) 0) ≡ padding u (content key value) = length-replicate {A = ℕ} (padding u (content key value)) 0 in
+    rw (is, z) (seam old (le_bytes 1 hash) (le_bytes 4 left) (le_bytes 4 right) (le_bytes 2 (padding u (content key value))) (vnum (length key)) (vnum (length value)) key value (replicate (padding u (content key value)) 0))
+
+pub more_zeros : (old : List ℕ) (count rest n : ℕ) → n ≤ rest → rest ≤ count → n ≤ 256 → (old ++ replicate (count - rest) 0) ++ take n (replicate 256 0) ≡ old ++ replicate (count - (rest - n)) 0
+more_zeros old count rest n le within few =
+    let t : ◌≡◌ {A = List ℕ} (take n (replicate 256 0)) (replicate n 0) = take-replicate n 256 0 few in
+    let s : count - rest + n ≡ count - (rest - n) = omega arith in
+    append_assoc old (replicate (count - rest) 0) (take n (replicate 256 0)) ∙ ap (λ (l : List ℕ). old ++ l) (ap (λ (l : List ℕ). replicate (count - rest) 0 ++ l) t ∙ replicate-append-replicate (count - rest) n 0 ∙ ap (λ (m : ℕ). replicate m 0) s)
+
+pub no_zeros : (old : List ℕ) (count : ℕ) → old ≡ old ++ replicate (count - count) 0
+no_zeros old count = let z : count - count ≡ 0 = omega arith in rw z (sym (append-nil old))
+
+pub chained : (old f v1 v2 a1 a2 front k v key value : List ℕ) → f ≡ old ++ front → v1 ≡ f ++ k → v2 ≡ v1 ++ v → a1 ≡ v2 ++ key → a2 ≡ a1 ++ value → a2 ≡ ((((old ++ front) ++ k) ++ v) ++ key) ++ value
+chained old f v1 v2 a1 a2 front k v key value e1 e2 e3 e4 e5 = e5 ∙ rw (e4, e3, e2, e1) refl
+
+pub chained_more : (old f v1 v2 a1 a2 front k v key value : List ℕ) → f ≡ old ++ front → v1 ≡ f ++ k → v2 ≡ v1 ++ v → a1 ≡ v2 ++ key → a2 ≡ a1 ++ value → (m : List ℕ) × (a2 ≡ old ++ m)
+chained_more old f v1 v2 a1 a2 front k v key value e1 e2 e3 e4 e5 = (front ++ (k ++ (v ++ (key ++ value))), chained old f v1 v2 a1 a2 front k v key value e1 e2 e3 e4 e5 ∙ simp append_assoc)
+
+pub further : (old a z : List ℕ) → ((m : List ℕ) × (a ≡ old ++ m)) → ((m : List ℕ) × (z ≡ a ++ m)) → (m : List ℕ) × (z ≡ old ++ m)
+further old a z p q = (p.0 ++ q.0, q.1 ∙ ap (λ (l : List ℕ). l ++ q.0) p.1 ∙ append_assoc old p.0 q.0)

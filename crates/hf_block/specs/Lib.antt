@@ -1,0 +1,6 @@
+pub mod Fronts
+pub mod Heads
+pub mod OnlyReads
+pub mod Pieces
+pub mod Walks
+pub mod Written

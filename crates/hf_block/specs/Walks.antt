@@ -1,0 +1,39 @@
+-- What a walk over blocks has listed.
+use Rattle.std.specs.Prelude.{◌≡◌, ℕ, ◌+◌, ◌-◌, ◌≤◌, Bool, true, false, List, ◌++◌, length, take, drop}
+use Rattle.hf_block.specs.declared.block.Block.{Block}
+use Rattle.hf_block.specs.declared.block.Block.TheVariants.{Rec, Free}
+use Rattle.hf_block.specs.declared.block.BlockAt.{BlockAt}
+use Rattle.hf_block.specs.Pieces.{Piece, IsWhole, AllWhole, IsFilled, spell, size_of, is_free, spell_all, placed}
+
+-- from one place to the next the bytes are whole blocks, which were listed; and if whole blocks fill all the bytes from the
+-- first place on, they do so from the next
+pub record Walked (unit at next : ℕ) (bytes : List ℕ) (old new : List BlockAt) : Type 0 where
+  pub pieces : List Piece
+  pub whole : AllWhole unit pieces
+  pub is : take (next - at) bytes ≡ spell_all pieces
+  pub listed : new ≡ old ++ placed at pieces
+  pub on : at ≤ next
+  pub within : next - at ≤ length bytes
+  pub rest : (ps : List Piece) → IsFilled unit bytes ps → (qs : List Piece) × IsFilled unit (drop (next - at) bytes) qs
+
+-- the bytes from one place up to another
+abbrev pub between : ℕ → ℕ → List ℕ → List ℕ
+between from to bytes = take (to - from) (drop from bytes)
+
+-- the bytes of the block whose head this is
+abbrev pub total : Block → ℕ
+total (Rec hash left right pad key value head) = head + key + value + pad
+total (Free size) = size
+
+abbrev pub is_free_block : Block → Bool
+is_free_block (Rec hash left right pad key value head) = false
+is_free_block (Free size) = true
+
+-- a whole block of n bytes stands at the front; and if whole blocks fill the bytes, they do so behind it
+pub record IsNext (unit n : ℕ) (free : Bool) (bytes : List ℕ) : Type 0 where
+  pub piece : Piece
+  pub whole : IsWhole unit piece
+  pub is : take n bytes ≡ spell piece
+  pub size : size_of piece ≡ n
+  pub kind : is_free piece ≡ free
+  pub rest : (ps : List Piece) → IsFilled unit bytes ps → (qs : List Piece) × IsFilled unit (drop n bytes) qs

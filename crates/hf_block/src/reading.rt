@@ -1,0 +1,88 @@
+//! The head of a block at the front of bytes.
+ghost use Rattle.std.specs.Prelude.{◌≡◌, ◌↔◌, ◌+◌, ◌≤◌, length, IfOk, Ok, Err};
+ghost use Rattle.tc_base.specs.Reading.{Gives};
+ghost use Rattle.tc_base.specs.Vnum.{vnum};
+ghost use Rattle.hf_block.specs.declared.block.Block.{Block};
+ghost use Rattle.hf_block.specs.Heads.{head_bytes, Fits, IsPrefix, IsPart};
+ghost use Rattle.hf_block.specs.Fronts.{rec_front, free_front, block_front};
+
+use crate::block::Block;
+use tc_base::{NotWhole, read_le, read_number, vnum_len};
+use thiserror::Error;
+
+/// Why no block's head is read.
+#[derive(Clone, Copy, Debug, PartialEq, Eq, Error)]
+pub enum BlockErr {
+    /// The bytes are less than a block's head: some bytes behind them make it whole.
+    #[error("the block's head is cut short")]
+    Short,
+    /// No block's head begins so.
+    #[error("not a block")]
+    Bad,
+}
+
+// The bytes before the key of a record with a key and a value of these sizes.
+pub(crate) fn head_len(key: u64, value: u64) -> u64
+    ensures value { result ≡ 12 + length (vnum key) + length (vnum value) }
+    ensures most { result ≤ 32 }
+{
+    12 + vnum_len(key) as u64 + vnum_len(value) as u64
+}
+
+// What stands behind the first byte of a record.
+#[tactic(auto, unfolding(crate::specs::Fronts::rec_front))]
+fn read_rec(bytes: &[u8]) -> Result<(Block, &[u8]), NotWhole>
+    ensures { Gives (λ x. (x.0, x.1.now)) result (rec_front bytes.now) }
+{
+    let (hash, rest) = read_le(1, bytes)?;
+    let (left, rest) = read_le(4, rest)?;
+    let (right, rest) = read_le(4, rest)?;
+    let (pad, rest) = read_le(2, rest)?;
+    let (key, rest) = read_number(rest)?;
+    let (value, rest) = read_number(rest)?;
+    let block = Block::Rec {
+        hash: hash as u8,
+        left,
+        right,
+        pad: pad as u16,
+        key,
+        value,
+        head: head_len(key, value),
+    };
+    Ok((block, rest))
+}
+
+// What stands behind the first byte of a free block.
+#[tactic(auto, unfolding(crate::specs::Fronts::free_front))]
+fn read_free(bytes: &[u8]) -> Result<(Block, &[u8]), NotWhole>
+    ensures { Gives (λ x. (x.0, x.1.now)) result (free_front bytes.now) }
+{
+    let (size, rest) = read_le(4, bytes)?;
+    Ok((Block::Free { size }, rest))
+}
+
+#[tactic(auto, unfolding(crate::specs::Fronts::block_front))]
+fn read_front(bytes: &[u8]) -> Result<(Block, &[u8]), NotWhole>
+    ensures { Gives (λ x. (x.0, x.1.now)) result (block_front bytes.now) }
+{
+    match bytes {
+        [] => Err(NotWhole::Part),
+        [0xC8, rest @ ..] => read_rec(rest),
+        [0xB0, rest @ ..] => read_free(rest),
+        _ => Err(NotWhole::Bad),
+    }
+}
+
+/// The head of the block at the front of the bytes; what stands behind it isn't looked at. It takes no memory.
+pub fn read_block(bytes: &[u8]) -> Result<Block, BlockErr>
+    ensures found { IfOk result (λ b. Fits b × IsPrefix (head_bytes b) bytes.now) }
+    ensures again { (b : Block) → Fits b → IsPrefix (head_bytes b) bytes.now → result ≡ Ok b }
+    ensures short { (result ≡ Err BlockErr.Short) ↔ ((b : Block) × Fits b × IsPart bytes.now (head_bytes b)) }
+    ensures bad { (result ≡ Err BlockErr.Bad) ↔ ((b : Block) → Fits b → (IsPrefix (head_bytes b) bytes.now → ⊥) × (IsPart bytes.now (head_bytes b) → ⊥)) }
+{
+    match read_front(bytes) {
+        Ok((block, _)) => Ok(block),
+        Err(NotWhole::Part) => Err(BlockErr::Short),
+        Err(NotWhole::Bad) => Err(BlockErr::Bad),
+    }
+}

@@ -1,0 +1,196 @@
+//! The blocks of a file, from the first to the file size.
+ghost use Rattle.std.specs.Prelude.{◌≡◌, ℕ, ◌+◌, ◌-◌, ◌≤◌, ◌<◌, ◌^◌, ◌⊎◌, List, length, take, drop, min, IfOk, IfErr, OnErr, IsErrOf, Err, MatchResult, IfSome, IfNone, MatchOption};
+ghost use Rattle.tc_io.specs.Causes.{Rose, HasCause};
+ghost use Rattle.tc_base.specs.declared.kind.Rule.{Rule};
+ghost use Rattle.tc_space.specs.Ranges.{IsDataFile};
+ghost use Rattle.hf_head.specs.Heads.{IsValid, unit as head_unit};
+ghost use Rattle.hf_block.specs.Heads.{Fits};
+ghost use Rattle.hf_block.specs.Pieces.{Piece, IsFilled, IsSize, placed};
+ghost use Rattle.hf_block.specs.Walks.{Walked, IsNext, between, total, is_free_block};
+ghost use Rattle.hf_block.specs.OnlyReads.{OnlyReads};
+
+use crate::block::{Block, BlockAt, Blocks};
+use crate::reading::read_block;
+use hf_head::Head;
+use std::alloc::{AllocError, Global};
+use tc_base::{Fault, Rule};
+use tc_space::Space;
+use thiserror::Error;
+
+/// Why the blocks of a file aren't listed.
+#[derive(Clone, Copy, Debug, PartialEq, Eq, Error)]
+pub enum WalkErr {
+    /// A rule of the layout doesn't hold.
+    #[error("rule {} is broken", .0.number)]
+    Broken(Rule),
+    #[error("a call of the volume failed")]
+    Fault,
+    #[error("out of memory")]
+    Memory,
+}
+
+impl From<Fault> for WalkErr {
+    ghost use Rattle.hf_block.specs.declared.walking.WalkErr.TheVariants.{Fault as is_fault};
+
+    ghost from_gives = { λ _ e. e ≡ is_fault };
+
+    fn from(_: Fault) -> Self {
+        WalkErr::Fault
+    }
+}
+
+impl From<AllocError> for WalkErr {
+    ghost use Rattle.hf_block.specs.declared.walking.WalkErr.TheVariants.{Memory as is_memory};
+
+    ghost from_gives = { λ _ e. e ≡ is_memory };
+
+    fn from(_: AllocError) -> Self {
+        WalkErr::Memory
+    }
+}
+
+/// The rule that whole blocks stand from the first to the file size.
+pub const WHOLE_BLOCKS: Rule = Rule {
+    letter: b'L',
+    number: 3,
+};
+
+// The size of a block whose head this is, if a block may have it, and whether it is free.
+fn measure(block: &Block, unit: u64) -> Option<(u64, bool)>
+    requires fits { Fits block.now }
+    requires unit { 1 ≤ unit }
+    ensures some { IfSome result (λ m. (m.0 ≡ total block.now) × (m.1 ≡ is_free_block block.now) × IsSize unit m.0) }
+    ensures none { IfNone result (IsSize unit (total block.now) → ⊥) }
+{
+    let (size, free) = match block {
+        Block::Free { size } => (*size, true),
+        Block::Rec {
+            pad,
+            key,
+            value,
+            head,
+            ..
+        } => {
+            if *key >= 1 << 32 || *value >= 1 << 32 {
+                return None;
+            }
+            (*head + *key + *value + u64::from(*pad), false)
+        }
+    };
+    if size == 0 || size % unit != 0 || size >= 1 << 32 {
+        return None;
+    }
+    Some((size, free))
+}
+
+// The size of the block whose first bytes these are, and whether it is free, where so many bytes are left up to the end.
+fn one_block(front: &[u8], left: u64, unit: u64) -> Option<(u64, bool)>
+    requires some { 0 < length front.now }
+    requires within { length front.now ≤ left }
+    requires enough { (length front.now ≡ left) ⊎ (32 ≤ length front.now) }
+    requires unit { 5 ≤ unit }
+    ensures some { IfSome result (λ m. (0 < m.0) × (m.0 ≤ left)) }
+    ensures next { IfSome result (λ m. (bytes : List ℕ) → front.now ≡ take (length front.now) bytes → length bytes ≡ left → IsNext unit m.0 m.1 bytes) }
+    ensures none { IfNone result ((bytes : List ℕ) → front.now ≡ take (length front.now) bytes → length bytes ≡ left → (ps : List Piece) → IsFilled unit bytes ps → ⊥) }
+{
+    let Ok(block) = read_block(front) else {
+        return None;
+    };
+    let Some((size, free)) = measure(&block, unit) else {
+        return None;
+    };
+    if size > left {
+        return None;
+    }
+    Some((size, free))
+}
+
+// Lists the blocks of a chunk of bytes from place `at` on, and answers where the next block begins. The last block may end
+// behind the chunk.
+fn walk_chunk(chunk: &[u8], at: u64, end: u64, unit: u64, list: &mut Blocks) -> Result<u64, WalkErr>
+    requires some { 0 < length chunk.now }
+    requires within { at + length chunk.now ≤ end }
+    requires enough { (at + length chunk.now ≡ end) ⊎ (32 ≤ length chunk.now) }
+    requires unit { 5 ≤ unit }
+    ensures on { IfOk result (λ next. (at < next) × (next ≤ end)) }
+    ensures walked { IfOk result (λ next. (bytes : List ℕ) → chunk.now ≡ take (length chunk.now) bytes → at + length bytes ≡ end → Walked unit at next bytes list.old list.new) }
+    ensures rule { (rule : Rule) → result ≡ Err (WalkErr.Broken rule) → rule ≡ WHOLE_BLOCKS }
+    ensures broken { (rule : Rule) → result ≡ Err (WalkErr.Broken rule) → (bytes : List ℕ) → chunk.now ≡ take (length chunk.now) bytes → at + length bytes ≡ end → (ps : List Piece) → IsFilled unit bytes ps → ⊥ }
+    ensures no_fault { IsErrOf result WalkErr.Fault → ⊥ }
+{
+    let len = chunk.len() as u64;
+    let mut next = at;
+    while next - at < len && (len - (next - at) >= 32 || at + len == end) {
+        let Some((size, free)) = one_block(&chunk[(next - at) as usize..], end - next, unit) else {
+            return Err(WalkErr::Broken(WHOLE_BLOCKS));
+        };
+        list.push(BlockAt {
+            place: next,
+            size,
+            free,
+        })?;
+        next += size;
+    }
+    Ok(next)
+}
+
+// Lists the blocks of as many bytes of the file as the chunk has room for, from place `at` on.
+fn walk_piece<S: Space>(
+    space: &mut S,
+    file: u32,
+    at: u64,
+    end: u64,
+    unit: u64,
+    chunk: &mut [u8],
+    blocks: &mut Blocks,
+) -> Result<u64, WalkErr>
+    requires sound { S.sound space.old }
+    requires file { IsDataFile file }
+    requires inside { S.tells → end ≤ length (S.now space.old file) }
+    requires some { 0 < length chunk.old }
+    requires within { at + length chunk.old ≤ end }
+    requires enough { (at + length chunk.old ≡ end) ⊎ (32 ≤ length chunk.old) }
+    requires unit { 5 ≤ unit }
+    ensures on { IfOk result (λ next. (at < next) × (next ≤ end)) }
+    ensures walked { IfOk result (λ next. S.tells → Walked unit at next (between at end (S.now space.old file)) blocks.old blocks.new) }
+    ensures rule { (rule : Rule) → result ≡ Err (WalkErr.Broken rule) → rule ≡ WHOLE_BLOCKS }
+    ensures broken { (rule : Rule) → result ≡ Err (WalkErr.Broken rule) → S.tells → (ps : List Piece) → IsFilled unit (between at end (S.now space.old file)) ps → ⊥ }
+    ensures reads { OnlyReads S.tells S.now S.moment S.left S.kept S.sound S.touched S.limit S.faults space.old space.new }
+    ensures cause { IsErrOf result WalkErr.Fault → Rose (S.faults space.old) (S.faults space.new) }
+{
+    space.read(file, at, chunk)?;
+    walk_chunk(chunk, at, end, unit, blocks)
+}
+
+/// The blocks of a file from the head's first block to its file size, in ascending place. It reads each block's head once, many
+/// blocks at a time. `Broken` comes exactly where whole blocks don't stand there one after the other.
+pub fn walk<S: Space>(
+    alloc: Global,
+    space: &mut S,
+    file: u32,
+    head: &Head,
+) -> Result<Blocks, WalkErr>
+    requires sound { S.sound space.old }
+    requires file { IsDataFile file }
+    requires head { IsValid head.now }
+    requires inside { S.tells → head.now.size ≤ length (S.now space.old file) }
+    ensures listed { IfOk result (λ blocks. S.tells → (ps : List Piece) × IsFilled (head_unit head.now) (between head.now.first head.now.size (S.now space.old file)) ps × (blocks ≡ placed head.now.first ps)) }
+    ensures rule { (rule : Rule) → result ≡ Err (WalkErr.Broken rule) → rule ≡ WHOLE_BLOCKS }
+    ensures broken { (rule : Rule) → result ≡ Err (WalkErr.Broken rule) → S.tells → (ps : List Piece) → IsFilled (head_unit head.now) (between head.now.first head.now.size (S.now space.old file)) ps → ⊥ }
+    ensures reads { OnlyReads S.tells S.now S.moment S.left S.kept S.sound S.touched S.limit S.faults space.old space.new }
+    ensures cause { IsErrOf result WalkErr.Fault → Rose (S.faults space.old) (S.faults space.new) }
+{
+    let unit = head.unit();
+    let end = head.size;
+    let mut blocks = Blocks::new(alloc);
+    let mut chunk = [0; 4096];
+    let mut at = head.first;
+    while at < end {
+        let len = (end - at).min(4096) as usize;
+        match walk_piece(space, file, at, end, unit, &mut chunk[..len], &mut blocks) {
+            Ok(next) => at = next,
+            Err(e) => return Err(e),
+        }
+    }
+    Ok(blocks)
+}

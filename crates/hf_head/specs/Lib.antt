@@ -1,0 +1,3 @@
+pub mod FixedHeads
+pub mod Heads
+pub mod Layout
