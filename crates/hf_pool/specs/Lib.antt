@@ -1,0 +1,4 @@
+pub mod Frees
+pub mod Pools
+pub mod Marks
+pub mod Joins
