@@ -1,10 +1,11 @@
 -- Free blocks in two orders.
-use Rattle.std.proofs.Common.{◌≡◌, ◌≢◌, ◌∙◌, ◌⊎◌, inl, inr, ℕ, ◌+◌, ◌-◌, ◌<◌, ◌≤◌, Bool, true, false, cond, eqb, Option, Some, None, List, [], ◌∷◌, refl, sym, ap, subst, arith}
+use Rattle.std.proofs.Common.{◌≡◌, ◌≢◌, ◌∙◌, ◌⊎◌, inl, inr, ℕ, ◌+◌, ◌-◌, ◌^◌, ◌<◌, ◌≤◌, Bool, true, false, cond, eqb, Option, Some, None, refl, sym, ap, subst, arith}
 use Rattle.std.specs.declared.cmp.Ordering.{Ordering}
 use Rattle.std.specs.declared.cmp.Ordering.TheVariants.{Less, Equal, Greater}
 use Rattle.std.specs.Ordering.{nat_cmp, ordering_then, is_eq, is_gt, is_lt}
 use Rattle.std.specs.Cmp.{nat_cmp_is}
 use Rattle.std.proofs.lemmas.Bool.{cases_eq, cases_lt, cases_order, eq-eqb, ne_eqb, eqb-true}
+use Rattle.hf_pool.specs.Trims.{Row, row_block}
 use Rattle.hf_pool.specs.Frees.{Frees, IsThere, IsBest, HasNone, AreApart, MeetsNone, with_block, without, pair_cmp, is_size}
 
 pub cmp_less : (x y : ℕ) → x < y → nat_cmp x y ≡ Less
@@ -100,7 +101,7 @@ both_without old new frees less size place both there gets with = λ s p. elim (
 pub both_back : (old mid new : ℕ × ℕ → Bool) (frees same : Frees) (size place : ℕ) → Both old frees → frees place ≡ None → Gets old mid (size, place) true → Gets mid new (size, place) false → ((q : ℕ) → same q ≡ frees q) → Both new same
 both_back old mid new frees same size place both absent first second is =
     both_without mid new (with_block frees place size) same size place (both_with old mid frees (with_block frees place size) size place both absent first (λ q. refl)) (ap (λ (b : Bool). cond b (Some size) (frees place)) (eq-eqb place place refl)) second
-      (λ q. is q ∙ back q)
+    (λ q. is q ∙ back q)
   where
     back : (q : ℕ) → frees q ≡ without (with_block frees place size) place q
     back q = elim (cases_eq q place) [
@@ -221,3 +222,31 @@ not_less x y h = elim (cases_lt x y) [
   | inl less ↦ absurd (let k : true ≡ false = sym (ap is_lt (cmp_less x y less)) ∙ h in cc)
   | inr le ↦ le
 ]
+
+-- ---- dropped at the end
+
+pub none_behind : (frees : Frees) (end : ℕ) → ((q t : ℕ) → IsThere frees q t → (0 < t) × (t < 2 ^ 32) × (q + t ≤ end)) → (q : ℕ) → end ≤ q → frees q ≡ None
+none_behind frees end within q past = go (frees q) refl
+  where
+    go : (o : Option ℕ) → frees q ≡ o → o ≡ None
+    go None e = refl
+    go (Some t) e = absurd (let w = within q t e in omega (arith, w.0, w.2, past))
+
+pub gone_more : (frees less : Frees) (place size end : ℕ) → AreApart frees → IsThere frees place size → place + size ≡ end → ((q : ℕ) → end ≤ q → frees q ≡ None) → ((q : ℕ) → less q ≡ without frees place q) → (q : ℕ) → place ≤ q → less q ≡ None
+gone_more frees less place size end apart there e gone with q past = elim (cases_eq q place) [
+  | inl same ↦ with q ∙ ap (λ (b : Bool). cond b None (frees q)) (eq-eqb q place same)
+  | inr other ↦ with q ∙ ap (λ (b : Bool). cond b None (frees q)) (ne_eqb q place other) ∙ elim (cases_lt q end) [
+    | inl less ↦ between (frees q) refl less other
+    | inr le ↦ gone q le
+  ]
+]
+  where
+    between : (o : Option ℕ) → frees q ≡ o → q < end → q ≢ place → frees q ≡ None
+    between None f less ne = f
+    between (Some t) f less ne = absurd (omega (arith, apart place size q t there f (omega (arith, past, ne)), e, less))
+
+pub kept_more : (first frees less : Frees) (place end : ℕ) → place ≤ end → ((q : ℕ) → q < end → frees q ≡ first q) → ((q : ℕ) → less q ≡ without frees place q) → (q : ℕ) → q < place → less q ≡ first q
+kept_more first frees less place end low kept with q below = with q ∙ ap (λ (b : Bool). cond b None (frees q)) (ne_eqb q place (omega arith)) ∙ kept q (omega (arith, below, low))
+
+pub row_more : (first frees : Frees) (place size end last : ℕ) → 0 < size → IsThere frees place size → place + size ≡ end → ((q : ℕ) → q < end → frees q ≡ first q) → Row first end last → Row first place last
+row_more first frees place size end last some there e kept row = row_block place size last (sym (kept place (omega (arith, e, some))) ∙ there) (subst (λ (n : ℕ). Row first n last) (sym e) row)

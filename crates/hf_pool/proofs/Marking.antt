@@ -1,8 +1,7 @@
 -- Heads of free blocks.
-use Rattle.std.proofs.Common.{◌≡◌, ◌∙◌, ℕ, ◌+◌, ◌≤◌, List, [], ◌∷◌, ◌++◌, length, take, drop, refl, sym, ap, arith, length-append, length-take, length-drop}
+use Rattle.std.proofs.Common.{◌≡◌, ℕ, ◌+◌, ◌≤◌, List, [], ◌∷◌, ◌++◌, length, take, drop, arith, length-append, length-take, length-drop}
 use Rattle.tc_base.specs.Endian.{le_bytes}
 use Rattle.tc_base.specs.Files.{wrote}
-use Rattle.tc_base.proofs.Endians.{length-le_bytes}
 use Rattle.hf_block.specs.Heads.{free_head}
 
 pub head_is : (size : ℕ) (bytes : List ℕ) → bytes ≡ wrote 1 (le_bytes 4 size) (0xB0 ∷ 0 ∷ 0 ∷ 0 ∷ 0 ∷ []) → bytes ≡ free_head size

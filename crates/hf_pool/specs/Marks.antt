@@ -1,5 +1,5 @@
 -- A call that writes heads of free blocks into one file.
-use Rattle.std.specs.Prelude.{◌≡◌, ◌≢◌, ℕ, ◌+◌, ◌-◌, ◌≤◌, ◌==◌, List, Option, if◌then◌else◌}
+use Rattle.std.specs.Prelude.{◌≡◌, ℕ, ◌+◌, ◌-◌, ◌≤◌, ◌==◌, List, Option, if◌then◌else◌}
 use Rattle.std.proofs.Common.{◌∙◌, refl, arith}
 use Rattle.tc_base.specs.Files.{Files, wrote}
 use Rattle.tc_space.specs.Moments.{Steady, steady_refl, steady_then}

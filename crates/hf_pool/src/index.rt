@@ -82,4 +82,11 @@ impl Index {
             _ => None,
         }
     }
+
+    /// The sizes by place.
+    pub fn by_place(&self) -> &BTreeMap<u64, u64>
+        ensures { result.now ≡ self.now.by_place }
+    {
+        &self.by_place
+    }
 }

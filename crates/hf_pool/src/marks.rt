@@ -38,7 +38,13 @@ pub fn mark<S: Space>(space: &mut S, file: u32, place: u64, size: u64) -> Result
 }
 
 /// Writes the heads of the two parts of a free block: the first `size` bytes and the `rest`.
-pub fn part<S: Space>(space: &mut S, file: u32, place: u64, size: u64, rest: u64) -> Result<(), RecErr>
+pub fn part<S: Space>(
+    space: &mut S,
+    file: u32,
+    place: u64,
+    size: u64,
+    rest: u64,
+) -> Result<(), RecErr>
     requires sound { S.sound space.old }
     requires file { IsDataFile file }
     requires inside { S.tells → place + size ≤ length (S.now space.old file) }

@@ -1,4 +1,4 @@
-use Rattle.std.proofs.Common.{◌≡◌, ℕ, ◌+◌, ◌≤◌, List, length, ap, arith}
+use Rattle.std.proofs.Common.{length, ap, arith}
 use Rattle.hf_block.specs.Heads.{free_head}
 use Rattle.hf_pool.proofs.Marking.{wrote_longer}
 use Rattle.hf_pool.proofs.marks.part.Goals as goal

@@ -1,4 +1,3 @@
-use Rattle.std.proofs.Common.{◌≡◌, ℕ}
 use Rattle.hf_pool.proofs.Indexing.{both_without, apart_without, now_without}
 use Rattle.hf_pool.proofs.index.Index.remove.Goals as goal
 
