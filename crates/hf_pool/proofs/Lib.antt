@@ -1,0 +1,4 @@
+pub mod Building
+pub mod Indexing
+pub mod Marking
+pub mod Sectioning

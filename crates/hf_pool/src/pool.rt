@@ -1,0 +1,262 @@
+//! The free blocks of a file and its size.
+use crate::index::Index;
+use crate::marks::{mark, part};
+use hf_block::Blocks;
+use std::alloc::{AllocError, Global};
+use tc_base::{Blob, put_vnum, vnum_len};
+use tc_space::{RecErr, Space};
+
+/// The free blocks of a file, and the size up to which it has blocks.
+#[derive(Drop)]
+pub struct Pool {
+    index: Index,
+    unit: u64,
+    size: u64,
+    ghost some: { 0 < unit },
+    ghost within: { (q t : ℕ) → tree.get nat_cmp index.by_place q ≡ Some t → (0 < t) × (t < 2 ^ 32) × (q + t ≤ size) },
+}
+
+impl Pool {
+    ghost use Rattle.std.specs.Prelude.{◌≡◌, ◌≢◌, ℕ, ◌+◌, ◌-◌, ◌<◌, ◌≤◌, ◌^◌, ◌⊎◌, ◌↔◌, ◌++◌, List, length, replicate, IfOk, OnOk, OnErr, IsErrOf, true, false};
+    ghost use Rattle.tc_io.specs.Causes.{Rose};
+    ghost use Rattle.tc_space.specs.Ranges.{IsDataFile};
+    ghost use Rattle.hf_pool.specs.Frees.{IsThere, IsBest, HasNone, MeetsNone};
+    ghost use Rattle.hf_pool.specs.Pools.{frees, TakesFree, Grows, LieInside};
+    ghost use Rattle.hf_pool.specs.Marks.{OnlyMarks, parted, marked};
+    ghost use Rattle.hf_pool.specs.Joins.{FrontJoined, BackJoined, GivesBack};
+    ghost use Rattle.hf_pool.specs.Trims.{Trimmed};
+    ghost use Rattle.hf_pool.specs.Lists.{StandInRow, IsListed};
+    ghost use Rattle.hf_pool.specs.Sections.{pairs, section_bytes};
+
+    /// The size up to which the file has blocks.
+    pub fn size(&self) -> u64
+        ensures { result ≡ self.now.size }
+    {
+        self.size
+    }
+
+    // The best block parted in memory: the front is taken, and what is left over stays free.
+    fn part_in_memory(&mut self, place: u64, found: u64, size: u64) -> Result<(), AllocError>
+        requires best { IsBest (frees self.old) size place found }
+        requires some { 0 < size }
+        ensures ok { OnOk result (TakesFree self.old self.new size place found) }
+    {
+        self.index.remove(place, found);
+        if found > size {
+            self.index.insert(place + size, found - size)?;
+        }
+        Ok(())
+    }
+
+    /// Takes a block of that size: the least free block that is large enough, the one at the lowest place among equals, of
+    /// which what is left over stays free; else one at the end. It answers the block's place. After a refusal the space isn't
+    /// sound.
+    pub fn take<S: Space>(&mut self, space: &mut S, file: u32, size: u64) -> Result<u64, RecErr>
+        requires sound { S.sound space.old }
+        requires file { IsDataFile file }
+        requires some { 0 < size }
+        requires fits { self.old.size + size < 2 ^ 64 }
+        requires held { S.tells → LieInside (frees self.old) (length (S.now space.old file)) }
+        ensures taken { IfOk result (λ place. ((found : ℕ) × TakesFree self.old self.new size place found) ⊎ Grows self.old self.new size place) }
+        ensures bytes { IfOk result (λ place. (found : ℕ) → IsBest (frees self.old) size place found → S.tells → S.now space.new file ≡ parted place size found (S.now space.old file)) }
+        ensures grown { OnOk result (HasNone (frees self.old) size → S.tells → S.now space.new file ≡ S.now space.old file) }
+        ensures others { OnOk result (S.tells → (g : ℕ) → g ≢ file → S.now space.new g ≡ S.now space.old g) }
+        ensures sound { OnOk result (S.sound space.new) }
+        ensures spoiled { OnErr result (S.flag space.new ≡ false) }
+        ensures marks { OnlyMarks S.tells S.moment S.left S.kept S.limit S.bytes_read S.faults space.old space.new }
+        ensures cause { IsErrOf result RecErr.Fault → Rose (S.faults space.old) (S.faults space.new) }
+    {
+        let Some((place, found)) = self.index.best(size) else {
+            let place = self.size;
+            self.size += size;
+            return Ok(place);
+        };
+        if self.part_in_memory(place, found, size).is_err() {
+            space.spoil();
+            return Err(RecErr::Memory);
+        }
+        if found > size {
+            if let Err(e) = part(space, file, place, size, found - size) {
+                return Err(e);
+            }
+        }
+        Ok(place)
+    }
+
+    // The free block in front of a place is taken out, if a block of that size may be joined to it: the joined block.
+    fn join_front(&mut self, at: u64, size: u64) -> (u64, u64)
+        requires some { 0 < size }
+        requires size { size < 2 ^ 32 }
+        ensures joined { FrontJoined (frees self.old) at size result.0 result.1 (frees self.new) }
+        ensures end { self.new.size ≡ self.old.size }
+    {
+        let Some(start) = self.index.before(at) else {
+            return (at, size);
+        };
+        let front = at - start;
+        if front + size >= 1 << 32 {
+            return (at, size);
+        }
+        self.index.remove(start, front);
+        (start, front + size)
+    }
+
+    // The free block at an end is taken out, if it may be joined behind a block of that size: the joined size.
+    fn join_back(&mut self, end: u64, size: u64) -> u64
+        requires size { size < 2 ^ 32 }
+        ensures joined { BackJoined (frees self.old) end size result (frees self.new) }
+        ensures end { self.new.size ≡ self.old.size }
+    {
+        let Some(back) = self.index.at(end) else {
+            return size;
+        };
+        if size + back >= 1 << 32 {
+            return size;
+        }
+        self.index.remove(end, back);
+        size + back
+    }
+
+    // A block given back in memory: its joined place and size. An `Err` may have lost its neighbours.
+    fn give_in_memory(&mut self, at: u64, size: u64) -> Result<(u64, u64), AllocError>
+        requires some { 0 < size }
+        requires size { size < 2 ^ 32 }
+        requires within { at + size ≤ self.old.size }
+        requires apart { MeetsNone (frees self.old) at size }
+        ensures ok { IfOk result (λ b. GivesBack (frees self.old) (frees self.new) at size b.0 b.1) }
+        ensures end { OnOk result (self.new.size ≡ self.old.size) }
+        ensures place { IfOk result (λ b. (b.0 ≤ at) × (b.1 < 2 ^ 32)) }
+    {
+        let (start, half) = self.join_front(at, size);
+        let total = self.join_back(at + size, half);
+        self.index.insert(start, total)?;
+        Ok((start, total))
+    }
+
+    /// Gives a block back: it is joined with the free neighbour before it and then with the one behind it, each where the sum is
+    /// below 2^32, and its head is written. After a refusal the space isn't sound.
+    pub fn give<S: Space>(
+        &mut self,
+        space: &mut S,
+        file: u32,
+        at: u64,
+        size: u64,
+    ) -> Result<(), RecErr>
+        requires sound { S.sound space.old }
+        requires file { IsDataFile file }
+        requires some { 0 < size }
+        requires size { size < 2 ^ 32 }
+        requires within { at + size ≤ self.old.size }
+        requires apart { MeetsNone (frees self.old) at size }
+        requires inside { S.tells → at + size ≤ length (S.now space.old file) }
+        ensures given { OnOk result ((start : ℕ) × (total : ℕ) × GivesBack (frees self.old) (frees self.new) at size start total × (S.tells → S.now space.new file ≡ marked start total (S.now space.old file))) }
+        ensures end { OnOk result (self.new.size ≡ self.old.size) }
+        ensures others { OnOk result (S.tells → (g : ℕ) → g ≢ file → S.now space.new g ≡ S.now space.old g) }
+        ensures sound { OnOk result (S.sound space.new) }
+        ensures spoiled { OnErr result (S.flag space.new ≡ false) }
+        ensures marks { OnlyMarks S.tells S.moment S.left S.kept S.limit S.bytes_read S.faults space.old space.new }
+        ensures cause { IsErrOf result RecErr.Fault → Rose (S.faults space.old) (S.faults space.new) }
+    {
+        let Ok((start, total)) = self.give_in_memory(at, size) else {
+            space.spoil();
+            return Err(RecErr::Memory);
+        };
+        mark(space, file, start, total)
+    }
+
+    /// Takes the free blocks at the end out and lowers the size by theirs.
+    pub fn trim(&mut self)
+        ensures { Trimmed (frees self.old) (frees self.new) self.old.size self.new.size }
+    {
+        while let Some(place) = self.index.before(self.size) {
+            self.index.remove(place, self.size - place);
+            self.size = place;
+        }
+    }
+
+    /// The free blocks of a list of blocks that stand one after the other from `first` up to `size`, multiples of a unit.
+    pub fn build(
+        alloc: Global,
+        blocks: &Blocks,
+        unit: u64,
+        first: u64,
+        size: u64,
+    ) -> Result<Pool, AllocError>
+        requires unit { 0 < unit }
+        requires blocks { StandInRow first size blocks.now }
+        ensures free { IfOk result (λ pool. (q t : ℕ) → IsThere (frees pool) q t ↔ IsListed blocks.now q t) }
+        ensures size { IfOk result (λ pool. pool.size ≡ size) }
+        ensures unit { IfOk result (λ pool. pool.unit ≡ unit) }
+    {
+        let _ = first;
+        let mut index = Index::new(alloc);
+        for block in blocks.as_slice() {
+            if block.free {
+                index.insert(block.place, block.size)?;
+            }
+        }
+        Ok(Pool { index, unit, size })
+    }
+
+    // The pairs of the section, and the bytes left behind them. An `Err` may have added some.
+    fn put_pairs(&self, len: usize, into: &mut Blob) -> Result<usize, AllocError>
+        ensures ok { IfOk result (λ room. (into.new ≡ into.old ++ pairs self.now.unit 0 len self.now.index.by_place.entries) × (room + length (pairs self.now.unit 0 len self.now.index.by_place.entries) ≡ len)) }
+        ensures err { OnErr result ((more : List ℕ) × (into.new ≡ into.old ++ more)) }
+    {
+        let mut before = 0;
+        let mut room = len;
+        for (place, size) in self.index.by_place() {
+            let shifted = *place / self.unit;
+            let difference = shifted.saturating_sub(before);
+            let units = *size / self.unit;
+            let n = pair_len(difference, units);
+            if n + 2 > room {
+                return Ok(room);
+            }
+            put_vnum(difference, into)?;
+            put_vnum(units, into)?;
+            before = shifted;
+            room -= n;
+        }
+        Ok(room)
+    }
+
+    /// Adds the pool section of `len` bytes: the free blocks in ascending place as far as they fit, and zeros. An `Err` may have
+    /// added some of it.
+    pub fn section(&self, len: usize, into: &mut Blob) -> Result<(), AllocError>
+        requires { 2 ≤ len }
+        ensures ok { OnOk result (into.new ≡ into.old ++ section_bytes self.now.unit len self.now.index.by_place.entries) }
+        ensures err { OnErr result ((more : List ℕ) × (into.new ≡ into.old ++ more)) }
+    {
+        let room = self.put_pairs(len, into)?;
+        put_zeros(room, into)
+    }
+}
+
+// The bytes of a pair.
+fn pair_len(difference: u64, units: u64) -> usize
+    ensures value { result ≡ length (vnum difference ++ vnum units) }
+    ensures most { result ≤ 20 }
+{
+    vnum_len(difference) + vnum_len(units)
+}
+
+// Zeros behind the bytes. An `Err` may have added some.
+fn put_zeros(count: usize, into: &mut Blob) -> Result<(), AllocError>
+    ensures ok { OnOk result (into.new ≡ into.old ++ replicate count 0) }
+    ensures err { OnErr result ((more : List ℕ) × (into.new ≡ into.old ++ more)) }
+{
+    let zeros = [0; 256];
+    let mut rest = count;
+    while rest > 0 {
+        let n = rest.min(zeros.len());
+        into.append(&zeros[..n])?;
+        rest -= n;
+    }
+    Ok(())
+}
+
+ghost use Rattle.std.specs.Prelude.{◌≡◌, ℕ, ◌+◌, ◌<◌, ◌≤◌, ◌^◌, ◌++◌, List, length, replicate, Some, OnOk, OnErr};
+ghost use Rattle.tc_base.specs.Vnum.{vnum};
+ghost use Rattle.std.specs.Ordering.{nat_cmp};
+ghost use Rattle.std.specs.BTreeMap as tree;
