@@ -250,3 +250,20 @@ kept_more first frees less place end low kept with q below = with q ∙ ap (λ (
 
 pub row_more : (first frees : Frees) (place size end last : ℕ) → 0 < size → IsThere frees place size → place + size ≡ end → ((q : ℕ) → q < end → frees q ≡ first q) → Row first end last → Row first place last
 row_more first frees place size end last some there e kept row = row_block place size last (sym (kept place (omega (arith, e, some))) ∙ there) (subst (λ (n : ℕ). Row first n last) (sym e) row)
+
+-- the last block that begins in front of an end ends in front of a place: no block lies between
+pub meets_last : (frees : Frees) (last found place size : ℕ) → AreApart frees → IsThere frees last found → last ≤ place → found ≤ place - last → ((q t : ℕ) → IsThere frees q t → q < place + size → q ≤ last) → MeetsNone frees place size
+meets_last frees last found place size apart there low fits greatest q t h = elim (cases_lt q (place + size)) [
+  | inr behind ↦ inr behind
+  | inl front ↦ elim (cases_order q last) [
+    | inl same ↦ inl (let s : Some t ≡ Some found = sym h ∙ ap frees same ∙ there in let f : t ≡ found = cc in omega (arith, f, same, low, fits))
+    | inr (inl less) ↦ inl (omega (arith, apart q t last found h there less, low))
+    | inr (inr more) ↦ absurd (omega (arith, greatest q t h front, more))
+  ]
+]
+
+pub meets_empty : (frees : Frees) (place size : ℕ) → ((q : ℕ) → q < place + size → frees q ≡ None) → MeetsNone frees place size
+meets_empty frees place size none q t h = elim (cases_lt q (place + size)) [
+  | inr behind ↦ inr behind
+  | inl front ↦ absurd (let e = sym (none q front) ∙ h in cc)
+]

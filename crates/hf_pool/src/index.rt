@@ -1,5 +1,5 @@
 //! Free blocks, found by place and by size.
-ghost use Rattle.std.specs.Prelude.{◌≡◌, ℕ, ◌+◌, ◌<◌, ◌≤◌, ◌⊎◌, Option, Some, None, IfSome, IfNone, OnOk, OnErr};
+ghost use Rattle.std.specs.Prelude.{◌≡◌, ℕ, ◌+◌, ◌^◌, ◌<◌, ◌≤◌, ◌⊎◌, Option, Some, None, IfSome, IfNone, IsTrue, OnOk, OnErr};
 ghost use Rattle.std.specs.Ordering.{nat_cmp};
 ghost use Rattle.std.specs.BTreeMap as tree;
 ghost use Rattle.std.specs.BTreeSet as set;
@@ -80,6 +80,17 @@ impl Index {
         match self.by_place.range(..end).next_back() {
             Some((place, size)) if *size == end - *place => Some(*place),
             _ => None,
+        }
+    }
+
+    /// Whether a block there meets none of these.
+    pub fn meets_none(&self, place: u64, size: u64) -> bool
+        requires { place + size < 2 ^ 64 }
+        ensures { IsTrue result → MeetsNone (tree.get nat_cmp self.now.by_place) place size }
+    {
+        match self.by_place.range(..place + size).next_back() {
+            Some((last, found)) => *last <= place && *found <= place - *last,
+            None => true,
         }
     }
 

@@ -17,7 +17,7 @@ pub struct Pool {
 }
 
 impl Pool {
-    ghost use Rattle.std.specs.Prelude.{◌≡◌, ◌≢◌, ℕ, ◌+◌, ◌-◌, ◌<◌, ◌≤◌, ◌^◌, ◌⊎◌, ◌↔◌, ◌++◌, List, length, replicate, IfOk, OnOk, OnErr, IsErrOf, true, false};
+    ghost use Rattle.std.specs.Prelude.{◌≡◌, ◌≢◌, ℕ, ◌+◌, ◌-◌, ◌<◌, ◌≤◌, ◌^◌, ◌⊎◌, ◌↔◌, ◌++◌, List, length, replicate, IfOk, OnOk, OnErr, IsErrOf, IsTrue, true, false};
     ghost use Rattle.tc_io.specs.Causes.{Rose};
     ghost use Rattle.tc_space.specs.Ranges.{IsDataFile};
     ghost use Rattle.hf_pool.specs.Frees.{IsThere, IsBest, HasNone, MeetsNone};
@@ -33,6 +33,14 @@ impl Pool {
         ensures { result ≡ self.now.size }
     {
         self.size
+    }
+
+    /// Whether a block there meets no free block.
+    pub fn meets_none(&self, at: u64, size: u64) -> bool
+        requires { at + size < 2 ^ 64 }
+        ensures { IsTrue result → MeetsNone (frees self.now) at size }
+    {
+        self.index.meets_none(at, size)
     }
 
     // The best block parted in memory: the front is taken, and what is left over stays free.
