@@ -111,7 +111,7 @@ pub trait Space {
     /// Makes the files now the kept ones. It takes no memory.
     fn commit(&mut self) -> Result<(), Fault>
         requires { sound self.old }
-        ensures now { tells → (g : ℕ) → now self.new g ≡ now self.old g }
+        ensures now { OnOk result (tells → (g : ℕ) → now self.new g ≡ now self.old g) }
         ensures kept { OnOk result (tells → kept self.new ≡ Some (now self.old)) }
         ensures moments { tells → LeavesOnly moment left self.old self.new (λ o. (o ≡ kept self.old) ⊎ (o ≡ Some (now self.old))) }
         ensures sound { OnOk result (sound self.new) }
