@@ -1,0 +1,6 @@
+pub mod EntryRead
+pub mod EntryBack
+pub mod Needs
+pub mod Steadiness
+pub mod Marked
+pub mod Settling

@@ -1,0 +1,19 @@
+use Rattle.std.proofs.Common.{◌≡◌, ◌≤◌, ◌-◌, true, length}
+use Rattle.tc_io.specs.Images.{now}
+use Rattle.ud_state.specs.State.{Filled, FillsQuietly}
+use Rattle.tc_undo.proofs.refill.fill.Given as goal
+
+abbrev pub invariant-loop-place : goal.invariant-loop-place
+invariant-loop-place g l = record {
+  low : l.from ≤ l.place;
+  high : l.place ≤ l.len;
+  quiet : g.V.Volume.tells → FillsQuietly (g.V.Volume.calls l.initial.vol) (g.V.Volume.calls l.vol) l.file l.from;
+  filled : g.V.Volume.tells → Filled (g.V.Volume.calls l.initial.vol) (g.V.Volume.calls l.vol) l.file l.from l.place;
+  end : g.V.Volume.tells → length (now (g.V.Volume.calls l.vol) l.file) ≡ l.place;
+  bound : g.V.Volume.bound l.vol ≡ true;
+  names : g.V.Volume.names l.vol ≡ g.V.Volume.names l.initial.vol;
+  later : g.V.Volume.faults l.initial.vol ≤ g.V.Volume.faults l.vol;
+}
+
+abbrev pub decreases-loop-place : goal.decreases-loop-place
+decreases-loop-place g l = l.len - l.place

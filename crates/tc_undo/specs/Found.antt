@@ -1,0 +1,71 @@
+-- What recovery finds in the log before it changes a file.
+use Rattle.std.specs.Prelude.{◌≡◌, ℕ, ◌+◌, ◌≤◌, List, Bool, true, false, Option, Some, None}
+use Rattle.tc_base.specs.Files.{Files}
+use Rattle.ud_log.specs.Log.{entries}
+use Rattle.ud_log.specs.Undo.{all_inside, log_of, nothing, undoes}
+use Rattle.ud_log.proofs.Scanning.{Scanned, ScannedAll}
+use Rattle.ud_state.specs.State.{AreLens}
+use Rattle.tc_undo.specs.declared.scan.Seen.{Seen}
+use Rattle.tc_undo.specs.declared.put_back.Back.{Back}
+use Rattle.std.specs.Prelude.{◌∷◌, ◌++◌, length}
+use Rattle.tc_io.specs.Images.{Calls, now, written, IsLost}
+use Rattle.ud_log.specs.Entries.{Entry}
+use Rattle.ud_log.specs.Log.{entry_bytes}
+use Rattle.ud_log.specs.Undo.{is_formed}
+use Rattle.ud_log.proofs.Codec.{Fits}
+
+-- the scan goes on behind an entry, or there is none
+abbrev pub AfterScan : List ℕ → List ℕ → ℕ → Bool → Option Seen → Type 0
+AfterScan log lens place fine (Some seen) = Scanned log lens seen.next seen.fine
+AfterScan log lens place fine None = ScannedAll log lens place fine
+
+-- the next entry begins further on, within the log
+abbrev pub GoesOn : ℕ → ℕ → Option Seen → Type 0
+GoesOn place len (Some seen) = (place + 20 ≤ seen.next) × (seen.next ≤ len)
+GoesOn place len None = Unit {0}
+
+-- the log undoes something: these lengths, and the entries up to this place
+pub record FindsUndo (files : Files) (lens : List ℕ) (end : ℕ) : Type 0 where
+  pub log : log_of (files 1) ≡ undoes lens (entries (files 1))
+  pub long : length lens ≡ 18
+  pub inside : all_inside lens (entries (files 1)) ≡ true
+  pub scanned : ScannedAll (files 1) lens end true
+
+-- the log undoes nothing, and these are the lengths of the data files
+pub record FindsNothing (files : Files) (lens : List ℕ) : Type 0 where
+  pub log : log_of (files 1) ≡ nothing
+  pub are : AreLens lens files
+
+abbrev pub Finds : Bool → Files → List ℕ → ℕ → Type 0
+Finds true files lens end = FindsUndo files lens end
+Finds false files lens end = FindsNothing files lens
+
+-- ---- an entry of the log that ends at a place
+
+-- this is the entry, and these bytes of the log stand before it and behind it
+pub record IsEntryAt (cs : Calls) (end : ℕ) (e : Entry) (front rest : List ℕ) : Type 0 where
+  pub log : now cs 1 ≡ front ++ (entry_bytes e ++ rest)
+  pub there : end ≡ length front + 20 + length e.bytes
+  pub formed : is_formed e ≡ true
+  pub fits : Fits e
+  pub inside : e.at ≤ length (now cs e.file)
+
+pub record EndsAt (cs : Calls) (end : ℕ) : Type 0 where
+  pub e : Entry
+  pub front : List ℕ
+  pub rest : List ℕ
+  pub is : IsEntryAt cs end e front rest
+
+-- its old bytes were written to its place
+pub record PutBack (old new : Calls) (end start : ℕ) : Type 0 where
+  pub made : (e : Entry) (front rest : List ℕ) → IsEntryAt old end e front rest → (new ≡ (e.file, written e.at e.bytes) ∷ old) × (start ≡ length front)
+
+-- they may have been
+pub record PutBackLost (old new : Calls) (end : ℕ) : Type 0 where
+  pub lost : (e : Entry) (front rest : List ℕ) → IsEntryAt old end e front rest → IsLost old new e.file (written e.at e.bytes)
+
+pub record IsBack (e : Entry) (front : List ℕ) (b : Back) : Type 0 where
+  pub file : b.file ≡ e.file
+  pub at : b.at ≡ e.at
+  pub size : b.size ≡ length e.bytes
+  pub start : b.start ≡ length front

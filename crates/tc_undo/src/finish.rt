@@ -1,0 +1,28 @@
+//! A commit brings the changed data files to the disk, and then cuts the log.
+ghost use Rattle.std.specs.Prelude.{◌≡◌, ◌+◌, ◌≤◌, ◌<◌, ℕ, true, false, length, OnOk, OnErr};
+ghost use Rattle.tc_io.specs.Causes.{HasCause};
+ghost use Rattle.tc_io.specs.Images.{now};
+ghost use Rattle.ud_log.specs.Undo.{is_data, data_of};
+ghost use Rattle.ud_state.specs.Since.{Since, Leaves};
+ghost use Rattle.ud_state.specs.State.{EitherOf, Idle, IsOpen};
+
+use crate::room::Log;
+use crate::syncs::sync_marked;
+use tc_base::Fault;
+use tc_io::Volume;
+
+/// Makes the files as they read the kept ones. As many syncs as data files changed, and one.
+pub fn finish<V: Volume>(vol: &mut V, log: &Log) -> Result<(), Fault>
+    requires bound { V.bound vol.old ≡ true }
+    requires open { V.tells → IsOpen (V.calls vol.old) log.now.end log.now.recorded log.now.changed }
+    ensures moments { V.tells → Since (Leaves (EitherOf (V.calls vol.old))) (V.calls vol.old) (V.calls vol.new) }
+    ensures idle { OnOk result (V.tells → Idle (V.calls vol.new) (data_of (now (V.calls vol.old)))) }
+    ensures bound { V.bound vol.new ≡ true }
+    ensures names { V.names vol.new ≡ V.names vol.old }
+    ensures cause { HasCause (V.faults vol.old) (V.faults vol.new) result }
+{
+    sync_marked(vol, &log.changed)?;
+    vol.cut(1, 0)?;
+    vol.sync(1)?;
+    Ok(())
+}

@@ -1,0 +1,222 @@
+//! The space over a volume and its undo log.
+ghost use Rattle.std.specs.Prelude.{◌≡◌, ◌≢◌, ◌+◌, ◌-◌, ◌^◌, ◌≤◌, ◌<◌, ◌⊎◌, ℕ, List, true, false, length, get_or, OnOk, OnErr, IfOk, IfErr, IsErrOf, Some, Option, Ok, Err, max, ◌∷◌};
+ghost use Rattle.tc_io.specs.Causes.{Rose};
+ghost use Rattle.tc_io.specs.Images.{now as reads_now, synced};
+ghost use Rattle.ud_log.specs.Undo.{all_short, data_of, is_data, length_of, recovered, undo};
+ghost use Rattle.ud_state.specs.Since.{Left};
+ghost use Rattle.ud_state.specs.State.{AreLens, IsSettled, IsValid};
+ghost use Rattle.ud_state.proofs.Recovery.{Recovers};
+ghost use Rattle.tc_undo.specs.Errors.{OnRule};
+ghost use Rattle.ud_state.proofs.Valid.{valid_only, left_earlier};
+ghost use Rattle.tc_undo.specs.Room.{needs, log_end, stop_of};
+
+use crate::errors::{RecoverErr, UndoErr, Unopened};
+use crate::finish::finish;
+use crate::recovery::restore;
+use crate::room::{Log, limits_of, stop_at};
+use crate::through::{cut_through, write_through};
+use tc_base::Fault;
+use tc_io::Volume;
+use tc_space::{Space, SpaceErr};
+use ud_log::place;
+
+/// Files over a volume whose kept contents survive each stop.
+#[derive(Drop)]
+pub struct Undo<V: Volume> {
+    vol: V,
+    sound: bool,
+    touched: bool,
+    read: u64,
+    limits: [u64; 18],
+    lens: [u64; 18],
+    log: Log,
+}
+
+impl<V: Volume> Undo<V> {
+    /// Recovers the volume and opens it. The limit of a data file is the greater of `limit` and its length. It takes no memory.
+    ///
+    /// As many syncs as `recover`. A refusal hands the volume back as it stands; it may be opened again.
+    pub fn open(vol: V, limit: u64) -> Result<Undo<V>, Unopened<V>>
+        requires bound { V.bound vol ≡ true }
+        requires limit { limit ≤ 2 ^ 40 }
+        ensures sound { IfOk result (λ u. (u.sound ≡ true) × (V.bound u.vol ≡ true) × (all_short u.lens ≡ true) × (all_short u.limits ≡ true) × (u.log.end ≤ 2 ^ 62) × (V.tells → IsValid u.log.active (V.calls u.vol) u.log.end u.log.recorded u.log.changed) × (V.tells → AreLens u.lens (reads_now (V.calls u.vol)))) }
+        ensures untouched { IfOk result (λ u. (u.touched ≡ false) × (u.read ≡ 0)) }
+        ensures limits { IfOk result (λ u. (f : ℕ) → is_data f ≡ true → length_of u.limits f ≡ max limit (length_of u.lens f)) }
+        ensures recovers { IfOk result (λ u. V.tells → IsSettled (V.calls vol) → Recovers (V.calls vol) (V.calls u.vol)) }
+        ensures undone { IfOk result (λ u. V.tells → undo (reads_now (V.calls vol) 1) (reads_now (V.calls vol)) ≡ Ok (data_of (reads_now (V.calls u.vol)))) }
+        ensures kept { IfOk result (λ u. V.tells → recovered (reads_now (V.calls u.vol)) ≡ Some (data_of (reads_now (V.calls u.vol)))) }
+        ensures names { IfOk result (λ u. V.names u.vol ≡ V.names vol) }
+        ensures recovers_err { IfErr result (λ r. V.tells → IsSettled (V.calls vol) → Recovers (V.calls vol) (V.calls r.vol)) }
+        ensures broken { IfErr result (λ r. OnRule r.why (λ rule. V.tells → (undo (reads_now (V.calls vol) 1) (reads_now (V.calls vol)) ≡ Err rule) × (V.calls r.vol ≡ (1, synced) ∷ V.calls vol))) }
+        ensures bound_err { IfErr result (λ r. V.bound r.vol ≡ true) }
+        ensures names_err { IfErr result (λ r. V.names r.vol ≡ V.names vol) }
+        ensures no_memory { IfErr result (λ r. r.why ≢ UndoErr.Memory) }
+        ensures later { IfOk result (λ u. V.faults vol ≤ V.faults u.vol) }
+        ensures cause { IfErr result (λ r. (V.faults vol ≤ V.faults r.vol) × (r.why ≡ UndoErr.Fault → Rose (V.faults vol) (V.faults r.vol))) }
+    {
+        let mut vol = vol;
+        match restore(&mut vol) {
+            Ok(lens) => Ok(Undo {
+                vol,
+                sound: true,
+                touched: false,
+                read: 0,
+                limits: limits_of(&lens, limit),
+                lens,
+                log: Log {
+                    active: false,
+                    end: 0,
+                    recorded: [0; 18],
+                    changed: [false; 18],
+                },
+            }),
+            Err(RecoverErr::Fault) => Err(Unopened {
+                vol,
+                why: UndoErr::Fault,
+            }),
+            Err(RecoverErr::Broken(rule)) => Err(Unopened {
+                vol,
+                why: UndoErr::Broken(rule),
+            }),
+        }
+    }
+
+    /// Hands the volume back as it stands, whether the space is sound or not. It calls nothing of the volume.
+    pub fn close(self) -> V
+        ensures { result ≡ self.vol }
+    {
+        self.vol
+    }
+}
+
+impl<V: Volume> Space for Undo<V> {
+    ghost tells = { V.tells };
+
+    ghost now = { λ s. data_of (reads_now (V.calls s.vol)) };
+
+    ghost kept = { λ s. recovered (reads_now (V.calls s.vol)) };
+
+    ghost moment = { λ s. length (V.calls s.vol) };
+
+    ghost left = { λ s. Left (V.calls s.vol) };
+
+    ghost sound = { λ s. (s.sound ≡ true) × (V.bound s.vol ≡ true) × (all_short s.lens ≡ true) × (all_short s.limits ≡ true) × (s.log.end ≤ 2 ^ 62) × (V.tells → IsValid s.log.active (V.calls s.vol) s.log.end s.log.recorded s.log.changed) × (V.tells → AreLens s.lens (reads_now (V.calls s.vol))) };
+
+    ghost flag = { λ s. s.sound };
+
+    ghost touched = { λ s. s.touched };
+
+    ghost limit = { λ s f. length_of s.limits f };
+
+    ghost overfills = { λ s f at size. 2 ^ 62 < log_end s.log.active s.log.end + needs (stop_of s.log.active s.log.recorded s.lens f (at + size) - at) };
+
+    ghost bytes_read = { λ s. s.read };
+
+    ghost faults = { λ s. V.faults s.vol };
+
+    ghost only_kept = { λ s o t sound left. valid_only s.log.active (V.calls s.vol) s.log.end s.log.recorded s.log.changed (sound.5 t) o left };
+
+    ghost earlier = { λ s t u o le left. left_earlier (V.calls s.vol) t u o le left };
+
+    ghost flagged = { λ s sound. sound.0 };
+
+    /// It calls nothing of the volume.
+    fn is_sound(&self) -> bool {
+        self.sound
+    }
+
+    /// It calls nothing of the volume.
+    fn len(&self, file: u32) -> u64 {
+        self.lens[place(file)]
+    }
+
+    /// One read of the volume.
+    fn read(&mut self, file: u32, at: u64, into: &mut [u8]) -> Result<(), Fault> {
+        self.read = self.read.saturating_add(into.len() as u64);
+        self.vol.read(file, at, into)
+    }
+
+    /// One sync where it opens a transaction or overwrites bytes below the recorded length, else none.
+    fn write(&mut self, file: u32, at: u64, bytes: &[u8]) -> Result<(), SpaceErr> {
+        self.touched = true;
+        let limit = self.limits[place(file)];
+        let size = bytes.len() as u64;
+        if at > limit || size > limit - at {
+            self.sound = false;
+            return Err(SpaceErr::Full);
+        }
+        let stop = match stop_at(&self.log, &self.lens, file, at, at + size) {
+            Some(stop) => stop,
+            None => {
+                self.sound = false;
+                return Err(SpaceErr::Full);
+            }
+        };
+        match write_through(
+            &mut self.vol,
+            &mut self.log,
+            &mut self.lens,
+            file,
+            at,
+            bytes,
+            stop,
+        ) {
+            Ok(()) => Ok(()),
+            Err(_) => {
+                self.sound = false;
+                Err(SpaceErr::Fault)
+            }
+        }
+    }
+
+    /// One sync where it opens a transaction or removes bytes below the recorded length, else none.
+    fn cut(&mut self, file: u32, len: u64) -> Result<(), SpaceErr> {
+        self.touched = true;
+        let all = self.lens[place(file)];
+        let stop = match stop_at(&self.log, &self.lens, file, len, all) {
+            Some(stop) => stop,
+            None => {
+                self.sound = false;
+                return Err(SpaceErr::Full);
+            }
+        };
+        match cut_through(
+            &mut self.vol,
+            &mut self.log,
+            &mut self.lens,
+            file,
+            len,
+            stop,
+        ) {
+            Ok(()) => Ok(()),
+            Err(_) => {
+                self.sound = false;
+                Err(SpaceErr::Fault)
+            }
+        }
+    }
+
+    /// As many syncs as data files changed since the last commit, and one; where nothing was written it calls nothing.
+    fn commit(&mut self) -> Result<(), Fault> {
+        if !self.log.active {
+            self.touched = false;
+            return Ok(());
+        }
+        match finish(&mut self.vol, &self.log) {
+            Ok(()) => {
+                self.log.active = false;
+                self.touched = false;
+                Ok(())
+            }
+            Err(e) => {
+                self.sound = false;
+                Err(e)
+            }
+        }
+    }
+
+    /// It calls nothing of the volume.
+    fn spoil(&mut self) {
+        self.sound = false;
+    }
+}

@@ -1,0 +1,4 @@
+pub mod Entries
+pub mod Log
+pub mod Undo
+pub mod Good

@@ -1,0 +1,12 @@
+pub mod Transaction
+pub mod Taken
+pub mod Open
+pub mod Ends
+pub mod Replaying
+pub mod Runs
+pub mod Writing
+pub mod Committing
+pub mod Changing
+pub mod PuttingBack
+pub mod Valid
+pub mod Recovery

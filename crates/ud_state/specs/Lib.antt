@@ -1,0 +1,3 @@
+pub mod Since
+pub mod State
+pub mod Again
