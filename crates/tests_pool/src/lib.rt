@@ -1,0 +1,9 @@
+//! The list of blocks and the pool, over a file in memory.
+#![tactic(auto)]
+
+#[cfg(test)]
+mod pools;
+#[cfg(test)]
+mod scratch;
+#[cfg(test)]
+mod walks;
