@@ -85,8 +85,10 @@ impl Index {
 
     /// Whether a block there meets none of these.
     pub fn meets_none(&self, place: u64, size: u64) -> bool
-        requires { place + size < 2 ^ 64 }
-        ensures { IsTrue result → MeetsNone (tree.get nat_cmp self.now.by_place) place size }
+        requires some { 0 < size }
+        requires fits { place + size < 2 ^ 64 }
+        ensures apart { IsTrue result → MeetsNone (tree.get nat_cmp self.now.by_place) place size }
+        ensures meets { MeetsNone (tree.get nat_cmp self.now.by_place) place size → IsTrue result }
     {
         match self.by_place.range(..place + size).next_back() {
             Some((last, found)) => *last <= place && *found <= place - *last,

@@ -1,7 +1,7 @@
 //! Heads of free blocks in a file.
-ghost use Rattle.std.specs.Prelude.{◌≡◌, ◌≢◌, ℕ, ◌+◌, ◌-◌, ◌<◌, ◌≤◌, ◌^◌, length, OnOk, OnErr, IsErrOf, true, false};
+ghost use Rattle.std.specs.Prelude.{◌≡◌, ◌≢◌, ℕ, ◌+◌, ◌-◌, ◌<◌, ◌≤◌, ◌^◌, ◌⊎◌, length, OnOk, OnErr, IsErrOf, true, false};
 ghost use Rattle.tc_io.specs.Causes.{Rose};
-ghost use Rattle.tc_space.specs.Ranges.{IsDataFile};
+ghost use Rattle.tc_space.specs.Ranges.{IsDataFile, Passes};
 ghost use Rattle.hf_block.specs.Heads.{free_head};
 ghost use Rattle.hf_pool.specs.Marks.{OnlyMarks, marked, parted};
 
@@ -29,6 +29,7 @@ pub fn mark<S: Space>(space: &mut S, file: u32, place: u64, size: u64) -> Result
     ensures sound { OnOk result (S.sound space.new) }
     ensures spoiled { OnErr result (S.flag space.new ≡ false) }
     ensures marks { OnlyMarks S.tells S.moment S.left S.kept S.limit S.bytes_read S.faults space.old space.new }
+    ensures full { IsErrOf result RecErr.Full → Passes (S.limit space.old file) (S.overfills space.old file place 5) place 5 }
     ensures cause { IsErrOf result RecErr.Fault → Rose (S.faults space.old) (S.faults space.new) }
 {
     match space.write(file, place, &head_of(size)) {
@@ -56,6 +57,7 @@ pub fn part<S: Space>(
     ensures sound { OnOk result (S.sound space.new) }
     ensures spoiled { OnErr result (S.flag space.new ≡ false) }
     ensures marks { OnlyMarks S.tells S.moment S.left S.kept S.limit S.bytes_read S.faults space.old space.new }
+    ensures full { IsErrOf result RecErr.Full → (s : S) × ((Passes (S.limit space.old file) (S.overfills s file place 5) place 5) ⊎ (Passes (S.limit space.old file) (S.overfills s file (place + size) 5) (place + size) 5)) }
     ensures cause { IsErrOf result RecErr.Fault → Rose (S.faults space.old) (S.faults space.new) }
 {
     match mark(space, file, place, size) {

@@ -19,7 +19,7 @@ pub struct Pool {
 impl Pool {
     ghost use Rattle.std.specs.Prelude.{◌≡◌, ◌≢◌, ℕ, ◌+◌, ◌-◌, ◌<◌, ◌≤◌, ◌^◌, ◌⊎◌, ◌↔◌, ◌++◌, List, length, replicate, IfOk, OnOk, OnErr, IsErrOf, IsTrue, true, false};
     ghost use Rattle.tc_io.specs.Causes.{Rose};
-    ghost use Rattle.tc_space.specs.Ranges.{IsDataFile};
+    ghost use Rattle.tc_space.specs.Ranges.{IsDataFile, Passes};
     ghost use Rattle.hf_pool.specs.Frees.{IsThere, IsBest, HasNone, MeetsNone};
     ghost use Rattle.hf_pool.specs.Pools.{frees, TakesFree, Grows, LieInside};
     ghost use Rattle.hf_pool.specs.Marks.{OnlyMarks, parted, marked};
@@ -37,8 +37,9 @@ impl Pool {
 
     /// Whether a block there meets no free block.
     pub fn meets_none(&self, at: u64, size: u64) -> bool
-        requires { at + size < 2 ^ 64 }
-        ensures { IsTrue result → MeetsNone (frees self.now) at size }
+        requires some { 0 < size }
+        requires fits { at + size < 2 ^ 64 }
+        ensures { IsTrue result ↔ MeetsNone (frees self.now) at size }
     {
         self.index.meets_none(at, size)
     }
@@ -72,6 +73,7 @@ impl Pool {
         ensures sound { OnOk result (S.sound space.new) }
         ensures spoiled { OnErr result (S.flag space.new ≡ false) }
         ensures marks { OnlyMarks S.tells S.moment S.left S.kept S.limit S.bytes_read S.faults space.old space.new }
+        ensures full { IsErrOf result RecErr.Full → (place : ℕ) × (found : ℕ) × IsBest (frees self.old) size place found × ((s : S) × ((Passes (S.limit space.old file) (S.overfills s file place 5) place 5) ⊎ (Passes (S.limit space.old file) (S.overfills s file (place + size) 5) (place + size) 5))) }
         ensures cause { IsErrOf result RecErr.Fault → Rose (S.faults space.old) (S.faults space.new) }
     {
         let Some((place, found)) = self.index.best(size) else {
@@ -163,6 +165,7 @@ impl Pool {
         ensures sound { OnOk result (S.sound space.new) }
         ensures spoiled { OnErr result (S.flag space.new ≡ false) }
         ensures marks { OnlyMarks S.tells S.moment S.left S.kept S.limit S.bytes_read S.faults space.old space.new }
+        ensures full { IsErrOf result RecErr.Full → (start : ℕ) × (start ≤ at) × Passes (S.limit space.old file) (S.overfills space.old file start 5) start 5 }
         ensures cause { IsErrOf result RecErr.Fault → Rose (S.faults space.old) (S.faults space.new) }
     {
         let Ok((start, total)) = self.give_in_memory(at, size) else {
