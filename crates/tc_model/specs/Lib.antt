@@ -1,0 +1,5 @@
+pub mod Apply
+pub mod Changes
+pub mod Contents
+pub mod Maps
+pub mod Stats

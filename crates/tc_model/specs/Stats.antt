@@ -1,0 +1,22 @@
+-- The text that stat gives: three lines of a word, a tab and a value.
+use Rattle.std.specs.Prelude.{ℕ, List, [], ◌∷◌, ◌++◌, codes}
+use Rattle.std.specs.Fmt.{decimal}
+use Rattle.std.specs.FinMap.{len}
+use Rattle.tc_base.specs.declared.kind.Kind.{Kind}
+use Rattle.tc_base.specs.declared.kind.Kind.TheVariants.{Hash, Tree, Fixed, Table, MemHash, MemTree}
+use Rattle.tc_model.specs.Maps.{size_of}
+use Rattle.tc_model.specs.Contents.{Contents}
+
+abbrev pub kind_text : Kind → List ℕ
+kind_text Hash = codes "hash"
+kind_text Tree = codes "B+ tree"
+kind_text Fixed = codes "fixed-length"
+kind_text Table = codes "table"
+kind_text MemHash = codes "on-memory hash"
+kind_text MemTree = codes "on-memory tree"
+
+abbrev pub line : List ℕ → List ℕ → List ℕ
+line name value = name ++ (9 ∷ (value ++ 10 ∷ []))
+
+abbrev pub stat_text : Contents → List ℕ
+stat_text c = line (codes "type") (kind_text c.kind) ++ (line (codes "rnum") (decimal (len c.map)) ++ line (codes "size") (decimal (size_of c.map)))
