@@ -3,3 +3,4 @@ pub mod Changes
 pub mod Contents
 pub mod Maps
 pub mod Stats
+pub mod Applying

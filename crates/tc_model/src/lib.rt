@@ -1,4 +1,8 @@
 //! The abstract database: its contents, and what each request makes of them and is answered.
 #![tactic(auto)]
 
-mod placeholder;
+mod applied;
+mod walk;
+
+pub use applied::Applied;
+pub use walk::Walk;
