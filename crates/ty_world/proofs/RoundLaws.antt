@@ -1,0 +1,27 @@
+-- A round that updates nothing leaves the contents.
+use Rattle.std.proofs.Common.{◌≡◌, ℕ, Bool, true, false, cond, List, [], ◌∷◌, refl, sym, ap, ◌∙◌}
+use Rattle.std.specs.Prelude.{◌||◌, ◌&&◌, Ok, Err, Option, Some, None}
+use Rattle.tc_base.specs.declared.request.Request.{Request}
+use Rattle.tc_base.specs.Reading.{Front}
+use Rattle.tc_model.specs.Contents.{Contents, Walk}
+use Rattle.tc_model.specs.Apply.{apply, applied}
+use Rattle.tc_model.proofs.Idle.{apply_idle}
+use Rattle.ty_world.specs.World.{Client, served, front_of, round_one, round_all}
+
+one_idle : (c : Contents) (w : Walk) (k : Client) → (round_one c w k).updated ≡ false → (round_one c w k).contents ≡ c
+unfolding round_one
+one_idle c w k = go (front_of k)
+  where
+  go : (f : Front Request) → (served c w k f).updated ≡ false → (served c w k f).contents ≡ c
+  go (Ok x) e = apply_idle false x.0 c w e
+  go (Err d) e = refl
+
+none_split : (a b : Bool) → (a || b) ≡ false → (a ≡ false) × (b ≡ false)
+none_split false b e = (refl, e)
+none_split true b e = absurd cc
+
+pub round_idle : (c : Contents) (w : Walk) (ks : List Client) → (round_all c w ks).updated ≡ false → (round_all c w ks).contents ≡ c
+round_idle c w [] e = refl
+round_idle c w (k ∷ ks) e =
+    let s = none_split (round_one c w k).updated (round_all (round_one c w k).contents (round_one c w k).walk ks).updated e in
+    round_idle (round_one c w k).contents (round_one c w k).walk ks s.1 ∙ one_idle c w k s.0

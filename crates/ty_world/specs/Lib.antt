@@ -1,0 +1,4 @@
+pub mod Frames
+pub mod Measure
+pub mod Playing
+pub mod World

@@ -1,0 +1,25 @@
+-- A world whose connections are a script's, where no peer is gone and all that was offered was taken.
+use Rattle.std.specs.Prelude.{◌≡◌, ◌≤◌, ◌<◌, ℕ, Bool, true, false, List, [], ◌∷◌}
+use Rattle.tc_io.specs.declared.act.Act.{Act}
+use Rattle.tc_io.specs.Script.{Script, Lines}
+use Rattle.tc_io.specs.Lines.{has}
+use Rattle.ty_world.specs.World.{Client, World}
+
+pub record Fits (l : Lines) (k : Client) : Type 0 where
+  pub listed : has l.conns k.conn ≡ true
+  pub ends : k.ended ≡ has l.ended k.conn
+  pub below : k.conn < l.given
+  pub here : k.gone ≡ false
+  pub going : k.stopped ≡ false
+
+abbrev pub AllFit : Lines → List Client → Type 0
+AllFit l [] = Unit {0}
+AllFit l (k ∷ ks) = Fits l k × AllFit l ks
+
+pub record Meets (l : Lines) (ks : List Client) : Type 0 where
+  pub each : AllFit l ks
+  pub fresh : (c : ℕ) → l.given ≤ c → (has l.conns c ≡ false) × (has l.ended c ≡ false)
+
+-- a wire before its first connection
+abbrev pub unplayed : List Act → ℕ → Script
+unplayed acts given = record { acts = acts; dials = []; lines = record { conns = []; ended = []; given = given } }
