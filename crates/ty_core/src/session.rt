@@ -1,0 +1,147 @@
+//! One connection's bytes.
+ghost use Rattle.std.specs.Prelude.{◌≡◌, ◌≢◌, ◌⊎◌, ◌≤◌, ◌++◌, ℕ, Bool, true, false, List, [], Option, OnOk, OnErr, IfOk, IsErrOf, Ok, length, drop};
+ghost use Rattle.tc_io.specs.Causes.{Rose};
+ghost use Rattle.tc_space.specs.Moments.{Steady};
+ghost use Rattle.tc_base.specs.declared.request.Request.{Request};
+ghost use Rattle.ty_wire.specs.declared.reading.Front.TheVariants.{Whole};
+ghost use Rattle.ty_wire.specs.Spelling.{spelling, Fits};
+ghost use Rattle.ty_wire.specs.Taking.{Takes, IsRead};
+ghost use Rattle.ty_base.specs.Keeping.{is_optimize};
+ghost use Rattle.ty_core.specs.Queues.{queue};
+ghost use Rattle.ty_core.specs.Serving.{Serves};
+
+use crate::serving::{Served, serve_front};
+use bytes::BytesMut;
+use std::alloc::{AllocError, Global};
+use std::marker::Model;
+use tc_base::Blob;
+use tc_model::Walk;
+use tc_space::{RecErr, Space};
+use ty_base::Base;
+use ty_wire::{Front, take};
+
+/// The bytes of a connection that no request took yet, and those that wait to be sent to it. Both queues are seen as lists.
+#[derive(Drop)]
+pub struct Session {
+    alloc: Global,
+    unread: BytesMut,
+    // what stands at the front of the unread bytes
+    front: Front,
+    waiting: Blob,
+    // so many of them were taken
+    taken: usize,
+}
+
+impl Model for Session {
+    ghost use Rattle.std.specs.Prelude.{drop};
+    ghost use Rattle.ty_core.specs.Queues.{Queue, queue};
+    ghost use Rattle.ty_core.specs.Held.{IsHeld};
+
+    ghost Value = { Queue };
+
+    ghost view = { λ s. queue s.unread.items (drop s.taken s.waiting) };
+
+    ghost invariant = { λ s. IsHeld s.unread.items s.front s.waiting s.taken };
+}
+
+impl Session {
+    /// Nothing came and nothing waits.
+    pub fn new(alloc: Global) -> Session
+        ensures { result ≡ queue [] [] }
+    {
+        Session {
+            alloc,
+            unread: BytesMut::new(alloc),
+            front: take(&[]),
+            waiting: Blob::new(alloc),
+            taken: 0,
+        }
+    }
+
+    /// Adds bytes behind the unread ones. An `Err` changes nothing.
+    pub fn push(&mut self, bytes: &[u8]) -> Result<(), AllocError>
+        ensures ok { OnOk result (self.new ≡ queue (self.old.unread ++ bytes.now) self.old.waiting) }
+        ensures err { OnErr result (self.new ≡ self.old) }
+    {
+        self.unread.extend_from_slice(bytes)?;
+        self.front = take(self.unread.as_slice());
+        Ok(())
+    }
+
+    /// What stands at the front of the unread bytes.
+    pub fn look(&self) -> Front
+        ensures grammar { Takes self.now.unread result }
+        ensures reading { IsRead self.now.unread result }
+    {
+        self.front
+    }
+
+    /// The bytes that wait to be sent.
+    pub fn waiting(&self) -> &[u8]
+        ensures { result.now ≡ self.now.waiting }
+    {
+        &self.waiting.as_slice()[self.taken..]
+    }
+
+    /// Drops that many bytes at the front of those that wait.
+    pub fn taken(&mut self, n: usize)
+        requires { n ≤ length self.old.waiting }
+        ensures { self.new ≡ queue self.old.unread (drop n self.old.waiting) }
+    {
+        if n == self.waiting.len() - self.taken {
+            self.waiting.clear();
+            self.taken = 0;
+        } else {
+            self.taken += n;
+        }
+    }
+
+    /// Adds bytes behind those that wait. An `Err` changes nothing.
+    pub fn owe(&mut self, bytes: &[u8]) -> Result<(), AllocError>
+        ensures ok { OnOk result (self.new ≡ queue self.old.unread (self.old.waiting ++ bytes.now)) }
+        ensures err { OnErr result (self.new ≡ self.old) }
+    {
+        self.waiting.append(bytes)
+    }
+
+    /// Serves the request at the front: it is taken off the unread bytes, and its reply waits. Of a `repl` no reply is added.
+    pub fn serve<B: Base>(
+        &mut self,
+        base: &mut B,
+        space: &mut B::S,
+        walk: &mut Walk,
+        replica: bool,
+    ) -> Result<Served, RecErr>
+        requires whole { (n : ℕ) × IsRead self.old.unread (Whole n) }
+        requires quiet { self.old.waiting ≡ [] }
+        requires sound { B.S.sound space.old }
+        requires is_of { B.S.tells → B.is_of base.old (B.S.now space.old) }
+        ensures served { IfOk result (λ d. B.S.tells → Serves replica d.request self.new.unread d.updated (B.contents base.old) (B.contents base.new) walk.old walk.new self.old.unread self.new.unread self.old.waiting self.new.waiting) }
+        ensures fits { IfOk result (λ d. Fits d.request) }
+        ensures spelled { IfOk result (λ d. self.old.unread ≡ spelling d.request ++ self.new.unread) }
+        ensures writes { IfOk result (λ d. d.updated ≡ false → is_optimize d.request ≡ false → B.S.touched space.new ≡ B.S.touched space.old) }
+        ensures steady { B.S.tells → Steady B.S.moment B.S.left B.S.kept space.old space.new }
+        ensures sound { OnOk result (B.S.sound space.new) }
+        ensures is_of_still { OnOk result (B.S.tells → B.is_of base.new (B.S.now space.new)) }
+        ensures refused { OnErr result ((B.S.flag space.new ≡ false) ⊎ (B.S.sound space.new × (B.contents base.new ≡ B.contents base.old) × (walk.new ≡ walk.old))) }
+        ensures full { IsErrOf result RecErr.Full → B.fills }
+        ensures later { B.S.faults space.old ≤ B.S.faults space.new }
+        ensures cause { IsErrOf result RecErr.Fault → Rose (B.S.faults space.old) (B.S.faults space.new) }
+    {
+        let Front::Whole(whole) = self.front else {
+            unreachable!();
+        };
+        let served = serve_front(
+            self.alloc,
+            &mut self.unread,
+            whole,
+            &mut self.waiting,
+            base,
+            space,
+            walk,
+            replica,
+        )?;
+        self.front = take(self.unread.as_slice());
+        Ok(served)
+    }
+}
