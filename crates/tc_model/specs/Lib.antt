@@ -4,3 +4,4 @@ pub mod Contents
 pub mod Maps
 pub mod Stats
 pub mod Applying
+pub mod Packing

@@ -6,7 +6,7 @@ ghost use Rattle.tc_base.specs.declared.request.Request.{Request};
 ghost use Rattle.ty_wire.specs.declared.reading.Front.TheVariants.{Whole};
 ghost use Rattle.ty_wire.specs.Spelling.{spelling, Fits};
 ghost use Rattle.ty_wire.specs.Taking.{Takes, IsRead};
-ghost use Rattle.ty_base.specs.Keeping.{is_optimize};
+ghost use Rattle.tc_model.specs.Packing.{is_optimize};
 ghost use Rattle.ty_core.specs.Queues.{queue};
 ghost use Rattle.ty_core.specs.Serving.{Serves};
 

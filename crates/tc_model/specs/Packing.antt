@@ -1,5 +1,5 @@
--- What a refused call leaves, and which requests write files though they update nothing.
-use Rattle.std.specs.Prelude.{◌≡◌, ◌⊎◌, Bool, true, false}
+-- A request that may write files though it updates nothing.
+use Rattle.std.specs.Prelude.{Bool, true, false}
 use Rattle.tc_base.specs.declared.request.Request.{Request}
 use Rattle.tc_base.specs.declared.request.Request.TheVariants.{Optimize}
 

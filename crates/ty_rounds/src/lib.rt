@@ -1,0 +1,12 @@
+//! One turn: an event of the wire, a round of requests, a commit, then sends and closings.
+#![tactic(auto)]
+
+mod closing;
+mod listening;
+mod outcome;
+mod peer;
+mod rounds;
+mod sends;
+
+pub use outcome::{Outcome, TurnErr};
+pub use peer::Peer;
