@@ -7,7 +7,7 @@ use Rattle.std.proofs.Math.Seq.{take-suc}
 use Rattle.std.proofs.lemmas.List.{take_all}
 use Rattle.ty_world.specs.World.{Client, at_conn}
 use Rattle.ty_rounds.specs.Peers.{numbers}
-use Rattle.ty_rounds.specs.Holding.{Holds, AllHold, AreApart}
+use Rattle.ty_rounds.specs.Holding.{Holds, AllHold, AreApart, Wired}
 use Rattle.ty_rounds.specs.declared.peer.Peer.{Peer}
 
 pub none_split : (a b : Bool) → (a || b) ≡ false → (a ≡ false) × (b ≡ false)
@@ -103,3 +103,38 @@ none_there qs ps c same none = ap (λ (l : List Peer). list_any (nat_eq c) (numb
 
 pub none_yet : (c : ℕ) (ps : List Peer) (i : ℕ) → length ps ≤ i → list_any (nat_eq c) (numbers (take i ps)) ≡ false → list_any (nat_eq c) (numbers ps) ≡ false
 none_yet c ps i le none = ap (λ (l : List Peer). list_any (nat_eq c) (numbers l)) (sym (take_all i ps le)) ∙ none
+
+-- ---- the wire's connections are the server's
+
+any_at : (ps : List Peer) (i : ℕ) (p : Peer) → i < length ps → p ≡ get_or ps i p → list_any (nat_eq p.conn) (numbers ps) ≡ true
+any_at [] i p lt is = absurd (omega (arith, lt))
+any_at (x ∷ ps) zero p lt is = first (nat_eq p.conn x.conn) (list_any (nat_eq p.conn) (numbers ps)) (eq-eqb p.conn x.conn (ap (λ (z : Peer). z.conn) is))
+  where
+  first : (a b : Bool) → a ≡ true → (a || b) ≡ true
+  first true b e = refl
+  first false b e = absurd cc
+any_at (x ∷ ps) (suc i) p lt is = second (nat_eq p.conn x.conn) (list_any (nat_eq p.conn) (numbers ps)) (any_at ps i p (omega (arith, lt)) is)
+  where
+  second : (a b : Bool) → b ≡ true → (a || b) ≡ true
+  second true b e = refl
+  second false b e = e
+
+pub open_at : (conns : List ℕ) (ps : List Peer) (i : ℕ) (p : Peer) → i < length ps → p ≡ get_or ps i p → Wired conns ps → list_any (nat_eq p.conn) conns ≡ true
+open_at conns ps i p lt is w = ap (list_any (nat_eq p.conn)) w.same ∙ any_at ps i p lt is
+
+pub named_still : (ps : List Peer) (i : ℕ) (p q : Peer) → i < length ps → p ≡ get_or ps i p → q.conn ≡ p.conn → numbers (set ps i q) ≡ numbers ps
+named_still [] i p q lt is same = absurd (omega (arith, lt))
+named_still (x ∷ ps) zero p q lt is same = ap (λ (n : ℕ). n ∷ numbers ps) (same ∙ ap (λ (z : Peer). z.conn) is)
+named_still (x ∷ ps) (suc i) p q lt is same = ap (λ (l : List ℕ). x.conn ∷ l) (named_still ps i p q (omega (arith, lt)) is same)
+
+pub still_wired : (conns conns' : List ℕ) (ps : List Peer) (i : ℕ) (p q : Peer) → i < length ps → p ≡ get_or ps i p → q.conn ≡ p.conn → conns' ≡ conns → Wired conns ps → Wired conns' (set ps i q)
+still_wired conns conns' ps i p q lt is named same w = record { same = same ∙ w.same ∙ sym (named_still ps i p q lt is named); apart = subst AreApart (sym same) w.apart }
+
+pub apart_peers : (conns : List ℕ) (ps : List Peer) → Wired conns ps → AreApart (numbers ps)
+apart_peers conns ps w = subst AreApart w.same w.apart
+
+-- one place has one connection
+pub one_at : (ps : List Peer) (i : ℕ) (p q : Peer) → i < length ps → p ≡ get_or ps i p → q ≡ get_or ps i q → p ≡ q
+one_at [] i p q lt e f = absurd (omega (arith, lt))
+one_at (x ∷ ps) zero p q lt e f = e ∙ sym f
+one_at (x ∷ ps) (suc i) p q lt e f = one_at ps i p q (omega (arith, lt)) e f

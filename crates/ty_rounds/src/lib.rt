@@ -7,6 +7,8 @@ mod outcome;
 mod peer;
 mod rounds;
 mod sends;
+mod turning;
 
 pub use outcome::{Outcome, TurnErr};
 pub use peer::Peer;
+pub use turning::{Server, turn};

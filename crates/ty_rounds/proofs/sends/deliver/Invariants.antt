@@ -5,8 +5,8 @@ use Rattle.tc_io.specs.declared.wire.Entry.{Entry}
 use Rattle.ty_rounds.specs.Sending.{Delivers}
 use Rattle.ty_rounds.proofs.sends.deliver.Given as goal
 
-abbrev pub invariant-loop-p : goal.invariant-loop-p
-invariant-loop-p g l = let wire = g.W.Wire in record {
+abbrev pub invariant-loop-wire : goal.invariant-loop-wire
+invariant-loop-wire g l = let wire = g.W.Wire in record {
   opened : wire.opened l.wire ≡ true;
   conns : wire.conns l.wire ≡ wire.conns l.fn.wire;
   conn : l.p.conn ≡ l.fn.p.conn;
@@ -14,5 +14,5 @@ invariant-loop-p g l = let wire = g.W.Wire in record {
   faults : wire.faults l.fn.wire ≤ wire.faults l.wire;
 }
 
-abbrev pub decreases-loop-p : goal.decreases-loop-p
-decreases-loop-p g l = length l.p.session.waiting
+abbrev pub decreases-loop-wire : goal.decreases-loop-wire
+decreases-loop-wire g l = length l.p.session.waiting
