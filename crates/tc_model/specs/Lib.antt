@@ -1,6 +1,11 @@
 pub mod Apply
+pub mod Applying
 pub mod Changes
+pub mod Codes
 pub mod Contents
 pub mod Maps
+pub mod Nexts
+pub mod Plans
+pub mod Sizes
 pub mod Stats
-pub mod Applying
+pub mod Walks
