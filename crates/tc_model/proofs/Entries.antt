@@ -1,8 +1,8 @@
 -- A map under keys of bytes, and the entries of the `BTreeMap` that it is seen in.
-use Rattle.std.proofs.Common.{◌≡◌, ℕ, List, [], ◌∷◌, length, refl, sym, ap, ◌∙◌, ◌+◌, ◌<◌, ◌≤◌, zero, suc, take, get_or, Bool, true, false, cond, arith}
-use Rattle.std.specs.Prelude.{Option, Some, None, filter, nat_eq}
-use Rattle.std.specs.declared.cmp.Ordering.TheVariants.{Less}
-use Rattle.std.specs.Ordering.{nat_cmp}
+use Rattle.std.proofs.Common.{◌≡◌, ℕ, List, [], ◌∷◌, length, refl, sym, ap, subst, ◌∙◌, ◌+◌, ◌<◌, ◌≤◌, zero, suc, take, get_or, Bool, true, false, cond, arith}
+use Rattle.std.specs.Prelude.{Option, Some, None, IsSome, filter, nat_eq}
+use Rattle.std.specs.declared.cmp.Ordering.TheVariants.{Less, Equal, Greater}
+use Rattle.std.specs.Ordering.{nat_cmp, is_eq, eq_by_cmp}
 use Rattle.std.specs.Cmp.{eq_by_cmp_equiv}
 use Rattle.std.specs.Cmp.Lexicographic.{slice_cmp, nat_list_cmp_total}
 use Rattle.std.specs.List.{AllByRecursion, sum_by, starts_with}
@@ -110,3 +110,17 @@ pub same_at : (xs : List (List ℕ)) (i : ℕ) (d e : List ℕ) → i < length x
 same_at [] i d e lt = absurd (omega arith)
 same_at (x ∷ xs) zero d e lt = refl
 same_at (x ∷ xs) (suc i) d e lt = same_at xs i d e (omega arith)
+
+-- to give a key the value that it has changes nothing
+pub insert_same : (m : Map) (k v : List ℕ) → get m k ≡ Some v → insert m k v ≡ m
+insert_same m k v found = same_map nat_list_cmp_total exact_bytes _ _ (λ q. get-insert nat_list_cmp_total m k v q ∙ one q)
+  where
+    one : (q : List ℕ) → cond (eq_by_cmp (slice_cmp nat_cmp) q k) (Some v) (get m q) ≡ get m q
+    one q = elim (slice_cmp nat_cmp q k) as (λ r. slice_cmp nat_cmp q k ≡ r → cond (is_eq r) (Some v) (get m q) ≡ get m q) [
+      | Less ↦ λ e. refl
+      | Equal ↦ λ e. sym found ∙ ap (get m) (sym (exact_bytes q k e))
+      | Greater ↦ λ e. refl
+    ] refl
+
+pub not_held : (o : Option (List ℕ)) → o ≡ None → IsSome o → ⊥
+not_held o e some = let never : false ≡ true = subst (λ (o : Option (List ℕ)). IsSome o) e some in absurd cc

@@ -1,6 +1,7 @@
 //! The contents of a database.
-ghost use Rattle.std.specs.Prelude.{◌≡◌, OnOk, OnErr};
-ghost use Rattle.std.specs.FinMap.{empty};
+ghost use Rattle.std.specs.Prelude.{◌≡◌, ◌++◌, IsSome, OnOk, OnErr};
+ghost use Rattle.std.specs.FinMap.{empty, get, insert};
+ghost use Rattle.tc_model.specs.Maps.{value_of};
 ghost use Rattle.tc_model.specs.Contents.{with_map};
 ghost use Rattle.tc_model.specs.Plans.{changed_by};
 
@@ -8,7 +9,7 @@ use crate::deeds::Change;
 use crate::map::ByteMap;
 use std::alloc::{AllocError, Global};
 use std::marker::Model;
-use tc_base::Kind;
+use tc_base::{Blob, Kind};
 
 /// The kind of a database and its data.
 #[derive(Drop)]
@@ -58,5 +59,14 @@ impl Contents {
         ensures err { OnErr result (self.new ≡ self.old) }
     {
         self.map.change(change)
+    }
+
+    /// Joins bytes behind the value of a key that is held, at the cost of these bytes. An `Err` changes nothing.
+    pub fn append(&mut self, key: &Blob, more: &[u8]) -> Result<(), AllocError>
+        requires { IsSome (get self.old.map key.now) }
+        ensures ok { OnOk result (self.new ≡ with_map self.old (insert self.old.map key.now (value_of self.old.map key.now ++ more.now))) }
+        ensures err { OnErr result (self.new ≡ self.old) }
+    {
+        self.map.append(key, more)
     }
 }

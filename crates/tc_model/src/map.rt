@@ -1,11 +1,11 @@
 //! Maps from byte strings to byte strings.
-ghost use Rattle.std.specs.Prelude.{◌≡◌, ◌<◌, ◌≤◌, ◌^◌, OnOk, OnErr, IfOk, MatchOption, is_some};
+ghost use Rattle.std.specs.Prelude.{◌≡◌, ◌<◌, ◌≤◌, ◌^◌, OnOk, OnErr, IfOk, MatchOption, IsSome, None, ◌++◌};
 ghost use Rattle.std.specs.Option.{option_copied};
 ghost use Rattle.std.specs.FinMap as map;
 ghost use Rattle.std.specs.Prelude.{◌+◌, length, take, nat_eq};
 ghost use Rattle.std.specs.List.{starts_with};
 ghost use Rattle.tc_base.specs.declared.request.Reply.TheVariants as reply;
-ghost use Rattle.tc_model.specs.Maps.{size_of, keys_from};
+ghost use Rattle.tc_model.specs.Maps.{size_of, keys_from, value_of};
 ghost use Rattle.tc_model.specs.Apply.{fits};
 ghost use Rattle.tc_model.specs.Plans.{changed_by};
 
@@ -65,6 +65,18 @@ impl ByteMap {
     {
         self.pairs.insert(key, value)?;
         Ok(())
+    }
+
+    /// Joins bytes behind the value of a key, where it is held, at the cost of these bytes. An `Err` changes nothing.
+    pub fn append(&mut self, key: &Blob, more: &[u8]) -> Result<(), AllocError>
+        ensures ok { OnOk result (IsSome (map.get self.old key.now) → self.new ≡ map.insert self.old key.now (value_of self.old key.now ++ more.now)) }
+        ensures absent { map.get self.old key.now ≡ None → self.new ≡ self.old }
+        ensures err { OnErr result (self.new ≡ self.old) }
+    {
+        let Some(value) = self.pairs.get_mut(key) else {
+            return Ok(());
+        };
+        value.append(more)
     }
 
     /// Takes a key out, where it is held.
