@@ -5,7 +5,7 @@ use Rattle.tc_base.specs.declared.request.Request.{Request}
 use Rattle.tc_base.specs.declared.request.Request.TheVariants.{Put, PutKeep, PutCat, PutShl, PutNr, Out, Get, MGet, Vsiz, IterInit, IterNext, FwmKeys, AddInt, AddDouble, Ext, Sync, Optimize, Vanish, Copy, Restore, SetMst, Rnum, Size, Stat, Misc, Repl}
 use Rattle.tc_base.specs.declared.request.Reply.{Reply}
 use Rattle.tc_base.specs.declared.request.Reply.TheVariants as reply
-use Rattle.std.specs.FinMap.{get, empty, len, keys}
+use Rattle.std.specs.FinMap.{get, len, keys}
 use Rattle.tc_model.specs.Maps.{Map, value_of, size_of, pairs_of, at_most, keys_from}
 use Rattle.tc_model.specs.Stats.{stat_text}
 use Rattle.tc_model.specs.Contents.{Contents, Walk}
@@ -19,9 +19,9 @@ Idle r c s = is_updated r s ≡ false → s.contents ≡ c
 told_same : (r : Request) (a : Reply) (c : Contents) (w w' : Walk) → (told r a c w w').contents ≡ c
 told_same r a c w w' = go (fits a)
   where
-  go : (b : Bool) → (cond b (record { contents = c; walk = w'; reply = a; ok = true }) (refused r c w)).contents ≡ c
-  go true = refl
-  go false = refl
+    go : (b : Bool) → (cond b (record { contents = c; walk = w'; reply = a; ok = true }) (refused r c w)).contents ≡ c
+    go true = refl
+    go false = refl
 
 read_same : (r : Request) (a : Option Reply) (c : Contents) (w : Walk) → (read r a c w).contents ≡ c
 read_same r None c w = refl
@@ -71,6 +71,6 @@ pub apply_idle : (replica : Bool) (r : Request) (c : Contents) (w : Walk) → is
 unfolding apply
 apply_idle replica r c w e = go (replica && updates r) e
   where
-  go : (b : Bool) → is_updated r (cond b (refused r c w) (applied r c w)) ≡ false → (cond b (refused r c w) (applied r c w)).contents ≡ c
-  go true e = refl
-  go false e = applied_idle r c w e
+    go : (b : Bool) → is_updated r (cond b (refused r c w) (applied r c w)) ≡ false → (cond b (refused r c w) (applied r c w)).contents ≡ c
+    go true e = refl
+    go false e = applied_idle r c w e

@@ -1,20 +1,20 @@
 -- Which requests update, as a test and as a fact; and what a replica refuses.
-use Rattle.std.proofs.Common.{◌≡◌, ◌⊎◌, inl, inr, ℕ, zero, suc, ◌<◌, ◌≤◌, Bool, true, false, cond, List, [], ◌∷◌, length, get_or, refl, sym, ap, ◌∙◌, arith}
-use Rattle.std.specs.Prelude.{◌&&◌, ◌||◌, codes, Contains, nat_eq}
+use Rattle.std.proofs.Common.{◌≡◌, ◌⊎◌, inl, inr, ℕ, zero, suc, ◌<◌, Bool, true, false, cond, List, [], ◌∷◌, length, get_or, refl, sym, arith}
+use Rattle.std.specs.Prelude.{◌&&◌, ◌||◌, codes, Contains}
 use Rattle.std.specs.List.{list_any}
-use Rattle.std.specs.Cmp.Lexicographic.{pointwise, same_text, other_text}
+use Rattle.std.specs.Cmp.Lexicographic.{same_text, other_text}
 use Rattle.tc_base.specs.declared.request.Request.{Request}
-use Rattle.tc_base.specs.declared.request.Request.TheVariants.{Put, PutKeep, PutCat, PutShl, PutNr, Out, Get, MGet, Vsiz, IterInit, IterNext, FwmKeys, AddInt, AddDouble, Ext, Sync, Optimize, Vanish, Copy, Restore, SetMst, Rnum, Size, Stat, Misc, Repl}
-use Rattle.ty_wire.specs.Updating.{IsUpdating, IsUpdatingName, IsUpdatingCall}
+use Rattle.tc_base.specs.declared.request.Request.TheVariants.{Put, PutKeep, PutCat, PutShl, PutNr, Out, AddInt, Vanish, Misc}
+use Rattle.ty_wire.specs.Updating.{IsUpdating, IsUpdatingCall}
 use Rattle.tc_model.specs.Contents.{Contents, Walk}
-use Rattle.tc_model.specs.Apply.{Step, apply, applied, refused, updates, updates_call, updating_names, is_text}
+use Rattle.tc_model.specs.Apply.{apply, applied, refused, updates, updates_call, updating_names, is_text}
 
 text_true : (a b : List ℕ) → a ≡ b → is_text a b ≡ true
 text_true a b same = go (is_text a b) refl
   where
-  go : (r : Bool) → r ≡ is_text a b → is_text a b ≡ true
-  go true e = sym e
-  go false e = absurd (other_text a b e same)
+    go : (r : Bool) → r ≡ is_text a b → is_text a b ≡ true
+    go true e = sym e
+    go false e = absurd (other_text a b e same)
 
 -- one of some texts
 abbrev IsOneOf : List ℕ → List (List ℕ) → Type 0
@@ -111,23 +111,23 @@ pub apply_same : (replica : Bool) (r : Request) (c : Contents) (w : Walk) → (r
 unfolding apply
 apply_same replica r c w e = go (replica && updates r) e
   where
-  go : (b : Bool) → b ≡ false → cond b (refused r c w) (applied r c w) ≡ applied r c w
-  go false e = refl
-  go true e = absurd cc
+    go : (b : Bool) → b ≡ false → cond b (refused r c w) (applied r c w) ≡ applied r c w
+    go false e = refl
+    go true e = absurd cc
 
 pub apply_refused : (replica : Bool) (r : Request) (c : Contents) (w : Walk) → (replica && updates r) ≡ true → apply replica r c w ≡ refused r c w
 unfolding apply
 apply_refused replica r c w e = go (replica && updates r) e
   where
-  go : (b : Bool) → b ≡ true → cond b (refused r c w) (applied r c w) ≡ refused r c w
-  go true e = refl
-  go false e = absurd cc
+    go : (b : Bool) → b ≡ true → cond b (refused r c w) (applied r c w) ≡ refused r c w
+    go true e = refl
+    go false e = absurd cc
 
 -- what tells the fact is the test
 pub updates_is : (b : Bool) (r : Request) → (b ≡ true → IsUpdating r) → (IsUpdating r → b ≡ true) → b ≡ updates r
 updates_is true r only if' = sym (updates_if r (only refl))
 updates_is false r only if' = go (updates r) refl
   where
-  go : (t : Bool) → updates r ≡ t → false ≡ updates r
-  go false e = sym e
-  go true e = absurd (let f = if' (updates_only r e) in cc)
+    go : (t : Bool) → updates r ≡ t → false ≡ updates r
+    go false e = sym e
+    go true e = absurd (let f = if' (updates_only r e) in cc)

@@ -1,7 +1,12 @@
 pub mod Apply
+pub mod Applying
 pub mod Changes
+pub mod Codes
 pub mod Contents
 pub mod Maps
-pub mod Stats
-pub mod Applying
+pub mod Nexts
 pub mod Packing
+pub mod Plans
+pub mod Sizes
+pub mod Stats
+pub mod Walks

@@ -18,5 +18,8 @@ kind_text MemTree = codes "on-memory tree"
 abbrev pub line : List ℕ → List ℕ → List ℕ
 line name value = name ++ (9 ∷ (value ++ 10 ∷ []))
 
+abbrev pub text_of : Kind → ℕ → ℕ → List ℕ
+text_of kind rnum size = line (codes "type") (kind_text kind) ++ (line (codes "rnum") (decimal rnum) ++ line (codes "size") (decimal size))
+
 abbrev pub stat_text : Contents → List ℕ
-stat_text c = line (codes "type") (kind_text c.kind) ++ (line (codes "rnum") (decimal (len c.map)) ++ line (codes "size") (decimal (size_of c.map)))
+stat_text c = text_of c.kind (len c.map) (size_of c.map)

@@ -1,0 +1,8 @@
+//! The map in memory behind requests.
+#![tactic(auto, using(tc_space::specs::Moments::steady_refl))]
+
+mod behind;
+mod counts;
+mod mem;
+
+pub use mem::MemBase;

@@ -1,0 +1,206 @@
+//! The map in memory.
+ghost use Rattle.std.specs.Prelude.{◌≡◌, ◌↔◌, ◌≤◌, ◌++◌, ◌&&◌, length, IsTrue, IsSome, IfOk, OnOk, OnErr};
+ghost use Rattle.std.specs.FinMap.{empty, get};
+ghost use Rattle.ty_wire.specs.Prefixes.{IsPrefix};
+ghost use Rattle.tc_base.specs.declared.kind.Kind.TheVariants.{MemHash};
+ghost use Rattle.tc_base.specs.declared.request.Request.TheVariants as request;
+ghost use Rattle.tc_model.specs.Maps.{size_of, value_of};
+ghost use Rattle.tc_model.specs.Contents.{Contents, with_map, Walk};
+ghost use Rattle.tc_model.specs.Apply.{applied, updates};
+ghost use Rattle.tc_model.specs.Applying.{Applies};
+ghost use Rattle.tc_model.specs.Plans.{IsPlan, CanLeave, changed_by, contents_by, walk_by};
+
+use crate::counts::size_after;
+use std::alloc::{AllocError, Global};
+use std::marker::Model;
+use tc_base::{Blob, Kind, Reply, Request, VALUE_MOST};
+use tc_model as model;
+use tc_model::{Applied, ByteMap, Change, Deed, Plan, plan, size, stat};
+use ty_wire::{is_updating, write_reply};
+
+/// A hash database in memory, over a space that has no files. A request costs the logarithm of the number of keys, and its own bytes.
+#[derive(Drop)]
+pub struct MemBase {
+    alloc: Global,
+    contents: model::Contents,
+    // The bytes of all keys and values.
+    bytes: u64,
+}
+
+impl Model for MemBase {
+    ghost use Rattle.std.specs.Prelude.{◌≡◌};
+    ghost use Rattle.tc_model.specs.Maps.{size_of};
+    ghost use Rattle.tc_model.specs.Contents.{Contents};
+    ghost use Rattle.tc_model.specs.Codes.{contents_code};
+
+    ghost Value = { Contents };
+
+    ghost coded = { contents_code };
+
+    ghost view = { λ b. b.contents };
+
+    ghost invariant = { λ b. size_of b.contents.map ≡ b.bytes };
+}
+
+impl MemBase {
+    /// No keys, which takes no memory.
+    pub fn new(alloc: Global) -> MemBase
+        ensures kind { result.kind ≡ MemHash }
+        ensures map { result.map ≡ empty }
+    {
+        MemBase {
+            alloc,
+            contents: model::Contents::new(alloc, Kind::MemHash, false, 0, 0),
+            bytes: 0,
+        }
+    }
+
+    pub(crate) fn kind_of(&self) -> Kind
+        ensures { result ≡ self.now.kind }
+    {
+        self.contents.kind()
+    }
+
+    // Changes the map. An `Err` changes nothing.
+    fn change(&mut self, change: Change) -> Result<(), AllocError>
+        ensures ok { OnOk result (self.new ≡ with_map self.old (changed_by self.old.map change)) }
+        ensures err { OnErr result (self.new ≡ self.old) }
+    {
+        let Some(after) = size_after(self.contents.map(), self.bytes, &change) else {
+            return Err(AllocError);
+        };
+        self.contents.change(change)?;
+        self.bytes = after;
+        Ok(())
+    }
+
+    // Does what a plan says. An `Err` changes nothing.
+    fn perform(&mut self, deed: Deed, walk: &mut model::Walk) -> Result<(), AllocError>
+        requires { CanLeave deed walk.old }
+        ensures contents { OnOk result (self.new ≡ contents_by deed self.old) }
+        ensures walk { OnOk result (walk.new ≡ walk_by deed walk.old) }
+        ensures same_contents { OnErr result (self.new ≡ self.old) }
+        ensures same_walk { OnErr result (walk.new ≡ walk.old) }
+    {
+        match deed {
+            Deed::Keep => Ok(()),
+            Deed::Store { change } => self.change(change),
+            Deed::Begin { keys } => {
+                walk.set(keys);
+                Ok(())
+            }
+            Deed::Leave { count } => {
+                walk.leave(count);
+                Ok(())
+            }
+        }
+    }
+
+    // What a request is answered, and what it does: sizes are counted.
+    fn plan(&self, walk: &model::Walk, r: &Request) -> Result<Plan, AllocError>
+        ensures { IfOk result (λ p. IsPlan p self.now walk.now (applied r.now self.now walk.now)) }
+    {
+        match r {
+            Request::Size => Ok(size(r, self.bytes)),
+            Request::Stat => {
+                let rnum = self.contents.map().len() as u64;
+                let plan = stat(self.alloc, self.contents.kind(), rnum, self.bytes, r)?;
+                Ok(plan)
+            }
+            _ => plan(self.alloc, &self.contents, walk, r),
+        }
+    }
+
+    // Joins bytes behind a value in its place. An `Err` changes nothing.
+    fn join(
+        &mut self,
+        r: &Request,
+        key: &Blob,
+        more: &Blob,
+        reply: &mut Blob,
+    ) -> Result<Applied, AllocError>
+        requires is { r.now ≡ request.PutCat key.now more.now }
+        requires held { IsSome (get self.old.map key.now) }
+        ensures ok { IfOk result (λ a. (w : Walk) → Applies (applied r.now self.old w) r.now a self.new w reply.old reply.new) }
+        ensures err { OnErr result (self.new ≡ self.old) }
+        ensures front { OnErr result (IsPrefix reply.old reply.new) }
+    {
+        if !has_room(self.contents.map(), key, more) {
+            write_reply(&Reply::Fail, reply)?;
+            return Ok(Applied {
+                ok: false,
+                updated: false,
+            });
+        }
+        let Some(after) = self.bytes.checked_add(more.len() as u64) else {
+            return Err(AllocError);
+        };
+        write_reply(&Reply::Done, reply)?;
+        self.contents.append(key, more.as_slice())?;
+        self.bytes = after;
+        Ok(Applied {
+            ok: true,
+            updated: true,
+        })
+    }
+
+    // Follows the plan of a request. An `Err` changes nothing.
+    fn follow(
+        &mut self,
+        r: &Request,
+        walk: &mut model::Walk,
+        reply: &mut Blob,
+    ) -> Result<Applied, AllocError>
+        ensures ok { IfOk result (λ a. Applies (applied r.now self.old walk.old) r.now a self.new walk.new reply.old reply.new) }
+        ensures err { OnErr result (self.new ≡ self.old) }
+        ensures walk { OnErr result (walk.new ≡ walk.old) }
+        ensures front { OnErr result (IsPrefix reply.old reply.new) }
+    {
+        let Plan { ok, answer, deed } = self.plan(walk, r)?;
+        write_reply(&answer, reply)?;
+        self.perform(deed, walk)?;
+        Ok(Applied {
+            ok,
+            updated: is_updated(ok, r),
+        })
+    }
+
+    /// Applies a request, and adds its reply. An `Err` changes nothing, but more bytes may stand behind those of the reply.
+    pub(crate) fn serve(
+        &mut self,
+        r: &Request,
+        walk: &mut model::Walk,
+        reply: &mut Blob,
+    ) -> Result<Applied, AllocError>
+        ensures ok { IfOk result (λ a. Applies (applied r.now self.old walk.old) r.now a self.new walk.new reply.old reply.new) }
+        ensures err { OnErr result (self.new ≡ self.old) }
+        ensures walk { OnErr result (walk.new ≡ walk.old) }
+        ensures front { OnErr result (IsPrefix reply.old reply.new) }
+    {
+        let Request::PutCat { key, value } = r else {
+            return self.follow(r, walk, reply);
+        };
+        if self.contents.map().get(key).is_none() {
+            return self.follow(r, walk, reply);
+        }
+        self.join(r, key, value, reply)
+    }
+}
+
+// Whether a value has room for these bytes behind it.
+fn has_room(map: &ByteMap, key: &Blob, more: &Blob) -> bool
+    ensures { IsTrue result ↔ (length (value_of map.now key.now ++ more.now) ≤ 16777216) }
+{
+    let held = match map.get(key) {
+        Some(value) => value.len(),
+        None => 0,
+    };
+    more.len() <= VALUE_MOST && held <= VALUE_MOST - more.len()
+}
+
+// Whether a request updated the contents.
+fn is_updated(ok: bool, r: &Request) -> bool
+    ensures { result ≡ (ok && updates r.now) }
+{
+    if ok { is_updating(r) } else { false }
+}

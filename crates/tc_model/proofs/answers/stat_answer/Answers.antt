@@ -1,0 +1,14 @@
+use Rattle.std.proofs.Common.{◌≡◌, ◌∙◌, List, ℕ, subst}
+use Rattle.std.specs.Prelude.{IfOk, Some}
+use Rattle.std.specs.Fmt.{decimal}
+use Rattle.tc_base.specs.declared.request.Reply.TheVariants as reply
+use Rattle.tc_model.specs.Plans.{within}
+use Rattle.tc_model.specs.Stats.{text_of}
+use Rattle.tc_model.proofs.Answering.{lines, lines_of}
+use Rattle.tc_model.proofs.answers.stat_answer.Goals as goal
+
+pub returns : goal.returns
+returns c =
+    let text : c.as_bytes.result.now ≡ text_of c.args.kind c.args.rnum c.args.size =
+    c.as_bytes.ensures.value ∙ c.in_ok-text.ensures.ok ∙ lines c.kind_text.result.now (decimal c.args.rnum) (decimal c.args.size) ∙ (λ i. lines_of (c.kind_text.ensures i) (decimal c.args.rnum) (decimal c.args.size)) in
+    subst (λ (v : List ℕ). IfOk c.value_answer.result (λ o. o ≡ within (Some (reply.Value v)))) text c.value_answer.ensures
