@@ -2,4 +2,6 @@ pub mod Answered
 pub mod ExactForms
 pub mod ItemLemmas
 pub mod ItemLoops
+pub mod Ongoing
 pub mod Requests
+pub mod Stays
