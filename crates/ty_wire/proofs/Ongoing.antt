@@ -72,35 +72,59 @@ size_then n rest = size_at 4294967295 rest >>= λ o. options_then n o.0 o.1
 abbrev misc_of : Front (Lists misc_fields) → Front Request
 misc_of r = r >>= λ l. Ok (Misc l.0.0.0 l.0.0.1.0 l.0.1, l.1)
 
-pub arguments_go_on : (bytes r1 r2 r3 : List ℕ) (n o count left : ℕ) → size_at 1048576 bytes ≡ Ok (n, r1) → size_at 4294967295 r1 ≡ Ok (o, r2) → left ≡ 33554418 - n → size_at (left / 4) r2 ≡ Ok (count, r3) → n ≤ length r3 → count ≤ left / 4
-    → GoesOn (record { at = 14 + n; count = count; most = 16777216; left = left }) (0xC8 ∷ 0x90 ∷ bytes)
+-- the numbers in front of a misc's name
+record MiscHeads (bytes r3 : List ℕ) (n o count : ℕ) : Type 0 where
+  pub inside : 12 ≤ length bytes
+  pub behind : r3 ≡ drop 12 bytes
+  pub reads : (more : List ℕ) → request_at (0xC8 ∷ 0x90 ∷ (bytes ++ more)) ≡ misc_of (count_then n o count (drop 12 (bytes ++ more)))
+
+misc_heads : (bytes r1 r2 r3 : List ℕ) (n o count left : ℕ) → size_at 1048576 bytes ≡ Ok (n, r1) → size_at 4294967295 r1 ≡ Ok (o, r2) → left ≡ room misc_fields (n, (o, tt)) → size_at (left / 4) r2 ≡ Ok (count, r3) → MiscHeads bytes r3 n o count
 unfolding request_at fields_at
-arguments_go_on bytes r1 r2 r3 n o count left e1 e2 is e3 there le =
-    let room_is : left ≡ room misc_fields (n, (o, tt)) = omega (arith, is) in
+misc_heads bytes r1 r2 r3 n o count left e1 e2 room_is e3 =
     let s1 = size_stays 1048576 bytes n r1 e1 in
     let d1 = rest_is (size_at 1048576) bytes n 4 r1 s1 e1 in
     let s2 = stays_at (size_at 4294967295) 4 bytes o 4 s1.inside (subst (λ (l : List ℕ). Stays (size_at 4294967295) l o 4) d1 (size_stays 4294967295 r1 o r2 e2)) in
     let d2 : r2 ≡ drop 8 bytes = rest_is (size_at 4294967295) r1 o 4 r2 (size_stays 4294967295 r1 o r2 e2) e2 ∙ ap (drop 4) d1 ∙ drop-drop 4 4 bytes in
     let s3 = stays_at (size_at (left / 4)) 8 bytes count 4 s2.inside (subst (λ (l : List ℕ). Stays (size_at (left / 4)) l count 4) d2 (size_stays (left / 4) r2 count r3 e3)) in
-    let d3 : r3 ≡ drop 12 bytes = rest_is (size_at (left / 4)) r2 count 4 r3 (size_stays (left / 4) r2 count r3 e3) e3 ∙ ap (drop 4) d2 ∙ drop-drop 4 8 bytes in
-    let all : bytes_at n r3 ≡ Ok (take n r3, drop n r3) = if_false _ _ _ (le-ltb _ _ there) in
-    let s4 = stays_at (bytes_at n) 12 bytes (take n r3) n s3.inside (subst (λ (l : List ℕ). Stays (bytes_at n) l (take n r3) n) d3 (bytes_stay n r3 (take n r3) (drop n r3) all)) in
-    let at : suc (suc (12 + n)) ≡ 14 + n = omega arith in
     record {
-      inside = omega (arith, s4.inside);
-      room = omega (arith, le);
-      build = λ ys. Misc (take n r3) o ys;
+      inside = s3.inside;
+      behind = rest_is (size_at (left / 4)) r2 count 4 r3 (size_stays (left / 4) r2 count r3 e3) e3 ∙ ap (drop 4) d2 ∙ drop-drop 4 8 bytes;
       reads = λ more.
           let b = bytes ++ more in
           let third : size_at (room misc_fields (n, (o, tt)) / 4) (drop 8 b) ≡ Ok (count, drop 12 b) = ap (λ (k : ℕ). size_at (k / 4) (drop 8 b)) (sym room_is) ∙ s3.reads more in
           ap (λ (r : Front ℕ). misc_of (r >>= λ x. size_then x.0 x.1)) (s1.reads more)
           ∙ ap (λ (r : Front ℕ). misc_of (r >>= λ x. options_then n x.0 x.1)) (s2.reads more)
-          ∙ ap (λ (r : Front ℕ). misc_of (r >>= λ x. count_then n o x.0 x.1)) third
-          ∙ ap (λ (r : Front (List ℕ)). misc_of (r >>= λ x. name_then n o count x.0 x.1)) (s4.reads more)
+          ∙ ap (λ (r : Front ℕ). misc_of (r >>= λ x. count_then n o x.0 x.1)) third;
+    }
+
+pub arguments_go_on : (bytes r1 r2 r3 : List ℕ) (n o count left : ℕ) → size_at 1048576 bytes ≡ Ok (n, r1) → size_at 4294967295 r1 ≡ Ok (o, r2) → left ≡ 33554418 - n → size_at (left / 4) r2 ≡ Ok (count, r3) → n ≤ length r3 → count ≤ left / 4
+    → GoesOn (record { at = 14 + n; count = count; most = 16777216; left = left }) (0xC8 ∷ 0x90 ∷ bytes)
+arguments_go_on bytes r1 r2 r3 n o count left e1 e2 is e3 there le =
+    let room_is : left ≡ room misc_fields (n, (o, tt)) = omega (arith, is) in
+    let h = misc_heads bytes r1 r2 r3 n o count left e1 e2 room_is e3 in
+    let all : bytes_at n r3 ≡ Ok (take n r3, drop n r3) = if_false _ _ _ (le-ltb _ _ there) in
+    let s = stays_at (bytes_at n) 12 bytes (take n r3) n h.inside (subst (λ (l : List ℕ). Stays (bytes_at n) l (take n r3) n) h.behind (bytes_stay n r3 (take n r3) (drop n r3) all)) in
+    let at : suc (suc (12 + n)) ≡ 14 + n = omega arith in
+    record {
+      inside = omega (arith, s.inside);
+      room = omega (arith, le);
+      build = λ ys. Misc (take n r3) o ys;
+      reads = λ more.
+          let b = bytes ++ more in
+          h.reads more
+          ∙ ap (λ (r : Front (List ℕ)). misc_of (r >>= λ x. name_then n o count x.0 x.1)) (s.reads more)
           ∙ build_then misc_fields (take n r3, (o, tt)) (λ l. Misc l.0.0 l.0.1.0 l.1) (items_at 16777216 count (room misc_fields (n, (o, tt))) (drop (12 + n) b))
           ∙ ap (λ (k : ℕ). built (λ ys. Misc (take n r3) o ys) (items_at 16777216 count k (drop (12 + n) b))) (sym room_is)
           ∙ ap (λ (l : List ℕ). built (λ ys. Misc (take n r3) o ys) (items_at 16777216 count left l)) (ap (λ (k : ℕ). drop k (0xC8 ∷ 0x90 ∷ b)) at);
     }
+
+-- a name that isn't all there
+pub name_ends : (bytes r1 r2 r3 : List ℕ) (n o count left : ℕ) → size_at 1048576 bytes ≡ Ok (n, r1) → size_at 4294967295 r1 ≡ Ok (o, r2) → left ≡ 33554418 - n → size_at (left / 4) r2 ≡ Ok (count, r3) → ArePart (14 + n) (0xC8 ∷ 0x90 ∷ bytes)
+name_ends bytes r1 r2 r3 n o count left e1 e2 is e3 more short =
+    let b = bytes ++ more in
+    let h = misc_heads bytes r1 r2 r3 n o count left e1 e2 (omega (arith, is)) e3 in
+    let lack : length (drop 12 b) < n = omega (arith, short, length-drop 12 b, h.inside, length-append bytes more) in
+    h.reads more ∙ ap (λ (r : Front (List ℕ)). misc_of (r >>= λ x. name_then n o count x.0 x.1)) (if_true _ _ _ (lt-ltb _ _ lack))
 
 -- ---- one text further on
 
@@ -181,10 +205,14 @@ short_text p bytes n limit s rest more g is small e short =
     let item : item_at limit (drop p.at b) ≡ Err Part = ap (λ (r : Front ℕ). r >>= λ x. bytes_at x.0 x.1) (a.reads more) ∙ lacks in
     stopped p b n limit Part (going_more p bytes more g) is small item
 
+-- one more byte than there are, or more
+pub next_or : (bytes : List ℕ) (n least : ℕ) → request_at bytes ≡ Err Part → ArePart n bytes → least ≤ max (length bytes + 1) n → ArePart least bytes
+next_or bytes n least now part le [] short = ap request_at (append-nil bytes) ∙ now
+next_or bytes n least now part le (y ∷ more) short = part (y ∷ more) (omega (arith, short, le, length-append bytes (y ∷ more)))
+
 pub text_ends : (p : Place) (bytes : List ℕ) (n limit s least : ℕ) (rest : List ℕ) → GoesOn p bytes → request_at bytes ≡ Err Part → p.count ≡ suc n → limit ≡ min p.most (p.left - 4 * p.count) → size_at limit (drop p.at bytes) ≡ Ok (s, rest)
     → least ≡ max (length bytes + 1) (p.at + 4 + s) → ArePart least bytes
-text_ends p bytes n limit s least rest g part is small e at [] short = ap request_at (append-nil bytes) ∙ part
-text_ends p bytes n limit s least rest g part is small e at (y ∷ more) short = short_text p bytes n limit s rest (y ∷ more) g is small e (omega (arith, short, at, length-append bytes (y ∷ more)))
+text_ends p bytes n limit s least rest g part is small e at = next_or bytes (p.at + 4 + s) least part (λ more short. short_text p bytes n limit s rest more g is small e short) (omega (arith, at))
 
 -- ---- what `look` answers
 

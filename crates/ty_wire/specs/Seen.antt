@@ -1,15 +1,16 @@
 -- What was looked at of a request that comes in pieces, and holds whatever comes behind.
-use Rattle.std.specs.Prelude.{◌≡◌, ◌*◌, ◌<◌, ◌≤◌, ℕ, List, ◌++◌, length, drop, MatchOption, Ok, Err}
+use Rattle.std.specs.Prelude.{◌≡◌, ◌+◌, ◌*◌, ◌<◌, ◌≤◌, ℕ, List, [], ◌∷◌, ◌++◌, length, drop, MatchOption, Ok, Err}
 use Rattle.tc_base.specs.declared.request.Request.{Request}
 use Rattle.tc_base.specs.declared.fields.NotWhole.TheVariants.{Part}
-use Rattle.tc_base.specs.Reading.{◌>>=◌}
+use Rattle.tc_base.specs.Reading.{Front as Answer, ◌>>=◌}
 use Rattle.ty_wire.specs.declared.reading.Front.{Front}
 use Rattle.ty_wire.specs.declared.reading.Front.TheVariants as front
 use Rattle.ty_wire.specs.declared.looking.Place.{Place}
 use Rattle.ty_wire.specs.declared.looking.Seen.{Seen}
+use Rattle.ty_wire.specs.Form.{Field, text, word, long, Heads}
 use Rattle.ty_wire.specs.Prefixes.{IsPart}
 use Rattle.ty_wire.specs.Spelling.{spelling, Fits}
-use Rattle.ty_wire.specs.Reading.{items_at, request_at}
+use Rattle.ty_wire.specs.Reading.{heads_then, items_at, request_at}
 
 -- to read the request is to read the texts from this place on
 pub record GoesOn (p : Place) (bytes : List ℕ) : Type 0 where
@@ -17,6 +18,17 @@ pub record GoesOn (p : Place) (bytes : List ℕ) : Type 0 where
   pub room : 4 * p.count ≤ p.left
   pub build : List (List ℕ) → Request
   pub reads : (more : List ℕ) → request_at (bytes ++ more) ≡ (items_at p.most p.count p.left (drop p.at (bytes ++ more)) >>= λ ys. Ok (build ys.0, ys.1))
+
+-- where fields end that stand behind so many bytes
+abbrev pub end_from : ℕ → (fs : List Field) → Heads fs → ℕ
+end_from n [] h = n
+end_from n (text most ∷ fs) h = end_from (n + (4 + h.0)) fs h.1
+end_from n (word ∷ fs) h = end_from (n + 4) fs h.1
+end_from n (long ∷ fs) h = end_from (n + 8) fs h.1
+
+-- where a request ends that has these fields behind its two first bytes, told by its sizes
+abbrev pub end_at : List Field → List ℕ → Answer ℕ
+end_at fs bytes = heads_then fs (λ h rest. Ok (end_from 2 fs h, rest)) bytes
 
 -- with fewer than so many bytes in all there is no more than a part
 abbrev pub ArePart : ℕ → List ℕ → Type 0

@@ -1,6 +1,7 @@
 //! Requests and replies as bytes: one spelling each, read exactly.
 #![tactic(auto)]
 
+mod ends;
 mod items;
 mod looking;
 mod parsed;

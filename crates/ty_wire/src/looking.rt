@@ -5,6 +5,7 @@ ghost use Rattle.ty_wire.specs.Reading.{request_at};
 ghost use Rattle.ty_wire.specs.Taking.{Takes, IsRead};
 ghost use Rattle.ty_wire.specs.Seen.{GoesOn, ArePart, IsSeen, IsLeast};
 
+use crate::ends::announced;
 use crate::items::read_item;
 use crate::reading::{Front, take};
 use crate::shapes::word_of;
@@ -40,7 +41,8 @@ impl Seen {
         }
     }
 
-    /// The request begun has at least so many bytes: fewer are a part of it, whatever comes.
+    /// The request begun has at least so many bytes, and with fewer there is no more than a part, whatever they are: where its sizes
+    /// are there, those that it and its texts so far announce.
     pub fn least(&self) -> usize
         ensures { result ≡ self.now.least }
     {
@@ -173,7 +175,7 @@ fn look_anew(bytes: &[u8], seen: &mut Seen) -> Front
 {
     let front = take(bytes);
     if front == Front::Part {
-        seen.least = bytes.len() + 1;
+        seen.least = announced(bytes).max(bytes.len() + 1);
     }
     front
 }
