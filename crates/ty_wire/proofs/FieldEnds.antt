@@ -1,20 +1,14 @@
 -- Where a request ends, once its sizes are there.
-use Rattle.std.proofs.Common.{Bor, Result, ◌≡◌, inl, inr, ℕ, ◌+◌, ◌*◌, ◌<◌, ◌≤◌, List, [], ◌∷◌, ◌++◌, length, take, drop, Ok, Err, refl, sym, ap, subst, ◌∙◌, arith, length-append, length-drop}
-use Rattle.std.specs.Prelude.{IfOk}
-use Rattle.std.specs.Int.{w32, cast_signed}
+use Rattle.std.proofs.Common.{◌≡◌, inl, inr, ℕ, ◌+◌, ◌*◌, ◌/◌, ◌<◌, ◌≤◌, nat_eq, List, [], ◌∷◌, ◌++◌, length, take, drop, Ok, Err, refl, sym, ap, subst, ◌∙◌, arith, length-append, length-drop}
 use Rattle.std.proofs.lemmas.Bool.{le-ltb, lt-ltb, cases_lt}
 use Rattle.std.proofs.lemmas.List.{drop-append-le, drop-drop}
-use Rattle.tc_base.specs.declared.request.Request.{Request}
-use Rattle.tc_base.specs.declared.request.Request.TheVariants.{Put, PutKeep, PutCat, PutShl, PutNr, Out, Get, Vsiz, FwmKeys, AddInt, AddDouble, Ext, Optimize, Copy, Restore, SetMst}
-use Rattle.tc_base.specs.declared.fields.NotWhole.{NotWhole}
 use Rattle.tc_base.specs.declared.fields.NotWhole.TheVariants.{Part}
-use Rattle.tc_base.specs.Reading.{Front, Gives, ◌>>=◌, size_at}
+use Rattle.tc_base.specs.Reading.{Front, ◌>>=◌, size_at}
 use Rattle.tc_base.proofs.Exact.{bind_ok, same_whole}
-use Rattle.tc_base.proofs.ExactFields.{if_true, if_false}
+use Rattle.tc_base.proofs.ExactFields.{chosen, if_true, if_false}
 use Rattle.ty_wire.specs.Form.{Field, text, word, long, Heads, Values}
-use Rattle.ty_wire.specs.Spelling.{key_text, value_text}
-use Rattle.ty_wire.specs.Reading.{long_at, head_at, heads_then, body_then, values_at, fields_at, request_at}
-use Rattle.ty_wire.specs.Seen.{end_from, end_at, ArePart}
+use Rattle.ty_wire.specs.Reading.{long_at, head_at, heads_then, body_then, values_at, room, items_at, counted_at, Entry, plain, counted, command_of, read_by, pick, entries, fields_at, request_at}
+use Rattle.ty_wire.specs.Seen.{end_from, end_at, list_at, entry_end, pick_end, or_none, command_end, announced_at, ArePart}
 use Rattle.ty_wire.proofs.Stays.{Stays, size_stays, stays_at, rest_is}
 
 -- ---- numbers and sizes that are there stay
@@ -66,21 +60,20 @@ pub record HeadsStay {A : Type 0} (fs : List Field) (k : Heads fs → List ℕ �
   pub behind : rest ≡ drop (heads_size fs) bytes
   pub reads : (more : List ℕ) → heads_then fs k (bytes ++ more) ≡ k h (drop (heads_size fs) (bytes ++ more))
 
-pub heads_stay : {A : Type 0} (fs : List Field) (g : Heads fs → ℕ) (k : Heads fs → List ℕ → Front A) (bytes : List ℕ) (n : ℕ) (rest : List ℕ) → heads_then fs (λ h rest. Ok (g h, rest)) bytes ≡ Ok (n, rest)
-    → (h : Heads fs) × (n ≡ g h) × HeadsStay fs k bytes h rest
-heads_stay [] g k bytes n rest e =
-    let s = same_whole (g tt) n bytes rest e in
-    (tt, sym s.0, record { inside = omega arith; behind = sym s.1; reads = λ more. refl })
-heads_stay {A} (f ∷ fs) g k bytes n rest e =
-    let a = bind_ok (head_at f bytes) (λ n. heads_then fs (λ ns rest. Ok (g (n.0, ns), rest)) n.1) (n, rest) e in
+heads_stay : {A B : Type 0} (fs : List Field) (p : Heads fs → List ℕ → Front B) (k : Heads fs → List ℕ → Front A) (bytes : List ℕ) (y : B × List ℕ) → heads_then fs p bytes ≡ Ok y
+    → (h : Heads fs) × (rest : List ℕ) × (p h rest ≡ Ok y) × HeadsStay fs k bytes h rest
+heads_stay [] p k bytes y e = (tt, bytes, e, record { inside = omega arith; behind = refl; reads = λ more. refl })
+heads_stay {A} {B} (f ∷ fs) p k bytes y e =
+    let a = bind_ok (head_at f bytes) (λ n. heads_then fs (λ ns. p (n.0, ns)) n.1) y e in
     let x = a.0.0 in
     let s = head_stays f bytes x a.0.1 a.1 in
     let behind = rest_is (head_at f) bytes x (head_size f) a.0.1 s a.1 in
-    let d = heads_stay fs (λ ns. g (x, ns)) (λ ns. k (x, ns)) a.0.1 n rest a.2 in
-    let t = d.2 in
+    let d = heads_stay fs (λ ns. p (x, ns)) (λ ns. k (x, ns)) a.0.1 y a.2 in
+    let t = d.3 in
     let size : head_size f + heads_size fs ≤ length bytes = omega (arith, s.inside, t.inside, ap length behind, length-drop (head_size f) bytes) in (
       (x, d.0),
       d.1,
+      d.2,
       record {
         inside = size;
         behind = t.behind ∙ ap (drop (heads_size fs)) behind ∙ drop-drop (heads_size fs) (head_size f) bytes;
@@ -95,6 +88,15 @@ heads_stay {A} (f ∷ fs) g k bytes n rest e =
 
 -- ---- texts that aren't all there
 
+abbrev sized : ℕ → List ℕ → Front ℕ
+sized n rest = Ok (n, rest)
+
+abbrev texts_of : (fs : List Field) → ℕ → Heads fs → ℕ → List ℕ → Front (Values fs × List (List ℕ))
+texts_of fs most h n rest = body_then fs h (λ v rest. items_at most n (room fs h) rest >>= λ xs. Ok ((v, xs.0), xs.1)) rest
+
+abbrev count_of : (fs : List Field) → ℕ → Heads fs → List ℕ → Front (Values fs × List (List ℕ))
+count_of fs most h rest = size_at (room fs h / 4) rest >>= λ n. texts_of fs most h n.0 n.1
+
 body_short : {A : Type 0} (fs : List Field) (h : Heads fs) (k : Values fs → List ℕ → Front A) (bytes : List ℕ) → length bytes < texts_size fs h → body_then fs h k bytes ≡ Err Part
 body_short [] h k bytes short = absurd (omega (arith, short))
 body_short {A} (text most ∷ fs) h k bytes short = elim (cases_lt (length bytes) h.0) [
@@ -108,82 +110,51 @@ body_short (long ∷ fs) h k bytes short = body_short fs h.1 (λ v. k (h.0, v)) 
 
 values_short : (fs : List Field) (bytes : List ℕ) (n : ℕ) (rest more : List ℕ) → end_at fs bytes ≡ Ok (n, rest) → 2 + length (bytes ++ more) < n → values_at fs (bytes ++ more) ≡ Err Part
 values_short fs bytes n rest more e short =
-    let d = heads_stay fs (end_from 2 fs) (λ h. body_then fs h (λ v rest. Ok (v, rest))) bytes n rest e in
+    let d = heads_stay fs (λ h rest. sized (end_from 2 fs h) rest) (λ h. body_then fs h (λ v rest. Ok (v, rest))) bytes (n, rest) e in
     let b = bytes ++ more in
-    let lack : length (drop (heads_size fs) b) < texts_size fs d.0 = omega (arith, short, d.1, ends_from fs 2 d.0, length-drop (heads_size fs) b, d.2.inside, length-append bytes more) in
-    d.2.reads more ∙ body_short fs d.0 (λ v rest. Ok (v, rest)) (drop (heads_size fs) b) lack
+    let is = (same_whole (end_from 2 fs d.0) n d.1 rest d.2).0 in
+    let lack : length (drop (heads_size fs) b) < texts_size fs d.0 = omega (arith, short, is, ends_from fs 2 d.0, length-drop (heads_size fs) b, d.3.inside, length-append bytes more) in
+    d.3.reads more ∙ body_short fs d.0 (λ v rest. Ok (v, rest)) (drop (heads_size fs) b) lack
 
--- the command reads these fields
-pub record Reads (c : ℕ) (fs : List Field) (build : Values fs → Request) : Type 0 where
-  pub reads : (b : List ℕ) → request_at (0xC8 ∷ c ∷ b) ≡ (values_at fs b >>= λ v. Ok (build v.0, v.1))
+counted_short : (fs : List Field) (most : ℕ) (bytes : List ℕ) (n : ℕ) (rest more : List ℕ) → list_at fs bytes ≡ Ok (n, rest) → 2 + length (bytes ++ more) < n → counted_at fs most (bytes ++ more) ≡ Err Part
+counted_short fs most bytes n rest more e short =
+    let d = heads_stay fs (λ h rest. size_at (room fs h / 4) rest >>= λ c. sized (end_from 6 fs h) c.1) (count_of fs most) bytes (n, rest) e in
+    let h = d.0 in
+    let b = bytes ++ more in
+    let a = bind_ok (size_at (room fs h / 4) d.1) (λ c. sized (end_from 6 fs h) c.1) (n, rest) d.2 in
+    let is = (same_whole (end_from 6 fs h) n a.0.1 rest a.2).0 in
+    let count : size_at (room fs h / 4) (drop (heads_size fs) bytes) ≡ Ok (a.0.0, a.0.1) = ap (size_at (room fs h / 4)) (sym d.3.behind) ∙ a.1 in
+    let s = stays_at (size_at (room fs h / 4)) (heads_size fs) bytes a.0.0 4 d.3.inside (size_stays (room fs h / 4) (drop (heads_size fs) bytes) a.0.0 a.0.1 count) in
+    let lack : length (drop (heads_size fs + 4) b) < texts_size fs h = omega (arith, short, is, ends_from fs 6 h, length-drop (heads_size fs + 4) b, s.inside, length-append bytes more) in
+    d.3.reads more ∙ ap (λ (r : Front ℕ). r >>= λ c. texts_of fs most h c.0 c.1) (s.reads more)
+    ∙ body_short fs h (λ v rest. items_at most a.0.0 (room fs h) rest >>= λ xs. Ok ((v, xs.0), xs.1)) (drop (heads_size fs + 4) b) lack
 
-are_part : (c n : ℕ) (fs : List Field) (build : Values fs → Request) (bytes rest : List ℕ) → Reads c fs build → end_at fs bytes ≡ Ok (n, rest) → ArePart n (0xC8 ∷ c ∷ bytes)
-are_part c n fs build bytes rest r e more short = r.reads (bytes ++ more) ∙ ap (λ (v : Front (Values fs)). v >>= λ v. Ok (build v.0, v.1)) (values_short fs bytes n rest more e (omega (arith, short)))
+-- ---- the table
 
-pub ends : (r : Result (ℕ × Bor (List ℕ)) NotWhole) (c d : ℕ) (fs : List Field) (build : Values fs → Request) (bytes : List ℕ) → Reads c fs build → d ≡ c → Gives (λ x. (x.0, x.1.now)) r (end_at fs bytes) → IfOk r (λ x. ArePart x.0 (0xC8 ∷ d ∷ bytes))
-ends (Ok x) c d fs build bytes reads is e = subst (λ (k : ℕ). ArePart x.0 (0xC8 ∷ k ∷ bytes)) (sym is) (are_part c x.0 fs build bytes x.1.now reads e)
-ends (Err f) c d fs build bytes reads is e = tt
+entry_short : (e : Entry) (bytes : List ℕ) (n : ℕ) (rest more : List ℕ) → entry_end e bytes ≡ Ok (n, rest) → 2 + length (bytes ++ more) < n → read_by e (bytes ++ more) ≡ Err Part
+entry_short (plain c fs build) bytes n rest more e short = ap (λ (r : Front (Values fs)). r >>= λ v. Ok (build v.0, v.1)) (values_short fs bytes n rest more e short)
+entry_short (counted c fs most build) bytes n rest more e short = ap (λ (r : Front (Values fs × List (List ℕ))). r >>= λ v. Ok (build v.0.0 v.0.1, v.1)) (counted_short fs most bytes n rest more e short)
 
-pub reads_put : Reads 0x10 (key_text ∷ value_text ∷ []) (λ v. Put v.0 v.1.0)
+pick_short : (es : List Entry) (c : ℕ) (bytes : List ℕ) (n : ℕ) (rest more : List ℕ) → pick_end es c bytes ≡ Ok (n, rest) → 2 + length (bytes ++ more) < n → pick es c (bytes ++ more) ≡ Err Part
+pick_short [] c bytes n rest more e short = absurd cc
+pick_short (d ∷ es) c bytes n rest more e short = elim (chosen (nat_eq c (command_of d)) _ _ (Ok (n, rest)) e) [
+  | inl h ↦ if_true _ _ _ h.0 ∙ entry_short d bytes n rest more h.1 short
+  | inr h ↦ if_false _ _ _ h.0 ∙ pick_short es c bytes n rest more h.1 short
+]
+
+or_none_short : (r : Front ℕ) (c : ℕ) (bytes more : List ℕ) → r ≡ pick_end entries c bytes → 2 + length (bytes ++ more) < or_none r → pick entries c (bytes ++ more) ≡ Err Part
+or_none_short (Ok x) c bytes more e short = pick_short entries c bytes x.0 x.1 more (sym e) short
+or_none_short (Err d) c bytes more e short = absurd (omega (arith, short))
+
+command_short : (magic : ℕ) (rest more : List ℕ) → 1 + length (rest ++ more) < command_end magic rest → request_at (magic ∷ (rest ++ more)) ≡ Err Part
 unfolding request_at fields_at
-reads_put = record { reads = λ b. refl }
+command_short magic [] more short = absurd (omega (arith, short))
+command_short magic (c ∷ rest) more short = elim (chosen (nat_eq magic 0xC8) (or_none (pick_end entries c rest)) 0 (command_end magic (c ∷ rest)) refl) [
+  | inl h ↦ if_true _ _ _ h.0 ∙ or_none_short (pick_end entries c rest) c rest more refl (omega (arith, short, h.1))
+  | inr h ↦ absurd (omega (arith, short, h.1))
+]
 
-pub reads_putkeep : Reads 0x11 (key_text ∷ value_text ∷ []) (λ v. PutKeep v.0 v.1.0)
-unfolding request_at fields_at
-reads_putkeep = record { reads = λ b. refl }
-
-pub reads_putcat : Reads 0x12 (key_text ∷ value_text ∷ []) (λ v. PutCat v.0 v.1.0)
-unfolding request_at fields_at
-reads_putcat = record { reads = λ b. refl }
-
-pub reads_putnr : Reads 0x18 (key_text ∷ value_text ∷ []) (λ v. PutNr v.0 v.1.0)
-unfolding request_at fields_at
-reads_putnr = record { reads = λ b. refl }
-
-pub reads_putshl : Reads 0x13 (key_text ∷ value_text ∷ word ∷ []) (λ v. PutShl v.0 v.1.0 v.1.1.0)
-unfolding request_at fields_at
-reads_putshl = record { reads = λ b. refl }
-
-pub reads_out : Reads 0x20 (key_text ∷ []) (λ v. Out v.0)
-unfolding request_at fields_at
-reads_out = record { reads = λ b. refl }
-
-pub reads_get : Reads 0x30 (key_text ∷ []) (λ v. Get v.0)
-unfolding request_at fields_at
-reads_get = record { reads = λ b. refl }
-
-pub reads_vsiz : Reads 0x38 (key_text ∷ []) (λ v. Vsiz v.0)
-unfolding request_at fields_at
-reads_vsiz = record { reads = λ b. refl }
-
-pub reads_optimize : Reads 0x71 (key_text ∷ []) (λ v. Optimize v.0)
-unfolding request_at fields_at
-reads_optimize = record { reads = λ b. refl }
-
-pub reads_copy : Reads 0x73 (key_text ∷ []) (λ v. Copy v.0)
-unfolding request_at fields_at
-reads_copy = record { reads = λ b. refl }
-
-pub reads_fwmkeys : Reads 0x58 (key_text ∷ word ∷ []) (λ v. FwmKeys v.0 (cast_signed w32 v.1.0))
-unfolding request_at fields_at
-reads_fwmkeys = record { reads = λ b. refl }
-
-pub reads_addint : Reads 0x60 (key_text ∷ word ∷ []) (λ v. AddInt v.0 v.1.0)
-unfolding request_at fields_at
-reads_addint = record { reads = λ b. refl }
-
-pub reads_adddouble : Reads 0x61 (key_text ∷ long ∷ long ∷ []) (λ v. AddDouble v.0 v.1.0 v.1.1.0)
-unfolding request_at fields_at
-reads_adddouble = record { reads = λ b. refl }
-
-pub reads_ext : Reads 0x68 (key_text ∷ word ∷ key_text ∷ value_text ∷ []) (λ v. Ext v.0 v.1.0 v.1.1.0 v.1.1.1.0)
-unfolding request_at fields_at
-reads_ext = record { reads = λ b. refl }
-
-pub reads_restore : Reads 0x74 (key_text ∷ long ∷ word ∷ []) (λ v. Restore v.0 v.1.0 v.1.1.0)
-unfolding request_at fields_at
-reads_restore = record { reads = λ b. refl }
-
-pub reads_setmst : Reads 0x78 (key_text ∷ word ∷ long ∷ word ∷ []) (λ v. SetMst v.0 v.1.0 v.1.1.0 v.1.1.1.0)
-unfolding request_at fields_at
-reads_setmst = record { reads = λ b. refl }
+pub announced_part : (bytes : List ℕ) → ArePart (announced_at bytes) bytes
+unfolding announced_at
+announced_part [] more short = absurd (omega (arith, short))
+announced_part (magic ∷ rest) more short = command_short magic rest more (omega (arith, short))

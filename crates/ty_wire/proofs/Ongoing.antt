@@ -118,14 +118,6 @@ arguments_go_on bytes r1 r2 r3 n o count left e1 e2 is e3 there le =
           ∙ ap (λ (l : List ℕ). built (λ ys. Misc (take n r3) o ys) (items_at 16777216 count left l)) (ap (λ (k : ℕ). drop k (0xC8 ∷ 0x90 ∷ b)) at);
     }
 
--- a name that isn't all there
-pub name_ends : (bytes r1 r2 r3 : List ℕ) (n o count left : ℕ) → size_at 1048576 bytes ≡ Ok (n, r1) → size_at 4294967295 r1 ≡ Ok (o, r2) → left ≡ 33554418 - n → size_at (left / 4) r2 ≡ Ok (count, r3) → ArePart (14 + n) (0xC8 ∷ 0x90 ∷ bytes)
-name_ends bytes r1 r2 r3 n o count left e1 e2 is e3 more short =
-    let b = bytes ++ more in
-    let h = misc_heads bytes r1 r2 r3 n o count left e1 e2 (omega (arith, is)) e3 in
-    let lack : length (drop 12 b) < n = omega (arith, short, length-drop 12 b, h.inside, length-append bytes more) in
-    h.reads more ∙ ap (λ (r : Front (List ℕ)). misc_of (r >>= λ x. name_then n o count x.0 x.1)) (if_true _ _ _ (lt-ltb _ _ lack))
-
 -- ---- one text further on
 
 regrouped : (build : List (List ℕ) → Request) (x : List ℕ) (r : Front (List (List ℕ))) → built build (r >>= λ xs. Ok (x ∷ xs.0, xs.1)) ≡ built (λ ys. build (x ∷ ys)) r
@@ -239,3 +231,10 @@ pub least_is : (n : ℕ) (bytes : List ℕ) (f : Answer) → ArePart n bytes →
 least_is n bytes (front.Whole m) part more = tt
 least_is n bytes front.Part part more = (more refl, needed n bytes part)
 least_is n bytes front.Bad part more = tt
+
+-- what was announced is seen
+pub seen_anew : (seen : Seen) (bytes : List ℕ) (n least : ℕ) (f : Answer) → IsSeen seen bytes → IsRead bytes f → f ≡ front.Part → ArePart n bytes → least ≡ max n (length bytes + 1) → IsSeen (record seen { least = least }) bytes
+seen_anew seen bytes n least f s e is part at = record {
+  part = next_or bytes n least (subst (IsRead bytes) is e) part (omega (arith, at));
+  goes_on = s.goes_on;
+}

@@ -1,9 +1,10 @@
 //! How many bytes a request takes, told by its sizes.
-ghost use Rattle.std.specs.Prelude.{[], ◌∷◌, IfOk};
+ghost use Rattle.std.specs.Prelude.{◌≡◌, [], ◌∷◌};
 ghost use Rattle.tc_base.specs.Reading.{Gives};
 ghost use Rattle.ty_wire.specs.Form.{word, long};
 ghost use Rattle.ty_wire.specs.Spelling.{key_text, value_text};
-ghost use Rattle.ty_wire.specs.Seen.{end_at, ArePart};
+ghost use Rattle.ty_wire.specs.Reading.{named_entries, number_entries, bare_entries, key_entries, entries};
+ghost use Rattle.ty_wire.specs.Seen.{end_at, list_at, pick_end, announced_at};
 
 use crate::shapes::{Read, long_of, word_of};
 use tc_base::{KEY_MOST, NotWhole, REQUEST_MOST, VALUE_MOST, read_size};
@@ -78,34 +79,89 @@ fn master_end(bytes: &[u8]) -> Read<'_, usize>
     Ok((2 + (4 + h) + 4 + 8 + 4, rest))
 }
 
-// A misc up to the end of its name.
-fn name_end(bytes: &[u8]) -> Read<'_, usize>
-    ensures { IfOk result (λ x. ArePart x.0 (0xC8 ∷ 0x90 ∷ bytes.now)) }
+fn repl_end(bytes: &[u8]) -> Read<'_, usize>
+    ensures { Gives (λ x. (x.0, x.1.now)) result (end_at (long ∷ word ∷ []) bytes.now) }
+{
+    let (_, rest) = long_of(bytes)?;
+    let (_, rest) = word_of(rest)?;
+    Ok((2 + 8 + 4, rest))
+}
+
+// An mget up to its first key.
+fn keys_end(bytes: &[u8]) -> Read<'_, usize>
+    ensures { Gives (λ x. (x.0, x.1.now)) result (list_at [] bytes.now) }
+{
+    let left = REQUEST_MOST - 6;
+    let (_, rest) = read_size(left / 4, bytes)?;
+    Ok((6, rest))
+}
+
+// A misc up to its first argument.
+fn arguments_end(bytes: &[u8]) -> Read<'_, usize>
+    ensures { Gives (λ x. (x.0, x.1.now)) result (list_at (key_text ∷ word ∷ []) bytes.now) }
 {
     let (n, rest) = read_size(KEY_MOST, bytes)?;
     let (_, rest) = word_of(rest)?;
     let left = REQUEST_MOST - 14 - n;
     let (_, rest) = read_size(left / 4, rest)?;
-    Ok((14 + n, rest))
+    Ok((6 + (4 + n) + 4, rest))
 }
 
-// A request's end, or that of its name where a list comes.
 fn named_end(command: u8, bytes: &[u8]) -> Read<'_, usize>
-    ensures { IfOk result (λ x. ArePart x.0 (0xC8 ∷ command ∷ bytes.now)) }
+    ensures { Gives (λ x. (x.0, x.1.now)) result (pick_end named_entries command bytes.now) }
 {
     match command {
-        0x61 => key_longs_end(bytes),
-        0x68 => ext_end(bytes),
         0x74 => restore_end(bytes),
         0x78 => master_end(bytes),
-        0x90 => name_end(bytes),
-        _ => Err(NotWhole::Part),
+        0x90 => arguments_end(bytes),
+        0xA0 => repl_end(bytes),
+        _ => Err(NotWhole::Bad),
     }
 }
 
-// A request's end, or that of its name where a list comes.
-fn command_end(command: u8, bytes: &[u8]) -> Read<'_, usize>
-    ensures { IfOk result (λ x. ArePart x.0 (0xC8 ∷ command ∷ bytes.now)) }
+fn number_end(command: u8, bytes: &[u8]) -> Read<'_, usize>
+    ensures { Gives (λ x. (x.0, x.1.now)) result (pick_end number_entries command bytes.now) }
+{
+    match command {
+        0x58 => key_word_end(bytes),
+        0x60 => key_word_end(bytes),
+        0x61 => key_longs_end(bytes),
+        0x68 => ext_end(bytes),
+        _ => named_end(command, bytes),
+    }
+}
+
+fn bare_end(command: u8, bytes: &[u8]) -> Read<'_, usize>
+    ensures { Gives (λ x. (x.0, x.1.now)) result (pick_end bare_entries command bytes.now) }
+{
+    match command {
+        0x50 => Ok((2, bytes)),
+        0x51 => Ok((2, bytes)),
+        0x70 => Ok((2, bytes)),
+        0x72 => Ok((2, bytes)),
+        0x80 => Ok((2, bytes)),
+        0x81 => Ok((2, bytes)),
+        0x88 => Ok((2, bytes)),
+        _ => number_end(command, bytes),
+    }
+}
+
+fn keyed_end(command: u8, bytes: &[u8]) -> Read<'_, usize>
+    ensures { Gives (λ x. (x.0, x.1.now)) result (pick_end key_entries command bytes.now) }
+{
+    match command {
+        0x20 => key_end(bytes),
+        0x30 => key_end(bytes),
+        0x31 => keys_end(bytes),
+        0x38 => key_end(bytes),
+        0x71 => key_end(bytes),
+        0x73 => key_end(bytes),
+        _ => bare_end(command, bytes),
+    }
+}
+
+fn stored_end(command: u8, bytes: &[u8]) -> Read<'_, usize>
+    ensures { Gives (λ x. (x.0, x.1.now)) result (pick_end entries command bytes.now) }
 {
     match command {
         0x10 => pair_end(bytes),
@@ -113,23 +169,17 @@ fn command_end(command: u8, bytes: &[u8]) -> Read<'_, usize>
         0x12 => pair_end(bytes),
         0x13 => shift_end(bytes),
         0x18 => pair_end(bytes),
-        0x20 => key_end(bytes),
-        0x30 => key_end(bytes),
-        0x38 => key_end(bytes),
-        0x58 => key_word_end(bytes),
-        0x60 => key_word_end(bytes),
-        0x71 => key_end(bytes),
-        0x73 => key_end(bytes),
-        _ => named_end(command, bytes),
+        _ => keyed_end(command, bytes),
     }
 }
 
-/// How many bytes the request begun has at least, 0 where its sizes don't say so yet.
+/// How many bytes the request begun has, or it has up to its list, 0 where its sizes don't say so yet.
+#[tactic(auto, unfolding(crate::specs::Seen::announced_at))]
 pub fn announced(bytes: &[u8]) -> usize
-    ensures { ArePart result bytes.now }
+    ensures { result ≡ announced_at bytes.now }
 {
     match bytes {
-        [0xC8, command, rest @ ..] => match command_end(*command, rest) {
+        [0xC8, command, rest @ ..] => match stored_end(*command, rest) {
             Ok((n, _)) => n,
             Err(_) => 0,
         },
