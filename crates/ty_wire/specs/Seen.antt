@@ -1,0 +1,70 @@
+-- What was looked at of a request that comes in pieces, and holds whatever comes behind.
+use Rattle.std.specs.Prelude.{◌≡◌, ◌+◌, ◌*◌, ◌/◌, ◌==◌, if◌then◌else◌, ◌<◌, ◌≤◌, ℕ, List, [], ◌∷◌, ◌++◌, length, drop, MatchOption, Ok, Err}
+use Rattle.tc_base.specs.declared.request.Request.{Request}
+use Rattle.tc_base.specs.declared.fields.NotWhole.TheVariants.{Part, Bad}
+use Rattle.tc_base.specs.Reading.{Front as Answer, ◌>>=◌, size_at}
+use Rattle.ty_wire.specs.declared.reading.Front.{Front}
+use Rattle.ty_wire.specs.declared.reading.Front.TheVariants as front
+use Rattle.ty_wire.specs.declared.looking.Place.{Place}
+use Rattle.ty_wire.specs.declared.looking.Seen.{Seen}
+use Rattle.ty_wire.specs.Form.{Field, text, word, long, Heads}
+use Rattle.ty_wire.specs.Prefixes.{IsPart}
+use Rattle.ty_wire.specs.Spelling.{spelling, Fits}
+use Rattle.ty_wire.specs.Reading.{Entry, plain, counted, command_of, entries, heads_then, room, items_at, request_at}
+
+-- to read the request is to read the texts from this place on
+pub record GoesOn (p : Place) (bytes : List ℕ) : Type 0 where
+  pub inside : p.at ≤ length bytes
+  pub room : 4 * p.count ≤ p.left
+  pub build : List (List ℕ) → Request
+  pub reads : (more : List ℕ) → request_at (bytes ++ more) ≡ (items_at p.most p.count p.left (drop p.at (bytes ++ more)) >>= λ ys. Ok (build ys.0, ys.1))
+
+-- where fields end that stand behind so many bytes
+abbrev pub end_from : ℕ → (fs : List Field) → Heads fs → ℕ
+end_from n [] h = n
+end_from n (text most ∷ fs) h = end_from (n + (4 + h.0)) fs h.1
+end_from n (word ∷ fs) h = end_from (n + 4) fs h.1
+end_from n (long ∷ fs) h = end_from (n + 8) fs h.1
+
+-- where a request ends that has these fields behind its two first bytes, told by its sizes
+abbrev pub end_at : List Field → List ℕ → Answer ℕ
+end_at fs bytes = heads_then fs (λ h rest. Ok (end_from 2 fs h, rest)) bytes
+
+-- the same up to the first text of a list, with a count behind the numbers
+abbrev pub list_at : List Field → List ℕ → Answer ℕ
+list_at fs bytes = heads_then fs (λ h rest. size_at (room fs h / 4) rest >>= λ n. Ok (end_from 6 fs h, n.1)) bytes
+
+abbrev pub entry_end : Entry → List ℕ → Answer ℕ
+entry_end (plain command fs build) bytes = end_at fs bytes
+entry_end (counted command fs most build) bytes = list_at fs bytes
+
+abbrev pub pick_end : List Entry → ℕ → List ℕ → Answer ℕ
+pick_end [] command bytes = Err Bad
+pick_end (e ∷ es) command bytes = if command == command_of e then entry_end e bytes else pick_end es command bytes
+
+-- how many bytes a request has that begins so, told by its sizes, or up to its list; 0 where they don't say so yet
+abbrev pub or_none : Answer ℕ → ℕ
+or_none (Ok x) = x.0
+or_none (Err e) = 0
+
+abbrev pub command_end : ℕ → List ℕ → ℕ
+command_end magic [] = 0
+command_end magic (command ∷ rest) = if magic == 0xC8 then or_none (pick_end entries command rest) else 0
+
+unfoldable pub announced_at : List ℕ → ℕ
+announced_at [] = 0
+announced_at (magic ∷ rest) = command_end magic rest
+
+-- with fewer than so many bytes in all there is no more than a part
+abbrev pub ArePart : ℕ → List ℕ → Type 0
+ArePart n bytes = (more : List ℕ) → length (bytes ++ more) < n → request_at (bytes ++ more) ≡ Err Part
+
+-- whatever comes behind these bytes, what was seen of them holds
+pub record IsSeen (seen : Seen) (bytes : List ℕ) : Type 0 where
+  pub part : ArePart seen.least bytes
+  pub goes_on : MatchOption seen.list (Unit {0}) (λ p. GoesOn p bytes)
+
+-- more than these bytes, and no more than any request that they begin
+abbrev pub IsLeast : ℕ → List ℕ → Front → Type 0
+IsLeast n bytes front.Part = (length bytes < n) × ((r : Request) → Fits r → IsPart bytes (spelling r) → n ≤ length (spelling r))
+IsLeast n bytes _ = Unit {0}
