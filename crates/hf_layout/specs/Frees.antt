@@ -1,7 +1,5 @@
 -- Free blocks by place and by size.
-use Rattle.std.specs.Prelude.{◌≡◌, ℕ, ◌+◌, ◌<◌, ◌≤◌, ◌==◌, ◌⊎◌, Bool, false, Option, Some, None, if◌then◌else◌}
-use Rattle.std.specs.declared.cmp.Ordering.{Ordering}
-use Rattle.std.specs.Ordering.{nat_cmp, ordering_then}
+use Rattle.std.specs.Prelude.{◌≡◌, ℕ, ◌+◌, ◌<◌, ◌≤◌, ◌==◌, ◌⊎◌, Option, Some, None, if◌then◌else◌}
 
 -- the size of the free block at each place
 abbrev pub Frees : Type 0
@@ -37,10 +35,10 @@ with_block frees place size = λ q. if q == place then Some size else frees q
 abbrev pub without : Frees → ℕ → Frees
 without frees place = λ q. if q == place then None else frees q
 
--- sizes first, then places
-abbrev pub pair_cmp : ℕ × ℕ → ℕ × ℕ → Ordering
-pair_cmp x y = ordering_then (nat_cmp x.0 y.0) (nat_cmp x.1 y.1)
+-- each free block lies inside the bytes
+abbrev pub LieInside : Frees → ℕ → Type 0
+LieInside frees long = (q t : ℕ) → IsThere frees q t → q + t ≤ long
 
-abbrev pub is_size : Option ℕ → ℕ → Bool
-is_size None s = false
-is_size (Some t) s = s == t
+-- none at all
+abbrev pub none : Frees
+none q = None

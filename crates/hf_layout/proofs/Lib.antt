@@ -1,0 +1,6 @@
+pub mod Places
+pub mod Segments
+pub mod Shares
+pub mod Gathers
+pub mod Listed
+pub mod Records

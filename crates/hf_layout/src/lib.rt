@@ -1,0 +1,8 @@
+//! The blocks of a file, and which of them are free.
+//!
+//! The definitions stand in specs/, and the lemmas on blocks that are parted, joined and written in proofs/.
+#![tactic(auto)]
+
+mod laws;
+
+pub use laws::{lent_is_a_block, record_fills_a_block, record_fills_a_front, record_stands_behind};
