@@ -78,7 +78,7 @@ kept k x = not (eq_by_cmp order k x)
 left_bytes : (k : List ℕ) (es : List Entry) → T (is_sorted order es) → bytes (where_key order (kept k) es) + entry_size k (find order k es) ≡ bytes es
 left_bytes k [] h = omega arith
 left_bytes k (e ∷ es) h =
-    let left = where_key order (kept k) es in
+    let left : List Entry = where_key order (kept k) es in
     let rest : bytes (where_key order (kept k) es) + entry_size k (find order k es) ≡ bytes es = left_bytes k es (second _ _ h) in
     elim (eq_by_cmp order k e.0) as (λ t. eq_by_cmp order k e.0 ≡ t → bytes (cond (not t) (e ∷ left) left) + entry_size k (cond t (Some e.1) (find order k es)) ≡ bytes (e ∷ es)) [
       | true ↦ λ t.

@@ -15,7 +15,7 @@ use std::alloc::{AllocError, Global};
 use std::marker::Model;
 use tc_base::{Blob, Kind, Reply, Request, VALUE_MOST};
 use tc_model as model;
-use tc_model::{Applied, ByteMap, Change, Deed, Plan, plan, size, stat};
+use tc_model::{Applied, ByteMap, Change, Deed, Plan, plan, plan_of_size, plan_of_stat};
 use ty_wire::{is_updating, write_reply};
 
 /// A hash database in memory, over a space that has no files. A request costs the logarithm of the number of keys, and its own bytes.
@@ -101,10 +101,10 @@ impl MemBase {
         ensures { IfOk result (λ p. IsPlan p self.now walk.now (applied r.now self.now walk.now)) }
     {
         match r {
-            Request::Size => Ok(size(r, self.bytes)),
+            Request::Size => Ok(plan_of_size(r, self.bytes)),
             Request::Stat => {
                 let rnum = self.contents.map().len() as u64;
-                let plan = stat(self.alloc, self.contents.kind(), rnum, self.bytes, r)?;
+                let plan = plan_of_stat(self.alloc, self.contents.kind(), rnum, self.bytes, r)?;
                 Ok(plan)
             }
             _ => plan(self.alloc, &self.contents, walk, r),

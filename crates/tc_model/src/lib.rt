@@ -16,5 +16,5 @@ pub use apply::apply_plain;
 pub use contents::Contents;
 pub use deeds::{Change, Deed, Plan};
 pub use map::ByteMap;
-pub use requests::{plan, size, stat};
+pub use requests::{plan, plan_of_size, plan_of_stat};
 pub use walk::Walk;

@@ -150,7 +150,7 @@ fn count(map: &ByteMap, r: &Request) -> Plan
 }
 
 /// The plan of size, over the bytes of all keys and values.
-pub fn size(r: &Request, number: u64) -> Plan
+pub fn plan_of_size(r: &Request, number: u64) -> Plan
     requires { r.now ≡ request.Size }
     ensures { (c : Contents) (w : Walk) → size_of c.map ≡ number → IsPlan result c w (applied r.now c w) }
 {
@@ -164,11 +164,11 @@ fn whole_size(map: &ByteMap, r: &Request) -> Result<Plan, AllocError>
     let Some(number) = map.size() else {
         return Err(AllocError);
     };
-    Ok(size(r, number))
+    Ok(plan_of_size(r, number))
 }
 
 /// The plan of stat, over the number of keys and the bytes of all keys and values.
-pub fn stat(
+pub fn plan_of_stat(
     alloc: Global,
     kind: Kind,
     rnum: u64,
@@ -190,7 +190,7 @@ fn whole_stat(alloc: Global, kind: Kind, map: &ByteMap, r: &Request) -> Result<P
     let Some(number) = map.size() else {
         return Err(AllocError);
     };
-    let plan = stat(alloc, kind, rnum, number, r)?;
+    let plan = plan_of_stat(alloc, kind, rnum, number, r)?;
     Ok(plan)
 }
 

@@ -3,4 +3,4 @@ use Rattle.tc_model.specs.Maps.{Map, size_of}
 use Rattle.tc_model.proofs.requests.whole_size.Goals as goal
 
 pub returns : goal.returns
-returns c = λ c' w e. c.size-2.ensures c' w (ap (λ (m : Map). size_of m) e ∙ sym c.in-Some.ensures)
+returns c = λ c' w e. c.plan_of_size.ensures c' w (ap (λ (m : Map). size_of m) e ∙ sym c.in-Some.ensures)

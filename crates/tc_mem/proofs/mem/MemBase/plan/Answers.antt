@@ -5,7 +5,7 @@ use Rattle.tc_model.specs.Contents.{Contents}
 use Rattle.tc_mem.proofs.mem.MemBase.plan.Goals as goal
 
 pub returns-in-Size : goal.returns-in-Size
-returns-in-Size c = c.size.ensures c.args.self.now c.args.walk.now (ap (λ (x : Contents). size_of x.map) (sym c.self.view_is) ∙ c.self.invariant)
+returns-in-Size c = c.plan_of_size.ensures c.args.self.now c.args.walk.now (ap (λ (x : Contents). size_of x.map) (sym c.self.view_is) ∙ c.self.invariant)
 
 pub returns-in_ok-plan-in-Stat : goal.returns-in_ok-plan-in-Stat
 returns-in_ok-plan-in-Stat c =

@@ -1,0 +1,9 @@
+//! Requests on the abstract database, and on the map in memory beside it.
+#![tactic(auto)]
+
+#[cfg(test)]
+mod bodies;
+#[cfg(test)]
+mod compared;
+#[cfg(test)]
+mod rows;
