@@ -10,7 +10,7 @@ use Rattle.tc_io.specs.Lines.{without}
 use Rattle.tc_io.specs.declared.wire.Entry.{Entry}
 use Rattle.tc_io.specs.declared.wire.Entry.TheVariants.{Close}
 use Rattle.ty_world.specs.World as world
-use Rattle.ty_world.specs.World.{Client, World, happens, world_after, is_rested, AllAsked, AllBytes}
+use Rattle.ty_world.specs.World.{Client, World, happens, world_after, is_rested, AllAsked, AllCame}
 use Rattle.ty_rounds.specs.Peers.{numbers, is_over}
 use Rattle.ty_rounds.specs.Holding.{Holds, AllHold, AllFine, AreApart, Wired, Same}
 use Rattle.ty_rounds.specs.Sending.{NoneRestless}
@@ -182,7 +182,7 @@ none_closed a x ps = record {
     past = past;
     same = record { contents = refl; walk = refl; marks = refl; shut = refl; events = refl; opens = refl };
     asked = tt;
-    are_bytes = tt;
+    came = tt;
     rested = rested;
   };
 }
@@ -253,7 +253,7 @@ one_stays a b x y ps now i p lt e over f = record {
         past = c.past;
         same = c.same;
         asked = c.asked;
-        are_bytes = c.are_bytes;
+        came = c.came;
         rested = c.rested;
       };
 }
@@ -284,7 +284,7 @@ one_closes a b d x y z ps now now' i p lt e over apart less f told plays = recor
         past = subst (λ (r : List Client). AllFine (v.past ++ r)) (sym (ap (filter (λ (j : Client). nat_eq j.conn p.conn)) there ∙ g.gone)) (fine_more v.past (l.client ∷ []) c.past ((p.session.waiting, l.holds.owed), tt));
         same = record { contents = c.same.contents; walk = c.same.walk; marks = c.same.marks; shut = c.same.shut; events = c.same.events; opens = c.same.opens };
         asked = asked_more f.entries (Close p.conn ∷ []) w c.asked (ap (list_any (λ j. nat_eq j.conn p.conn && not (world.is_over j))) there ∙ g.asked, tt);
-        are_bytes = bytes_more f.entries (Close p.conn ∷ []) c.are_bytes (tt, tt);
+        came = bytes_more f.entries (Close p.conn ∷ []) c.came (tt, tt);
         rested = ap (list_any (λ k. not (is_rested k))) (ap (filter (other p.conn)) there ∙ g.there) ∙ any_drop (λ k. not (is_rested k)) c.stay l.behind l.client (ap (list_any (λ k. not (is_rested k))) (sym there) ∙ c.rested);
       });
 }
@@ -300,7 +300,7 @@ close_fails a b d x y z ps now now' i (Err e) failed f told = record {
     past = c.past;
     same = c.same;
     asked = c.asked;
-    are_bytes = c.are_bytes;
+    came = c.came;
     done = tt;
   };
 }
@@ -318,7 +318,7 @@ closed_end now i w v es c le = go c.back c.rest refl refl c.left
         past = c.past;
         same = c.same;
         asked = c.asked;
-        are_bytes = c.are_bytes;
+        came = c.came;
         done = (held, c.rested, ap (list_any world.is_over) clients ∙ c.none_over);
       }
   go [] (y ∷ ys) e f a = absurd a

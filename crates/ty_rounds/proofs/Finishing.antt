@@ -25,7 +25,7 @@ sends_only a b x y ps ps' r d = record {
     same = g.same;
     fine = (hold_fine ps' (world_after d.entries w).there g.each, subst AllFine (sym g.past) fine.1);
     asked = g.asked;
-    are_bytes = g.are_bytes;
+    came = g.came;
     done = tt;
   };
 }
@@ -47,7 +47,7 @@ joined a b d x y z ps mid ps' r ok f g plays tail = record {
         same = same_then w v (world_after g.entries v) s.same c.same;
         fine = (c.there, c.past);
         asked = asked_more f.entries g.entries w s.asked c.asked;
-        are_bytes = bytes_more f.entries g.entries s.are_bytes c.are_bytes;
+        came = bytes_more f.entries g.entries s.came c.came;
         done = tail (world_after g.entries v) c.done;
       });
 }

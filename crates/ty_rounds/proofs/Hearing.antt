@@ -82,15 +82,15 @@ take_bytes (suc n) (x ∷ xs) zero fits = fits 0
 take_bytes (suc n) (x ∷ xs) (suc i) fits = take_bytes n xs i (λ j. fits (suc j))
 
 pub asks : (a b : Told) (x y : MayPlay) (ps : List Peer) (ev : Ev) (paused : List ℕ) (busy : Bool) (buffer : List ℕ) → paused ≡ waiting_numbers ps → busy ≡ not (length paused == 0)
-    → Adds a b (Event paused busy ev (bytes_of ev buffer) ∷ []) → Plays x y (Event paused busy ev (bytes_of ev buffer) ∷ []) → IsBytes buffer → Asks a b x y ps ev
-asks a b x y ps ev paused busy buffer is_paused is_busy told plays fits = record {
+    → Adds a b (Event paused busy ev (bytes_of ev buffer) ∷ []) → Plays x y (Event paused busy ev (bytes_of ev buffer) ∷ []) → IsBytes buffer → (ev ≡ Shut → busy ≡ false) → Asks a b x y ps ev
+asks a b x y ps ev paused busy buffer is_paused is_busy told plays fits last = record {
   paused = paused;
   busy = busy;
   bytes = bytes_of ev buffer;
   told = told;
   plays = plays;
   asked = λ w held. (is_paused ∙ paused_is ps w.there held, is_busy ∙ ap (λ (l : List ℕ). not (length l == 0)) is_paused ∙ busy_is ps w.there held);
-  are_bytes = front_bytes ev;
+  came = record { are_bytes = front_bytes ev; last = last };
 }
   where
   front_bytes : (ev : Ev) → IsBytes (bytes_of ev buffer)
@@ -101,10 +101,17 @@ asks a b x y ps ev paused busy buffer is_paused is_busy told plays fits = record
   front_bytes Shut = λ i. omega arith
 
 pub hears : (a b : Told) (x y : MayPlay) (ps ps' : List Peer) (ev : Ev) (paused : List ℕ) (busy : Bool) (buffer : List ℕ) → paused ≡ waiting_numbers ps → busy ≡ not (length paused == 0)
-    → Adds a b (Event paused busy ev (bytes_of ev buffer) ∷ []) → Plays x y (Event paused busy ev (bytes_of ev buffer) ∷ []) → IsBytes buffer
+    → Adds a b (Event paused busy ev (bytes_of ev buffer) ∷ []) → Plays x y (Event paused busy ev (bytes_of ev buffer) ∷ []) → IsBytes buffer → (ev ≡ Shut → busy ≡ false)
     → ((ks : List Client) → AllHold ps ks → AllHold ps' (heard (map unstopped ks) ev (bytes_of ev buffer))) → Hears a b x y ps ps' ev
 unfolding asks
-hears a b x y ps ps' ev paused busy buffer is_paused is_busy told plays fits holds = record { asks = asks a b x y ps ev paused busy buffer is_paused is_busy told plays fits; holds = holds }
+hears a b x y ps ps' ev paused busy buffer is_paused is_busy told plays fits last holds = record { asks = asks a b x y ps ev paused busy buffer is_paused is_busy told plays fits last; holds = holds }
+
+pub shut_last : (conns ended : List ℕ) (given : ℕ) (paused : List ℕ) (busy : Bool) (ev : Ev) → MayCome conns ended given paused busy ev → ev ≡ Shut → busy ≡ false
+shut_last conns ended given paused busy (Opened c) may is = absurd cc
+shut_last conns ended given paused busy (Read c n) may is = absurd cc
+shut_last conns ended given paused busy (Ended c) may is = absurd cc
+shut_last conns ended given paused busy Quiet may is = absurd cc
+shut_last conns ended given paused busy Shut may is = may
 
 pub wired_after : (conns conns' : List ℕ) (ended : List ℕ) (given : ℕ) (paused : List ℕ) (busy : Bool) (ps ps' : List Peer) (ev : Ev) → MayCome conns ended given paused busy ev → conns' ≡ open_after conns ev → numbers ps' ≡ open_after (numbers ps) ev → Wired conns ps → Wired conns' ps'
 wired_after conns conns' ended given paused busy ps ps' ev may is named w = record {

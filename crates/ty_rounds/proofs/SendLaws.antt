@@ -11,7 +11,7 @@ use Rattle.tc_io.specs.declared.wire.Sent.TheVariants.{Took, NotYet, Gone}
 use Rattle.tc_io.specs.declared.wire.Entry.{Entry}
 use Rattle.tc_io.specs.declared.wire.Entry.TheVariants.{Open, Dial, Event, Send, Close}
 use Rattle.ty_core.specs.Queues.{Queue, queue}
-use Rattle.ty_world.specs.World.{Client, World, sent, at_conn, all_sent, is_rested, happens, world_after, AllAsked, AllBytes}
+use Rattle.ty_world.specs.World.{Client, World, sent, at_conn, all_sent, is_rested, happens, world_after, AllAsked, AllCame}
 use Rattle.ty_rounds.specs.Peers.{numbers, all_taken}
 use Rattle.ty_rounds.specs.Holding.{Holds, AllHold, AreApart, Same}
 use Rattle.ty_rounds.specs.Turns.{Told, MayPlay}
@@ -162,14 +162,14 @@ sends_asked : (c : ℕ) (es : List Entry) (w : World) → AllSendTo c es → All
 sends_asked c [] w s = tt
 sends_asked c (e ∷ es) w s = one_asked c e es w s.0 (sends_asked c es (happens w e) s.1)
 
-one_bytes : (c : ℕ) (e : Entry) (es : List Entry) → SendTo c e → AllBytes es → AllBytes (e ∷ es)
+one_bytes : (c : ℕ) (e : Entry) (es : List Entry) → SendTo c e → AllCame es → AllCame (e ∷ es)
 one_bytes c (Open at) es s a = absurd s
 one_bytes c (Dial host port answer) es s a = absurd s
 one_bytes c (Event paused busy ev bytes) es s a = absurd s
 one_bytes c (Send d bytes answer) es s a = (tt, a)
 one_bytes c (Close d) es s a = absurd s
 
-sends_bytes : (c : ℕ) (es : List Entry) → AllSendTo c es → AllBytes es
+sends_bytes : (c : ℕ) (es : List Entry) → AllSendTo c es → AllCame es
 sends_bytes c [] s = tt
 sends_bytes c (e ∷ es) s = one_bytes c e es s.0 (sends_bytes c es s.1)
 
@@ -183,7 +183,7 @@ pub asked_more : (xs ys : List Entry) (w : World) → AllAsked w xs → AllAsked
 asked_more [] ys w a b = b
 asked_more (x ∷ xs) ys w a b = (a.0, asked_more xs ys (happens w x) a.1 b)
 
-pub bytes_more : (xs ys : List Entry) → AllBytes xs → AllBytes ys → AllBytes (xs ++ ys)
+pub bytes_more : (xs ys : List Entry) → AllCame xs → AllCame ys → AllCame (xs ++ ys)
 bytes_more [] ys a b = b
 bytes_more (x ∷ xs) ys a b = (a.0, bytes_more xs ys a.1 b)
 
@@ -215,7 +215,7 @@ none_sent a x ps = record {
   entries = [];
   told = Adds-none a;
   plays = Plays-none x;
-  ends = λ w held. record { each = held; past = refl; same = record { contents = refl; walk = refl; marks = refl; shut = refl; events = refl; opens = refl }; asked = tt; are_bytes = tt; rested = refl };
+  ends = λ w held. record { each = held; past = refl; same = record { contents = refl; walk = refl; marks = refl; shut = refl; events = refl; opens = refl }; asked = tt; came = tt; rested = refl };
 }
 
 -- one connection further, whatever became of it
@@ -224,7 +224,7 @@ record Further (ps now : List Peer) (i : ℕ) (q : Peer) (w v : World) (es : Lis
   past : v.past ≡ w.past
   same : Same w v
   asked : AllAsked w es
-  are_bytes : AllBytes es
+  came : AllCame es
 
 further : (ps now : List Peer) (i : ℕ) (p q : Peer) (xs ys : List Entry) (w : World) → AreApart (numbers now) → i < length now → p ≡ get_or now i p → SentFront now i w (world_after xs w) xs → Delivers p q ys → Further ps now i q w (world_after (xs ++ ys) w) (xs ++ ys)
 further ps now i p q xs ys w apart lt is f d =
@@ -235,7 +235,7 @@ further ps now i p q xs ys w apart lt is f d =
       past = f.past;
       same = record { contents = f.same.contents; walk = f.same.walk; marks = f.same.marks; shut = f.same.shut; events = f.same.events; opens = f.same.opens };
       asked = asked_more xs ys w f.asked (sends_asked p.conn ys v d.sends);
-      are_bytes = bytes_more xs ys f.are_bytes (sends_bytes p.conn ys d.sends);
+      came = bytes_more xs ys f.came (sends_bytes p.conn ys d.sends);
     })
 
 pub more_sent : (a b d : Told) (x y z : MayPlay) (ps now : List Peer) (i : ℕ) (p q : Peer) → AreApart (numbers now) → i < length now → p ≡ get_or now i p → DeliversFront a b x y ps now i → DeliversOne b d y z p q (Ok tt) → DeliversFront a d x z ps (set now i q) (i + 1)
@@ -254,7 +254,7 @@ more_sent a b d x y z ps now i p q apart lt is f one = record {
         past = g.past;
         same = g.same;
         asked = g.asked;
-        are_bytes = g.are_bytes;
+        came = g.came;
         rested = subst (λ (u : World). NoneRestless (take (i + 1) u.there)) (sym there) (subst (λ (n : ℕ). NoneRestless (take n (map (at_conn p.conn (sent_all one.entries)) v.there))) next (rest_more p.conn (sent_all one.entries) now v.there i p apart lt is refl one.rests.rested before.each before.rested));
       };
 }
@@ -265,7 +265,7 @@ sends_fail a b d x y z ps now i p q r (Err e) failed apart lt is f one = record 
   entries = f.entries ++ one.entries;
   told = Adds-then a b d f.entries one.entries f.told one.told;
   plays = tt;
-  ends = λ w held. let g = further ps now i p q f.entries one.entries w apart lt is (f.ends w held) one.delivers in record { each = g.each; past = g.past; same = g.same; asked = g.asked; are_bytes = g.are_bytes; rested = tt };
+  ends = λ w held. let g = further ps now i p q f.entries one.entries w apart lt is (f.ends w held) one.delivers in record { each = g.each; past = g.past; same = g.same; asked = g.asked; came = g.came; rested = tt };
 }
 
 pub all_delivered : (a b : Told) (x y : MayPlay) (ps now : List Peer) (i : ℕ) → DeliversFront a b x y ps now i → length now ≤ i → DeliversAll a b x y ps now (Ok tt)
@@ -278,7 +278,7 @@ all_delivered a b x y ps now i f le = record {
     past = g.past;
     same = g.same;
     asked = g.asked;
-    are_bytes = g.are_bytes;
+    came = g.came;
     rested = subst NoneRestless (take_all i (world_after f.entries w).there (let e = same_long now (world_after f.entries w).there g.each in omega (arith, e, le))) g.rested;
   };
 }

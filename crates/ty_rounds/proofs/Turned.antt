@@ -10,7 +10,7 @@ use Rattle.tc_io.specs.declared.wire.Ev.TheVariants as event
 use Rattle.tc_io.specs.declared.wire.Entry.{Entry}
 use Rattle.tc_io.specs.declared.wire.Entry.TheVariants.{Event}
 use Rattle.tc_model.specs.Contents.{Contents, Walk}
-use Rattle.ty_world.specs.World.{Client, World, Round, heard, unstopped, happens, world_after, round_all, shut_after, AllAsked, AllBytes, marked}
+use Rattle.ty_world.specs.World.{Client, World, Round, heard, unstopped, happens, world_after, round_all, shut_after, AllAsked, AllCame, marked}
 use Rattle.ty_world.proofs.RoundLaws.{round_idle, round_quiet}
 use Rattle.ty_core.specs.Queues.{Queue}
 use Rattle.ty_rounds.specs.Kept.{Reopens, MovesTo, LeavesTwo}
@@ -59,8 +59,8 @@ module _ (a b : Told) (p q : MayPlay) (c : Contents) (k : Walk) (ps : List Peer)
   pub mid_asked : w.shut ≡ false → AllAsked w (Event asks.paused asks.busy ev asks.bytes ∷ [])
   mid_asked on = let x = asks.asked w st.each in ((st.rested, x.0, x.1, on), tt)
 
-  pub mid_bytes : AllBytes (Event asks.paused asks.busy ev asks.bytes ∷ [])
-  mid_bytes = (asks.are_bytes, tt)
+  pub mid_bytes : AllCame (Event asks.paused asks.busy ev asks.bytes ∷ [])
+  mid_bytes = (asks.came, tt)
 
   pub mid_fine : IsFine mid
   mid_fine = (round_fine w.contents w.walk ks (heard_fine (map unstopped w.there) ev asks.bytes (unstopped_fine w.there (hold_fine ps w.there st.each))), st.past)
@@ -105,7 +105,7 @@ module _ {S : Type 0} (tells : Type 0) (moment : S → ℕ) (left : S → ℕ �
     plays = tt;
     ends = λ t w st on. record {
       asked = tt;
-      are_bytes = tt;
+      came = tt;
       fine = (hold_fine ps w.there st.each, st.past);
       marks = record { more = inl (refl, refl) };
       opens = refl;
@@ -132,7 +132,7 @@ module _ {S : Type 0} (tells : Type 0) (moment : S → ℕ) (left : S → ℕ �
     plays = tt;
     ends = λ t w st on. record {
       asked = mid_asked a b p q c k ps h.0 h.1 w st on;
-      are_bytes = mid_bytes a b p q c k ps h.0 h.1 w st;
+      came = mid_bytes a b p q c k ps h.0 h.1 w st;
       fine = mid_fine a b p q c k ps h.0 h.1 w st;
       marks = mid_marks a b p q c k ps h.0 h.1 w st;
       opens = refl;
@@ -149,7 +149,7 @@ module _ {S : Type 0} (tells : Type 0) (moment : S → ℕ) (left : S → ℕ �
     plays = tt;
     ends = λ t w st on. let kw = at_world s c k ps w st (r t) in record {
       asked = mid_asked a b p q c k ps ev h.asks w st on;
-      are_bytes = mid_bytes a b p q c k ps ev h.asks w st;
+      came = mid_bytes a b p q c k ps ev h.asks w st;
       fine = mid_fine a b p q c k ps ev h.asks w st;
       marks = mid_marks a b p q c k ps ev h.asks w st;
       opens = refl;
@@ -184,7 +184,7 @@ module _ {S : Type 0} (tells : Type 0) (moment : S → ℕ) (left : S → ℕ �
         let two = moved_two moment left kept reopens s s1 s2 w.contents (mid a b p q c k ps ev h.asks w st).contents kw (steady t) (subst (λ (x : Contents). MovesTo moment left kept reopens s1 s2 x) m.contents (moves t)) in
         record {
           asked = mid_asked a b p q c k ps ev h.asks w st on;
-          are_bytes = mid_bytes a b p q c k ps ev h.asks w st;
+          came = mid_bytes a b p q c k ps ev h.asks w st;
           fine = mid_fine a b p q c k ps ev h.asks w st;
           marks = mid_marks a b p q c k ps ev h.asks w st;
           opens = refl;
@@ -213,7 +213,7 @@ module _ {S : Type 0} (tells : Type 0) (moment : S → ℕ) (left : S → ℕ �
   -- at the world behind all entries
   record Final (ok : Result (Unit {0}) TurnErr) (ps3 : List Peer) (d' : Contents) (l : Walk) (s s2 : S) (w v : World) (ev : Ev) (es : List Entry) : Type 0 where
     asked : AllAsked w es
-    are_bytes : AllBytes es
+    came : AllCame es
     fine : IsFine v
     marks : MarksMore w v
     opens : v.opens ≡ w.opens
@@ -240,7 +240,7 @@ module _ {S : Type 0} (tells : Type 0) (moment : S → ℕ) (left : S → ℕ �
       let is : v.contents ≡ d' = fin.same.contents ∙ sym rd.contents in
       record {
         asked = ((mid_asked a b p q c k ps ev h.asks w st on).0, fin.asked);
-        are_bytes = (h.asks.are_bytes, fin.are_bytes);
+        came = (h.asks.came, fin.came);
         fine = fin.fine;
         marks = mm;
         opens = fin.same.opens;
@@ -259,7 +259,7 @@ module _ {S : Type 0} (tells : Type 0) (moment : S → ℕ) (left : S → ℕ �
     plays = tt;
     ends = λ t w st on. let z = final a b d p q r c d' k l ps ps1 ps2 ps3 ev u ok s s1 s2 f t w st on in record {
       asked = z.asked;
-      are_bytes = z.are_bytes;
+      came = z.came;
       fine = z.fine;
       marks = z.marks;
       opens = z.opens;
@@ -276,7 +276,7 @@ module _ {S : Type 0} (tells : Type 0) (moment : S → ℕ) (left : S → ℕ �
     plays = Plays-then p q r (Event f.0.asks.paused f.0.asks.busy ev f.0.asks.bytes ∷ []) f.4.entries f.0.asks.plays f.4.plays;
     ends = λ t w st on. let z = final a b d p q r c d' k l ps ps1 ps2 ps3 ev u (Ok tt) s s1 s2 f t w st on in record {
       asked = z.asked;
-      are_bytes = z.are_bytes;
+      came = z.came;
       fine = z.fine;
       marks = z.marks;
       opens = z.opens;
@@ -293,7 +293,7 @@ module _ {S : Type 0} (tells : Type 0) (moment : S → ℕ) (left : S → ℕ �
     plays = Plays-then p q r (Event f.0.asks.paused f.0.asks.busy ev f.0.asks.bytes ∷ []) f.4.entries f.0.asks.plays f.4.plays;
     ends = λ t w st on. let z = final a b d p q r c d' k l ps ps1 ps2 ps3 ev u (Ok tt) s s1 s2 f t w st on in record {
       asked = z.asked;
-      are_bytes = z.are_bytes;
+      came = z.came;
       fine = z.fine;
       marks = z.marks;
       opens = z.opens;

@@ -5,7 +5,7 @@ use Rattle.tc_base.specs.declared.fault.Fault.{Fault}
 use Rattle.tc_io.specs.Told.{Adds}
 use Rattle.tc_io.specs.Script.{Plays}
 use Rattle.tc_io.specs.declared.wire.Entry.{Entry}
-use Rattle.ty_world.specs.World.{Client, World, is_over, is_rested, world_after, AllAsked, AllBytes}
+use Rattle.ty_world.specs.World.{Client, World, is_over, is_rested, world_after, AllAsked, AllCame}
 use Rattle.ty_rounds.specs.Holding.{AllHold, AllFine, Same}
 use Rattle.ty_rounds.specs.Sending.{NoneRestless}
 use Rattle.ty_rounds.specs.Turns.{Told, MayPlay}
@@ -29,7 +29,7 @@ pub record ClosedFront (ps' : List Peer) (count : ℕ) (w v : World) (es : List 
   pub past : AllFine v.past
   pub same : Same w v
   pub asked : AllAsked w es
-  pub are_bytes : AllBytes es
+  pub came : AllCame es
   pub rested : NoneRestless v.there
 
 pub record ClosesFront (a b : Told) (x y : MayPlay) (ps ps' : List Peer) (count : ℕ) : Type 0 where
@@ -44,7 +44,7 @@ pub record ClosedAll (ok : Result (Unit {0}) Fault) (ps' : List Peer) (w v : Wor
   pub past : AllFine v.past
   pub same : Same w v
   pub asked : AllAsked w es
-  pub are_bytes : AllBytes es
+  pub came : AllCame es
   pub done : OnOk ok (AllHold ps' v.there × NoneRestless v.there × NoneOver v.there)
 
 pub record ClosesAll (a b : Told) (x y : MayPlay) (ps ps' : List Peer) (ok : Result (Unit {0}) Fault) : Type 0 where

@@ -6,7 +6,7 @@ use Rattle.tc_io.specs.Told.{Adds}
 use Rattle.tc_io.specs.Script.{Plays}
 use Rattle.tc_io.specs.declared.wire.Entry.{Entry}
 use Rattle.tc_io.specs.declared.wire.Entry.TheVariants.{Open, Dial, Event, Send, Close}
-use Rattle.ty_world.specs.World.{Client, World, sent, is_rested, world_after, AllAsked, AllBytes}
+use Rattle.ty_world.specs.World.{Client, World, sent, is_rested, world_after, AllAsked, AllCame}
 use Rattle.ty_rounds.specs.Holding.{Holds, AllHold, Same}
 use Rattle.ty_rounds.specs.Turns.{Told, MayPlay}
 use Rattle.ty_rounds.specs.declared.peer.Peer.{Peer}
@@ -61,7 +61,7 @@ pub record SentFront (ps' : List Peer) (count : ℕ) (w v : World) (es : List En
   pub past : v.past ≡ w.past
   pub same : Same w v
   pub asked : AllAsked w es
-  pub are_bytes : AllBytes es
+  pub came : AllCame es
   pub rested : NoneRestless (take count v.there)
 
 pub record DeliversFront (a b : Told) (x y : MayPlay) (ps ps' : List Peer) (count : ℕ) : Type 0 where
@@ -76,7 +76,7 @@ pub record SentAll (ok : Result (Unit {0}) Fault) (ps' : List Peer) (w v : World
   pub past : v.past ≡ w.past
   pub same : Same w v
   pub asked : AllAsked w es
-  pub are_bytes : AllBytes es
+  pub came : AllCame es
   pub rested : OnOk ok (NoneRestless v.there)
 
 pub record DeliversAll (a b : Told) (x y : MayPlay) (ps ps' : List Peer) (ok : Result (Unit {0}) Fault) : Type 0 where

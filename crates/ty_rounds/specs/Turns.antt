@@ -7,7 +7,7 @@ use Rattle.tc_io.specs.declared.wire.Ev.{Ev}
 use Rattle.tc_io.specs.declared.wire.Entry.{Entry}
 use Rattle.tc_io.specs.declared.wire.Entry.TheVariants.{Event}
 use Rattle.tc_model.specs.Contents.{Contents, Walk}
-use Rattle.ty_world.specs.World.{Client, World, heard, unstopped, world_after, should_pause, is_some_waiting, IsRested, AllAsked, IsBytes, AllBytes}
+use Rattle.ty_world.specs.World.{Client, World, heard, unstopped, world_after, should_pause, is_some_waiting, IsRested, AllAsked, Comes, AllCame}
 use Rattle.ty_rounds.specs.Kept.{Reopens, LeavesTwo}
 use Rattle.ty_rounds.specs.Holding.{AllHold, IsFine, Stands, Same, NoSend}
 use Rattle.ty_rounds.specs.declared.peer.Peer.{Peer}
@@ -31,7 +31,7 @@ pub record Asks (a b : Told) (p q : MayPlay) (ps : List Peer) (ev : Ev) : Type 0
   pub told : Adds a b (Event paused busy ev bytes ∷ [])
   pub plays : Plays p q (Event paused busy ev bytes ∷ [])
   pub asked : (w : World) → AllHold ps w.there → (paused ≡ should_pause w) × (busy ≡ is_some_waiting w)
-  pub are_bytes : IsBytes bytes
+  pub came : Comes busy ev bytes
 
 -- and the server took the event in
 pub record Hears (a b : Told) (p q : MayPlay) (ps ps' : List Peer) (ev : Ev) : Type 0 where
@@ -50,7 +50,7 @@ pub record Finished (ok : Result (Unit {0}) TurnErr) (ps' : List Peer) (w v : Wo
   pub same : Same w v
   pub fine : IsFine v
   pub asked : AllAsked w es
-  pub are_bytes : AllBytes es
+  pub came : AllCame es
   pub done : OnOk ok (AllHold ps' v.there × IsRested v)
 
 pub record Finishes (a b : Told) (p q : MayPlay) (ok : Result (Unit {0}) TurnErr) (ps ps' : List Peer) : Type 0 where
@@ -80,7 +80,7 @@ TurnEnds reopens left (Err Memory) c k ps w v es = (o : Option Files) → left o
 pub record Turned {S : Type 0} (moment : S → ℕ) (left : S → ℕ → Option Files → Type 0) (reopens : Files → Contents → Type 0) (result : Result Outcome TurnErr) (old new : S) (c : Contents) (k : Walk) (ps : List Peer) (w v : World) (es : List Entry) : Type 0 where
   -- the wire was asked as the world says
   pub asked : AllAsked w es
-  pub are_bytes : AllBytes es
+  pub came : AllCame es
   -- each connection was sent a front of what it is owed
   pub fine : IsFine v
   pub marks : MarksMore w v

@@ -50,6 +50,10 @@ pub record World : Type 0 where
 abbrev pub start : Contents → World
 start c = record { contents = c; walk = None; marks = c ∷ []; there = []; past = []; shut = false; events = 0; opens = [] }
 
+-- and these were opened
+abbrev pub started : List At → Contents → World
+started opens c = record { contents = c; walk = None; marks = c ∷ []; there = []; past = []; shut = false; events = 0; opens = opens }
+
 -- ---- one connection
 
 abbrev pub all_sent : Client → Bool
@@ -199,18 +203,23 @@ abbrev pub AllAsked : World → List Entry → Type 0
 AllAsked w [] = Unit {0}
 AllAsked w (e ∷ es) = AsksRight w e × AllAsked (happens w e) es
 
--- ---- what came is bytes
+-- ---- what a wire may give
 
 abbrev pub IsBytes : List ℕ → Type 0
 IsBytes bytes = (i : ℕ) → slice_index bytes i < 256
 
-abbrev pub HasBytes : Entry → Type 0
-HasBytes (Open at) = Unit {0}
-HasBytes (Dial host port answer) = Unit {0}
-HasBytes (Event paused busy ev bytes) = IsBytes bytes
-HasBytes (Send c bytes answer) = Unit {0}
-HasBytes (Close c) = Unit {0}
+-- what came is bytes, and no more events are to come only where nothing waits
+pub record Comes (busy : Bool) (ev : Ev) (bytes : List ℕ) : Type 0 where
+  pub are_bytes : IsBytes bytes
+  pub last : ev ≡ Shut → busy ≡ false
 
-abbrev pub AllBytes : List Entry → Type 0
-AllBytes [] = Unit {0}
-AllBytes (e ∷ es) = HasBytes e × AllBytes es
+abbrev pub Came : Entry → Type 0
+Came (Open at) = Unit {0}
+Came (Dial host port answer) = Unit {0}
+Came (Event paused busy ev bytes) = Comes busy ev bytes
+Came (Send c bytes answer) = Unit {0}
+Came (Close c) = Unit {0}
+
+abbrev pub AllCame : List Entry → Type 0
+AllCame [] = Unit {0}
+AllCame (e ∷ es) = Came e × AllCame es
