@@ -1,6 +1,6 @@
 -- A round that updates nothing leaves the contents.
-use Rattle.std.proofs.Common.{◌≡◌, ℕ, Bool, true, false, cond, List, [], ◌∷◌, refl, sym, ap, ◌∙◌}
-use Rattle.std.specs.Prelude.{◌||◌, ◌&&◌, Ok, Err, Option, Some, None}
+use Rattle.std.proofs.Common.{◌≡◌, Bool, true, false, List, [], ◌∷◌, refl, ◌∙◌}
+use Rattle.std.specs.Prelude.{◌||◌, Ok, Err}
 use Rattle.tc_base.specs.declared.request.Request.{Request}
 use Rattle.tc_base.specs.Reading.{Front}
 use Rattle.tc_model.specs.Contents.{Contents, Walk}
@@ -13,9 +13,9 @@ one_idle : (c : Contents) (w : Walk) (k : Client) → (round_one c w k).updated 
 unfolding round_one
 one_idle c w k = go (front_of k)
   where
-  go : (f : Front Request) → (served c w k f).updated ≡ false → (served c w k f).contents ≡ c
-  go (Ok x) e = apply_idle false x.0 c w e
-  go (Err d) e = refl
+    go : (f : Front Request) → (served c w k f).updated ≡ false → (served c w k f).contents ≡ c
+    go (Ok x) e = apply_idle false x.0 c w e
+    go (Err d) e = refl
 
 none_split : (a b : Bool) → (a || b) ≡ false → (a ≡ false) × (b ≡ false)
 none_split false b e = (refl, e)
@@ -31,9 +31,9 @@ pub one_quiet : (c : Contents) (w : Walk) (k : Client) → (round_one c w k).com
 unfolding round_one
 one_quiet c w k = go (front_of k)
   where
-  go : (f : Front Request) → (served c w k f).commits ≡ false → (served c w k f).updated ≡ false
-  go (Ok x) e = (none_split (is_updated x.0 (apply false x.0 c w)) (is_optimize x.0) e).0
-  go (Err d) e = refl
+    go : (f : Front Request) → (served c w k f).commits ≡ false → (served c w k f).updated ≡ false
+    go (Ok x) e = (none_split (is_updated x.0 (apply false x.0 c w)) (is_optimize x.0) e).0
+    go (Err d) e = refl
 
 none_both : (a b : Bool) → a ≡ false → b ≡ false → (a || b) ≡ false
 none_both false b e f = f

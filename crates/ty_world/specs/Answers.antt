@@ -1,5 +1,5 @@
 -- What is true of every connection of a run.
-use Rattle.std.specs.Prelude.{◌≡◌, ◌≤◌, ℕ, Bool, true, false, List, [], ◌∷◌, ◌++◌, length, All}
+use Rattle.std.specs.Prelude.{◌≡◌, false, List, [], ◌∷◌, ◌++◌, All}
 use Rattle.std.specs.List.{flat_map}
 use Rattle.ty_wire.specs.Spelling.{spelling, Fits}
 use Rattle.ty_wire.specs.Frames.{HasNone}
