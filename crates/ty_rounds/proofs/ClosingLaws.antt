@@ -20,7 +20,7 @@ use Rattle.ty_rounds.specs.declared.peer.Peer.{Peer}
 use Rattle.ty_rounds.proofs.Places.{if_true, if_false, none_split, none_both, eq_swap}
 use Rattle.ty_rounds.proofs.Hearing.{more_hold}
 use Rattle.ty_rounds.proofs.Waiting.{over_is}
-use Rattle.ty_rounds.proofs.SendLaws.{after_more, asked_more, bytes_more, same_then}
+use Rattle.ty_rounds.proofs.SendLaws.{after_more, asked_more, came_more, same_then}
 use Rattle.ty_rounds.proofs.Telling.{Adds-then, Plays-then, Adds-none, Plays-none}
 
 abbrev other : ℕ → Client → Bool
@@ -284,7 +284,7 @@ one_closes a b d x y z ps now now' i p lt e over apart less f told plays = recor
         past = subst (λ (r : List Client). AllFine (v.past ++ r)) (sym (ap (filter (λ (j : Client). nat_eq j.conn p.conn)) there ∙ g.gone)) (fine_more v.past (l.client ∷ []) c.past ((p.session.waiting, l.holds.owed), tt));
         same = record { contents = c.same.contents; walk = c.same.walk; marks = c.same.marks; shut = c.same.shut; events = c.same.events; opens = c.same.opens };
         asked = asked_more f.entries (Close p.conn ∷ []) w c.asked (ap (list_any (λ j. nat_eq j.conn p.conn && not (world.is_over j))) there ∙ g.asked, tt);
-        came = bytes_more f.entries (Close p.conn ∷ []) c.came (tt, tt);
+        came = came_more f.entries (Close p.conn ∷ []) c.came (tt, tt);
         rested = ap (list_any (λ k. not (is_rested k))) (ap (filter (other p.conn)) there ∙ g.there) ∙ any_drop (λ k. not (is_rested k)) c.stay l.behind l.client (ap (list_any (λ k. not (is_rested k))) (sym there) ∙ c.rested);
       });
 }

@@ -12,7 +12,7 @@ use Rattle.ty_rounds.specs.Turns.{Told, MayPlay, Finished, Finishes}
 use Rattle.ty_rounds.specs.declared.peer.Peer.{Peer}
 use Rattle.ty_rounds.specs.declared.outcome.TurnErr.{TurnErr}
 use Rattle.ty_rounds.specs.declared.outcome.TurnErr.TheVariants.{Wire}
-use Rattle.ty_rounds.proofs.SendLaws.{after_more, asked_more, bytes_more, same_then}
+use Rattle.ty_rounds.proofs.SendLaws.{after_more, asked_more, came_more, same_then}
 use Rattle.ty_rounds.proofs.Telling.{Adds-then, Plays-then}
 use Rattle.ty_rounds.proofs.Fine.{hold_fine}
 
@@ -47,7 +47,7 @@ joined a b d x y z ps mid ps' r ok f g plays tail = record {
         same = same_then w v (world_after g.entries v) s.same c.same;
         fine = (c.there, c.past);
         asked = asked_more f.entries g.entries w s.asked c.asked;
-        came = bytes_more f.entries g.entries s.came c.came;
+        came = came_more f.entries g.entries s.came c.came;
         done = tail (world_after g.entries v) c.done;
       });
 }

@@ -183,9 +183,9 @@ pub asked_more : (xs ys : List Entry) (w : World) → AllAsked w xs → AllAsked
 asked_more [] ys w a b = b
 asked_more (x ∷ xs) ys w a b = (a.0, asked_more xs ys (happens w x) a.1 b)
 
-pub bytes_more : (xs ys : List Entry) → AllCame xs → AllCame ys → AllCame (xs ++ ys)
-bytes_more [] ys a b = b
-bytes_more (x ∷ xs) ys a b = (a.0, bytes_more xs ys a.1 b)
+pub came_more : (xs ys : List Entry) → AllCame xs → AllCame ys → AllCame (xs ++ ys)
+came_more [] ys a b = b
+came_more (x ∷ xs) ys a b = (a.0, came_more xs ys a.1 b)
 
 pub same_then : (w v u : World) → Same w v → Same v u → Same w u
 same_then w v u a b = record { contents = b.contents ∙ a.contents; walk = b.walk ∙ a.walk; marks = b.marks ∙ a.marks; shut = b.shut ∙ a.shut; events = b.events ∙ a.events; opens = b.opens ∙ a.opens }
@@ -235,7 +235,7 @@ further ps now i p q xs ys w apart lt is f d =
       past = f.past;
       same = record { contents = f.same.contents; walk = f.same.walk; marks = f.same.marks; shut = f.same.shut; events = f.same.events; opens = f.same.opens };
       asked = asked_more xs ys w f.asked (sends_asked p.conn ys v d.sends);
-      came = bytes_more xs ys f.came (sends_bytes p.conn ys d.sends);
+      came = came_more xs ys f.came (sends_bytes p.conn ys d.sends);
     })
 
 pub more_sent : (a b d : Told) (x y z : MayPlay) (ps now : List Peer) (i : ℕ) (p q : Peer) → AreApart (numbers now) → i < length now → p ≡ get_or now i p → DeliversFront a b x y ps now i → DeliversOne b d y z p q (Ok tt) → DeliversFront a d x z ps (set now i q) (i + 1)
