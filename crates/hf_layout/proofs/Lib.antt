@@ -4,3 +4,4 @@ pub mod Shares
 pub mod Gathers
 pub mod Listed
 pub mod Records
+pub mod Standing

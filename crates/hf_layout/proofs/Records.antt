@@ -77,7 +77,7 @@ put_row unit first end place size ps more xs ys p frees lent lent' bytes bytes' 
     past q row ne = sw.within q row.0 row.1 ∙ later place (held r) more q ne
 
 -- where a block stands in the bytes
-record Stands (unit first end : ℕ) (ps : List Piece) (bytes : List ℕ) (place size : ℕ) : Type 0 where
+record Found (unit first end : ℕ) (ps : List Piece) (bytes : List ℕ) (place size : ℕ) : Type 0 where
   pub piece : Piece
   pub xs : List Piece
   pub ys : List Piece
@@ -88,7 +88,7 @@ record Stands (unit first end : ℕ) (ps : List Piece) (bytes : List ℕ) (place
   pub last : place + size ≤ end
   pub filled : IsFilled unit (between first end bytes) (xs ++ ((piece ∷ []) ++ ys))
 
-stands : (unit first end place size : ℕ) (ps : List Piece) (frees lent : Frees) (bytes : List ℕ) → LaidOut unit first end ps frees lent bytes → HasBlock first ps place size → Stands unit first end ps bytes place size
+stands : (unit first end place size : ℕ) (ps : List Piece) (frees lent : Frees) (bytes : List ℕ) → LaidOut unit first end ps frees lent bytes → HasBlock first ps place size → Found unit first end ps bytes place size
 stands unit first end place size ps frees lent bytes h block =
     let s = parted_at first ps place block.0 block.1 in
     record {
@@ -132,7 +132,7 @@ fills_front unit first end place size ps frees lent bytes r h whole block unpool
     ])
     (λ q. elim (cases_eq q (place + n)) [ inl e ↦ ap record_of (here (place + n) (free rest (drop 5 mid)) [] q e) | inr ne ↦ ap record_of (later (place + n) (free rest (drop 5 mid)) [] q ne) ])
   where
-    s : Stands unit first end ps bytes place size
+    s : Found unit first end ps bytes place size
     s = stands unit first end place size ps frees lent bytes h block
 
     n : ℕ

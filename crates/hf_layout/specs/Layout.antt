@@ -1,8 +1,8 @@
 -- The blocks of a file, and which of them a pool has as free.
 use Rattle.std.specs.Prelude.{◌≡◌, ℕ, ◌+◌, ◌≤◌, ◌==◌, ◌⊎◌, List, [], ◌∷◌, length, Option, Some, None, if◌then◌else◌}
-use Rattle.hf_block.specs.Pieces.{Record, Piece, held, free, size_of, IsFilled}
+use Rattle.hf_block.specs.Pieces.{Record, Piece, held, free, size_of, IsSize, IsFilled}
 use Rattle.hf_block.specs.Walks.{between}
-use Rattle.hf_layout.specs.Frees.{Frees, without}
+use Rattle.hf_layout.specs.Frees.{Frees, MeetsNone, without}
 
 -- the block that begins at a place, where the first begins at this one
 abbrev pub piece_at : ℕ → List Piece → ℕ → Option Piece
@@ -64,3 +64,10 @@ pub record Writes (unit first end : ℕ) (old : List Piece) (frees lent : Frees)
   pub pieces : List Piece
   pub is : LaidOut unit first end pieces frees lent bytes
   pub records : (q : ℕ) → record_at first pieces q ≡ (if q == place then Some r else record_at first old q)
+
+-- a whole block stands there, inside the blocks; where it isn't the pool's it meets no free block of the pool
+pub record Stands (unit first end place size : ℕ) (frees : Frees) : Type 0 where
+  pub sized : IsSize unit size
+  pub low : first ≤ place
+  pub high : place + size ≤ end
+  pub apart : frees place ≡ None → MeetsNone frees place size

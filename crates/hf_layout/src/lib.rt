@@ -5,4 +5,7 @@
 
 mod laws;
 
-pub use laws::{lent_is_a_block, record_fills_a_block, record_fills_a_front, record_stands_behind};
+pub use laws::{
+    block_stands, lent_is_a_block, pool_lies_inside, record_fills_a_block, record_fills_a_front,
+    record_is_a_block, record_stands_behind,
+};

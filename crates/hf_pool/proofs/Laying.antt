@@ -15,6 +15,9 @@ use Rattle.hf_pool.specs.Marks.{marked, parted}
 use Rattle.hf_pool.specs.Trims.{Row, row_end, row_block}
 use Rattle.hf_pool.specs.Joins.{FrontJoined, BackJoined, GivesBack}
 
+pub parted_front : (place size found : ℕ) (bytes : List ℕ) → size < found → parted place size found bytes ≡ marked (place + size) (found - size) (marked place size bytes)
+parted_front place size found bytes less = ap (λ (b : Bool). cond b bytes (marked (place + size) (found - size) (marked place size bytes))) (ne_eqb found size (omega arith))
+
 -- what a pool holds once the front of a free block is taken
 abbrev pub Left : Frees → Frees → ℕ → ℕ → ℕ → Type 0
 Left old new size place found = (q : ℕ) → new q ≡ cond (found == size) (without old place q) (with_block (without old place) (place + size) (found - size) q)

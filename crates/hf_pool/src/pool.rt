@@ -179,7 +179,7 @@ impl Pool {
         ensures sound { OnOk result (S.sound space.new) }
         ensures spoiled { OnErr result (S.flag space.new ≡ false) }
         ensures marks { OnlyMarks S.tells S.moment S.left S.kept S.limit S.bytes_read S.faults space.old space.new }
-        ensures full { IsErrOf result RecErr.Full → (start : ℕ) × (start ≤ at) × Passes (S.limit space.old file) (S.overfills space.old file start 5) start 5 }
+        ensures full { IsErrOf result RecErr.Full → (start : ℕ) × (total : ℕ) × GivesBack (frees self.old) (frees self.new) at size start total × Passes (S.limit space.old file) (S.overfills space.old file start 5) start 5 }
         ensures cause { IsErrOf result RecErr.Fault → Rose (S.faults space.old) (S.faults space.new) }
     {
         let Ok((start, total)) = self.give_in_memory(at, size) else {

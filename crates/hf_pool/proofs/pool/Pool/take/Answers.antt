@@ -1,9 +1,7 @@
-use Rattle.std.proofs.Common.{ℕ, ◌+◌, ◌-◌, Bool, cond, List, sym, ap, arith, ◌∙◌}
-use Rattle.std.proofs.lemmas.Bool.{ne_eqb}
+use Rattle.std.proofs.Common.{ℕ, List, sym, ◌∙◌}
 use Rattle.hf_layout.proofs.Gathers.{meets_no_record, beyond_no_record}
 use Rattle.hf_pool.specs.Pools.{frees}
-use Rattle.hf_pool.specs.Marks.{marked}
-use Rattle.hf_pool.proofs.Laying.{taken}
+use Rattle.hf_pool.proofs.Laying.{taken, parted_front}
 use Rattle.hf_pool.proofs.pool.Pool.take.Goals as goal
 
 pub returns-in_default-clause-clear : goal.returns-in_default-clause-clear
@@ -15,7 +13,7 @@ returns-in_default-part-clause-lent g c = λ t first end found pieces lent laid 
     let bytes : List ℕ = g.S.Space.now c.args.space.now c.args.file in
     let after : List ℕ = g.S.Space.now c.part.new.space c.args.file in
     let place : ℕ = c.in-Some.place in
-    taken c.args.self.now.unit first end pieces (frees c.args.self.now) (frees c.part_in_memory.new.self) lent bytes after place c.args.size c.in-Some.found laid c.in-Some.ensures.some c.requires.some multiple c.in-Ok.ensures.ok.left (c.in_default-part.ensures.bytes t ∙ sym (ap (λ (b : Bool). cond b bytes (marked (place + c.args.size) (c.in-Some.found - c.args.size) (marked place c.args.size bytes))) (ne_eqb c.in-Some.found c.args.size (omega (arith, c.if-found-size.true)))))
+    taken c.args.self.now.unit first end pieces (frees c.args.self.now) (frees c.part_in_memory.new.self) lent bytes after place c.args.size c.in-Some.found laid c.in-Some.ensures.some c.requires.some multiple c.in-Ok.ensures.ok.left (c.in_default-part.ensures.bytes t ∙ sym (parted_front place c.args.size c.in-Some.found bytes c.if-found-size.true))
 
 pub returns-in_default-part-clause-clear : goal.returns-in_default-part-clause-clear
 returns-in_default-part-clause-clear g c = λ t first end pieces lent laid within.
