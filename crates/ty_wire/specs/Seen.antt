@@ -10,7 +10,7 @@ use Rattle.ty_wire.specs.declared.looking.Seen.{Seen}
 use Rattle.ty_wire.specs.Form.{Field, text, word, long, Heads, Form, form_bytes}
 use Rattle.ty_wire.specs.Form as form
 use Rattle.ty_wire.specs.Prefixes.{IsPart}
-use Rattle.ty_wire.specs.Spelling.{form as form_of, spelling, Fits}
+use Rattle.ty_wire.specs.Spelling.{form as form_of, key_text, spelling, Fits}
 use Rattle.ty_wire.specs.Reading.{Entry, plain, counted, command_of, entries, heads_then, room, items_at, request_at}
 
 -- how many bytes the numbers and sizes of fields take
@@ -80,6 +80,18 @@ command_end magic (command ∷ rest) = if magic == 0xC8 then or_none (pick_end e
 unfoldable pub announced_at : List ℕ → ℕ
 announced_at [] = 0
 announced_at (magic ∷ rest) = command_end magic rest
+
+-- the place that is told isn't there yet, where there are so many bytes
+abbrev pub Lacks : Answer ℕ → ℕ → Type 0
+Lacks (Ok x) n = n < x.0
+Lacks (Err e) n = Unit {0}
+
+-- no list has begun: the fields in front of one aren't all there
+abbrev pub LacksList : List ℕ → Type 0
+LacksList [] = Unit {0}
+LacksList (magic ∷ []) = Unit {0}
+LacksList (magic ∷ command ∷ rest) =
+    (magic ≡ 0xC8 → command ≡ 0x31 → Lacks (list_at [] rest) (2 + length rest)) × (magic ≡ 0xC8 → command ≡ 0x90 → Lacks (list_at (key_text ∷ word ∷ []) rest) (2 + length rest))
 
 -- with fewer than so many bytes in all there is no more than a part
 abbrev pub ArePart : ℕ → List ℕ → Type 0
