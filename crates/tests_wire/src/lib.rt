@@ -6,4 +6,6 @@ mod pieces;
 #[cfg(test)]
 mod rows;
 #[cfg(test)]
+mod script;
+#[cfg(test)]
 mod tests;

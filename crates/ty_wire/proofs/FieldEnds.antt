@@ -8,28 +8,19 @@ use Rattle.tc_base.proofs.Exact.{bind_ok, same_whole}
 use Rattle.tc_base.proofs.ExactFields.{chosen, if_true, if_false}
 use Rattle.ty_wire.specs.Form.{Field, text, word, long, Heads, Values}
 use Rattle.ty_wire.specs.Reading.{long_at, head_at, heads_then, body_then, values_at, room, items_at, counted_at, Entry, plain, counted, command_of, read_by, pick, entries, fields_at, request_at}
-use Rattle.ty_wire.specs.Seen.{end_from, end_at, list_at, entry_end, pick_end, or_none, command_end, announced_at, ArePart}
+use Rattle.ty_wire.specs.Seen.{number_size, numbers_size, end_from, end_at, list_at, entry_end, pick_end, or_none, command_end, announced_at, ArePart}
 use Rattle.ty_wire.proofs.Stays.{Stays, size_stays, stays_at, rest_is}
 
 -- ---- numbers and sizes that are there stay
 
-abbrev head_size : Field → ℕ
-head_size (text most) = 4
-head_size word = 4
-head_size long = 8
-
-abbrev heads_size : List Field → ℕ
-heads_size [] = 0
-heads_size (f ∷ fs) = head_size f + heads_size fs
-
 -- how many bytes the texts have
-abbrev texts_size : (fs : List Field) → Heads fs → ℕ
+abbrev pub texts_size : (fs : List Field) → Heads fs → ℕ
 texts_size [] h = 0
 texts_size (text most ∷ fs) h = h.0 + texts_size fs h.1
 texts_size (word ∷ fs) h = texts_size fs h.1
 texts_size (long ∷ fs) h = texts_size fs h.1
 
-ends_from : (fs : List Field) (n : ℕ) (h : Heads fs) → end_from n fs h ≡ n + heads_size fs + texts_size fs h
+pub ends_from : (fs : List Field) (n : ℕ) (h : Heads fs) → end_from n fs h ≡ n + numbers_size fs + texts_size fs h
 ends_from [] n h = omega arith
 ends_from (text most ∷ fs) n h = omega (arith, ends_from fs (n + (4 + h.0)) h.1)
 ends_from (word ∷ fs) n h = omega (arith, ends_from fs (n + 4) h.1)
@@ -50,39 +41,39 @@ long_stays bytes x rest e =
           ∙ ap (λ (r : Front ℕ). r >>= λ lo. Ok (a.0.0 * 4294967296 + lo.0, lo.1)) (t.reads more) ∙ ap (λ (n : ℕ). Ok (n, drop 8 (bytes ++ more))) is;
     }
 
-head_stays : (f : Field) (bytes : List ℕ) (x : ℕ) (rest : List ℕ) → head_at f bytes ≡ Ok (x, rest) → Stays (head_at f) bytes x (head_size f)
+head_stays : (f : Field) (bytes : List ℕ) (x : ℕ) (rest : List ℕ) → head_at f bytes ≡ Ok (x, rest) → Stays (head_at f) bytes x (number_size f)
 head_stays (text most) bytes x rest e = size_stays most bytes x rest e
 head_stays word bytes x rest e = size_stays 4294967295 bytes x rest e
 head_stays long bytes x rest e = long_stays bytes x rest e
 
 pub record HeadsStay {A : Type 0} (fs : List Field) (k : Heads fs → List ℕ → Front A) (bytes : List ℕ) (h : Heads fs) (rest : List ℕ) : Type 0 where
-  pub inside : heads_size fs ≤ length bytes
-  pub behind : rest ≡ drop (heads_size fs) bytes
-  pub reads : (more : List ℕ) → heads_then fs k (bytes ++ more) ≡ k h (drop (heads_size fs) (bytes ++ more))
+  pub inside : numbers_size fs ≤ length bytes
+  pub behind : rest ≡ drop (numbers_size fs) bytes
+  pub reads : (more : List ℕ) → heads_then fs k (bytes ++ more) ≡ k h (drop (numbers_size fs) (bytes ++ more))
 
-heads_stay : {A B : Type 0} (fs : List Field) (p : Heads fs → List ℕ → Front B) (k : Heads fs → List ℕ → Front A) (bytes : List ℕ) (y : B × List ℕ) → heads_then fs p bytes ≡ Ok y
+pub heads_stay : {A B : Type 0} (fs : List Field) (p : Heads fs → List ℕ → Front B) (k : Heads fs → List ℕ → Front A) (bytes : List ℕ) (y : B × List ℕ) → heads_then fs p bytes ≡ Ok y
     → (h : Heads fs) × (rest : List ℕ) × (p h rest ≡ Ok y) × HeadsStay fs k bytes h rest
 heads_stay [] p k bytes y e = (tt, bytes, e, record { inside = omega arith; behind = refl; reads = λ more. refl })
 heads_stay {A} {B} (f ∷ fs) p k bytes y e =
     let a = bind_ok (head_at f bytes) (λ n. heads_then fs (λ ns. p (n.0, ns)) n.1) y e in
     let x = a.0.0 in
     let s = head_stays f bytes x a.0.1 a.1 in
-    let behind = rest_is (head_at f) bytes x (head_size f) a.0.1 s a.1 in
+    let behind = rest_is (head_at f) bytes x (number_size f) a.0.1 s a.1 in
     let d = heads_stay fs (λ ns. p (x, ns)) (λ ns. k (x, ns)) a.0.1 y a.2 in
     let t = d.3 in
-    let size : head_size f + heads_size fs ≤ length bytes = omega (arith, s.inside, t.inside, ap length behind, length-drop (head_size f) bytes) in (
+    let size : number_size f + numbers_size fs ≤ length bytes = omega (arith, s.inside, t.inside, ap length behind, length-drop (number_size f) bytes) in (
       (x, d.0),
       d.1,
       d.2,
       record {
         inside = size;
-        behind = t.behind ∙ ap (drop (heads_size fs)) behind ∙ drop-drop (heads_size fs) (head_size f) bytes;
+        behind = t.behind ∙ ap (drop (numbers_size fs)) behind ∙ drop-drop (numbers_size fs) (number_size f) bytes;
         reads = λ more.
             let b = bytes ++ more in
-            let rest_more : drop (head_size f) b ≡ a.0.1 ++ more = drop-append-le (head_size f) bytes more s.inside ∙ ap (λ (l : List ℕ). l ++ more) (sym behind) in
+            let rest_more : drop (number_size f) b ≡ a.0.1 ++ more = drop-append-le (number_size f) bytes more s.inside ∙ ap (λ (l : List ℕ). l ++ more) (sym behind) in
             ap (λ (r : Front ℕ). r >>= λ n. heads_then fs (λ ns. k (n.0, ns)) n.1) (s.reads more)
             ∙ ap (λ (l : List ℕ). heads_then fs (λ ns. k (x, ns)) l) rest_more ∙ t.reads more
-            ∙ ap (λ (l : List ℕ). k (x, d.0) (drop (heads_size fs) l)) (sym rest_more) ∙ ap (λ (l : List ℕ). k (x, d.0) l) (drop-drop (heads_size fs) (head_size f) b);
+            ∙ ap (λ (l : List ℕ). k (x, d.0) (drop (numbers_size fs) l)) (sym rest_more) ∙ ap (λ (l : List ℕ). k (x, d.0) l) (drop-drop (numbers_size fs) (number_size f) b);
       },
     )
 
@@ -113,8 +104,8 @@ values_short fs bytes n rest more e short =
     let d = heads_stay fs (λ h rest. sized (end_from 2 fs h) rest) (λ h. body_then fs h (λ v rest. Ok (v, rest))) bytes (n, rest) e in
     let b = bytes ++ more in
     let is = (same_whole (end_from 2 fs d.0) n d.1 rest d.2).0 in
-    let lack : length (drop (heads_size fs) b) < texts_size fs d.0 = omega (arith, short, is, ends_from fs 2 d.0, length-drop (heads_size fs) b, d.3.inside, length-append bytes more) in
-    d.3.reads more ∙ body_short fs d.0 (λ v rest. Ok (v, rest)) (drop (heads_size fs) b) lack
+    let lack : length (drop (numbers_size fs) b) < texts_size fs d.0 = omega (arith, short, is, ends_from fs 2 d.0, length-drop (numbers_size fs) b, d.3.inside, length-append bytes more) in
+    d.3.reads more ∙ body_short fs d.0 (λ v rest. Ok (v, rest)) (drop (numbers_size fs) b) lack
 
 counted_short : (fs : List Field) (most : ℕ) (bytes : List ℕ) (n : ℕ) (rest more : List ℕ) → list_at fs bytes ≡ Ok (n, rest) → 2 + length (bytes ++ more) < n → counted_at fs most (bytes ++ more) ≡ Err Part
 counted_short fs most bytes n rest more e short =
@@ -123,11 +114,11 @@ counted_short fs most bytes n rest more e short =
     let b = bytes ++ more in
     let a = bind_ok (size_at (room fs h / 4) d.1) (λ c. sized (end_from 6 fs h) c.1) (n, rest) d.2 in
     let is = (same_whole (end_from 6 fs h) n a.0.1 rest a.2).0 in
-    let count : size_at (room fs h / 4) (drop (heads_size fs) bytes) ≡ Ok (a.0.0, a.0.1) = ap (size_at (room fs h / 4)) (sym d.3.behind) ∙ a.1 in
-    let s = stays_at (size_at (room fs h / 4)) (heads_size fs) bytes a.0.0 4 d.3.inside (size_stays (room fs h / 4) (drop (heads_size fs) bytes) a.0.0 a.0.1 count) in
-    let lack : length (drop (heads_size fs + 4) b) < texts_size fs h = omega (arith, short, is, ends_from fs 6 h, length-drop (heads_size fs + 4) b, s.inside, length-append bytes more) in
+    let count : size_at (room fs h / 4) (drop (numbers_size fs) bytes) ≡ Ok (a.0.0, a.0.1) = ap (size_at (room fs h / 4)) (sym d.3.behind) ∙ a.1 in
+    let s = stays_at (size_at (room fs h / 4)) (numbers_size fs) bytes a.0.0 4 d.3.inside (size_stays (room fs h / 4) (drop (numbers_size fs) bytes) a.0.0 a.0.1 count) in
+    let lack : length (drop (numbers_size fs + 4) b) < texts_size fs h = omega (arith, short, is, ends_from fs 6 h, length-drop (numbers_size fs + 4) b, s.inside, length-append bytes more) in
     d.3.reads more ∙ ap (λ (r : Front ℕ). r >>= λ c. texts_of fs most h c.0 c.1) (s.reads more)
-    ∙ body_short fs h (λ v rest. items_at most a.0.0 (room fs h) rest >>= λ xs. Ok ((v, xs.0), xs.1)) (drop (heads_size fs + 4) b) lack
+    ∙ body_short fs h (λ v rest. items_at most a.0.0 (room fs h) rest >>= λ xs. Ok ((v, xs.0), xs.1)) (drop (numbers_size fs + 4) b) lack
 
 -- ---- the table
 

@@ -6,3 +6,4 @@ pub mod ItemLoops
 pub mod Ongoing
 pub mod Requests
 pub mod Stays
+pub mod WholeEnds

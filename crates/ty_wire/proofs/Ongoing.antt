@@ -15,14 +15,16 @@ use Rattle.ty_wire.specs.declared.reading.Front.TheVariants as front
 use Rattle.ty_wire.specs.declared.looking.Place.{Place}
 use Rattle.ty_wire.specs.declared.looking.Seen.{Seen}
 use Rattle.ty_wire.specs.Form.{Field, Values, word}
-use Rattle.ty_wire.specs.Spelling.{key_text, spelling, Fits}
+use Rattle.ty_wire.specs.Spelling.{form as form_of, key_text, spelling, Fits}
 use Rattle.ty_wire.specs.Prefixes.{IsPart}
 use Rattle.ty_wire.specs.Items.{item_at}
 use Rattle.ty_wire.specs.Reading.{room, items_at, fields_at, request_at}
 use Rattle.ty_wire.specs.Taking.{Takes, IsRead}
-use Rattle.ty_wire.specs.Seen.{GoesOn, ArePart, IsSeen, IsLeast}
+use Rattle.ty_wire.specs.Seen.{announced_at, GoesOn, ArePart, IsSeen, IsLeast}
 use Rattle.ty_wire.proofs.ItemLoops.{one_read, none_read}
 use Rattle.ty_wire.proofs.Stays.{Stays, size_stays, bytes_stay, item_stays, rest_is, stays_at}
+use Rattle.ty_wire.proofs.FieldEnds.{announced_part}
+use Rattle.ty_wire.proofs.WholeEnds.{lists_at, spelled_exactly, announced_exactly, list_announces, none_announced}
 use Rattle.ty_wire.proofs.Answered.{taken, partly, badly, whole}
 
 -- ---- where a list begins
@@ -47,6 +49,7 @@ keys_go_on bytes n rest e le =
     record {
       inside = omega (arith, s.inside);
       room = omega (arith, le);
+      lists = lists_at 0x31 bytes refl;
       build = λ ys. MGet ys;
       reads = λ more.
           ap (λ (r : Front ℕ). (r >>= λ n. items_at 1048576 n.0 33554426 n.1 >>= λ xs. with_values [] tt xs.0 xs.1) >>= λ l. Ok (MGet l.0.1, l.1)) (s.reads more)
@@ -108,6 +111,7 @@ arguments_go_on bytes r1 r2 r3 n o count left e1 e2 is e3 there le =
     record {
       inside = omega (arith, s.inside);
       room = omega (arith, le);
+      lists = lists_at 0x90 bytes refl;
       build = λ ys. Misc (take n r3) o ys;
       reads = λ more.
           let b = bytes ++ more in
@@ -133,6 +137,7 @@ passed p q bytes n limit x rest g is small e at left count most short =
     record {
       inside = omega (arith, s.inside, at);
       room = omega (arith, g.room, small, is, count, left, short);
+      lists = g.lists;
       build = λ ys. g.build (x ∷ ys);
       reads = λ more.
           let b = bytes ++ more in
@@ -163,10 +168,14 @@ stopped p bytes n limit d g is small e =
 
 -- ---- whatever comes behind
 
+part_front : (bytes more all : List ℕ) → IsPart (bytes ++ more) all → IsPart bytes all
+part_front bytes more all p = (more ++ p.0, omega (arith, p.1, length-append more p.0), p.2 ∙ append_assoc bytes more p.0)
+
 pub going_more : (p : Place) (bytes more : List ℕ) → GoesOn p bytes → GoesOn p (bytes ++ more)
 going_more p bytes more g = record {
   inside = omega (arith, g.inside, length-append bytes more);
   room = g.room;
+  lists = λ r fits p. g.lists r fits (part_front bytes more (spelling r) p);
   build = g.build;
   reads = λ rest.
       let e = append_assoc bytes more rest in
@@ -183,7 +192,7 @@ goes_on_more None bytes more g = tt
 goes_on_more (Some p) bytes more g = going_more p bytes more g
 
 pub seen_more : (seen : Seen) (bytes more : List ℕ) → IsSeen seen bytes → IsSeen seen (bytes ++ more)
-seen_more seen bytes more s = record { part = part_more seen.least bytes more s.part; goes_on = goes_on_more seen.list bytes more s.goes_on }
+seen_more seen bytes more s = record { part = part_more seen.least bytes more s.part; exact = λ r fits p. s.exact r fits (part_front bytes more (spelling r) p); goes_on = goes_on_more seen.list bytes more s.goes_on }
 
 -- ---- how many bytes a text needs
 
@@ -227,14 +236,31 @@ needed n bytes part r fits begins = elim (cases_lt (length (spelling r)) n) [
   | inr enough ↦ enough
 ]
 
-pub least_is : (n : ℕ) (bytes : List ℕ) (f : Answer) → ArePart n bytes → (f ≡ front.Part → length bytes < n) → IsLeast n bytes f
-least_is n bytes (front.Whole m) part more = tt
-least_is n bytes front.Part part more = (more refl, needed n bytes part)
-least_is n bytes front.Bad part more = tt
+pub least_is : (seen : Seen) (bytes : List ℕ) (f : Answer) → IsSeen seen bytes → (f ≡ front.Part → length bytes < seen.least) → IsLeast seen.least bytes f
+least_is seen bytes (front.Whole m) s more = tt
+least_is seen bytes front.Part s more =
+    (more refl, λ r fits p. (needed seen.least bytes s.part r fits p, λ sizes. spelled_exactly seen.least (length bytes) r (s.exact r fits p) sizes (more refl)))
+least_is seen bytes front.Bad s more = tt
 
 -- what was announced is seen
-pub seen_anew : (seen : Seen) (bytes : List ℕ) (n least : ℕ) (f : Answer) → IsSeen seen bytes → IsRead bytes f → f ≡ front.Part → ArePart n bytes → least ≡ max n (length bytes + 1) → IsSeen (record seen { least = least }) bytes
-seen_anew seen bytes n least f s e is part at = record {
-  part = next_or bytes n least (subst (IsRead bytes) is e) part (omega (arith, at));
+pub seen_anew : (seen : Seen) (bytes : List ℕ) (least : ℕ) (f : Answer) → IsSeen seen bytes → IsRead bytes f → f ≡ front.Part → least ≡ max (announced_at bytes) (length bytes + 1) → IsSeen (record seen { least = least }) bytes
+seen_anew seen bytes least f s e is at = record {
+  part = next_or bytes (announced_at bytes) least (subst (IsRead bytes) is e) (announced_part bytes) (omega (arith, at));
+  exact = λ r fits p. announced_exactly r fits bytes p least at;
   goes_on = s.goes_on;
+}
+
+-- a list was gone on with
+pub seen_on : (seen : Seen) (bytes : List ℕ) (p : Place) (least : ℕ) → GoesOn p bytes → ArePart least bytes → IsSeen (record seen { least = least; list = Some p }) bytes
+seen_on seen bytes p least g part = record {
+  part = part;
+  exact = λ r fits q. list_announces least (form_of r) (g.lists r fits q);
+  goes_on = g;
+}
+
+pub seen_new : (bytes : List ℕ) → IsSeen (record { least = 0; list = None }) bytes
+seen_new bytes = record {
+  part = λ more short. absurd (omega (arith, short));
+  exact = λ r fits q. none_announced (form_of r);
+  goes_on = tt;
 }

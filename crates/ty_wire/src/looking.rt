@@ -1,9 +1,11 @@
 //! The request at the front of bytes that come in pieces.
-ghost use Rattle.std.specs.Prelude.{◌≡◌, ◌<◌, ◌≤◌, ◌∷◌, ℕ, List, length, drop, MatchOption, Err};
+ghost use Rattle.std.specs.Prelude.{◌≡◌, ◌+◌, ◌<◌, ◌≤◌, [], ◌∷◌, ℕ, List, length, drop, MatchOption, Err};
 ghost use Rattle.tc_base.specs.declared.fields.NotWhole.TheVariants as not_whole;
 ghost use Rattle.ty_wire.specs.Reading.{request_at};
 ghost use Rattle.ty_wire.specs.Taking.{Takes, IsRead};
-ghost use Rattle.ty_wire.specs.Seen.{GoesOn, ArePart, IsSeen, IsLeast};
+ghost use Rattle.ty_wire.specs.Seen.{list_at, Lacks, LacksList, GoesOn, ArePart, IsSeen, IsLeast};
+ghost use Rattle.ty_wire.specs.Form.{word};
+ghost use Rattle.ty_wire.specs.Spelling.{key_text};
 
 use crate::ends::announced;
 use crate::items::read_item;
@@ -52,7 +54,7 @@ impl Seen {
 
 // The keys of an mget behind a count that is there.
 fn keys_at(bytes: &[u8]) -> Option<Place>
-    ensures { MatchOption result (Unit {0}) (λ p. GoesOn p (0xC8 ∷ 0x31 ∷ bytes.now)) }
+    ensures { MatchOption result (Lacks (list_at [] bytes.now) (2 + length bytes.now)) (λ p. GoesOn p (0xC8 ∷ 0x31 ∷ bytes.now)) }
 {
     let left = REQUEST_MOST - 6;
     let Ok((count, _)) = read_size(left / 4, bytes) else {
@@ -68,7 +70,7 @@ fn keys_at(bytes: &[u8]) -> Option<Place>
 
 // The arguments of a misc behind a name that is there.
 fn arguments_at(bytes: &[u8]) -> Option<Place>
-    ensures { MatchOption result (Unit {0}) (λ p. GoesOn p (0xC8 ∷ 0x90 ∷ bytes.now)) }
+    ensures { MatchOption result (Lacks (list_at (key_text ∷ word ∷ []) bytes.now) (2 + length bytes.now)) (λ p. GoesOn p (0xC8 ∷ 0x90 ∷ bytes.now)) }
 {
     let Ok((n, rest)) = read_size(KEY_MOST, bytes) else {
         return None;
@@ -92,8 +94,8 @@ fn arguments_at(bytes: &[u8]) -> Option<Place>
 }
 
 // The first text of a list whose fields in front are there.
-fn list_at(bytes: &[u8]) -> Option<Place>
-    ensures { MatchOption result (Unit {0}) (λ p. GoesOn p bytes.now) }
+fn list_place(bytes: &[u8]) -> Option<Place>
+    ensures { MatchOption result (LacksList bytes.now) (λ p. GoesOn p bytes.now) }
 {
     match bytes {
         [0xC8, 0x31, rest @ ..] => keys_at(rest),
@@ -190,7 +192,7 @@ fn look_further(bytes: &[u8], seen: &mut Seen) -> Front
     if let Some(place) = seen.list {
         return look_on(bytes, place, seen);
     }
-    if let Some(place) = list_at(bytes) {
+    if let Some(place) = list_place(bytes) {
         return look_on(bytes, place, seen);
     }
     look_anew(bytes, seen)

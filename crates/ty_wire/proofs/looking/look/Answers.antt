@@ -7,10 +7,10 @@ pub returns-then-bytes-seen-clause-grammar : goal.returns-then-bytes-seen-clause
 returns-then-bytes-seen-clause-grammar c = is_taken _ front.Part (λ i. omega (arith, c.type_inv.bytes i)) (still_part _ _ c.requires.part c.if-bytes-seen.true)
 
 pub returns-then-bytes-seen-clause-least : goal.returns-then-bytes-seen-clause-least
-returns-then-bytes-seen-clause-least c = least_is _ _ front.Part c.requires.part (λ e. c.if-bytes-seen.true)
+returns-then-bytes-seen-clause-least c = least_is c.args.seen.now _ front.Part c.requires (λ e. c.if-bytes-seen.true)
 
 pub returns-clause-grammar : goal.returns-clause-grammar
 returns-clause-grammar c = is_taken _ _ (λ i. omega (arith, c.type_inv.bytes i)) c.look_further.ensures.reading
 
 pub returns-clause-least : goal.returns-clause-least
-returns-clause-least c = least_is _ _ _ c.look_further.ensures.seen.part c.look_further.ensures.more
+returns-clause-least c = least_is c.look_further.new.seen _ _ c.look_further.ensures.seen c.look_further.ensures.more
