@@ -44,7 +44,9 @@ impl Draws {
 
 // Lengths of keys and of values, and numbers: widths, terms of sums, and maxima, of which the last three are negative.
 const KEYS: [u32; 16] = [0, 1, 1, 1, 1, 2, 2, 2, 2, 2, 2, 3, 3, 3, 127, 128];
+
 const VALUES: [u32; 10] = [0, 1, 3, 4, 4, 4, 5, 127, 128, 300];
+
 const NUMBERS: [u32; 9] = [
     0,
     1,

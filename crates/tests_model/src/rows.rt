@@ -10,10 +10,6 @@ struct Step {
     reply: &'static [u8],
 }
 
-const fn row(bytes: &'static [u8], reply: &'static [u8]) -> Step {
-    Step { bytes, reply }
-}
-
 // The place of the first step that isn't answered so.
 fn first_wrong(
     alloc: Global,
@@ -28,135 +24,255 @@ fn first_wrong(
     Ok(None)
 }
 
+const SHIFTED: [Step; 5] = [
+    Step {
+        bytes: b"\xC8\x13\0\0\0\x01\0\0\0\x03\0\0\0\x04kabc",
+        reply: b"\0",
+    },
+    Step {
+        bytes: b"\xC8\x13\0\0\0\x01\0\0\0\x02\0\0\0\x04kde",
+        reply: b"\0",
+    },
+    Step {
+        bytes: b"\xC8\x30\0\0\0\x01k",
+        reply: b"\0\0\0\0\x04bcde",
+    },
+    Step {
+        bytes: b"\xC8\x13\0\0\0\x01\0\0\0\x01\0\0\0\0kf",
+        reply: b"\0",
+    },
+    Step {
+        bytes: b"\xC8\x30\0\0\0\x01k",
+        reply: b"\0\0\0\0\0",
+    },
+];
+
 #[test]
 fn values_are_shifted(rt: HostRuntime) -> Result<(), Fail> {
-    let steps = [
-        row(b"\xC8\x13\0\0\0\x01\0\0\0\x03\0\0\0\x04kabc", b"\0"),
-        row(b"\xC8\x13\0\0\0\x01\0\0\0\x02\0\0\0\x04kde", b"\0"),
-        row(b"\xC8\x30\0\0\0\x01k", b"\0\0\0\0\x04bcde"),
-        row(b"\xC8\x13\0\0\0\x01\0\0\0\x01\0\0\0\0kf", b"\0"),
-        row(b"\xC8\x30\0\0\0\x01k", b"\0\0\0\0\0"),
-    ];
     let mut both = fresh(rt.alloc());
-    assert_eq!(&rt; first_wrong(rt.alloc(), &mut both, &steps)?, None);
+    assert_eq!(&rt; first_wrong(rt.alloc(), &mut both, &SHIFTED)?, None);
     Ok(())
 }
+
+const ADDED: [Step; 8] = [
+    Step {
+        bytes: b"\xC8\x10\0\0\0\x01\0\0\0\x04n\xFF\xFF\xFF\x7F",
+        reply: b"\0",
+    },
+    Step {
+        bytes: b"\xC8\x60\0\0\0\x01\0\0\0\x01n",
+        reply: b"\0\x80\0\0\0",
+    },
+    Step {
+        bytes: b"\xC8\x30\0\0\0\x01n",
+        reply: b"\0\0\0\0\x04\0\0\0\x80",
+    },
+    Step {
+        bytes: b"\xC8\x60\0\0\0\x01\x80\0\0\x01n",
+        reply: b"\0\0\0\0\x01",
+    },
+    Step {
+        bytes: b"\xC8\x60\0\0\0\x01\0\0\0\x07m",
+        reply: b"\0\0\0\0\x07",
+    },
+    Step {
+        bytes: b"\xC8\x10\0\0\0\x01\0\0\0\x03nabc",
+        reply: b"\0",
+    },
+    Step {
+        bytes: b"\xC8\x60\0\0\0\x01\0\0\0\x01n",
+        reply: b"\x01",
+    },
+    Step {
+        bytes: b"\xC8\x30\0\0\0\x01n",
+        reply: b"\0\0\0\0\x03abc",
+    },
+];
 
 #[test]
 fn numbers_are_added_and_wrap(rt: HostRuntime) -> Result<(), Fail> {
-    let steps = [
-        row(
-            b"\xC8\x10\0\0\0\x01\0\0\0\x04n\xFF\xFF\xFF\x7F",
-            b"\0",
-        ),
-        row(b"\xC8\x60\0\0\0\x01\0\0\0\x01n", b"\0\x80\0\0\0"),
-        row(b"\xC8\x30\0\0\0\x01n", b"\0\0\0\0\x04\0\0\0\x80"),
-        row(b"\xC8\x60\0\0\0\x01\x80\0\0\x01n", b"\0\0\0\0\x01"),
-        row(b"\xC8\x60\0\0\0\x01\0\0\0\x07m", b"\0\0\0\0\x07"),
-        row(b"\xC8\x10\0\0\0\x01\0\0\0\x03nabc", b"\0"),
-        row(b"\xC8\x60\0\0\0\x01\0\0\0\x01n", b"\x01"),
-        row(b"\xC8\x30\0\0\0\x01n", b"\0\0\0\0\x03abc"),
-    ];
     let mut both = fresh(rt.alloc());
-    assert_eq!(&rt; first_wrong(rt.alloc(), &mut both, &steps)?, None);
+    assert_eq!(&rt; first_wrong(rt.alloc(), &mut both, &ADDED)?, None);
     Ok(())
 }
+
+const GIVEN: [Step; 5] = [
+    Step {
+        bytes: b"\xC8\x10\0\0\0\x03\0\0\0\x05onefirst",
+        reply: b"\0",
+    },
+    Step {
+        bytes: b"\xC8\x31\0\0\0\x03\0\0\0\x03one\0\0\0\x03one\0\0\0\x01x",
+        reply: b"\0\0\0\0\x02\0\0\0\x03\0\0\0\x05onefirst\0\0\0\x03\0\0\0\x05onefirst",
+    },
+    Step {
+        bytes: b"\xC8\x31\0\0\0\0",
+        reply: b"\0\0\0\0\0",
+    },
+    Step {
+        bytes: b"\xC8\x38\0\0\0\x03one",
+        reply: b"\0\0\0\0\x05",
+    },
+    Step {
+        bytes: b"\xC8\x38\0\0\0\x01x",
+        reply: b"\x01",
+    },
+];
 
 #[test]
 fn values_are_given_again(rt: HostRuntime) -> Result<(), Fail> {
-    let steps = [
-        row(b"\xC8\x10\0\0\0\x03\0\0\0\x05onefirst", b"\0"),
-        row(
-            b"\xC8\x31\0\0\0\x03\0\0\0\x03one\0\0\0\x03one\0\0\0\x01x",
-            b"\0\0\0\0\x02\0\0\0\x03\0\0\0\x05onefirst\0\0\0\x03\0\0\0\x05onefirst",
-        ),
-        row(b"\xC8\x31\0\0\0\0", b"\0\0\0\0\0"),
-        row(b"\xC8\x38\0\0\0\x03one", b"\0\0\0\0\x05"),
-        row(b"\xC8\x38\0\0\0\x01x", b"\x01"),
-    ];
     let mut both = fresh(rt.alloc());
-    assert_eq!(&rt; first_wrong(rt.alloc(), &mut both, &steps)?, None);
+    assert_eq!(&rt; first_wrong(rt.alloc(), &mut both, &GIVEN)?, None);
     Ok(())
 }
+
+const WALKED: [Step; 16] = [
+    Step {
+        bytes: b"\xC8\x51",
+        reply: b"\x01",
+    },
+    Step {
+        bytes: b"\xC8\x10\0\0\0\x01\0\0\0\x01c3",
+        reply: b"\0",
+    },
+    Step {
+        bytes: b"\xC8\x10\0\0\0\x01\0\0\0\x01a1",
+        reply: b"\0",
+    },
+    Step {
+        bytes: b"\xC8\x10\0\0\0\x01\0\0\0\x01b2",
+        reply: b"\0",
+    },
+    Step {
+        bytes: b"\xC8\x50",
+        reply: b"\0",
+    },
+    Step {
+        bytes: b"\xC8\x20\0\0\0\x01a",
+        reply: b"\0",
+    },
+    Step {
+        bytes: b"\xC8\x20\0\0\0\x01a",
+        reply: b"\x01",
+    },
+    Step {
+        bytes: b"\xC8\x10\0\0\0\x01\0\0\0\x01d4",
+        reply: b"\0",
+    },
+    Step {
+        bytes: b"\xC8\x51",
+        reply: b"\0\0\0\0\x01b",
+    },
+    Step {
+        bytes: b"\xC8\x51",
+        reply: b"\0\0\0\0\x01c",
+    },
+    Step {
+        bytes: b"\xC8\x51",
+        reply: b"\x01",
+    },
+    Step {
+        bytes: b"\xC8\x51",
+        reply: b"\x01",
+    },
+    Step {
+        bytes: b"\xC8\x58\0\0\0\0\xFF\xFF\xFF\xFF",
+        reply: b"\0\0\0\0\x03\0\0\0\x01b\0\0\0\x01c\0\0\0\x01d",
+    },
+    Step {
+        bytes: b"\xC8\x58\0\0\0\0\0\0\0\0",
+        reply: b"\0\0\0\0\0",
+    },
+    Step {
+        bytes: b"\xC8\x58\0\0\0\0\0\0\0\x01",
+        reply: b"\0\0\0\0\x01\0\0\0\x01b",
+    },
+    Step {
+        bytes: b"\xC8\x58\0\0\0\x01\0\0\0\x09c",
+        reply: b"\0\0\0\0\x01\0\0\0\x01c",
+    },
+];
 
 #[test]
 fn keys_are_walked_and_listed(rt: HostRuntime) -> Result<(), Fail> {
-    let steps = [
-        row(b"\xC8\x51", b"\x01"),
-        row(b"\xC8\x10\0\0\0\x01\0\0\0\x01c3", b"\0"),
-        row(b"\xC8\x10\0\0\0\x01\0\0\0\x01a1", b"\0"),
-        row(b"\xC8\x10\0\0\0\x01\0\0\0\x01b2", b"\0"),
-        row(b"\xC8\x50", b"\0"),
-        row(b"\xC8\x20\0\0\0\x01a", b"\0"),
-        row(b"\xC8\x20\0\0\0\x01a", b"\x01"),
-        row(b"\xC8\x10\0\0\0\x01\0\0\0\x01d4", b"\0"),
-        row(b"\xC8\x51", b"\0\0\0\0\x01b"),
-        row(b"\xC8\x51", b"\0\0\0\0\x01c"),
-        row(b"\xC8\x51", b"\x01"),
-        row(b"\xC8\x51", b"\x01"),
-        row(
-            b"\xC8\x58\0\0\0\0\xFF\xFF\xFF\xFF",
-            b"\0\0\0\0\x03\0\0\0\x01b\0\0\0\x01c\0\0\0\x01d",
-        ),
-        row(b"\xC8\x58\0\0\0\0\0\0\0\0", b"\0\0\0\0\0"),
-        row(b"\xC8\x58\0\0\0\0\0\0\0\x01", b"\0\0\0\0\x01\0\0\0\x01b"),
-        row(
-            b"\xC8\x58\0\0\0\x01\0\0\0\x09c",
-            b"\0\0\0\0\x01\0\0\0\x01c",
-        ),
-    ];
     let mut both = fresh(rt.alloc());
-    assert_eq!(&rt; first_wrong(rt.alloc(), &mut both, &steps)?, None);
+    assert_eq!(&rt; first_wrong(rt.alloc(), &mut both, &WALKED)?, None);
     Ok(())
 }
+
+const COUNTED: [Step; 7] = [
+    Step {
+        bytes: b"\xC8\x10\0\0\0\x01\0\0\0\x01a1",
+        reply: b"\0",
+    },
+    Step {
+        bytes: b"\xC8\x88",
+        reply: b"\0\0\0\0\x22type\ton-memory hash\nrnum\t1\nsize\t2\n",
+    },
+    Step {
+        bytes: b"\xC8\x80",
+        reply: b"\0\0\0\0\0\0\0\0\x01",
+    },
+    Step {
+        bytes: b"\xC8\x81",
+        reply: b"\0\0\0\0\0\0\0\0\x02",
+    },
+    Step {
+        bytes: b"\xC8\x72",
+        reply: b"\0",
+    },
+    Step {
+        bytes: b"\xC8\x81",
+        reply: b"\0\0\0\0\0\0\0\0\0",
+    },
+    Step {
+        bytes: b"\xC8\x30\0\0\0\x01a",
+        reply: b"\x01",
+    },
+];
 
 #[test]
 fn contents_are_counted(rt: HostRuntime) -> Result<(), Fail> {
-    let steps = [
-        row(b"\xC8\x10\0\0\0\x01\0\0\0\x01a1", b"\0"),
-        row(
-            b"\xC8\x88",
-            b"\0\0\0\0\x22type\ton-memory hash\nrnum\t1\nsize\t2\n",
-        ),
-        row(b"\xC8\x80", b"\0\0\0\0\0\0\0\0\x01"),
-        row(b"\xC8\x81", b"\0\0\0\0\0\0\0\0\x02"),
-        row(b"\xC8\x72", b"\0"),
-        row(b"\xC8\x81", b"\0\0\0\0\0\0\0\0\0"),
-        row(b"\xC8\x30\0\0\0\x01a", b"\x01"),
-    ];
     let mut both = fresh(rt.alloc());
-    assert_eq!(&rt; first_wrong(rt.alloc(), &mut both, &steps)?, None);
+    assert_eq!(&rt; first_wrong(rt.alloc(), &mut both, &COUNTED)?, None);
     Ok(())
 }
 
+const REFUSED: [Step; 7] = [
+    Step {
+        bytes: b"\xC8\x10\0\0\0\x03\0\0\0\x05onefirst",
+        reply: b"\0",
+    },
+    Step {
+        bytes: b"\xC8\x90\0\0\0\x03\0\0\0\x01\0\0\0\x01out\0\0\0\x03one",
+        reply: b"\x01\0\0\0\0",
+    },
+    Step {
+        bytes: b"\xC8\x90\0\0\0\x06\0\0\0\0\0\0\0\0nosuch",
+        reply: b"\x01\0\0\0\0",
+    },
+    Step {
+        bytes: b"\xC8\x90\0\0\0\x08\0\0\0\0\0\0\0\x02setindex\0\0\0\x01n\0\0\0\x011",
+        reply: b"\x01\0\0\0\0",
+    },
+    Step {
+        bytes: b"\xC8\x61\0\0\0\x03\0\0\0\0\0\0\0\x01\0\0\0\0\0\0\0\x02one",
+        reply: b"\x01",
+    },
+    Step {
+        bytes: b"\xC8\x68\0\0\0\x01\0\0\0\0\0\0\0\x03\0\0\0\x01foneg",
+        reply: b"\x01",
+    },
+    Step {
+        bytes: b"\xC8\x30\0\0\0\x03one",
+        reply: b"\0\0\0\0\x05first",
+    },
+];
+
 #[test]
 fn calls_are_refused(rt: HostRuntime) -> Result<(), Fail> {
-    let steps = [
-        row(b"\xC8\x10\0\0\0\x03\0\0\0\x05onefirst", b"\0"),
-        row(
-            b"\xC8\x90\0\0\0\x03\0\0\0\x01\0\0\0\x01out\0\0\0\x03one",
-            b"\x01\0\0\0\0",
-        ),
-        row(
-            b"\xC8\x90\0\0\0\x06\0\0\0\0\0\0\0\0nosuch",
-            b"\x01\0\0\0\0",
-        ),
-        row(
-            b"\xC8\x90\0\0\0\x08\0\0\0\0\0\0\0\x02setindex\0\0\0\x01n\0\0\0\x011",
-            b"\x01\0\0\0\0",
-        ),
-        row(
-            b"\xC8\x61\0\0\0\x03\0\0\0\0\0\0\0\x01\0\0\0\0\0\0\0\x02one",
-            b"\x01",
-        ),
-        row(
-            b"\xC8\x68\0\0\0\x01\0\0\0\0\0\0\0\x03\0\0\0\x01foneg",
-            b"\x01",
-        ),
-        row(b"\xC8\x30\0\0\0\x03one", b"\0\0\0\0\x05first"),
-    ];
     let mut both = fresh(rt.alloc());
-    assert_eq!(&rt; first_wrong(rt.alloc(), &mut both, &steps)?, None);
+    assert_eq!(&rt; first_wrong(rt.alloc(), &mut both, &REFUSED)?, None);
     Ok(())
 }
 
@@ -170,22 +286,32 @@ fn long_put(alloc: Global) -> Result<Blob, AllocError> {
     Ok(bytes)
 }
 
+const LIMITED: [Step; 4] = [
+    Step {
+        bytes: b"\xC8\x31\0\0\0\x04\0\0\0\x01a\0\0\0\x01a\0\0\0\x01a\0\0\0\x01a",
+        reply: b"\x01",
+    },
+    Step {
+        bytes: b"\xC8\x12\0\0\0\x01\0\0\0\x01ax",
+        reply: b"\x01",
+    },
+    Step {
+        bytes: b"\xC8\x38\0\0\0\x01a",
+        reply: b"\0\x01\0\0\0",
+    },
+    Step {
+        bytes: b"\xC8\x81",
+        reply: b"\0\0\0\0\0\x01\0\0\x01",
+    },
+];
+
 // A reply of more than 67,108,864 bytes and a value of more than 16,777,216 are refused.
 #[test]
 fn limits_are_kept(rt: HostRuntime) -> Result<(), Fail> {
     let alloc = rt.alloc();
-    let steps = [
-        row(
-            b"\xC8\x31\0\0\0\x04\0\0\0\x01a\0\0\0\x01a\0\0\0\x01a\0\0\0\x01a",
-            b"\x01",
-        ),
-        row(b"\xC8\x12\0\0\0\x01\0\0\0\x01ax", b"\x01"),
-        row(b"\xC8\x38\0\0\0\x01a", b"\0\x01\0\0\0"),
-        row(b"\xC8\x81", b"\0\0\0\0\0\x01\0\0\x01"),
-    ];
     let mut both = fresh(alloc);
     let first = long_put(alloc)?;
     assert!(&rt; says(alloc, &mut both, first.as_slice(), b"\0")?);
-    assert_eq!(&rt; first_wrong(alloc, &mut both, &steps)?, None);
+    assert_eq!(&rt; first_wrong(alloc, &mut both, &LIMITED)?, None);
     Ok(())
 }
