@@ -1,10 +1,11 @@
 //! The plain body and the one in memory, side by side.
 use std::alloc::{AllocError, Global};
-use tc_base::{Blob, Blobs, Kind, Request};
+use tc_base::{Blob, Kind, Request};
 use tc_mem::MemBase;
 use tc_model::{Contents, Walk, apply_plain};
 use tc_space::NoSpace;
 use ty_base::Base;
+use ty_wire::{Front, read_request, take};
 
 /// Both bodies, each with its walk.
 #[derive(Drop)]
@@ -32,7 +33,7 @@ pub fn fresh(alloc: Global) -> Bodies {
     }
 }
 
-pub fn ask(alloc: Global, both: &mut Bodies, r: &Request) -> Result<Answer, AllocError> {
+fn ask_both(alloc: Global, both: &mut Bodies, r: &Request) -> Result<Answer, AllocError> {
     let mut plain = Blob::new(alloc);
     let first = apply_plain(alloc, &mut both.contents, &mut both.plain, r, &mut plain)?;
     let mut mem = Blob::new(alloc);
@@ -40,7 +41,7 @@ pub fn ask(alloc: Global, both: &mut Bodies, r: &Request) -> Result<Answer, Allo
     let Ok(second) = both.base.apply(&mut space, r, &mut both.walk, &mut mem) else {
         return Err(AllocError);
     };
-    let alike = first == second && plain == mem && both.base.kind() == both.contents.kind();
+    let alike = first == second && plain == mem;
     Ok(Answer {
         reply: plain,
         updated: first.updated,
@@ -48,79 +49,26 @@ pub fn ask(alloc: Global, both: &mut Bodies, r: &Request) -> Result<Answer, Allo
     })
 }
 
-pub fn blob(alloc: Global, bytes: &[u8]) -> Result<Blob, AllocError> {
-    Blob::from_slice(alloc, bytes)
-}
-
-pub fn blobs(alloc: Global, texts: &[&[u8]]) -> Result<Blobs, AllocError> {
-    let mut all = Blobs::new(alloc);
-    for text in texts {
-        all.push(Blob::from_slice(alloc, text)?)?;
+/// Asks both bodies the request that bytes spell, or answers none where they aren't one.
+pub fn ask(alloc: Global, both: &mut Bodies, bytes: &[u8]) -> Result<Option<Answer>, AllocError> {
+    match take(bytes) {
+        Front::Whole(_) => {
+            let r = read_request(alloc, bytes)?;
+            Ok(Some(ask_both(alloc, both, &r)?))
+        }
+        Front::Part | Front::Bad => Ok(None),
     }
-    Ok(all)
 }
 
-pub fn put(alloc: Global, key: &[u8], value: &[u8]) -> Result<Request, AllocError> {
-    Ok(Request::Put {
-        key: blob(alloc, key)?,
-        value: blob(alloc, value)?,
-    })
-}
-
-pub fn put_shl(
+/// Whether both reply to the request with these bytes.
+pub fn says(
     alloc: Global,
-    key: &[u8],
-    value: &[u8],
-    width: u32,
-) -> Result<Request, AllocError> {
-    Ok(Request::PutShl {
-        key: blob(alloc, key)?,
-        value: blob(alloc, value)?,
-        width,
-    })
-}
-
-pub fn get(alloc: Global, key: &[u8]) -> Result<Request, AllocError> {
-    Ok(Request::Get {
-        key: blob(alloc, key)?,
-    })
-}
-
-pub fn get_many(alloc: Global, keys: &[&[u8]]) -> Result<Request, AllocError> {
-    Ok(Request::MGet {
-        keys: blobs(alloc, keys)?,
-    })
-}
-
-pub fn out(alloc: Global, key: &[u8]) -> Result<Request, AllocError> {
-    Ok(Request::Out {
-        key: blob(alloc, key)?,
-    })
-}
-
-pub fn add(alloc: Global, key: &[u8], number: u32) -> Result<Request, AllocError> {
-    Ok(Request::AddInt {
-        key: blob(alloc, key)?,
-        number,
-    })
-}
-
-pub fn list(alloc: Global, prefix: &[u8], maximum: i32) -> Result<Request, AllocError> {
-    Ok(Request::FwmKeys {
-        prefix: blob(alloc, prefix)?,
-        maximum,
-    })
-}
-
-pub fn call(
-    alloc: Global,
-    name: &[u8],
-    options: u32,
-    args: &[&[u8]],
-) -> Result<Request, AllocError> {
-    Ok(Request::Misc {
-        name: blob(alloc, name)?,
-        options,
-        args: blobs(alloc, args)?,
-    })
+    both: &mut Bodies,
+    bytes: &[u8],
+    reply: &[u8],
+) -> Result<bool, AllocError> {
+    match ask(alloc, both, bytes)? {
+        Some(answer) => Ok(answer.alike && answer.reply.as_slice() == reply),
+        None => Ok(false),
+    }
 }

@@ -1,7 +1,7 @@
-use crate::bodies::{ask, blob, fresh, list};
+use crate::bodies::{Bodies, ask, fresh};
 use std::alloc::{AllocError, Global};
 use std::test::Fail;
-use tc_base::{Blob, Blobs, Request};
+use tc_base::Blob;
 
 // Numbers that look drawn by chance, and are the same in each run.
 #[derive(Drop)]
@@ -10,184 +10,224 @@ struct Draws {
 }
 
 impl Draws {
-    // A number below a bound, or 0.
-    fn below(&mut self, bound: u64) -> u64 {
+    fn next(&mut self) -> u64 {
         self.state = self
             .state
             .wrapping_mul(6_364_136_223_846_793_005)
             .wrapping_add(1_442_695_040_888_963_407);
-        if bound == 0 {
-            return 0;
-        }
-        (self.state >> 33) % bound
+        self.state >> 33
     }
 
     // One of some numbers, or 0.
-    fn of(&mut self, numbers: &[u64]) -> u64 {
-        let place = self.below(numbers.len() as u64) as usize;
-        match numbers.get(place) {
-            Some(number) => *number,
-            None => 0,
+    fn of(&mut self, numbers: &[u32]) -> u32 {
+        if numbers.is_empty() {
+            return 0;
         }
+        let place = self.next() % numbers.len() as u64;
+        numbers[place as usize]
     }
 
-    fn letters(&mut self, alloc: Global, len: u64) -> Result<Blob, AllocError> {
+    // A text of so many of the letters a, b and c.
+    fn text(&mut self, alloc: Global, len: u32) -> Result<Blob, AllocError> {
         let mut bytes = Blob::new(alloc);
         for _ in 0..len {
-            bytes.push(b'a' + (self.below(3) as u8).min(2))?;
+            let letter = match self.next() % 3 {
+                0 => b'a',
+                1 => b'b',
+                _ => b'c',
+            };
+            bytes.push(letter)?;
         }
         Ok(bytes)
     }
+}
 
-    fn key(&mut self, alloc: Global) -> Result<Blob, AllocError> {
-        let len = self.of(&[0, 1, 1, 2, 2, 3]);
-        if self.below(40) == 0 {
-            let mut long = Blob::new(alloc);
-            for _ in 0..self.of(&[127, 128]) {
-                long.push(0xFF)?;
+// Lengths of keys and of values, and numbers: widths, terms of sums, and maxima, of which the last three are negative.
+const KEYS: [u32; 16] = [0, 1, 1, 1, 1, 2, 2, 2, 2, 2, 2, 3, 3, 3, 127, 128];
+
+const VALUES: [u32; 10] = [0, 1, 3, 4, 4, 4, 5, 127, 128, 300];
+
+const NUMBERS: [u32; 9] = [
+    0,
+    1,
+    2,
+    5,
+    200,
+    0x7FFF_FFFF,
+    0x8000_0000,
+    0xFFFF_FFFE,
+    0xFFFF_FFFF,
+];
+
+// A request's command byte, and its fields: keys, values, numbers of four and eight bytes, and counted keys.
+#[derive(Drop)]
+struct Form {
+    command: u8,
+    fields: &'static [u8],
+}
+
+fn form_of(number: u64) -> Form {
+    let (command, fields) = match number {
+        0 => (0x10, b"kv".as_slice()),
+        1 => (0x11, b"kv".as_slice()),
+        2 => (0x12, b"kv".as_slice()),
+        3 => (0x13, b"kvw".as_slice()),
+        4 => (0x18, b"kv".as_slice()),
+        5 => (0x20, b"k".as_slice()),
+        6 => (0x30, b"k".as_slice()),
+        7 => (0x31, b"m".as_slice()),
+        8 => (0x38, b"k".as_slice()),
+        9 => (0x51, b"".as_slice()),
+        10 => (0x58, b"kw".as_slice()),
+        11 => (0x60, b"kw".as_slice()),
+        _ => return rare(number),
+    };
+    Form { command, fields }
+}
+
+fn rare(number: u64) -> Form {
+    let (command, fields) = match number {
+        12 => (0x50, b"".as_slice()),
+        13 => (0x61, b"kll".as_slice()),
+        14 => (0x68, b"kwkv".as_slice()),
+        15 => (0x70, b"".as_slice()),
+        16 => (0x71, b"k".as_slice()),
+        17 => (0x73, b"k".as_slice()),
+        18 => (0x74, b"klw".as_slice()),
+        19 => (0x78, b"kwlw".as_slice()),
+        20 => (0x80, b"".as_slice()),
+        21 => (0x81, b"".as_slice()),
+        22 => (0x88, b"".as_slice()),
+        23 => (0x90, b"kwm".as_slice()),
+        24 => (0xA0, b"lw".as_slice()),
+        _ => (0x72, b"".as_slice()),
+    };
+    Form { command, fields }
+}
+
+fn push_number(into: &mut Blob, number: u32) -> Result<(), AllocError> {
+    into.append(&number.to_be_bytes())
+}
+
+fn push_text(
+    alloc: Global,
+    draws: &mut Draws,
+    len: u32,
+    heads: &mut Blob,
+    texts: &mut Blob,
+) -> Result<(), AllocError> {
+    let text = draws.text(alloc, len)?;
+    push_number(heads, len)?;
+    texts.append(text.as_slice())
+}
+
+// Up to five keys, each behind its size.
+fn push_keys(
+    alloc: Global,
+    draws: &mut Draws,
+    count: u32,
+    texts: &mut Blob,
+) -> Result<(), AllocError> {
+    for _ in 0..count {
+        let len = draws.of(&KEYS);
+        let text = draws.text(alloc, len)?;
+        push_number(texts, len)?;
+        texts.append(text.as_slice())?;
+    }
+    Ok(())
+}
+
+fn push_field(
+    alloc: Global,
+    draws: &mut Draws,
+    field: u8,
+    heads: &mut Blob,
+    texts: &mut Blob,
+) -> Result<(), AllocError> {
+    match field {
+        b'k' => {
+            let len = draws.of(&KEYS);
+            push_text(alloc, draws, len, heads, texts)
+        }
+        b'v' => {
+            let len = draws.of(&VALUES);
+            push_text(alloc, draws, len, heads, texts)
+        }
+        b'm' => {
+            let count = draws.of(&[0, 1, 2, 3, 4, 5]);
+            push_number(heads, count)?;
+            push_keys(alloc, draws, count, texts)
+        }
+        b'l' => {
+            push_number(heads, 1)?;
+            push_number(heads, 2)
+        }
+        _ => push_number(heads, draws.of(&NUMBERS)),
+    }
+}
+
+// A request's bytes.
+fn spelled(alloc: Global, draws: &mut Draws, form: &Form) -> Result<Blob, AllocError> {
+    let mut heads = Blob::from_slice(alloc, &[0xC8, form.command])?;
+    let mut texts = Blob::new(alloc);
+    for field in form.fields {
+        push_field(alloc, draws, *field, &mut heads, &mut texts)?;
+    }
+    heads.append(texts.as_slice())?;
+    Ok(heads)
+}
+
+// Which request comes next: most are about keys, and few empty the contents.
+fn chosen(draws: &mut Draws) -> u64 {
+    match draws.next() % 100 {
+        0..85 => draws.next() % 12,
+        85..99 => 12 + draws.next() % 13,
+        _ => 25,
+    }
+}
+
+#[derive(Drop)]
+struct Count {
+    updated: u64,
+    unlike: u64,
+}
+
+fn turn(
+    alloc: Global,
+    both: &mut Bodies,
+    draws: &mut Draws,
+    count: &mut Count,
+) -> Result<(), AllocError> {
+    let next = form_of(chosen(draws));
+    let bytes = spelled(alloc, draws, &next)?;
+    match ask(alloc, both, bytes.as_slice())? {
+        Some(answer) => {
+            if answer.updated {
+                count.updated = count.updated.saturating_add(1);
             }
-            return Ok(long);
+            if !answer.alike {
+                count.unlike = count.unlike.saturating_add(1);
+            }
         }
-        self.letters(alloc, len)
+        None => count.unlike = count.unlike.saturating_add(1),
     }
-
-    fn value(&mut self, alloc: Global) -> Result<Blob, AllocError> {
-        let len = self.of(&[0, 1, 3, 4, 4, 4, 5, 127, 128, 300]);
-        self.letters(alloc, len)
-    }
-
-    fn keys(&mut self, alloc: Global) -> Result<Blobs, AllocError> {
-        let mut keys = Blobs::new(alloc);
-        for _ in 0..self.below(6) {
-            keys.push(self.key(alloc)?)?;
-        }
-        Ok(keys)
-    }
+    Ok(())
 }
 
-fn store(alloc: Global, draws: &mut Draws, number: u64) -> Result<Request, AllocError> {
-    let key = draws.key(alloc)?;
-    let value = draws.value(alloc)?;
-    Ok(match number {
-        0 => Request::Put { key, value },
-        1 => Request::PutKeep { key, value },
-        2 => Request::PutCat { key, value },
-        3 => Request::PutShl {
-            key,
-            value,
-            width: draws.of(&[0, 1, 3, 4, 5, 200, 0xFFFF_FFFF]) as u32,
-        },
-        4 => Request::PutNr { key, value },
-        _ => Request::AddInt {
-            key,
-            number: draws.of(&[0, 1, 0x7FFF_FFFF, 0x8000_0000, 0xFFFF_FFFF]) as u32,
-        },
-    })
-}
-
-fn question(alloc: Global, draws: &mut Draws, number: u64) -> Result<Request, AllocError> {
-    Ok(match number {
-        0 => Request::Out {
-            key: draws.key(alloc)?,
-        },
-        1 => Request::Get {
-            key: draws.key(alloc)?,
-        },
-        2 => Request::MGet {
-            keys: draws.keys(alloc)?,
-        },
-        3 => Request::Vsiz {
-            key: draws.key(alloc)?,
-        },
-        4 => Request::IterInit,
-        5 | 6 => Request::IterNext,
-        7 => list(alloc, draws.key(alloc)?.as_slice(), -1)?,
-        8 => list(alloc, draws.key(alloc)?.as_slice(), i32::MIN)?,
-        _ => list(alloc, draws.key(alloc)?.as_slice(), draws.below(5) as i32)?,
-    })
-}
-
-fn other(alloc: Global, draws: &mut Draws, number: u64) -> Result<Request, AllocError> {
-    Ok(match number {
-        0 => Request::AddDouble {
-            key: draws.key(alloc)?,
-            integer: 1,
-            fraction: 2,
-        },
-        1 => Request::Ext {
-            name: draws.key(alloc)?,
-            options: 0,
-            key: draws.key(alloc)?,
-            value: draws.value(alloc)?,
-        },
-        2 => Request::Sync,
-        3 => Request::Optimize {
-            text: draws.key(alloc)?,
-        },
-        4 => Request::Copy {
-            path: draws.key(alloc)?,
-        },
-        5 => Request::Restore {
-            path: draws.key(alloc)?,
-            timestamp: 1,
-            options: 0,
-        },
-        6 => Request::SetMst {
-            host: draws.key(alloc)?,
-            port: 1,
-            timestamp: 2,
-            options: 3,
-        },
-        7 => Request::Misc {
-            name: blob(alloc, b"put")?,
-            options: 0,
-            args: draws.keys(alloc)?,
-        },
-        8 => Request::Repl {
-            timestamp: 0,
-            server: 1,
-        },
-        9 => Request::Rnum,
-        10 => Request::Size,
-        _ => Request::Stat,
-    })
-}
-
-fn request(alloc: Global, draws: &mut Draws) -> Result<Request, AllocError> {
-    if draws.below(300) == 0 {
-        return Ok(Request::Vanish);
-    }
-    let kind = draws.below(10);
-    let number = draws.below(12);
-    if kind < 5 {
-        return store(alloc, draws, number % 6);
-    }
-    if kind < 9 {
-        return question(alloc, draws, number % 10);
-    }
-    other(alloc, draws, number)
-}
-
-// Both bodies answer thousands of requests alike, and count alike.
+// Both bodies answer thousands of requests alike.
 #[test]
 fn bodies_answer_alike(rt: HostRuntime) -> Result<(), Fail> {
     let alloc = rt.alloc();
     let mut both = fresh(alloc);
     let mut draws = Draws { state: 20_091_117 };
-    let mut updated: u64 = 0;
-    for at in 0..8000u32 {
-        let r = request(alloc, &mut draws)?;
-        let answer = ask(alloc, &mut both, &r)?;
-        assert!(&rt; answer.alike, "request {at}");
-        if answer.updated {
-            updated = updated.saturating_add(1);
-        }
-        if at % 50 == 0 {
-            for count in [Request::Rnum, Request::Size, Request::Stat] {
-                assert!(&rt; ask(alloc, &mut both, &count)?.alike, "request {at}");
-            }
-        }
+    let mut count = Count {
+        updated: 0,
+        unlike: 0,
+    };
+    for _ in 0..8000 {
+        turn(alloc, &mut both, &mut draws, &mut count)?;
     }
-    assert!(&rt; updated > 2000);
+    assert_eq!(&rt; count.unlike, 0);
+    assert!(&rt; count.updated > 2000);
     Ok(())
 }

@@ -1,141 +1,296 @@
-use crate::bodies::{
-    Bodies, add, ask, blob, blobs, call, fresh, get, get_many, list, out, put, put_shl,
-};
+use crate::bodies::{Bodies, fresh, says};
 use std::alloc::{AllocError, Global};
 use std::test::Fail;
-use tc_base::Request;
+use tc_base::Blob;
 
-// Whether both bodies reply with these bytes.
-fn says(alloc: Global, both: &mut Bodies, r: Request, reply: &[u8]) -> Result<bool, AllocError> {
-    let answer = ask(alloc, both, &r)?;
-    Ok(answer.alike && answer.reply.as_slice() == reply)
+// A request's bytes, and those of its reply.
+#[derive(Drop)]
+struct Step {
+    bytes: &'static [u8],
+    reply: &'static [u8],
 }
 
+// The place of the first step that isn't answered so.
+fn first_wrong(
+    alloc: Global,
+    both: &mut Bodies,
+    steps: &[Step],
+) -> Result<Option<usize>, AllocError> {
+    for (i, s) in steps.iter().enumerate() {
+        if !says(alloc, both, s.bytes, s.reply)? {
+            return Ok(Some(i));
+        }
+    }
+    Ok(None)
+}
+
+// Values are shifted.
+const SHIFTED: &[Step] = &[
+    Step {
+        bytes: b"\xC8\x13\0\0\0\x01\0\0\0\x03\0\0\0\x04kabc",
+        reply: b"\0",
+    },
+    Step {
+        bytes: b"\xC8\x13\0\0\0\x01\0\0\0\x02\0\0\0\x04kde",
+        reply: b"\0",
+    },
+    Step {
+        bytes: b"\xC8\x30\0\0\0\x01k",
+        reply: b"\0\0\0\0\x04bcde",
+    },
+    Step {
+        bytes: b"\xC8\x13\0\0\0\x01\0\0\0\x01\0\0\0\0kf",
+        reply: b"\0",
+    },
+    Step {
+        bytes: b"\xC8\x30\0\0\0\x01k",
+        reply: b"\0\0\0\0\0",
+    },
+];
+
+// Numbers are added and wrap.
+const ADDED: &[Step] = &[
+    Step {
+        bytes: b"\xC8\x10\0\0\0\x01\0\0\0\x04n\xFF\xFF\xFF\x7F",
+        reply: b"\0",
+    },
+    Step {
+        bytes: b"\xC8\x60\0\0\0\x01\0\0\0\x01n",
+        reply: b"\0\x80\0\0\0",
+    },
+    Step {
+        bytes: b"\xC8\x30\0\0\0\x01n",
+        reply: b"\0\0\0\0\x04\0\0\0\x80",
+    },
+    Step {
+        bytes: b"\xC8\x60\0\0\0\x01\x80\0\0\x01n",
+        reply: b"\0\0\0\0\x01",
+    },
+    Step {
+        bytes: b"\xC8\x60\0\0\0\x01\0\0\0\x07m",
+        reply: b"\0\0\0\0\x07",
+    },
+    Step {
+        bytes: b"\xC8\x10\0\0\0\x01\0\0\0\x03nabc",
+        reply: b"\0",
+    },
+    Step {
+        bytes: b"\xC8\x60\0\0\0\x01\0\0\0\x01n",
+        reply: b"\x01",
+    },
+    Step {
+        bytes: b"\xC8\x30\0\0\0\x01n",
+        reply: b"\0\0\0\0\x03abc",
+    },
+];
+
+// Values are given again.
+const GIVEN: &[Step] = &[
+    Step {
+        bytes: b"\xC8\x10\0\0\0\x03\0\0\0\x05onefirst",
+        reply: b"\0",
+    },
+    Step {
+        bytes: b"\xC8\x31\0\0\0\x03\0\0\0\x03one\0\0\0\x03one\0\0\0\x01x",
+        reply: b"\0\0\0\0\x02\0\0\0\x03\0\0\0\x05onefirst\0\0\0\x03\0\0\0\x05onefirst",
+    },
+    Step {
+        bytes: b"\xC8\x31\0\0\0\0",
+        reply: b"\0\0\0\0\0",
+    },
+    Step {
+        bytes: b"\xC8\x38\0\0\0\x03one",
+        reply: b"\0\0\0\0\x05",
+    },
+    Step {
+        bytes: b"\xC8\x38\0\0\0\x01x",
+        reply: b"\x01",
+    },
+];
+
+// Keys are walked and listed.
+const WALKED: &[Step] = &[
+    Step {
+        bytes: b"\xC8\x51",
+        reply: b"\x01",
+    },
+    Step {
+        bytes: b"\xC8\x10\0\0\0\x01\0\0\0\x01c3",
+        reply: b"\0",
+    },
+    Step {
+        bytes: b"\xC8\x10\0\0\0\x01\0\0\0\x01a1",
+        reply: b"\0",
+    },
+    Step {
+        bytes: b"\xC8\x10\0\0\0\x01\0\0\0\x01b2",
+        reply: b"\0",
+    },
+    Step {
+        bytes: b"\xC8\x50",
+        reply: b"\0",
+    },
+    Step {
+        bytes: b"\xC8\x20\0\0\0\x01a",
+        reply: b"\0",
+    },
+    Step {
+        bytes: b"\xC8\x20\0\0\0\x01a",
+        reply: b"\x01",
+    },
+    Step {
+        bytes: b"\xC8\x10\0\0\0\x01\0\0\0\x01d4",
+        reply: b"\0",
+    },
+    Step {
+        bytes: b"\xC8\x51",
+        reply: b"\0\0\0\0\x01b",
+    },
+    Step {
+        bytes: b"\xC8\x51",
+        reply: b"\0\0\0\0\x01c",
+    },
+    Step {
+        bytes: b"\xC8\x51",
+        reply: b"\x01",
+    },
+    Step {
+        bytes: b"\xC8\x51",
+        reply: b"\x01",
+    },
+    Step {
+        bytes: b"\xC8\x58\0\0\0\0\xFF\xFF\xFF\xFF",
+        reply: b"\0\0\0\0\x03\0\0\0\x01b\0\0\0\x01c\0\0\0\x01d",
+    },
+    Step {
+        bytes: b"\xC8\x58\0\0\0\0\0\0\0\0",
+        reply: b"\0\0\0\0\0",
+    },
+    Step {
+        bytes: b"\xC8\x58\0\0\0\0\0\0\0\x01",
+        reply: b"\0\0\0\0\x01\0\0\0\x01b",
+    },
+    Step {
+        bytes: b"\xC8\x58\0\0\0\x01\0\0\0\x09c",
+        reply: b"\0\0\0\0\x01\0\0\0\x01c",
+    },
+];
+
+// Contents are counted.
+const COUNTED: &[Step] = &[
+    Step {
+        bytes: b"\xC8\x10\0\0\0\x01\0\0\0\x01a1",
+        reply: b"\0",
+    },
+    Step {
+        bytes: b"\xC8\x88",
+        reply: b"\0\0\0\0\x22type\ton-memory hash\nrnum\t1\nsize\t2\n",
+    },
+    Step {
+        bytes: b"\xC8\x80",
+        reply: b"\0\0\0\0\0\0\0\0\x01",
+    },
+    Step {
+        bytes: b"\xC8\x81",
+        reply: b"\0\0\0\0\0\0\0\0\x02",
+    },
+    Step {
+        bytes: b"\xC8\x72",
+        reply: b"\0",
+    },
+    Step {
+        bytes: b"\xC8\x81",
+        reply: b"\0\0\0\0\0\0\0\0\0",
+    },
+    Step {
+        bytes: b"\xC8\x30\0\0\0\x01a",
+        reply: b"\x01",
+    },
+];
+
+// Calls are refused.
+const REFUSED: &[Step] = &[
+    Step {
+        bytes: b"\xC8\x10\0\0\0\x03\0\0\0\x05onefirst",
+        reply: b"\0",
+    },
+    Step {
+        bytes: b"\xC8\x90\0\0\0\x03\0\0\0\x01\0\0\0\x01out\0\0\0\x03one",
+        reply: b"\x01\0\0\0\0",
+    },
+    Step {
+        bytes: b"\xC8\x90\0\0\0\x06\0\0\0\0\0\0\0\0nosuch",
+        reply: b"\x01\0\0\0\0",
+    },
+    Step {
+        bytes: b"\xC8\x90\0\0\0\x08\0\0\0\0\0\0\0\x02setindex\0\0\0\x01n\0\0\0\x011",
+        reply: b"\x01\0\0\0\0",
+    },
+    Step {
+        bytes: b"\xC8\x61\0\0\0\x03\0\0\0\0\0\0\0\x01\0\0\0\0\0\0\0\x02one",
+        reply: b"\x01",
+    },
+    Step {
+        bytes: b"\xC8\x68\0\0\0\x01\0\0\0\0\0\0\0\x03\0\0\0\x01foneg",
+        reply: b"\x01",
+    },
+    Step {
+        bytes: b"\xC8\x30\0\0\0\x03one",
+        reply: b"\0\0\0\0\x05first",
+    },
+];
+
+// Both bodies reply so, each table from empty contents.
 #[test]
-fn values_are_shifted(rt: HostRuntime) -> Result<(), Fail> {
+fn worked_requests_are_answered(rt: HostRuntime) -> Result<(), Fail> {
     let alloc = rt.alloc();
-    let mut b = fresh(alloc);
-    assert!(&rt; says(alloc, &mut b, put_shl(alloc, b"k", b"abc", 4)?, b"\0")?);
-    assert!(&rt; says(alloc, &mut b, put_shl(alloc, b"k", b"de", 4)?, b"\0")?);
-    assert!(&rt; says(alloc, &mut b, get(alloc, b"k")?, b"\0\0\0\0\x04bcde")?);
-    assert!(&rt; says(alloc, &mut b, put_shl(alloc, b"k", b"f", 0)?, b"\0")?);
-    assert!(&rt; says(alloc, &mut b, get(alloc, b"k")?, b"\0\0\0\0\0")?);
+    for (i, steps) in [SHIFTED, ADDED, GIVEN, WALKED, COUNTED, REFUSED]
+        .iter()
+        .enumerate()
+    {
+        let mut both = fresh(alloc);
+        let wrong = first_wrong(alloc, &mut both, steps)?;
+        assert!(&rt; wrong.is_none(), "table {i}");
+    }
     Ok(())
 }
 
-#[test]
-fn numbers_are_added_and_wrap(rt: HostRuntime) -> Result<(), Fail> {
-    let alloc = rt.alloc();
-    let mut b = fresh(alloc);
-    assert!(&rt; says(alloc, &mut b, put(alloc, b"n", b"\xFF\xFF\xFF\x7F")?, b"\0")?);
-    assert!(&rt; says(alloc, &mut b, add(alloc, b"n", 1)?, b"\0\x80\0\0\0")?);
-    assert!(&rt; says(alloc, &mut b, get(alloc, b"n")?, b"\0\0\0\0\x04\0\0\0\x80")?);
-    assert!(&rt; says(alloc, &mut b, add(alloc, b"n", 0x8000_0001)?, b"\0\0\0\0\x01")?);
-    assert!(&rt; says(alloc, &mut b, add(alloc, b"m", 7)?, b"\0\0\0\0\x07")?);
-    assert!(&rt; says(alloc, &mut b, put(alloc, b"n", b"abc")?, b"\0")?);
-    assert!(&rt; says(alloc, &mut b, add(alloc, b"n", 1)?, b"\x01")?);
-    assert!(&rt; says(alloc, &mut b, get(alloc, b"n")?, b"\0\0\0\0\x03abc")?);
-    Ok(())
+// The put of a value of 16,777,216 bytes under `a`.
+fn long_put(alloc: Global) -> Result<Blob, AllocError> {
+    let mut bytes = Blob::from_slice(alloc, b"\xC8\x10\0\0\0\x01\x01\0\0\0a")?;
+    let piece = [b'v'; 4096];
+    for _ in 0..4096 {
+        bytes.append(&piece)?;
+    }
+    Ok(bytes)
 }
 
-#[test]
-fn many_values_are_given_again(rt: HostRuntime) -> Result<(), Fail> {
-    let alloc = rt.alloc();
-    let mut b = fresh(alloc);
-    let both = b"\0\0\0\0\x02\0\0\0\x03\0\0\0\x05onefirst\0\0\0\x03\0\0\0\x05onefirst";
-    assert!(&rt; says(alloc, &mut b, put(alloc, b"one", b"first")?, b"\0")?);
-    assert!(&rt; says(alloc, &mut b, get_many(alloc, &[b"one", b"one", b"x"])?, both)?);
-    assert!(&rt; says(alloc, &mut b, get_many(alloc, &[])?, b"\0\0\0\0\0")?);
-    assert!(&rt; says(alloc, &mut b, Request::Vsiz { key: blob(alloc, b"one")? }, b"\0\0\0\0\x05")?);
-    assert!(&rt; says(alloc, &mut b, Request::Vsiz { key: blob(alloc, b"x")? }, b"\x01")?);
-    Ok(())
-}
-
-#[test]
-fn keys_are_walked_and_listed(rt: HostRuntime) -> Result<(), Fail> {
-    let alloc = rt.alloc();
-    let mut b = fresh(alloc);
-    assert!(&rt; says(alloc, &mut b, Request::IterNext, b"\x01")?);
-    assert!(&rt; says(alloc, &mut b, put(alloc, b"c", b"3")?, b"\0")?);
-    assert!(&rt; says(alloc, &mut b, put(alloc, b"a", b"1")?, b"\0")?);
-    assert!(&rt; says(alloc, &mut b, put(alloc, b"b", b"2")?, b"\0")?);
-    assert!(&rt; says(alloc, &mut b, Request::IterInit, b"\0")?);
-    assert!(&rt; says(alloc, &mut b, out(alloc, b"a")?, b"\0")?);
-    assert!(&rt; says(alloc, &mut b, out(alloc, b"a")?, b"\x01")?);
-    assert!(&rt; says(alloc, &mut b, put(alloc, b"d", b"4")?, b"\0")?);
-    assert!(&rt; says(alloc, &mut b, Request::IterNext, b"\0\0\0\0\x01b")?);
-    assert!(&rt; says(alloc, &mut b, Request::IterNext, b"\0\0\0\0\x01c")?);
-    assert!(&rt; says(alloc, &mut b, Request::IterNext, b"\x01")?);
-    assert!(&rt; says(alloc, &mut b, Request::IterNext, b"\x01")?);
-    let all = b"\0\0\0\0\x03\0\0\0\x01b\0\0\0\x01c\0\0\0\x01d";
-    assert!(&rt; says(alloc, &mut b, list(alloc, b"", -1)?, all)?);
-    assert!(&rt; says(alloc, &mut b, list(alloc, b"", 0)?, b"\0\0\0\0\0")?);
-    assert!(&rt; says(alloc, &mut b, list(alloc, b"", 1)?, b"\0\0\0\0\x01\0\0\0\x01b")?);
-    assert!(&rt; says(alloc, &mut b, list(alloc, b"c", 9)?, b"\0\0\0\0\x01\0\0\0\x01c")?);
-    Ok(())
-}
-
-#[test]
-fn contents_are_counted(rt: HostRuntime) -> Result<(), Fail> {
-    let alloc = rt.alloc();
-    let mut b = fresh(alloc);
-    let stat = b"\0\0\0\0\x22type\ton-memory hash\nrnum\t1\nsize\t2\n";
-    assert!(&rt; says(alloc, &mut b, put(alloc, b"a", b"1")?, b"\0")?);
-    assert!(&rt; says(alloc, &mut b, Request::Stat, stat)?);
-    assert!(&rt; says(alloc, &mut b, Request::Rnum, b"\0\0\0\0\0\0\0\0\x01")?);
-    assert!(&rt; says(alloc, &mut b, Request::Size, b"\0\0\0\0\0\0\0\0\x02")?);
-    assert!(&rt; says(alloc, &mut b, Request::Vanish, b"\0")?);
-    assert!(&rt; says(alloc, &mut b, Request::Size, b"\0\0\0\0\0\0\0\0\0")?);
-    assert!(&rt; says(alloc, &mut b, get(alloc, b"a")?, b"\x01")?);
-    Ok(())
-}
-
-#[test]
-fn calls_are_refused(rt: HostRuntime) -> Result<(), Fail> {
-    let alloc = rt.alloc();
-    let mut b = fresh(alloc);
-    let failed = b"\x01\0\0\0\0";
-    assert!(&rt; says(alloc, &mut b, put(alloc, b"one", b"first")?, b"\0")?);
-    assert!(&rt; says(alloc, &mut b, call(alloc, b"out", 1, &[b"one"])?, failed)?);
-    assert!(&rt; says(alloc, &mut b, call(alloc, b"nosuch", 0, &[])?, failed)?);
-    assert!(&rt; says(alloc, &mut b, call(alloc, b"setindex", 0, &[b"n", b"1"])?, failed)?);
-    let fraction = Request::AddDouble {
-        key: blob(alloc, b"one")?,
-        integer: 1,
-        fraction: 2,
-    };
-    assert!(&rt; says(alloc, &mut b, fraction, b"\x01")?);
-    let script = Request::Ext {
-        name: blob(alloc, b"f")?,
-        options: 0,
-        key: blob(alloc, b"one")?,
-        value: blob(alloc, b"")?,
-    };
-    assert!(&rt; says(alloc, &mut b, script, b"\x01")?);
-    assert!(&rt; says(alloc, &mut b, get(alloc, b"one")?, b"\0\0\0\0\x05first")?);
-    Ok(())
-}
+const LIMITED: &[Step] = &[
+    Step {
+        bytes: b"\xC8\x31\0\0\0\x04\0\0\0\x01a\0\0\0\x01a\0\0\0\x01a\0\0\0\x01a",
+        reply: b"\x01",
+    },
+    Step {
+        bytes: b"\xC8\x12\0\0\0\x01\0\0\0\x01ax",
+        reply: b"\x01",
+    },
+    Step {
+        bytes: b"\xC8\x38\0\0\0\x01a",
+        reply: b"\0\x01\0\0\0",
+    },
+    Step {
+        bytes: b"\xC8\x81",
+        reply: b"\0\0\0\0\0\x01\0\0\x01",
+    },
+];
 
 // A reply of more than 67,108,864 bytes and a value of more than 16,777,216 are refused.
 #[test]
 fn limits_are_kept(rt: HostRuntime) -> Result<(), Fail> {
     let alloc = rt.alloc();
-    let mut b = fresh(alloc);
-    let mut value = Vec::new(alloc);
-    value.resize(16_777_216, b'v')?;
-    assert!(&rt; says(alloc, &mut b, put(alloc, b"a", &value)?, b"\0")?);
-    let three = Request::MGet {
-        keys: blobs(alloc, &[b"a", b"a", b"a"])?,
-    };
-    let answer = ask(alloc, &mut b, &three)?;
-    assert!(&rt; answer.alike);
-    assert_eq!(&rt; answer.reply.len(), 50_331_680);
-    assert!(&rt; says(alloc, &mut b, get_many(alloc, &[b"a", b"a", b"a", b"a"])?, b"\x01")?);
-    let more = Request::PutCat {
-        key: blob(alloc, b"a")?,
-        value: blob(alloc, b"x")?,
-    };
-    assert!(&rt; says(alloc, &mut b, more, b"\x01")?);
-    assert!(&rt; says(alloc, &mut b, Request::Size, b"\0\0\0\0\0\x01\0\0\x01")?);
+    let mut both = fresh(alloc);
+    let first = long_put(alloc)?;
+    assert!(&rt; says(alloc, &mut both, first.as_slice(), b"\0")?);
+    assert!(&rt; first_wrong(alloc, &mut both, LIMITED)?.is_none());
     Ok(())
 }
