@@ -2,6 +2,10 @@
 #![tactic(auto)]
 
 #[cfg(test)]
-mod rows;
+mod connections;
 #[cfg(test)]
-mod tests;
+mod played;
+#[cfg(test)]
+mod requests;
+#[cfg(test)]
+mod rows;

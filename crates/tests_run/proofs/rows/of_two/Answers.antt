@@ -1,0 +1,28 @@
+use Rattle.std.proofs.Common.{◌≡◌, ℕ, List, [], ◌∷◌, ◌++◌, ap, ◌∙◌}
+use Rattle.std.specs.Prelude.{Option, Some, None, option_map, codes}
+use Rattle.std.specs.FinMap.{empty, insert, get-empty, get-insert}
+use Rattle.std.specs.Ordering.{nat_cmp}
+use Rattle.std.specs.Cmp.Lexicographic.{slice_cmp, nat_list_cmp_total}
+use Rattle.tc_base.specs.declared.request.Request.TheVariants.{Get}
+use Rattle.tc_base.specs.declared.request.Reply.TheVariants as reply
+use Rattle.ty_wire.specs.Spelling.{reply_bytes, spelling}
+use Rattle.ty_wire.specs.Reading.{request_at, fields_at}
+use Rattle.tc_model.specs.Maps.{Map}
+use Rattle.tc_model.specs.Contents.{with_map}
+use Rattle.tc_model.specs.Apply.{apply, read}
+use Rattle.ty_world.specs.World.{round_one, owed_for}
+use Rattle.tk_top.specs.Serving.{no_keys}
+use Rattle.tests_run.proofs.rows.of_two.Goals as goal
+
+answer : Map → List ℕ → Option (List ℕ) → List ℕ
+answer m key o = owed_for (Get key) (read (Get key) (option_map (λ value. reply.Value value) o) (with_map no_keys m) None)
+
+pub returns-clause-goes_on : goal.returns-clause-goes_on
+unfolding apply round_one request_at fields_at spelling answer
+returns-clause-goes_on c = ap (λ (o : Option (List ℕ)). answer (insert empty (codes "one") (codes "first")) (codes "one") o ∷ []) (get-insert nat_list_cmp_total empty (codes "one") (codes "first") (codes "one"))
+
+pub returns-clause-in_rounds : goal.returns-clause-in_rounds
+unfolding apply round_one request_at fields_at spelling answer
+returns-clause-in_rounds c =
+    let m = insert (insert empty (codes "a") (codes "1")) (codes "a") (codes "2") in
+    ap (λ (o : Option (List ℕ)). (0 ∷ []) ∷ (0 ∷ answer m (codes "a") o) ∷ []) (get-insert nat_list_cmp_total (insert empty (codes "a") (codes "1")) (codes "a") (codes "2") (codes "a"))

@@ -1,0 +1,198 @@
+//! Requests of one connection, in whatever pieces they come.
+use crate::played::{FOUND, GET, PUT, alone, joined, ran, words};
+use std::test::Fail;
+
+#[derive(Drop)]
+struct Case {
+    name: &'static str,
+    input: &'static [&'static [u8]],
+    sent: &'static [&'static [u8]],
+}
+
+const FIRST: &[Case] = &[
+    Case {
+        name: "put and get",
+        input: &[PUT, GET],
+        sent: &[b"\0", FOUND],
+    },
+    Case {
+        name: "no input",
+        input: &[],
+        sent: &[],
+    },
+    Case {
+        name: "get alone",
+        input: &[GET],
+        sent: &[b"\x01"],
+    },
+    Case {
+        name: "a put that is cut short",
+        input: &[PUT, b"\xC8\x10\0\0\0\x01\0\0\0\x05xab"],
+        sent: &[b"\0"],
+    },
+    Case {
+        name: "no request behind a put",
+        input: &[PUT, b"\xC8\x99", GET],
+        sent: &[b"\0"],
+    },
+    Case {
+        name: "the last put counts",
+        input: &[PUT, b"\xC8\x10\0\0\0\x03\0\0\0\0one", GET],
+        sent: &[b"\0\0", b"\0\0\0\0\0"],
+    },
+    Case {
+        name: "a put without a reply",
+        input: &[b"\xC8\x18\0\0\0\x03\0\0\0\x05onefirst", GET],
+        sent: &[FOUND],
+    },
+];
+
+const VALUES: &[Case] = &[
+    Case {
+        name: "values are shifted",
+        input: &[
+            b"\xC8\x13\0\0\0\x01\0\0\0\x03\0\0\0\x04kabc",
+            b"\xC8\x13\0\0\0\x01\0\0\0\x02\0\0\0\x04kde",
+            b"\xC8\x30\0\0\0\x01k",
+            b"\xC8\x13\0\0\0\x01\0\0\0\x01\0\0\0\0kf",
+            b"\xC8\x30\0\0\0\x01k",
+        ],
+        sent: &[b"\0\0", b"\0\0\0\0\x04bcde", b"\0", b"\0\0\0\0\0"],
+    },
+    Case {
+        name: "numbers wrap",
+        input: &[
+            b"\xC8\x10\0\0\0\x01\0\0\0\x04n\xFF\xFF\xFF\x7F",
+            b"\xC8\x60\0\0\0\x01\0\0\0\x01n",
+            b"\xC8\x30\0\0\0\x01n",
+            b"\xC8\x10\0\0\0\x01\0\0\0\x03nabc",
+            b"\xC8\x60\0\0\0\x01\0\0\0\x01n",
+        ],
+        sent: &[b"\0", b"\0\x80\0\0\0", b"\0\0\0\0\x04\0\0\0\x80", b"\0\x01"],
+    },
+    Case {
+        name: "values are given again",
+        input: &[
+            PUT,
+            b"\xC8\x31\0\0\0\x03\0\0\0\x03one\0\0\0\x03one\0\0\0\x01x",
+        ],
+        sent: &[
+            b"\0\0\0\0\0\x02",
+            b"\0\0\0\x03\0\0\0\x05onefirst",
+            b"\0\0\0\x03\0\0\0\x05onefirst",
+        ],
+    },
+];
+
+const KEYS: &[Case] = &[
+    Case {
+        name: "keys are walked and listed",
+        input: &[
+            b"\xC8\x51",
+            b"\xC8\x10\0\0\0\x01\0\0\0\x01a1",
+            b"\xC8\x10\0\0\0\x01\0\0\0\x01b2",
+            b"\xC8\x10\0\0\0\x01\0\0\0\x01c3",
+            b"\xC8\x50\xC8\x20\0\0\0\x01a",
+            b"\xC8\x10\0\0\0\x01\0\0\0\x01d4",
+            b"\xC8\x51\xC8\x51\xC8\x51\xC8\x51",
+            b"\xC8\x58\0\0\0\0\xFF\xFF\xFF\xFF",
+            b"\xC8\x58\0\0\0\0\0\0\0\0",
+        ],
+        sent: &[
+            b"\x01\0\0\0\0\0\0",
+            b"\0\0\0\0\x01b\0\0\0\0\x01c\x01\x01",
+            b"\0\0\0\0\x03\0\0\0\x01b\0\0\0\x01c\0\0\0\x01d",
+            b"\0\0\0\0\0",
+        ],
+    },
+    Case {
+        name: "contents are counted",
+        input: &[b"\xC8\x10\0\0\0\x01\0\0\0\x01a1", b"\xC8\x88"],
+        sent: &[
+            b"\0",
+            b"\0\0\0\0\x22type\ton-memory hash\nrnum\t1\nsize\t2\n",
+        ],
+    },
+    Case {
+        name: "calls are refused",
+        input: &[
+            PUT,
+            b"\xC8\x90\0\0\0\x03\0\0\0\x01\0\0\0\x01out\0\0\0\x03one",
+            b"\xC8\x90\0\0\0\x06\0\0\0\0\0\0\0\0nosuch",
+            b"\xC8\x90\0\0\0\x08\0\0\0\0\0\0\0\x02setindex\0\0\0\x01n\0\0\0\x011",
+            b"\xC8\x61\0\0\0\x03\0\0\0\0\0\0\0\x01\0\0\0\0\0\0\0\x02one",
+            b"\xC8\x68\0\0\0\x01\0\0\0\0\0\0\0\x03\0\0\0\x01foneg",
+            b"\xC8\xA0\0\0\0\0\0\0\0\0\0\0\0\x09",
+            GET,
+        ],
+        sent: &[
+            b"\0",
+            b"\x01\0\0\0\0\x01\0\0\0\0\x01\0\0\0\0",
+            b"\x01\x01\x01",
+            FOUND,
+        ],
+    },
+];
+
+// Each whole request is answered, and nothing else is.
+#[test]
+fn requests_are_answered_in_any_pieces(rt: HostRuntime) -> Result<(), Fail> {
+    let alloc = rt.alloc();
+    let order = words(alloc, &["pipe", "*"])?;
+    for cases in [FIRST, VALUES, KEYS] {
+        for case in cases.iter() {
+            let input = joined(alloc, case.input)?;
+            let sent = joined(alloc, case.sent)?;
+            for piece in [4096, 7, 1] {
+                let end = ran(alloc, &order, alone(alloc, &input, piece)?)?;
+                assert_eq!(rt; end.status, 0, "{}", case.name);
+                assert_eq!(rt; end.wire.sent(0), sent.as_slice(), "{}", case.name);
+                assert_eq!(rt; end.line.bytes().len(), 0, "{}", case.name);
+                assert!(rt; end.wire.is_closed(0), "{}", case.name);
+                assert_eq!(rt; end.wire.starved(), 0, "{}", case.name);
+            }
+        }
+    }
+    Ok(())
+}
+
+// A key of 1,048,576 bytes is looked for, and at one more the connection is closed.
+#[test]
+fn the_longest_key_is_looked_for(rt: HostRuntime) -> Result<(), Fail> {
+    let alloc = rt.alloc();
+    let order = words(alloc, &["pipe", "*"])?;
+    let mut input = joined(alloc, &[b"\xC8\x30\0\x10\0\0"])?;
+    for _ in 0..256 {
+        input.extend_from_slice(&[b'a'; 4096])?;
+    }
+    let end = ran(alloc, &order, alone(alloc, &input, 4096)?)?;
+    assert_eq!(rt; end.status, 0);
+    assert_eq!(rt; end.wire.sent(0), b"\x01".as_slice());
+
+    let end = ran(alloc, &order, alone(alloc, b"\xC8\x30\0\x10\0\x01", 4096)?)?;
+    assert_eq!(rt; end.status, 0);
+    assert_eq!(rt; end.wire.sent(0).len(), 0);
+    assert!(rt; end.wire.is_closed(0));
+    Ok(())
+}
+
+#[test]
+fn other_words_are_refused(rt: HostRuntime) -> Result<(), Fail> {
+    let alloc = rt.alloc();
+    let lists: [&[&str]; 6] = [
+        &[],
+        &["pipe"],
+        &["pipe", "x"],
+        &["pipe", "*", "*"],
+        &["*", "pipe"],
+        &["serve", "*"],
+    ];
+    for list in lists {
+        let order = words(alloc, list)?;
+        let end = ran(alloc, &order, alone(alloc, PUT, 4096)?)?;
+        assert_eq!(rt; end.status, 1);
+        assert_eq!(rt; end.line.bytes(), b"tokyo: words\n".as_slice());
+        assert_eq!(rt; end.wire.log().len(), 0);
+    }
+    Ok(())
+}
