@@ -1,6 +1,6 @@
 -- What a run leaves, out of its turns.
-use Rattle.std.proofs.Common.{◌≡◌, ◌≢◌, ◌⊎◌, inl, inr, ◌≤◌, ◌<◌, ◌+◌, ◌-◌, ◌^◌, ℕ, Bool, true, false, List, [], ◌∷◌, ◌++◌, length, refl, sym, ap, subst, ◌∙◌, arith, length-append}
-use Rattle.std.specs.Prelude.{Option, Some, None}
+use Rattle.std.proofs.Common.{◌≡◌, ◌≢◌, ◌⊎◌, inl, inr, ◌≤◌, ◌<◌, ◌+◌, ◌-◌, ◌^◌, ℕ, List, [], ◌∷◌, ◌++◌, length, refl, sym, ap, subst, ◌∙◌, arith, length-append}
+use Rattle.std.specs.Prelude.{Option, Some}
 use Rattle.std.specs.FinMap.{empty}
 use Rattle.std.proofs.lemmas.List.{append-nil}
 use Rattle.tc_base.specs.Files.{Files}
@@ -15,12 +15,12 @@ use Rattle.tc_io.specs.declared.wire.Entry.{Entry}
 use Rattle.tc_io.specs.declared.wire.Entry.TheVariants.{Open}
 use Rattle.tc_model.specs.Maps.{Map}
 use Rattle.tc_model.specs.Contents.{Contents}
-use Rattle.ty_world.specs.World.{Client, World, started, world_after, AllAsked}
-use Rattle.ty_world.specs.Answers.{IsAnswered, EachAnswered, AllAnswered}
+use Rattle.ty_world.specs.World.{Client, started, world_after, AllAsked}
+use Rattle.ty_world.specs.Answers.{EachAnswered}
 use Rattle.ty_world.specs.Measure.{requests_in}
 use Rattle.ty_world.specs.Playing.{unplayed}
 use Rattle.ty_world.proofs.Spelled.{all_spelled}
-use Rattle.ty_world.proofs.Served.{IsDone, EachDone, all_done, has_none}
+use Rattle.ty_world.proofs.Served.{EachDone, all_done, has_none}
 use Rattle.ty_world.proofs.Complete.{all_played}
 use Rattle.ty_rounds.specs.Holding.{AllFine}
 use Rattle.ty_rounds.specs.Turns.{Told, MayPlay}
@@ -55,9 +55,9 @@ module _ {S : Type 0} (moment : S → ℕ) (left : S → ℕ → Option Files �
     replies = x.replies;
     spelled = all_spelled es (Pipe ∷ []) no_keys x.came;
     done = λ z.
-      let shut = x.done z in
-      let d = all_done es (Pipe ∷ []) no_keys x.asked x.came shut in
-      (shut, (each_answered _ x.replies.0 d.0, each_answered _ x.replies.1 d.1));
+        let shut = x.done z in
+        let d = all_done es (Pipe ∷ []) no_keys x.asked x.came shut in
+        (shut, (each_answered _ x.replies.0 d.0, each_answered _ x.replies.1 d.1));
     rested = x.rested;
     spent = x.spent;
     opens = inl x.opens_are;
@@ -72,8 +72,8 @@ module _ {S : Type 0} (moment : S → ℕ) (left : S → ℕ → Option Files �
     (tt, (x.ends tt (Pipe ∷ [])).asked),
   )
     where
-    x : Ends (Unit {0}) moment left reopens b d q r status last old new no_keys
-    x = subst (λ (c : Contents). Ends (Unit {0}) moment left reopens b d q r status last old new c) is ends
+      x : Ends (Unit {0}) moment left reopens b d q r status last old new no_keys
+      x = subst (λ (c : Contents). Ends (Unit {0}) moment left reopens b d q r status last old new c) is ends
 
   -- a script behind the opening is the script
   pub ends_plays : (b d : Told) (p q r : MayPlay) (status : ℕ) (old new : S) (first : Contents) (at : At) → first ≡ no_keys → script.Plays p q (Open at ∷ []) → Ends (Unit {0}) moment left reopens b d q r status last old new first
@@ -82,15 +82,16 @@ module _ {S : Type 0} (moment : S → ℕ) (left : S → ℕ → Option Files �
   ends_plays b d p q r status old new first at is opening ends enough acts given plays = record {
     enough = λ le e. enough acts given there le e;
     out = λ z.
-      let pl : script.Plays (Some (unplayed acts given)) r x.entries = subst (λ (y : MayPlay). script.Plays y r x.entries) there (x.plays (inl z)) in
-      let e = x.ends tt (Pipe ∷ []) in
-      (_, pl.0, all_played x.entries (Pipe ∷ []) no_keys acts given e.asked pl.1 (e.done z));
+        let pl : script.Plays (Some (unplayed acts given)) r x.entries = subst (λ (y : MayPlay). script.Plays y r x.entries) there (x.plays (inl z)) in
+        let e = x.ends tt (Pipe ∷ []) in
+        (_, pl.0, all_played x.entries (Pipe ∷ []) no_keys acts given e.asked pl.1 (e.done z));
   }
     where
-    x : Ends (Unit {0}) moment left reopens b d q r status last old new no_keys
-    x = subst (λ (c : Contents). Ends (Unit {0}) moment left reopens b d q r status last old new c) is ends
-    there : q ≡ Some (unplayed acts given)
-    there = (subst (λ (y : MayPlay). script.Plays y q (Open at ∷ [])) plays opening).0
+      x : Ends (Unit {0}) moment left reopens b d q r status last old new no_keys
+      x = subst (λ (c : Contents). Ends (Unit {0}) moment left reopens b d q r status last old new c) is ends
+
+      there : q ≡ Some (unplayed acts given)
+      there = (subst (λ (y : MayPlay). script.Plays y q (Open at ∷ [])) plays opening).0
 
 -- before any turn
 pub unopened : (a b : Told) (at : At) (status : ℕ) → (status ≡ 1) ⊎ (status ≡ 7) → at ≡ Pipe → Adds a b [] ⊎ Adds a b (Open at ∷ []) → Replies a b status

@@ -1,23 +1,18 @@
 -- A run, turn by turn.
-use Rattle.std.proofs.Common.{◌≡◌, ◌⊎◌, ◌≤◌, ◌<◌, ◌+◌, ◌≢◌, inl, inr, ⊎_elim, ℕ, suc, Bool, true, false, List, [], ◌∷◌, ◌++◌, length, refl, sym, ap, subst, ◌∙◌, arith}
+use Rattle.std.proofs.Common.{◌≡◌, ◌⊎◌, ◌<◌, ◌+◌, ◌≢◌, inl, inr, ⊎_elim, ℕ, true, List, [], ◌∷◌, ◌++◌, length, refl, sym, ap, subst, ◌∙◌, arith}
 use Rattle.std.specs.Prelude.{Option, Some, None, Result, Ok, Err}
-use Rattle.std.proofs.lemmas.List.{append-nil}
 use Rattle.tc_base.specs.Files.{Files}
-use Rattle.tc_space.specs.Moments.{LeavesOnly}
-use Rattle.tc_io.specs.Told.{Adds}
 use Rattle.tc_io.specs.Script.{Plays}
 use Rattle.tc_io.specs.declared.act.Act.{Act}
-use Rattle.tc_io.specs.declared.wire.Entry.{Entry}
 use Rattle.tc_model.specs.Contents.{Contents, Walk}
-use Rattle.tc_io.specs.declared.wire.At.{At}
-use Rattle.ty_world.specs.World.{World, started, world_after, AllAsked, AllCame, IsRested}
+use Rattle.ty_world.specs.World.{World, started, world_after, IsRested}
 use Rattle.ty_world.specs.Measure.{requests_in}
 use Rattle.ty_world.specs.Playing.{unplayed}
 use Rattle.ty_world.proofs.Complete.{turns_bound}
-use Rattle.ty_rounds.specs.Kept.{Reopens, LeavesTwo, LeavesMarks, AtMark, IsIn}
-use Rattle.ty_rounds.specs.Holding.{Stands, IsFine, NoSend, Wired, AreApart}
+use Rattle.ty_rounds.specs.Kept.{Reopens, LeavesTwo, LeavesMarks, IsIn}
+use Rattle.ty_rounds.specs.Holding.{IsFine, NoSend, Wired, AreApart}
 use Rattle.ty_rounds.specs.Peers.{numbers}
-use Rattle.ty_rounds.specs.Turns.{Told, MayPlay, MarksMore, Turned, Turns, TurnEnds}
+use Rattle.ty_rounds.specs.Turns.{Told, MayPlay, MarksMore, Turns, TurnEnds}
 use Rattle.ty_rounds.specs.declared.peer.Peer.{Peer}
 use Rattle.ty_rounds.specs.declared.outcome.Outcome.{Outcome}
 use Rattle.ty_rounds.specs.declared.outcome.Outcome.TheVariants.{Went, Shut}
@@ -26,7 +21,7 @@ use Rattle.ty_rounds.specs.declared.outcome.TurnErr.TheVariants.{Volume, Full, W
 use Rattle.ty_rounds.proofs.Telling.{Adds-none, Adds-then, Plays-none, Plays-then}
 use Rattle.ty_rounds.proofs.Fine.{hold_fine}
 use Rattle.ty_rounds.proofs.SendLaws.{after_more, asked_more, came_more}
-use Rattle.tk_top.specs.Runs.{IsAt, RunsTo, IsBefore, IsStopped, RunEnds, Ends}
+use Rattle.tk_top.specs.Runs.{IsAt, RunsTo, IsBefore, IsStopped, Ends}
 
 in_cons : (c d : Contents) (ms ns : List Contents) → ms ≡ d ∷ ns → (c ≡ d) ⊎ IsIn c ns → IsIn c ms
 in_cons c d ms ns is h = subst (λ (m : List Contents). IsIn c m) (sym is) h
@@ -43,13 +38,15 @@ marked_after w v older is mm = ⊎_elim (λ x. (older, x.0 ∙ is ∙ ap (λ (d 
 
 module _ {S : Type 0} (tells : Type 0) (moment : S → ℕ) (left : S → ℕ → Option Files → Type 0) (reopens : Files → Contents → Type 0) where
   moments_more : (s0 s t : S) (w v : World) (older : List Contents) → w.marks ≡ w.contents ∷ older → MarksMore w v → LeavesMarks moment left reopens s0 s w.marks → LeavesTwo moment left reopens s t w.contents v.contents → LeavesMarks moment left reopens s0 t v.marks
-  moments_more s0 s t w v older is mm first two = record { leaves = record {
-    later = omega (arith, first.leaves.later, two.leaves.later);
-    each = λ n o le l. ⊎_elim
-      (λ mid. ⊎_elim (λ was. inl was) (λ m. inr (record { contents = m.contents; mark = marks_stay w v m.contents mm m.mark; reopen = m.reopen })) (first.leaves.each n o le mid))
-      (λ p. inr (⊎_elim (λ r. record { contents = w.contents; mark = marks_stay w v w.contents mm (now_in w older is); reopen = r }) (λ r. record { contents = v.contents; mark = let m = marked_after w v older is mm in now_in v m.0 m.1; reopen = r }) p))
-      (two.leaves.each n o (omega (arith, le, first.leaves.later)) l);
-  } }
+  moments_more s0 s t w v older is mm first two = record {
+    leaves = record {
+      later = omega (arith, first.leaves.later, two.leaves.later);
+      each = λ n o le l. ⊎_elim
+          (λ mid. ⊎_elim (λ was. inl was) (λ m. inr (record { contents = m.contents; mark = marks_stay w v m.contents mm m.mark; reopen = m.reopen })) (first.leaves.each n o le mid))
+          (λ p. inr (⊎_elim (λ r. record { contents = w.contents; mark = marks_stay w v w.contents mm (now_in w older is); reopen = r }) (λ r. record { contents = v.contents; mark = let m = marked_after w v older is mm in now_in v m.0 m.1; reopen = r }) p))
+          (two.leaves.each n o (omega (arith, le, first.leaves.later)) l);
+    };
+  }
 
   pub run_start : (a : Told) (p : MayPlay) (s : S) (c : Contents) (k : Walk) (ps : List Peer) → k ≡ None → ps ≡ [] → RunsTo tells moment left reopens a a p p s s c c k ps 0
   run_start a p s c k ps still none = subst (λ (x : List Peer). RunsTo tells moment left reopens a a p p s s c c k x 0) (sym none) (record {
@@ -113,7 +110,7 @@ module _ {S : Type 0} (tells : Type 0) (moment : S → ℕ) (left : S → ℕ �
           older = m.0;
           marks = subst (λ (y : World). y.marks ≡ y.contents ∷ m.0) (sym there) m.1;
           exit = λ o l. subst (λ (y : World). Reopens reopens o y.contents ⊎ (IsStopped status × IsBefore reopens o opens c0 (run.entries ++ turn.entries) y)) (sym there)
-            (⊎_elim (λ y. inl y) (λ y. inr (y.0, record { earlier = run.entries; last = turn.entries; parts = refl; quiet = y.2; marks = x.marks; reopen = y.1 })) (exits z w v x.ends o l));
+              (⊎_elim (λ y. inl y) (λ y. inr (y.0, record { earlier = run.entries; last = turn.entries; parts = refl; quiet = y.2; marks = x.marks; reopen = y.1 })) (exits z w v x.ends o l));
           moments = subst (λ (y : World). LeavesMarks moment left reopens s0 t y.marks) (sym there) (moments_more s0 s t w v at.stands.older at.stands.marked x.marks at.moments x.moments);
           done = λ e. ap (λ (y : World). y.shut) there ∙ (done w v x.ends e).0;
           rested = λ e. subst IsRested (sym there) (⊎_elim (λ zero. (done w v x.ends zero).1) (λ eight. absurd (other eight)) e);

@@ -4,13 +4,11 @@ use Rattle.std.specs.FinMap.{empty}
 use Rattle.tc_base.specs.declared.kind.Kind.TheVariants.{MemHash}
 use Rattle.tc_io.specs.declared.act.Act.{Act}
 use Rattle.tc_io.specs.declared.wire.At.TheVariants.{Pipe}
-use Rattle.tc_io.specs.declared.wire.Entry.{Entry}
 use Rattle.tc_io.specs.Script.{Script}
 use Rattle.tc_model.specs.Contents.{Contents}
-use Rattle.ty_world.specs.World.{World, started, world_after, AllAsked, AllCame, IsRested}
+use Rattle.ty_world.specs.World.{World, started, IsRested}
 use Rattle.ty_world.specs.Answers.{AllSpelled, AllAnswered}
 use Rattle.ty_world.specs.Measure.{requests_in}
-use Rattle.ty_world.specs.Playing.{unplayed}
 use Rattle.ty_rounds.specs.Holding.{IsFine}
 
 -- the map in memory, with no key

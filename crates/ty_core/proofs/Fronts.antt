@@ -1,15 +1,15 @@
 -- A request at the front, by its reading and by its spelling.
-use Rattle.std.proofs.Common.{◌≡◌, ℕ, ◌≤◌, ◌+◌, Bool, true, false, List, [], ◌++◌, length, drop, refl, sym, ap, subst, ◌∙◌, arith, length-append}
+use Rattle.std.proofs.Common.{◌≡◌, ℕ, ◌≤◌, Bool, true, false, List, [], ◌++◌, length, drop, sym, ap, subst, ◌∙◌, arith, length-append}
 use Rattle.std.proofs.lemmas.List.{drop-append-le}
 use Rattle.tc_base.proofs.Exact.{same_whole}
 use Rattle.ty_wire.proofs.Answered.{whole}
 use Rattle.std.specs.Prelude.{Ok, ◌&&◌}
 use Rattle.tc_base.specs.declared.request.Request.{Request}
-use Rattle.tc_model.specs.Apply.{Step, apply, refused, is_updated, refusal_of, updates}
+use Rattle.tc_model.specs.Apply.{Step, apply, is_updated, refusal_of, updates}
 use Rattle.tc_model.specs.Applying.{Applies}
 use Rattle.tc_model.specs.declared.applied.Applied.{Applied}
 use Rattle.tc_model.specs.Contents.{Contents, Walk}
-use Rattle.tc_model.proofs.Updating.{apply_refused, apply_same}
+use Rattle.tc_model.proofs.Updating.{apply_refused}
 use Rattle.ty_wire.specs.Prefixes.{IsPrefix}
 use Rattle.ty_wire.specs.Reading.{request_at}
 use Rattle.ty_wire.specs.Spelling.{spelling, Fits, reply_bytes}

@@ -1,5 +1,5 @@
 -- What a session is to those that use it.
-use Rattle.std.specs.Prelude.{ℕ, List, [], ◌++◌}
+use Rattle.std.specs.Prelude.{ℕ, List}
 
 -- the bytes that no request took yet, and those that wait to be sent
 pub record Queue : Type 0 where

@@ -1,6 +1,6 @@
 -- Closings: a connection that is closed leaves the list, and no other does.
-use Rattle.std.proofs.Common.{◌≡◌, ℕ, zero, suc, ◌+◌, ◌<◌, ◌≤◌, Bool, true, false, not, cond, List, [], ◌∷◌, ◌++◌, length, take, drop, get_or, map, refl, sym, ap, subst, ◌∙◌, append_assoc, arith, eq-eqb, length-append, Ok, Err}
-use Rattle.std.specs.Prelude.{nat_eq, ◌||◌, ◌&&◌, OnOk, Result, IsErr, remove}
+use Rattle.std.proofs.Common.{◌≡◌, ℕ, zero, suc, ◌+◌, ◌<◌, ◌≤◌, Bool, true, false, not, List, [], ◌∷◌, ◌++◌, length, get_or, refl, sym, ap, subst, ◌∙◌, append_assoc, arith, eq-eqb, length-append, Ok, Err}
+use Rattle.std.specs.Prelude.{nat_eq, ◌&&◌, Result, IsErr, remove}
 use Rattle.std.specs.List.{list_any, filter}
 use Rattle.std.proofs.lemmas.List.{append-nil}
 use Rattle.tc_base.specs.declared.fault.Fault.{Fault}
@@ -12,15 +12,14 @@ use Rattle.tc_io.specs.declared.wire.Entry.TheVariants.{Close}
 use Rattle.ty_world.specs.World as world
 use Rattle.ty_world.specs.World.{Client, World, happens, world_after, is_rested, AllAsked, AllCame}
 use Rattle.ty_rounds.specs.Peers.{numbers, is_over}
-use Rattle.ty_rounds.specs.Holding.{Holds, AllHold, AllFine, AreApart, Wired, Same}
-use Rattle.ty_rounds.specs.Sending.{NoneRestless}
-use Rattle.ty_rounds.specs.Closings.{NoneOver, ClosedFront, ClosesFront, ClosedAll, ClosesAll}
+use Rattle.ty_rounds.specs.Holding.{Holds, AllHold, AllFine, AreApart, Wired}
+use Rattle.ty_rounds.specs.Closings.{ClosedFront, ClosesFront, ClosedAll, ClosesAll}
 use Rattle.ty_rounds.specs.Turns.{Told, MayPlay}
 use Rattle.ty_rounds.specs.declared.peer.Peer.{Peer}
 use Rattle.ty_rounds.proofs.Places.{if_true, if_false, none_split, none_both, eq_swap}
 use Rattle.ty_rounds.proofs.Hearing.{more_hold}
 use Rattle.ty_rounds.proofs.Waiting.{over_is}
-use Rattle.ty_rounds.proofs.SendLaws.{after_more, asked_more, came_more, same_then}
+use Rattle.ty_rounds.proofs.SendLaws.{after_more, asked_more, came_more}
 use Rattle.ty_rounds.proofs.Telling.{Adds-then, Plays-then, Adds-none, Plays-none}
 
 abbrev other : ℕ → Client → Bool
@@ -52,9 +51,9 @@ ask_none c (p ∷ ps) (k ∷ ks) a e =
     let s = none_split (nat_eq c p.conn) (list_any (nat_eq c) (numbers ps)) e in
     none_both (nat_eq k.conn c && not (world.is_over k)) (list_any (λ k. nat_eq k.conn c && not (world.is_over k)) ks) (first (nat_eq k.conn c) (not (world.is_over k)) (ap (λ (n : ℕ). nat_eq n c) a.0.conn ∙ eq_swap c p.conn s.0)) (ask_none c ps ks a.1 s.1)
   where
-  first : (a b : Bool) → a ≡ false → (a && b) ≡ false
-  first false b e = refl
-  first true b e = absurd cc
+    first : (a b : Bool) → a ≡ false → (a && b) ≡ false
+    first false b e = refl
+    first true b e = absurd cc
 
 apart_from : (x : Peer) (front back : List Peer) (p : Peer) → list_any (nat_eq x.conn) (numbers (front ++ p ∷ back)) ≡ false → nat_eq x.conn p.conn ≡ false
 apart_from x [] back p e = (none_split (nat_eq x.conn p.conn) (list_any (nat_eq x.conn) (numbers back)) e).0
@@ -75,9 +74,9 @@ leaves [] back p [] rest k f h b apart over =
       asked = none_both (nat_eq k.conn p.conn && not (world.is_over k)) (list_any (λ j. nat_eq j.conn p.conn && not (world.is_over j)) rest) (second (nat_eq k.conn p.conn) (not (world.is_over k)) (ap not over)) (ask_none p.conn back rest b apart.0);
     }
   where
-  second : (a b : Bool) → b ≡ false → (a && b) ≡ false
-  second true b e = e
-  second false b e = refl
+    second : (a b : Bool) → b ≡ false → (a && b) ≡ false
+    second true b e = e
+    second false b e = refl
 leaves [] back p (j ∷ stay) rest k f h b apart over = absurd f
 leaves (x ∷ front) back p [] rest k f h b apart over = absurd f
 leaves (x ∷ front) back p (j ∷ stay) rest k f h b apart over =
@@ -89,9 +88,9 @@ leaves (x ∷ front) back p (j ∷ stay) rest k f h b apart over =
       asked = none_both (nat_eq j.conn p.conn && not (world.is_over j)) (list_any (λ i. nat_eq i.conn p.conn && not (world.is_over i)) (stay ++ k ∷ rest)) (first (nat_eq j.conn p.conn) (not (world.is_over j)) away) r.asked;
     }
   where
-  first : (a b : Bool) → a ≡ false → (a && b) ≡ false
-  first false b e = refl
-  first true b e = absurd cc
+    first : (a b : Bool) → a ≡ false → (a && b) ≡ false
+    first false b e = refl
+    first true b e = absurd cc
 
 -- ---- numbers
 
@@ -224,8 +223,8 @@ looks front (q ∷ back) now i p stay (k ∷ behind) is at lt e a =
       left = a.1;
     }
   where
-  head : (q p : Peer) (b c : List Peer) → q ∷ b ≡ p ∷ c → q ≡ p
-  head q p b c e = ap (λ (l : List Peer). get_or l 0 q) e
+    head : (q p : Peer) (b c : List Peer) → q ∷ b ≡ p ∷ c → q ≡ p
+    head q p b c e = ap (λ (l : List Peer). get_or l 0 q) e
 
 remove_here : (front back : List Peer) (p : Peer) → remove (front ++ p ∷ back) (length front) ≡ front ++ back
 remove_here [] back p = refl
@@ -308,22 +307,22 @@ close_fails a b d x y z ps now now' i (Err e) failed f told = record {
 closed_end : (now : List Peer) (i : ℕ) (w v : World) (es : List Entry) → ClosedFront now i w v es → length now ≤ i → ClosedAll (Ok tt) now w v es
 closed_end now i w v es c le = go c.back c.rest refl refl c.left
   where
-  go : (back : List Peer) (rest : List Client) → c.back ≡ back → c.rest ≡ rest → AllHold back rest → ClosedAll (Ok tt) now w v es
-  go [] [] e f a =
-      let peers : now ≡ c.front = c.peers_are ∙ ap (λ (l : List Peer). c.front ++ l) e ∙ append-nil c.front in
-      let clients : v.there ≡ c.stay = c.clients_are ∙ ap (λ (l : List Client). c.stay ++ l) f ∙ append-nil c.stay in
-      let held : AllHold now v.there = subst (λ (l : List Peer). AllHold l v.there) (sym peers) (subst (λ (l : List Client). AllHold c.front l) (sym clients) c.held) in
-      record {
-        there = fine_holds now v.there held;
-        past = c.past;
-        same = c.same;
-        asked = c.asked;
-        came = c.came;
-        done = (held, c.rested, ap (list_any world.is_over) clients ∙ c.none_over);
-      }
-  go [] (y ∷ ys) e f a = absurd a
-  go (x ∷ xs) [] e f a = absurd a
-  go (x ∷ xs) (y ∷ ys) e f a = absurd (omega (arith, le, c.at, ap length c.peers_are, ap length e, length-append c.front c.back))
+    go : (back : List Peer) (rest : List Client) → c.back ≡ back → c.rest ≡ rest → AllHold back rest → ClosedAll (Ok tt) now w v es
+    go [] [] e f a =
+        let peers : now ≡ c.front = c.peers_are ∙ ap (λ (l : List Peer). c.front ++ l) e ∙ append-nil c.front in
+        let clients : v.there ≡ c.stay = c.clients_are ∙ ap (λ (l : List Client). c.stay ++ l) f ∙ append-nil c.stay in
+        let held : AllHold now v.there = subst (λ (l : List Peer). AllHold l v.there) (sym peers) (subst (λ (l : List Client). AllHold c.front l) (sym clients) c.held) in
+        record {
+          there = fine_holds now v.there held;
+          past = c.past;
+          same = c.same;
+          asked = c.asked;
+          came = c.came;
+          done = (held, c.rested, ap (list_any world.is_over) clients ∙ c.none_over);
+        }
+    go [] (y ∷ ys) e f a = absurd a
+    go (x ∷ xs) [] e f a = absurd a
+    go (x ∷ xs) (y ∷ ys) e f a = absurd (omega (arith, le, c.at, ap length c.peers_are, ap length e, length-append c.front c.back))
 
 pub all_closed : (a b : Told) (x y : MayPlay) (ps now : List Peer) (i : ℕ) → ClosesFront a b x y ps now i → length now ≤ i → ClosesAll a b x y ps now (Ok tt)
 all_closed a b x y ps now i f le = record {

@@ -7,8 +7,8 @@ use Rattle.tc_base.specs.declared.request.Request.{Request}
 use Rattle.tc_base.specs.Reading.{Front}
 use Rattle.tc_model.specs.Contents.{Contents, Walk}
 use Rattle.tc_model.specs.Apply.{apply}
-use Rattle.ty_world.specs.World.{Client, World, heard, unstopped, at_conn, new_client, served, front_of, owed_for, round_one, round_all}
-use Rattle.ty_rounds.specs.Holding.{Holds, AllHold, AllFine}
+use Rattle.ty_world.specs.World.{Client, heard, unstopped, at_conn, new_client, served, front_of, owed_for, round_one, round_all}
+use Rattle.ty_rounds.specs.Holding.{AllHold, AllFine}
 use Rattle.ty_rounds.specs.declared.peer.Peer.{Peer}
 
 pub hold_fine : (ps : List Peer) (ks : List Client) → AllHold ps ks → AllFine ks
@@ -28,9 +28,9 @@ appends_fine (k ∷ ks) c n h = (h.0, appends_fine ks c n h.1)
 at_same : (c : ℕ) (g : Client → Client) → ((k : Client) → ((g k).owed ≡ k.owed) × ((g k).out ≡ k.out)) → (k : Client) → ((at_conn c g k).owed ≡ k.owed) × ((at_conn c g k).out ≡ k.out)
 at_same c g f k = go (nat_eq k.conn c)
   where
-  go : (b : Bool) → ((cond b (g k) k).owed ≡ k.owed) × ((cond b (g k) k).out ≡ k.out)
-  go true = f k
-  go false = (refl, refl)
+    go : (b : Bool) → ((cond b (g k) k).owed ≡ k.owed) × ((cond b (g k) k).out ≡ k.out)
+    go true = f k
+    go false = (refl, refl)
 
 pub heard_fine : (ks : List Client) (ev : Ev) (bytes : List ℕ) → AllFine ks → AllFine (heard ks ev bytes)
 heard_fine ks (Opened c) bytes h = appends_fine ks c (length ks) h
@@ -49,9 +49,9 @@ one_fine : (c : Contents) (w : Walk) (k : Client) → FineOne k → FineOne (rou
 unfolding round_one
 one_fine c w k h = go (front_of k)
   where
-  go : (f : Front Request) → FineOne (served c w k f).client
-  go (Ok x) = let more = owed_for x.0 (apply false x.0 c w) in (h.0 ++ more, ap (λ (l : List ℕ). l ++ more) h.1 ∙ append_assoc k.out h.0 more)
-  go (Err e) = h
+    go : (f : Front Request) → FineOne (served c w k f).client
+    go (Ok x) = let more = owed_for x.0 (apply false x.0 c w) in (h.0 ++ more, ap (λ (l : List ℕ). l ++ more) h.1 ∙ append_assoc k.out h.0 more)
+    go (Err e) = h
 
 pub round_fine : (c : Contents) (w : Walk) (ks : List Client) → AllFine ks → AllFine (round_all c w ks).clients
 round_fine c w [] h = tt

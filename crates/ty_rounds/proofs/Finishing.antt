@@ -1,11 +1,10 @@
 -- Sends and closings, one behind the other.
-use Rattle.std.proofs.Common.{◌≡◌, List, [], ◌∷◌, ◌++◌, subst, sym, Ok, Err, false, true}
-use Rattle.std.specs.Prelude.{OnOk, Result, IsErr}
+use Rattle.std.proofs.Common.{List, ◌++◌, subst, sym, Ok, Err}
+use Rattle.std.specs.Prelude.{OnOk, Result}
 use Rattle.tc_base.specs.declared.fault.Fault.{Fault}
-use Rattle.tc_io.specs.declared.wire.Entry.{Entry}
 use Rattle.tc_io.specs.Script.{Plays}
-use Rattle.ty_world.specs.World.{Client, World, world_after, IsRested}
-use Rattle.ty_rounds.specs.Holding.{AllHold, AllFine, IsFine}
+use Rattle.ty_world.specs.World.{World, world_after, IsRested}
+use Rattle.ty_rounds.specs.Holding.{AllHold, AllFine}
 use Rattle.ty_rounds.specs.Sending.{DeliversAll, NoneRestless}
 use Rattle.ty_rounds.specs.Closings.{ClosesAll, NoneOver}
 use Rattle.ty_rounds.specs.Turns.{Told, MayPlay, Finished, Finishes}

@@ -1,6 +1,6 @@
 -- What an event makes of the connections.
-use Rattle.std.proofs.Common.{◌≡◌, ◌<◌, ◌≤◌, ◌+◌, ℕ, zero, suc, Bool, true, false, not, cond, List, [], ◌∷◌, ◌++◌, length, get_or, take, map, refl, sym, ap, subst, ◌∙◌, arith, eq-eqb}
-use Rattle.std.specs.Prelude.{◌||◌, ◌==◌, nat_lt, nat_eq, Option}
+use Rattle.std.proofs.Common.{◌≡◌, ◌<◌, ℕ, zero, suc, Bool, true, false, not, List, [], ◌∷◌, ◌++◌, length, get_or, take, map, refl, sym, ap, subst, ◌∙◌, arith}
+use Rattle.std.specs.Prelude.{◌==◌, nat_lt, nat_eq}
 use Rattle.std.specs.List.{list_any}
 use Rattle.tc_io.specs.Told.{Adds}
 use Rattle.tc_io.specs.Script.{Plays}
@@ -93,12 +93,12 @@ asks a b x y ps ev paused busy buffer is_paused is_busy told plays fits last = r
   came = record { are_bytes = front_bytes ev; last = last };
 }
   where
-  front_bytes : (ev : Ev) → IsBytes (bytes_of ev buffer)
-  front_bytes (Opened c) = λ i. omega arith
-  front_bytes (Read c n) = λ i. take_bytes n buffer i fits
-  front_bytes (Ended c) = λ i. omega arith
-  front_bytes Quiet = λ i. omega arith
-  front_bytes Shut = λ i. omega arith
+    front_bytes : (ev : Ev) → IsBytes (bytes_of ev buffer)
+    front_bytes (Opened c) = λ i. omega arith
+    front_bytes (Read c n) = λ i. take_bytes n buffer i fits
+    front_bytes (Ended c) = λ i. omega arith
+    front_bytes Quiet = λ i. omega arith
+    front_bytes Shut = λ i. omega arith
 
 pub hears : (a b : Told) (x y : MayPlay) (ps ps' : List Peer) (ev : Ev) (paused : List ℕ) (busy : Bool) (buffer : List ℕ) → paused ≡ waiting_numbers ps → busy ≡ not (length paused == 0)
     → Adds a b (Event paused busy ev (bytes_of ev buffer) ∷ []) → Plays x y (Event paused busy ev (bytes_of ev buffer) ∷ []) → IsBytes buffer → (ev ≡ Shut → busy ≡ false)
@@ -119,9 +119,9 @@ wired_after conns conns' ended given paused busy ps ps' ev may is named w = reco
   apart = subst AreApart (sym is) (go ev may);
 }
   where
-  go : (ev : Ev) → MayCome conns ended given paused busy ev → AreApart (open_after conns ev)
-  go (Opened c) may = apart_more conns c w.apart may.1
-  go (Read c n) may = w.apart
-  go (Ended c) may = w.apart
-  go Quiet may = w.apart
-  go Shut may = w.apart
+    go : (ev : Ev) → MayCome conns ended given paused busy ev → AreApart (open_after conns ev)
+    go (Opened c) may = apart_more conns c w.apart may.1
+    go (Read c n) may = w.apart
+    go (Ended c) may = w.apart
+    go Quiet may = w.apart
+    go Shut may = w.apart

@@ -1,8 +1,8 @@
 -- What a stop leaves of a turn.
 use Rattle.std.proofs.Common.{◌≡◌, ◌⊎◌, ◌≤◌, inl, inr, ⊎_elim, ℕ, Bool, true, false, ◌∙◌, sym, subst, arith, refl}
-use Rattle.std.specs.Prelude.{Option, Some}
+use Rattle.std.specs.Prelude.{Option}
 use Rattle.tc_base.specs.Files.{Files}
-use Rattle.tc_space.specs.Moments.{LeavesOnly, Steady}
+use Rattle.tc_space.specs.Moments.{Steady}
 use Rattle.tc_model.specs.Contents.{Contents}
 use Rattle.ty_rounds.specs.Kept.{Reopens, MovesTo, LeavesTwo}
 
@@ -18,10 +18,12 @@ module _ {S : Type 0} (moment : S → ℕ) (left : S → ℕ → Option Files �
   steady_two a b c d k st = record { leaves = record { later = st.leaves.later; each = λ t o le l. ⊎_elim (λ was. inl was) (λ is. inr (inl (was_kept a o c k is))) (st.leaves.each t o le l) } }
 
   pub moved_two : (a b e : S) (c d : Contents) → Reopens reopens (kept a) c → Steady moment left kept a b → MovesTo moment left kept reopens b e d → LeavesTwo moment left reopens a e c d
-  moved_two a b e c d k st mv = record { leaves = record {
-    later = omega (arith, st.leaves.later, mv.leaves.later);
-    each = λ t o le l. ⊎_elim (λ mid. ⊎_elim (λ was. inl was) (λ is. inr (inl (was_kept a o c k is))) (st.leaves.each t o le mid)) (λ p. inr (⊎_elim (λ is. inl (was_kept a o c k (is ∙ st.same))) (λ r. inr r) p)) (mv.leaves.each t o (omega (arith, le, st.leaves.later)) l);
-  } }
+  moved_two a b e c d k st mv = record {
+    leaves = record {
+      later = omega (arith, st.leaves.later, mv.leaves.later);
+      each = λ t o le l. ⊎_elim (λ mid. ⊎_elim (λ was. inl was) (λ is. inr (inl (was_kept a o c k is))) (st.leaves.each t o le mid)) (λ p. inr (⊎_elim (λ is. inl (was_kept a o c k (is ∙ st.same))) (λ r. inr r) p)) (mv.leaves.each t o (omega (arith, le, st.leaves.later)) l);
+    };
+  }
 
   -- at the exit of a steady part
   pub steady_exit : (a b : S) (c : Contents) → ((o : Option Files) → left a (moment a) o → o ≡ kept a) → ((t u : ℕ) (o : Option Files) → t ≤ u → left b u o → left b t o) → Reopens reopens (kept a) c → Steady moment left kept a b → (o : Option Files) → left b (moment b) o → Reopens reopens o c

@@ -1,6 +1,6 @@
 -- One connection among the others, by its number.
-use Rattle.std.proofs.Common.{◌≡◌, ◌<◌, ◌≤◌, ◌+◌, ℕ, zero, suc, Bool, true, false, not, cond, List, [], ◌∷◌, ◌++◌, length, get_or, set, take, map, refl, sym, ap, subst, ◌∙◌, arith, eq-eqb}
-use Rattle.std.specs.Prelude.{◌||◌, nat_eq, Some, Option, slice_get}
+use Rattle.std.proofs.Common.{◌≡◌, ◌<◌, ◌≤◌, ◌+◌, ℕ, zero, suc, Bool, true, false, cond, List, [], ◌∷◌, ◌++◌, length, get_or, set, take, map, refl, sym, ap, subst, ◌∙◌, arith, eq-eqb}
+use Rattle.std.specs.Prelude.{◌||◌, nat_eq, Some, slice_get}
 use Rattle.std.specs.List.{list_any}
 use Rattle.std.proofs.lemmas.Bool.{eqb-true}
 use Rattle.std.proofs.Math.Seq.{take-suc}
@@ -29,9 +29,9 @@ if_false false x y e = refl
 pub eq_swap : (a b : ℕ) → nat_eq a b ≡ false → nat_eq b a ≡ false
 eq_swap a b e = go (nat_eq b a) refl
   where
-  go : (x : Bool) → nat_eq b a ≡ x → nat_eq b a ≡ false
-  go false is = is
-  go true is = absurd (let f : nat_eq a b ≡ true = eq-eqb a b (sym (eqb-true b a is)) in cc)
+    go : (x : Bool) → nat_eq b a ≡ x → nat_eq b a ≡ false
+    go false is = is
+    go true is = absurd (let f : nat_eq a b ≡ true = eq-eqb a b (sym (eqb-true b a is)) in cc)
 
 -- none of them has that number
 pub others_hold : (c : ℕ) (f : Client → Client) (ps : List Peer) (ks : List Client) → list_any (nat_eq c) (numbers ps) ≡ false → AllHold ps ks → AllHold ps (map (at_conn c f) ks)
@@ -53,13 +53,15 @@ pub set_holds : (c : ℕ) (f : Client → Client) (ps : List Peer) (ks : List Cl
 set_holds c f [] ks i p q apart lt is named one a = absurd (omega (arith, lt))
 set_holds c f (x ∷ ps) [] i p q apart lt is named one a = absurd a
 set_holds c f (x ∷ ps) (k ∷ ks) zero p q apart lt is named one a =
-    let there : x.conn ≡ c = ap (λ (z : Peer). z.conn) (sym is) ∙ named in
-    (subst (λ (z : Client). Holds q z) (sym (if_true (nat_eq k.conn c) (f k) k (eq-eqb k.conn c (a.0.conn ∙ there)))) (one k (subst (λ (z : Peer). Holds z k) (sym is) a.0)),
-      others_hold c f ps ks (ap (λ (n : ℕ). list_any (nat_eq n) (numbers ps)) (sym there) ∙ apart.0) a.1)
+    let there : x.conn ≡ c = ap (λ (z : Peer). z.conn) (sym is) ∙ named in (
+      subst (λ (z : Client). Holds q z) (sym (if_true (nat_eq k.conn c) (f k) k (eq-eqb k.conn c (a.0.conn ∙ there)))) (one k (subst (λ (z : Peer). Holds z k) (sym is) a.0)),
+      others_hold c f ps ks (ap (λ (n : ℕ). list_any (nat_eq n) (numbers ps)) (sym there) ∙ apart.0) a.1,
+    )
 set_holds c f (x ∷ ps) (k ∷ ks) (suc i) p q apart lt is named one a =
-    let away : nat_eq x.conn c ≡ false = ap (nat_eq x.conn) (sym named) ∙ apart_at x ps i p apart.0 (omega (arith, lt)) is in
-    (subst (λ (z : Client). Holds x z) (sym (if_false (nat_eq k.conn c) (f k) k (ap (λ (n : ℕ). nat_eq n c) a.0.conn ∙ away))) a.0,
-      set_holds c f ps ks i p q apart.1 (omega (arith, lt)) is named one a.1)
+    let away : nat_eq x.conn c ≡ false = ap (nat_eq x.conn) (sym named) ∙ apart_at x ps i p apart.0 (omega (arith, lt)) is in (
+      subst (λ (z : Client). Holds x z) (sym (if_false (nat_eq k.conn c) (f k) k (ap (λ (n : ℕ). nat_eq n c) a.0.conn ∙ away))) a.0,
+      set_holds c f ps ks i p q apart.1 (omega (arith, lt)) is named one a.1,
+    )
 
 pub take_next : (ps : List Peer) (i : ℕ) (p : Peer) → i < length ps → p ≡ get_or ps i p → take (i + 1) ps ≡ take i ps ++ p ∷ []
 take_next ps i p lt is = (let e : i + 1 ≡ suc i = omega arith in ap (λ (n : ℕ). take n ps) e) ∙ take-suc ps i p lt ∙ ap (λ (x : Peer). take i ps ++ x ∷ []) (sym is)
@@ -110,14 +112,14 @@ any_at : (ps : List Peer) (i : ℕ) (p : Peer) → i < length ps → p ≡ get_o
 any_at [] i p lt is = absurd (omega (arith, lt))
 any_at (x ∷ ps) zero p lt is = first (nat_eq p.conn x.conn) (list_any (nat_eq p.conn) (numbers ps)) (eq-eqb p.conn x.conn (ap (λ (z : Peer). z.conn) is))
   where
-  first : (a b : Bool) → a ≡ true → (a || b) ≡ true
-  first true b e = refl
-  first false b e = absurd cc
+    first : (a b : Bool) → a ≡ true → (a || b) ≡ true
+    first true b e = refl
+    first false b e = absurd cc
 any_at (x ∷ ps) (suc i) p lt is = second (nat_eq p.conn x.conn) (list_any (nat_eq p.conn) (numbers ps)) (any_at ps i p (omega (arith, lt)) is)
   where
-  second : (a b : Bool) → b ≡ true → (a || b) ≡ true
-  second true b e = refl
-  second false b e = e
+    second : (a b : Bool) → b ≡ true → (a || b) ≡ true
+    second true b e = refl
+    second false b e = e
 
 pub open_at : (conns : List ℕ) (ps : List Peer) (i : ℕ) (p : Peer) → i < length ps → p ≡ get_or ps i p → Wired conns ps → list_any (nat_eq p.conn) conns ≡ true
 open_at conns ps i p lt is w = ap (list_any (nat_eq p.conn)) w.same ∙ any_at ps i p lt is

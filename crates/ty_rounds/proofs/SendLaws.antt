@@ -1,6 +1,6 @@
 -- Sends to one connection, and to each in turn.
 use Rattle.std.proofs.Common.{◌≡◌, ℕ, zero, suc, ◌+◌, ◌<◌, ◌≤◌, Bool, true, false, not, cond, List, [], ◌∷◌, ◌++◌, length, take, drop, get_or, set, map, refl, sym, ap, subst, ◌∙◌, append_assoc, arith, eq-eqb, Ok, Err}
-use Rattle.std.specs.Prelude.{Option, Some, None, nat_eq, ◌||◌, OnOk, Result, IsErr}
+use Rattle.std.specs.Prelude.{nat_eq, ◌||◌, Result, IsErr}
 use Rattle.std.specs.List.{list_any}
 use Rattle.std.proofs.lemmas.List.{append-nil, take-append-drop, take_all}
 use Rattle.tc_base.specs.declared.fault.Fault.{Fault}
@@ -11,11 +11,11 @@ use Rattle.tc_io.specs.declared.wire.Sent.TheVariants.{Took, NotYet, Gone}
 use Rattle.tc_io.specs.declared.wire.Entry.{Entry}
 use Rattle.tc_io.specs.declared.wire.Entry.TheVariants.{Open, Dial, Event, Send, Close}
 use Rattle.ty_core.specs.Queues.{Queue, queue}
-use Rattle.ty_world.specs.World.{Client, World, sent, at_conn, all_sent, is_rested, happens, world_after, AllAsked, AllCame}
+use Rattle.ty_world.specs.World.{Client, World, sent, at_conn, is_rested, happens, world_after, AllAsked, AllCame}
 use Rattle.ty_rounds.specs.Peers.{numbers, all_taken}
 use Rattle.ty_rounds.specs.Holding.{Holds, AllHold, AreApart, Same}
 use Rattle.ty_rounds.specs.Turns.{Told, MayPlay}
-use Rattle.ty_rounds.specs.Sending.{SendTo, AllSendTo, sent_by, sent_all, Delivers, Rests, DeliversOne, NoneRestless, SentFront, DeliversFront, SentAll, DeliversAll}
+use Rattle.ty_rounds.specs.Sending.{SendTo, AllSendTo, sent_by, sent_all, Delivers, DeliversOne, NoneRestless, SentFront, DeliversFront, DeliversAll}
 use Rattle.ty_rounds.specs.declared.peer.Peer.{Peer}
 use Rattle.ty_rounds.proofs.Places.{if_true, if_false, none_split, none_both, set_holds}
 use Rattle.ty_rounds.proofs.ServingLaws.{sent_is}
@@ -57,11 +57,15 @@ is_gone p bytes k h = record { conn = h.conn; unread = h.unread; owed = h.owed; 
 
 pub one_more : (a b d : Told) (x y z : MayPlay) (p mid q : Peer) (bytes : List ℕ) (s : Sent) → DeliversSo a b x y p mid → mid.conn ≡ p.conn → Adds b d (Send mid.conn bytes s ∷ []) → Plays y z (Send mid.conn bytes s ∷ []) → ((k : Client) → Holds mid k → Holds q (sent bytes s k)) → DeliversSo a d x z p q
 one_more a b d x y z p mid q bytes s h same told plays holds =
-    let e = Send mid.conn bytes s in
-    (h.0 ++ e ∷ [], Adds-then a b d h.0 (e ∷ []) h.1 told, Plays-then x y z h.0 (e ∷ []) h.2 plays, record {
-      sends = sends_append p.conn h.0 (e ∷ []) h.3.sends (same, tt);
-      holds = λ k held. subst (λ (c : Client). Holds q c) (sym (sent_more h.0 e k)) (holds (sent_all h.0 k) (h.3.holds k held));
-    })
+    let e = Send mid.conn bytes s in (
+      h.0 ++ e ∷ [],
+      Adds-then a b d h.0 (e ∷ []) h.1 told,
+      Plays-then x y z h.0 (e ∷ []) h.2 plays,
+      record {
+        sends = sends_append p.conn h.0 (e ∷ []) h.3.sends (same, tt);
+        holds = λ k held. subst (λ (c : Client). Holds q c) (sym (sent_more h.0 e k)) (holds (sent_all h.0 k) (h.3.holds k held));
+      },
+    )
 
 -- a send that took not all, and its connection rests
 pub rests_stopped : (a b d : Told) (x y z : MayPlay) (p mid q : Peer) (bytes : List ℕ) (s : Sent) → DeliversSo a b x y p mid → mid.conn ≡ p.conn → Adds b d (Send mid.conn bytes s ∷ []) → Plays y z (Send mid.conn bytes s ∷ []) → ((k : Client) → Holds mid k → Holds q (sent bytes s k)) → ((k : Client) → (sent bytes s k).stopped ≡ true)
@@ -79,9 +83,9 @@ rests_stopped a b d x y z p mid q bytes s h same told plays holds stops =
       rests = record { rested = λ k held. ap is_rested (sent_more h.0 (Send mid.conn bytes s) k) ∙ right _ _ (stops (sent_all h.0 k)) };
     }
   where
-  right : (a b : Bool) → b ≡ true → (a || b) ≡ true
-  right true b e = refl
-  right false b e = e
+    right : (a b : Bool) → b ≡ true → (a || b) ≡ true
+    right true b e = refl
+    right false b e = e
 
 pub rests_sent : (a b : Told) (x y : MayPlay) (p q : Peer) → DeliversSo a b x y p q → all_taken q ≡ true → DeliversOne a b x y p q (Ok tt)
 rests_sent a b x y p q h none = record {
@@ -92,9 +96,9 @@ rests_sent a b x y p q h none = record {
   rests = record { rested = λ k held. left _ _ (sent_is q (sent_all h.0 k) (h.3.holds k held) ∙ none) };
 }
   where
-  left : (a b : Bool) → a ≡ true → (a || b) ≡ true
-  left true b e = refl
-  left false b e = absurd cc
+    left : (a b : Bool) → a ≡ true → (a || b) ≡ true
+    left true b e = refl
+    left false b e = absurd cc
 
 pub stopped_by : (a b d : Told) (x y : MayPlay) (p q : Peer) (f : Fault) → DeliversSo a b x y p q → Adds b d [] → (z : MayPlay) → DeliversOne a d x z p q (Err f)
 stopped_by a b d x y p q f h told z = record {
@@ -120,19 +124,20 @@ at_none : (c : ℕ) (ks : List Client) → map (at_conn c (λ (k : Client). k)) 
 at_none c [] = refl
 at_none c (k ∷ ks) = go (nat_eq k.conn c) (at_none c ks)
   where
-  go : (b : Bool) → map (at_conn c (λ (k : Client). k)) ks ≡ ks → cond b k k ∷ map (at_conn c (λ (k : Client). k)) ks ≡ k ∷ ks
-  go true ih = ap (λ (l : List Client). k ∷ l) ih
-  go false ih = ap (λ (l : List Client). k ∷ l) ih
+    go : (b : Bool) → map (at_conn c (λ (k : Client). k)) ks ≡ ks → cond b k k ∷ map (at_conn c (λ (k : Client). k)) ks ≡ k ∷ ks
+    go true ih = ap (λ (l : List Client). k ∷ l) ih
+    go false ih = ap (λ (l : List Client). k ∷ l) ih
 
 at_twice : (c : ℕ) (f g : Client → Client) (ks : List Client) → ((k : Client) → (g k).conn ≡ k.conn) → map (at_conn c f) (map (at_conn c g) ks) ≡ map (at_conn c (λ (k : Client). f (g k))) ks
 at_twice c f g [] keeps = refl
 at_twice c f g (k ∷ ks) keeps = λ i. one i ∷ at_twice c f g ks keeps i
   where
-  go : (b : Bool) → nat_eq k.conn c ≡ b → at_conn c f (cond b (g k) k) ≡ cond b (f (g k)) k
-  go true is = if_true (nat_eq (g k).conn c) (f (g k)) (g k) (ap (λ (n : ℕ). nat_eq n c) (keeps k) ∙ is)
-  go false is = if_false (nat_eq k.conn c) (f k) k is
-  one : at_conn c f (at_conn c g k) ≡ at_conn c (λ (k : Client). f (g k)) k
-  one = go (nat_eq k.conn c) refl
+    go : (b : Bool) → nat_eq k.conn c ≡ b → at_conn c f (cond b (g k) k) ≡ cond b (f (g k)) k
+    go true is = if_true (nat_eq (g k).conn c) (f (g k)) (g k) (ap (λ (n : ℕ). nat_eq n c) (keeps k) ∙ is)
+    go false is = if_false (nat_eq k.conn c) (f k) k is
+
+    one : at_conn c f (at_conn c g k) ≡ at_conn c (λ (k : Client). f (g k)) k
+    one = go (nat_eq k.conn c) refl
 
 one_happens : (c : ℕ) (e : Entry) (w : World) → SendTo c e → happens w e ≡ record w { there = map (at_conn c (sent_by e)) w.there }
 one_happens c (Open at) w s = absurd s
@@ -205,10 +210,10 @@ rest_more c f (x ∷ ps) (k ∷ ks) (suc i) p apart lt is named one a r =
     let same : at_conn c f k ≡ k = if_false (nat_eq k.conn c) (f k) k (ap (λ (n : ℕ). nat_eq n c) a.0.conn ∙ away) in
     none_both (not (is_rested (at_conn c f k))) (list_any (λ k. not (is_rested k)) (take (suc i) (map (at_conn c f) ks))) (ap (λ (z : Client). not (is_rested z)) same ∙ s.0) (rest_more c f ps ks i p apart.1 (omega (arith, lt)) is named one a.1 s.1)
   where
-  away_at : (x : Peer) (ps : List Peer) (i : ℕ) (p : Peer) → list_any (nat_eq x.conn) (numbers ps) ≡ false → i < length ps → p ≡ get_or ps i p → nat_eq x.conn p.conn ≡ false
-  away_at x [] i p none lt is = absurd (omega (arith, lt))
-  away_at x (y ∷ ps) zero p none lt is = ap (λ (z : Peer). nat_eq x.conn z.conn) is ∙ (none_split (nat_eq x.conn y.conn) (list_any (nat_eq x.conn) (numbers ps)) none).0
-  away_at x (y ∷ ps) (suc i) p none lt is = away_at x ps i p (none_split (nat_eq x.conn y.conn) (list_any (nat_eq x.conn) (numbers ps)) none).1 (omega (arith, lt)) is
+    away_at : (x : Peer) (ps : List Peer) (i : ℕ) (p : Peer) → list_any (nat_eq x.conn) (numbers ps) ≡ false → i < length ps → p ≡ get_or ps i p → nat_eq x.conn p.conn ≡ false
+    away_at x [] i p none lt is = absurd (omega (arith, lt))
+    away_at x (y ∷ ps) zero p none lt is = ap (λ (z : Peer). nat_eq x.conn z.conn) is ∙ (none_split (nat_eq x.conn y.conn) (list_any (nat_eq x.conn) (numbers ps)) none).0
+    away_at x (y ∷ ps) (suc i) p none lt is = away_at x ps i p (none_split (nat_eq x.conn y.conn) (list_any (nat_eq x.conn) (numbers ps)) none).1 (omega (arith, lt)) is
 
 pub none_sent : (a : Told) (x : MayPlay) (ps : List Peer) → DeliversFront a a x x ps ps 0
 none_sent a x ps = record {

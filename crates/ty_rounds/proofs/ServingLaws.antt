@@ -1,18 +1,18 @@
 -- Serving one connection, and all of them.
-use Rattle.std.proofs.Common.{◌≡◌, ◌⊎◌, ◌≤◌, ◌<◌, ◌+◌, ℕ, zero, suc, Bool, true, false, not, cond, List, [], ◌∷◌, ◌++◌, length, get_or, set, refl, sym, ap, subst, ◌∙◌, arith, append_assoc, length-append, eq-eqb, Ok, Err}
+use Rattle.std.proofs.Common.{◌≡◌, ◌≤◌, ◌<◌, ◌+◌, ℕ, zero, suc, Bool, true, false, not, cond, List, [], ◌∷◌, ◌++◌, length, get_or, set, refl, sym, ap, subst, ◌∙◌, arith, append_assoc, length-append, eq-eqb, Ok, Err}
 use Rattle.std.specs.Prelude.{◌&&◌, ◌||◌, nat_eq}
 use Rattle.std.proofs.lemmas.List.{append-nil}
-use Rattle.std.proofs.lemmas.Bool.{ne_eqb, eqb-true}
+use Rattle.std.proofs.lemmas.Bool.{ne_eqb}
 use Rattle.tc_base.specs.declared.request.Request.{Request}
 use Rattle.tc_base.specs.declared.fields.NotWhole.{NotWhole}
-use Rattle.tc_base.specs.declared.fields.NotWhole.TheVariants.{Part, Bad}
+use Rattle.tc_base.specs.declared.fields.NotWhole.TheVariants.{Part}
 use Rattle.tc_base.specs.Reading.{Front}
 use Rattle.ty_wire.specs.Reading.{request_at}
 use Rattle.ty_wire.specs.Spelling.{reply_bytes}
 use Rattle.tc_model.specs.Contents.{Contents, Walk}
-use Rattle.tc_model.specs.Apply.{Step, apply, is_updated}
+use Rattle.tc_model.specs.Apply.{Step, apply}
 use Rattle.tc_model.specs.Packing.{is_optimize}
-use Rattle.ty_core.specs.Queues.{Queue, queue}
+use Rattle.ty_core.specs.Queues.{Queue}
 use Rattle.ty_core.specs.Serving.{Serves}
 use Rattle.ty_world.specs.Frames.{is_whole}
 use Rattle.ty_world.specs.World.{Client, served, front_of, is_ready, all_sent, round_one, round_all, owed_for, repl_reply}
@@ -36,24 +36,24 @@ round_err c w k p d e h = record {
 front_idle : (k : Client) → is_ready k ≡ false → front_of k ≡ Err Part
 front_idle k e = go (is_ready k) e
   where
-  go : (b : Bool) → b ≡ false → cond b (request_at k.unread) (Err Part) ≡ Err Part
-  go false e = refl
-  go true e = absurd cc
+    go : (b : Bool) → b ≡ false → cond b (request_at k.unread) (Err Part) ≡ Err Part
+    go false e = refl
+    go true e = absurd cc
 
 front_none : (k : Client) → is_whole (request_at k.unread) ≡ false → (d : NotWhole) × (front_of k ≡ Err d)
 front_none k none = go (is_ready k) (request_at k.unread) none
   where
-  go : (b : Bool) (f : Front Request) → is_whole f ≡ false → (d : NotWhole) × (cond b f (Err Part) ≡ Err d)
-  go false f none = (Part, refl)
-  go true (Err e) none = (e, refl)
-  go true (Ok x) none = absurd cc
+    go : (b : Bool) (f : Front Request) → is_whole f ≡ false → (d : NotWhole) × (cond b f (Err Part) ≡ Err d)
+    go false f none = (Part, refl)
+    go true (Err e) none = (e, refl)
+    go true (Ok x) none = absurd cc
 
 front_ready : (k : Client) → is_ready k ≡ true → front_of k ≡ request_at k.unread
 front_ready k e = go (is_ready k) e
   where
-  go : (b : Bool) → b ≡ true → cond b (request_at k.unread) (Err Part) ≡ request_at k.unread
-  go true e = refl
-  go false e = absurd cc
+    go : (b : Bool) → b ≡ true → cond b (request_at k.unread) (Err Part) ≡ request_at k.unread
+    go true e = refl
+    go false e = absurd cc
 
 and_not : (a b : Bool) → a ≡ true → (not a && b) ≡ false
 and_not true b e = refl
@@ -71,9 +71,9 @@ and_both true b e f = absurd cc
 pub sent_is : (p : Peer) (k : Client) → Holds p k → all_sent k ≡ all_taken p
 sent_is p k h = go p.session.waiting (h.owed)
   where
-  go : (waiting : List ℕ) → k.owed ≡ k.out ++ waiting → nat_eq (length k.out) (length k.owed) ≡ nat_eq (length waiting) 0
-  go [] e = eq-eqb _ _ (omega (arith, ap length e, length-append k.out []))
-  go (x ∷ waiting) e = ne_eqb _ _ (λ f. absurd (omega (arith, f, ap length e, length-append k.out (x ∷ waiting)))) ∙ sym (ne_eqb _ _ (λ f. absurd (omega (arith, f))))
+    go : (waiting : List ℕ) → k.owed ≡ k.out ++ waiting → nat_eq (length k.out) (length k.owed) ≡ nat_eq (length waiting) 0
+    go [] e = eq-eqb _ _ (omega (arith, ap length e, length-append k.out []))
+    go (x ∷ waiting) e = ne_eqb _ _ (λ f. absurd (omega (arith, f, ap length e, length-append k.out (x ∷ waiting)))) ∙ sym (ne_eqb _ _ (λ f. absurd (omega (arith, f))))
 
 pub gone_idle : (c : Contents) (w : Walk) (p : Peer) → p.gone ≡ true → ServesOne false c c w w p p
 gone_idle c w p e = record { each = λ k h. round_err c w k p Part (front_idle k (and_not k.gone (all_sent k) (h.gone ∙ e))) h }
@@ -90,24 +90,26 @@ pub one_served : (u updated : Bool) (c c' : Contents) (w w' : Walk) (p p' : Peer
 unfolding round_one
 one_served u updated c c' w w' p p' q r is_u here none s o = record { each = λ k h. go k h (front k h) }
   where
-  st : Step
-  st = apply false r c w
-  front : (k : Client) → Holds p k → front_of k ≡ Ok (r, q.unread)
-  front k h = front_ready k (and_both k.gone (all_sent k) (h.gone ∙ here) (sent_is p k h ∙ none)) ∙ ap request_at h.unread ∙ s.front
-  go : (k : Client) → Holds p k → front_of k ≡ Ok (r, q.unread) → RoundsOne u c c' w w' p' k
-  go k h e = record {
-    was = is_u ∙ ap (λ (b : Bool). b || is_optimize r) s.was ∙ sym (ap (λ (f : Front Request). (served c w k f).commits) e);
-    contents = s.contents ∙ sym (ap (λ (f : Front Request). (served c w k f).contents) e);
-    walk = s.walk ∙ sym (ap (λ (f : Front Request). (served c w k f).walk) e);
-    holds = subst (λ (f : Front Request). Holds p' (served c w k f).client) (sym e) (record {
-      conn = h.conn ∙ sym o.conn;
-      unread = sym (ap (λ (z : Queue). z.unread) o.session);
-      owed = ap (λ (l : List ℕ). l ++ owed_for r st) h.owed ∙ append_assoc k.out p.session.waiting (owed_for r st) ∙ ap (λ (l : List ℕ). k.out ++ l) (sym (append_assoc p.session.waiting (reply_bytes st.reply) (repl_reply r)) ∙ ap (λ (l : List ℕ). l ++ repl_reply r) (sym s.waiting_is) ∙ sym (ap (λ (z : Queue). z.waiting) o.session));
-      gone = h.gone ∙ sym o.gone;
-      ended = h.ended ∙ sym o.ended;
-      extra = h.extra ∙ sym o.extra;
-    });
-  }
+    st : Step
+    st = apply false r c w
+
+    front : (k : Client) → Holds p k → front_of k ≡ Ok (r, q.unread)
+    front k h = front_ready k (and_both k.gone (all_sent k) (h.gone ∙ here) (sent_is p k h ∙ none)) ∙ ap request_at h.unread ∙ s.front
+
+    go : (k : Client) → Holds p k → front_of k ≡ Ok (r, q.unread) → RoundsOne u c c' w w' p' k
+    go k h e = record {
+      was = is_u ∙ ap (λ (b : Bool). b || is_optimize r) s.was ∙ sym (ap (λ (f : Front Request). (served c w k f).commits) e);
+      contents = s.contents ∙ sym (ap (λ (f : Front Request). (served c w k f).contents) e);
+      walk = s.walk ∙ sym (ap (λ (f : Front Request). (served c w k f).walk) e);
+      holds = subst (λ (f : Front Request). Holds p' (served c w k f).client) (sym e) (record {
+        conn = h.conn ∙ sym o.conn;
+        unread = sym (ap (λ (z : Queue). z.unread) o.session);
+        owed = ap (λ (l : List ℕ). l ++ owed_for r st) h.owed ∙ append_assoc k.out p.session.waiting (owed_for r st) ∙ ap (λ (l : List ℕ). k.out ++ l) (sym (append_assoc p.session.waiting (reply_bytes st.reply) (repl_reply r)) ∙ ap (λ (l : List ℕ). l ++ repl_reply r) (sym s.waiting_is) ∙ sym (ap (λ (z : Queue). z.waiting) o.session));
+        gone = h.gone ∙ sym o.gone;
+        ended = h.ended ∙ sym o.ended;
+        extra = h.extra ∙ sym o.extra;
+      });
+    }
 
 -- ---- all
 
@@ -158,43 +160,43 @@ begin c w ps ks a = record { front = []; back = ps; served = []; rest = ks; peer
 pub more : (u v : Bool) (c0 c c' : Contents) (w0 w w' : Walk) (old ps : List Peer) (ks : List Client) (i : ℕ) (p q : Peer) → Halfway u c0 c w0 w old ps i ks → i < length ps → p ≡ get_or ps i p → ServesOne v c c' w w' p q → Halfway (u || v) c0 c' w0 w' old (set ps i q) (i + 1) ks
 more u v c0 c c' w0 w w' old ps ks i p q h lt is serves = go h.back h.rest refl refl h.left
   where
-  go : (back : List Peer) (rest : List Client) → h.back ≡ back → h.rest ≡ rest → AllHold back rest → Halfway (u || v) c0 c' w0 w' old (set ps i q) (i + 1) ks
-  go [] [] e f a = absurd (omega (arith, lt, h.at, ap length h.peers_are, ap length e, length-append h.front h.back))
-  go [] (y ∷ ys) e f a = absurd a
-  go (x ∷ xs) [] e f a = absurd a
-  go (x ∷ xs) (k ∷ ys) e f a =
-      let there : ps ≡ h.front ++ x ∷ xs = h.peers_are ∙ ap (λ (l : List Peer). h.front ++ l) e in
-      let is_x : p ≡ x = is ∙ ap (λ (l : List Peer). get_or l i p) there ∙ ap (λ (n : ℕ). get_or (h.front ++ x ∷ xs) n p) (sym h.at) ∙ get_there h.front xs x p in
-      let one = serves.each k (subst (λ (z : Peer). Holds z k) (sym is_x) a.0) in
-      let now = round_all c0 w0 h.served in
-      let s = subst (λ (d : Contents). RoundsOne v d c' w w' q k) h.contents one in
-      let r = subst (λ (d : Walk). RoundsOne v now.contents c' d w' q k) h.walk s in
-      record {
-        front = h.front ++ q ∷ [];
-        back = xs;
-        served = h.served ++ k ∷ [];
-        rest = ys;
-        peers_are = ap (λ (l : List Peer). set l i q) there ∙ ap (λ (n : ℕ). set (h.front ++ x ∷ xs) n q) (sym h.at) ∙ set_there h.front xs x q ∙ sym (append_assoc h.front (q ∷ []) xs);
-        clients_are = h.clients_are ∙ ap (λ (l : List Client). h.served ++ l) f ∙ sym (append_assoc h.served (k ∷ []) ys);
-        at = omega (arith, h.at, length-append h.front (q ∷ []));
-        was = ap (λ (b : Bool). b || v) h.was ∙ ap (λ (b : Bool). now.commits || b) r.was ∙ sym (more_commits c0 w0 h.served k);
-        contents = r.contents ∙ sym (more_contents c0 w0 h.served k);
-        walk = r.walk ∙ sym (more_walk c0 w0 h.served k);
-        done = subst (λ (l : List Client). AllHold (h.front ++ q ∷ []) l) (sym (more_clients c0 w0 h.served k)) (hold_more h.front now.clients q (round_one now.contents now.walk k).client h.done r.holds);
-        left = a.1;
-      }
+    go : (back : List Peer) (rest : List Client) → h.back ≡ back → h.rest ≡ rest → AllHold back rest → Halfway (u || v) c0 c' w0 w' old (set ps i q) (i + 1) ks
+    go [] [] e f a = absurd (omega (arith, lt, h.at, ap length h.peers_are, ap length e, length-append h.front h.back))
+    go [] (y ∷ ys) e f a = absurd a
+    go (x ∷ xs) [] e f a = absurd a
+    go (x ∷ xs) (k ∷ ys) e f a =
+        let there : ps ≡ h.front ++ x ∷ xs = h.peers_are ∙ ap (λ (l : List Peer). h.front ++ l) e in
+        let is_x : p ≡ x = is ∙ ap (λ (l : List Peer). get_or l i p) there ∙ ap (λ (n : ℕ). get_or (h.front ++ x ∷ xs) n p) (sym h.at) ∙ get_there h.front xs x p in
+        let one = serves.each k (subst (λ (z : Peer). Holds z k) (sym is_x) a.0) in
+        let now = round_all c0 w0 h.served in
+        let s = subst (λ (d : Contents). RoundsOne v d c' w w' q k) h.contents one in
+        let r = subst (λ (d : Walk). RoundsOne v now.contents c' d w' q k) h.walk s in
+        record {
+          front = h.front ++ q ∷ [];
+          back = xs;
+          served = h.served ++ k ∷ [];
+          rest = ys;
+          peers_are = ap (λ (l : List Peer). set l i q) there ∙ ap (λ (n : ℕ). set (h.front ++ x ∷ xs) n q) (sym h.at) ∙ set_there h.front xs x q ∙ sym (append_assoc h.front (q ∷ []) xs);
+          clients_are = h.clients_are ∙ ap (λ (l : List Client). h.served ++ l) f ∙ sym (append_assoc h.served (k ∷ []) ys);
+          at = omega (arith, h.at, length-append h.front (q ∷ []));
+          was = ap (λ (b : Bool). b || v) h.was ∙ ap (λ (b : Bool). now.commits || b) r.was ∙ sym (more_commits c0 w0 h.served k);
+          contents = r.contents ∙ sym (more_contents c0 w0 h.served k);
+          walk = r.walk ∙ sym (more_walk c0 w0 h.served k);
+          done = subst (λ (l : List Client). AllHold (h.front ++ q ∷ []) l) (sym (more_clients c0 w0 h.served k)) (hold_more h.front now.clients q (round_one now.contents now.walk k).client h.done r.holds);
+          left = a.1;
+        }
 
 pub finish : (u : Bool) (c0 c : Contents) (w0 w : Walk) (old ps : List Peer) (ks : List Client) (i : ℕ) → Halfway u c0 c w0 w old ps i ks → length ps ≤ i → RoundsTo u c w ps (round_all c0 w0 ks)
 finish u c0 c w0 w old ps ks i h le = go h.back h.rest refl refl h.left
   where
-  go : (back : List Peer) (rest : List Client) → h.back ≡ back → h.rest ≡ rest → AllHold back rest → RoundsTo u c w ps (round_all c0 w0 ks)
-  go [] [] e f a =
-      let all : ps ≡ h.front = h.peers_are ∙ ap (λ (l : List Peer). h.front ++ l) e ∙ append-nil h.front in
-      let every : ks ≡ h.served = h.clients_are ∙ ap (λ (l : List Client). h.served ++ l) f ∙ append-nil h.served in
-      subst (λ (l : List Client). RoundsTo u c w ps (round_all c0 w0 l)) (sym every) (record { was = h.was; contents = h.contents; walk = h.walk; each = subst (λ (l : List Peer). AllHold l (round_all c0 w0 h.served).clients) (sym all) h.done })
-  go [] (y ∷ ys) e f a = absurd a
-  go (x ∷ xs) [] e f a = absurd a
-  go (x ∷ xs) (k ∷ ys) e f a = absurd (omega (arith, le, h.at, ap length h.peers_are, ap length e, length-append h.front h.back))
+    go : (back : List Peer) (rest : List Client) → h.back ≡ back → h.rest ≡ rest → AllHold back rest → RoundsTo u c w ps (round_all c0 w0 ks)
+    go [] [] e f a =
+        let all : ps ≡ h.front = h.peers_are ∙ ap (λ (l : List Peer). h.front ++ l) e ∙ append-nil h.front in
+        let every : ks ≡ h.served = h.clients_are ∙ ap (λ (l : List Client). h.served ++ l) f ∙ append-nil h.served in
+        subst (λ (l : List Client). RoundsTo u c w ps (round_all c0 w0 l)) (sym every) (record { was = h.was; contents = h.contents; walk = h.walk; each = subst (λ (l : List Peer). AllHold l (round_all c0 w0 h.served).clients) (sym all) h.done })
+    go [] (y ∷ ys) e f a = absurd a
+    go (x ∷ xs) [] e f a = absurd a
+    go (x ∷ xs) (k ∷ ys) e f a = absurd (omega (arith, le, h.at, ap length h.peers_are, ap length e, length-append h.front h.back))
 
 pub numbers_kept : (ps : List Peer) (i : ℕ) (p q : Peer) → i < length ps → p ≡ get_or ps i p → q.conn ≡ p.conn → numbers (set ps i q) ≡ numbers ps
 numbers_kept [] i p q lt is same = absurd (omega (arith, lt))

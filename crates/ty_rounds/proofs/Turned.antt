@@ -1,29 +1,26 @@
 -- A turn, from its steps.
-use Rattle.std.proofs.Common.{◌≡◌, ◌⊎◌, ◌≤◌, inl, inr, ⊎_elim, ℕ, suc, Bool, true, false, cond, List, [], ◌∷◌, ◌++◌, refl, sym, ap, subst, ◌∙◌, map}
-use Rattle.std.specs.Prelude.{Option, Some, Result, Ok, Err, OnOk}
+use Rattle.std.proofs.Common.{◌≡◌, ◌⊎◌, ◌≤◌, inl, inr, ⊎_elim, ℕ, suc, Bool, true, false, cond, List, [], ◌∷◌, refl, sym, ap, subst, ◌∙◌, map}
+use Rattle.std.specs.Prelude.{Option, Result, Ok, Err, OnOk}
 use Rattle.tc_base.specs.Files.{Files}
-use Rattle.tc_space.specs.Moments.{LeavesOnly, Steady}
+use Rattle.tc_space.specs.Moments.{Steady}
 use Rattle.tc_io.specs.Told.{Adds}
-use Rattle.tc_io.specs.Script.{Plays}
 use Rattle.tc_io.specs.declared.wire.Ev.{Ev}
 use Rattle.tc_io.specs.declared.wire.Ev.TheVariants as event
 use Rattle.tc_io.specs.declared.wire.Entry.{Entry}
 use Rattle.tc_io.specs.declared.wire.Entry.TheVariants.{Event}
 use Rattle.tc_model.specs.Contents.{Contents, Walk}
-use Rattle.ty_world.specs.World.{Client, World, Round, heard, unstopped, happens, world_after, round_all, shut_after, AllAsked, AllCame, marked}
+use Rattle.ty_world.specs.World.{Client, World, heard, unstopped, happens, world_after, round_all, shut_after, AllAsked, AllCame}
 use Rattle.ty_world.proofs.RoundLaws.{round_idle, round_quiet}
-use Rattle.ty_core.specs.Queues.{Queue}
 use Rattle.ty_rounds.specs.Kept.{Reopens, MovesTo, LeavesTwo}
-use Rattle.ty_rounds.specs.Holding.{Holds, AllHold, AllFine, IsFine, Stands, RoundsTo, Same, NoSend}
-use Rattle.ty_rounds.specs.Turns.{Told, MayPlay, Asks, Hears, HearErr, Finished, Finishes, MarksMore, TurnEnds, Turned, Turns}
+use Rattle.ty_rounds.specs.Holding.{AllHold, IsFine, Stands, RoundsTo, Same}
+use Rattle.ty_rounds.specs.Turns.{Told, MayPlay, Asks, Hears, HearErr, Finishes, MarksMore, TurnEnds, Turns}
 use Rattle.ty_rounds.specs.declared.peer.Peer.{Peer}
-use Rattle.ty_rounds.specs.declared.outcome.Outcome.{Outcome}
 use Rattle.ty_rounds.specs.declared.outcome.Outcome.TheVariants.{Went, Shut}
 use Rattle.ty_rounds.specs.declared.outcome.TurnErr.{TurnErr}
 use Rattle.ty_rounds.specs.declared.outcome.TurnErr.TheVariants.{Volume, Full, Wire, Memory}
 use Rattle.ty_rounds.proofs.Telling.{Adds-then, Plays-then}
 use Rattle.ty_rounds.proofs.Fine.{hold_fine, heard_fine, unstopped_fine, round_fine}
-use Rattle.ty_rounds.proofs.Leaving.{was_kept, none_two, steady_two, moved_two, steady_exit, two_exit, kept_after}
+use Rattle.ty_rounds.proofs.Leaving.{was_kept, none_two, steady_two, moved_two, steady_exit, two_exit}
 
 if_true : {A : Type 0} (b : Bool) (x y : A) → b ≡ true → cond b x y ≡ x
 if_true true x y e = refl
@@ -68,9 +65,9 @@ module _ (a b : Told) (p q : MayPlay) (c : Contents) (k : Walk) (ps : List Peer)
   pub mid_marks : MarksMore w mid
   mid_marks = go (round_all w.contents w.walk ks).updated refl
     where
-    go : (u : Bool) → (round_all w.contents w.walk ks).updated ≡ u → MarksMore w mid
-    go true is = record { more = inr (if_true _ _ _ is) }
-    go false is = record { more = inl (if_false _ _ _ is, round_idle w.contents w.walk ks is) }
+      go : (u : Bool) → (round_all w.contents w.walk ks).updated ≡ u → MarksMore w mid
+      go true is = record { more = inr (if_true _ _ _ is) }
+      go false is = record { more = inl (if_false _ _ _ is, round_idle w.contents w.walk ks is) }
 
 marks_then : (w m v : World) → MarksMore w m → Same m v → MarksMore w v
 marks_then w m v mm same = record { more = ⊎_elim (λ x. inl (same.marks ∙ x.0, same.contents ∙ x.1)) (λ x. inr (same.marks ∙ x ∙ ap (λ (d : Contents). d ∷ w.marks) (sym same.contents))) mm.more }
@@ -114,11 +111,11 @@ module _ {S : Type 0} (tells : Type 0) (moment : S → ℕ) (left : S → ℕ �
     };
   }
     where
-    go : (e : TurnErr) → (e ≡ Wire) ⊎ (e ≡ Memory) → (w : World) → ((o : Option Files) → left s (moment s) o → Reopens reopens o w.contents) → TurnEnds reopens (left s (moment s)) (Err e) c' k' ps' w w []
-    go Wire which w f = f
-    go Memory which w f = λ o l. inl (f o l)
-    go Volume which w f = λ o l. inl (f o l)
-    go Full which w f = λ o l. inl (f o l)
+      go : (e : TurnErr) → (e ≡ Wire) ⊎ (e ≡ Memory) → (w : World) → ((o : Option Files) → left s (moment s) o → Reopens reopens o w.contents) → TurnEnds reopens (left s (moment s)) (Err e) c' k' ps' w w []
+      go Wire which w f = f
+      go Memory which w f = λ o l. inl (f o l)
+      go Volume which w f = λ o l. inl (f o l)
+      go Full which w f = λ o l. inl (f o l)
 
   pub hear_ends : (a b : Told) (p q : MayPlay) (c c' : Contents) (k k' : Walk) (ps ps' : List Peer) (e : TurnErr) (s : S) → HearErr a b p q ps e → Only s → (tells → Reopens reopens (kept s) c)
       → Turns tells moment left reopens a b p q (Err e) s s c c' k k' ps ps'
@@ -158,11 +155,11 @@ module _ {S : Type 0} (tells : Type 0) (moment : S → ℕ) (left : S → ℕ �
     };
   }
     where
-    go : (e : TurnErr) → (e ≡ Wire → ⊥) → (w v : World) → ((o : Option Files) → left s1 (moment s1) o → Reopens reopens o w.contents) → TurnEnds reopens (left s1 (moment s1)) (Err e) c' k' ps' w v (Event h.asks.paused h.asks.busy ev h.asks.bytes ∷ [])
-    go Wire other w v f = absurd (other refl)
-    go Volume other w v f = λ o l. inr (f o l, tt)
-    go Full other w v f = λ o l. inr (f o l, tt)
-    go Memory other w v f = λ o l. inr (f o l, tt)
+      go : (e : TurnErr) → (e ≡ Wire → ⊥) → (w v : World) → ((o : Option Files) → left s1 (moment s1) o → Reopens reopens o w.contents) → TurnEnds reopens (left s1 (moment s1)) (Err e) c' k' ps' w v (Event h.asks.paused h.asks.busy ev h.asks.bytes ∷ [])
+      go Wire other w v f = absurd (other refl)
+      go Volume other w v f = λ o l. inr (f o l, tt)
+      go Full other w v f = λ o l. inr (f o l, tt)
+      go Memory other w v f = λ o l. inr (f o l, tt)
 
   -- what the round made, of any world that the server stood for
   mid_round : (a b : Told) (p q : MayPlay) (c d : Contents) (k l : Walk) (ps ps1 ps2 : List Peer) (ev : Ev) (u : Bool) (h : Hears a b p q ps ps1 ev) (w : World) (st : Stands c k ps w) → ((ks : List Client) → AllHold ps1 ks → RoundsTo u d l ps2 (round_all c k ks))
@@ -193,11 +190,11 @@ module _ {S : Type 0} (tells : Type 0) (moment : S → ℕ) (left : S → ℕ �
         };
   }
     where
-    go : (e : TurnErr) → (e ≡ Wire → ⊥) → (w v : World) → ((o : Option Files) → left s2 (moment s2) o → Reopens reopens o v.contents ⊎ Reopens reopens o w.contents) → TurnEnds reopens (left s2 (moment s2)) (Err e) c' k' ps' w v (Event h.asks.paused h.asks.busy ev h.asks.bytes ∷ [])
-    go Wire other w v f = absurd (other refl)
-    go Volume other w v f = λ o l. ⊎_elim (λ x. inl x) (λ x. inr (x, tt)) (f o l)
-    go Full other w v f = λ o l. ⊎_elim (λ x. inl x) (λ x. inr (x, tt)) (f o l)
-    go Memory other w v f = λ o l. ⊎_elim (λ x. inl x) (λ x. inr (x, tt)) (f o l)
+      go : (e : TurnErr) → (e ≡ Wire → ⊥) → (w v : World) → ((o : Option Files) → left s2 (moment s2) o → Reopens reopens o v.contents ⊎ Reopens reopens o w.contents) → TurnEnds reopens (left s2 (moment s2)) (Err e) c' k' ps' w v (Event h.asks.paused h.asks.busy ev h.asks.bytes ∷ [])
+      go Wire other w v f = absurd (other refl)
+      go Volume other w v f = λ o l. ⊎_elim (λ x. inl x) (λ x. inr (x, tt)) (f o l)
+      go Full other w v f = λ o l. ⊎_elim (λ x. inl x) (λ x. inr (x, tt)) (f o l)
+      go Memory other w v f = λ o l. ⊎_elim (λ x. inl x) (λ x. inr (x, tt)) (f o l)
 
   -- all four steps, before it is known how the last one ended
   abbrev pub Finals : (a b d : Told) (p q r : MayPlay) (c d' : Contents) (k l : Walk) (ps ps1 ps2 ps3 : List Peer) (ev : Ev) (u : Bool) (ok : Result (Unit {0}) TurnErr) (s s1 s2 : S) → Type 0

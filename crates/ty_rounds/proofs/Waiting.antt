@@ -1,5 +1,5 @@
 -- The connections that wait, of the server and of the world.
-use Rattle.std.proofs.Common.{◌≡◌, ◌<◌, ◌+◌, ℕ, suc, Bool, true, false, not, cond, List, [], ◌∷◌, ◌++◌, length, get_or, take, map, refl, sym, ap, subst, ◌∙◌, arith}
+use Rattle.std.proofs.Common.{◌≡◌, ◌<◌, ◌+◌, ℕ, suc, Bool, true, false, not, cond, List, [], ◌∷◌, ◌++◌, length, get_or, take, map, refl, sym, ap, ◌∙◌, arith}
 use Rattle.std.specs.Prelude.{◌||◌, ◌&&◌, ◌==◌}
 use Rattle.std.specs.List.{list_any, filter}
 use Rattle.std.proofs.lemmas.List.{append-nil}
@@ -31,19 +31,19 @@ paused_is [] (k ∷ ks) a = absurd a
 paused_is (p ∷ ps) [] a = absurd a
 paused_is (p ∷ ps) (k ∷ ks) a = go (waits p) (world.waits k) (sym (waits_is p k a.0)) (paused_is ps ks a.1)
   where
-  go : (b d : Bool) → b ≡ d → waiting_numbers ps ≡ map (λ (k : Client). k.conn) (filter world.waits ks) → map (λ (q : Peer). q.conn) (cond b (p ∷ filter waits ps) (filter waits ps)) ≡ map (λ (k : Client). k.conn) (cond d (k ∷ filter world.waits ks) (filter world.waits ks))
-  go true true e ih = ap (λ (n : ℕ). n ∷ waiting_numbers ps) (sym a.0.conn) ∙ ap (λ (l : List ℕ). k.conn ∷ l) ih
-  go false false e ih = ih
-  go true false e ih = absurd cc
-  go false true e ih = absurd cc
+    go : (b d : Bool) → b ≡ d → waiting_numbers ps ≡ map (λ (k : Client). k.conn) (filter world.waits ks) → map (λ (q : Peer). q.conn) (cond b (p ∷ filter waits ps) (filter waits ps)) ≡ map (λ (k : Client). k.conn) (cond d (k ∷ filter world.waits ks) (filter world.waits ks))
+    go true true e ih = ap (λ (n : ℕ). n ∷ waiting_numbers ps) (sym a.0.conn) ∙ ap (λ (l : List ℕ). k.conn ∷ l) ih
+    go false false e ih = ih
+    go true false e ih = absurd cc
+    go false true e ih = absurd cc
 
 any_is : (ks : List Client) → list_any world.waits ks ≡ not (length (map (λ (k : Client). k.conn) (filter world.waits ks)) == 0)
 any_is [] = refl
 any_is (k ∷ ks) = go (world.waits k) (any_is ks)
   where
-  go : (b : Bool) → list_any world.waits ks ≡ not (length (map (λ (k : Client). k.conn) (filter world.waits ks)) == 0) → (b || list_any world.waits ks) ≡ not (length (map (λ (k : Client). k.conn) (cond b (k ∷ filter world.waits ks) (filter world.waits ks))) == 0)
-  go true ih = sym (ap not (ne_eqb (suc (length (map (λ (k : Client). k.conn) (filter world.waits ks)))) 0 (λ e. absurd (omega (arith, e)))))
-  go false ih = ih
+    go : (b : Bool) → list_any world.waits ks ≡ not (length (map (λ (k : Client). k.conn) (filter world.waits ks)) == 0) → (b || list_any world.waits ks) ≡ not (length (map (λ (k : Client). k.conn) (cond b (k ∷ filter world.waits ks) (filter world.waits ks))) == 0)
+    go true ih = sym (ap not (ne_eqb (suc (length (map (λ (k : Client). k.conn) (filter world.waits ks)))) 0 (λ e. absurd (omega (arith, e)))))
+    go false ih = ih
 
 pub busy_is : (ps : List Peer) (ks : List Client) → AllHold ps ks → not (length (waiting_numbers ps) == 0) ≡ list_any world.waits ks
 busy_is ps ks a = ap (λ (l : List ℕ). not (length l == 0)) (paused_is ps ks a) ∙ sym (any_is ks)
@@ -53,14 +53,13 @@ busy_is ps ks a = ap (λ (l : List ℕ). not (length l == 0)) (paused_is ps ks a
 waiting_push : (ps : List Peer) (p : Peer) → waiting_numbers (ps ++ p ∷ []) ≡ waiting_numbers ps ++ numbers (cond (waits p) (p ∷ []) [])
 waiting_push [] p = go (waits p)
   where
-  go : (b : Bool) → map (λ (q : Peer). q.conn) (cond b (p ∷ []) []) ≡ map (λ (q : Peer). q.conn) (cond b (p ∷ []) [])
-  go b = refl
+    go : (b : Bool) → map (λ (q : Peer). q.conn) (cond b (p ∷ []) []) ≡ map (λ (q : Peer). q.conn) (cond b (p ∷ []) [])
+    go b = refl
 waiting_push (x ∷ ps) p = go (waits x) (waiting_push ps p)
   where
-  go : (b : Bool) → waiting_numbers (ps ++ p ∷ []) ≡ waiting_numbers ps ++ numbers (cond (waits p) (p ∷ []) []) → map (λ (q : Peer). q.conn) (cond b (x ∷ filter waits (ps ++ p ∷ [])) (filter waits (ps ++ p ∷ []))) ≡ map (λ (q : Peer). q.conn) (cond b (x ∷ filter waits ps) (filter waits ps)) ++ numbers (cond (waits p) (p ∷ []) [])
-  go true ih = ap (λ (l : List ℕ). x.conn ∷ l) ih
-  go false ih = ih
-
+    go : (b : Bool) → waiting_numbers (ps ++ p ∷ []) ≡ waiting_numbers ps ++ numbers (cond (waits p) (p ∷ []) []) → map (λ (q : Peer). q.conn) (cond b (x ∷ filter waits (ps ++ p ∷ [])) (filter waits (ps ++ p ∷ []))) ≡ map (λ (q : Peer). q.conn) (cond b (x ∷ filter waits ps) (filter waits ps)) ++ numbers (cond (waits p) (p ∷ []) [])
+    go true ih = ap (λ (l : List ℕ). x.conn ∷ l) ih
+    go false ih = ih
 
 pub waiting_yes : (ps : List Peer) (i : ℕ) (p : Peer) (old new : List ℕ) → i < length ps → p ≡ get_or ps i p → waits p ≡ true → old ≡ waiting_numbers (take i ps) → new ≡ old ++ p.conn ∷ [] → new ≡ waiting_numbers (take (i + 1) ps)
 waiting_yes ps i p old new lt is waiting so_far more =

@@ -1,11 +1,11 @@
 -- What closings do.
-use Rattle.std.specs.Prelude.{◌≡◌, ℕ, Bool, true, false, List, [], ◌∷◌, ◌++◌, length, OnOk, Result}
+use Rattle.std.specs.Prelude.{◌≡◌, ℕ, false, List, ◌++◌, length, OnOk, Result}
 use Rattle.std.specs.List.{list_any}
 use Rattle.tc_base.specs.declared.fault.Fault.{Fault}
 use Rattle.tc_io.specs.Told.{Adds}
 use Rattle.tc_io.specs.Script.{Plays}
 use Rattle.tc_io.specs.declared.wire.Entry.{Entry}
-use Rattle.ty_world.specs.World.{Client, World, is_over, is_rested, world_after, AllAsked, AllCame}
+use Rattle.ty_world.specs.World.{Client, World, is_over, world_after, AllAsked, AllCame}
 use Rattle.ty_rounds.specs.Holding.{AllHold, AllFine, Same}
 use Rattle.ty_rounds.specs.Sending.{NoneRestless}
 use Rattle.ty_rounds.specs.Turns.{Told, MayPlay}

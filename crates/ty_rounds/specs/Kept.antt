@@ -1,5 +1,5 @@
 -- What a stop leaves, by contents.
-use Rattle.std.specs.Prelude.{◌≡◌, ◌⊎◌, ℕ, ◌≤◌, List, [], ◌∷◌, Option, Some}
+use Rattle.std.specs.Prelude.{◌≡◌, ◌⊎◌, ℕ, List, [], ◌∷◌, Option, Some}
 use Rattle.tc_base.specs.Files.{Files}
 use Rattle.tc_space.specs.Moments.{LeavesOnly}
 use Rattle.tc_model.specs.Contents.{Contents}

@@ -1,5 +1,5 @@
 -- What a connection's fields say of it.
-use Rattle.std.specs.Prelude.{◌≡◌, ◌==◌, ◌&&◌, ◌||◌, ℕ, Bool, not, List, length, map}
+use Rattle.std.specs.Prelude.{◌==◌, ◌&&◌, ◌||◌, ℕ, Bool, not, List, length, map}
 use Rattle.std.specs.List.{filter}
 use Rattle.ty_wire.specs.Reading.{request_at}
 use Rattle.ty_world.specs.Frames.{is_bad, is_whole}

@@ -1,5 +1,5 @@
 -- What sends do.
-use Rattle.std.specs.Prelude.{◌≡◌, ℕ, Bool, true, false, not, List, [], ◌∷◌, take, Option, OnOk, Result}
+use Rattle.std.specs.Prelude.{◌≡◌, ℕ, true, false, not, List, [], ◌∷◌, take, OnOk, Result}
 use Rattle.std.specs.List.{list_any}
 use Rattle.tc_base.specs.declared.fault.Fault.{Fault}
 use Rattle.tc_io.specs.Told.{Adds}

@@ -83,12 +83,7 @@ ghost use Rattle.std.specs.Prelude.{◌∷◌};
 ghost use Rattle.ty_world.specs.World.{new_client};
 
 // Takes an event in.
-fn hear(
-    alloc: Global,
-    peers: &mut Vec<Peer>,
-    ev: Ev,
-    buffer: &[u8; 4096],
-) -> Result<(), AllocError>
+fn hear(alloc: Global, peers: &mut Vec<Peer>, ev: Ev, buffer: &[u8; 4096]) -> Result<(), AllocError>
     requires may { MayHear ev }
     requires apart { AreApart (numbers peers.old.items) }
     ensures heard { OnOk result ((ks : List Client) → AllHold peers.old.items ks → AllHold peers.new.items (heard ks ev (bytes_of ev buffer.now))) }

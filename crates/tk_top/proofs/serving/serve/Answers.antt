@@ -1,4 +1,4 @@
-use Rattle.std.proofs.Common.{arith, rules, refl, ◌≡◌}
+use Rattle.std.proofs.Common.{arith, rules, ◌≡◌}
 use Rattle.ty_rounds.specs.declared.outcome.Outcome.TheVariants.{Went, Shut}
 use Rattle.ty_rounds.specs.declared.outcome.TurnErr.TheVariants.{Volume, Full, Wire, Memory}
 use Rattle.tk_top.proofs.Running.{run_start, run_more, run_shut, run_wire, run_volume, run_full, run_memory, run_spent, not_spent, at_ok, at_err, none_wired}

@@ -1,8 +1,8 @@
-use Rattle.std.proofs.Common.{◌≡◌, Bool, sym, ap, ◌∙◌, subst, List, ℕ, rules}
-use Rattle.std.specs.Prelude.{◌&&◌, ◌++◌, IfOk}
+use Rattle.std.proofs.Common.{sym, ap, ◌∙◌, subst}
+use Rattle.std.specs.Prelude.{◌++◌, IfOk}
 use Rattle.tc_base.specs.declared.request.Reply.{Reply}
 use Rattle.ty_wire.specs.Spelling.{reply_bytes}
-use Rattle.tc_model.specs.Apply.{Step, updates}
+use Rattle.tc_model.specs.Apply.{Step}
 use Rattle.tc_model.specs.Applying.{Applies}
 use Rattle.tc_model.proofs.Updating.{apply_same}
 use Rattle.ty_core.proofs.Fronts.{refused_applies}

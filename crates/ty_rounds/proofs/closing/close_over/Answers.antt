@@ -1,4 +1,4 @@
-use Rattle.std.proofs.Common.{arith, rules, refl, sym, ap, ◌∙◌, ◌≡◌, ℕ, true}
+use Rattle.std.proofs.Common.{arith, rules, sym, ap, ◌∙◌}
 use Rattle.ty_rounds.proofs.Places.{open_at, apart_peers, one_at}
 use Rattle.ty_rounds.specs.Peers.{is_over}
 use Rattle.ty_rounds.proofs.ClosingLaws.{none_closed, closed_wired, one_stays, one_closes, close_fails, all_closed}

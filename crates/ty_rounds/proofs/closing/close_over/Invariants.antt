@@ -1,5 +1,4 @@
-use Rattle.std.proofs.Common.{◌≡◌, ◌≤◌, ◌-◌, true, List, length}
-use Rattle.tc_io.specs.declared.wire.Entry.{Entry}
+use Rattle.std.proofs.Common.{◌≡◌, ◌≤◌, ◌-◌, true, length}
 use Rattle.ty_rounds.specs.Holding.{Wired}
 use Rattle.ty_rounds.specs.Closings.{ClosesFront}
 use Rattle.ty_rounds.proofs.closing.close_over.Given as goal

@@ -1,4 +1,4 @@
-use Rattle.std.proofs.Common.{rules, refl, sym, ap, ◌∙◌, inl, inr, ◌≡◌, List, ℕ, not, length, Bool}
+use Rattle.std.proofs.Common.{rules, ap, ◌∙◌, inr, ◌≡◌, not, length}
 use Rattle.std.specs.Prelude.{◌==◌}
 use Rattle.ty_rounds.specs.Peers.{waiting_numbers}
 use Rattle.ty_rounds.proofs.Hearing.{asks, hears, shut_last, wired_after, unstopped_hold}

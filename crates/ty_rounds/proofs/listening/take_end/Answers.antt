@@ -1,8 +1,6 @@
-use Rattle.std.proofs.Common.{rules, refl, ◌<◌, length, List, ◌≡◌, sym, ap, subst, true}
-use Rattle.std.specs.Prelude.{slice_get, Some, Option}
+use Rattle.std.proofs.Common.{rules, refl, ◌<◌, length, true}
 use Rattle.ty_world.specs.World.{with_end}
-use Rattle.ty_rounds.specs.declared.peer.Peer.{Peer}
-use Rattle.ty_rounds.proofs.Places.{others_hold, set_holds, none_there, Found, found_there}
+use Rattle.ty_rounds.proofs.Places.{others_hold, set_holds, none_there, found_there}
 use Rattle.ty_rounds.proofs.ServingLaws.{numbers_kept}
 use Rattle.ty_rounds.proofs.Hearing.{ends}
 use Rattle.ty_rounds.proofs.listening.take_end.Goals as goal

@@ -3,8 +3,7 @@ use Rattle.std.specs.Prelude.{nat_lt}
 use Rattle.ty_rounds.specs.Holding.{AllHold}
 use Rattle.ty_rounds.specs.declared.peer.Peer.{Peer}
 use Rattle.ty_world.specs.World.{new_client}
-use Rattle.ty_rounds.proofs.Hearing.{opens, numbers_push}
-use Rattle.ty_rounds.specs.Peers.{numbers}
+use Rattle.ty_rounds.proofs.Hearing.{opens}
 use Rattle.ty_rounds.proofs.listening.take_opened.Goals as goal
 
 pub returns-clause-heard : goal.returns-clause-heard

@@ -20,13 +20,13 @@ returns-in_err-one-clause-numbers g c = numbers_kept _ _ c.index_mut-p.result.no
 
 pub loop-i-preserved : goal.loop-i-preserved
 loop-i-preserved g c = let s = g.B.S.Space in
-  let is : c.if-commits.commits ≡ (c.loop-i.commits || c.in_ok-one.one) = search rules in
-  record {
-  numbers = numbers_kept _ _ c.index_mut-p.result.now _ (search rules) (search rules) c.serve_one.ensures.conn ∙ c.loop-i.invariant.numbers;
-  round = λ t ks a. more_is _ c.loop-i.commits c.in_ok-one.one _ _ _ _ _ _ _ _ ks _ c.index_mut-p.result.now c.serve_one.new.p is (c.loop-i.invariant.round t ks a) (search rules) (search rules) (c.in_ok-one.ensures.served t);
-  writes = λ e. let n = none_of c.loop-i.commits c.in_ok-one.one (sym is ∙ e) in c.in_ok-one.ensures.writes n.1 ∙ c.loop-i.invariant.writes n.0;
-  steady = λ t. steady_then s.moment s.left s.kept c.args.space.now c.loop-i.space c.serve_one.new.space (c.loop-i.invariant.steady t) (c.serve_one.ensures.steady t);
-  sound = c.in_ok-one.ensures.sound;
-  is_of = c.in_ok-one.ensures.is_of_still;
-  later = omega (arith, c.loop-i.invariant.later, c.serve_one.ensures.later);
-}
+    let is : c.if-commits.commits ≡ (c.loop-i.commits || c.in_ok-one.one) = search rules in
+    record {
+      numbers = numbers_kept _ _ c.index_mut-p.result.now _ (search rules) (search rules) c.serve_one.ensures.conn ∙ c.loop-i.invariant.numbers;
+      round = λ t ks a. more_is _ c.loop-i.commits c.in_ok-one.one _ _ _ _ _ _ _ _ ks _ c.index_mut-p.result.now c.serve_one.new.p is (c.loop-i.invariant.round t ks a) (search rules) (search rules) (c.in_ok-one.ensures.served t);
+      writes = λ e. let n = none_of c.loop-i.commits c.in_ok-one.one (sym is ∙ e) in c.in_ok-one.ensures.writes n.1 ∙ c.loop-i.invariant.writes n.0;
+      steady = λ t. steady_then s.moment s.left s.kept c.args.space.now c.loop-i.space c.serve_one.new.space (c.loop-i.invariant.steady t) (c.serve_one.ensures.steady t);
+      sound = c.in_ok-one.ensures.sound;
+      is_of = c.in_ok-one.ensures.is_of_still;
+      later = omega (arith, c.loop-i.invariant.later, c.serve_one.ensures.later);
+    }

@@ -1,4 +1,4 @@
-use Rattle.std.proofs.Common.{rules, refl, sym, ap, ◌∙◌, ◌≡◌, false, true}
+use Rattle.std.proofs.Common.{rules, refl, sym, ◌∙◌}
 use Rattle.ty_rounds.proofs.ServingLaws.{gone_idle, waits_idle, none_idle, one_served, none_of}
 use Rattle.tc_model.specs.Packing.{is_optimize}
 use Rattle.ty_rounds.proofs.rounds.serve_one.Goals as goal

@@ -1,5 +1,4 @@
-use Rattle.std.proofs.Common.{arith, rules, refl, sym, ap, subst, ◌∙◌, ◌≡◌, ℕ, List, true, ◌<◌, length, get_or, set}
-use Rattle.ty_rounds.specs.Holding.{AreApart}
+use Rattle.std.proofs.Common.{arith, rules}
 use Rattle.ty_rounds.proofs.Places.{open_at, still_wired, apart_peers}
 use Rattle.ty_rounds.proofs.SendLaws.{more_sent, sends_fail, all_delivered}
 use Rattle.ty_rounds.proofs.sends.deliver_all.Goals as goal

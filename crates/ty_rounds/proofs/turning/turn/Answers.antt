@@ -1,4 +1,4 @@
-use Rattle.std.proofs.Common.{◌≡◌, refl, sym, subst, Ok, Err}
+use Rattle.std.proofs.Common.{refl, sym, subst}
 use Rattle.tc_model.specs.Contents.{Contents}
 use Rattle.ty_rounds.specs.Kept.{Reopens}
 use Rattle.ty_rounds.proofs.Leaving.{kept_after}
@@ -43,7 +43,7 @@ returns-in-Err-finish-clause-told g c = let s = g.B.S.Space in
       c.finish.ensures.told,
       c.requires.kept,
       λ t. kept_after s.moment s.left s.kept g.B.Base.reopens c.in-Ok-round.commits c.args.space.now c.round.new.space c.keep.new.space (g.B.Base.contents c.args.server.now.base) (g.B.Base.contents c.round.new.base) (c.requires.kept t) (c.round.ensures.steady t) (c.in-Ok-keep.ensures.kept t) (c.in-Ok-keep.ensures.idle t)
-        (idle_contents c.in-Ok-round.commits _ _ c.args.server.now.walk c.round.new.walk c.listen.new.peers.items c.round.new.peers.items (c.in-Ok-round.ensures.round t)),
+          (idle_contents c.in-Ok-round.commits _ _ c.args.server.now.walk c.round.new.walk c.listen.new.peers.items c.round.new.peers.items (c.in-Ok-round.ensures.round t)),
     )
 
 pub returns-then-is_shut-clause-told : goal.returns-then-is_shut-clause-told
@@ -56,7 +56,7 @@ returns-then-is_shut-clause-told g c = let s = g.B.S.Space in
       c.in-Ok-finish.ensures.told,
       c.requires.kept,
       λ t. kept_after s.moment s.left s.kept g.B.Base.reopens c.in-Ok-round.commits c.args.space.now c.round.new.space c.keep.new.space (g.B.Base.contents c.args.server.now.base) (g.B.Base.contents c.round.new.base) (c.requires.kept t) (c.round.ensures.steady t) (c.in-Ok-keep.ensures.kept t) (c.in-Ok-keep.ensures.idle t)
-        (idle_contents c.in-Ok-round.commits _ _ c.args.server.now.walk c.round.new.walk c.listen.new.peers.items c.round.new.peers.items (c.in-Ok-round.ensures.round t)),
+          (idle_contents c.in-Ok-round.commits _ _ c.args.server.now.walk c.round.new.walk c.listen.new.peers.items c.round.new.peers.items (c.in-Ok-round.ensures.round t)),
     )
 
 pub returns-clause-told : goal.returns-clause-told
@@ -69,5 +69,5 @@ returns-clause-told g c = let s = g.B.S.Space in
       c.in-Ok-finish.ensures.told,
       c.requires.kept,
       λ t. kept_after s.moment s.left s.kept g.B.Base.reopens c.in-Ok-round.commits c.args.space.now c.round.new.space c.keep.new.space (g.B.Base.contents c.args.server.now.base) (g.B.Base.contents c.round.new.base) (c.requires.kept t) (c.round.ensures.steady t) (c.in-Ok-keep.ensures.kept t) (c.in-Ok-keep.ensures.idle t)
-        (idle_contents c.in-Ok-round.commits _ _ c.args.server.now.walk c.round.new.walk c.listen.new.peers.items c.round.new.peers.items (c.in-Ok-round.ensures.round t)),
+          (idle_contents c.in-Ok-round.commits _ _ c.args.server.now.walk c.round.new.walk c.listen.new.peers.items c.round.new.peers.items (c.in-Ok-round.ensures.round t)),
     )

@@ -1,4 +1,4 @@
-use Rattle.std.proofs.Common.{List, ℕ, ◌++◌, subst, sym, ◌∙◌}
+use Rattle.std.proofs.Common.{List, ℕ, subst, sym, ◌∙◌}
 use Rattle.ty_wire.specs.Seen.{IsSeen}
 use Rattle.ty_wire.specs.Taking.{Takes, IsRead}
 use Rattle.ty_wire.proofs.Ongoing.{seen_more}
