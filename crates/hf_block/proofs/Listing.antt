@@ -1,16 +1,17 @@
 -- Blocks are listed one after the other.
-use Rattle.std.proofs.Common.{◌≡◌, ◌∙◌, ℕ, ◌+◌, ◌-◌, ◌≤◌, Bool, List, [], ◌∷◌, ◌++◌, length, take, drop, refl, sym, ap, subst, arith, append_assoc, length-append, length-drop}
+use Rattle.std.proofs.Common.{◌≡◌, ◌∙◌, ℕ, ◌+◌, ◌-◌, ◌^◌, ◌<◌, ◌≤◌, Bool, List, [], ◌∷◌, ◌++◌, length, take, drop, refl, sym, ap, subst, arith, append_assoc, length-append, length-drop}
 use Rattle.std.proofs.lemmas.List.{append-nil, length-take-le, drop-drop, drop-take, take-take, take_all, take_rest}
 use Rattle.std.proofs.Math.Seq.{take-add}
 use Rattle.hf_block.specs.declared.block.BlockAt.{BlockAt}
 use Rattle.hf_block.specs.Pieces.{Piece, spell, size_of, is_free, AllWhole, spell_all, IsFilled, placed}
+use Rattle.hf_block.specs.Rows.{StandInRow}
 use Rattle.hf_block.specs.Walks.{Walked, IsNext, between}
 
-whole-append : (unit : ℕ) (ps qs : List Piece) → AllWhole unit ps → AllWhole unit qs → AllWhole unit (ps ++ qs)
+pub whole-append : (unit : ℕ) (ps qs : List Piece) → AllWhole unit ps → AllWhole unit qs → AllWhole unit (ps ++ qs)
 whole-append unit [] qs h k = k
 whole-append unit (p ∷ ps) qs h k = (h.0, whole-append unit ps qs h.1 k)
 
-spell-append : (ps qs : List Piece) → spell_all (ps ++ qs) ≡ spell_all ps ++ spell_all qs
+pub spell-append : (ps qs : List Piece) → spell_all (ps ++ qs) ≡ spell_all ps ++ spell_all qs
 spell-append [] qs = refl
 spell-append (p ∷ ps) qs = ap (λ (l : List ℕ). spell p ++ l) (spell-append ps qs) ∙ sym (append_assoc (spell p) (spell_all ps) (spell_all qs))
 
@@ -19,6 +20,11 @@ placed-append at [] qs = ap (λ (n : ℕ). placed n qs) (omega arith)
 placed-append at (p ∷ ps) qs =
     ap (λ (l : List BlockAt). record { place = at; size = size_of p; free = is_free p } ∷ l)
     (placed-append (at + size_of p) ps qs ∙ ap (λ (n : ℕ). placed (at + size_of p) ps ++ placed n qs) (omega (arith, length-append (spell p) (spell_all ps))))
+
+-- one more block in a row
+pub row_more : (first at : ℕ) (b : BlockAt) (bs : List BlockAt) → b.place ≡ at → 0 < b.size → b.size < 2 ^ 32 → StandInRow first at bs → StandInRow first (at + b.size) (bs ++ b ∷ [])
+row_more first at b [] place some few h = (place ∙ sym h, some, few, ap (λ (n : ℕ). n + b.size) h)
+row_more first at b (c ∷ bs) place some few h = (h.0, h.1, h.2, row_more (first + c.size) at b bs place some few h.3)
 
 pub walked_none : (unit at : ℕ) (bytes : List ℕ) (old : List BlockAt) → Walked unit at at bytes old old
 walked_none unit at bytes old =

@@ -2,5 +2,6 @@ pub mod Fronts
 pub mod Heads
 pub mod OnlyReads
 pub mod Pieces
+pub mod Rows
 pub mod Walks
 pub mod Written

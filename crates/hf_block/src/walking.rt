@@ -6,6 +6,7 @@ ghost use Rattle.tc_space.specs.Ranges.{IsDataFile};
 ghost use Rattle.hf_head.specs.Heads.{IsValid, unit as head_unit};
 ghost use Rattle.hf_block.specs.Heads.{Fits};
 ghost use Rattle.hf_block.specs.Pieces.{Piece, IsFilled, IsSize, placed};
+ghost use Rattle.hf_block.specs.Rows.{StandInRow};
 ghost use Rattle.hf_block.specs.Walks.{Walked, IsNext, between, total, is_free_block};
 ghost use Rattle.hf_block.specs.OnlyReads.{OnlyReads};
 
@@ -89,7 +90,7 @@ fn one_block(front: &[u8], left: u64, unit: u64) -> Option<(u64, bool)>
     requires within { length front.now ≤ left }
     requires enough { (length front.now ≡ left) ⊎ (32 ≤ length front.now) }
     requires unit { 5 ≤ unit }
-    ensures some { IfSome result (λ m. (0 < m.0) × (m.0 ≤ left)) }
+    ensures some { IfSome result (λ m. (0 < m.0) × (m.0 < 2 ^ 32) × (m.0 ≤ left)) }
     ensures next { IfSome result (λ m. (bytes : List ℕ) → front.now ≡ take (length front.now) bytes → length bytes ≡ left → IsNext unit m.0 m.1 bytes) }
     ensures none { IfNone result ((bytes : List ℕ) → front.now ≡ take (length front.now) bytes → length bytes ≡ left → (ps : List Piece) → IsFilled unit bytes ps → ⊥) }
 {
@@ -113,6 +114,7 @@ fn walk_chunk(chunk: &[u8], at: u64, end: u64, unit: u64, list: &mut Blocks) -> 
     requires enough { (at + length chunk.now ≡ end) ⊎ (32 ≤ length chunk.now) }
     requires unit { 5 ≤ unit }
     ensures on { IfOk result (λ next. (at < next) × (next ≤ end)) }
+    ensures row { IfOk result (λ next. (first : ℕ) → StandInRow first at list.old → StandInRow first next list.new) }
     ensures walked { IfOk result (λ next. (bytes : List ℕ) → chunk.now ≡ take (length chunk.now) bytes → at + length bytes ≡ end → Walked unit at next bytes list.old list.new) }
     ensures rule { (rule : Rule) → result ≡ Err (WalkErr.Broken rule) → rule ≡ WHOLE_BLOCKS }
     ensures broken { (rule : Rule) → result ≡ Err (WalkErr.Broken rule) → (bytes : List ℕ) → chunk.now ≡ take (length chunk.now) bytes → at + length bytes ≡ end → (ps : List Piece) → IsFilled unit bytes ps → ⊥ }
@@ -152,6 +154,7 @@ fn walk_piece<S: Space>(
     requires enough { (at + length chunk.old ≡ end) ⊎ (32 ≤ length chunk.old) }
     requires unit { 5 ≤ unit }
     ensures on { IfOk result (λ next. (at < next) × (next ≤ end)) }
+    ensures row { IfOk result (λ next. (first : ℕ) → StandInRow first at blocks.old → StandInRow first next blocks.new) }
     ensures walked { IfOk result (λ next. S.tells → Walked unit at next (between at end (S.now space.old file)) blocks.old blocks.new) }
     ensures rule { (rule : Rule) → result ≡ Err (WalkErr.Broken rule) → rule ≡ WHOLE_BLOCKS }
     ensures broken { (rule : Rule) → result ≡ Err (WalkErr.Broken rule) → S.tells → (ps : List Piece) → IsFilled unit (between at end (S.now space.old file)) ps → ⊥ }
@@ -162,7 +165,7 @@ fn walk_piece<S: Space>(
     walk_chunk(chunk, at, end, unit, blocks)
 }
 
-/// The blocks of a file from the head's first block to its file size, in ascending place. It reads each block's head once, many
+/// The blocks of a file from the head's first block to its file size, in ascending place, whatever the space tells. It reads each block's head once, many
 /// blocks at a time. `Broken` comes exactly where whole blocks don't stand there one after the other.
 pub fn walk<S: Space>(
     alloc: Global,
@@ -174,6 +177,7 @@ pub fn walk<S: Space>(
     requires file { IsDataFile file }
     requires head { IsValid head.now }
     requires inside { S.tells → head.now.size ≤ length (S.now space.old file) }
+    ensures row { IfOk result (λ blocks. StandInRow head.now.first head.now.size blocks) }
     ensures listed { IfOk result (λ blocks. S.tells → (ps : List Piece) × IsFilled (head_unit head.now) (between head.now.first head.now.size (S.now space.old file)) ps × (blocks ≡ placed head.now.first ps)) }
     ensures rule { (rule : Rule) → result ≡ Err (WalkErr.Broken rule) → rule ≡ WHOLE_BLOCKS }
     ensures broken { (rule : Rule) → result ≡ Err (WalkErr.Broken rule) → S.tells → (ps : List Piece) → IsFilled (head_unit head.now) (between head.now.first head.now.size (S.now space.old file)) ps → ⊥ }

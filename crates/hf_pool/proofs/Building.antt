@@ -4,8 +4,8 @@ use Rattle.std.specs.Prelude.{slice_get}
 use Rattle.std.proofs.lemmas.Bool.{cases_eq, cases_lt, eq-eqb, ne_eqb}
 use Rattle.std.proofs.lemmas.List.{drop_more}
 use Rattle.hf_block.specs.declared.block.BlockAt.{BlockAt}
-use Rattle.hf_pool.specs.Frees.{Frees, IsThere, MeetsNone, with_block}
-use Rattle.hf_pool.specs.Lists.{StandInRow, IsListed}
+use Rattle.hf_layout.specs.Frees.{Frees, IsThere, MeetsNone, with_block}
+use Rattle.hf_block.specs.Rows.{StandInRow, IsListed}
 
 -- a free block among the first i
 abbrev pub IsBelow : List BlockAt → ℕ → ℕ → ℕ → Type 0

@@ -6,7 +6,8 @@ use Rattle.std.specs.Ordering.{nat_cmp, ordering_then, is_eq, is_gt, is_lt}
 use Rattle.std.specs.Cmp.{nat_cmp_is}
 use Rattle.std.proofs.lemmas.Bool.{cases_eq, cases_lt, cases_order, eq-eqb, ne_eqb, eqb-true}
 use Rattle.hf_pool.specs.Trims.{Row, row_block}
-use Rattle.hf_pool.specs.Frees.{Frees, IsThere, IsBest, HasNone, AreApart, MeetsNone, with_block, without, pair_cmp, is_size}
+use Rattle.hf_layout.specs.Frees.{Frees, IsThere, IsBest, HasNone, AreApart, MeetsNone, with_block, without}
+use Rattle.hf_pool.specs.Orders.{pair_cmp, is_size}
 
 pub cmp_less : (x y : ℕ) → x < y → nat_cmp x y ≡ Less
 cmp_less x y h = sym (nat_cmp_is x y Less h)

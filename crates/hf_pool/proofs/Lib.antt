@@ -1,4 +1,5 @@
 pub mod Building
 pub mod Indexing
+pub mod Laying
 pub mod Marking
 pub mod Sectioning

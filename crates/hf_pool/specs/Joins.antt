@@ -1,6 +1,6 @@
 -- Free neighbours are joined.
 use Rattle.std.specs.Prelude.{◌≡◌, ℕ, ◌+◌, ◌<◌, ◌≤◌, ◌^◌, ◌⊎◌}
-use Rattle.hf_pool.specs.Frees.{Frees, IsThere, with_block, without}
+use Rattle.hf_layout.specs.Frees.{Frees, IsThere, with_block, without}
 
 -- the same blocks
 abbrev pub AreSame : Frees → Frees → Type 0

@@ -1,7 +1,6 @@
-pub mod Frees
 pub mod Joins
-pub mod Lists
 pub mod Marks
+pub mod Orders
 pub mod Pools
 pub mod Sections
 pub mod Trims

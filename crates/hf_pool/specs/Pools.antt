@@ -1,9 +1,9 @@
 -- What the calls of a pool do.
-use Rattle.std.specs.Prelude.{◌≡◌, ℕ, ◌+◌, ◌-◌, ◌≤◌, ◌==◌, if◌then◌else◌}
+use Rattle.std.specs.Prelude.{◌≡◌, ℕ, ◌+◌, ◌-◌, ◌==◌, if◌then◌else◌}
 use Rattle.std.specs.Ordering.{nat_cmp}
 use Rattle.std.specs.BTreeMap as tree
 use Rattle.hf_pool.specs.declared.pool.Pool.{Pool}
-use Rattle.hf_pool.specs.Frees.{Frees, IsThere, IsBest, HasNone, with_block, without}
+use Rattle.hf_layout.specs.Frees.{Frees, IsBest, HasNone, with_block, without}
 
 -- the free blocks
 abbrev pub frees : Pool → Frees
@@ -21,7 +21,3 @@ pub record Grows (old new : Pool) (size place : ℕ) : Type 0 where
   pub at : place ≡ old.size
   pub end : new.size ≡ old.size + size
   pub same : (q : ℕ) → frees new q ≡ frees old q
-
--- each free block lies inside the bytes
-abbrev pub LieInside : Frees → ℕ → Type 0
-LieInside all long = (q t : ℕ) → IsThere all q t → q + t ≤ long

@@ -1,6 +1,6 @@
 -- Free blocks at the end are dropped.
 use Rattle.std.specs.Prelude.{◌≡◌, ℕ, ◌+◌, ◌<◌, ◌≤◌, None}
-use Rattle.hf_pool.specs.Frees.{Frees, IsThere}
+use Rattle.hf_layout.specs.Frees.{Frees, IsThere}
 
 -- from one place to another stand free blocks, one after the other
 pub data Row (frees : Frees) : ℕ → ℕ → Type 0 where

@@ -3,7 +3,8 @@ ghost use Rattle.std.specs.Prelude.{◌≡◌, ℕ, ◌+◌, ◌^◌, ◌<◌, �
 ghost use Rattle.std.specs.Ordering.{nat_cmp};
 ghost use Rattle.std.specs.BTreeMap as tree;
 ghost use Rattle.std.specs.BTreeSet as set;
-ghost use Rattle.hf_pool.specs.Frees.{IsThere, IsBest, HasNone, AreApart, MeetsNone, with_block, without, pair_cmp, is_size};
+ghost use Rattle.hf_layout.specs.Frees.{IsThere, IsBest, HasNone, AreApart, MeetsNone, with_block, without};
+ghost use Rattle.hf_pool.specs.Orders.{pair_cmp, is_size};
 
 use std::alloc::{AllocError, Global};
 use std::collections::{BTreeMap, BTreeSet};

@@ -57,7 +57,7 @@ pub fn part<S: Space>(
     ensures sound { OnOk result (S.sound space.new) }
     ensures spoiled { OnErr result (S.flag space.new ≡ false) }
     ensures marks { OnlyMarks S.tells S.moment S.left S.kept S.limit S.bytes_read S.faults space.old space.new }
-    ensures full { IsErrOf result RecErr.Full → (s : S) × ((Passes (S.limit space.old file) (S.overfills s file place 5) place 5) ⊎ (Passes (S.limit space.old file) (S.overfills s file (place + size) 5) (place + size) 5)) }
+    ensures full { IsErrOf result RecErr.Full → Passes (S.limit space.old file) (S.overfills space.old file place 5) place 5 ⊎ ((s : S) × S.sound s × (S.tells → S.now s file ≡ marked place size (S.now space.old file)) × Passes (S.limit space.old file) (S.overfills s file (place + size) 5) (place + size) 5) }
     ensures cause { IsErrOf result RecErr.Fault → Rose (S.faults space.old) (S.faults space.new) }
 {
     match mark(space, file, place, size) {

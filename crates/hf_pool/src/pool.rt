@@ -17,16 +17,19 @@ pub struct Pool {
 }
 
 impl Pool {
-    ghost use Rattle.std.specs.Prelude.{◌≡◌, ◌≢◌, ℕ, ◌+◌, ◌-◌, ◌<◌, ◌≤◌, ◌^◌, ◌⊎◌, ◌↔◌, ◌++◌, List, length, replicate, IfOk, OnOk, OnErr, IsErrOf, IsTrue, true, false};
+    ghost use Rattle.std.specs.Prelude.{◌≡◌, ◌≢◌, ℕ, ◌+◌, ◌-◌, ◌%◌, ◌<◌, ◌≤◌, ◌^◌, ◌⊎◌, ◌↔◌, ◌++◌, List, length, replicate, IfOk, OnOk, OnErr, IsErrOf, IsTrue, true, false};
     ghost use Rattle.tc_io.specs.Causes.{Rose};
     ghost use Rattle.tc_space.specs.Ranges.{IsDataFile, Passes};
-    ghost use Rattle.hf_pool.specs.Frees.{IsThere, IsBest, HasNone, MeetsNone};
-    ghost use Rattle.hf_pool.specs.Pools.{frees, TakesFree, Grows, LieInside};
+    ghost use Rattle.hf_block.specs.Pieces.{Piece, IsFilled, placed};
+    ghost use Rattle.hf_block.specs.Walks.{between};
+    ghost use Rattle.hf_layout.specs.Frees.{Frees, IsThere, IsBest, HasNone, MeetsNone, LieInside, with_block, none};
+    ghost use Rattle.hf_layout.specs.Layout.{LaidOut, Keeps, TakesBack, HasBlock, MeetsNoRecord};
+    ghost use Rattle.hf_pool.specs.Pools.{frees, TakesFree, Grows};
     ghost use Rattle.hf_pool.specs.Marks.{OnlyMarks, parted, marked};
     ghost use Rattle.hf_pool.specs.Joins.{FrontJoined, BackJoined, GivesBack};
     ghost use Rattle.hf_pool.specs.Trims.{Trimmed};
-    ghost use Rattle.hf_pool.specs.Lists.{StandInRow, IsListed};
-    ghost use Rattle.hf_pool.specs.Sections.{pairs, section_bytes};
+    ghost use Rattle.hf_block.specs.Rows.{StandInRow, IsListed};
+    ghost use Rattle.hf_pool.specs.Sections.{InOrder, pairs, section_bytes};
 
     /// The size up to which the file has blocks.
     pub fn size(&self) -> u64
@@ -49,6 +52,7 @@ impl Pool {
         requires best { IsBest (frees self.old) size place found }
         requires some { 0 < size }
         ensures ok { OnOk result (TakesFree self.old self.new size place found) }
+        ensures unit { self.new.unit ≡ self.old.unit }
     {
         self.index.remove(place, found);
         if found > size {
@@ -69,11 +73,15 @@ impl Pool {
         ensures taken { IfOk result (λ place. ((found : ℕ) × TakesFree self.old self.new size place found) ⊎ Grows self.old self.new size place) }
         ensures bytes { IfOk result (λ place. (found : ℕ) → IsBest (frees self.old) size place found → S.tells → S.now space.new file ≡ parted place size found (S.now space.old file)) }
         ensures grown { OnOk result (HasNone (frees self.old) size → S.tells → S.now space.new file ≡ S.now space.old file) }
+        ensures lent { IfOk result (λ place. S.tells → (first end found : ℕ) (pieces : List Piece) (lent : Frees) → LaidOut self.old.unit first end pieces (frees self.old) lent (S.now space.old file) → size % self.old.unit ≡ 0 → IsBest (frees self.old) size place found → Keeps self.old.unit first end pieces (frees self.new) (with_block lent place size) (S.now space.new file)) }
+        ensures beyond { OnOk result (S.tells → (first end : ℕ) (pieces : List Piece) (lent : Frees) → LaidOut self.old.unit first end pieces (frees self.old) lent (S.now space.old file) → HasNone (frees self.old) size → LaidOut self.old.unit first end pieces (frees self.new) lent (S.now space.new file)) }
+        ensures clear { IfOk result (λ place. S.tells → (first end : ℕ) (pieces : List Piece) (lent : Frees) → LaidOut self.old.unit first end pieces (frees self.old) lent (S.now space.old file) → end ≤ self.old.size → MeetsNoRecord first pieces place size) }
+        ensures unit { self.new.unit ≡ self.old.unit }
         ensures others { OnOk result (S.tells → (g : ℕ) → g ≢ file → S.now space.new g ≡ S.now space.old g) }
         ensures sound { OnOk result (S.sound space.new) }
         ensures spoiled { OnErr result (S.flag space.new ≡ false) }
         ensures marks { OnlyMarks S.tells S.moment S.left S.kept S.limit S.bytes_read S.faults space.old space.new }
-        ensures full { IsErrOf result RecErr.Full → (place : ℕ) × (found : ℕ) × IsBest (frees self.old) size place found × ((s : S) × ((Passes (S.limit space.old file) (S.overfills s file place 5) place 5) ⊎ (Passes (S.limit space.old file) (S.overfills s file (place + size) 5) (place + size) 5))) }
+        ensures full { IsErrOf result RecErr.Full → (place : ℕ) × (found : ℕ) × IsBest (frees self.old) size place found × (Passes (S.limit space.old file) (S.overfills space.old file place 5) place 5 ⊎ ((s : S) × S.sound s × (S.tells → S.now s file ≡ marked place size (S.now space.old file)) × Passes (S.limit space.old file) (S.overfills s file (place + size) 5) (place + size) 5)) }
         ensures cause { IsErrOf result RecErr.Fault → Rose (S.faults space.old) (S.faults space.new) }
     {
         let Some((place, found)) = self.index.best(size) else {
@@ -81,10 +89,10 @@ impl Pool {
             self.size += size;
             return Ok(place);
         };
-        if self.part_in_memory(place, found, size).is_err() {
+        let Ok(()) = self.part_in_memory(place, found, size) else {
             space.spoil();
             return Err(RecErr::Memory);
-        }
+        };
         if found > size {
             if let Err(e) = part(space, file, place, size, found - size) {
                 return Err(e);
@@ -99,6 +107,7 @@ impl Pool {
         requires size { size < 2 ^ 32 }
         ensures joined { FrontJoined (frees self.old) at size result.0 result.1 (frees self.new) }
         ensures end { self.new.size ≡ self.old.size }
+        ensures unit { self.new.unit ≡ self.old.unit }
     {
         let Some(start) = self.index.before(at) else {
             return (at, size);
@@ -116,6 +125,7 @@ impl Pool {
         requires size { size < 2 ^ 32 }
         ensures joined { BackJoined (frees self.old) end size result (frees self.new) }
         ensures end { self.new.size ≡ self.old.size }
+        ensures unit { self.new.unit ≡ self.old.unit }
     {
         let Some(back) = self.index.at(end) else {
             return size;
@@ -136,6 +146,7 @@ impl Pool {
         ensures ok { IfOk result (λ b. GivesBack (frees self.old) (frees self.new) at size b.0 b.1) }
         ensures end { OnOk result (self.new.size ≡ self.old.size) }
         ensures place { IfOk result (λ b. (b.0 ≤ at) × (b.1 < 2 ^ 32)) }
+        ensures unit { self.new.unit ≡ self.old.unit }
     {
         let (start, half) = self.join_front(at, size);
         let total = self.join_back(at + size, half);
@@ -161,11 +172,14 @@ impl Pool {
         requires inside { S.tells → at + size ≤ length (S.now space.old file) }
         ensures given { OnOk result ((start : ℕ) × (total : ℕ) × GivesBack (frees self.old) (frees self.new) at size start total × (S.tells → S.now space.new file ≡ marked start total (S.now space.old file))) }
         ensures end { OnOk result (self.new.size ≡ self.old.size) }
+        ensures back { OnOk result (S.tells → (first end : ℕ) (pieces : List Piece) (lent : Frees) → LaidOut self.old.unit first end pieces (frees self.old) lent (S.now space.old file) → HasBlock first pieces at size → TakesBack self.old.unit first end pieces (frees self.new) lent at (S.now space.new file)) }
+        ensures rest { OnOk result (S.tells → (first end : ℕ) (pieces : List Piece) (lent : Frees) → LaidOut self.old.unit first end pieces (frees self.old) lent (marked at size (S.now space.old file)) → HasBlock first pieces at size → TakesBack self.old.unit first end pieces (frees self.new) lent at (S.now space.new file)) }
+        ensures unit { self.new.unit ≡ self.old.unit }
         ensures others { OnOk result (S.tells → (g : ℕ) → g ≢ file → S.now space.new g ≡ S.now space.old g) }
         ensures sound { OnOk result (S.sound space.new) }
         ensures spoiled { OnErr result (S.flag space.new ≡ false) }
         ensures marks { OnlyMarks S.tells S.moment S.left S.kept S.limit S.bytes_read S.faults space.old space.new }
-        ensures full { IsErrOf result RecErr.Full → (start : ℕ) × (start ≤ at) × Passes (S.limit space.old file) (S.overfills space.old file start 5) start 5 }
+        ensures full { IsErrOf result RecErr.Full → (start : ℕ) × (total : ℕ) × GivesBack (frees self.old) (frees self.new) at size start total × Passes (S.limit space.old file) (S.overfills space.old file start 5) start 5 }
         ensures cause { IsErrOf result RecErr.Fault → Rose (S.faults space.old) (S.faults space.new) }
     {
         let Ok((start, total)) = self.give_in_memory(at, size) else {
@@ -177,7 +191,9 @@ impl Pool {
 
     /// Takes the free blocks at the end out and lowers the size by theirs.
     pub fn trim(&mut self)
-        ensures { Trimmed (frees self.old) (frees self.new) self.old.size self.new.size }
+        ensures trimmed { Trimmed (frees self.old) (frees self.new) self.old.size self.new.size }
+        ensures laid { (first : ℕ) (pieces : List Piece) (lent : Frees) (bytes : List ℕ) → LaidOut self.old.unit first self.old.size pieces (frees self.old) lent bytes → Keeps self.old.unit first self.new.size pieces (frees self.new) lent bytes }
+        ensures unit { self.new.unit ≡ self.old.unit }
     {
         while let Some(place) = self.index.before(self.size) {
             self.index.remove(place, self.size - place);
@@ -198,6 +214,7 @@ impl Pool {
         ensures free { IfOk result (λ pool. (q t : ℕ) → IsThere (frees pool) q t ↔ IsListed blocks.now q t) }
         ensures size { IfOk result (λ pool. pool.size ≡ size) }
         ensures unit { IfOk result (λ pool. pool.unit ≡ unit) }
+        ensures laid { IfOk result (λ pool. (pieces : List Piece) (bytes : List ℕ) → 5 ≤ unit → size ≤ length bytes → IsFilled unit (between first size bytes) pieces → blocks.now ≡ placed first pieces → LaidOut unit first size pieces (frees pool) none bytes) }
     {
         let _ = first;
         let mut index = Index::new(alloc);
@@ -212,6 +229,7 @@ impl Pool {
     // The pairs of the section, and the bytes left behind them. An `Err` may have added some.
     fn put_pairs(&self, len: usize, into: &mut Blob) -> Result<usize, AllocError>
         ensures ok { IfOk result (λ room. (into.new ≡ into.old ++ pairs self.now.unit 0 len self.now.index.by_place.entries) × (room + length (pairs self.now.unit 0 len self.now.index.by_place.entries) ≡ len)) }
+        ensures ordered { OnOk result (InOrder (frees self.now) self.now.index.by_place.entries) }
         ensures err { OnErr result ((more : List ℕ) × (into.new ≡ into.old ++ more)) }
     {
         let mut before = 0;
@@ -236,7 +254,7 @@ impl Pool {
     /// added some of it.
     pub fn section(&self, len: usize, into: &mut Blob) -> Result<(), AllocError>
         requires { 2 ≤ len }
-        ensures ok { OnOk result (into.new ≡ into.old ++ section_bytes self.now.unit len self.now.index.by_place.entries) }
+        ensures ok { OnOk result ((blocks : List (ℕ × ℕ)) × InOrder (frees self.now) blocks × (into.new ≡ into.old ++ section_bytes self.now.unit len blocks)) }
         ensures err { OnErr result ((more : List ℕ) × (into.new ≡ into.old ++ more)) }
     {
         let room = self.put_pairs(len, into)?;

@@ -1,6 +1,7 @@
-ghost use Rattle.std.specs.Prelude.{◌≡◌, Some, []};
+ghost use Rattle.std.specs.Prelude.{◌≡◌, ◌++◌, [], Some, OnOk, OnErr};
+ghost use Rattle.tc_io.specs.Counted.{FailsRightly, IsFresh};
 
-use crate::counts::{fault, is_listed, starve};
+use crate::counts::Counts;
 use crate::sink::Sink;
 use std::alloc::Global;
 use tc_base::Fault;
@@ -9,33 +10,26 @@ use tc_base::Fault;
 #[derive(Drop)]
 pub struct MemSink {
     bytes: Vec<u8>,
-    // numbers of puts that fail
-    fails: Vec<u64>,
-    calls: u64,
-    faults: u64,
-    starved: u64,
+    counts: Counts,
 }
 
 impl MemSink {
-    /// A sink that has taken nothing.
+    /// A sink that has taken nothing, of whose puts none is to fail.
     pub fn new(alloc: Global) -> MemSink
-        ensures { result.bytes.items ≡ [] }
+        ensures bytes { result.bytes.items ≡ [] }
+        ensures counts { IsFresh result.counts }
     {
         MemSink {
             bytes: Vec::new(alloc),
-            fails: Vec::new(alloc),
-            calls: 0,
-            faults: 0,
-            starved: 0,
+            counts: Counts::new(alloc),
         }
     }
 
-    /// Names the puts, counted from 1, that answer a fault and take nothing.
+    /// Names the puts, counted from 1, that answer a fault and take nothing, in place of those named before.
     pub fn fail_at(&mut self, calls: Vec<u64>)
-        ensures fails { self.new.fails.items ≡ calls.items }
-        ensures bytes { self.new.bytes.items ≡ self.old.bytes.items }
+        ensures { self.new ≡ record self.old { counts = record self.old.counts { fails = calls } } }
     {
-        self.fails = calls;
+        self.counts.fails = calls;
     }
 
     /// All that it has taken.
@@ -47,24 +41,26 @@ impl MemSink {
 
     /// How many calls found no memory.
     pub fn starved(&self) -> u64
-        ensures { result ≡ self.now.starved }
+        ensures { result ≡ self.now.counts.starved }
     {
-        self.starved
+        self.counts.starved
     }
 }
 
 impl Sink for MemSink {
-    ghost faults = { λ s. s.faults };
+    ghost faults = { λ s. s.counts.faults };
 
     ghost taken = { λ s. Some s.bytes.items };
 
-    fn put(&mut self, bytes: &[u8]) -> Result<(), Fault> {
-        if is_listed(&mut self.calls, &self.fails) {
-            return Err(fault(&mut self.faults));
-        }
+    fn put(&mut self, bytes: &[u8]) -> Result<(), Fault>
+        ensures ok { OnOk result (self.new.bytes.items ≡ self.old.bytes.items ++ bytes.now) }
+        ensures err { OnErr result (self.new.bytes.items ≡ self.old.bytes.items) }
+        ensures rightly { FailsRightly self.old.counts self.new.counts result }
+    {
+        self.counts.refuse()?;
         match self.bytes.extend_from_slice(bytes) {
             Ok(()) => Ok(()),
-            Err(_) => Err(starve(&mut self.starved, &mut self.faults)),
+            Err(_) => Err(self.counts.starve()),
         }
     }
 }

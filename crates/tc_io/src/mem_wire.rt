@@ -1,8 +1,15 @@
 //! A wire that plays a script.
-ghost use Rattle.std.specs.Prelude.{◌≡◌, ◌≤◌, IfOk, OnOk, OnErr, false, ◌++◌, ◌∷◌, [], Some, None, Option, if◌then◌else◌};
+ghost use Rattle.std.specs.Prelude.{◌≡◌, ◌≤◌, ◌<◌, ◌++◌, ◌∷◌, ◌&&◌, [], ℕ, List, IfOk, OnOk, OnErr, false, not, length};
+ghost use Rattle.tc_io.specs.Answers.{answer_to, bounded};
+ghost use Rattle.tc_io.specs.Counted.{IsFresh};
+ghost use Rattle.tc_io.specs.Lines.{MayTake, has};
+ghost use Rattle.tc_io.specs.Transcript.{out_of, was_given};
+ghost use Rattle.tc_io.specs.Feeding.{AddsReads};
+ghost use Rattle.tc_io.specs.declared.act.Act.{Act};
 
 use crate::act::Act;
-use crate::counts::{fault, is_listed, starve};
+use crate::book::Book;
+use crate::counts::Counts;
 use crate::wire::{At, Dialled, Entry, Ev, Sent, Wire};
 use crate::{entries, peers, playing};
 use std::alloc::{AllocError, Global};
@@ -16,28 +23,49 @@ pub struct MemWire {
     act_at: usize,
     dials: Vec<Dialled>,
     dial_at: usize,
-    // numbers of sends with other answers than all bytes taken
+    // numbers of sends with other answers than all bytes taken, the latest first
     answers: Vec<(u64, Sent)>,
-    // numbers of calls that fail
-    fails: Vec<u64>,
-    calls: u64,
     sends: u64,
-    log: Vec<Entry>,
-    peers: Vec<peers::Peer>,
+    counts: Counts,
+    book: Book,
     conns: Vec<u32>,
     ended: Vec<u32>,
     given: u64,
     opened: bool,
-    faults: u64,
-    starved: u64,
     ghost none_before: { opened ≡ false → conns.items ≡ [] },
 }
 
+// Adds reads of bytes of a connection, each of at most `piece` bytes, or some of them where memory ran out.
+fn add_reads(
+    alloc: Global,
+    acts: &mut Vec<Act>,
+    conn: u32,
+    bytes: &[u8],
+    piece: usize,
+) -> Result<(), AllocError>
+    requires { (1 ≤ piece) × (piece ≤ 4096) }
+    ensures ok { OnOk result (AddsReads acts.old.items acts.new.items conn bytes.now piece) }
+    ensures err { OnErr result ((more : List Act) × (acts.new.items ≡ acts.old.items ++ more)) }
+{
+    let mut rest = bytes;
+    while !rest.is_empty() {
+        let (part, behind) = rest.split_at(piece.min(rest.len()));
+        let part = Blob::from_slice(alloc, part)?;
+        acts.push(Act::Read(conn, part))?;
+        rest = behind;
+    }
+    Ok(())
+}
+
 impl MemWire {
+    ghost use Rattle.tc_io.specs.Wires.{told};
+
     /// A wire with an empty script.
     pub fn new(alloc: Global) -> Result<MemWire, AllocError>
         ensures unopened { IfOk result (λ w. w.opened ≡ false) }
-        ensures empty { IfOk result (λ w. (w.acts.items ≡ []) × (w.dials.items ≡ []) × (w.answers.items ≡ []) × (w.fails.items ≡ []) × (w.log.items ≡ [])) }
+        ensures empty { IfOk result (λ w. (w.acts.items ≡ []) × (w.dials.items ≡ []) × (w.answers.items ≡ [])) }
+        ensures fresh { IfOk result (λ w. IsFresh w.counts × (w.sends ≡ 0) × (told w ≡ [])) }
+        ensures given { IfOk result (λ w. (w.conns.items ≡ []) × (w.ended.items ≡ []) × (w.given ≡ 0)) }
     {
         Ok(MemWire {
             alloc,
@@ -46,49 +74,51 @@ impl MemWire {
             dials: Vec::new(alloc),
             dial_at: 0,
             answers: Vec::new(alloc),
-            fails: Vec::new(alloc),
-            calls: 0,
             sends: 0,
-            log: Vec::new(alloc),
-            peers: Vec::new(alloc),
+            counts: Counts::new(alloc),
+            book: Book::new(alloc),
             conns: Vec::new(alloc),
             ended: Vec::new(alloc),
             given: 0,
             opened: false,
-            faults: 0,
-            starved: 0,
         })
     }
 
-    /// Adds an event to the script.
+    /// Adds an event to the script. An `Err` changes nothing.
     pub fn act(&mut self, act: Act) -> Result<(), AllocError>
         ensures ok { OnOk result (self.new.acts.items ≡ self.old.acts.items ++ act ∷ []) }
         ensures err { OnErr result (self.new.acts.items ≡ self.old.acts.items) }
+        ensures others { self.new ≡ record self.old { acts = self.new.acts } }
         ensures opened { self.new.opened ≡ self.old.opened }
     {
         self.acts.push(act)?;
         Ok(())
     }
 
-    /// Adds reads of bytes of a connection, each of at most `piece` bytes, as many as it takes.
+    /// Adds reads of bytes of a connection, each of at most `piece` bytes, as many as it takes. An `Err` changes nothing.
     pub fn feed(&mut self, conn: u32, bytes: &[u8], piece: usize) -> Result<(), AllocError>
         requires { (1 ≤ piece) × (piece ≤ 4096) }
+        ensures ok { OnOk result (AddsReads self.old.acts.items self.new.acts.items conn bytes.now piece) }
+        ensures err { OnErr result (self.new.acts.items ≡ self.old.acts.items) }
+        ensures others { self.new ≡ record self.old { acts = self.new.acts } }
         ensures opened { self.new.opened ≡ self.old.opened }
     {
-        for part in bytes.chunks(piece) {
-            let part = Blob::from_slice(self.alloc, part)?;
-            self.acts.push(Act::Read(conn, part))?;
+        let before = self.acts.len();
+        let done = add_reads(self.alloc, &mut self.acts, conn, bytes, piece);
+        if done.is_err() {
+            self.acts.truncate(before);
         }
-        Ok(())
+        done
     }
 
-    /// Gives the send of that number, counted from 1, another answer. A `Took(n)` takes at most what is offered.
+    /// Gives the send of that number, counted from 1, another answer. A `Took(n)` takes at least one byte, and at most what is offered.
     pub fn answer_at(&mut self, call: u64, answer: Sent) -> Result<(), AllocError>
-        ensures ok { OnOk result (self.new.answers.items ≡ self.old.answers.items ++ (call, answer) ∷ []) }
+        ensures ok { OnOk result (self.new.answers.items ≡ (call, answer) ∷ self.old.answers.items) }
         ensures err { OnErr result (self.new.answers.items ≡ self.old.answers.items) }
+        ensures others { self.new ≡ record self.old { answers = self.new.answers } }
         ensures opened { self.new.opened ≡ self.old.opened }
     {
-        self.answers.push((call, answer))?;
+        self.answers.insert(0, (call, answer))?;
         Ok(())
     }
 
@@ -96,42 +126,59 @@ impl MemWire {
     pub fn dial_gives(&mut self, answer: Dialled) -> Result<(), AllocError>
         ensures ok { OnOk result (self.new.dials.items ≡ self.old.dials.items ++ answer ∷ []) }
         ensures err { OnErr result (self.new.dials.items ≡ self.old.dials.items) }
+        ensures others { self.new ≡ record self.old { dials = self.new.dials } }
         ensures opened { self.new.opened ≡ self.old.opened }
     {
         self.dials.push(answer)?;
         Ok(())
     }
 
-    /// Names the calls of `open`, `dial`, `next`, `send` and `close`, counted together from 1, that answer a fault.
+    /// Names the calls of `open`, `dial`, `next`, `send` and `close`, counted together from 1, that answer a fault, in place of those
+    /// named before.
     pub fn fail_at(&mut self, calls: Vec<u64>)
-        ensures fails { self.new.fails.items ≡ calls.items }
+        ensures fails { self.new ≡ record self.old { counts = record self.old.counts { fails = calls } } }
         ensures opened { self.new.opened ≡ self.old.opened }
     {
-        self.fails = calls;
+        self.counts.fails = calls;
     }
 
     /// The bytes that the sends to a connection took, in order.
-    pub fn sent(&self, conn: u32) -> &[u8] {
-        peers::sent_to(self.peers.as_slice(), conn)
+    pub fn sent(&self, conn: u32) -> &[u8]
+        ensures { result.now ≡ out_of conn (told self.now) }
+    {
+        self.book.sent(conn)
     }
 
-    /// Whether a connection was open and was closed.
-    pub fn is_closed(&self, conn: u32) -> bool {
-        peers::is_known(self.peers.as_slice(), conn) && !self.conns.contains(&conn)
+    /// Whether a connection was opened or dialled and is open no more.
+    pub fn is_closed(&self, conn: u32) -> bool
+        ensures { result ≡ (was_given conn (told self.now) && not (has self.now.conns.items conn)) }
+    {
+        self.book.was_given(conn) && !self.conns.contains(&conn)
     }
 
     /// All that happened, in order.
     pub fn log(&self) -> &[Entry]
-        ensures { result.now ≡ self.now.log.items }
+        ensures { result.now ≡ told self.now }
     {
-        self.log.as_slice()
+        self.book.entries()
     }
 
     /// How many calls found no memory.
     pub fn starved(&self) -> u64
-        ensures { result ≡ self.now.starved }
+        ensures { result ≡ self.now.counts.starved }
     {
-        self.starved
+        self.counts.starved
+    }
+}
+
+// An answer within what is offered.
+fn within(answer: Sent, offered: usize) -> Sent
+    ensures { result ≡ bounded offered answer }
+{
+    match answer {
+        Sent::Took(n) => Sent::Took(n.min(offered).max(1)),
+        Sent::NotYet => Sent::NotYet,
+        Sent::Gone => Sent::Gone,
     }
 }
 
@@ -139,38 +186,28 @@ impl MemWire {
 fn answer_of(answers: &[(u64, Sent)], number: u64, offered: usize) -> Sent
     requires { 0 < offered }
     ensures can { MayTake offered result }
-    ensures plain { answers.now ≡ [] → result ≡ Took offered }
+    ensures listed { result ≡ answer_to answers.now number offered }
 {
     for (call, answer) in answers {
         if *call == number {
-            return match *answer {
-                Sent::Took(n) => Sent::Took(n.min(offered).max(1)),
-                Sent::NotYet => Sent::NotYet,
-                Sent::Gone => Sent::Gone,
-            };
+            return within(*answer, offered);
         }
     }
     Sent::Took(offered)
 }
 
-// How many bytes an answer says were taken.
-fn taken_of(answer: Sent, offered: usize) -> usize
-    ensures { result ≤ offered }
-{
-    match answer {
-        Sent::Took(n) => n.min(offered),
-        Sent::NotYet | Sent::Gone => 0,
-    }
-}
-
-ghost use Rattle.std.specs.Prelude.{◌<◌, ℕ};
-ghost use Rattle.tc_io.specs.Lines.{MayTake};
-ghost use Rattle.tc_io.specs.declared.wire.Sent.TheVariants.{Took};
-
 impl Wire for MemWire {
-    ghost use Rattle.std.specs.Prelude.{Some, None, [], drop, length, nat_eq, if◌then◌else◌};
+    ghost use Rattle.std.specs.Prelude.{◌⊎◌, Some, ℕ, true, nat_eq, is_ok};
+    ghost use Rattle.std.specs.List.{list_any};
+    ghost use Rattle.tc_io.specs.declared.wire.Dialled.TheVariants.{NotNow};
+    ghost use Rattle.tc_io.specs.declared.wire.Entry.TheVariants.{Open, Dial, Event, Send, Close};
+    ghost use Rattle.tc_io.specs.Counted.{FailsRightly, one_more};
+    ghost use Rattle.tc_io.specs.Lines.{MayCome, MayDial, CanTake, open_after, open_dialled, ended_after, given_after, given_dialled, without};
+    ghost use Rattle.tc_io.specs.Script.{Plays};
+    ghost use Rattle.tc_io.specs.Transcript.{bytes_of};
+    ghost use Rattle.tc_io.specs.Wires.{told, script_of, TellsUnstarved};
 
-    ghost faults = { λ w. w.faults };
+    ghost faults = { λ w. w.counts.faults };
 
     ghost opened = { λ w. w.opened };
 
@@ -180,63 +217,95 @@ impl Wire for MemWire {
 
     ghost given = { λ w. w.given };
 
-    ghost transcript = { λ w. Some w.log.items };
+    ghost transcript = { λ w. Some (told w) };
 
-    ghost plays = { λ w. if nat_eq (length w.answers.items) 0 then Some (record { acts = drop w.act_at w.acts.items; dials = drop w.dial_at w.dials.items; lines = record { conns = w.conns.items; ended = w.ended.items; given = w.given } }) else None };
+    ghost plays = { script_of };
 
     ghost none_before = { λ w closed. w.none_before closed };
 
-    fn open(&mut self, at: &At) -> Result<(), Fault> {
-        let fails = is_listed(&mut self.calls, &self.fails);
+    fn open(&mut self, at: &At) -> Result<(), Fault>
+        requires { self.old.opened ≡ false }
+        ensures opened { self.new.opened ≡ is_ok result }
+        ensures conns { self.new.conns.items ≡ self.old.conns.items }
+        ensures ended { self.new.ended.items ≡ self.old.ended.items }
+        ensures given { self.new.given ≡ self.old.given }
+        ensures told { OnOk result (told self.new ≡ told self.old ++ Open at.now ∷ []) }
+        ensures told_err { OnErr result (TellsUnstarved self.old.counts self.new.counts (told self.old) (told self.new) (Open at.now)) }
+        ensures plays { OnOk result (Plays (script_of self.old) (script_of self.new) (Open at.now ∷ [])) }
+        ensures rightly { FailsRightly self.old.counts self.new.counts result }
+    {
+        let fails = self.counts.begin();
         let Ok(at) = entries::copy_of(self.alloc, at) else {
-            return Err(starve(&mut self.starved, &mut self.faults));
+            return Err(self.counts.starve());
         };
-        if self.log.push(Entry::Open { at }).is_err() {
-            return Err(starve(&mut self.starved, &mut self.faults));
+        if self.book.add(Entry::Open { at }).is_err() {
+            return Err(self.counts.starve());
         }
         if fails {
-            return Err(fault(&mut self.faults));
+            return Err(self.counts.fault());
         }
         self.opened = true;
         Ok(())
     }
 
-    fn dial(&mut self, host: &[u8], port: u16) -> Result<Dialled, Fault> {
-        let fails = is_listed(&mut self.calls, &self.fails);
+    fn dial(&mut self, host: &[u8], port: u16) -> Result<Dialled, Fault>
+        requires { self.old.opened ≡ true }
+        ensures opened { self.new.opened ≡ true }
+        ensures may { IfOk result (λ answer. MayDial self.old.given answer) }
+        ensures conns { IfOk result (λ answer. self.new.conns.items ≡ open_dialled self.old.conns.items answer) }
+        ensures conns_err { OnErr result (self.new.conns.items ≡ self.old.conns.items) }
+        ensures ended { self.new.ended.items ≡ self.old.ended.items }
+        ensures given { IfOk result (λ answer. self.new.given ≡ given_dialled self.old.given answer) }
+        ensures given_err { OnErr result (self.new.given ≡ self.old.given) }
+        ensures told { IfOk result (λ answer. told self.new ≡ told self.old ++ Dial host.now port answer ∷ []) }
+        ensures told_err { OnErr result (TellsUnstarved self.old.counts self.new.counts (told self.old) (told self.new) (Dial host.now port NotNow)) }
+        ensures plays { IfOk result (λ answer. Plays (script_of self.old) (script_of self.new) (Dial host.now port answer ∷ [])) }
+        ensures rightly { FailsRightly self.old.counts self.new.counts result }
+    {
+        let fails = self.counts.begin();
         let (at, answer) = if fails {
             (self.dial_at, Dialled::NotNow)
         } else {
             playing::choose_dial(&self.dials, self.dial_at, &self.conns, self.given)
         };
         let Ok(entry) = entries::dial(self.alloc, host, port, answer) else {
-            return Err(starve(&mut self.starved, &mut self.faults));
+            return Err(self.counts.starve());
         };
         if let Dialled::Conn(c) = answer {
-            if peers::add(self.alloc, &mut self.peers, c).is_err() || self.conns.push(c).is_err() {
-                return Err(starve(&mut self.starved, &mut self.faults));
+            if self.conns.try_reserve(1).is_err() || self.book.add(entry).is_err() {
+                return Err(self.counts.starve());
             }
-            if self.log.push(entry).is_err() {
-                let _ = self.conns.pop();
-                return Err(starve(&mut self.starved, &mut self.faults));
-            }
+            self.conns.push_reserved(c);
             self.given = c as u64 + 1;
             self.dial_at = at;
             return Ok(answer);
         }
-        if self.log.push(entry).is_err() {
-            return Err(starve(&mut self.starved, &mut self.faults));
+        if self.book.add(entry).is_err() {
+            return Err(self.counts.starve());
         }
         self.dial_at = at;
         if fails {
-            return Err(fault(&mut self.faults));
+            return Err(self.counts.fault());
         }
         Ok(Dialled::NotNow)
     }
 
-    fn next(&mut self, paused: &[u32], busy: bool, into: &mut [u8; 4096]) -> Result<Ev, Fault> {
-        if is_listed(&mut self.calls, &self.fails) {
-            return Err(fault(&mut self.faults));
-        }
+    fn next(&mut self, paused: &[u32], busy: bool, into: &mut [u8; 4096]) -> Result<Ev, Fault>
+        requires { self.old.opened ≡ true }
+        ensures opened { self.new.opened ≡ true }
+        ensures may { IfOk result (λ ev. MayCome self.old.conns.items self.old.ended.items self.old.given paused.now busy ev) }
+        ensures conns { IfOk result (λ ev. self.new.conns.items ≡ open_after self.old.conns.items ev) }
+        ensures conns_err { OnErr result (self.new.conns.items ≡ self.old.conns.items) }
+        ensures ended { IfOk result (λ ev. self.new.ended.items ≡ ended_after self.old.ended.items ev) }
+        ensures ended_err { OnErr result (self.new.ended.items ≡ self.old.ended.items) }
+        ensures given { IfOk result (λ ev. self.new.given ≡ given_after self.old.given ev) }
+        ensures given_err { OnErr result (self.new.given ≡ self.old.given) }
+        ensures told { IfOk result (λ ev. told self.new ≡ told self.old ++ Event paused.now busy ev (bytes_of ev into.new) ∷ []) }
+        ensures told_err { OnErr result (told self.new ≡ told self.old) }
+        ensures plays { IfOk result (λ ev. Plays (script_of self.old) (script_of self.new) (Event paused.now busy ev (bytes_of ev into.new) ∷ [])) }
+        ensures rightly { FailsRightly self.old.counts self.new.counts result }
+    {
+        self.counts.refuse()?;
         let (at, ev) = playing::choose(
             self.acts.as_slice(),
             self.act_at,
@@ -248,68 +317,78 @@ impl Wire for MemWire {
             into,
         );
         let Ok(entry) = entries::event(self.alloc, paused, busy, ev, into) else {
-            return Err(starve(&mut self.starved, &mut self.faults));
+            return Err(self.counts.starve());
         };
         if let Ev::Opened(c) = ev {
-            if peers::add(self.alloc, &mut self.peers, c).is_err() || self.conns.push(c).is_err() {
-                return Err(starve(&mut self.starved, &mut self.faults));
+            if self.conns.try_reserve(1).is_err() || self.book.add(entry).is_err() {
+                return Err(self.counts.starve());
             }
-            if self.log.push(entry).is_err() {
-                let _ = self.conns.pop();
-                return Err(starve(&mut self.starved, &mut self.faults));
-            }
+            self.conns.push_reserved(c);
             self.given = c as u64 + 1;
             self.act_at = at;
             return Ok(ev);
         }
         if let Ev::Ended(c) = ev {
-            if self.ended.try_reserve(1).is_err() {
-                return Err(starve(&mut self.starved, &mut self.faults));
-            }
-            if self.log.push(entry).is_err() {
-                return Err(starve(&mut self.starved, &mut self.faults));
+            if self.ended.try_reserve(1).is_err() || self.book.add(entry).is_err() {
+                return Err(self.counts.starve());
             }
             if self.ended.insert(0, c).is_err() {
-                return Err(starve(&mut self.starved, &mut self.faults));
+                return Err(self.counts.starve());
             }
             self.act_at = at;
             return Ok(ev);
         }
-        if self.log.push(entry).is_err() {
-            return Err(starve(&mut self.starved, &mut self.faults));
+        if self.book.add(entry).is_err() {
+            return Err(self.counts.starve());
         }
         self.act_at = at;
         Ok(ev)
     }
 
-    fn send(&mut self, conn: u32, bytes: &[u8]) -> Result<Sent, Fault> {
-        if is_listed(&mut self.calls, &self.fails) {
-            return Err(fault(&mut self.faults));
-        }
+    fn send(&mut self, conn: u32, bytes: &[u8]) -> Result<Sent, Fault>
+        requires opened { self.old.opened ≡ true }
+        requires is_open { list_any (nat_eq conn) self.old.conns.items ≡ true }
+        requires some { 0 < length bytes.now }
+        ensures opened { self.new.opened ≡ true }
+        ensures conns { self.new.conns.items ≡ self.old.conns.items }
+        ensures ended { self.new.ended.items ≡ self.old.ended.items }
+        ensures given { self.new.given ≡ self.old.given }
+        ensures can { IfOk result (λ sent. CanTake bytes.now sent) }
+        ensures sends { self.new.sends ≡ one_more self.old.sends }
+        ensures answer { IfOk result (λ sent. sent ≡ answer_to self.old.answers.items (one_more self.old.sends) (length bytes.now)) }
+        ensures told { IfOk result (λ sent. told self.new ≡ told self.old ++ Send conn bytes.now sent ∷ []) }
+        ensures told_err { OnErr result (told self.new ≡ told self.old) }
+        ensures plays { IfOk result (λ sent. Plays (script_of self.old) (script_of self.new) (Send conn bytes.now sent ∷ [])) }
+        ensures rightly { FailsRightly self.old.counts self.new.counts result }
+    {
         self.sends = self.sends.saturating_add(1);
+        self.counts.refuse()?;
         let answer = answer_of(&self.answers, self.sends, bytes.len());
-        let taken = taken_of(answer, bytes.len());
         let Ok(entry) = entries::send(self.alloc, conn, bytes, answer) else {
-            return Err(starve(&mut self.starved, &mut self.faults));
+            return Err(self.counts.starve());
         };
-        if peers::record_sent(&mut self.peers, conn, &bytes[..taken]).is_err() {
-            return Err(starve(&mut self.starved, &mut self.faults));
-        }
-        if self.log.push(entry).is_err() {
-            peers::forget_sent(&mut self.peers, conn, taken);
-            return Err(starve(&mut self.starved, &mut self.faults));
+        if self.book.add(entry).is_err() {
+            return Err(self.counts.starve());
         }
         Ok(answer)
     }
 
-    fn close(&mut self, conn: u32) -> Result<(), Fault> {
-        let fails = is_listed(&mut self.calls, &self.fails);
+    fn close(&mut self, conn: u32) -> Result<(), Fault>
+        requires opened { self.old.opened ≡ true }
+        requires is_open { list_any (nat_eq conn) self.old.conns.items ≡ true }
+        ensures opened { self.new.opened ≡ true }
+        ensures conns { self.new.conns.items ≡ without conn self.old.conns.items }
+        ensures ended { self.new.ended.items ≡ self.old.ended.items }
+        ensures given { self.new.given ≡ self.old.given }
+        ensures told { OnOk result (told self.new ≡ told self.old ++ Close conn ∷ []) }
+        ensures told_err { OnErr result (told self.new ≡ told self.old) }
+        ensures plays { OnOk result (Plays (script_of self.old) (script_of self.new) (Close conn ∷ [])) }
+        ensures rightly { FailsRightly self.old.counts self.new.counts result }
+    {
         peers::drop_conn(&mut self.conns, conn);
-        if fails {
-            return Err(fault(&mut self.faults));
-        }
-        if self.log.push(Entry::Close { conn }).is_err() {
-            return Err(starve(&mut self.starved, &mut self.faults));
+        self.counts.refuse()?;
+        if self.book.add(Entry::Close { conn }).is_err() {
+            return Err(self.counts.starve());
         }
         Ok(())
     }

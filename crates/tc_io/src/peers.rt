@@ -1,7 +1,9 @@
-//! What each connection of a script was sent.
-ghost use Rattle.std.specs.Prelude.{◌≡◌, not, nat_eq};
-ghost use Rattle.std.specs.List.{filter};
+//! What each connection took.
+ghost use Rattle.std.specs.Prelude.{◌≡◌, ◌++◌, [], ◌∷◌, ℕ, OnOk, OnErr, not, nat_eq, if◌then◌else◌};
+ghost use Rattle.std.specs.List.{filter, position};
 ghost use Rattle.tc_io.specs.Lines.{without};
+ghost use Rattle.tc_io.specs.Peers.{bytes_to};
+ghost use Rattle.tc_io.specs.declared.peers.Peer.{Peer};
 
 use std::alloc::{AllocError, Global};
 
@@ -9,55 +11,56 @@ use std::alloc::{AllocError, Global};
 #[derive(Debug, Drop)]
 pub struct Peer {
     pub conn: u32,
-    pub sent: Vec<u8>,
+    pub taken: Vec<u8>,
 }
 
 // The place of a connection.
-fn place_of(peers: &[Peer], conn: u32) -> Option<usize> {
+fn place_of(peers: &[Peer], conn: u32) -> Option<usize>
+    ensures { result ≡ position (λ p. nat_eq p.conn conn) peers.now }
+{
     peers.iter().position(|p| p.conn == conn)
 }
 
-pub fn add(alloc: Global, peers: &mut Vec<Peer>, conn: u32) -> Result<(), AllocError> {
-    peers.push(Peer {
-        conn,
-        sent: Vec::new(alloc),
-    })?;
+/// What a connection took, nothing where it isn't there.
+pub fn bytes_of(peers: &[Peer], conn: u32) -> &[u8]
+    ensures { result.now ≡ bytes_to conn peers.now }
+{
+    match place_of(peers, conn) {
+        Some(i) => peers[i].taken.as_slice(),
+        None => &[],
+    }
+}
+
+fn extend(peer: &mut Peer, bytes: &[u8]) -> Result<(), AllocError>
+    ensures conn { peer.new.conn ≡ peer.old.conn }
+    ensures ok { OnOk result (peer.new.taken.items ≡ peer.old.taken.items ++ bytes.now) }
+    ensures err { OnErr result (peer.new.taken.items ≡ peer.old.taken.items) }
+{
+    peer.taken.extend_from_slice(bytes)
+}
+
+fn add(alloc: Global, peers: &mut Vec<Peer>, conn: u32, bytes: &[u8]) -> Result<(), AllocError>
+    ensures ok { OnOk result ((q : Peer) × (q.conn ≡ conn) × (q.taken.items ≡ bytes.now) × (peers.new.items ≡ peers.old.items ++ q ∷ [])) }
+    ensures err { OnErr result (peers.new.items ≡ peers.old.items) }
+{
+    let taken = Vec::from_slice(alloc, bytes)?;
+    peers.push(Peer { conn, taken })?;
     Ok(())
 }
 
-/// What a connection was sent, nothing where it was never given.
-pub fn sent_to(peers: &[Peer], conn: u32) -> &[u8] {
-    for peer in peers {
-        if peer.conn == conn {
-            return peer.sent.as_slice();
-        }
-    }
-    &[]
-}
-
-pub fn is_known(peers: &[Peer], conn: u32) -> bool {
-    place_of(peers, conn).is_some()
-}
-
-/// Adds bytes to what a connection was sent.
-pub fn record_sent(peers: &mut Vec<Peer>, conn: u32, bytes: &[u8]) -> Result<(), AllocError> {
-    for peer in peers.iter_mut() {
-        if peer.conn == conn {
-            peer.sent.extend_from_slice(bytes)?;
-            return Ok(());
-        }
-    }
-    Ok(())
-}
-
-/// Takes so many of the bytes off that were recorded last.
-pub fn forget_sent(peers: &mut Vec<Peer>, conn: u32, n: usize) {
-    for peer in peers.iter_mut() {
-        if peer.conn == conn {
-            let kept = peer.sent.len().saturating_sub(n);
-            peer.sent.truncate(kept);
-            return;
-        }
+/// Adds bytes to what a connection took. An `Err` changes nothing.
+pub fn record(
+    alloc: Global,
+    peers: &mut Vec<Peer>,
+    conn: u32,
+    bytes: &[u8],
+) -> Result<(), AllocError>
+    ensures ok { OnOk result ((c : ℕ) → bytes_to c peers.new.items ≡ (if nat_eq conn c then bytes_to c peers.old.items ++ bytes.now else bytes_to c peers.old.items)) }
+    ensures err { OnErr result ((c : ℕ) → bytes_to c peers.new.items ≡ bytes_to c peers.old.items) }
+{
+    match place_of(peers, conn) {
+        Some(i) => extend(&mut peers[i], bytes),
+        None => add(alloc, peers, conn, bytes),
     }
 }
 

@@ -5,6 +5,7 @@ pub mod Codes
 pub mod Contents
 pub mod Maps
 pub mod Nexts
+pub mod Packing
 pub mod Plans
 pub mod Sizes
 pub mod Stats

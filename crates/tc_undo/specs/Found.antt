@@ -12,7 +12,7 @@ use Rattle.tc_io.specs.Images.{Calls, now, written, IsLost}
 use Rattle.ud_log.specs.Entries.{Entry}
 use Rattle.ud_log.specs.Log.{entry_bytes}
 use Rattle.ud_log.specs.Undo.{is_formed}
-use Rattle.ud_log.proofs.Codec.{Fits}
+use Rattle.ud_log.specs.Grammar.{Fits}
 
 -- the scan goes on behind an entry, or there is none
 abbrev pub AfterScan : List ℕ → List ℕ → ℕ → Bool → Option Seen → Type 0

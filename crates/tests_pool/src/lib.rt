@@ -4,6 +4,8 @@
 #[cfg(test)]
 mod pools;
 #[cfg(test)]
+mod rounds;
+#[cfg(test)]
 mod scratch;
 #[cfg(test)]
 mod walks;

@@ -1,5 +1,5 @@
 ghost use Rattle.std.specs.Prelude.{◌≡◌, true, IfOk, OnOk};
-ghost use Rattle.hf_pool.specs.Lists.{StandInRow};
+ghost use Rattle.hf_block.specs.Rows.{StandInRow};
 
 use crate::scratch::Scratch;
 use hf_block::{BlockAt, Blocks};

@@ -1,8 +1,11 @@
-//! The undo log over a volume in memory: its bytes, its refusals, and stops at every call.
+//! The undo log over a volume in memory: its bytes, its refusals, and stops at every call; and a client of any space.
 #![tactic(auto)]
 
 #[cfg(test)]
 mod calls;
+mod client;
+#[cfg(test)]
+mod clients;
 #[cfg(test)]
 mod logs;
 #[cfg(test)]

@@ -5,9 +5,9 @@ use ty_wire::{Front, is_updating, read_request, take, write_reply};
 
 // A request's bytes, and whether it changes contents.
 #[derive(Drop)]
-struct Case {
-    name: &'static str,
-    bytes: &'static [u8],
+pub struct Case {
+    pub name: &'static str,
+    pub bytes: &'static [u8],
     updates: bool,
 }
 
@@ -157,6 +157,41 @@ fn add(
     Ok(())
 }
 
+/// All of them.
+pub fn all_cases(alloc: Global) -> Result<Vec<Case>, AllocError> {
+    let mut all = Vec::new(alloc);
+    for table in [cases(alloc)?, more_cases(alloc)?, calls(alloc)?] {
+        for case in table {
+            all.push(case)?;
+        }
+    }
+    Ok(all)
+}
+
+/// A request with that front, a count and so many texts of 0 to 96 bytes.
+pub fn long_list(alloc: Global, front: &[u8], count: u32) -> Result<Vec<u8>, AllocError> {
+    let mut bytes = Vec::from_slice(alloc, front)?;
+    bytes.extend_from_slice(&count.to_be_bytes())?;
+    for i in 0..count {
+        let size = i % 97;
+        bytes.extend_from_slice(&size.to_be_bytes())?;
+        for _ in 0..size {
+            bytes.push(b'k')?;
+        }
+    }
+    Ok(bytes)
+}
+
+/// A put of a long value.
+pub fn long_put(alloc: Global, size: u32) -> Result<Vec<u8>, AllocError> {
+    let mut bytes = Vec::from_slice(alloc, b"\xC8\x10\0\0\0\x01")?;
+    bytes.extend_from_slice(&size.to_be_bytes())?;
+    for _ in 0..=size {
+        bytes.push(b'v')?;
+    }
+    Ok(bytes)
+}
+
 fn is_whole(front: Front, n: usize) -> bool {
     match front {
         Front::Whole(m) => m == n,
@@ -178,45 +213,95 @@ fn is_read_in_any_cut(alloc: Global, bytes: &[u8]) -> Result<bool, AllocError> {
 #[test]
 fn requests_are_whole_or_parts(rt: HostRuntime) -> Result<(), Fail> {
     let alloc = rt.alloc();
-    for table in [cases(alloc)?, more_cases(alloc)?, calls(alloc)?] {
-        for case in &table {
-            assert!(rt; is_read_in_any_cut(alloc, case.bytes)?, "{}", case.name);
-        }
+    for case in &all_cases(alloc)? {
+        assert!(rt; is_read_in_any_cut(alloc, case.bytes)?, "{}", case.name);
     }
     Ok(())
 }
 
 #[test]
 fn bad_bytes_are_bad_at_once(rt: HostRuntime) -> Result<(), Fail> {
-    let bad: [&[u8]; 19] = [
+    let bad: [&[u8]; 7] = [
         b"\xC9",
         b"\0",
         b"\xC8\x99",
         b"\xC8\x14",
-        // a key, a value, a prefix, a name, an argument one past its limit
-        b"\xC8\x10\0\x10\0\x01",
-        b"\xC8\x10\0\0\0\x01\x01\0\0\x01",
-        b"\xC8\x13\0\0\0\x01\x01\0\0\x01",
-        b"\xC8\x20\0\x10\0\x01",
-        b"\xC8\x58\0\x10\0\x01",
-        b"\xC8\x60\0\x10\0\x01",
-        b"\xC8\x68\0\0\0\x01\0\0\0\0\0\x10\0\x01",
-        b"\xC8\x71\0\x10\0\x01",
-        b"\xC8\x90\0\x10\0\x01",
-        b"\xC8\x90\0\0\0\0\0\0\0\0\0\0\0\x01\x01\0\0\x01",
-        b"\xC8\x31\0\0\0\x01\0\x10\0\x01",
-        // a count whose least completion passes 33,554,432 bytes, also where its last byte is missing
+        // a count whose least completion passes 33,554,432 bytes, also where its last bytes are missing
         b"\xC8\x90\0\0\0\x01\0\0\0\0\xFF\xFF\xFF\xFF",
         b"\xC8\x31\0\x80\0\0",
-        b"\xC8\x31\0\x7F\xFF\xFF",
         b"\xC8\x31\x01",
     ];
     for bytes in bad {
         assert_eq!(rt; take(bytes), Front::Bad);
         assert_eq!(rt; take(&bytes[..0]), Front::Part);
     }
-    // (33,554,432 - 6) / 4 is 8,388,606: that many empty keys are a request's beginning
-    assert_eq!(rt; take(b"\xC8\x31\0\x7F\xFF\xFE"), Front::Part);
+    Ok(())
+}
+
+const KEY: u32 = 1_048_576;
+
+const VALUE: u32 = 16_777_216;
+
+// What stands in front of a size or a count, and the most that it may be.
+fn limits() -> [(&'static [u8], u32); 32] {
+    [
+        (b"\xC8\x10", KEY),
+        (b"\xC8\x10\0\0\0\x01", VALUE),
+        (b"\xC8\x11", KEY),
+        (b"\xC8\x11\0\0\0\x01", VALUE),
+        (b"\xC8\x12", KEY),
+        (b"\xC8\x12\0\0\0\x01", VALUE),
+        (b"\xC8\x13", KEY),
+        (b"\xC8\x13\0\0\0\x01", VALUE),
+        (b"\xC8\x18", KEY),
+        (b"\xC8\x18\0\0\0\x01", VALUE),
+        (b"\xC8\x20", KEY),
+        (b"\xC8\x30", KEY),
+        (b"\xC8\x38", KEY),
+        (b"\xC8\x58", KEY),
+        (b"\xC8\x60", KEY),
+        (b"\xC8\x61", KEY),
+        (b"\xC8\x68", KEY),
+        (b"\xC8\x68\0\0\0\x01\0\0\0\0", KEY),
+        (b"\xC8\x68\0\0\0\x01\0\0\0\0\0\0\0\x01", VALUE),
+        (b"\xC8\x71", KEY),
+        (b"\xC8\x73", KEY),
+        (b"\xC8\x74", KEY),
+        (b"\xC8\x78", KEY),
+        (b"\xC8\x90", KEY),
+        (b"\xC8\x90\0\0\0\0\0\0\0\0\0\0\0\x01", VALUE),
+        (b"\xC8\x31\0\0\0\x01", KEY),
+        // (33,554,432 - 6) / 4 keys, (33,554,432 - 14 - 0) / 4 arguments behind no name, (.. - 3) / 4 behind one of 3 bytes
+        (b"\xC8\x31", 8_388_606),
+        (b"\xC8\x90\0\0\0\0\0\0\0\0", 8_388_604),
+        (b"\xC8\x90\0\0\0\x03\0\0\0\0", 8_388_603),
+        // where so many keys are to come, the first has what the others' sizes leave: 33,554,426 - 4 * 8,388,605 bytes
+        (b"\xC8\x31\0\x7F\xFF\xFD", 6),
+        (b"\xC8\x31\0\x7F\xFF\xFE", 2),
+        // the second has 5 bytes less where the first has 1
+        (b"\xC8\x31\0\x7F\xFF\xFD\0\0\0\x01\x6B", 5),
+    ]
+}
+
+// What stands at the front where a number follows.
+fn taken_with(alloc: Global, front: &[u8], number: u32) -> Result<Front, AllocError> {
+    let mut bytes = Vec::from_slice(alloc, front)?;
+    bytes.extend_from_slice(&number.to_be_bytes())?;
+    Ok(take(&bytes))
+}
+
+#[test]
+fn sizes_and_counts_have_their_limits(rt: HostRuntime) -> Result<(), Fail> {
+    let alloc = rt.alloc();
+    for (front, most) in limits() {
+        assert_eq!(rt; taken_with(alloc, front, most)?, Front::Part, "{most}");
+        assert_eq!(rt;
+            taken_with(alloc, front, most.saturating_add(1))?,
+            Front::Bad,
+            "{most}"
+        );
+        assert_eq!(rt; taken_with(alloc, front, u32::MAX)?, Front::Bad, "{most}");
+    }
     Ok(())
 }
 
@@ -231,15 +316,13 @@ fn updates(alloc: Global, bytes: &[u8]) -> Result<Option<bool>, AllocError> {
 #[test]
 fn requests_that_change_contents_are_told(rt: HostRuntime) -> Result<(), Fail> {
     let alloc = rt.alloc();
-    for table in [cases(alloc)?, more_cases(alloc)?, calls(alloc)?] {
-        for case in &table {
-            assert_eq!(rt;
-                updates(alloc, case.bytes)?,
-                Some(case.updates),
-                "{}",
-                case.name
-            );
-        }
+    for case in &all_cases(alloc)? {
+        assert_eq!(rt;
+            updates(alloc, case.bytes)?,
+            Some(case.updates),
+            "{}",
+            case.name
+        );
     }
     Ok(())
 }

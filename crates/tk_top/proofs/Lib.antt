@@ -1,11 +1,3 @@
-pub mod Keys
-pub mod Telling
-pub mod Sends
-pub mod Rounds
-pub mod Fine
-pub mod Settled
-pub mod Turned
-pub mod Owing
-pub mod Refusals
+pub mod Replies
 pub mod Running
 pub mod TheWords

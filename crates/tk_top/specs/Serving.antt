@@ -1,55 +1,48 @@
--- What the server stands for, and what a run leaves.
-use Rattle.std.specs.Prelude.{◌≡◌, ◌⊎◌, ℕ, ◌-◌, ◌^◌, true, false, List, [], ◌∷◌, ◌++◌, length, drop, All, Err, None, is_some, if◌then◌else◌}
+-- What a run leaves.
+use Rattle.std.specs.Prelude.{◌≡◌, ◌⊎◌, ◌<◌, ◌+◌, ℕ, ◌-◌, ◌^◌, true, false, List, [], ◌∷◌, length, Option, Some}
 use Rattle.std.specs.FinMap.{empty}
-use Rattle.std.specs.List.{flat_map}
+use Rattle.tc_base.specs.declared.kind.Kind.TheVariants.{MemHash}
+use Rattle.tc_io.specs.declared.act.Act.{Act}
 use Rattle.tc_io.specs.declared.wire.At.TheVariants.{Pipe}
-use Rattle.ty_wire.specs.Prefixes.{IsPrefix}
-use Rattle.ty_wire.specs.Spelling.{spelling, Fits}
-use Rattle.ty_wire.specs.Frames.{AreFrames}
-use Rattle.ty_wire.specs.Reading.{request_at}
-use Rattle.tc_base.specs.declared.fields.NotWhole.{NotWhole}
-use Rattle.tk_top.specs.Database.{replies_to}
-use Rattle.tk_top.specs.World.{World}
-use Rattle.tk_top.specs.declared.server.Server.{Server}
+use Rattle.tc_io.specs.declared.wire.Entry.{Entry}
+use Rattle.tc_io.specs.Script.{Script}
+use Rattle.tc_model.specs.Contents.{Contents}
+use Rattle.ty_world.specs.World.{World, started, world_after, AllAsked, AllCame, IsRested}
+use Rattle.ty_world.specs.Answers.{AllSpelled, AllAnswered}
+use Rattle.ty_world.specs.Measure.{requests_in}
+use Rattle.ty_world.specs.Playing.{unplayed}
+use Rattle.ty_rounds.specs.Holding.{IsFine}
 
--- no request stands behind those placed, and all that is owed was sent
-pub record IsServed (w : World) : Type 0 where
-  pub none : (e : NotWhole) × (request_at (drop (length (flat_map spelling w.placed)) w.input) ≡ Err e)
-  pub told : w.out ≡ w.owed
+-- the map in memory, with no key
+abbrev pub no_keys : Contents
+no_keys = record { kind = MemHash; map = empty }
 
--- the server is where this world is
-pub record Holds (server : Server) (w : World) : Type 0 where
-  pub contents : server.store ≡ w.contents
-  pub client : server.client ≡ (if w.is_open then w.client else None)
-  pub opened : w.is_open ≡ true → is_some w.client ≡ true
-  pub had : server.had ≡ is_some w.client
-  pub gone : server.gone ≡ w.gone
-  pub input : w.input ≡ flat_map spelling w.placed ++ server.unread.items
-  pub fit : All Fits w.placed
-  pub owed : w.owed ≡ w.out ++ server.waiting
-  pub over : w.is_open ≡ false → w.gone ≡ false → IsServed w
+abbrev pub before : World
+before = started [] no_keys
 
-abbrev pub IsFine : World → Type 0
-IsFine w = IsPrefix w.out w.owed
-
--- all whole requests that came were placed, and all that is owed was sent
-pub record IsAnswered (w : World) : Type 0 where
-  pub rest : List ℕ
-  pub frames : AreFrames w.input w.placed rest
-  pub told : w.out ≡ w.owed
-
--- what a run of this status leaves
+-- what a run of this status leaves of the world that its transcript makes
 pub record Serves (status : ℕ) (w : World) : Type 0 where
-  -- each byte sent is one that is owed, in order
-  pub replies : IsPrefix w.out w.owed
-  -- what is owed is what the abstract database answers to the requests placed, one at a time
-  pub owes : w.owed ≡ replies_to w.placed empty
-  -- at the end all is answered, and all answers are sent, but to a peer that is gone
-  pub done : status ≡ 0 → (w.shut ≡ true) × (w.gone ≡ false → IsAnswered w)
+  -- each byte sent is one that is owed, in order; and what is owed is what the abstract database answers in round order, by the world's definition
+  pub replies : IsFine w
+  -- the requests placed are those that came, in order, and what is unread stands behind them
+  pub spelled : AllSpelled w
+  -- at the end no whole request is left unserved, and all that is owed was sent, but to a peer that is gone
+  pub done : status ≡ 0 → (w.shut ≡ true) × AllAnswered w
+  -- each connection was sent all or its last send took not all, and none that is over is left open
+  pub rested : (status ≡ 0) ⊎ (status ≡ 8) → IsRested w
   -- no event was the last, and there were as many as there are turns
   pub spent : status ≡ 8 → (w.shut ≡ false) × (w.events ≡ 2 ^ 64 - 1)
   -- the standard streams were taken once, or the run didn't come to it
   pub opens : (w.opens ≡ Pipe ∷ []) ⊎ ((w.opens ≡ []) × ((status ≡ 1) ⊎ (status ≡ 7)))
+
+-- where a script is played that the turns suffice for, they aren't spent, and at status 0 it is played to its end
+pub record PlaysOut (now : Option Script) (status : ℕ) (acts : List Act) (given : ℕ) : Type 0 where
+  pub enough : length acts + requests_in given acts < 2 ^ 64 - 1 → status ≡ 8 → ⊥
+  pub out : status ≡ 0 → (s : Script) × (now ≡ Some s) × (s.acts ≡ [])
+
+-- a status of a run that serves, and of any run
+abbrev pub IsServing : ℕ → Type 0
+IsServing status = (status ≡ 0) ⊎ (status ≡ 5) ⊎ (status ≡ 7) ⊎ (status ≡ 8)
 
 abbrev pub IsStatus : ℕ → Type 0
 IsStatus status = (status ≡ 0) ⊎ (status ≡ 1) ⊎ (status ≡ 5) ⊎ (status ≡ 7) ⊎ (status ≡ 8)

@@ -1,13 +1,16 @@
 //! The top call.
-ghost use Rattle.std.specs.Prelude.{◌<◌, ◌^◌, ◌-◌, ◌≡◌, ◌≢◌, ◌⊎◌, ◌≤◌, ◌↔◌, ◌++◌, [], ◌∷◌, ℕ, Bool, true, false, List, length, IsTrue};
+ghost use Rattle.std.specs.Prelude.{◌<◌, ◌^◌, ◌-◌, ◌≡◌, ◌≢◌, ◌⊎◌, ◌≤◌, ◌↔◌, ◌++◌, [], ◌∷◌, ℕ, Bool, true, false, List, Option, Some, length, IsTrue};
 ghost use Rattle.tc_io.specs.Causes.{Rose};
 ghost use Rattle.tc_io.specs.Told.{Adds};
+ghost use Rattle.tc_io.specs.declared.act.Act.{Act};
 
-use crate::server::Server;
-use crate::turn::{Outcome, TurnErr, turn};
+use crate::serving::serve;
 use crate::words::are_words;
 use std::alloc::Global;
 use tc_io::{At, Clock, Sink, Volume, Wire};
+use tc_mem::MemBase;
+use tc_space::NoSpace;
+use ty_rounds::Server;
 
 /// The status, and the volume.
 #[derive(Drop)]
@@ -17,30 +20,27 @@ pub struct Ran<V> {
 }
 
 ghost use Rattle.tc_io.specs.declared.wire.Entry.{Entry};
-ghost use Rattle.tk_top.specs.World.{after, start, AllAsked};
-ghost use Rattle.tk_top.specs.Serving.{Serves, IsStatus};
+ghost use Rattle.ty_world.specs.World.{world_after, AllAsked};
+ghost use Rattle.ty_world.specs.Playing.{unplayed};
+ghost use Rattle.tk_top.specs.Serving.{before, Serves, PlaysOut, IsStatus, IsServing};
 ghost use Rattle.tk_top.specs.Words.{texts, AreWords};
 
-fn serve<W: Wire, K: Clock>(alloc: Global, wire: &mut W, clock: &mut K) -> u8
-    requires { (W.opened wire.old ≡ false) × (W.conns wire.old ≡ []) }
-    ensures status { (result ≡ 0) ⊎ (result ≡ 5) ⊎ (result ≡ 7) ⊎ (result ≡ 8) }
-    ensures told { (entries : List Entry) × Adds (W.transcript wire.old) (W.transcript wire.new) entries × Serves result (after entries start) × AllAsked start entries }
+// The map in memory, served over the standard streams.
+fn serve_pipe<W: Wire, K: Clock>(alloc: Global, wire: &mut W, clock: &mut K) -> u8
+    requires opened { W.opened wire.old ≡ false }
+    requires conns { W.conns wire.old ≡ [] }
+    ensures status { IsServing result }
+    ensures told { (entries : List Entry) × Adds (W.transcript wire.old) (W.transcript wire.new) entries × Serves result (world_after entries before) × AllAsked before entries }
+    ensures plays { (acts : List Act) (given : ℕ) → W.plays wire.old ≡ Some (unplayed acts given) → PlaysOut (W.plays wire.new) result acts given }
     ensures later { W.faults wire.old ≤ W.faults wire.new }
     ensures cause { result ≡ 7 → Rose (W.faults wire.old) (W.faults wire.new) }
 {
     if wire.open(&At::Pipe).is_err() {
         return 7;
     }
-    let mut server = Server::new(alloc);
-    for turns in 0..u64::MAX {
-        match turn(&mut server, wire, clock) {
-            Ok(Outcome::Went) => {}
-            Ok(Outcome::Shut) => return 0,
-            Err(TurnErr::Wire) => return 7,
-            Err(TurnErr::Memory) => return 5,
-        }
-    }
-    8
+    let mut space = NoSpace::new();
+    let mut server = Server::new(alloc, MemBase::new(alloc));
+    serve(&mut server, &mut space, wire, clock, u64::MAX)
 }
 
 ghost use Rattle.tk_top.specs.Lines.{line};
@@ -71,8 +71,10 @@ pub fn run<V: Volume, W: Wire, O: Sink, E: Sink, K: Clock>(
     requires { W.opened wire.old ≡ false }
     // The words alone decide whether it serves.
     ensures words { result.status ≡ 1 ↔ (AreWords (texts words.now.items) → ⊥) }
-    // Where the wire tells its transcript, these entries came behind it: what was sent is a front of what is owed, all of it at status 0.
-    ensures replies { (entries : List Entry) × Adds (W.transcript wire.old) (W.transcript wire.new) entries × Serves result.status (after entries start) × AllAsked start entries }
+    // Where the wire tells its transcript, these entries came behind it, and they make of the abstract database and its connections what a run of this status leaves.
+    ensures replies { (entries : List Entry) × Adds (W.transcript wire.old) (W.transcript wire.new) entries × Serves result.status (world_after entries before) × AllAsked before entries }
+    // A script that the turns suffice for is played to its end.
+    ensures plays { (acts : List Act) (given : ℕ) → W.plays wire.old ≡ Some (unplayed acts given) → PlaysOut (W.plays wire.new) result.status acts given }
     // A fault comes only of the wire.
     ensures fault { result.status ≡ 7 → Rose (W.faults wire.old) (W.faults wire.new) }
     // There is no other status.
@@ -88,7 +90,7 @@ pub fn run<V: Volume, W: Wire, O: Sink, E: Sink, K: Clock>(
 {
     let _ = out;
     let status = if are_words(words) {
-        serve(alloc, wire, clock)
+        serve_pipe(alloc, wire, clock)
     } else {
         1
     };

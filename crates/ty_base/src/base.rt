@@ -7,7 +7,7 @@ ghost use Rattle.ty_wire.specs.Prefixes.{IsPrefix};
 ghost use Rattle.tc_model.specs.Contents.{Contents};
 ghost use Rattle.tc_model.specs.Apply.{apply};
 ghost use Rattle.tc_model.specs.Applying.{Applies};
-ghost use Rattle.ty_base.specs.Keeping.{is_optimize};
+ghost use Rattle.tc_model.specs.Packing.{is_optimize};
 
 use tc_base::{Blob, Kind, Request};
 use tc_model::{Applied, Walk};

@@ -9,7 +9,7 @@ ghost use Rattle.tc_model.specs.Applying.{Applies};
 ghost use Rattle.ty_wire.specs.Prefixes.{IsPrefix};
 ghost use Rattle.ty_wire.specs.Reading.{request_at};
 ghost use Rattle.ty_wire.specs.Spelling.{spelling, Fits};
-ghost use Rattle.ty_base.specs.Keeping.{is_optimize};
+ghost use Rattle.tc_model.specs.Packing.{is_optimize};
 ghost use Rattle.ty_core.specs.Serving.{Serves};
 
 use bytes::BytesMut;

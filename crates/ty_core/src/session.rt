@@ -6,7 +6,7 @@ ghost use Rattle.tc_base.specs.declared.request.Request.{Request};
 ghost use Rattle.ty_wire.specs.declared.reading.Front.TheVariants.{Whole};
 ghost use Rattle.ty_wire.specs.Spelling.{spelling, Fits};
 ghost use Rattle.ty_wire.specs.Taking.{Takes, IsRead};
-ghost use Rattle.ty_base.specs.Keeping.{is_optimize};
+ghost use Rattle.tc_model.specs.Packing.{is_optimize};
 ghost use Rattle.ty_core.specs.Queues.{queue};
 ghost use Rattle.ty_core.specs.Serving.{Serves};
 
@@ -18,15 +18,16 @@ use tc_base::Blob;
 use tc_model::Walk;
 use tc_space::{RecErr, Space};
 use ty_base::Base;
-use ty_wire::{Front, take};
+use ty_wire::{Front, Seen, look};
 
 /// The bytes of a connection that no request took yet, and those that wait to be sent to it. Both queues are seen as lists.
 #[derive(Drop)]
 pub struct Session {
     alloc: Global,
     unread: BytesMut,
-    // what stands at the front of the unread bytes
+    // what stands at the front of the unread bytes, and what was looked at of a request that isn't whole
     front: Front,
+    seen: Seen,
     waiting: Blob,
     // so many of them were taken
     taken: usize,
@@ -41,7 +42,7 @@ impl Model for Session {
 
     ghost view = { λ s. queue s.unread.items (drop s.taken s.waiting) };
 
-    ghost invariant = { λ s. IsHeld s.unread.items s.front s.waiting s.taken };
+    ghost invariant = { λ s. IsHeld s.unread.items s.front s.seen s.waiting s.taken };
 }
 
 impl Session {
@@ -49,10 +50,12 @@ impl Session {
     pub fn new(alloc: Global) -> Session
         ensures { result ≡ queue [] [] }
     {
+        let mut seen = Seen::new();
         Session {
             alloc,
             unread: BytesMut::new(alloc),
-            front: take(&[]),
+            front: look(&[], &mut seen),
+            seen,
             waiting: Blob::new(alloc),
             taken: 0,
         }
@@ -64,7 +67,7 @@ impl Session {
         ensures err { OnErr result (self.new ≡ self.old) }
     {
         self.unread.extend_from_slice(bytes)?;
-        self.front = take(self.unread.as_slice());
+        self.front = look(self.unread.as_slice(), &mut self.seen);
         Ok(())
     }
 
@@ -141,7 +144,8 @@ impl Session {
             walk,
             replica,
         )?;
-        self.front = take(self.unread.as_slice());
+        self.seen = Seen::new();
+        self.front = look(self.unread.as_slice(), &mut self.seen);
         Ok(served)
     }
 }

@@ -51,7 +51,7 @@ exact_long =
     (λ hi. exact_then (IsSize 4294967295) (λ lo. Ends (hi * 4294967296 + lo)) (size_at 4294967295) (λ lo rest. Ok (hi * 4294967296 + lo, rest)) (exact_size 4294967295 (omega arith)) (λ lo. exact_done (hi * 4294967296 + lo)) (λ lo. (hi * 4294967296 + lo, [], (refl, refl))))
     (λ hi. (hi * 4294967296 + 0, to_be_bytes w32 0 ++ [], (0, to_be_bytes w32 0, [], (omega arith, refl), (refl, refl), refl))))
 
-abbrev IsHead : Field → ℕ → List ℕ → Type 0
+abbrev pub IsHead : Field → ℕ → List ℕ → Type 0
 IsHead f n t = HeadFits f n × (t ≡ head_bytes f n)
 
 -- a field whose limit fits four bytes
@@ -64,7 +64,7 @@ abbrev pub AllSmall : List Field → Type 0
 AllSmall [] = Unit {0}
 AllSmall (f ∷ fs) = IsSmall f × AllSmall fs
 
-exact_head : (f : Field) → IsSmall f → IsExact (IsHead f) (head_at f)
+pub exact_head : (f : Field) → IsSmall f → IsExact (IsHead f) (head_at f)
 exact_head (text most) small = exact_size most small
 exact_head word small = exact_size 4294967295 (omega arith)
 exact_head long small = exact_long

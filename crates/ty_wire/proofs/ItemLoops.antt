@@ -24,7 +24,7 @@ same_bind (Err e) = refl
 pub ahead_start : (most count room : ℕ) (bytes : List ℕ) → Ahead most count room bytes count room bytes []
 ahead_start most count room bytes = same_bind (items_at most count room bytes)
 
-bytes_length : (n : ℕ) (bytes x rest : List ℕ) → bytes_at n bytes ≡ Ok (x, rest) → length x ≡ n
+pub bytes_length : (n : ℕ) (bytes x rest : List ℕ) → bytes_at n bytes ≡ Ok (x, rest) → length x ≡ n
 bytes_length n bytes x rest e = elim (chosen (nat_lt (length bytes) n) _ _ (Ok (x, rest)) e) [
   | inl h ↦ absurd (let bad = h.1 in cc)
   | inr h ↦
@@ -32,10 +32,10 @@ bytes_length n bytes x rest e = elim (chosen (nat_lt (length bytes) n) _ _ (Ok (
       ap length (sym s.0) ∙ omega (arith, length-take n bytes, ltb-false _ _ h.0)
 ]
 
-abbrev next : ℕ → ℕ → ℕ → List ℕ → List ℕ → Front (List (List ℕ))
+abbrev pub next : ℕ → ℕ → ℕ → List ℕ → List ℕ → Front (List (List ℕ))
 next most n left x rest = items_at most n (left - 4 - length x) rest >>= λ xs. Ok (x ∷ xs.0, xs.1)
 
-one_read : (most n left : ℕ) (rest x behind : List ℕ) → item_at (min most (left - 4 * suc n)) rest ≡ Ok (x, behind) → items_at most (suc n) left rest ≡ next most n left x behind
+pub one_read : (most n left : ℕ) (rest x behind : List ℕ) → item_at (min most (left - 4 * suc n)) rest ≡ Ok (x, behind) → items_at most (suc n) left rest ≡ next most n left x behind
 one_read most n left rest x behind e =
     let limit = min most (left - 4 * suc n) in
     let s = bind_ok (size_at limit rest) (λ s. bytes_at s.0 s.1) (x, behind) e in
@@ -44,7 +44,7 @@ one_read most n left rest x behind e =
     ∙ ap (λ (r : Front (List ℕ)). r >>= λ x. items_at most n (left - 4 - s.0.0) x.1 >>= λ xs. Ok (x.0 ∷ xs.0, xs.1)) s.2
     ∙ ap (λ (k : ℕ). items_at most n (left - 4 - k) behind >>= λ xs. Ok (x ∷ xs.0, xs.1)) (sym len)
 
-none_read : (most n left : ℕ) (rest : List ℕ) (d : NotWhole) → item_at (min most (left - 4 * suc n)) rest ≡ Err d → items_at most (suc n) left rest ≡ Err d
+pub none_read : (most n left : ℕ) (rest : List ℕ) (d : NotWhole) → item_at (min most (left - 4 * suc n)) rest ≡ Err d → items_at most (suc n) left rest ≡ Err d
 none_read most n left rest d e = elim (bind_err (size_at (min most (left - 4 * suc n)) rest) (λ s. bytes_at s.0 s.1) d e) [
   | inl h ↦ ap (λ (r : Front ℕ). r >>= λ size. bytes_at size.0 size.1 >>= λ x. items_at most n (left - 4 - size.0) x.1 >>= λ xs. Ok (x.0 ∷ xs.0, xs.1)) h
   | inr h ↦

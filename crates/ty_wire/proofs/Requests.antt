@@ -66,7 +66,7 @@ key_small = omega arith
 value_small : 16777216 < 2 ^ 32
 value_small = omega arith
 
-all_little : AllLittle entries
+pub all_little : AllLittle entries
 all_little = (
   (key_small, (value_small, tt)),
   (
@@ -253,7 +253,7 @@ all_sound = (
 
 -- ---- from the spelling to the table
 
-abbrev find : List Entry → ℕ → Option Entry
+abbrev pub find : List Entry → ℕ → Option Entry
 find [] c = None
 find (e ∷ es) c = cond (nat_eq c (command_of e)) (Some e) (find es c)
 
@@ -275,7 +275,7 @@ picked_at (d ∷ es) c e r t found h = elim (cases_eq c (command_of d)) [
       inr (other, picked_at es c e r t (sym there ∙ found) h)
 ]
 
-heads_same : (c d : ℕ) (x y : List ℕ) → 0xC8 ∷ c ∷ x ≡ 0xC8 ∷ d ∷ y → (c ≡ d) × (x ≡ y)
+pub heads_same : (c d : ℕ) (x y : List ℕ) → 0xC8 ∷ c ∷ x ≡ 0xC8 ∷ d ∷ y → (c ≡ d) × (x ≡ y)
 heads_same c d x y e = (cc, cc)
 
 from_plain : (c : ℕ) (fs : List Field) (build : Values fs → Request) (v : Values fs) (r : Request) → find entries c ≡ Some (plain c fs build) → r ≡ build v → form_of r ≡ form.plain c fs v → Fits r

@@ -7,8 +7,8 @@ ghost use Rattle.ty_wire.specs.Items.{item_at, Skips, texts_of};
 use std::alloc::{AllocError, Global};
 use tc_base::{Blob, Blobs, NotWhole, read_bytes, read_size};
 
-// A text of at most `limit` bytes with its size in front, and the bytes behind it.
-fn read_item(limit: usize, bytes: &[u8]) -> Result<(&[u8], &[u8]), NotWhole>
+/// A text of at most `limit` bytes with its size in front, and the bytes behind it.
+pub fn read_item(limit: usize, bytes: &[u8]) -> Result<(&[u8], &[u8]), NotWhole>
     ensures item { Gives (λ x. (x.0.now, x.1.now)) result (item_at limit bytes.now) }
     ensures short { IfOk result (λ x. length x.0.now ≤ limit) }
 {

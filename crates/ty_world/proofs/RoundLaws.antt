@@ -1,10 +1,11 @@
 -- A round that updates nothing leaves the contents.
-use Rattle.std.proofs.Common.{◌≡◌, ℕ, Bool, true, false, cond, List, [], ◌∷◌, refl, sym, ap, ◌∙◌}
-use Rattle.std.specs.Prelude.{◌||◌, ◌&&◌, Ok, Err, Option, Some, None}
+use Rattle.std.proofs.Common.{◌≡◌, Bool, true, false, List, [], ◌∷◌, refl, ◌∙◌}
+use Rattle.std.specs.Prelude.{◌||◌, Ok, Err}
 use Rattle.tc_base.specs.declared.request.Request.{Request}
 use Rattle.tc_base.specs.Reading.{Front}
 use Rattle.tc_model.specs.Contents.{Contents, Walk}
-use Rattle.tc_model.specs.Apply.{apply, applied}
+use Rattle.tc_model.specs.Apply.{apply, is_updated}
+use Rattle.tc_model.specs.Packing.{is_optimize}
 use Rattle.tc_model.proofs.Idle.{apply_idle}
 use Rattle.ty_world.specs.World.{Client, served, front_of, round_one, round_all}
 
@@ -12,9 +13,9 @@ one_idle : (c : Contents) (w : Walk) (k : Client) → (round_one c w k).updated 
 unfolding round_one
 one_idle c w k = go (front_of k)
   where
-  go : (f : Front Request) → (served c w k f).updated ≡ false → (served c w k f).contents ≡ c
-  go (Ok x) e = apply_idle false x.0 c w e
-  go (Err d) e = refl
+    go : (f : Front Request) → (served c w k f).updated ≡ false → (served c w k f).contents ≡ c
+    go (Ok x) e = apply_idle false x.0 c w e
+    go (Err d) e = refl
 
 none_split : (a b : Bool) → (a || b) ≡ false → (a ≡ false) × (b ≡ false)
 none_split false b e = (refl, e)
@@ -25,3 +26,23 @@ round_idle c w [] e = refl
 round_idle c w (k ∷ ks) e =
     let s = none_split (round_one c w k).updated (round_all (round_one c w k).contents (round_one c w k).walk ks).updated e in
     round_idle (round_one c w k).contents (round_one c w k).walk ks s.1 ∙ one_idle c w k s.0
+
+pub one_quiet : (c : Contents) (w : Walk) (k : Client) → (round_one c w k).commits ≡ false → (round_one c w k).updated ≡ false
+unfolding round_one
+one_quiet c w k = go (front_of k)
+  where
+    go : (f : Front Request) → (served c w k f).commits ≡ false → (served c w k f).updated ≡ false
+    go (Ok x) e = (none_split (is_updated x.0 (apply false x.0 c w)) (is_optimize x.0) e).0
+    go (Err d) e = refl
+
+none_both : (a b : Bool) → a ≡ false → b ≡ false → (a || b) ≡ false
+none_both false b e f = f
+none_both true b e f = absurd cc
+
+-- where there is nothing to commit, nothing was updated
+pub round_quiet : (c : Contents) (w : Walk) (ks : List Client) → (round_all c w ks).commits ≡ false → (round_all c w ks).updated ≡ false
+round_quiet c w [] e = refl
+round_quiet c w (k ∷ ks) e =
+    let one = round_one c w k in
+    let s = none_split one.commits (round_all one.contents one.walk ks).commits e in
+    none_both one.updated (round_all one.contents one.walk ks).updated (one_quiet c w k s.0) (round_quiet one.contents one.walk ks s.1)

@@ -1,10 +1,10 @@
 -- How much a script still holds.
-use Rattle.std.specs.Prelude.{◌≡◌, ℕ, suc, ◌+◌, Bool, true, false, ◌&&◌, List, [], ◌∷◌, ◌++◌, length, nat_eq, nat_lt, if◌then◌else◌}
+use Rattle.std.specs.Prelude.{ℕ, suc, ◌+◌, ◌&&◌, List, [], ◌∷◌, ◌++◌, length, nat_eq, nat_lt, if◌then◌else◌}
 use Rattle.tc_io.specs.declared.act.Act.{Act}
 use Rattle.tc_io.specs.declared.act.Act.TheVariants.{Opened, Read, Ended, Quiet}
-use Rattle.tc_io.specs.Script.{Script, Lines, is_read}
+use Rattle.tc_io.specs.Script.{Lines, is_read}
 use Rattle.ty_world.specs.Frames.{frames}
-use Rattle.ty_world.specs.World.{Client, World}
+use Rattle.ty_world.specs.World.{Client}
 
 -- the bytes still to come of an open connection
 abbrev pub coming : ℕ → List Act → List ℕ

@@ -1,9 +1,9 @@
 -- A world whose connections are a script's, where no peer is gone and all that was offered was taken.
-use Rattle.std.specs.Prelude.{◌≡◌, ◌≤◌, ◌<◌, ℕ, Bool, true, false, List, [], ◌∷◌}
+use Rattle.std.specs.Prelude.{◌≡◌, ◌≤◌, ◌<◌, ℕ, true, false, List, [], ◌∷◌}
 use Rattle.tc_io.specs.declared.act.Act.{Act}
 use Rattle.tc_io.specs.Script.{Script, Lines}
 use Rattle.tc_io.specs.Lines.{has}
-use Rattle.ty_world.specs.World.{Client, World}
+use Rattle.ty_world.specs.World.{Client}
 
 pub record Fits (l : Lines) (k : Client) : Type 0 where
   pub listed : has l.conns k.conn ≡ true

@@ -1,5 +1,5 @@
 -- What a transcript makes of the database and of the connections.
-use Rattle.std.specs.Prelude.{◌≡◌, ℕ, suc, Bool, true, false, not, ◌&&◌, ◌||◌, List, [], ◌∷◌, ◌++◌, length, take, map, Option, Some, None, Ok, Err, nat_eq, nat_lt, if◌then◌else◌}
+use Rattle.std.specs.Prelude.{◌≡◌, ◌<◌, ℕ, suc, Bool, true, false, not, ◌&&◌, ◌||◌, List, [], ◌∷◌, ◌++◌, length, take, map, None, Ok, Err, nat_eq, nat_lt, slice_index, if◌then◌else◌}
 use Rattle.std.specs.List.{list_any, filter}
 use Rattle.tc_base.specs.declared.request.Request.{Request}
 use Rattle.tc_base.specs.declared.request.Request.TheVariants.{Repl}
@@ -16,6 +16,7 @@ use Rattle.ty_wire.specs.Reading.{request_at}
 use Rattle.ty_wire.specs.Spelling.{reply_bytes}
 use Rattle.tc_model.specs.Contents.{Contents, Walk}
 use Rattle.tc_model.specs.Apply.{Step, apply, is_updated}
+use Rattle.tc_model.specs.Packing.{is_optimize}
 use Rattle.ty_world.specs.Frames.{is_bad, is_whole}
 
 pub record Client : Type 0 where
@@ -49,6 +50,10 @@ pub record World : Type 0 where
 abbrev pub start : Contents → World
 start c = record { contents = c; walk = None; marks = c ∷ []; there = []; past = []; shut = false; events = 0; opens = [] }
 
+-- and these were opened
+abbrev pub started : List At → Contents → World
+started opens c = record { contents = c; walk = None; marks = c ∷ []; there = []; past = []; shut = false; events = 0; opens = opens }
+
 -- ---- one connection
 
 abbrev pub all_sent : Client → Bool
@@ -74,29 +79,35 @@ is_rested k = all_sent k || k.stopped
 
 -- ---- rounds
 
--- a repl is refused so far
+-- what a repl is answered, which what a request makes of the database leaves out: so far it is refused
+abbrev pub repl_reply : Request → List ℕ
+repl_reply (Repl timestamp server) = 1 ∷ []
+repl_reply _ = []
+
 abbrev pub owed_for : Request → Step → List ℕ
-owed_for (Repl timestamp server) s = 1 ∷ []
-owed_for _ s = reply_bytes s.reply
+owed_for r s = reply_bytes s.reply ++ repl_reply r
 
 pub record Round : Type 0 where
   pub contents : Contents
   pub walk : Walk
   pub clients : List Client
   pub updated : Bool
+  -- whether there is anything to commit
+  pub commits : Bool
 
 pub record Served : Type 0 where
   pub contents : Contents
   pub walk : Walk
   pub client : Client
   pub updated : Bool
+  pub commits : Bool
 
 abbrev pub serves : Client → Request → List ℕ → Step → Served
-serves k r rest s = record { contents = s.contents; walk = s.walk; client = record k { unread = rest; placed = k.placed ++ r ∷ []; owed = k.owed ++ owed_for r s }; updated = is_updated r s }
+serves k r rest s = record { contents = s.contents; walk = s.walk; client = record k { unread = rest; placed = k.placed ++ r ∷ []; owed = k.owed ++ owed_for r s }; updated = is_updated r s; commits = is_updated r s || is_optimize r }
 
 abbrev pub served : Contents → Walk → Client → Front Request → Served
 served c w k (Ok x) = serves k x.0 x.1 (apply false x.0 c w)
-served c w k (Err e) = record { contents = c; walk = w; client = k; updated = false }
+served c w k (Err e) = record { contents = c; walk = w; client = k; updated = false; commits = false }
 
 abbrev pub front_of : Client → Front Request
 front_of k = if is_ready k then request_at k.unread else Err Part
@@ -107,11 +118,11 @@ round_one c w k = served c w k (front_of k)
 
 -- one request of each, in ascending number
 abbrev pub round_all : Contents → Walk → List Client → Round
-round_all c w [] = record { contents = c; walk = w; clients = []; updated = false }
+round_all c w [] = record { contents = c; walk = w; clients = []; updated = false; commits = false }
 round_all c w (k ∷ ks) =
     let one = round_one c w k in
     let rest = round_all one.contents one.walk ks in
-    record { contents = rest.contents; walk = rest.walk; clients = one.client ∷ rest.clients; updated = one.updated || rest.updated }
+    record { contents = rest.contents; walk = rest.walk; clients = one.client ∷ rest.clients; updated = one.updated || rest.updated; commits = one.commits || rest.commits }
 
 -- ---- what an entry tells
 
@@ -124,10 +135,16 @@ at_conn c f k = if nat_eq k.conn c then f k else k
 abbrev pub new_client : ℕ → ℕ → Client
 new_client c n = record { conn = c; input = []; unread = []; placed = []; owed = []; out = []; gone = false; ended = false; extra = not (nat_lt n 64); stopped = false }
 
+abbrev pub with_read : List ℕ → Client → Client
+with_read bytes k = record k { input = k.input ++ bytes; unread = k.unread ++ bytes }
+
+abbrev pub with_end : Client → Client
+with_end k = record k { ended = true }
+
 abbrev pub heard : List Client → Ev → List ℕ → List Client
 heard ks (Opened c) bytes = ks ++ new_client c (length ks) ∷ []
-heard ks (Read c n) bytes = map (at_conn c (λ k. record k { input = k.input ++ bytes; unread = k.unread ++ bytes })) ks
-heard ks (Ended c) bytes = map (at_conn c (λ k. record k { ended = true })) ks
+heard ks (Read c n) bytes = map (at_conn c (with_read bytes)) ks
+heard ks (Ended c) bytes = map (at_conn c with_end) ks
 heard ks Quiet bytes = ks
 heard ks Shut bytes = ks
 
@@ -185,3 +202,24 @@ AsksRight w (Close c) = list_any (λ k. nat_eq k.conn c && not (is_over k)) w.th
 abbrev pub AllAsked : World → List Entry → Type 0
 AllAsked w [] = Unit {0}
 AllAsked w (e ∷ es) = AsksRight w e × AllAsked (happens w e) es
+
+-- ---- what a wire may give
+
+abbrev pub IsBytes : List ℕ → Type 0
+IsBytes bytes = (i : ℕ) → slice_index bytes i < 256
+
+-- what came is bytes, and no more events are to come only where nothing waits
+pub record Comes (busy : Bool) (ev : Ev) (bytes : List ℕ) : Type 0 where
+  pub are_bytes : IsBytes bytes
+  pub last : ev ≡ Shut → busy ≡ false
+
+abbrev pub Came : Entry → Type 0
+Came (Open at) = Unit {0}
+Came (Dial host port answer) = Unit {0}
+Came (Event paused busy ev bytes) = Comes busy ev bytes
+Came (Send c bytes answer) = Unit {0}
+Came (Close c) = Unit {0}
+
+abbrev pub AllCame : List Entry → Type 0
+AllCame [] = Unit {0}
+AllCame (e ∷ es) = Came e × AllCame es

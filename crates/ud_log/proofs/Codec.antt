@@ -4,6 +4,7 @@ use Rattle.std.proofs.lemmas.List.{take_at, drop_at, drop-drop, drop-take, take-
 use Rattle.std.proofs.lemmas.Bool.{cases_lt}
 use Rattle.std.proofs.lemmas.Bool.Decides.{nat_tests}
 use Rattle.ud_log.specs.Entries.{Entry}
+use Rattle.ud_log.specs.Grammar.{Fits, Each}
 use Rattle.ud_log.specs.Log.{spelled, number, entry_bytes, entries_bytes, entries_in, entry_at}
 
 pub length-spelled : (width n : ℕ) → length (spelled width n) ≡ width
@@ -15,13 +16,6 @@ number-spelled zero n low = omega arith
 number-spelled (suc width) n low =
     let rest : number (spelled width (n / 256)) ≡ n / 256 = number-spelled width (n / 256) (grind (arith, low)) in
     omega (arith, rest)
-
--- the numbers of an entry fit their fields
-pub record Fits (e : Entry) : Type 0 where
-  pub file : e.file < 256 ^ 4
-  pub at : e.at < 256 ^ 8
-  pub size : length e.bytes < 256 ^ 4
-  pub again : e.again < 256 ^ 4
 
 pub length-entry : (e : Entry) → length (entry_bytes e) ≡ 20 + length e.bytes
 unfolding entry_bytes
@@ -89,10 +83,6 @@ entries_cut most k e fits short =
     let size : number (take 4 (drop 12 bytes)) ≡ length e.bytes = ap number same ∙ number-spelled 4 (length e.bytes) fits.size in
     omega (arith, size, long, short, length-entry e))
     (cases_lt k 16))
-
-abbrev pub Each : List Entry → Type 0
-Each [] = Unit {0}
-Each (e ∷ es) = Fits e × Each es
 
 pub entries_all : (most : ℕ) (es : List Entry) (rest : List ℕ) → Each es → entries_in (length es + most) (entries_bytes es ++ rest) ≡ es ++ entries_in most rest
 entries_all most [] rest fit = ap (λ k. entries_in k rest) (omega arith)

@@ -6,3 +6,4 @@ pub mod Logs
 pub mod Framing
 pub mod Heading
 pub mod Scanning
+pub mod Exactness

@@ -6,7 +6,8 @@ use Rattle.std.proofs.lemmas.Bool.Decides.{nat_tests}
 use Rattle.ud_log.specs.Entries.{Entry}
 use Rattle.tc_base.specs.Files.{Files}
 use Rattle.ud_log.specs.Log.{spelled, number, entry_bytes, entries_bytes, entries_in, numbers_in, numbers_bytes, magic, lengths, entries}
-use Rattle.ud_log.proofs.Codec.{number-spelled, Fits, length-entry, Each, entries_all, entries_cut}
+use Rattle.ud_log.specs.Grammar.{Fits, Each}
+use Rattle.ud_log.proofs.Codec.{number-spelled, length-entry, entries_all, entries_cut}
 use Rattle.ud_log.specs.Good.{IsGood, AllGood, AllShort}
 use Rattle.ud_log.specs.Undo.{is_data, lens_from, lens_of, place_of, length_of, agrees, all_short, all_formed, all_inside, rule, Log, nothing, undoes, broken, log_of, header, log_bytes}
 

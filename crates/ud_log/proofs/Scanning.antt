@@ -20,16 +20,16 @@ spelled-number (b ∷ bs) fits =
     let tail : (b + 256 * number bs) / 256 ≡ number bs = omega (arith, low) in
     λ i. head i ∷ (ap (spelled (length bs)) tail ∙ spelled-number bs (λ k. fits (suc k))) i
 
-field : (width n : ℕ) (bs : List ℕ) → IsBytes bs → length bs ≡ width → n ≡ number bs → spelled width n ≡ bs
+pub field : (width n : ℕ) (bs : List ℕ) → IsBytes bs → length bs ≡ width → n ≡ number bs → spelled width n ≡ bs
 field width n bs fits long is = (λ i. spelled (sym long i) (is i)) ∙ spelled-number bs fits
 
-bytes_take : (n : ℕ) (l : List ℕ) → IsBytes l → IsBytes (take n l)
+pub bytes_take : (n : ℕ) (l : List ℕ) → IsBytes l → IsBytes (take n l)
 bytes_take n l fits k = ⊎_elim (λ low. subst (λ x. x < 256) (sym (get_or-take n l k 0 low)) (fits k)) (λ high. subst (λ x. x < 256) (sym (past n l k high)) (omega arith)) (cases_lt k n)
   where
     past : (m : ℕ) (xs : List ℕ) (j : ℕ) → m ≤ j → get_or (take m xs) j 0 ≡ 0
     past m xs j high = grind (arith, places)
 
-bytes_drop : (n : ℕ) (l : List ℕ) → IsBytes l → IsBytes (drop n l)
+pub bytes_drop : (n : ℕ) (l : List ℕ) → IsBytes l → IsBytes (drop n l)
 bytes_drop n l fits k = subst (λ x. x < 256) (sym (get_or-drop n l k 0)) (fits (n + k))
 
 five : (a b c d e l : List ℕ) (s : ℕ) → a ≡ take 4 l → b ≡ take 8 (drop 4 l) → c ≡ take 4 (drop 12 l) → d ≡ take s (drop 16 l) → e ≡ take 4 (drop (16 + s) l) → a ++ b ++ c ++ d ++ e ≡ take (20 + s) l

@@ -1,4 +1,5 @@
 pub mod Entries
+pub mod Good
+pub mod Grammar
 pub mod Log
 pub mod Undo
-pub mod Good

@@ -6,10 +6,12 @@
 //! An array of 18 has one item for each data file: that of file 0, then those of the files 2 to 18.
 #![tactic(auto)]
 
+mod laws;
 mod reading;
 mod spell;
 mod tests;
 
+pub use laws::grammar_is_exact;
 pub use reading::{Head, read_again, read_head, read_lens};
 pub use spell::{DATA_FILES, HEADER, file_at, frame, header_of, place};
 pub use tests::{are_short, begins_well, is_formed};

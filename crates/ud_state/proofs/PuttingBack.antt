@@ -8,7 +8,8 @@ use Rattle.tc_io.specs.Images.{written, reads, Calls, of, now, Images, IsLost}
 use Rattle.ud_log.specs.Entries.{Entry, put_back}
 use Rattle.ud_log.specs.Log.{entry_bytes, entries_bytes, entries}
 use Rattle.ud_log.specs.Undo.{is_data, is_formed, of_file}
-use Rattle.ud_log.proofs.Codec.{Fits, length-entry}
+use Rattle.ud_log.specs.Grammar.{Fits}
+use Rattle.ud_log.proofs.Codec.{length-entry}
 use Rattle.ud_log.proofs.Places.{length-wrote}
 use Rattle.ud_state.specs.State.{Replay}
 use Rattle.ud_state.specs.Since.{Quiet}

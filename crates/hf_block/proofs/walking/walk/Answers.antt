@@ -4,6 +4,7 @@ use Rattle.hf_block.specs.declared.block.BlockAt.{BlockAt}
 use Rattle.hf_block.specs.declared.walking.WalkErr.{WalkErr}
 use Rattle.hf_block.specs.declared.walking.WalkErr.TheVariants.{Broken}
 use Rattle.hf_block.specs.Pieces.{IsFilled}
+use Rattle.hf_block.specs.Rows.{StandInRow}
 use Rattle.hf_block.specs.Walks.{Walked, between}
 use Rattle.hf_block.specs.OnlyReads.{reads_refl, reads_then}
 use Rattle.hf_block.proofs.Listing.{walked_none, walked_then, between_on}
@@ -18,6 +19,7 @@ loop-at-init g c = record {
   low = omega arith;
   high = c.requires.head.numbers.size_least;
   long = refl;
+  row = subst (λ (b : List BlockAt). StandInRow c.args.head.now.first c.args.head.now.first b) (sym c.new-blocks.ensures) refl;
   walked = λ t. subst (λ (b : List BlockAt). Walked c.unit-unit.result c.args.head.now.first c.args.head.now.first (between c.args.head.now.first c.args.head.now.size (g.S.Space.now c.args.space.now c.args.file)) [] b) (sym c.new-blocks.ensures) (walked_none _ _ _ []);
 }
 
@@ -36,6 +38,7 @@ loop-at-preserved g c =
       low = omega (arith, v.low, c.in-Ok.ensures.on);
       high = c.in-Ok.ensures.on.1;
       long = omega (arith, sized, v.long, length-append c.walk_piece.new.chunk (drop n c.loop-at.chunk), length-drop n c.loop-at.chunk, c.min-len.ensures);
+      row = c.in-Ok.ensures.row c.args.head.now.first v.row;
       walked = λ t.
           let f : List ℕ = g.S.Space.now c.args.space.now c.args.file in
           let rest = ap (λ (l : List ℕ). between c.loop-at.at c.args.head.now.size l) (v.reads.files t c.args.file) ∙ between_on c.args.head.now.first c.loop-at.at c.args.head.now.size f v.low v.high in

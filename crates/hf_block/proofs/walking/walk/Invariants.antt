@@ -1,4 +1,5 @@
 use Rattle.std.proofs.Common.{◌≡◌, ◌-◌, ◌≤◌, [], length}
+use Rattle.hf_block.specs.Rows.{StandInRow}
 use Rattle.hf_block.specs.Walks.{Walked, between}
 use Rattle.hf_block.specs.OnlyReads.{OnlyReads}
 use Rattle.hf_block.proofs.walking.walk.Given as goal
@@ -9,6 +10,7 @@ invariant-loop-at g l = record {
   low : l.head.first ≤ l.at;
   high : l.at ≤ l.end;
   long : length l.chunk ≡ 4096;
+  row : StandInRow l.head.first l.at l.blocks;
   walked : g.S.Space.tells → Walked l.unit l.head.first l.at (between l.head.first l.end (g.S.Space.now l.initial.space l.file)) [] l.blocks;
 }
 

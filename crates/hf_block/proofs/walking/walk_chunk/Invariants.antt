@@ -1,9 +1,15 @@
 use Rattle.std.proofs.Common.{◌≡◌, ℕ, ◌+◌, ◌-◌, ◌≤◌, List, length, take}
+use Rattle.hf_block.specs.Rows.{StandInRow}
 use Rattle.hf_block.specs.Walks.{Walked}
 use Rattle.hf_block.proofs.walking.walk_chunk.Given as goal
 
 abbrev pub invariant-loop-next : goal.invariant-loop-next
-invariant-loop-next l = (l.at ≤ l.next) × (l.next ≤ l.end) × ((bytes : List ℕ) → l.chunk ≡ take (length l.chunk) bytes → l.at + length bytes ≡ l.end → Walked l.unit l.at l.next bytes l.initial.list l.list)
+invariant-loop-next l = record {
+  low : l.at ≤ l.next;
+  high : l.next ≤ l.end;
+  row : (first : ℕ) → StandInRow first l.at l.initial.list → StandInRow first l.next l.list;
+  walked : (bytes : List ℕ) → l.chunk ≡ take (length l.chunk) bytes → l.at + length bytes ≡ l.end → Walked l.unit l.at l.next bytes l.initial.list l.list;
+}
 
 abbrev pub decreases-loop-next : goal.decreases-loop-next
 decreases-loop-next l = l.end - l.next

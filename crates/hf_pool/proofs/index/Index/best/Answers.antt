@@ -1,5 +1,5 @@
 use Rattle.std.specs.BTreeSet as set
-use Rattle.hf_pool.specs.Frees.{pair_cmp}
+use Rattle.hf_pool.specs.Orders.{pair_cmp}
 use Rattle.hf_pool.proofs.Indexing.{best_some, best_none}
 use Rattle.hf_pool.proofs.index.Index.best.Goals as goal
 

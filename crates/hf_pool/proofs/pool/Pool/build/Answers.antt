@@ -4,8 +4,9 @@ use Rattle.std.specs.Ordering.{nat_cmp}
 use Rattle.std.proofs.lemmas.List.{get_or_default}
 use Rattle.hf_block.specs.declared.block.BlockAt.{BlockAt}
 use Rattle.hf_pool.specs.declared.index.Index.{Index}
-use Rattle.hf_pool.specs.Lists.{IsListed}
-use Rattle.hf_pool.proofs.Building.{Built, next_is, absent, built_skip, built_more, built_all}
+use Rattle.hf_block.specs.Rows.{IsListed}
+use Rattle.hf_pool.proofs.Building.{Built, row_end, next_is, absent, built_skip, built_more, built_all}
+use Rattle.hf_layout.proofs.Listed.{listed_pool}
 use Rattle.hf_pool.proofs.pool.Pool.build.Goals as goal
 use Rattle.hf_pool.proofs.pool.Pool.build.Goals.{then-block+in_ok-insert, else-block}
 
@@ -37,3 +38,7 @@ pub returns-clause-free : goal.returns-clause-free
 returns-clause-free c = λ q t.
     let all = built_all c.args.size c.loop-block.block-index c.as_slice-block-items.result.now (λ (p : ℕ). tree.get nat_cmp c.loop-block.index.by_place p) c.loop-block-test.false c.loop-block.invariant q t in
     (λ there. subst (λ (l : List BlockAt). IsListed l q t) c.as_slice-block-items.ensures (all.0 there), λ k. all.1 (subst (λ (l : List BlockAt). IsListed l q t) (sym c.as_slice-block-items.ensures) k))
+
+pub returns-clause-laid : goal.returns-clause-laid
+returns-clause-laid c = λ pieces bytes room within filled is.
+    listed_pool c.args.unit c.args.first c.args.size pieces c.args.blocks.now (λ (q : ℕ). tree.get nat_cmp c.loop-block.index.by_place q) bytes room (row_end c.args.first c.args.size c.args.blocks.now c.requires.blocks) within filled is (returns-clause-free c)

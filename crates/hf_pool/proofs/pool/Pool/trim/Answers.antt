@@ -3,11 +3,13 @@ use Rattle.std.specs.BTreeMap as tree
 use Rattle.std.specs.Ordering.{nat_cmp}
 use Rattle.hf_pool.specs.Trims.{row_end}
 use Rattle.hf_pool.proofs.Indexing.{none_behind, gone_more, kept_more, row_more}
+use Rattle.hf_pool.proofs.Laying.{trimmed}
 use Rattle.hf_pool.proofs.pool.Pool.trim.Goals as goal
 
 pub loop-place-init : goal.loop-place-init
 loop-place-init c = record {
   lower = omega arith;
+  unit = refl;
   kept = λ q h. refl;
   gone = none_behind (λ q. tree.get nat_cmp c.args.self.now.index.by_place q) c.args.self.now.size c.args.self.now.within;
   row = row_end c.args.self.now.size;
@@ -23,7 +25,13 @@ loop-place-preserved c =
     let less = λ (q : ℕ). tree.get nat_cmp c.remove.new.self.by_place q in
     record {
       lower = omega (arith, b.2, v.lower);
+      unit = v.unit;
       kept = kept_more first now less c.in-Some.place c.loop-place.self.size (omega (arith, b.2)) v.kept c.remove.ensures;
       gone = gone_more now less c.in-Some.place b.0 c.loop-place.self.size c.loop-place.self.index.apart b.1 b.2 v.gone c.remove.ensures;
       row = row_more first now c.in-Some.place b.0 c.loop-place.self.size c.args.self.now.size w.0 b.1 b.2 v.kept v.row;
     }
+
+pub returns-clause-laid : goal.returns-clause-laid
+returns-clause-laid c = λ first pieces lent bytes laid.
+    let v = c.loop-place.invariant in
+    trimmed c.args.self.now.unit first c.args.self.now.size c.loop-place.self.size pieces (λ (q : ℕ). tree.get nat_cmp c.args.self.now.index.by_place q) (λ (q : ℕ). tree.get nat_cmp c.loop-place.self.index.by_place q) lent bytes laid v.lower v.kept v.gone v.row

@@ -9,6 +9,7 @@ invariant-loop-place l = record {
   lower : l.self.size ≤ l.initial.self.size;
   kept : (q : ℕ) → q < l.self.size → tree.get nat_cmp l.self.index.by_place q ≡ tree.get nat_cmp l.initial.self.index.by_place q;
   gone : (q : ℕ) → l.self.size ≤ q → tree.get nat_cmp l.self.index.by_place q ≡ None;
+  unit : l.self.unit ≡ l.initial.self.unit;
   row : Row (λ q. tree.get nat_cmp l.initial.self.index.by_place q) l.self.size l.initial.self.size;
 }
 

@@ -1,0 +1,41 @@
+-- What records written into a file make of its blocks.
+use Rattle.std.specs.Prelude.{◌≡◌, ℕ, ◌+◌, ◌-◌, ◌<◌, List, length, Some, None}
+use Rattle.tc_base.specs.Files.{wrote}
+use Rattle.hf_block.specs.Heads.{free_head}
+use Rattle.hf_block.specs.Pieces.{Record, Piece, held, spell, size_of, IsWhole}
+use Rattle.hf_layout.specs.Frees.{Frees, LieInside, with_block, without}
+use Rattle.hf_layout.specs.Layout.{LaidOut, HasBlock, Stands, Writes, record_at}
+
+-- a record over a whole block of its size that isn't the pool's: a block lent out, or a record before
+abbrev pub FillsBlock : Type 0
+FillsBlock =
+    (unit first end place : ℕ) (pieces : List Piece) (frees lent : Frees) (bytes : List ℕ) (r : Record) → LaidOut unit first end pieces frees lent bytes → IsWhole unit (held r) → HasBlock first pieces place (size_of (held r)) → frees place ≡ None
+    → Writes unit first end pieces frees (without lent place) place r (wrote place (spell (held r)) bytes)
+
+-- a record over the front of a larger one: the rest, once it has its head, is a free block lent out
+abbrev pub FillsFront : Type 0
+FillsFront =
+    (unit first end place size : ℕ) (pieces : List Piece) (frees lent : Frees) (bytes : List ℕ) (r : Record) → LaidOut unit first end pieces frees lent bytes → IsWhole unit (held r) → HasBlock first pieces place size → frees place ≡ None → size_of (held r) < size
+    → Writes unit first end pieces frees (with_block (without lent place) (place + size_of (held r)) (size - size_of (held r))) place r (wrote (place + size_of (held r)) (free_head (size - size_of (held r))) (wrote place (spell (held r)) bytes))
+
+-- a record behind all blocks
+abbrev pub StandsBehind : Type 0
+StandsBehind =
+    (unit first end : ℕ) (pieces : List Piece) (frees lent : Frees) (bytes : List ℕ) (r : Record) → LaidOut unit first end pieces frees lent bytes → IsWhole unit (held r)
+    → Writes unit first (end + size_of (held r)) pieces frees lent end r (wrote end (spell (held r)) bytes)
+
+-- what is lent out is a block of the file
+abbrev pub LentIsBlock : Type 0
+LentIsBlock = (unit first end place size : ℕ) (pieces : List Piece) (frees lent : Frees) (bytes : List ℕ) → LaidOut unit first end pieces frees lent bytes → lent place ≡ Some size → HasBlock first pieces place size
+
+-- what a block of the file is to the pool
+abbrev pub BlockStands : Type 0
+BlockStands = (unit first end place size : ℕ) (pieces : List Piece) (frees lent : Frees) (bytes : List ℕ) → LaidOut unit first end pieces frees lent bytes → HasBlock first pieces place size → Stands unit first end place size frees
+
+-- a record is a block of the file that is neither the pool's nor lent out
+abbrev pub RecordIsBlock : Type 0
+RecordIsBlock = (unit first end place : ℕ) (pieces : List Piece) (frees lent : Frees) (bytes : List ℕ) (r : Record) → LaidOut unit first end pieces frees lent bytes → record_at first pieces place ≡ Some r → HasBlock first pieces place (size_of (held r)) × (frees place ≡ None) × (lent place ≡ None)
+
+-- the pool's free blocks lie in the file
+abbrev pub PoolLiesInside : Type 0
+PoolLiesInside = (unit first end : ℕ) (pieces : List Piece) (frees lent : Frees) (bytes : List ℕ) → LaidOut unit first end pieces frees lent bytes → LieInside frees (length bytes)

@@ -1,0 +1,334 @@
+-- Closings: a connection that is closed leaves the list, and no other does.
+use Rattle.std.proofs.Common.{◌≡◌, ℕ, zero, suc, ◌+◌, ◌<◌, ◌≤◌, Bool, true, false, not, cond, List, [], ◌∷◌, ◌++◌, length, take, drop, get_or, map, refl, sym, ap, subst, ◌∙◌, append_assoc, arith, eq-eqb, length-append, Ok, Err}
+use Rattle.std.specs.Prelude.{nat_eq, ◌||◌, ◌&&◌, OnOk, Result, IsErr, remove}
+use Rattle.std.specs.List.{list_any, filter}
+use Rattle.std.proofs.lemmas.List.{append-nil}
+use Rattle.tc_base.specs.declared.fault.Fault.{Fault}
+use Rattle.tc_io.specs.Told.{Adds}
+use Rattle.tc_io.specs.Script.{Plays}
+use Rattle.tc_io.specs.Lines.{without}
+use Rattle.tc_io.specs.declared.wire.Entry.{Entry}
+use Rattle.tc_io.specs.declared.wire.Entry.TheVariants.{Close}
+use Rattle.ty_world.specs.World as world
+use Rattle.ty_world.specs.World.{Client, World, happens, world_after, is_rested, AllAsked, AllCame}
+use Rattle.ty_rounds.specs.Peers.{numbers, is_over}
+use Rattle.ty_rounds.specs.Holding.{Holds, AllHold, AllFine, AreApart, Wired, Same}
+use Rattle.ty_rounds.specs.Sending.{NoneRestless}
+use Rattle.ty_rounds.specs.Closings.{NoneOver, ClosedFront, ClosesFront, ClosedAll, ClosesAll}
+use Rattle.ty_rounds.specs.Turns.{Told, MayPlay}
+use Rattle.ty_rounds.specs.declared.peer.Peer.{Peer}
+use Rattle.ty_rounds.proofs.Places.{if_true, if_false, none_split, none_both, eq_swap}
+use Rattle.ty_rounds.proofs.Hearing.{more_hold}
+use Rattle.ty_rounds.proofs.Waiting.{over_is}
+use Rattle.ty_rounds.proofs.SendLaws.{after_more, asked_more, came_more, same_then}
+use Rattle.ty_rounds.proofs.Telling.{Adds-then, Plays-then, Adds-none, Plays-none}
+
+abbrev other : ℕ → Client → Bool
+other c k = not (nat_eq k.conn c)
+
+-- ---- a list of clients in which one number stands once
+
+stay_all : (c : ℕ) (ps : List Peer) (ks : List Client) → AllHold ps ks → list_any (nat_eq c) (numbers ps) ≡ false → filter (other c) ks ≡ ks
+stay_all c [] [] a e = refl
+stay_all c [] (k ∷ ks) a e = absurd a
+stay_all c (p ∷ ps) [] a e = absurd a
+stay_all c (p ∷ ps) (k ∷ ks) a e =
+    let s = none_split (nat_eq c p.conn) (list_any (nat_eq c) (numbers ps)) e in
+    if_true (other c k) _ _ (ap (λ (n : ℕ). not (nat_eq n c)) a.0.conn ∙ ap not (eq_swap c p.conn s.0)) ∙ ap (λ (l : List Client). k ∷ l) (stay_all c ps ks a.1 s.1)
+
+go_none : (c : ℕ) (ps : List Peer) (ks : List Client) → AllHold ps ks → list_any (nat_eq c) (numbers ps) ≡ false → filter (λ (k : Client). nat_eq k.conn c) ks ≡ []
+go_none c [] [] a e = refl
+go_none c [] (k ∷ ks) a e = absurd a
+go_none c (p ∷ ps) [] a e = absurd a
+go_none c (p ∷ ps) (k ∷ ks) a e =
+    let s = none_split (nat_eq c p.conn) (list_any (nat_eq c) (numbers ps)) e in
+    if_false (nat_eq k.conn c) _ _ (ap (λ (n : ℕ). nat_eq n c) a.0.conn ∙ eq_swap c p.conn s.0) ∙ go_none c ps ks a.1 s.1
+
+ask_none : (c : ℕ) (ps : List Peer) (ks : List Client) → AllHold ps ks → list_any (nat_eq c) (numbers ps) ≡ false → list_any (λ k. nat_eq k.conn c && not (world.is_over k)) ks ≡ false
+ask_none c [] [] a e = refl
+ask_none c [] (k ∷ ks) a e = absurd a
+ask_none c (p ∷ ps) [] a e = absurd a
+ask_none c (p ∷ ps) (k ∷ ks) a e =
+    let s = none_split (nat_eq c p.conn) (list_any (nat_eq c) (numbers ps)) e in
+    none_both (nat_eq k.conn c && not (world.is_over k)) (list_any (λ k. nat_eq k.conn c && not (world.is_over k)) ks) (first (nat_eq k.conn c) (not (world.is_over k)) (ap (λ (n : ℕ). nat_eq n c) a.0.conn ∙ eq_swap c p.conn s.0)) (ask_none c ps ks a.1 s.1)
+  where
+  first : (a b : Bool) → a ≡ false → (a && b) ≡ false
+  first false b e = refl
+  first true b e = absurd cc
+
+apart_from : (x : Peer) (front back : List Peer) (p : Peer) → list_any (nat_eq x.conn) (numbers (front ++ p ∷ back)) ≡ false → nat_eq x.conn p.conn ≡ false
+apart_from x [] back p e = (none_split (nat_eq x.conn p.conn) (list_any (nat_eq x.conn) (numbers back)) e).0
+apart_from x (y ∷ front) back p e = apart_from x front back p (none_split (nat_eq x.conn y.conn) (list_any (nat_eq x.conn) (numbers (front ++ p ∷ back))) e).1
+
+-- the closing of one that is over, behind those that stay and in front of the rest
+record Leaves (c : ℕ) (stay rest : List Client) (k : Client) : Type 0 where
+  there : filter (other c) (stay ++ k ∷ rest) ≡ stay ++ rest
+  gone : filter (λ (j : Client). nat_eq j.conn c) (stay ++ k ∷ rest) ≡ k ∷ []
+  asked : list_any (λ j. nat_eq j.conn c && not (world.is_over j)) (stay ++ k ∷ rest) ≡ false
+
+leaves : (front back : List Peer) (p : Peer) (stay rest : List Client) (k : Client) → AllHold front stay → Holds p k → AllHold back rest → AreApart (numbers (front ++ p ∷ back)) → world.is_over k ≡ true → Leaves p.conn stay rest k
+leaves [] back p [] rest k f h b apart over =
+    let same : nat_eq k.conn p.conn ≡ true = eq-eqb k.conn p.conn h.conn in
+    record {
+      there = if_false (other p.conn k) _ _ (ap not same) ∙ stay_all p.conn back rest b apart.0;
+      gone = if_true (nat_eq k.conn p.conn) _ _ same ∙ ap (λ (l : List Client). k ∷ l) (go_none p.conn back rest b apart.0);
+      asked = none_both (nat_eq k.conn p.conn && not (world.is_over k)) (list_any (λ j. nat_eq j.conn p.conn && not (world.is_over j)) rest) (second (nat_eq k.conn p.conn) (not (world.is_over k)) (ap not over)) (ask_none p.conn back rest b apart.0);
+    }
+  where
+  second : (a b : Bool) → b ≡ false → (a && b) ≡ false
+  second true b e = e
+  second false b e = refl
+leaves [] back p (j ∷ stay) rest k f h b apart over = absurd f
+leaves (x ∷ front) back p [] rest k f h b apart over = absurd f
+leaves (x ∷ front) back p (j ∷ stay) rest k f h b apart over =
+    let r = leaves front back p stay rest k f.1 h b apart.1 over in
+    let away : nat_eq j.conn p.conn ≡ false = ap (λ (n : ℕ). nat_eq n p.conn) f.0.conn ∙ apart_from x front back p apart.0 in
+    record {
+      there = if_true (other p.conn j) _ _ (ap not away) ∙ ap (λ (l : List Client). j ∷ l) r.there;
+      gone = if_false (nat_eq j.conn p.conn) _ _ away ∙ r.gone;
+      asked = none_both (nat_eq j.conn p.conn && not (world.is_over j)) (list_any (λ i. nat_eq i.conn p.conn && not (world.is_over i)) (stay ++ k ∷ rest)) (first (nat_eq j.conn p.conn) (not (world.is_over j)) away) r.asked;
+    }
+  where
+  first : (a b : Bool) → a ≡ false → (a && b) ≡ false
+  first false b e = refl
+  first true b e = absurd cc
+
+-- ---- numbers
+
+without_none : (c : ℕ) (ns : List ℕ) → list_any (nat_eq c) ns ≡ false → without c ns ≡ ns
+without_none c [] e = refl
+without_none c (n ∷ ns) e =
+    let s = none_split (nat_eq c n) (list_any (nat_eq c) ns) e in
+    if_true (not (nat_eq n c)) _ _ (ap not (eq_swap c n s.0)) ∙ ap (λ (l : List ℕ). n ∷ l) (without_none c ns s.1)
+
+without_one : (front back : List Peer) (p : Peer) → AreApart (numbers (front ++ p ∷ back)) → without p.conn (numbers (front ++ p ∷ back)) ≡ numbers (front ++ back)
+without_one [] back p apart = if_false (not (nat_eq p.conn p.conn)) _ _ (ap not (eq-eqb p.conn p.conn refl)) ∙ without_none p.conn (numbers back) apart.0
+without_one (x ∷ front) back p apart = if_true (not (nat_eq x.conn p.conn)) _ _ (ap not (apart_from x front back p apart.0)) ∙ ap (λ (l : List ℕ). x.conn ∷ l) (without_one front back p apart.1)
+
+any_less : (c : ℕ) (front back : List Peer) (p : Peer) → list_any (nat_eq c) (numbers (front ++ p ∷ back)) ≡ false → list_any (nat_eq c) (numbers (front ++ back)) ≡ false
+any_less c [] back p e = (none_split (nat_eq c p.conn) (list_any (nat_eq c) (numbers back)) e).1
+any_less c (x ∷ front) back p e = let s = none_split (nat_eq c x.conn) (list_any (nat_eq c) (numbers (front ++ p ∷ back))) e in none_both (nat_eq c x.conn) (list_any (nat_eq c) (numbers (front ++ back))) s.0 (any_less c front back p s.1)
+
+apart_less : (front back : List Peer) (p : Peer) → AreApart (numbers (front ++ p ∷ back)) → AreApart (numbers (front ++ back))
+apart_less [] back p a = a.1
+apart_less (x ∷ front) back p a = (any_less x.conn front back p a.0, apart_less front back p a.1)
+
+-- ---- where the one that is looked at stands
+
+record Here (ps : List Peer) (i : ℕ) (p : Peer) : Type 0 where
+  front : List Peer
+  back : List Peer
+  is : ps ≡ front ++ p ∷ back
+  at : length front ≡ i
+  left : remove ps i ≡ front ++ back
+
+here : (ps : List Peer) (i : ℕ) (p : Peer) → i < length ps → p ≡ get_or ps i p → Here ps i p
+here [] i p lt e = absurd (omega (arith, lt))
+here (x ∷ ps) zero p lt e = record { front = []; back = ps; is = ap (λ (z : Peer). z ∷ ps) (sym e); at = refl; left = refl }
+here (x ∷ ps) (suc i) p lt e = let h = here ps i p (omega (arith, lt)) e in record {
+  front = x ∷ h.front;
+  back = h.back;
+  is = ap (λ (l : List Peer). x ∷ l) h.is;
+  at = ap suc h.at;
+  left = ap (λ (l : List Peer). x ∷ l) h.left;
+}
+
+pub closed_wired : (conns conns' : List ℕ) (ps ps' : List Peer) (i : ℕ) (p : Peer) → i < length ps → p ≡ get_or ps i p → ps' ≡ remove ps i → conns' ≡ without p.conn conns → Wired conns ps → Wired conns' ps'
+closed_wired conns conns' ps ps' i p lt e less gone w =
+    let h = here ps i p lt e in
+    let apart : AreApart (numbers (h.front ++ p ∷ h.back)) = subst (λ (l : List Peer). AreApart (numbers l)) h.is (subst AreApart w.same w.apart) in
+    let left : ps' ≡ h.front ++ h.back = less ∙ h.left in
+    let same : conns' ≡ numbers ps' = gone ∙ ap (without p.conn) w.same ∙ ap (λ (l : List Peer). without p.conn (numbers l)) h.is ∙ without_one h.front h.back p apart ∙ ap numbers (sym left) in
+    record { same = same; apart = subst AreApart (sym same) (subst (λ (l : List Peer). AreApart (numbers l)) (sym left) (apart_less h.front h.back p apart)) }
+
+-- ---- what stays fine
+
+fine_holds : (ps : List Peer) (ks : List Client) → AllHold ps ks → AllFine ks
+fine_holds [] [] a = tt
+fine_holds [] (k ∷ ks) a = absurd a
+fine_holds (p ∷ ps) [] a = absurd a
+fine_holds (p ∷ ps) (k ∷ ks) a = ((p.session.waiting, a.0.owed), fine_holds ps ks a.1)
+
+fine_more : (ks js : List Client) → AllFine ks → AllFine js → AllFine (ks ++ js)
+fine_more [] js a b = b
+fine_more (k ∷ ks) js a b = (a.0, fine_more ks js a.1 b)
+
+any_append : (f : Client → Bool) (ks js : List Client) → list_any f ks ≡ false → list_any f js ≡ false → list_any f (ks ++ js) ≡ false
+any_append f [] js a b = b
+any_append f (k ∷ ks) js a b = let s = none_split (f k) (list_any f ks) a in none_both (f k) (list_any f (ks ++ js)) s.0 (any_append f ks js s.1 b)
+
+any_drop : (f : Client → Bool) (ks js : List Client) (k : Client) → list_any f (ks ++ k ∷ js) ≡ false → list_any f (ks ++ js) ≡ false
+any_drop f [] js k a = (none_split (f k) (list_any f js) a).1
+any_drop f (x ∷ ks) js k a = let s = none_split (f x) (list_any f (ks ++ k ∷ js)) a in none_both (f x) (list_any f (ks ++ js)) s.0 (any_drop f ks js k s.1)
+
+-- ---- the loop
+
+pub none_closed : (a : Told) (x : MayPlay) (ps : List Peer) → ClosesFront a a x x ps ps 0
+none_closed a x ps = record {
+  entries = [];
+  told = Adds-none a;
+  plays = Plays-none x;
+  ends = λ w held past rested. record {
+    front = [];
+    back = ps;
+    stay = [];
+    rest = w.there;
+    peers_are = refl;
+    clients_are = refl;
+    at = refl;
+    held = tt;
+    left = held;
+    none_over = refl;
+    past = past;
+    same = record { contents = refl; walk = refl; marks = refl; shut = refl; events = refl; opens = refl };
+    asked = tt;
+    came = tt;
+    rested = rested;
+  };
+}
+
+same_parts : (front back front' back' : List Peer) → front ++ back ≡ front' ++ back' → length front ≡ length front' → (front ≡ front') × (back ≡ back')
+same_parts [] back [] back' e l = (refl, e)
+same_parts [] back (y ∷ front') back' e l = absurd (omega (arith, l))
+same_parts (x ∷ front) back [] back' e l = absurd (omega (arith, l))
+same_parts (x ∷ front) back (y ∷ front') back' e l =
+    let first : x ≡ y = cc in
+    let rest : front ++ back ≡ front' ++ back' = cc in
+    let r = same_parts front back front' back' rest (omega (arith, l)) in
+    (ap (λ (z : Peer). z ∷ front) first ∙ ap (λ (l : List Peer). y ∷ l) r.0, r.1)
+
+-- the one that is looked at, and the client that it stands for
+record Looks (f : List Peer) (now : List Peer) (i : ℕ) (p : Peer) (stay rest : List Client) : Type 0 where
+  back : List Peer
+  client : Client
+  behind : List Client
+  peers_are : now ≡ f ++ p ∷ back
+  clients_are : rest ≡ client ∷ behind
+  holds : Holds p client
+  left : AllHold back behind
+
+looks : (front back now : List Peer) (i : ℕ) (p : Peer) (stay rest : List Client) → now ≡ front ++ back → length front ≡ i → i < length now → p ≡ get_or now i p → AllHold back rest → Looks front now i p stay rest
+looks front [] now i p stay rest is at lt e a = absurd (omega (arith, lt, at, ap length is, length-append front []))
+looks front (q ∷ back) now i p stay [] is at lt e a = absurd a
+looks front (q ∷ back) now i p stay (k ∷ behind) is at lt e a =
+    let h = here now i p lt e in
+    let s = same_parts front (q ∷ back) h.front (p ∷ h.back) (sym is ∙ h.is) (at ∙ sym h.at) in
+    let one : q ≡ p = head q p back h.back s.1 in
+    record {
+      back = back;
+      client = k;
+      behind = behind;
+      peers_are = is ∙ ap (λ (z : Peer). front ++ z ∷ back) one;
+      clients_are = refl;
+      holds = subst (λ (z : Peer). Holds z k) one a.0;
+      left = a.1;
+    }
+  where
+  head : (q p : Peer) (b c : List Peer) → q ∷ b ≡ p ∷ c → q ≡ p
+  head q p b c e = ap (λ (l : List Peer). get_or l 0 q) e
+
+remove_here : (front back : List Peer) (p : Peer) → remove (front ++ p ∷ back) (length front) ≡ front ++ back
+remove_here [] back p = refl
+remove_here (x ∷ front) back p = ap (λ (l : List Peer). x ∷ l) (remove_here front back p)
+
+pub one_stays : (a b : Told) (x y : MayPlay) (ps now : List Peer) (i : ℕ) (p : Peer) → i < length now → p ≡ get_or now i p → is_over p ≡ false → ClosesFront a b x y ps now i → ClosesFront a b x y ps now (i + 1)
+one_stays a b x y ps now i p lt e over f = record {
+  entries = f.entries;
+  told = f.told;
+  plays = f.plays;
+  ends = λ w held past rested.
+      let c = f.ends w held past rested in
+      let l = looks c.front c.back now i p c.stay c.rest c.peers_are c.at lt e c.left in
+      record {
+        front = c.front ++ p ∷ [];
+        back = l.back;
+        stay = c.stay ++ l.client ∷ [];
+        rest = l.behind;
+        peers_are = l.peers_are ∙ sym (append_assoc c.front (p ∷ []) l.back);
+        clients_are = c.clients_are ∙ ap (λ (r : List Client). c.stay ++ r) l.clients_are ∙ sym (append_assoc c.stay (l.client ∷ []) l.behind);
+        at = omega (arith, c.at, length-append c.front (p ∷ []));
+        held = more_hold c.front c.stay p l.client c.held l.holds;
+        left = l.left;
+        none_over = any_append world.is_over c.stay (l.client ∷ []) c.none_over (none_both (world.is_over l.client) false (over_is p l.client l.holds ∙ over) refl);
+        past = c.past;
+        same = c.same;
+        asked = c.asked;
+        came = c.came;
+        rested = c.rested;
+      };
+}
+
+pub one_closes : (a b d : Told) (x y z : MayPlay) (ps now now' : List Peer) (i : ℕ) (p : Peer) → i < length now → p ≡ get_or now i p → is_over p ≡ true → AreApart (numbers now) → now' ≡ remove now i → ClosesFront a b x y ps now i → Adds b d (Close p.conn ∷ []) → Plays y z (Close p.conn ∷ []) → ClosesFront a d x z ps now' i
+one_closes a b d x y z ps now now' i p lt e over apart less f told plays = record {
+  entries = f.entries ++ Close p.conn ∷ [];
+  told = Adds-then a b d f.entries (Close p.conn ∷ []) f.told told;
+  plays = Plays-then x y z f.entries (Close p.conn ∷ []) f.plays plays;
+  ends = λ w held past rested.
+      let c = f.ends w held past rested in
+      let l = looks c.front c.back now i p c.stay c.rest c.peers_are c.at lt e c.left in
+      let v = world_after f.entries w in
+      let apart' : AreApart (numbers (c.front ++ p ∷ l.back)) = subst (λ (q : List Peer). AreApart (numbers q)) l.peers_are apart in
+      let g = leaves c.front l.back p c.stay l.behind l.client c.held l.holds l.left apart' (over_is p l.client l.holds ∙ over) in
+      let there : v.there ≡ c.stay ++ l.client ∷ l.behind = c.clients_are ∙ ap (λ (r : List Client). c.stay ++ r) l.clients_are in
+      subst (λ (u : World). ClosedFront now' i w u (f.entries ++ Close p.conn ∷ [])) (sym (after_more f.entries (Close p.conn ∷ []) w)) (record {
+        front = c.front;
+        back = l.back;
+        stay = c.stay;
+        rest = l.behind;
+        peers_are = less ∙ ap (λ (q : List Peer). remove q i) l.peers_are ∙ ap (λ (n : ℕ). remove (c.front ++ p ∷ l.back) n) (sym c.at) ∙ remove_here c.front l.back p;
+        clients_are = ap (filter (other p.conn)) there ∙ g.there;
+        at = c.at;
+        held = c.held;
+        left = l.left;
+        none_over = c.none_over;
+        past = subst (λ (r : List Client). AllFine (v.past ++ r)) (sym (ap (filter (λ (j : Client). nat_eq j.conn p.conn)) there ∙ g.gone)) (fine_more v.past (l.client ∷ []) c.past ((p.session.waiting, l.holds.owed), tt));
+        same = record { contents = c.same.contents; walk = c.same.walk; marks = c.same.marks; shut = c.same.shut; events = c.same.events; opens = c.same.opens };
+        asked = asked_more f.entries (Close p.conn ∷ []) w c.asked (ap (list_any (λ j. nat_eq j.conn p.conn && not (world.is_over j))) there ∙ g.asked, tt);
+        came = came_more f.entries (Close p.conn ∷ []) c.came (tt, tt);
+        rested = ap (list_any (λ k. not (is_rested k))) (ap (filter (other p.conn)) there ∙ g.there) ∙ any_drop (λ k. not (is_rested k)) c.stay l.behind l.client (ap (list_any (λ k. not (is_rested k))) (sym there) ∙ c.rested);
+      });
+}
+
+pub close_fails : (a b d : Told) (x y z : MayPlay) (ps now now' : List Peer) (i : ℕ) (r : Result (Unit {0}) Fault) → IsErr r → ClosesFront a b x y ps now i → Adds b d [] → ClosesAll a d x z ps now' r
+close_fails a b d x y z ps now now' i (Ok u) failed f told = absurd (let e : false ≡ true = failed in cc)
+close_fails a b d x y z ps now now' i (Err e) failed f told = record {
+  entries = f.entries;
+  told = subst (λ (l : List Entry). Adds a d l) (append-nil f.entries) (Adds-then a b d f.entries [] f.told told);
+  plays = tt;
+  ends = λ w held past rested. let c = f.ends w held past rested in record {
+    there = subst AllFine (sym c.clients_are) (fine_more c.stay c.rest (fine_holds c.front c.stay c.held) (fine_holds c.back c.rest c.left));
+    past = c.past;
+    same = c.same;
+    asked = c.asked;
+    came = c.came;
+    done = tt;
+  };
+}
+
+closed_end : (now : List Peer) (i : ℕ) (w v : World) (es : List Entry) → ClosedFront now i w v es → length now ≤ i → ClosedAll (Ok tt) now w v es
+closed_end now i w v es c le = go c.back c.rest refl refl c.left
+  where
+  go : (back : List Peer) (rest : List Client) → c.back ≡ back → c.rest ≡ rest → AllHold back rest → ClosedAll (Ok tt) now w v es
+  go [] [] e f a =
+      let peers : now ≡ c.front = c.peers_are ∙ ap (λ (l : List Peer). c.front ++ l) e ∙ append-nil c.front in
+      let clients : v.there ≡ c.stay = c.clients_are ∙ ap (λ (l : List Client). c.stay ++ l) f ∙ append-nil c.stay in
+      let held : AllHold now v.there = subst (λ (l : List Peer). AllHold l v.there) (sym peers) (subst (λ (l : List Client). AllHold c.front l) (sym clients) c.held) in
+      record {
+        there = fine_holds now v.there held;
+        past = c.past;
+        same = c.same;
+        asked = c.asked;
+        came = c.came;
+        done = (held, c.rested, ap (list_any world.is_over) clients ∙ c.none_over);
+      }
+  go [] (y ∷ ys) e f a = absurd a
+  go (x ∷ xs) [] e f a = absurd a
+  go (x ∷ xs) (y ∷ ys) e f a = absurd (omega (arith, le, c.at, ap length c.peers_are, ap length e, length-append c.front c.back))
+
+pub all_closed : (a b : Told) (x y : MayPlay) (ps now : List Peer) (i : ℕ) → ClosesFront a b x y ps now i → length now ≤ i → ClosesAll a b x y ps now (Ok tt)
+all_closed a b x y ps now i f le = record {
+  entries = f.entries;
+  told = f.told;
+  plays = f.plays;
+  ends = λ w held past rested. closed_end now i w (world_after f.entries w) f.entries (f.ends w held past rested) le;
+}

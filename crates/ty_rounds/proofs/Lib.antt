@@ -1,0 +1,11 @@
+pub mod ClosingLaws
+pub mod Fine
+pub mod Finishing
+pub mod Hearing
+pub mod Leaving
+pub mod Places
+pub mod SendLaws
+pub mod ServingLaws
+pub mod Telling
+pub mod Turned
+pub mod Waiting

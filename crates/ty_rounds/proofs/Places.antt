@@ -1,0 +1,140 @@
+-- One connection among the others, by its number.
+use Rattle.std.proofs.Common.{◌≡◌, ◌<◌, ◌≤◌, ◌+◌, ℕ, zero, suc, Bool, true, false, not, cond, List, [], ◌∷◌, ◌++◌, length, get_or, set, take, map, refl, sym, ap, subst, ◌∙◌, arith, eq-eqb}
+use Rattle.std.specs.Prelude.{◌||◌, nat_eq, Some, Option, slice_get}
+use Rattle.std.specs.List.{list_any}
+use Rattle.std.proofs.lemmas.Bool.{eqb-true}
+use Rattle.std.proofs.Math.Seq.{take-suc}
+use Rattle.std.proofs.lemmas.List.{take_all}
+use Rattle.ty_world.specs.World.{Client, at_conn}
+use Rattle.ty_rounds.specs.Peers.{numbers}
+use Rattle.ty_rounds.specs.Holding.{Holds, AllHold, AreApart, Wired}
+use Rattle.ty_rounds.specs.declared.peer.Peer.{Peer}
+
+pub none_split : (a b : Bool) → (a || b) ≡ false → (a ≡ false) × (b ≡ false)
+none_split false b e = (refl, e)
+none_split true b e = absurd cc
+
+pub none_both : (a b : Bool) → a ≡ false → b ≡ false → (a || b) ≡ false
+none_both false b e f = f
+none_both true b e f = absurd cc
+
+pub if_true : {A : Type 0} (b : Bool) (x y : A) → b ≡ true → cond b x y ≡ x
+if_true true x y e = refl
+if_true false x y e = absurd cc
+
+pub if_false : {A : Type 0} (b : Bool) (x y : A) → b ≡ false → cond b x y ≡ y
+if_false true x y e = absurd cc
+if_false false x y e = refl
+
+pub eq_swap : (a b : ℕ) → nat_eq a b ≡ false → nat_eq b a ≡ false
+eq_swap a b e = go (nat_eq b a) refl
+  where
+  go : (x : Bool) → nat_eq b a ≡ x → nat_eq b a ≡ false
+  go false is = is
+  go true is = absurd (let f : nat_eq a b ≡ true = eq-eqb a b (sym (eqb-true b a is)) in cc)
+
+-- none of them has that number
+pub others_hold : (c : ℕ) (f : Client → Client) (ps : List Peer) (ks : List Client) → list_any (nat_eq c) (numbers ps) ≡ false → AllHold ps ks → AllHold ps (map (at_conn c f) ks)
+others_hold c f [] [] none a = tt
+others_hold c f [] (k ∷ ks) none a = absurd a
+others_hold c f (p ∷ ps) [] none a = absurd a
+others_hold c f (p ∷ ps) (k ∷ ks) none a =
+    let s = none_split (nat_eq c p.conn) (list_any (nat_eq c) (numbers ps)) none in
+    (subst (λ (z : Client). Holds p z) (sym (if_false (nat_eq k.conn c) (f k) k (ap (λ (n : ℕ). nat_eq n c) a.0.conn ∙ eq_swap c p.conn s.0))) a.0, others_hold c f ps ks s.1 a.1)
+
+apart_at : (x : Peer) (ps : List Peer) (i : ℕ) (p : Peer) → list_any (nat_eq x.conn) (numbers ps) ≡ false → i < length ps → p ≡ get_or ps i p → nat_eq x.conn p.conn ≡ false
+apart_at x [] i p none lt is = absurd (omega (arith, lt))
+apart_at x (y ∷ ps) zero p none lt is = ap (λ (z : Peer). nat_eq x.conn z.conn) is ∙ (none_split (nat_eq x.conn y.conn) (list_any (nat_eq x.conn) (numbers ps)) none).0
+apart_at x (y ∷ ps) (suc i) p none lt is = apart_at x ps i p (none_split (nat_eq x.conn y.conn) (list_any (nat_eq x.conn) (numbers ps)) none).1 (omega (arith, lt)) is
+
+-- the one of that number has changed, and with it what it stands for
+pub set_holds : (c : ℕ) (f : Client → Client) (ps : List Peer) (ks : List Client) (i : ℕ) (p q : Peer) → AreApart (numbers ps) → i < length ps → p ≡ get_or ps i p → p.conn ≡ c → ((k : Client) → Holds p k → Holds q (f k)) → AllHold ps ks
+    → AllHold (set ps i q) (map (at_conn c f) ks)
+set_holds c f [] ks i p q apart lt is named one a = absurd (omega (arith, lt))
+set_holds c f (x ∷ ps) [] i p q apart lt is named one a = absurd a
+set_holds c f (x ∷ ps) (k ∷ ks) zero p q apart lt is named one a =
+    let there : x.conn ≡ c = ap (λ (z : Peer). z.conn) (sym is) ∙ named in
+    (subst (λ (z : Client). Holds q z) (sym (if_true (nat_eq k.conn c) (f k) k (eq-eqb k.conn c (a.0.conn ∙ there)))) (one k (subst (λ (z : Peer). Holds z k) (sym is) a.0)),
+      others_hold c f ps ks (ap (λ (n : ℕ). list_any (nat_eq n) (numbers ps)) (sym there) ∙ apart.0) a.1)
+set_holds c f (x ∷ ps) (k ∷ ks) (suc i) p q apart lt is named one a =
+    let away : nat_eq x.conn c ≡ false = ap (nat_eq x.conn) (sym named) ∙ apart_at x ps i p apart.0 (omega (arith, lt)) is in
+    (subst (λ (z : Client). Holds x z) (sym (if_false (nat_eq k.conn c) (f k) k (ap (λ (n : ℕ). nat_eq n c) a.0.conn ∙ away))) a.0,
+      set_holds c f ps ks i p q apart.1 (omega (arith, lt)) is named one a.1)
+
+pub take_next : (ps : List Peer) (i : ℕ) (p : Peer) → i < length ps → p ≡ get_or ps i p → take (i + 1) ps ≡ take i ps ++ p ∷ []
+take_next ps i p lt is = (let e : i + 1 ≡ suc i = omega arith in ap (λ (n : ℕ). take n ps) e) ∙ take-suc ps i p lt ∙ ap (λ (x : Peer). take i ps ++ x ∷ []) (sym is)
+
+-- ---- where it is read
+
+pub got : (ps : List Peer) (i : ℕ) (x d : Peer) → slice_get ps i ≡ Some x → get_or ps i d ≡ x
+got [] i x d e = absurd cc
+got (y ∷ ps) zero x d e = cc
+got (y ∷ ps) (suc i) x d e = got ps i x d e
+
+pub within : (ps : List Peer) (i : ℕ) (x : Peer) → slice_get ps i ≡ Some x → i < length ps
+within [] i x e = absurd cc
+within (y ∷ ps) zero x e = omega arith
+within (y ∷ ps) (suc i) x e = let h = within ps i x e in omega (arith, h)
+
+-- ---- a search from the front
+
+any_push : (c : ℕ) (ps : List Peer) (p : Peer) → list_any (nat_eq c) (numbers ps) ≡ false → nat_eq c p.conn ≡ false → list_any (nat_eq c) (numbers (ps ++ p ∷ [])) ≡ false
+any_push c [] p none other = none_both (nat_eq c p.conn) false other refl
+any_push c (x ∷ ps) p none other = let s = none_split (nat_eq c x.conn) (list_any (nat_eq c) (numbers ps)) none in none_both (nat_eq c x.conn) (list_any (nat_eq c) (numbers (ps ++ p ∷ []))) s.0 (any_push c ps p s.1 other)
+
+pub not_yet : (c : ℕ) (ps : List Peer) (i : ℕ) (p : Peer) → i < length ps → p ≡ get_or ps i p → nat_eq c p.conn ≡ false → list_any (nat_eq c) (numbers (take i ps)) ≡ false → list_any (nat_eq c) (numbers (take (i + 1) ps)) ≡ false
+not_yet c ps i p lt is other none = ap (λ (l : List Peer). list_any (nat_eq c) (numbers l)) (take_next ps i p lt is) ∙ any_push c (take i ps) p none other
+
+pub named : (ps : List Peer) (i : ℕ) (p x : Peer) (c : ℕ) → p ≡ get_or ps i p → slice_get ps i ≡ Some x → x.conn ≡ c → p.conn ≡ c
+named ps i p x c is some e = ap (λ (z : Peer). z.conn) (is ∙ got ps i x p some) ∙ e
+
+-- what a search told of a list that is read as another
+pub record Found (ps : List Peer) (i c : ℕ) : Type 0 where
+  pub below : i < length ps
+  pub at : (p : Peer) → p ≡ get_or ps i p → p.conn ≡ c
+
+pub found_there : (qs ps : List Peer) (i c : ℕ) → qs ≡ ps → (x : Peer) × (slice_get qs i ≡ Some x) × (x.conn ≡ c) → Found ps i c
+found_there qs ps i c same f =
+    let some : slice_get ps i ≡ Some f.0 = ap (λ (l : List Peer). slice_get l i) (sym same) ∙ f.1 in
+    record { below = within ps i f.0 some; at = λ p is. named ps i p f.0 c is some f.2 }
+
+pub none_there : (qs ps : List Peer) (c : ℕ) → qs ≡ ps → list_any (nat_eq c) (numbers qs) ≡ false → list_any (nat_eq c) (numbers ps) ≡ false
+none_there qs ps c same none = ap (λ (l : List Peer). list_any (nat_eq c) (numbers l)) (sym same) ∙ none
+
+pub none_yet : (c : ℕ) (ps : List Peer) (i : ℕ) → length ps ≤ i → list_any (nat_eq c) (numbers (take i ps)) ≡ false → list_any (nat_eq c) (numbers ps) ≡ false
+none_yet c ps i le none = ap (λ (l : List Peer). list_any (nat_eq c) (numbers l)) (sym (take_all i ps le)) ∙ none
+
+-- ---- the wire's connections are the server's
+
+any_at : (ps : List Peer) (i : ℕ) (p : Peer) → i < length ps → p ≡ get_or ps i p → list_any (nat_eq p.conn) (numbers ps) ≡ true
+any_at [] i p lt is = absurd (omega (arith, lt))
+any_at (x ∷ ps) zero p lt is = first (nat_eq p.conn x.conn) (list_any (nat_eq p.conn) (numbers ps)) (eq-eqb p.conn x.conn (ap (λ (z : Peer). z.conn) is))
+  where
+  first : (a b : Bool) → a ≡ true → (a || b) ≡ true
+  first true b e = refl
+  first false b e = absurd cc
+any_at (x ∷ ps) (suc i) p lt is = second (nat_eq p.conn x.conn) (list_any (nat_eq p.conn) (numbers ps)) (any_at ps i p (omega (arith, lt)) is)
+  where
+  second : (a b : Bool) → b ≡ true → (a || b) ≡ true
+  second true b e = refl
+  second false b e = e
+
+pub open_at : (conns : List ℕ) (ps : List Peer) (i : ℕ) (p : Peer) → i < length ps → p ≡ get_or ps i p → Wired conns ps → list_any (nat_eq p.conn) conns ≡ true
+open_at conns ps i p lt is w = ap (list_any (nat_eq p.conn)) w.same ∙ any_at ps i p lt is
+
+pub named_still : (ps : List Peer) (i : ℕ) (p q : Peer) → i < length ps → p ≡ get_or ps i p → q.conn ≡ p.conn → numbers (set ps i q) ≡ numbers ps
+named_still [] i p q lt is same = absurd (omega (arith, lt))
+named_still (x ∷ ps) zero p q lt is same = ap (λ (n : ℕ). n ∷ numbers ps) (same ∙ ap (λ (z : Peer). z.conn) is)
+named_still (x ∷ ps) (suc i) p q lt is same = ap (λ (l : List ℕ). x.conn ∷ l) (named_still ps i p q (omega (arith, lt)) is same)
+
+pub still_wired : (conns conns' : List ℕ) (ps : List Peer) (i : ℕ) (p q : Peer) → i < length ps → p ≡ get_or ps i p → q.conn ≡ p.conn → conns' ≡ conns → Wired conns ps → Wired conns' (set ps i q)
+still_wired conns conns' ps i p q lt is named same w = record { same = same ∙ w.same ∙ sym (named_still ps i p q lt is named); apart = subst AreApart (sym same) w.apart }
+
+pub apart_peers : (conns : List ℕ) (ps : List Peer) → Wired conns ps → AreApart (numbers ps)
+apart_peers conns ps w = subst AreApart w.same w.apart
+
+-- one place has one connection
+pub one_at : (ps : List Peer) (i : ℕ) (p q : Peer) → i < length ps → p ≡ get_or ps i p → q ≡ get_or ps i q → p ≡ q
+one_at [] i p q lt e f = absurd (omega (arith, lt))
+one_at (x ∷ ps) zero p q lt e f = e ∙ sym f
+one_at (x ∷ ps) (suc i) p q lt e f = one_at ps i p q (omega (arith, lt)) e f

@@ -1,0 +1,12 @@
+use Rattle.std.proofs.Common.{rules, List, subst, sym, ap, ◌∙◌, ◌++◌, ◌∷◌, [], length, not, ℕ}
+use Rattle.std.specs.Prelude.{nat_lt}
+use Rattle.ty_rounds.specs.Holding.{AllHold}
+use Rattle.ty_rounds.specs.declared.peer.Peer.{Peer}
+use Rattle.ty_world.specs.World.{new_client}
+use Rattle.ty_rounds.proofs.Hearing.{opens, numbers_push}
+use Rattle.ty_rounds.specs.Peers.{numbers}
+use Rattle.ty_rounds.proofs.listening.take_opened.Goals as goal
+
+pub returns-clause-heard : goal.returns-clause-heard
+returns-clause-heard c = λ ks a. subst (λ (l : List Peer). AllHold l (ks ++ new_client c.args.conn (length ks) ∷ [])) (sym c.in_ok-push.ensures.items)
+    (opens c.args.peers.now.items ks c.new-p.result c.args.conn c.new-p.ensures.conn c.new-p.ensures.session c.new-p.ensures.gone c.new-p.ensures.ended (c.new-p.ensures.extra ∙ ap (λ (n : ℕ). not (nat_lt n 64)) (search rules)) a)

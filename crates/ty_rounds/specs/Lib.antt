@@ -1,0 +1,10 @@
+pub mod Closings
+pub mod Errors
+pub mod Events
+pub mod Holding
+pub mod Kept
+pub mod Peers
+pub mod Repls
+pub mod Sending
+pub mod Serving
+pub mod Turns

@@ -1,0 +1,14 @@
+//! One turn: an event of the wire, a round of requests, a commit, then sends and closings.
+#![tactic(auto)]
+
+mod closing;
+mod listening;
+mod outcome;
+mod peer;
+mod rounds;
+mod sends;
+mod turning;
+
+pub use outcome::{Outcome, TurnErr};
+pub use peer::Peer;
+pub use turning::{Server, turn};

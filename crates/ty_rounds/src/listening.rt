@@ -1,0 +1,134 @@
+//! One event of the wire, which the server takes in.
+ghost use Rattle.std.specs.Prelude.{◌≡◌, ◌≤◌, ◌<◌, ◌++◌, ℕ, Bool, true, false, List, [], Some, length, map, nat_eq, slice_get, OnOk, OnErr, IfOk, IfErr, IfSome, IfNone, IsErrOf};
+ghost use Rattle.std.specs.List.{list_any};
+ghost use Rattle.tc_io.specs.Causes.{Rose};
+ghost use Rattle.tc_io.specs.Lines.{open_after};
+ghost use Rattle.tc_io.specs.Transcript.{bytes_of};
+ghost use Rattle.ty_world.specs.World.{Client, IsBytes, heard, unstopped, at_conn, with_read, with_end};
+ghost use Rattle.ty_rounds.specs.declared.peer.Peer.{Peer};
+ghost use Rattle.ty_rounds.specs.Events.{MayHear};
+ghost use Rattle.ty_rounds.specs.Holding.{AllHold, AreApart, Wired};
+ghost use Rattle.ty_rounds.specs.Peers.{numbers, waiting_numbers};
+ghost use Rattle.ty_rounds.specs.Turns.{Hears, HearErr};
+
+use crate::outcome::TurnErr;
+use crate::peer::Peer;
+use std::alloc::{AllocError, Global};
+use tc_io::{Ev, Wire};
+
+// Lists the connections that wait.
+fn list_waiting(peers: &[Peer], paused: &mut Vec<u32>) -> Result<(), AllocError>
+    ensures { OnOk result (paused.new.items ≡ waiting_numbers peers.now) }
+{
+    paused.clear();
+    for p in peers {
+        if p.waits() {
+            paused.push(p.conn)?;
+        }
+    }
+    Ok(())
+}
+
+// Where the connection of that number stands.
+fn index_of(peers: &[Peer], conn: u32) -> Option<usize>
+    ensures found { IfSome result (λ i. (p : Peer) × (slice_get peers.now i ≡ Some p) × (p.conn ≡ conn)) }
+    ensures none { IfNone result (list_any (nat_eq conn) (numbers peers.now) ≡ false) }
+{
+    for (i, p) in peers.iter().enumerate() {
+        if p.conn == conn {
+            return Some(i);
+        }
+    }
+    None
+}
+
+// Bytes came of a connection.
+fn take_read(peers: &mut Vec<Peer>, conn: u32, bytes: &[u8]) -> Result<(), AllocError>
+    requires { AreApart (numbers peers.old.items) }
+    ensures heard { OnOk result ((ks : List Client) → AllHold peers.old.items ks → AllHold peers.new.items (map (at_conn conn (with_read bytes.now)) ks)) }
+    ensures numbers { numbers peers.new.items ≡ numbers peers.old.items }
+{
+    let Some(i) = index_of(peers, conn) else {
+        return Ok(());
+    };
+    let p = &mut peers[i];
+    p.session.push(bytes)?;
+    Ok(())
+}
+
+// No more bytes come of a connection.
+fn take_end(peers: &mut Vec<Peer>, conn: u32)
+    requires { AreApart (numbers peers.old.items) }
+    ensures heard { (ks : List Client) → AllHold peers.old.items ks → AllHold peers.new.items (map (at_conn conn with_end) ks) }
+    ensures numbers { numbers peers.new.items ≡ numbers peers.old.items }
+{
+    let Some(i) = index_of(peers, conn) else {
+        return;
+    };
+    let p = &mut peers[i];
+    p.ended = true;
+}
+
+// A connection opened.
+fn take_opened(alloc: Global, peers: &mut Vec<Peer>, conn: u32) -> Result<(), AllocError>
+    ensures heard { OnOk result ((ks : List Client) → AllHold peers.old.items ks → AllHold peers.new.items (ks ++ new_client conn (length ks) ∷ [])) }
+    ensures numbers { OnOk result (numbers peers.new.items ≡ numbers peers.old.items ++ conn ∷ []) }
+{
+    let p = Peer::new(alloc, conn, peers.len());
+    peers.push(p)?;
+    Ok(())
+}
+
+ghost use Rattle.std.specs.Prelude.{◌∷◌};
+ghost use Rattle.ty_world.specs.World.{new_client};
+
+// Takes an event in.
+fn hear(
+    alloc: Global,
+    peers: &mut Vec<Peer>,
+    ev: Ev,
+    buffer: &[u8; 4096],
+) -> Result<(), AllocError>
+    requires may { MayHear ev }
+    requires apart { AreApart (numbers peers.old.items) }
+    ensures heard { OnOk result ((ks : List Client) → AllHold peers.old.items ks → AllHold peers.new.items (heard ks ev (bytes_of ev buffer.now))) }
+    ensures numbers { OnOk result (numbers peers.new.items ≡ open_after (numbers peers.old.items) ev) }
+    ensures bytes { IsBytes buffer.now }
+{
+    match ev {
+        Ev::Opened(c) => take_opened(alloc, peers, c),
+        Ev::Read(c, n) => take_read(peers, c, &buffer[..n]),
+        Ev::Ended(c) => {
+            take_end(peers, c);
+            Ok(())
+        }
+        Ev::Quiet => Ok(()),
+        Ev::Shut => Ok(()),
+    }
+}
+
+/// Asks for one event, with the connections that wait paused, and takes it in. `paused` is a buffer.
+pub fn listen<W: Wire>(
+    alloc: Global,
+    peers: &mut Vec<Peer>,
+    paused: &mut Vec<u32>,
+    wire: &mut W,
+) -> Result<Ev, TurnErr>
+    requires opened { W.opened wire.old ≡ true }
+    requires wired { Wired (W.conns wire.old) peers.old.items }
+    ensures opened { W.opened wire.new ≡ true }
+    ensures wired { OnOk result (Wired (W.conns wire.new) peers.new.items) }
+    ensures ok { IfOk result (λ ev. Hears (W.transcript wire.old) (W.transcript wire.new) (W.plays wire.old) (W.plays wire.new) peers.old.items peers.new.items ev) }
+    ensures err { IfErr result (λ e. HearErr (W.transcript wire.old) (W.transcript wire.new) (W.plays wire.old) (W.plays wire.new) peers.old.items e) }
+    ensures later { W.faults wire.old ≤ W.faults wire.new }
+    ensures cause { IsErrOf result TurnErr.Wire → Rose (W.faults wire.old) (W.faults wire.new) }
+{
+    list_waiting(peers.as_slice(), paused)?;
+    let busy = !paused.is_empty();
+    let mut buffer = [0; 4096];
+    let ev = wire.next(paused.as_slice(), busy, &mut buffer)?;
+    let Ok(()) = hear(alloc, peers, ev, &buffer) else {
+        return Err(TurnErr::Memory);
+    };
+    Ok(ev)
+}

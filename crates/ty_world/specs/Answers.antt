@@ -1,0 +1,31 @@
+-- What is true of every connection of a run.
+use Rattle.std.specs.Prelude.{◌≡◌, false, List, [], ◌∷◌, ◌++◌, All}
+use Rattle.std.specs.List.{flat_map}
+use Rattle.ty_wire.specs.Spelling.{spelling, Fits}
+use Rattle.ty_wire.specs.Frames.{HasNone}
+use Rattle.ty_world.specs.World.{Client, World}
+
+-- what came is the spellings of the requests placed, and then the unread bytes
+pub record IsSpelled (k : Client) : Type 0 where
+  pub parts : k.input ≡ flat_map spelling k.placed ++ k.unread
+  pub fit : All Fits k.placed
+
+abbrev pub EachSpelled : List Client → Type 0
+EachSpelled [] = Unit {0}
+EachSpelled (k ∷ ks) = IsSpelled k × EachSpelled ks
+
+abbrev pub AllSpelled : World → Type 0
+AllSpelled w = EachSpelled w.there × EachSpelled w.past
+
+-- no whole request is left unserved, and all that is owed was sent
+pub record IsAnswered (k : Client) : Type 0 where
+  pub none : HasNone k.unread
+  pub told : k.out ≡ k.owed
+
+-- but for a peer that is gone, and one above 64, which is closed at once
+abbrev pub EachAnswered : List Client → Type 0
+EachAnswered [] = Unit {0}
+EachAnswered (k ∷ ks) = (k.gone ≡ false → k.extra ≡ false → IsAnswered k) × EachAnswered ks
+
+abbrev pub AllAnswered : World → Type 0
+AllAnswered w = EachAnswered w.there × EachAnswered w.past
