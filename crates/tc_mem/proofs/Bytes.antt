@@ -79,11 +79,11 @@ left_bytes : (k : List ℕ) (es : List Entry) → T (is_sorted order es) → byt
 left_bytes k [] h = omega arith
 left_bytes k (e ∷ es) h =
     let left : List Entry = where_key order (kept k) es in
-    let rest : bytes (where_key order (kept k) es) + entry_size k (find order k es) ≡ bytes es = left_bytes k es (second _ _ h) in
+    let rest : bytes (where_key order (kept k) es) + entry_size k (find order k es) ≡ bytes es = left_bytes k es (second (below_all order e.0 es) (is_sorted order es) h) in
     elim (eq_by_cmp order k e.0) as (λ t. eq_by_cmp order k e.0 ≡ t → bytes (cond (not t) (e ∷ left) left) + entry_size k (cond t (Some e.1) (find order k es)) ≡ bytes (e ∷ es)) [
       | true ↦ λ t.
           let same : k ≡ e.0 = exact_bytes k e.0 (tied (order k e.0) t) in
-          let none : entry_size k (find order k es) ≡ 0 = ap (entry_size k) (find_below k es (subst (λ (x : List ℕ). T (below_all order x es)) (sym same) (first _ _ h))) in
+          let none : entry_size k (find order k es) ≡ 0 = ap (entry_size k) (find_below k es (subst (λ (x : List ℕ). T (below_all order x es)) (sym same) (first (below_all order e.0 es) (is_sorted order es) h))) in
           omega (arith, rest, none, ap length same, bytes-cons e es)
       | false ↦ λ t. omega (arith, rest, bytes-cons e left, bytes-cons e es)
     ] refl

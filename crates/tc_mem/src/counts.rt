@@ -1,5 +1,5 @@
 //! The bytes of all keys and values, kept as a number.
-ghost use Rattle.std.specs.Prelude.{◌≡◌, ◌+◌, IfSome};
+ghost use Rattle.std.specs.Prelude.{◌≡◌, ◌+◌, ◌≤◌, ◌^◌, MatchOption};
 ghost use Rattle.std.specs.FinMap.{get, insert};
 ghost use Rattle.tc_model.specs.Maps.{size_of};
 ghost use Rattle.tc_model.specs.Plans.{changed_by};
@@ -22,7 +22,7 @@ fn less_key(map: &ByteMap, bytes: u64, key: &Blob) -> u64
 // The bytes once a key was set.
 fn size_set(map: &ByteMap, bytes: u64, key: &Blob, value: &Blob) -> Option<u64>
     requires { size_of map.now ≡ bytes }
-    ensures { IfSome result (λ n. size_of (insert map.now key.now value.now) ≡ n) }
+    ensures { MatchOption result (2 ^ 64 ≤ size_of (insert map.now key.now value.now)) (λ n. size_of (insert map.now key.now value.now) ≡ n) }
 {
     let rest = less_key(map, bytes, key);
     let with_key = rest.checked_add(key.len() as u64)?;
@@ -33,7 +33,7 @@ fn size_set(map: &ByteMap, bytes: u64, key: &Blob, value: &Blob) -> Option<u64>
 /// The bytes of all keys and values after a change, or none where they don't fit.
 pub fn size_after(map: &ByteMap, bytes: u64, change: &Change) -> Option<u64>
     requires { size_of map.now ≡ bytes }
-    ensures { IfSome result (λ n. size_of (changed_by map.now change.now) ≡ n) }
+    ensures { MatchOption result (2 ^ 64 ≤ size_of (changed_by map.now change.now)) (λ n. size_of (changed_by map.now change.now) ≡ n) }
 {
     match change {
         Change::Set { key, value } => size_set(map, bytes, key, value),

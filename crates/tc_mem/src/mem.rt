@@ -18,7 +18,8 @@ use tc_model as model;
 use tc_model::{Applied, ByteMap, Change, Deed, Plan, plan, plan_of_size, plan_of_stat};
 use ty_wire::{is_updating, write_reply};
 
-/// A hash database in memory, over a space that has no files. A request costs the logarithm of the number of keys, and its own bytes.
+/// A hash database in memory, over a space that has no files. Looking a key up costs the logarithm of the number of keys; only `iterinit` copies
+/// all keys, and only an `iternext` that fails looks at all that are left.
 #[derive(Drop)]
 pub struct MemBase {
     alloc: Global,
