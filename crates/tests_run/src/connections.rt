@@ -96,14 +96,26 @@ fn sends_go_as_they_can(rt: HostRuntime) -> Result<(), Fail> {
                 wire.answer_at(number, slow)?;
                 let end = ran(alloc, &order, wire)?;
                 assert_eq!(rt; end.status, 0, "{} {}", pair.name, number);
-                assert_eq!(rt; served(alloc, &end.wire, pair)?, Some(2), "{} {}", pair.name, number);
+                assert_eq!(rt;
+                    served(alloc, &end.wire, pair)?,
+                    Some(2),
+                    "{} {}",
+                    pair.name,
+                    number
+                );
             }
             let mut wire = script(alloc, pair.steps, 4096)?;
             wire.answer_at(number, Sent::Gone)?;
             let end = ran(alloc, &order, wire)?;
             let whole = if number <= pair.sends { 1 } else { 2 };
             assert_eq!(rt; end.status, 0, "{} {}", pair.name, number);
-            assert_eq!(rt; served(alloc, &end.wire, pair)?, Some(whole), "{} {}", pair.name, number);
+            assert_eq!(rt;
+                served(alloc, &end.wire, pair)?,
+                Some(whole),
+                "{} {}",
+                pair.name,
+                number
+            );
         }
     }
     Ok(())
