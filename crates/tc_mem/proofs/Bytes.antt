@@ -55,19 +55,19 @@ find_under k x [] lt h = refl
 find_under k x (e ∷ es) lt h =
     ap (λ (o : Ordering). cond (is_eq o) (Some e.1) (find order k es)) (nat_list_cmp_total.trans k x e.0 lt (less _ (first _ _ h))) ∙ find_under k x es lt (second _ _ h)
 
-put_bytes : (k v : List ℕ) (es : List Entry) → T (is_sorted order es) → bytes (put order k v es) + entry_size k (find order k es) ≡ bytes es + (length k + length v)
+put_bytes : (k v : List ℕ) (es : List Entry) → T (is_sorted order es) → bytes (put order k v es) + entry_size (length k) (find order k es) ≡ bytes es + (length k + length v)
 put_bytes k v [] h = omega (arith, bytes-cons (k, v) [])
 put_bytes k v (e ∷ es) h =
-    elim (order k e.0) as (λ r. order k e.0 ≡ r → bytes (by_order r ((k, v) ∷ e ∷ es) ((e.0, v) ∷ es) (e ∷ put order k v es)) + entry_size k (cond (is_eq r) (Some e.1) (find order k es)) ≡ bytes (e ∷ es) + (length k + length v)) [
-      | Less ↦ λ p. let none : entry_size k (find order k es) ≡ 0 = ap (entry_size k) (find_under k e.0 es p (first _ _ h)) in omega (arith, none, bytes-cons (k, v) (e ∷ es))
+    elim (order k e.0) as (λ r. order k e.0 ≡ r → bytes (by_order r ((k, v) ∷ e ∷ es) ((e.0, v) ∷ es) (e ∷ put order k v es)) + entry_size (length k) (cond (is_eq r) (Some e.1) (find order k es)) ≡ bytes (e ∷ es) + (length k + length v)) [
+      | Less ↦ λ p. let none : entry_size (length k) (find order k es) ≡ 0 = ap (entry_size (length k)) (find_under k e.0 es p (first _ _ h)) in omega (arith, none, bytes-cons (k, v) (e ∷ es))
       | Equal ↦ λ p. omega (arith, ap length (exact_bytes k e.0 p), bytes-cons (e.0, v) es, bytes-cons e es)
       | Greater ↦ λ p. omega (arith, put_bytes k v es (second _ _ h), bytes-cons e (put order k v es), bytes-cons e es)
     ] refl
 
-pub size-insert : (m : Map) (k v : List ℕ) → size_of (insert m k v) + entry_size k (get m k) ≡ size_of m + (length k + length v)
+pub size-insert : (m : Map) (k v : List ℕ) → size_of (insert m k v) + entry_size (length k) (get m k) ≡ size_of m + (length k + length v)
 size-insert m k v =
-    ap (λ (es : List Entry). bytes es + entry_size k (get m k)) (entries-insert nat_list_cmp_total m k v)
-    ∙ ap (λ (o : Option (List ℕ)). bytes (put order k v (entries m)) + entry_size k o) (get-entries m k)
+    ap (λ (es : List Entry). bytes es + entry_size (length k) (get m k)) (entries-insert nat_list_cmp_total m k v)
+    ∙ ap (λ (o : Option (List ℕ)). bytes (put order k v (entries m)) + entry_size (length k) o) (get-entries m k)
     ∙ put_bytes k v (entries m) (entries_sorted m)
 
 -- ---- taking out
@@ -75,15 +75,15 @@ size-insert m k v =
 abbrev kept : List ℕ → List ℕ → Bool
 kept k x = not (eq_by_cmp order k x)
 
-left_bytes : (k : List ℕ) (es : List Entry) → T (is_sorted order es) → bytes (where_key order (kept k) es) + entry_size k (find order k es) ≡ bytes es
+left_bytes : (k : List ℕ) (es : List Entry) → T (is_sorted order es) → bytes (where_key order (kept k) es) + entry_size (length k) (find order k es) ≡ bytes es
 left_bytes k [] h = omega arith
 left_bytes k (e ∷ es) h =
     let left : List Entry = where_key order (kept k) es in
-    let rest : bytes (where_key order (kept k) es) + entry_size k (find order k es) ≡ bytes es = left_bytes k es (second (below_all order e.0 es) (is_sorted order es) h) in
-    elim (eq_by_cmp order k e.0) as (λ t. eq_by_cmp order k e.0 ≡ t → bytes (cond (not t) (e ∷ left) left) + entry_size k (cond t (Some e.1) (find order k es)) ≡ bytes (e ∷ es)) [
+    let rest : bytes (where_key order (kept k) es) + entry_size (length k) (find order k es) ≡ bytes es = left_bytes k es (second (below_all order e.0 es) (is_sorted order es) h) in
+    elim (eq_by_cmp order k e.0) as (λ t. eq_by_cmp order k e.0 ≡ t → bytes (cond (not t) (e ∷ left) left) + entry_size (length k) (cond t (Some e.1) (find order k es)) ≡ bytes (e ∷ es)) [
       | true ↦ λ t.
           let same : k ≡ e.0 = exact_bytes k e.0 (tied (order k e.0) t) in
-          let none : entry_size k (find order k es) ≡ 0 = ap (entry_size k) (find_below k es (subst (λ (x : List ℕ). T (below_all order x es)) (sym same) (first (below_all order e.0 es) (is_sorted order es) h))) in
+          let none : entry_size (length k) (find order k es) ≡ 0 = ap (entry_size (length k)) (find_below k es (subst (λ (x : List ℕ). T (below_all order x es)) (sym same) (first (below_all order e.0 es) (is_sorted order es) h))) in
           omega (arith, rest, none, ap length same, bytes-cons e es)
       | false ↦ λ t. omega (arith, rest, bytes-cons e left, bytes-cons e es)
     ] refl
@@ -104,10 +104,10 @@ entries-remove m k =
     ∙ turned (eq_by_cmp order k q) (eq_by_cmp order q k) (get m q) None ((eq_by_cmp_equiv nat_list_cmp_total).symm k q))) in
     ap entries same ∙ entries-from_sorted order (where_key order (kept k) es) rising
 
-pub size-remove : (m : Map) (k : List ℕ) → size_of (remove m k) + entry_size k (get m k) ≡ size_of m
+pub size-remove : (m : Map) (k : List ℕ) → size_of (remove m k) + entry_size (length k) (get m k) ≡ size_of m
 size-remove m k =
-    ap (λ (es : List Entry). bytes es + entry_size k (get m k)) (entries-remove m k)
-    ∙ ap (λ (o : Option (List ℕ)). bytes (where_key order (kept k) (entries m)) + entry_size k o) (get-entries m k)
+    ap (λ (es : List Entry). bytes es + entry_size (length k) (get m k)) (entries-remove m k)
+    ∙ ap (λ (o : Option (List ℕ)). bytes (where_key order (kept k) (entries m)) + entry_size (length k) o) (get-entries m k)
     ∙ left_bytes k (entries m) (entries_sorted m)
 
 pub size-empty : size_of empty ≡ 0
@@ -123,5 +123,5 @@ pub size-joined : (m : Map) (k more : List ℕ) → IsSome (get m k) → size_of
 size-joined m k more some =
     let held = held_value (get m k) some in
     let value : value_of m k ≡ held.0 = ap (λ (o : Option (List ℕ)). unwrap_or o []) held.1 in
-    let one : entry_size k (get m k) ≡ length k + length held.0 = ap (entry_size k) held.1 in
+    let one : entry_size (length k) (get m k) ≡ length k + length held.0 = ap (entry_size (length k)) held.1 in
     omega (arith, size-insert m k (value_of m k ++ more), one, length-append (value_of m k) more, ap length value)

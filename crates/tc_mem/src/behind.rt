@@ -26,7 +26,7 @@ impl Base for MemBase {
     fn apply(
         &mut self,
         space: &mut NoSpace,
-        request: &Request,
+        request: Request,
         walk: &mut Walk,
         reply: &mut Blob,
     ) -> Result<Applied, RecErr> {

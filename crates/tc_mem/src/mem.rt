@@ -1,16 +1,20 @@
 //! The map in memory.
-ghost use Rattle.std.specs.Prelude.{◌≡◌, ◌↔◌, ◌≤◌, ◌++◌, ◌&&◌, length, IsTrue, IsSome, IfOk, OnOk, OnErr};
-ghost use Rattle.std.specs.FinMap.{empty, get};
+ghost use Rattle.std.specs.Prelude.{◌≡◌, ◌↔◌, ◌≤◌, ◌++◌, ◌&&◌, ℕ, List, length, IsTrue, IsSome, IfOk, OnOk, OnErr, true, false};
+ghost use Rattle.std.specs.FinMap.{empty, get, insert, remove};
 ghost use Rattle.ty_wire.specs.Prefixes.{IsPrefix};
+ghost use Rattle.ty_wire.specs.Spelling.{reply_bytes};
 ghost use Rattle.tc_base.specs.declared.kind.Kind.TheVariants.{MemHash};
+ghost use Rattle.tc_base.specs.declared.request.Request.{Request};
 ghost use Rattle.tc_base.specs.declared.request.Request.TheVariants as request;
+ghost use Rattle.tc_base.specs.declared.request.Reply.TheVariants.{Done, Fail};
 ghost use Rattle.tc_model.specs.Maps.{size_of, value_of};
+ghost use Rattle.tc_model.specs.Changes.{with_value};
 ghost use Rattle.tc_model.specs.Contents.{Contents, with_map, Walk};
-ghost use Rattle.tc_model.specs.Apply.{applied, updates};
+ghost use Rattle.tc_model.specs.Apply.{applied, changed, refusal_of, updates};
 ghost use Rattle.tc_model.specs.Applying.{Applies};
 ghost use Rattle.tc_model.specs.Plans.{IsPlan, CanLeave, changed_by, contents_by, walk_by};
 
-use crate::counts::size_after;
+use crate::counts::{less_entry, with_entry};
 use std::alloc::{AllocError, Global};
 use std::marker::Model;
 use tc_base::{Blob, Kind, Reply, Request, VALUE_MOST};
@@ -62,16 +66,41 @@ impl MemBase {
         self.contents.kind()
     }
 
+    // Gives a key a value. An `Err` changes nothing.
+    fn set(&mut self, key: Blob, value: Blob) -> Result<(), AllocError>
+        ensures ok { OnOk result (self.new ≡ with_map self.old (insert self.old.map key value)) }
+        ensures err { OnErr result (self.new ≡ self.old) }
+    {
+        let key_len = key.len();
+        let Some(most) = with_entry(self.bytes, &key, &value) else {
+            return Err(AllocError);
+        };
+        let replaced = self.contents.set(key, value)?;
+        self.bytes = less_entry(most, key_len, replaced);
+        Ok(())
+    }
+
+    // Takes a key out, where it is held.
+    fn remove(&mut self, key: &Blob)
+        ensures { self.new ≡ with_map self.old (remove self.old.map key.now) }
+    {
+        let removed = self.contents.remove(key);
+        self.bytes = less_entry(self.bytes, key.len(), removed);
+    }
+
     // Changes the map. An `Err` changes nothing.
     fn change(&mut self, change: Change) -> Result<(), AllocError>
         ensures ok { OnOk result (self.new ≡ with_map self.old (changed_by self.old.map change)) }
         ensures err { OnErr result (self.new ≡ self.old) }
     {
-        let Some(after) = size_after(self.contents.map(), self.bytes, &change) else {
-            return Err(AllocError);
-        };
-        self.contents.change(change)?;
-        self.bytes = after;
+        match change {
+            Change::Set { key, value } => self.set(key, value)?,
+            Change::Remove { key } => self.remove(&key),
+            Change::Clear => {
+                self.contents.clear();
+                self.bytes = 0;
+            }
+        }
         Ok(())
     }
 
@@ -112,26 +141,41 @@ impl MemBase {
         }
     }
 
+    // Gives a key a value, or fails where it is too long. An `Err` changes nothing.
+    fn put(&mut self, key: Blob, value: Blob, reply: &mut Blob) -> Result<Applied, AllocError>
+        ensures ok { IfOk result (λ a. (r : Request) (w : Walk) → refusal_of r ≡ Fail → updates r ≡ true → Applies (changed r Done (with_value self.old.map key value) self.old w) r a self.new w reply.old reply.new) }
+        ensures err { OnErr result (self.new ≡ self.old) }
+        ensures front { OnErr result (IsPrefix reply.old reply.new) }
+    {
+        if value.len() > VALUE_MOST {
+            return fail(reply);
+        }
+        write_reply(&Reply::Done, reply)?;
+        self.set(key, value)?;
+        Ok(UPDATED)
+    }
+
+    // Gives a key a value and replies nothing. An `Err` changes nothing.
+    fn put_silently(&mut self, key: Blob, value: Blob) -> Result<Applied, AllocError>
+        ensures ok { IfOk result (λ a. (w : Walk) (reply : List ℕ) → Applies (applied (request.PutNr key value) self.old w) (request.PutNr key value) a self.new w reply reply) }
+        ensures err { OnErr result (self.new ≡ self.old) }
+    {
+        if value.len() > VALUE_MOST {
+            return Ok(FAILED);
+        }
+        self.set(key, value)?;
+        Ok(UPDATED)
+    }
+
     // Joins bytes behind a value in its place. An `Err` changes nothing.
-    fn join(
-        &mut self,
-        r: &Request,
-        key: &Blob,
-        more: &Blob,
-        reply: &mut Blob,
-    ) -> Result<Applied, AllocError>
-        requires is { r.now ≡ request.PutCat key.now more.now }
+    fn join(&mut self, key: &Blob, more: &Blob, reply: &mut Blob) -> Result<Applied, AllocError>
         requires held { IsSome (get self.old.map key.now) }
-        ensures ok { IfOk result (λ a. (w : Walk) → Applies (applied r.now self.old w) r.now a self.new w reply.old reply.new) }
+        ensures ok { IfOk result (λ a. (w : Walk) → Applies (applied (request.PutCat key.now more.now) self.old w) (request.PutCat key.now more.now) a self.new w reply.old reply.new) }
         ensures err { OnErr result (self.new ≡ self.old) }
         ensures front { OnErr result (IsPrefix reply.old reply.new) }
     {
         if !has_room(self.contents.map(), key, more) {
-            write_reply(&Reply::Fail, reply)?;
-            return Ok(Applied {
-                ok: false,
-                updated: false,
-            });
+            return fail(reply);
         }
         let Some(after) = self.bytes.checked_add(more.len() as u64) else {
             return Err(AllocError);
@@ -139,10 +183,36 @@ impl MemBase {
         write_reply(&Reply::Done, reply)?;
         self.contents.append(key, more.as_slice())?;
         self.bytes = after;
-        Ok(Applied {
-            ok: true,
-            updated: true,
-        })
+        Ok(UPDATED)
+    }
+
+    // Joins bytes behind the value of a key, or gives it to a key that has none. An `Err` changes nothing.
+    fn put_joined(
+        &mut self,
+        key: Blob,
+        more: Blob,
+        reply: &mut Blob,
+    ) -> Result<Applied, AllocError>
+        ensures ok { IfOk result (λ a. (w : Walk) → Applies (applied (request.PutCat key more) self.old w) (request.PutCat key more) a self.new w reply.old reply.new) }
+        ensures err { OnErr result (self.new ≡ self.old) }
+        ensures front { OnErr result (IsPrefix reply.old reply.new) }
+    {
+        if self.contents.map().get(&key).is_some() {
+            return self.join(&key, &more, reply);
+        }
+        self.put(key, more, reply)
+    }
+
+    // Gives a value to a key that has none. An `Err` changes nothing.
+    fn put_new(&mut self, key: Blob, value: Blob, reply: &mut Blob) -> Result<Applied, AllocError>
+        ensures ok { IfOk result (λ a. (w : Walk) → Applies (applied (request.PutKeep key value) self.old w) (request.PutKeep key value) a self.new w reply.old reply.new) }
+        ensures err { OnErr result (self.new ≡ self.old) }
+        ensures front { OnErr result (IsPrefix reply.old reply.new) }
+    {
+        if self.contents.map().get(&key).is_some() {
+            return fail(reply);
+        }
+        self.put(key, value, reply)
     }
 
     // Follows the plan of a request. An `Err` changes nothing.
@@ -169,23 +239,43 @@ impl MemBase {
     /// Applies a request, and adds its reply. An `Err` changes nothing, but more bytes may stand behind those of the reply.
     pub(crate) fn serve(
         &mut self,
-        r: &Request,
+        r: Request,
         walk: &mut model::Walk,
         reply: &mut Blob,
     ) -> Result<Applied, AllocError>
-        ensures ok { IfOk result (λ a. Applies (applied r.now self.old walk.old) r.now a self.new walk.new reply.old reply.new) }
+        ensures ok { IfOk result (λ a. Applies (applied r self.old walk.old) r a self.new walk.new reply.old reply.new) }
         ensures err { OnErr result (self.new ≡ self.old) }
         ensures walk { OnErr result (walk.new ≡ walk.old) }
         ensures front { OnErr result (IsPrefix reply.old reply.new) }
     {
-        let Request::PutCat { key, value } = r else {
-            return self.follow(r, walk, reply);
-        };
-        if self.contents.map().get(key).is_none() {
-            return self.follow(r, walk, reply);
+        match r {
+            Request::Put { key, value } => self.put(key, value, reply),
+            Request::PutKeep { key, value } => self.put_new(key, value, reply),
+            Request::PutCat { key, value } => self.put_joined(key, value, reply),
+            Request::PutNr { key, value } => self.put_silently(key, value),
+            other => self.follow(&other, walk, reply),
         }
-        self.join(r, key, value, reply)
     }
+}
+
+const UPDATED: Applied = Applied {
+    ok: true,
+    updated: true,
+};
+
+const FAILED: Applied = Applied {
+    ok: false,
+    updated: false,
+};
+
+// Replies that a request failed.
+fn fail(reply: &mut Blob) -> Result<Applied, AllocError>
+    ensures ok { IfOk result (λ a. a ≡ record { ok = false; updated = false }) }
+    ensures bytes { OnOk result (reply.new ≡ reply.old ++ reply_bytes Fail) }
+    ensures front { OnErr result (IsPrefix reply.old reply.new) }
+{
+    write_reply(&Reply::Fail, reply)?;
+    Ok(FAILED)
 }
 
 // Whether a value has room for these bytes behind it.

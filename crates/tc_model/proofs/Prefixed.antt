@@ -11,7 +11,7 @@ use Rattle.std.specs.List.{starts_with, AllByRecursion}
 use Rattle.std.specs.List.Sorted.{IsStrictlySortedBy}
 use Rattle.std.specs.Map.{keys_of}
 use Rattle.std.specs.BTreeMap.Range.{entries_between}
-use Rattle.std.proofs.lemmas.Bool.{eqb-true, eq-eqb}
+use Rattle.std.proofs.lemmas.Bool.{eqb-true, eq-eqb, and_parts, false_from_ne_true}
 use Rattle.std.proofs.lemmas.List.{append-nil}
 use Rattle.std.proofs.Math.Seq.{take-nil}
 use Rattle.std.proofs.lemmas.Map.Keys.{sorted_head, sorted_tail}
@@ -23,10 +23,6 @@ order = slice_cmp nat_cmp
 
 abbrev pub begins : List ℕ → List ℕ → Bool
 begins prefix key = starts_with nat_eq key prefix
-
-both : (a b : Bool) → (a && b) ≡ true → (a ≡ true) × (b ≡ true)
-both true b e = (refl, e)
-both false b e = cc
 
 -- what an answer of the order says of the first bytes
 le_head : (x y : ℕ) (o : Ordering) → is_le (ordering_then (nat_cmp x y) o) ≡ true → (x < y) ⊎ ((x ≡ y) × (is_le o ≡ true))
@@ -46,7 +42,7 @@ less_head x y o h =
     ] refl h
 
 begins_head : (x y : ℕ) (p k : List ℕ) → begins (x ∷ p) (y ∷ k) ≡ true → (x ≡ y) × (begins p k ≡ true)
-begins_head x y p k h = let parts = both (nat_eq x y) (begins p k) h in (eqb-true x y parts.0, parts.1)
+begins_head x y p k h = let parts = and_parts (nat_eq x y) (begins p k) h in (eqb-true x y parts.0, parts.1)
 
 begins_cons : (x y : ℕ) (p k : List ℕ) → x ≡ y → begins p k ≡ true → begins (x ∷ p) (y ∷ k) ≡ true
 begins_cons x y p k e h = ap (λ b. b && begins p k) (eq-eqb x y e) ∙ h
@@ -77,15 +73,11 @@ abbrev pub front : List ℕ → List (List ℕ) → List (List ℕ)
 front p [] = []
 front p (k ∷ ks) = cond (begins p k) (k ∷ front p ks) []
 
-not_true : (b : Bool) → (b ≡ true → ⊥) → b ≡ false
-not_true true n = absurd (n refl)
-not_true false n = refl
-
 -- where a key at or behind the prefix doesn't begin with it, none behind does
 none_behind : (p k : List ℕ) (ks : List (List ℕ)) → is_le (order p k) ≡ true → begins p k ≡ false → AllByRecursion (λ y. order k y ≡ Less) ks → filter (begins p) ks ≡ []
 none_behind p k [] le not all = refl
 none_behind p k (y ∷ ks) le not all =
-    let out : begins p y ≡ false = not_true (begins p y) (λ is. let begun : begins p k ≡ true = between p k y le all.0 is in cc) in
+    let out : begins p y ≡ false = false_from_ne_true (begins p y) (λ is. let begun : begins p k ≡ true = between p k y le all.0 is in cc) in
     ap (λ b. cond b (y ∷ filter (begins p) ks) (filter (begins p) ks)) out ∙ none_behind p k ks le not all.1
 
 from_prefix : (p : List ℕ) (es : List Entry) → IsStrictlySortedBy order (keys_of es) → filter (begins p) (keys_of es) ≡ front p (keys_of (entries_between order (Included p) Unbounded es))
@@ -100,7 +92,7 @@ from_prefix p (e ∷ es) s =
         | false ↦ λ not. none_behind p e.0 (keys_of es) le not (sorted_head order e.0 (keys_of es) s)
       ] refl
       | false ↦ λ under.
-          let out : begins p e.0 ≡ false = not_true (begins p e.0) (λ is. let le : is_le (order p e.0) ≡ true = not_below p e.0 is in cc) in
+          let out : begins p e.0 ≡ false = false_from_ne_true (begins p e.0) (λ is. let le : is_le (order p e.0) ≡ true = not_below p e.0 is in cc) in
           ap (λ b. cond b (e.0 ∷ kept) kept) out ∙ same
     ] refl
 

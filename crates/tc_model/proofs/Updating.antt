@@ -1,5 +1,6 @@
 -- Which requests update, as a test and as a fact; and what a replica refuses.
 use Rattle.std.proofs.Common.{◌≡◌, ◌⊎◌, inl, inr, ℕ, zero, suc, ◌<◌, Bool, true, false, cond, List, [], ◌∷◌, length, get_or, refl, sym, arith}
+use Rattle.std.proofs.lemmas.Bool.{and_from, and_parts, or_cases, or_left, or_right}
 use Rattle.std.specs.Prelude.{◌&&◌, ◌||◌, codes, Contains}
 use Rattle.std.specs.List.{list_any}
 use Rattle.std.specs.Cmp.Lexicographic.{same_text, other_text}
@@ -22,64 +23,44 @@ IsOneOf name [] = ⊥
 IsOneOf name (x ∷ []) = name ≡ x
 IsOneOf name (x ∷ y ∷ rest) = (name ≡ x) ⊎ IsOneOf name (y ∷ rest)
 
-any_left : (a b : Bool) → a ≡ true → (a || b) ≡ true
-any_left true b e = refl
-any_left false b e = absurd cc
-
-any_right : (a b : Bool) → b ≡ true → (a || b) ≡ true
-any_right true b e = refl
-any_right false b e = e
-
-any_split : (a b : Bool) → (a || b) ≡ true → (a ≡ true) ⊎ (b ≡ true)
-any_split true b e = inl refl
-any_split false b e = inr e
-
-both_split : (a b : Bool) → (a && b) ≡ true → (a ≡ true) × (b ≡ true)
-both_split true b e = (refl, e)
-both_split false b e = absurd cc
-
-both : (a b : Bool) → a ≡ true → b ≡ true → (a && b) ≡ true
-both true b e f = f
-both false b e f = absurd cc
-
 one_any : (name : List ℕ) (xs : List (List ℕ)) → IsOneOf name xs → list_any (is_text name) xs ≡ true
 one_any name [] h = absurd h
-one_any name (x ∷ []) h = any_left (is_text name x) false (text_true name x h)
+one_any name (x ∷ []) h = or_left (is_text name x) false (text_true name x h)
 one_any name (x ∷ y ∷ rest) h = elim h [
-  | inl e ↦ any_left (is_text name x) (list_any (is_text name) (y ∷ rest)) (text_true name x e)
-  | inr r ↦ any_right (is_text name x) (list_any (is_text name) (y ∷ rest)) (one_any name (y ∷ rest) r)
+  | inl e ↦ or_left (is_text name x) (list_any (is_text name) (y ∷ rest)) (text_true name x e)
+  | inr r ↦ or_right (is_text name x) (list_any (is_text name) (y ∷ rest)) (one_any name (y ∷ rest) r)
 ]
 
 any_one : (name : List ℕ) (xs : List (List ℕ)) → list_any (is_text name) xs ≡ true → IsOneOf name xs
 any_one name [] e = absurd cc
-any_one name (x ∷ []) e = elim (any_split (is_text name x) false e) [ inl t ↦ same_text name x (sym t) | inr f ↦ absurd cc ]
-any_one name (x ∷ y ∷ rest) e = elim (any_split (is_text name x) (list_any (is_text name) (y ∷ rest)) e) [
+any_one name (x ∷ []) e = elim (or_cases (is_text name x) false e) [ inl t ↦ same_text name x (sym t) | inr f ↦ absurd cc ]
+any_one name (x ∷ y ∷ rest) e = elim (or_cases (is_text name x) (list_any (is_text name) (y ∷ rest)) e) [
   | inl t ↦ inl (same_text name x (sym t))
   | inr r ↦ inr (any_one name (y ∷ rest) r)
 ]
 
 contains_any : (xs : List (List ℕ)) (x : List ℕ) (k : ℕ) → k < length xs → get_or xs k x ≡ x → list_any (is_text x) xs ≡ true
 contains_any [] x k lt e = absurd (omega arith)
-contains_any (y ∷ xs) x zero lt e = any_left (is_text x y) (list_any (is_text x) xs) (text_true x y (sym e))
-contains_any (y ∷ xs) x (suc k) lt e = any_right (is_text x y) (list_any (is_text x) xs) (contains_any xs x k (omega (arith, lt)) e)
+contains_any (y ∷ xs) x zero lt e = or_left (is_text x y) (list_any (is_text x) xs) (text_true x y (sym e))
+contains_any (y ∷ xs) x (suc k) lt e = or_right (is_text x y) (list_any (is_text x) xs) (contains_any xs x k (omega (arith, lt)) e)
 
 any_contains : (xs : List (List ℕ)) (x : List ℕ) → list_any (is_text x) xs ≡ true → Contains xs x
 any_contains [] x e = absurd cc
-any_contains (y ∷ xs) x e = elim (any_split (is_text x y) (list_any (is_text x) xs) e) [
+any_contains (y ∷ xs) x e = elim (or_cases (is_text x y) (list_any (is_text x) xs) e) [
   | inl t ↦ (zero, omega arith, sym (same_text x y (sym t)))
   | inr r ↦ let h = any_contains xs x r in (suc h.0, omega (arith, h.1), h.2)
 ]
 
 call_if : (name : List ℕ) (args : List (List ℕ)) → IsUpdatingCall name args → updates_call name args ≡ true
 call_if name args h = elim h [
-  | inl n ↦ any_left (list_any (is_text name) updating_names) (is_text name (codes "search") && list_any (is_text (codes "out")) args) (one_any name updating_names n)
-  | inr s ↦ any_right (list_any (is_text name) updating_names) (is_text name (codes "search") && list_any (is_text (codes "out")) args) (both _ _ (text_true name (codes "search") s.0) (contains_any args (codes "out") s.1.0 s.1.1 s.1.2))
+  | inl n ↦ or_left (list_any (is_text name) updating_names) (is_text name (codes "search") && list_any (is_text (codes "out")) args) (one_any name updating_names n)
+  | inr s ↦ or_right (list_any (is_text name) updating_names) (is_text name (codes "search") && list_any (is_text (codes "out")) args) (and_from _ _ (text_true name (codes "search") s.0) (contains_any args (codes "out") s.1.0 s.1.1 s.1.2))
 ]
 
 call_only : (name : List ℕ) (args : List (List ℕ)) → updates_call name args ≡ true → IsUpdatingCall name args
-call_only name args e = elim (any_split (list_any (is_text name) updating_names) (is_text name (codes "search") && list_any (is_text (codes "out")) args) e) [
+call_only name args e = elim (or_cases (list_any (is_text name) updating_names) (is_text name (codes "search") && list_any (is_text (codes "out")) args) e) [
   | inl n ↦ inl (any_one name updating_names n)
-  | inr s ↦ let b = both_split (is_text name (codes "search")) (list_any (is_text (codes "out")) args) s in inr (same_text name (codes "search") (sym b.0), any_contains args (codes "out") b.1)
+  | inr s ↦ let b = and_parts (is_text name (codes "search")) (list_any (is_text (codes "out")) args) s in inr (same_text name (codes "search") (sym b.0), any_contains args (codes "out") b.1)
 ]
 
 pub updates_if : (r : Request) → IsUpdating r → updates r ≡ true

@@ -1,6 +1,6 @@
 //! The contents of a database.
-ghost use Rattle.std.specs.Prelude.{◌≡◌, ◌++◌, IsSome, OnOk, OnErr};
-ghost use Rattle.std.specs.FinMap.{empty, get, insert};
+ghost use Rattle.std.specs.Prelude.{◌≡◌, ◌++◌, IsSome, IfOk, OnOk, OnErr};
+ghost use Rattle.std.specs.FinMap.{empty, get, insert, remove};
 ghost use Rattle.tc_model.specs.Maps.{value_of};
 ghost use Rattle.tc_model.specs.Contents.{with_map};
 ghost use Rattle.tc_model.specs.Plans.{changed_by};
@@ -51,6 +51,30 @@ impl Contents {
         ensures { result.now ≡ self.now.map }
     {
         &self.map
+    }
+
+    /// Gives a key a value, and hands back the one that it had. An `Err` changes nothing.
+    pub fn set(&mut self, key: Blob, value: Blob) -> Result<Option<Blob>, AllocError>
+        ensures ok { OnOk result (self.new ≡ with_map self.old (insert self.old.map key value)) }
+        ensures replaced { IfOk result (λ old. old ≡ get self.old.map key) }
+        ensures err { OnErr result (self.new ≡ self.old) }
+    {
+        self.map.set(key, value)
+    }
+
+    /// Takes a key out, where it is held, and hands back its value.
+    pub fn remove(&mut self, key: &Blob) -> Option<Blob>
+        ensures map { self.new ≡ with_map self.old (remove self.old.map key.now) }
+        ensures value { result ≡ get self.old.map key.now }
+    {
+        self.map.remove(key)
+    }
+
+    /// Takes all keys out.
+    pub fn clear(&mut self)
+        ensures { self.new ≡ with_map self.old empty }
+    {
+        self.map.clear();
     }
 
     /// Changes the map. An `Err` changes nothing.

@@ -58,13 +58,14 @@ impl ByteMap {
         self.pairs.len()
     }
 
-    /// Gives a key a value. An `Err` changes nothing.
-    pub fn set(&mut self, key: Blob, value: Blob) -> Result<(), AllocError>
+    /// Gives a key a value, and hands back the one that it had. An `Err` changes nothing.
+    pub fn set(&mut self, key: Blob, value: Blob) -> Result<Option<Blob>, AllocError>
         ensures ok { OnOk result (self.new ≡ map.insert self.old key value) }
+        ensures replaced { IfOk result (λ old. old ≡ map.get self.old key) }
         ensures err { OnErr result (self.new ≡ self.old) }
     {
-        self.pairs.insert(key, value)?;
-        Ok(())
+        let replaced = self.pairs.insert(key, value)?;
+        Ok(replaced)
     }
 
     /// Joins bytes behind the value of a key, where it is held, at the cost of these bytes. An `Err` changes nothing.
@@ -79,11 +80,12 @@ impl ByteMap {
         value.append(more)
     }
 
-    /// Takes a key out, where it is held.
-    pub fn remove(&mut self, key: &Blob)
-        ensures { self.new ≡ map.remove self.old key.now }
+    /// Takes a key out, where it is held, and hands back its value.
+    pub fn remove(&mut self, key: &Blob) -> Option<Blob>
+        ensures map { self.new ≡ map.remove self.old key.now }
+        ensures value { result ≡ map.get self.old key.now }
     {
-        self.pairs.remove(key);
+        self.pairs.remove(key)
     }
 
     /// Takes all keys out.
@@ -99,7 +101,10 @@ impl ByteMap {
         ensures err { OnErr result (self.new ≡ self.old) }
     {
         match change {
-            Change::Set { key, value } => self.set(key, value),
+            Change::Set { key, value } => {
+                self.set(key, value)?;
+                Ok(())
+            }
             Change::Remove { key } => {
                 self.remove(&key);
                 Ok(())

@@ -1,6 +1,6 @@
 -- What the log needs, entry by entry.
 use Rattle.std.proofs.Common.{◌≡◌, ⊎_elim, ℕ, zero, suc, ◌+◌, ◌-◌, ◌^◌, ◌<◌, ◌≤◌, min, max, List, [], ◌∷◌, length, get_or, set, true, false, Bool, ◌&&◌, nat_le, arith, refl, sym, ◌∙◌, subst}
-use Rattle.std.proofs.lemmas.Bool.{cases_lt}
+use Rattle.std.proofs.lemmas.Bool.{cases_lt, and_from, and_parts}
 use Rattle.std.proofs.lemmas.Bool.Decides.{nat_tests}
 use Rattle.std.proofs.lemmas.List.{get_or-set_same, get_or-set_other}
 use Rattle.ud_log.specs.Undo.{all_short, length_of}
@@ -9,21 +9,13 @@ use Rattle.tc_undo.specs.Room.{needs, stop_of}
 pub needs_step : (left n : ℕ) → n ≡ min left 4096 → 0 < left → 20 + n + needs (left - n) ≤ needs left
 needs_step left n is some = ⊎_elim (λ low. omega (arith, low, is, some)) (λ high. omega (arith, high, is, some)) (cases_lt left 4097)
 
-and_parts : (a b : Bool) → (a && b) ≡ true → (a ≡ true) × (b ≡ true)
-and_parts true true is = (refl, refl)
-and_parts true false is = absurd cc
-and_parts false b is = absurd cc
-
-both : (a b : Bool) → a ≡ true → b ≡ true → (a && b) ≡ true
-both a b x y = λ i. x i && y i
-
 le_true : (a b : ℕ) → a ≤ b → nat_le a b ≡ true
 le_true a b le = grind (arith, nat_tests)
 
 pub short_set : (ns : List ℕ) (k n : ℕ) → all_short ns ≡ true → n ≤ 2 ^ 40 → all_short (set ns k n) ≡ true
 short_set [] k n is le = refl
-short_set (m ∷ ns) zero n is le = both (nat_le n (2 ^ 40)) (all_short ns) (le_true n (2 ^ 40) le) (and_parts (nat_le m (2 ^ 40)) (all_short ns) is).1
-short_set (m ∷ ns) (suc k) n is le = let p = and_parts (nat_le m (2 ^ 40)) (all_short ns) is in both (nat_le m (2 ^ 40)) (all_short (set ns k n)) p.0 (short_set ns k n p.1 le)
+short_set (m ∷ ns) zero n is le = and_from (nat_le n (2 ^ 40)) (all_short ns) (le_true n (2 ^ 40) le) (and_parts (nat_le m (2 ^ 40)) (all_short ns) is).1
+short_set (m ∷ ns) (suc k) n is le = let p = and_parts (nat_le m (2 ^ 40)) (all_short ns) is in and_from (nat_le m (2 ^ 40)) (all_short (set ns k n)) p.0 (short_set ns k n p.1 le)
 
 -- what a cut removes ends where the file does
 stop_all : (active : Bool) (recorded lens : List ℕ) (f at : ℕ) → stop_of active recorded lens f (at + (length_of lens f - at)) - at ≡ stop_of active recorded lens f (length_of lens f) - at

@@ -39,14 +39,14 @@ pub trait Base {
     fn apply(
         &mut self,
         space: &mut Self::S,
-        request: &Request,
+        request: Request,
         walk: &mut Walk,
         reply: &mut Blob,
     ) -> Result<Applied, RecErr>
         requires sound { Self.S.sound space.old }
         requires is_of { Self.S.tells → is_of self.old (Self.S.now space.old) }
-        ensures applied { IfOk result (λ a. Self.S.tells → Applies (apply false request.now (contents self.old) walk.old) request.now a (contents self.new) walk.new reply.old reply.new) }
-        ensures writes { IfOk result (λ a. a.updated ≡ false → is_optimize request.now ≡ false → Self.S.touched space.new ≡ Self.S.touched space.old) }
+        ensures applied { IfOk result (λ a. Self.S.tells → Applies (apply false request (contents self.old) walk.old) request a (contents self.new) walk.new reply.old reply.new) }
+        ensures writes { IfOk result (λ a. a.updated ≡ false → is_optimize request ≡ false → Self.S.touched space.new ≡ Self.S.touched space.old) }
         ensures steady { Self.S.tells → Steady Self.S.moment Self.S.left Self.S.kept space.old space.new }
         ensures sound { OnOk result (Self.S.sound space.new) }
         ensures is_of_still { OnOk result (Self.S.tells → is_of self.new (Self.S.now space.new)) }

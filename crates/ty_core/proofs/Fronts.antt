@@ -1,9 +1,9 @@
 -- A request at the front, by its reading and by its spelling.
-use Rattle.std.proofs.Common.{◌≡◌, ℕ, ◌≤◌, Bool, true, false, List, [], ◌++◌, length, drop, sym, ap, subst, ◌∙◌, arith, length-append}
+use Rattle.std.proofs.Common.{◌≡◌, ℕ, ◌≤◌, Bool, true, false, List, [], ◌++◌, length, drop, refl, sym, ap, subst, ◌∙◌, arith, length-append}
 use Rattle.std.proofs.lemmas.List.{drop-append-le}
 use Rattle.tc_base.proofs.Exact.{same_whole}
 use Rattle.ty_wire.proofs.Answered.{whole}
-use Rattle.std.specs.Prelude.{Ok, ◌&&◌}
+use Rattle.std.specs.Prelude.{Ok, ◌&&◌, ◌||◌}
 use Rattle.tc_base.specs.declared.request.Request.{Request}
 use Rattle.tc_model.specs.Apply.{Step, apply, is_updated, refusal_of, updates}
 use Rattle.tc_model.specs.Applying.{Applies}
@@ -13,7 +13,9 @@ use Rattle.tc_model.proofs.Updating.{apply_refused}
 use Rattle.ty_wire.specs.Prefixes.{IsPrefix}
 use Rattle.ty_wire.specs.Reading.{request_at}
 use Rattle.ty_wire.specs.Spelling.{spelling, Fits, reply_bytes}
-use Rattle.ty_core.specs.Serving.{Serves}
+use Rattle.tc_model.specs.Packing.{is_optimize}
+use Rattle.ty_core.specs.declared.serving.Served.{Served}
+use Rattle.ty_core.specs.Serving.{Serves, TakesOff, is_repl}
 
 pub refused_applies : (replica : Bool) (r : Request) (c : Contents) (w : Walk) (old new : List ℕ) → (replica && updates r) ≡ true → new ≡ old ++ reply_bytes (refusal_of r)
     → Applies (apply replica r c w) r (record { ok = false; updated = false }) c w old new
@@ -36,19 +38,22 @@ read_is bytes n r q reads fits begins =
     let s = same_whole r q begins.0 (drop n bytes) (sym w ∙ reads) in
     record { parts = begins.1 ∙ ap (λ (l : List ℕ). spelling r ++ l) s.1; reads = w ∙ ap (λ (l : List ℕ). Ok (r, l)) s.1 }
 
-pub front_parts : (bytes u u' : List ℕ) (n : ℕ) (r q : Request) → bytes ≡ u → request_at u ≡ Ok (q, drop n u) → Fits r → IsPrefix (spelling r) bytes → u' ≡ drop n u → u ≡ spelling r ++ u'
-front_parts bytes u u' n r q same reads fits begins left =
-    (read_is u n r q reads fits (subst (λ (l : List ℕ). IsPrefix (spelling r) l) same begins)).parts ∙ ap (λ (l : List ℕ). spelling r ++ l) (sym left)
+pub takes_off : (bytes u u' : List ℕ) (n : ℕ) (r q : Request) (d : Served) → bytes ≡ u → request_at u ≡ Ok (q, drop n u) → Fits r → IsPrefix (spelling r) bytes → u' ≡ drop n u → d.feeds ≡ is_repl r → TakesOff r d u u'
+takes_off bytes u u' n r q d same reads fits begins left feeds =
+    let f = read_is u n r q reads fits (subst (λ (l : List ℕ). IsPrefix (spelling r) l) same begins) in record {
+      front = f.reads ∙ ap (λ (l : List ℕ). Ok (r, l)) (sym left);
+      fits = fits;
+      spelled = f.parts ∙ ap (λ (l : List ℕ). spelling r ++ l) (sym left);
+      feeds = feeds;
+    }
 
-pub front_served : (replica : Bool) (bytes u u' : List ℕ) (n : ℕ) (r q : Request) (a : Applied) (c c' : Contents) (w w' : Walk) (waiting waiting' : List ℕ) → bytes ≡ u → request_at u ≡ Ok (q, drop n u) → Fits r → IsPrefix (spelling r) bytes → u' ≡ drop n u
-    → Applies (apply replica r c w) r a c' w' waiting waiting' → Serves replica r (drop n u) a.updated c c' w w' u u' waiting waiting'
-front_served replica bytes u u' n r q a c c' w w' waiting waiting' same reads fits begins left applied = record {
-  front = (read_is u n r q reads fits (subst (λ (l : List ℕ). IsPrefix (spelling r) l) same begins)).reads;
-  unread_is = left;
+pub serves : (replica : Bool) (r : Request) (a : Applied) (d : Served) (packs : Bool) (c c' : Contents) (w w' : Walk) (waiting waiting' : List ℕ) → d.commits ≡ (a.updated || packs) → packs ≡ is_optimize r
+    → Applies (apply replica r c w) r a c' w' waiting waiting' → Serves replica r d c c' w w' waiting waiting'
+serves replica r a d packs c c' w w' waiting waiting' is p applied = record {
   contents = applied.contents;
   walk = applied.walk;
   waiting_is = applied.bytes;
-  was = applied.updated;
+  commits = is ∙ ap (λ (b : Bool). b || packs) applied.updated ∙ ap (λ (b : Bool). is_updated r (apply replica r c w) || b) p;
 }
 
 -- ---- a session's fields
@@ -56,6 +61,11 @@ front_served replica bytes u u' n r q a c c' w w' waiting waiting' same reads fi
 pub still_inside : (old new : List ℕ) (taken : ℕ) → IsPrefix old new → taken ≤ length old → taken ≤ length new
 still_inside old new taken more le = omega (arith, le, ap length more.1, length-append old more.0)
 
--- where nothing waited, what came waits
-pub waits_now : (old new more : List ℕ) (taken : ℕ) → taken ≤ length old → drop taken old ≡ [] → new ≡ old ++ more → drop taken new ≡ drop taken old ++ more
-waits_now old new more taken le none is = ap (drop taken) is ∙ drop-append-le taken old more le
+-- what came behind the bytes that wait waits
+pub serves_behind : (replica : Bool) (r : Request) (d : Served) (c c' : Contents) (w w' : Walk) (waiting old new : List ℕ) (taken : ℕ) → drop taken old ≡ waiting → taken ≤ length old → Serves replica r d c c' w w' old new → Serves replica r d c c' w w' waiting (drop taken new)
+serves_behind replica r d c c' w w' waiting old new taken is le s = record {
+  contents = s.contents;
+  walk = s.walk;
+  waiting_is = let more = reply_bytes (apply replica r c w).reply in ap (drop taken) s.waiting_is ∙ drop-append-le taken old more le ∙ ap (λ (l : List ℕ). l ++ more) is;
+  commits = s.commits;
+}

@@ -10,7 +10,7 @@ ghost use Rattle.ty_wire.specs.Prefixes.{IsPrefix};
 ghost use Rattle.ty_wire.specs.Reading.{request_at};
 ghost use Rattle.ty_wire.specs.Spelling.{spelling, Fits};
 ghost use Rattle.tc_model.specs.Packing.{is_optimize};
-ghost use Rattle.ty_core.specs.Serving.{Serves};
+ghost use Rattle.ty_core.specs.Serving.{Serves, TakesOff, is_repl};
 
 use bytes::BytesMut;
 use std::alloc::{AllocError, Global};
@@ -20,11 +20,13 @@ use tc_space::{RecErr, Space};
 use ty_base::Base;
 use ty_wire::{is_updating, read_request, write_reply};
 
-/// The request that was served, and whether it updated the contents.
-#[derive(Debug, Drop)]
+/// What is left to do behind a request that was served.
+#[derive(Clone, Copy, Debug, PartialEq, Eq)]
 pub struct Served {
-    pub updated: bool,
-    pub request: Request,
+    /// Whether there is anything to commit: it updated the contents, or packs the files.
+    pub commits: bool,
+    /// Whether it asks for the feed of updates, to which no reply was added.
+    pub feeds: bool,
 }
 
 // The reply to a request that is refused.
@@ -47,19 +49,33 @@ fn is_refused(request: &Request, replica: bool) -> bool
     if replica { is_updating(request) } else { false }
 }
 
+// Whether it packs the files.
+fn is_packing(request: &Request) -> bool
+    ensures { result ≡ is_optimize request.now }
+{
+    matches!(request, Request::Optimize { .. })
+}
+
+// Whether it asks for the feed of updates.
+fn is_feed(request: &Request) -> bool
+    ensures { result ≡ is_repl request.now }
+{
+    matches!(request, Request::Repl { .. })
+}
+
 /// Serves a request: on a replica each updating one of a client fails, else the base serves it.
 pub fn answer<B: Base>(
     base: &mut B,
     space: &mut B::S,
-    request: &Request,
+    request: Request,
     walk: &mut Walk,
     replica: bool,
     reply: &mut Blob,
 ) -> Result<Applied, RecErr>
     requires sound { B.S.sound space.old }
     requires is_of { B.S.tells → B.is_of base.old (B.S.now space.old) }
-    ensures applied { IfOk result (λ a. B.S.tells → Applies (apply replica request.now (B.contents base.old) walk.old) request.now a (B.contents base.new) walk.new reply.old reply.new) }
-    ensures writes { IfOk result (λ a. a.updated ≡ false → is_optimize request.now ≡ false → B.S.touched space.new ≡ B.S.touched space.old) }
+    ensures applied { IfOk result (λ a. B.S.tells → Applies (apply replica request (B.contents base.old) walk.old) request a (B.contents base.new) walk.new reply.old reply.new) }
+    ensures writes { IfOk result (λ a. a.updated ≡ false → is_optimize request ≡ false → B.S.touched space.new ≡ B.S.touched space.old) }
     ensures steady { B.S.tells → Steady B.S.moment B.S.left B.S.kept space.old space.new }
     ensures sound { OnOk result (B.S.sound space.new) }
     ensures is_of_still { OnOk result (B.S.tells → B.is_of base.new (B.S.now space.new)) }
@@ -69,8 +85,8 @@ pub fn answer<B: Base>(
     ensures later { B.S.faults space.old ≤ B.S.faults space.new }
     ensures cause { IsErrOf result RecErr.Fault → Rose (B.S.faults space.old) (B.S.faults space.new) }
 {
-    if is_refused(request, replica) {
-        write_reply(&refusal(request), reply)?;
+    if is_refused(&request, replica) {
+        write_reply(&refusal(&request), reply)?;
         return Ok(Applied {
             ok: false,
             updated: false,
@@ -94,10 +110,8 @@ pub fn serve_front<B: Base>(
     requires spelled { (r : Request) × Fits r × IsPrefix (spelling r) unread.old.items }
     requires sound { B.S.sound space.old }
     requires is_of { B.S.tells → B.is_of base.old (B.S.now space.old) }
-    ensures served { IfOk result (λ d. B.S.tells → Serves replica d.request (drop whole unread.old.items) d.updated (B.contents base.old) (B.contents base.new) walk.old walk.new unread.old.items unread.new.items waiting.old waiting.new) }
-    ensures fits { IfOk result (λ d. Fits d.request) }
-    ensures spelled { IfOk result (λ d. unread.old.items ≡ spelling d.request ++ unread.new.items) }
-    ensures writes { IfOk result (λ d. d.updated ≡ false → is_optimize d.request ≡ false → B.S.touched space.new ≡ B.S.touched space.old) }
+    ensures served { IfOk result (λ d. (r : Request) × TakesOff r d unread.old.items unread.new.items × (B.S.tells → Serves replica r d (B.contents base.old) (B.contents base.new) walk.old walk.new waiting.old waiting.new)) }
+    ensures writes { IfOk result (λ d. d.commits ≡ false → B.S.touched space.new ≡ B.S.touched space.old) }
     ensures steady { B.S.tells → Steady B.S.moment B.S.left B.S.kept space.old space.new }
     ensures sound { OnOk result (B.S.sound space.new) }
     ensures is_of_still { OnOk result (B.S.tells → B.is_of base.new (B.S.now space.new)) }
@@ -109,11 +123,13 @@ pub fn serve_front<B: Base>(
     ensures cause { IsErrOf result RecErr.Fault → Rose (B.S.faults space.old) (B.S.faults space.new) }
 {
     let request = read_request(alloc, unread.as_slice())?;
-    let applied = answer(base, space, &request, walk, replica, waiting)?;
+    let packs = is_packing(&request);
+    let feeds = is_feed(&request);
+    let applied = answer(base, space, request, walk, replica, waiting)?;
     unread.advance(whole);
     Ok(Served {
-        updated: applied.updated,
-        request,
+        commits: applied.updated | packs,
+        feeds,
     })
 }
 

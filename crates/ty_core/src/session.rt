@@ -8,7 +8,7 @@ ghost use Rattle.ty_wire.specs.Spelling.{spelling, Fits};
 ghost use Rattle.ty_wire.specs.Taking.{Takes, IsRead};
 ghost use Rattle.tc_model.specs.Packing.{is_optimize};
 ghost use Rattle.ty_core.specs.Queues.{queue};
-ghost use Rattle.ty_core.specs.Serving.{Serves};
+ghost use Rattle.ty_core.specs.Serving.{Serves, TakesOff};
 
 use crate::serving::{Served, serve_front};
 use bytes::BytesMut;
@@ -119,10 +119,8 @@ impl Session {
         requires quiet { self.old.waiting ≡ [] }
         requires sound { B.S.sound space.old }
         requires is_of { B.S.tells → B.is_of base.old (B.S.now space.old) }
-        ensures served { IfOk result (λ d. B.S.tells → Serves replica d.request self.new.unread d.updated (B.contents base.old) (B.contents base.new) walk.old walk.new self.old.unread self.new.unread self.old.waiting self.new.waiting) }
-        ensures fits { IfOk result (λ d. Fits d.request) }
-        ensures spelled { IfOk result (λ d. self.old.unread ≡ spelling d.request ++ self.new.unread) }
-        ensures writes { IfOk result (λ d. d.updated ≡ false → is_optimize d.request ≡ false → B.S.touched space.new ≡ B.S.touched space.old) }
+        ensures served { IfOk result (λ d. (r : Request) × TakesOff r d self.old.unread self.new.unread × (B.S.tells → Serves replica r d (B.contents base.old) (B.contents base.new) walk.old walk.new self.old.waiting self.new.waiting)) }
+        ensures writes { IfOk result (λ d. d.commits ≡ false → B.S.touched space.new ≡ B.S.touched space.old) }
         ensures steady { B.S.tells → Steady B.S.moment B.S.left B.S.kept space.old space.new }
         ensures sound { OnOk result (B.S.sound space.new) }
         ensures is_of_still { OnOk result (B.S.tells → B.is_of base.new (B.S.now space.new)) }

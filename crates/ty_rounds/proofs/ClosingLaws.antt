@@ -1,5 +1,6 @@
 -- Closings: a connection that is closed leaves the list, and no other does.
 use Rattle.std.proofs.Common.{◌≡◌, ℕ, zero, suc, ◌+◌, ◌<◌, ◌≤◌, Bool, true, false, not, List, [], ◌∷◌, ◌++◌, length, get_or, refl, sym, ap, subst, ◌∙◌, append_assoc, arith, eq-eqb, length-append, Ok, Err}
+use Rattle.std.proofs.lemmas.Bool.{cond-false, cond-true, or_from, or_parts}
 use Rattle.std.specs.Prelude.{nat_eq, ◌&&◌, Result, IsErr, remove}
 use Rattle.std.specs.List.{list_any, filter}
 use Rattle.std.proofs.lemmas.List.{append-nil}
@@ -16,7 +17,7 @@ use Rattle.ty_rounds.specs.Holding.{Holds, AllHold, AllFine, AreApart, Wired}
 use Rattle.ty_rounds.specs.Closings.{ClosedFront, ClosesFront, ClosedAll, ClosesAll}
 use Rattle.ty_rounds.specs.Turns.{Told, MayPlay}
 use Rattle.ty_rounds.specs.declared.peer.Peer.{Peer}
-use Rattle.ty_rounds.proofs.Places.{if_true, if_false, none_split, none_both, eq_swap}
+use Rattle.ty_rounds.proofs.Places.{eq_swap}
 use Rattle.ty_rounds.proofs.Hearing.{more_hold}
 use Rattle.ty_rounds.proofs.Waiting.{over_is}
 use Rattle.ty_rounds.proofs.SendLaws.{after_more, asked_more, came_more}
@@ -32,32 +33,32 @@ stay_all c [] [] a e = refl
 stay_all c [] (k ∷ ks) a e = absurd a
 stay_all c (p ∷ ps) [] a e = absurd a
 stay_all c (p ∷ ps) (k ∷ ks) a e =
-    let s = none_split (nat_eq c p.conn) (list_any (nat_eq c) (numbers ps)) e in
-    if_true (other c k) _ _ (ap (λ (n : ℕ). not (nat_eq n c)) a.0.conn ∙ ap not (eq_swap c p.conn s.0)) ∙ ap (λ (l : List Client). k ∷ l) (stay_all c ps ks a.1 s.1)
+    let s = or_parts (nat_eq c p.conn) (list_any (nat_eq c) (numbers ps)) e in
+    cond-true (other c k) _ _ (ap (λ (n : ℕ). not (nat_eq n c)) a.0.conn ∙ ap not (eq_swap c p.conn s.0)) ∙ ap (λ (l : List Client). k ∷ l) (stay_all c ps ks a.1 s.1)
 
 go_none : (c : ℕ) (ps : List Peer) (ks : List Client) → AllHold ps ks → list_any (nat_eq c) (numbers ps) ≡ false → filter (λ (k : Client). nat_eq k.conn c) ks ≡ []
 go_none c [] [] a e = refl
 go_none c [] (k ∷ ks) a e = absurd a
 go_none c (p ∷ ps) [] a e = absurd a
 go_none c (p ∷ ps) (k ∷ ks) a e =
-    let s = none_split (nat_eq c p.conn) (list_any (nat_eq c) (numbers ps)) e in
-    if_false (nat_eq k.conn c) _ _ (ap (λ (n : ℕ). nat_eq n c) a.0.conn ∙ eq_swap c p.conn s.0) ∙ go_none c ps ks a.1 s.1
+    let s = or_parts (nat_eq c p.conn) (list_any (nat_eq c) (numbers ps)) e in
+    cond-false (nat_eq k.conn c) _ _ (ap (λ (n : ℕ). nat_eq n c) a.0.conn ∙ eq_swap c p.conn s.0) ∙ go_none c ps ks a.1 s.1
 
 ask_none : (c : ℕ) (ps : List Peer) (ks : List Client) → AllHold ps ks → list_any (nat_eq c) (numbers ps) ≡ false → list_any (λ k. nat_eq k.conn c && not (world.is_over k)) ks ≡ false
 ask_none c [] [] a e = refl
 ask_none c [] (k ∷ ks) a e = absurd a
 ask_none c (p ∷ ps) [] a e = absurd a
 ask_none c (p ∷ ps) (k ∷ ks) a e =
-    let s = none_split (nat_eq c p.conn) (list_any (nat_eq c) (numbers ps)) e in
-    none_both (nat_eq k.conn c && not (world.is_over k)) (list_any (λ k. nat_eq k.conn c && not (world.is_over k)) ks) (first (nat_eq k.conn c) (not (world.is_over k)) (ap (λ (n : ℕ). nat_eq n c) a.0.conn ∙ eq_swap c p.conn s.0)) (ask_none c ps ks a.1 s.1)
+    let s = or_parts (nat_eq c p.conn) (list_any (nat_eq c) (numbers ps)) e in
+    or_from (nat_eq k.conn c && not (world.is_over k)) (list_any (λ k. nat_eq k.conn c && not (world.is_over k)) ks) (first (nat_eq k.conn c) (not (world.is_over k)) (ap (λ (n : ℕ). nat_eq n c) a.0.conn ∙ eq_swap c p.conn s.0)) (ask_none c ps ks a.1 s.1)
   where
     first : (a b : Bool) → a ≡ false → (a && b) ≡ false
     first false b e = refl
     first true b e = absurd cc
 
 apart_from : (x : Peer) (front back : List Peer) (p : Peer) → list_any (nat_eq x.conn) (numbers (front ++ p ∷ back)) ≡ false → nat_eq x.conn p.conn ≡ false
-apart_from x [] back p e = (none_split (nat_eq x.conn p.conn) (list_any (nat_eq x.conn) (numbers back)) e).0
-apart_from x (y ∷ front) back p e = apart_from x front back p (none_split (nat_eq x.conn y.conn) (list_any (nat_eq x.conn) (numbers (front ++ p ∷ back))) e).1
+apart_from x [] back p e = (or_parts (nat_eq x.conn p.conn) (list_any (nat_eq x.conn) (numbers back)) e).0
+apart_from x (y ∷ front) back p e = apart_from x front back p (or_parts (nat_eq x.conn y.conn) (list_any (nat_eq x.conn) (numbers (front ++ p ∷ back))) e).1
 
 -- the closing of one that is over, behind those that stay and in front of the rest
 record Leaves (c : ℕ) (stay rest : List Client) (k : Client) : Type 0 where
@@ -69,9 +70,9 @@ leaves : (front back : List Peer) (p : Peer) (stay rest : List Client) (k : Clie
 leaves [] back p [] rest k f h b apart over =
     let same : nat_eq k.conn p.conn ≡ true = eq-eqb k.conn p.conn h.conn in
     record {
-      there = if_false (other p.conn k) _ _ (ap not same) ∙ stay_all p.conn back rest b apart.0;
-      gone = if_true (nat_eq k.conn p.conn) _ _ same ∙ ap (λ (l : List Client). k ∷ l) (go_none p.conn back rest b apart.0);
-      asked = none_both (nat_eq k.conn p.conn && not (world.is_over k)) (list_any (λ j. nat_eq j.conn p.conn && not (world.is_over j)) rest) (second (nat_eq k.conn p.conn) (not (world.is_over k)) (ap not over)) (ask_none p.conn back rest b apart.0);
+      there = cond-false (other p.conn k) _ _ (ap not same) ∙ stay_all p.conn back rest b apart.0;
+      gone = cond-true (nat_eq k.conn p.conn) _ _ same ∙ ap (λ (l : List Client). k ∷ l) (go_none p.conn back rest b apart.0);
+      asked = or_from (nat_eq k.conn p.conn && not (world.is_over k)) (list_any (λ j. nat_eq j.conn p.conn && not (world.is_over j)) rest) (second (nat_eq k.conn p.conn) (not (world.is_over k)) (ap not over)) (ask_none p.conn back rest b apart.0);
     }
   where
     second : (a b : Bool) → b ≡ false → (a && b) ≡ false
@@ -83,9 +84,9 @@ leaves (x ∷ front) back p (j ∷ stay) rest k f h b apart over =
     let r = leaves front back p stay rest k f.1 h b apart.1 over in
     let away : nat_eq j.conn p.conn ≡ false = ap (λ (n : ℕ). nat_eq n p.conn) f.0.conn ∙ apart_from x front back p apart.0 in
     record {
-      there = if_true (other p.conn j) _ _ (ap not away) ∙ ap (λ (l : List Client). j ∷ l) r.there;
-      gone = if_false (nat_eq j.conn p.conn) _ _ away ∙ r.gone;
-      asked = none_both (nat_eq j.conn p.conn && not (world.is_over j)) (list_any (λ i. nat_eq i.conn p.conn && not (world.is_over i)) (stay ++ k ∷ rest)) (first (nat_eq j.conn p.conn) (not (world.is_over j)) away) r.asked;
+      there = cond-true (other p.conn j) _ _ (ap not away) ∙ ap (λ (l : List Client). j ∷ l) r.there;
+      gone = cond-false (nat_eq j.conn p.conn) _ _ away ∙ r.gone;
+      asked = or_from (nat_eq j.conn p.conn && not (world.is_over j)) (list_any (λ i. nat_eq i.conn p.conn && not (world.is_over i)) (stay ++ k ∷ rest)) (first (nat_eq j.conn p.conn) (not (world.is_over j)) away) r.asked;
     }
   where
     first : (a b : Bool) → a ≡ false → (a && b) ≡ false
@@ -97,16 +98,16 @@ leaves (x ∷ front) back p (j ∷ stay) rest k f h b apart over =
 without_none : (c : ℕ) (ns : List ℕ) → list_any (nat_eq c) ns ≡ false → without c ns ≡ ns
 without_none c [] e = refl
 without_none c (n ∷ ns) e =
-    let s = none_split (nat_eq c n) (list_any (nat_eq c) ns) e in
-    if_true (not (nat_eq n c)) _ _ (ap not (eq_swap c n s.0)) ∙ ap (λ (l : List ℕ). n ∷ l) (without_none c ns s.1)
+    let s = or_parts (nat_eq c n) (list_any (nat_eq c) ns) e in
+    cond-true (not (nat_eq n c)) _ _ (ap not (eq_swap c n s.0)) ∙ ap (λ (l : List ℕ). n ∷ l) (without_none c ns s.1)
 
 without_one : (front back : List Peer) (p : Peer) → AreApart (numbers (front ++ p ∷ back)) → without p.conn (numbers (front ++ p ∷ back)) ≡ numbers (front ++ back)
-without_one [] back p apart = if_false (not (nat_eq p.conn p.conn)) _ _ (ap not (eq-eqb p.conn p.conn refl)) ∙ without_none p.conn (numbers back) apart.0
-without_one (x ∷ front) back p apart = if_true (not (nat_eq x.conn p.conn)) _ _ (ap not (apart_from x front back p apart.0)) ∙ ap (λ (l : List ℕ). x.conn ∷ l) (without_one front back p apart.1)
+without_one [] back p apart = cond-false (not (nat_eq p.conn p.conn)) _ _ (ap not (eq-eqb p.conn p.conn refl)) ∙ without_none p.conn (numbers back) apart.0
+without_one (x ∷ front) back p apart = cond-true (not (nat_eq x.conn p.conn)) _ _ (ap not (apart_from x front back p apart.0)) ∙ ap (λ (l : List ℕ). x.conn ∷ l) (without_one front back p apart.1)
 
 any_less : (c : ℕ) (front back : List Peer) (p : Peer) → list_any (nat_eq c) (numbers (front ++ p ∷ back)) ≡ false → list_any (nat_eq c) (numbers (front ++ back)) ≡ false
-any_less c [] back p e = (none_split (nat_eq c p.conn) (list_any (nat_eq c) (numbers back)) e).1
-any_less c (x ∷ front) back p e = let s = none_split (nat_eq c x.conn) (list_any (nat_eq c) (numbers (front ++ p ∷ back))) e in none_both (nat_eq c x.conn) (list_any (nat_eq c) (numbers (front ++ back))) s.0 (any_less c front back p s.1)
+any_less c [] back p e = (or_parts (nat_eq c p.conn) (list_any (nat_eq c) (numbers back)) e).1
+any_less c (x ∷ front) back p e = let s = or_parts (nat_eq c x.conn) (list_any (nat_eq c) (numbers (front ++ p ∷ back))) e in or_from (nat_eq c x.conn) (list_any (nat_eq c) (numbers (front ++ back))) s.0 (any_less c front back p s.1)
 
 apart_less : (front back : List Peer) (p : Peer) → AreApart (numbers (front ++ p ∷ back)) → AreApart (numbers (front ++ back))
 apart_less [] back p a = a.1
@@ -154,11 +155,11 @@ fine_more (k ∷ ks) js a b = (a.0, fine_more ks js a.1 b)
 
 any_append : (f : Client → Bool) (ks js : List Client) → list_any f ks ≡ false → list_any f js ≡ false → list_any f (ks ++ js) ≡ false
 any_append f [] js a b = b
-any_append f (k ∷ ks) js a b = let s = none_split (f k) (list_any f ks) a in none_both (f k) (list_any f (ks ++ js)) s.0 (any_append f ks js s.1 b)
+any_append f (k ∷ ks) js a b = let s = or_parts (f k) (list_any f ks) a in or_from (f k) (list_any f (ks ++ js)) s.0 (any_append f ks js s.1 b)
 
 any_drop : (f : Client → Bool) (ks js : List Client) (k : Client) → list_any f (ks ++ k ∷ js) ≡ false → list_any f (ks ++ js) ≡ false
-any_drop f [] js k a = (none_split (f k) (list_any f js) a).1
-any_drop f (x ∷ ks) js k a = let s = none_split (f x) (list_any f (ks ++ k ∷ js)) a in none_both (f x) (list_any f (ks ++ js)) s.0 (any_drop f ks js k s.1)
+any_drop f [] js k a = (or_parts (f k) (list_any f js) a).1
+any_drop f (x ∷ ks) js k a = let s = or_parts (f x) (list_any f (ks ++ k ∷ js)) a in or_from (f x) (list_any f (ks ++ js)) s.0 (any_drop f ks js k s.1)
 
 -- ---- the loop
 
@@ -248,7 +249,7 @@ one_stays a b x y ps now i p lt e over f = record {
         at = omega (arith, c.at, length-append c.front (p ∷ []));
         held = more_hold c.front c.stay p l.client c.held l.holds;
         left = l.left;
-        none_over = any_append world.is_over c.stay (l.client ∷ []) c.none_over (none_both (world.is_over l.client) false (over_is p l.client l.holds ∙ over) refl);
+        none_over = any_append world.is_over c.stay (l.client ∷ []) c.none_over (or_from (world.is_over l.client) false (over_is p l.client l.holds ∙ over) refl);
         past = c.past;
         same = c.same;
         asked = c.asked;

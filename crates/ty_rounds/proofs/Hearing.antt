@@ -1,5 +1,6 @@
 -- What an event makes of the connections.
 use Rattle.std.proofs.Common.{◌≡◌, ◌<◌, ℕ, zero, suc, Bool, true, false, not, List, [], ◌∷◌, ◌++◌, length, get_or, take, map, refl, sym, ap, subst, ◌∙◌, arith}
+use Rattle.std.proofs.lemmas.Bool.{or_from, or_parts}
 use Rattle.std.specs.Prelude.{◌==◌, nat_lt, nat_eq}
 use Rattle.std.specs.List.{list_any}
 use Rattle.tc_io.specs.Told.{Adds}
@@ -16,7 +17,7 @@ use Rattle.ty_rounds.specs.Holding.{Holds, AllHold, AreApart, Wired}
 use Rattle.ty_rounds.specs.Turns.{Told, MayPlay, Asks, Hears}
 use Rattle.ty_rounds.proofs.Waiting.{paused_is, busy_is}
 use Rattle.ty_rounds.specs.declared.peer.Peer.{Peer}
-use Rattle.ty_rounds.proofs.Places.{none_split, none_both, eq_swap}
+use Rattle.ty_rounds.proofs.Places.{eq_swap}
 
 pub reads : (p q : Peer) (bytes : List ℕ) (k : Client) → q.session ≡ queue (p.session.unread ++ bytes) p.session.waiting → q.conn ≡ p.conn → q.gone ≡ p.gone → q.ended ≡ p.ended → q.extra ≡ p.extra → Holds p k → Holds q (with_read bytes k)
 reads p q bytes k session conn gone ended extra h = record {
@@ -61,13 +62,13 @@ numbers_push [] p = refl
 numbers_push (x ∷ ps) p = ap (λ (l : List ℕ). x.conn ∷ l) (numbers_push ps p)
 
 has_more : (xs : List ℕ) (c d : ℕ) → list_any (nat_eq c) xs ≡ false → nat_eq c d ≡ false → list_any (nat_eq c) (xs ++ d ∷ []) ≡ false
-has_more [] c d none away = none_both (nat_eq c d) false away refl
-has_more (x ∷ xs) c d none away = let s = none_split (nat_eq c x) (list_any (nat_eq c) xs) none in none_both (nat_eq c x) (list_any (nat_eq c) (xs ++ d ∷ [])) s.0 (has_more xs c d s.1 away)
+has_more [] c d none away = or_from (nat_eq c d) false away refl
+has_more (x ∷ xs) c d none away = let s = or_parts (nat_eq c x) (list_any (nat_eq c) xs) none in or_from (nat_eq c x) (list_any (nat_eq c) (xs ++ d ∷ [])) s.0 (has_more xs c d s.1 away)
 
 pub apart_more : (xs : List ℕ) (c : ℕ) → AreApart xs → list_any (nat_eq c) xs ≡ false → AreApart (xs ++ c ∷ [])
 apart_more [] c a none = (refl, tt)
 apart_more (x ∷ xs) c a none =
-    let s = none_split (nat_eq c x) (list_any (nat_eq c) xs) none in
+    let s = or_parts (nat_eq c x) (list_any (nat_eq c) xs) none in
     (has_more xs x c a.0 (eq_swap c x s.0), apart_more xs c a.1 s.1)
 
 pub ends : (p : Peer) (k : Client) → Holds p k → Holds (record p { ended = true }) (with_end k)

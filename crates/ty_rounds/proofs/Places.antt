@@ -2,29 +2,13 @@
 use Rattle.std.proofs.Common.{◌≡◌, ◌<◌, ◌≤◌, ◌+◌, ℕ, zero, suc, Bool, true, false, cond, List, [], ◌∷◌, ◌++◌, length, get_or, set, take, map, refl, sym, ap, subst, ◌∙◌, arith, eq-eqb}
 use Rattle.std.specs.Prelude.{◌||◌, nat_eq, Some, slice_get}
 use Rattle.std.specs.List.{list_any}
-use Rattle.std.proofs.lemmas.Bool.{eqb-true}
+use Rattle.std.proofs.lemmas.Bool.{eqb-true, cond-false, cond-true, or_from, or_parts}
 use Rattle.std.proofs.Math.Seq.{take-suc}
 use Rattle.std.proofs.lemmas.List.{take_all}
 use Rattle.ty_world.specs.World.{Client, at_conn}
 use Rattle.ty_rounds.specs.Peers.{numbers}
 use Rattle.ty_rounds.specs.Holding.{Holds, AllHold, AreApart, Wired}
 use Rattle.ty_rounds.specs.declared.peer.Peer.{Peer}
-
-pub none_split : (a b : Bool) → (a || b) ≡ false → (a ≡ false) × (b ≡ false)
-none_split false b e = (refl, e)
-none_split true b e = absurd cc
-
-pub none_both : (a b : Bool) → a ≡ false → b ≡ false → (a || b) ≡ false
-none_both false b e f = f
-none_both true b e f = absurd cc
-
-pub if_true : {A : Type 0} (b : Bool) (x y : A) → b ≡ true → cond b x y ≡ x
-if_true true x y e = refl
-if_true false x y e = absurd cc
-
-pub if_false : {A : Type 0} (b : Bool) (x y : A) → b ≡ false → cond b x y ≡ y
-if_false true x y e = absurd cc
-if_false false x y e = refl
 
 pub eq_swap : (a b : ℕ) → nat_eq a b ≡ false → nat_eq b a ≡ false
 eq_swap a b e = go (nat_eq b a) refl
@@ -39,13 +23,13 @@ others_hold c f [] [] none a = tt
 others_hold c f [] (k ∷ ks) none a = absurd a
 others_hold c f (p ∷ ps) [] none a = absurd a
 others_hold c f (p ∷ ps) (k ∷ ks) none a =
-    let s = none_split (nat_eq c p.conn) (list_any (nat_eq c) (numbers ps)) none in
-    (subst (λ (z : Client). Holds p z) (sym (if_false (nat_eq k.conn c) (f k) k (ap (λ (n : ℕ). nat_eq n c) a.0.conn ∙ eq_swap c p.conn s.0))) a.0, others_hold c f ps ks s.1 a.1)
+    let s = or_parts (nat_eq c p.conn) (list_any (nat_eq c) (numbers ps)) none in
+    (subst (λ (z : Client). Holds p z) (sym (cond-false (nat_eq k.conn c) (f k) k (ap (λ (n : ℕ). nat_eq n c) a.0.conn ∙ eq_swap c p.conn s.0))) a.0, others_hold c f ps ks s.1 a.1)
 
 apart_at : (x : Peer) (ps : List Peer) (i : ℕ) (p : Peer) → list_any (nat_eq x.conn) (numbers ps) ≡ false → i < length ps → p ≡ get_or ps i p → nat_eq x.conn p.conn ≡ false
 apart_at x [] i p none lt is = absurd (omega (arith, lt))
-apart_at x (y ∷ ps) zero p none lt is = ap (λ (z : Peer). nat_eq x.conn z.conn) is ∙ (none_split (nat_eq x.conn y.conn) (list_any (nat_eq x.conn) (numbers ps)) none).0
-apart_at x (y ∷ ps) (suc i) p none lt is = apart_at x ps i p (none_split (nat_eq x.conn y.conn) (list_any (nat_eq x.conn) (numbers ps)) none).1 (omega (arith, lt)) is
+apart_at x (y ∷ ps) zero p none lt is = ap (λ (z : Peer). nat_eq x.conn z.conn) is ∙ (or_parts (nat_eq x.conn y.conn) (list_any (nat_eq x.conn) (numbers ps)) none).0
+apart_at x (y ∷ ps) (suc i) p none lt is = apart_at x ps i p (or_parts (nat_eq x.conn y.conn) (list_any (nat_eq x.conn) (numbers ps)) none).1 (omega (arith, lt)) is
 
 -- the one of that number has changed, and with it what it stands for
 pub set_holds : (c : ℕ) (f : Client → Client) (ps : List Peer) (ks : List Client) (i : ℕ) (p q : Peer) → AreApart (numbers ps) → i < length ps → p ≡ get_or ps i p → p.conn ≡ c → ((k : Client) → Holds p k → Holds q (f k)) → AllHold ps ks
@@ -54,12 +38,12 @@ set_holds c f [] ks i p q apart lt is named one a = absurd (omega (arith, lt))
 set_holds c f (x ∷ ps) [] i p q apart lt is named one a = absurd a
 set_holds c f (x ∷ ps) (k ∷ ks) zero p q apart lt is named one a =
     let there : x.conn ≡ c = ap (λ (z : Peer). z.conn) (sym is) ∙ named in (
-      subst (λ (z : Client). Holds q z) (sym (if_true (nat_eq k.conn c) (f k) k (eq-eqb k.conn c (a.0.conn ∙ there)))) (one k (subst (λ (z : Peer). Holds z k) (sym is) a.0)),
+      subst (λ (z : Client). Holds q z) (sym (cond-true (nat_eq k.conn c) (f k) k (eq-eqb k.conn c (a.0.conn ∙ there)))) (one k (subst (λ (z : Peer). Holds z k) (sym is) a.0)),
       others_hold c f ps ks (ap (λ (n : ℕ). list_any (nat_eq n) (numbers ps)) (sym there) ∙ apart.0) a.1,
     )
 set_holds c f (x ∷ ps) (k ∷ ks) (suc i) p q apart lt is named one a =
     let away : nat_eq x.conn c ≡ false = ap (nat_eq x.conn) (sym named) ∙ apart_at x ps i p apart.0 (omega (arith, lt)) is in (
-      subst (λ (z : Client). Holds x z) (sym (if_false (nat_eq k.conn c) (f k) k (ap (λ (n : ℕ). nat_eq n c) a.0.conn ∙ away))) a.0,
+      subst (λ (z : Client). Holds x z) (sym (cond-false (nat_eq k.conn c) (f k) k (ap (λ (n : ℕ). nat_eq n c) a.0.conn ∙ away))) a.0,
       set_holds c f ps ks i p q apart.1 (omega (arith, lt)) is named one a.1,
     )
 
@@ -81,8 +65,8 @@ within (y ∷ ps) (suc i) x e = let h = within ps i x e in omega (arith, h)
 -- ---- a search from the front
 
 any_push : (c : ℕ) (ps : List Peer) (p : Peer) → list_any (nat_eq c) (numbers ps) ≡ false → nat_eq c p.conn ≡ false → list_any (nat_eq c) (numbers (ps ++ p ∷ [])) ≡ false
-any_push c [] p none other = none_both (nat_eq c p.conn) false other refl
-any_push c (x ∷ ps) p none other = let s = none_split (nat_eq c x.conn) (list_any (nat_eq c) (numbers ps)) none in none_both (nat_eq c x.conn) (list_any (nat_eq c) (numbers (ps ++ p ∷ []))) s.0 (any_push c ps p s.1 other)
+any_push c [] p none other = or_from (nat_eq c p.conn) false other refl
+any_push c (x ∷ ps) p none other = let s = or_parts (nat_eq c x.conn) (list_any (nat_eq c) (numbers ps)) none in or_from (nat_eq c x.conn) (list_any (nat_eq c) (numbers (ps ++ p ∷ []))) s.0 (any_push c ps p s.1 other)
 
 pub not_yet : (c : ℕ) (ps : List Peer) (i : ℕ) (p : Peer) → i < length ps → p ≡ get_or ps i p → nat_eq c p.conn ≡ false → list_any (nat_eq c) (numbers (take i ps)) ≡ false → list_any (nat_eq c) (numbers (take (i + 1) ps)) ≡ false
 not_yet c ps i p lt is other none = ap (λ (l : List Peer). list_any (nat_eq c) (numbers l)) (take_next ps i p lt is) ∙ any_push c (take i ps) p none other

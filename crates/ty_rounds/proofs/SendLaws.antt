@@ -1,5 +1,6 @@
 -- Sends to one connection, and to each in turn.
 use Rattle.std.proofs.Common.{◌≡◌, ℕ, zero, suc, ◌+◌, ◌<◌, ◌≤◌, Bool, true, false, not, cond, List, [], ◌∷◌, ◌++◌, length, take, drop, get_or, set, map, refl, sym, ap, subst, ◌∙◌, append_assoc, arith, eq-eqb, Ok, Err}
+use Rattle.std.proofs.lemmas.Bool.{cond-false, cond-true, or_from, or_parts}
 use Rattle.std.specs.Prelude.{nat_eq, ◌||◌, Result, IsErr}
 use Rattle.std.specs.List.{list_any}
 use Rattle.std.proofs.lemmas.List.{append-nil, take-append-drop, take_all}
@@ -17,7 +18,7 @@ use Rattle.ty_rounds.specs.Holding.{Holds, AllHold, AreApart, Same}
 use Rattle.ty_rounds.specs.Turns.{Told, MayPlay}
 use Rattle.ty_rounds.specs.Sending.{SendTo, AllSendTo, sent_by, sent_all, Delivers, DeliversOne, NoneRestless, SentFront, DeliversFront, DeliversAll}
 use Rattle.ty_rounds.specs.declared.peer.Peer.{Peer}
-use Rattle.ty_rounds.proofs.Places.{if_true, if_false, none_split, none_both, set_holds}
+use Rattle.ty_rounds.proofs.Places.{set_holds}
 use Rattle.ty_rounds.proofs.ServingLaws.{sent_is}
 use Rattle.ty_rounds.proofs.Hearing.{same_long}
 use Rattle.ty_rounds.proofs.Telling.{Adds-then, Plays-then, Adds-none, Plays-none}
@@ -133,8 +134,8 @@ at_twice c f g [] keeps = refl
 at_twice c f g (k ∷ ks) keeps = λ i. one i ∷ at_twice c f g ks keeps i
   where
     go : (b : Bool) → nat_eq k.conn c ≡ b → at_conn c f (cond b (g k) k) ≡ cond b (f (g k)) k
-    go true is = if_true (nat_eq (g k).conn c) (f (g k)) (g k) (ap (λ (n : ℕ). nat_eq n c) (keeps k) ∙ is)
-    go false is = if_false (nat_eq k.conn c) (f k) k is
+    go true is = cond-true (nat_eq (g k).conn c) (f (g k)) (g k) (ap (λ (n : ℕ). nat_eq n c) (keeps k) ∙ is)
+    go false is = cond-false (nat_eq k.conn c) (f k) k is
 
     one : at_conn c f (at_conn c g k) ≡ at_conn c (λ (k : Client). f (g k)) k
     one = go (nat_eq k.conn c) refl
@@ -202,18 +203,18 @@ rest_more c f [] ks i p apart lt is named one a r = absurd (omega (arith, lt))
 rest_more c f (x ∷ ps) [] i p apart lt is named one a r = absurd a
 rest_more c f (x ∷ ps) (k ∷ ks) zero p apart lt is named one a r =
     let there : x.conn ≡ c = ap (λ (z : Peer). z.conn) (sym is) ∙ named in
-    let now : is_rested (at_conn c f k) ≡ true = ap is_rested (if_true (nat_eq k.conn c) (f k) k (eq-eqb k.conn c (a.0.conn ∙ there))) ∙ one k (subst (λ (z : Peer). Holds z k) (sym is) a.0) in
-    none_both (not (is_rested (at_conn c f k))) false (ap not now) refl
+    let now : is_rested (at_conn c f k) ≡ true = ap is_rested (cond-true (nat_eq k.conn c) (f k) k (eq-eqb k.conn c (a.0.conn ∙ there))) ∙ one k (subst (λ (z : Peer). Holds z k) (sym is) a.0) in
+    or_from (not (is_rested (at_conn c f k))) false (ap not now) refl
 rest_more c f (x ∷ ps) (k ∷ ks) (suc i) p apart lt is named one a r =
-    let s = none_split (not (is_rested k)) (list_any (λ k. not (is_rested k)) (take i ks)) r in
+    let s = or_parts (not (is_rested k)) (list_any (λ k. not (is_rested k)) (take i ks)) r in
     let away : nat_eq x.conn c ≡ false = ap (nat_eq x.conn) (sym named) ∙ away_at x ps i p apart.0 (omega (arith, lt)) is in
-    let same : at_conn c f k ≡ k = if_false (nat_eq k.conn c) (f k) k (ap (λ (n : ℕ). nat_eq n c) a.0.conn ∙ away) in
-    none_both (not (is_rested (at_conn c f k))) (list_any (λ k. not (is_rested k)) (take (suc i) (map (at_conn c f) ks))) (ap (λ (z : Client). not (is_rested z)) same ∙ s.0) (rest_more c f ps ks i p apart.1 (omega (arith, lt)) is named one a.1 s.1)
+    let same : at_conn c f k ≡ k = cond-false (nat_eq k.conn c) (f k) k (ap (λ (n : ℕ). nat_eq n c) a.0.conn ∙ away) in
+    or_from (not (is_rested (at_conn c f k))) (list_any (λ k. not (is_rested k)) (take (suc i) (map (at_conn c f) ks))) (ap (λ (z : Client). not (is_rested z)) same ∙ s.0) (rest_more c f ps ks i p apart.1 (omega (arith, lt)) is named one a.1 s.1)
   where
     away_at : (x : Peer) (ps : List Peer) (i : ℕ) (p : Peer) → list_any (nat_eq x.conn) (numbers ps) ≡ false → i < length ps → p ≡ get_or ps i p → nat_eq x.conn p.conn ≡ false
     away_at x [] i p none lt is = absurd (omega (arith, lt))
-    away_at x (y ∷ ps) zero p none lt is = ap (λ (z : Peer). nat_eq x.conn z.conn) is ∙ (none_split (nat_eq x.conn y.conn) (list_any (nat_eq x.conn) (numbers ps)) none).0
-    away_at x (y ∷ ps) (suc i) p none lt is = away_at x ps i p (none_split (nat_eq x.conn y.conn) (list_any (nat_eq x.conn) (numbers ps)) none).1 (omega (arith, lt)) is
+    away_at x (y ∷ ps) zero p none lt is = ap (λ (z : Peer). nat_eq x.conn z.conn) is ∙ (or_parts (nat_eq x.conn y.conn) (list_any (nat_eq x.conn) (numbers ps)) none).0
+    away_at x (y ∷ ps) (suc i) p none lt is = away_at x ps i p (or_parts (nat_eq x.conn y.conn) (list_any (nat_eq x.conn) (numbers ps)) none).1 (omega (arith, lt)) is
 
 pub none_sent : (a : Told) (x : MayPlay) (ps : List Peer) → DeliversFront a a x x ps ps 0
 none_sent a x ps = record {

@@ -11,9 +11,10 @@ use Rattle.ty_wire.specs.Reading.{request_at}
 use Rattle.ty_wire.specs.Spelling.{reply_bytes}
 use Rattle.tc_model.specs.Contents.{Contents, Walk}
 use Rattle.tc_model.specs.Apply.{Step, apply}
-use Rattle.tc_model.specs.Packing.{is_optimize}
+use Rattle.tc_base.specs.declared.request.Request.TheVariants.{Repl}
 use Rattle.ty_core.specs.Queues.{Queue}
-use Rattle.ty_core.specs.Serving.{Serves}
+use Rattle.ty_core.specs.Serving.{Serves, TakesOff, is_repl}
+use Rattle.ty_core.specs.declared.serving.Served.{Served}
 use Rattle.ty_world.specs.Frames.{is_whole}
 use Rattle.ty_world.specs.World.{Client, served, front_of, is_ready, all_sent, round_one, round_all, owed_for, repl_reply}
 use Rattle.ty_rounds.specs.Peers.{numbers, all_taken}
@@ -85,20 +86,20 @@ pub none_idle : (c : Contents) (w : Walk) (p p' : Peer) → p' ≡ p → is_whol
 none_idle c w p p' is none = subst (λ (q : Peer). ServesOne false c c w w p q) (sym is) (record { each = λ k h. let f = front_none k (ap (λ (l : List ℕ). is_whole (request_at l)) h.unread ∙ none) in round_err c w k p f.0 f.1 h })
 
 -- a request is served, and what is owed for it waits
-pub one_served : (u updated : Bool) (c c' : Contents) (w w' : Walk) (p p' : Peer) (q : Queue) (r : Request) → u ≡ (updated || is_optimize r) → p.gone ≡ false → all_taken p ≡ true
-    → Serves false r q.unread updated c c' w w' p.session.unread q.unread p.session.waiting q.waiting → OwesRepl (record p { session = q }) p' r → ServesOne u c c' w w' p p'
+pub one_served : (c c' : Contents) (w w' : Walk) (p p' : Peer) (q : Queue) (r : Request) (d : Served) → p.gone ≡ false → all_taken p ≡ true
+    → TakesOff r d p.session.unread q.unread → Serves false r d c c' w w' p.session.waiting q.waiting → OwesRepl (record p { session = q }) p' r → ServesOne d.commits c c' w w' p p'
 unfolding round_one
-one_served u updated c c' w w' p p' q r is_u here none s o = record { each = λ k h. go k h (front k h) }
+one_served c c' w w' p p' q r d here none t s o = record { each = λ k h. go k h (front k h) }
   where
     st : Step
     st = apply false r c w
 
     front : (k : Client) → Holds p k → front_of k ≡ Ok (r, q.unread)
-    front k h = front_ready k (and_both k.gone (all_sent k) (h.gone ∙ here) (sent_is p k h ∙ none)) ∙ ap request_at h.unread ∙ s.front
+    front k h = front_ready k (and_both k.gone (all_sent k) (h.gone ∙ here) (sent_is p k h ∙ none)) ∙ ap request_at h.unread ∙ t.front
 
-    go : (k : Client) → Holds p k → front_of k ≡ Ok (r, q.unread) → RoundsOne u c c' w w' p' k
+    go : (k : Client) → Holds p k → front_of k ≡ Ok (r, q.unread) → RoundsOne d.commits c c' w w' p' k
     go k h e = record {
-      was = is_u ∙ ap (λ (b : Bool). b || is_optimize r) s.was ∙ sym (ap (λ (f : Front Request). (served c w k f).commits) e);
+      was = s.commits ∙ sym (ap (λ (f : Front Request). (served c w k f).commits) e);
       contents = s.contents ∙ sym (ap (λ (f : Front Request). (served c w k f).contents) e);
       walk = s.walk ∙ sym (ap (λ (f : Front Request). (served c w k f).walk) e);
       holds = subst (λ (f : Front Request). Holds p' (served c w k f).client) (sym e) (record {
@@ -202,10 +203,6 @@ pub numbers_kept : (ps : List Peer) (i : ℕ) (p q : Peer) → i < length ps →
 numbers_kept [] i p q lt is same = absurd (omega (arith, lt))
 numbers_kept (x ∷ ps) zero p q lt is same = ap (λ (n : ℕ). n ∷ numbers ps) (same ∙ ap (λ (z : Peer). z.conn) is)
 numbers_kept (x ∷ ps) (suc i) p q lt is same = ap (λ (l : List ℕ). x.conn ∷ l) (numbers_kept ps i p q (omega (arith, lt)) is same)
-
-pub none_of : (a b : Bool) → (a || b) ≡ false → (a ≡ false) × (b ≡ false)
-none_of false b e = (refl, e)
-none_of true b e = absurd cc
 
 pub more_is : (x u v : Bool) (c0 c c' : Contents) (w0 w w' : Walk) (old ps : List Peer) (ks : List Client) (i : ℕ) (p q : Peer) → x ≡ (u || v) → Halfway u c0 c w0 w old ps i ks → i < length ps → p ≡ get_or ps i p → ServesOne v c c' w w' p q → Halfway x c0 c' w0 w' old (set ps i q) (i + 1) ks
 more_is x u v c0 c c' w0 w w' old ps ks i p q is h lt at serves = subst (λ (b : Bool). Halfway b c0 c' w0 w' old (set ps i q) (i + 1) ks) (sym is) (more u v c0 c c' w0 w w' old ps ks i p q h lt at serves)

@@ -1,5 +1,6 @@
 -- A turn, from its steps.
 use Rattle.std.proofs.Common.{◌≡◌, ◌⊎◌, ◌≤◌, inl, inr, ⊎_elim, ℕ, suc, Bool, true, false, cond, List, [], ◌∷◌, refl, sym, ap, subst, ◌∙◌, map}
+use Rattle.std.proofs.lemmas.Bool.{cond-false, cond-true}
 use Rattle.std.specs.Prelude.{Option, Result, Ok, Err, OnOk}
 use Rattle.tc_base.specs.Files.{Files}
 use Rattle.tc_space.specs.Moments.{Steady}
@@ -21,14 +22,6 @@ use Rattle.ty_rounds.specs.declared.outcome.TurnErr.TheVariants.{Volume, Full, W
 use Rattle.ty_rounds.proofs.Telling.{Adds-then, Plays-then}
 use Rattle.ty_rounds.proofs.Fine.{hold_fine, heard_fine, unstopped_fine, round_fine}
 use Rattle.ty_rounds.proofs.Leaving.{was_kept, none_two, steady_two, moved_two, steady_exit, two_exit}
-
-if_true : {A : Type 0} (b : Bool) (x y : A) → b ≡ true → cond b x y ≡ x
-if_true true x y e = refl
-if_true false x y e = absurd cc
-
-if_false : {A : Type 0} (b : Bool) (x y : A) → b ≡ false → cond b x y ≡ y
-if_false true x y e = absurd cc
-if_false false x y e = refl
 
 -- ---- clients for any connections
 
@@ -66,8 +59,8 @@ module _ (a b : Told) (p q : MayPlay) (c : Contents) (k : Walk) (ps : List Peer)
   mid_marks = go (round_all w.contents w.walk ks).updated refl
     where
       go : (u : Bool) → (round_all w.contents w.walk ks).updated ≡ u → MarksMore w mid
-      go true is = record { more = inr (if_true _ _ _ is) }
-      go false is = record { more = inl (if_false _ _ _ is, round_idle w.contents w.walk ks is) }
+      go true is = record { more = inr (cond-true _ _ _ is) }
+      go false is = record { more = inl (cond-false _ _ _ is, round_idle w.contents w.walk ks is) }
 
 marks_then : (w m v : World) → MarksMore w m → Same m v → MarksMore w v
 marks_then w m v mm same = record { more = ⊎_elim (λ x. inl (same.marks ∙ x.0, same.contents ∙ x.1)) (λ x. inr (same.marks ∙ x ∙ ap (λ (d : Contents). d ∷ w.marks) (sym same.contents))) mm.more }

@@ -7,34 +7,23 @@ ghost use Rattle.ty_world.specs.World.{Client, round_one, round_all};
 ghost use Rattle.ty_rounds.specs.Serving.{ServesOne};
 ghost use Rattle.ty_rounds.specs.Holding.{AllHold, RoundsTo};
 ghost use Rattle.ty_rounds.specs.Peers.{numbers};
-ghost use Rattle.tc_model.specs.Packing.{is_optimize};
+ghost use Rattle.tc_base.specs.declared.request.Request.{Request};
+ghost use Rattle.ty_core.specs.Serving.{is_repl};
+ghost use Rattle.ty_rounds.specs.Repls.{OwesRepl};
 
 use crate::peer::Peer;
-use tc_base::Request;
 use tc_model::Walk;
 use tc_space::{RecErr, Space};
 use ty_base::Base;
 
-// Whether a request that was served is to be committed: it updated the contents, or packs the files.
-fn commits(updated: bool, request: &Request) -> bool
-    ensures { result ≡ (updated || is_optimize request.now) }
-{
-    if updated {
-        return true;
-    }
-    matches!(request, Request::Optimize { .. })
-}
-
-ghost use Rattle.ty_rounds.specs.Repls.{OwesRepl};
-
 // What a `repl` is answered: so far it is refused.
-fn owe_repl(p: &mut Peer, request: &Request) -> Result<(), RecErr>
-    ensures owes { OnOk result (OwesRepl p.old p.new request.now) }
+fn owe_repl(p: &mut Peer, feeds: bool) -> Result<(), RecErr>
+    ensures owes { OnOk result ((r : Request) → feeds ≡ is_repl r → OwesRepl p.old p.new r) }
     ensures conn { p.new.conn ≡ p.old.conn }
     ensures memory { IsErrOf result RecErr.Fault → ⊥ }
     ensures room { IsErrOf result RecErr.Full → ⊥ }
 {
-    if let Request::Repl { .. } = request {
+    if feeds {
         p.session.owe(&[1])?;
     }
     Ok(())
@@ -69,8 +58,8 @@ fn serve_one<B: Base>(
         return Ok(false);
     }
     let served = p.session.serve(base, space, walk, false)?;
-    owe_repl(p, &served.request)?;
-    Ok(commits(served.updated, &served.request))
+    owe_repl(p, served.feeds)?;
+    Ok(served.commits)
 }
 
 /// A round: each connection in turn. Answers whether there is anything to commit.

@@ -1,7 +1,7 @@
 -- An event takes acts off what is left.
 use Rattle.std.proofs.Common.{◌≡◌, ◌⊎◌, inl, inr, ℕ, suc, ◌+◌, ◌≤◌, Bool, true, false, not, cond, List, [], ◌∷◌, ◌++◌, length, refl, sym, ap, ◌∙◌, arith, append_assoc, map, eq-eqb}
 use Rattle.std.specs.Prelude.{◌&&◌, ◌||◌, nat_eq, nat_lt}
-use Rattle.std.proofs.lemmas.Bool.{eqb-true, ltb-false, ne_eqb}
+use Rattle.std.proofs.lemmas.Bool.{eqb-true, ltb-false, ne_eqb, cond-false, cond-true, or_from, or_left}
 use Rattle.std.proofs.lemmas.List.Folds.{list_any-append}
 use Rattle.tc_io.specs.declared.wire.Ev.{Ev}
 use Rattle.tc_io.specs.declared.wire.Ev.TheVariants as event
@@ -77,16 +77,8 @@ end_skipped l acts d k h cannot = elim (ended_or_other l k d true h (and_true (c
   | inr over ↦ ap (λ (b : Bool). frames (k.unread ++ cond b [] (coming k.conn (Ended d ∷ acts)))) over ∙ sym (ap (λ (b : Bool). frames (k.unread ++ cond b [] (coming k.conn acts))) over)
 ]
 
-if_true : {A : Type 0} (b : Bool) (x y : A) → b ≡ true → cond b x y ≡ x
-if_true true x y e = refl
-if_true false x y e = absurd cc
-
-if_false : {A : Type 0} (b : Bool) (x y : A) → b ≡ false → cond b x y ≡ y
-if_false true x y e = absurd cc
-if_false false x y e = refl
-
 open_skipped : (l : Lines) (ks : List Client) (acts : List Act) (d : ℕ) → Meets l ks → can_open l d ≡ false → requests_in l.given (Opened d ∷ acts) ≡ requests_in l.given acts
-open_skipped l ks acts d h cannot = if_true _ _ _ (go (nat_lt d l.given) (has l.conns d) refl refl cannot)
+open_skipped l ks acts d h cannot = cond-true _ _ _ (go (nat_lt d l.given) (has l.conns d) refl refl cannot)
   where
     go : (a b : Bool) → nat_lt d l.given ≡ a → has l.conns d ≡ b → (not a && not b) ≡ false → a ≡ true
     go true b p q r = refl
@@ -144,7 +136,7 @@ opens : (l : Lines) (ks : List Client) (acts : List Act) (c : ℕ) → AllFit l 
 opens l ks acts c h can =
     let a = total_appends acts ks (new_client c (length ks)) in
     let b = total_keeps l acts (Opened c ∷ acts) ks h (λ k f. refl) in
-    let d : requests_in l.given (Opened c ∷ acts) ≡ frames (coming c acts) + requests_in (suc c) acts = if_false _ _ _ (first (nat_lt c l.given) (has l.conns c) can) in
+    let d : requests_in l.given (Opened c ∷ acts) ≡ frames (coming c acts) + requests_in (suc c) acts = cond-false _ _ _ (first (nat_lt c l.given) (has l.conns c) can) in
     let e = new_left acts c (length ks) in
     let one : c + 1 ≡ suc c = omega arith in
     let f : requests_in (c + 1) acts ≡ requests_in (suc c) acts = ap (λ (n : ℕ). requests_in n acts) one in
@@ -190,15 +182,6 @@ next_out l ks (Quiet ∷ acts) paused busy h =
 
 -- ---- the connections stay those of the script
 
-any_or : (a b : Bool) → a ≡ true → (a || b) ≡ true
-any_or true b e = refl
-any_or false b e = absurd cc
-
-or_none : (a b : Bool) → a ≡ false → b ≡ false → (a || b) ≡ false
-or_none false false p q = refl
-or_none true b p q = absurd cc
-or_none false true p q = absurd cc
-
 or_false : (a : Bool) → (a || false) ≡ a
 or_false true = refl
 or_false false = refl
@@ -213,7 +196,7 @@ or_right false = refl
 opened_meets : (l : Lines) (ks : List Client) (c : ℕ) → Meets l ks → can_open l c ≡ true → Meets (lines_after l (event.Opened c)) (ks ++ new_client c (length ks) ∷ [])
 opened_meets l ks c h can = record {
   each = fit_appends l' ks (new_client c (length ks)) (fit_keeps l l' ks h.each (λ k f. record {
-    listed = has_more l.conns c k.conn ∙ any_or _ _ f.listed;
+    listed = has_more l.conns c k.conn ∙ or_left _ _ f.listed;
     ends = f.ends;
     below = omega (arith, f.below, above);
     here = f.here;
@@ -225,7 +208,7 @@ opened_meets l ks c h can = record {
     here = refl;
     going = refl;
   });
-  fresh = λ d le. let f = h.fresh d (omega (arith, above, le)) in (has_more l.conns c d ∙ or_none _ _ f.0 (ne_eqb d c (λ e. absurd (omega (arith, e, le)))), f.1);
+  fresh = λ d le. let f = h.fresh d (omega (arith, above, le)) in (has_more l.conns c d ∙ or_from _ _ f.0 (ne_eqb d c (λ e. absurd (omega (arith, e, le)))), f.1);
 }
   where
     l' : Lines
@@ -251,7 +234,7 @@ read_meets l ks c bytes h = record {
 ended_meets : (l : Lines) (ks : List Client) (c : ℕ) → Meets l ks → can_end l c ≡ true → Meets (lines_after l (event.Ended c)) (map (at_conn c with_end) ks)
 ended_meets l ks c h can = record {
   each = fit_maps l (lines_after l (event.Ended c)) (at_conn c with_end) ks h.each (λ k f. go k f (nat_eq k.conn c) refl);
-  fresh = λ d le. ((h.fresh d le).0, or_none _ _ (ne_eqb d c (λ e. absurd (let a = (h.fresh d le).0 in let b : has l.conns d ≡ true = ap (has l.conns) e ∙ first (has l.conns c) (has l.ended c) can in cc))) (h.fresh d le).1);
+  fresh = λ d le. ((h.fresh d le).0, or_from _ _ (ne_eqb d c (λ e. absurd (let a = (h.fresh d le).0 in let b : has l.conns d ≡ true = ap (has l.conns) e ∙ first (has l.conns c) (has l.ended c) can in cc))) (h.fresh d le).1);
 }
   where
     first : (a b : Bool) → (a && not b) ≡ true → a ≡ true
@@ -259,7 +242,7 @@ ended_meets l ks c h can = record {
     first false b e = absurd cc
 
     go : (k : Client) → Fits l k → (b : Bool) → nat_eq k.conn c ≡ b → Fits (lines_after l (event.Ended c)) (cond b (with_end k) k)
-    go k f true is = record { listed = f.listed; ends = sym (any_or _ _ is); below = f.below; here = f.here; going = f.going }
+    go k f true is = record { listed = f.listed; ends = sym (or_left _ _ is); below = f.below; here = f.here; going = f.going }
     go k f false is = record { listed = f.listed; ends = f.ends ∙ sym (ap (λ (b : Bool). b || has l.ended k.conn) is); below = f.below; here = f.here; going = f.going }
 
 abbrev Skips : Lines → List Client → List Act → List ℕ → Bool → Type 0

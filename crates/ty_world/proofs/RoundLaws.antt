@@ -1,5 +1,6 @@
 -- A round that updates nothing leaves the contents.
 use Rattle.std.proofs.Common.{◌≡◌, Bool, true, false, List, [], ◌∷◌, refl, ◌∙◌}
+use Rattle.std.proofs.lemmas.Bool.{or_from, or_parts}
 use Rattle.std.specs.Prelude.{◌||◌, Ok, Err}
 use Rattle.tc_base.specs.declared.request.Request.{Request}
 use Rattle.tc_base.specs.Reading.{Front}
@@ -17,14 +18,10 @@ one_idle c w k = go (front_of k)
     go (Ok x) e = apply_idle false x.0 c w e
     go (Err d) e = refl
 
-none_split : (a b : Bool) → (a || b) ≡ false → (a ≡ false) × (b ≡ false)
-none_split false b e = (refl, e)
-none_split true b e = absurd cc
-
 pub round_idle : (c : Contents) (w : Walk) (ks : List Client) → (round_all c w ks).updated ≡ false → (round_all c w ks).contents ≡ c
 round_idle c w [] e = refl
 round_idle c w (k ∷ ks) e =
-    let s = none_split (round_one c w k).updated (round_all (round_one c w k).contents (round_one c w k).walk ks).updated e in
+    let s = or_parts (round_one c w k).updated (round_all (round_one c w k).contents (round_one c w k).walk ks).updated e in
     round_idle (round_one c w k).contents (round_one c w k).walk ks s.1 ∙ one_idle c w k s.0
 
 pub one_quiet : (c : Contents) (w : Walk) (k : Client) → (round_one c w k).commits ≡ false → (round_one c w k).updated ≡ false
@@ -32,17 +29,13 @@ unfolding round_one
 one_quiet c w k = go (front_of k)
   where
     go : (f : Front Request) → (served c w k f).commits ≡ false → (served c w k f).updated ≡ false
-    go (Ok x) e = (none_split (is_updated x.0 (apply false x.0 c w)) (is_optimize x.0) e).0
+    go (Ok x) e = (or_parts (is_updated x.0 (apply false x.0 c w)) (is_optimize x.0) e).0
     go (Err d) e = refl
-
-none_both : (a b : Bool) → a ≡ false → b ≡ false → (a || b) ≡ false
-none_both false b e f = f
-none_both true b e f = absurd cc
 
 -- where there is nothing to commit, nothing was updated
 pub round_quiet : (c : Contents) (w : Walk) (ks : List Client) → (round_all c w ks).commits ≡ false → (round_all c w ks).updated ≡ false
 round_quiet c w [] e = refl
 round_quiet c w (k ∷ ks) e =
     let one = round_one c w k in
-    let s = none_split one.commits (round_all one.contents one.walk ks).commits e in
-    none_both one.updated (round_all one.contents one.walk ks).updated (one_quiet c w k s.0) (round_quiet one.contents one.walk ks s.1)
+    let s = or_parts one.commits (round_all one.contents one.walk ks).commits e in
+    or_from one.updated (round_all one.contents one.walk ks).updated (one_quiet c w k s.0) (round_quiet one.contents one.walk ks s.1)

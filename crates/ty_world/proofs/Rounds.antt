@@ -1,5 +1,6 @@
 -- A round takes requests off what is left.
 use Rattle.std.proofs.Common.{◌≡◌, ◌⊎◌, inl, inr, ℕ, suc, ◌+◌, ◌≤◌, Bool, true, false, not, cond, List, [], ◌∷◌, ◌++◌, refl, arith}
+use Rattle.std.proofs.lemmas.Bool.{or_cases, or_left, or_parts, or_right}
 use Rattle.std.specs.Prelude.{Ok, Err, ◌&&◌, ◌||◌}
 use Rattle.std.specs.List.{list_any}
 use Rattle.tc_io.specs.declared.act.Act.{Act}
@@ -69,27 +70,11 @@ sent_waits false false w false p q r e = absurd cc
 sent_waits false true w false p q r e = absurd cc
 sent_waits a s w true p q r e = absurd cc
 
-any_split : (a b : Bool) → (a || b) ≡ true → (a ≡ true) ⊎ (b ≡ true)
-any_split true b e = inl refl
-any_split false b e = inr e
-
-none_split : (a b : Bool) → (a || b) ≡ false → (a ≡ false) × (b ≡ false)
-none_split false b e = (refl, e)
-none_split true b e = absurd cc
-
-any_left : (a b : Bool) → a ≡ true → (a || b) ≡ true
-any_left true b e = refl
-any_left false b e = absurd cc
-
-any_right : (a b : Bool) → b ≡ true → (a || b) ≡ true
-any_right true b e = refl
-any_right false b e = e
-
 pub waiting_served : (l : Lines) (ks : List Client) → AllFit l ks → list_any (λ k. not (all_sent k || k.stopped)) ks ≡ false → list_any (λ k. not (all_sent k) || has_whole k) ks ≡ true → list_any will_serve ks ≡ true
 waiting_served l [] h r e = absurd cc
 waiting_served l (k ∷ ks) h r e =
-    let rs = none_split (not (all_sent k || k.stopped)) (list_any (λ k. not (all_sent k || k.stopped)) ks) r in
-    elim (any_split (not (all_sent k) || has_whole k) (list_any (λ k. not (all_sent k) || has_whole k) ks) e) [
-      | inl now ↦ any_left (will_serve k) (list_any will_serve ks) (sent_waits (all_sent k) k.stopped (has_whole k) k.gone h.0.here h.0.going rs.0 now)
-      | inr later ↦ any_right (will_serve k) (list_any will_serve ks) (waiting_served l ks h.1 rs.1 later)
+    let rs = or_parts (not (all_sent k || k.stopped)) (list_any (λ k. not (all_sent k || k.stopped)) ks) r in
+    elim (or_cases (not (all_sent k) || has_whole k) (list_any (λ k. not (all_sent k) || has_whole k) ks) e) [
+      | inl now ↦ or_left (will_serve k) (list_any will_serve ks) (sent_waits (all_sent k) k.stopped (has_whole k) k.gone h.0.here h.0.going rs.0 now)
+      | inr later ↦ or_right (will_serve k) (list_any will_serve ks) (waiting_served l ks h.1 rs.1 later)
     ]

@@ -2,7 +2,7 @@
 use Rattle.std.proofs.Common.{◌≡◌, ◌≤◌, ℕ, Bool, true, false, cond, not, List, [], ◌∷◌, ◌++◌, length, take, map, refl, sym, subst, ◌∙◌, arith, length-append}
 use Rattle.std.specs.Prelude.{Ok, Err, nat_eq, ◌&&◌, ◌||◌}
 use Rattle.std.specs.List.{filter, list_any}
-use Rattle.std.proofs.lemmas.Bool.{eqb-true}
+use Rattle.std.proofs.lemmas.Bool.{eqb-true, or_parts}
 use Rattle.tc_base.specs.declared.request.Request.{Request}
 use Rattle.tc_base.specs.declared.fields.NotWhole.TheVariants.{Part}
 use Rattle.tc_base.specs.Reading.{Front}
@@ -29,10 +29,6 @@ abbrev pub EachDone : List Client → Type 0
 EachDone [] = Unit {0}
 EachDone (k ∷ ks) = (k.gone ≡ false → k.extra ≡ false → IsDone k) × EachDone ks
 
-or_no : (a b : Bool) → (a || b) ≡ false → (a ≡ false) × (b ≡ false)
-or_no false b e = (refl, e)
-or_no true b e = absurd cc
-
 not_no : (b : Bool) → not b ≡ false → b ≡ true
 not_no true e = refl
 not_no false e = absurd cc
@@ -42,7 +38,7 @@ all_even k e = (let s = eqb-true (length k.out) (length k.owed) e in omega (arit
 
 -- what doesn't wait is done
 idle_done : (k : Client) → waits k ≡ false → IsDone k
-idle_done k e = let o = or_no (not (all_sent k)) (has_whole k) e in record { even = all_even k (not_no (all_sent k) o.0); none = o.1 }
+idle_done k e = let o = or_parts (not (all_sent k)) (has_whole k) e in record { even = all_even k (not_no (all_sent k) o.0); none = o.1 }
 
 bad_none : (f : Front Request) → is_bad f ≡ true → is_whole f ≡ false
 bad_none (Ok x) e = absurd cc
@@ -86,7 +82,7 @@ done_filter p (k ∷ ks) h = go (p k) (done_filter p ks h.1)
 -- those closed are over
 closed_done : (p : Client → Bool) (ks : List Client) → list_any (λ k. p k && not (is_over k)) ks ≡ false → EachDone (filter p ks)
 closed_done p [] e = tt
-closed_done p (k ∷ ks) e = (let both = or_no (p k && not (is_over k)) (list_any (λ l. p l && not (is_over l)) ks) e in go (p k) both.0 (closed_done p ks both.1))
+closed_done p (k ∷ ks) e = (let both = or_parts (p k && not (is_over k)) (list_any (λ l. p l && not (is_over l)) ks) e in go (p k) both.0 (closed_done p ks both.1))
   where
     go : (b : Bool) → (b && not (is_over k)) ≡ false → EachDone (filter p ks) → EachDone (cond b (k ∷ filter p ks) (filter p ks))
     go true is r = (over_done k (not_no (is_over k) is), r)
@@ -120,7 +116,7 @@ one_still c w k e = ready (is_ready k)
 round_done : (c : Contents) (w : Walk) (ks : List Client) → list_any waits ks ≡ false → EachDone (round_all c w (map unstopped ks)).clients
 round_done c w [] e = tt
 round_done c w (k ∷ ks) e =
-    let o = or_no (waits k) (list_any waits ks) e in
+    let o = or_parts (waits k) (list_any waits ks) e in
     let d = idle_done k o.0 in
     let still = one_still c w (unstopped k) d.none in
     (λ g x. subst IsDone (sym still) (record { even = d.even; none = d.none }), round_done (round_one c w (unstopped k)).contents (round_one c w (unstopped k)).walk ks o.1)

@@ -1,5 +1,6 @@
 -- The header's lengths, one behind the other.
 use Rattle.std.proofs.Common.{◌≡◌, ℕ, zero, suc, ◌+◌, ◌*◌, ◌^◌, ◌<◌, ◌≤◌, List, [], ◌∷◌, ◌++◌, length, take, drop, get_or, refl, sym, ◌∙◌, ap, arith, append_assoc, true, false, Bool, ◌&&◌, nat_le, nat_eq, length-take, length-drop}
+use Rattle.std.proofs.lemmas.Bool.{and_from, and_right}
 use Rattle.std.proofs.lemmas.Bool.Decides.{nat_tests}
 use Rattle.std.proofs.lemmas.List.{take_more, append-nil, take_all, places, drop-drop, ext_get_or, same_lists}
 use Rattle.std.proofs.lemmas.Slice.{take-put_mid}
@@ -47,9 +48,6 @@ lens_read head lens long each =
 
 -- ---- tests, item by item
 
-and_true : (a b : Bool) → a ≡ true → b ≡ true → (a && b) ≡ true
-and_true a b x y = λ i. x i && y i
-
 le_true : (a b : ℕ) → a ≤ b → nat_le a b ≡ true
 le_true a b le = grind (arith, nat_tests)
 
@@ -62,29 +60,25 @@ eq_true a b is = grind (arith, nat_tests)
 eq_false : (a b : ℕ) → (a ≡ b → ⊥) → nat_eq a b ≡ false
 eq_false a b is = grind (arith, nat_tests)
 
-and_false : (a b : Bool) → b ≡ false → (a && b) ≡ false
-and_false true b is = is
-and_false false b is = refl
-
 pub short_each : (ns : List ℕ) → ((k : ℕ) → k < length ns → get_or ns k 0 ≤ 2 ^ 40) → all_short ns ≡ true
 short_each [] each = refl
-short_each (n ∷ ns) each = and_true (nat_le n (2 ^ 40)) (all_short ns) (le_true n (2 ^ 40) (each 0 (omega arith))) (short_each ns (λ k low. each (suc k) (omega (arith, low))))
+short_each (n ∷ ns) each = and_from (nat_le n (2 ^ 40)) (all_short ns) (le_true n (2 ^ 40) (each 0 (omega arith))) (short_each ns (λ k low. each (suc k) (omega (arith, low))))
 
 pub short_not : (ns : List ℕ) (k : ℕ) → k < length ns → 2 ^ 40 < get_or ns k 0 → all_short ns ≡ false
 short_not [] k low high = absurd (omega arith)
 short_not (n ∷ ns) zero low high = ap (λ b. b && all_short ns) (le_false n (2 ^ 40) high)
-short_not (n ∷ ns) (suc k) low high = and_false (nat_le n (2 ^ 40)) (all_short ns) (short_not ns k (omega (arith, low)) high)
+short_not (n ∷ ns) (suc k) low high = and_right (nat_le n (2 ^ 40)) (all_short ns) (short_not ns k (omega (arith, low)) high)
 
 pub agrees_each : (ms bs : List ℕ) → ((k : ℕ) → k < length ms → k < length bs → get_or bs k 0 ≡ get_or ms k 0) → agrees ms bs ≡ true
 agrees_each [] bs each = refl
 agrees_each (m ∷ ms) [] each = refl
-agrees_each (m ∷ ms) (b ∷ bs) each = and_true (nat_eq m b) (agrees ms bs) (eq_true m b (sym (each 0 (omega arith) (omega arith)))) (agrees_each ms bs (λ k low high. each (suc k) (omega (arith, low)) (omega (arith, high))))
+agrees_each (m ∷ ms) (b ∷ bs) each = and_from (nat_eq m b) (agrees ms bs) (eq_true m b (sym (each 0 (omega arith) (omega arith)))) (agrees_each ms bs (λ k low high. each (suc k) (omega (arith, low)) (omega (arith, high))))
 
 pub agrees_not : (ms bs : List ℕ) (k : ℕ) → k < length ms → k < length bs → (get_or bs k 0 ≡ get_or ms k 0 → ⊥) → agrees ms bs ≡ false
 agrees_not [] bs k low high differ = absurd (omega arith)
 agrees_not (m ∷ ms) [] k low high differ = absurd (omega arith)
 agrees_not (m ∷ ms) (b ∷ bs) zero low high differ = ap (λ t. t && agrees ms bs) (eq_false m b (λ is. differ (sym is)))
-agrees_not (m ∷ ms) (b ∷ bs) (suc k) low high differ = and_false (nat_eq m b) (agrees ms bs) (agrees_not ms bs k (omega (arith, low)) (omega (arith, high)) differ)
+agrees_not (m ∷ ms) (b ∷ bs) (suc k) low high differ = and_right (nat_eq m b) (agrees ms bs) (agrees_not ms bs k (omega (arith, low)) (omega (arith, high)) differ)
 
 -- a number in two parts
 number_parts : (a b : List ℕ) → length a ≡ 4 → number (a ++ b) ≡ number a + 4294967296 * number b

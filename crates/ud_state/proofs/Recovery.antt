@@ -1,6 +1,6 @@
 -- Recovery from the first sync to the empty log, stopped anywhere and run again.
 use Rattle.std.proofs.Common.{◌≡◌, ◌⊎◌, inl, inr, ⊎_elim, ℕ, ◌+◌, ◌^◌, ◌≤◌, List, [], ◌∷◌, ◌++◌, length, take, drop, refl, sym, ◌∙◌, ap, subst, arith, true, false, Bool, cond, ◌&&◌, nat_eq, nat_le, Option, Some, None}
-use Rattle.std.proofs.lemmas.Bool.{cases_Bool}
+use Rattle.std.proofs.lemmas.Bool.{cases_Bool, and_parts}
 use Rattle.std.proofs.lemmas.Bool.Decides.{nat_tests}
 use Rattle.tc_base.specs.Files.{Files, resized}
 use Rattle.tc_io.specs.Images.{Step, synced, cut_to, lost, reads, Image, Calls, of, now, Images, IsLost, IsLostSync, WasLostSync}
@@ -87,11 +87,6 @@ recovers_since old new settled image quiet =
     }
 
 -- ---- the entries that the scan found may be put back
-
-and_parts : (a b : Bool) → (a && b) ≡ true → (a ≡ true) × (b ≡ true)
-and_parts true true is = (refl, refl)
-and_parts true false is = absurd cc
-and_parts false b is = absurd cc
 
 and_four : (a b c d : Bool) → (a && b && c && d) ≡ true → (a ≡ true) × ((b ≡ true) × ((c ≡ true) × (d ≡ true)))
 and_four true true true true is = (refl, (refl, (refl, refl)))

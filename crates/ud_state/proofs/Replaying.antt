@@ -1,6 +1,6 @@
 -- Recovery: each step of it keeps what the files are recovered to.
 use Rattle.std.proofs.Common.{◌≡◌, ◌⊎◌, inl, inr, ⊎_elim, ℕ, zero, suc, ◌+◌, ◌^◌, ◌<◌, ◌≤◌, List, [], ◌∷◌, ◌++◌, length, replicate, get_or, refl, sym, ◌∙◌, ap, subst, arith, true, false, Bool, cond, Some, nat_eq, nat_le, ◌&&◌}
-use Rattle.std.proofs.lemmas.Bool.{cases_lt, cases_eq, cases_Bool}
+use Rattle.std.proofs.lemmas.Bool.{cases_lt, cases_eq, cases_Bool, and_parts}
 use Rattle.std.proofs.lemmas.List.{length-replicate}
 use Rattle.std.proofs.lemmas.Bool.Decides.{nat_tests}
 use Rattle.tc_base.specs.Files.{Files, resized}
@@ -27,11 +27,6 @@ replay_undo cs result lens es r ims are =
         ∙ ap (λ n. undone n (of_file f es) (ims f)) (sym (r.lengths f is))
         ∙ gives_kept (of_file f es) (result f) (ims f) (r.inside f is) (r.holds f is) (r.stands f is (ims f) (are f))
     each f (inr is) = ap (λ b. cond b (undone (length_of lens f) (of_file f es) (ims f)) []) is ∙ sym (r.blank f is)
-
-and_parts : (a b : Bool) → (a && b) ≡ true → (a ≡ true) × (b ≡ true)
-and_parts true true is = (refl, refl)
-and_parts true false is = absurd cc
-and_parts false b is = absurd cc
 
 pub inside_lens : (lens : List ℕ) (es : List Entry) (f : ℕ) → all_inside lens es ≡ true → Inside (length_of lens f) (of_file f es)
 inside_lens lens [] f is = tt

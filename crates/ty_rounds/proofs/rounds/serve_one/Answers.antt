@@ -1,6 +1,5 @@
-use Rattle.std.proofs.Common.{rules, refl, sym, ◌∙◌}
-use Rattle.ty_rounds.proofs.ServingLaws.{gone_idle, waits_idle, none_idle, one_served, none_of}
-use Rattle.tc_model.specs.Packing.{is_optimize}
+use Rattle.std.proofs.Common.{rules, refl}
+use Rattle.ty_rounds.proofs.ServingLaws.{gone_idle, waits_idle, none_idle, one_served}
 use Rattle.ty_rounds.proofs.rounds.serve_one.Goals as goal
 
 pub returns-then-p-clause-served : goal.returns-then-p-clause-served
@@ -13,7 +12,4 @@ pub returns-then-not-has_whole-clause-served : goal.returns-then-not-has_whole-c
 returns-then-not-has_whole-clause-served g c = λ t. none_idle _ _ c.args.p.now _ refl (search rules)
 
 pub returns-clause-served : goal.returns-clause-served
-returns-clause-served g c = λ t. one_served _ c.in_ok-served.served.updated _ _ _ _ c.args.p.now c.owe_repl.new.p c.serve.new.self c.in_ok-served.served.request c.commits.ensures (search rules) (search rules) (c.in_ok-served.ensures.served t) c.in_ok-owe_repl.ensures.owes
-
-pub returns-clause-writes : goal.returns-clause-writes
-returns-clause-writes g c = λ e. let n = none_of c.in_ok-served.served.updated (is_optimize c.in_ok-served.served.request) (sym c.commits.ensures ∙ e) in c.in_ok-served.ensures.writes n.0 n.1
+returns-clause-served g c = λ t. let s = c.in_ok-served.ensures.served in one_served _ _ _ _ c.args.p.now c.owe_repl.new.p c.serve.new.self s.0 c.in_ok-served.served (search rules) (search rules) s.1 (s.2 t) (c.in_ok-owe_repl.ensures.owes s.0 s.1.feeds)
