@@ -33,9 +33,9 @@ pub fn fresh(alloc: Global) -> Bodies {
     }
 }
 
-fn ask_both(alloc: Global, both: &mut Bodies, r: &Request) -> Result<Answer, AllocError> {
+fn ask_both(alloc: Global, both: &mut Bodies, r: Request) -> Result<Answer, AllocError> {
     let mut plain = Blob::new(alloc);
-    let first = apply_plain(alloc, &mut both.contents, &mut both.plain, r, &mut plain)?;
+    let first = apply_plain(alloc, &mut both.contents, &mut both.plain, &r, &mut plain)?;
     let mut mem = Blob::new(alloc);
     let mut space = NoSpace::new();
     let Ok(second) = both.base.apply(&mut space, r, &mut both.walk, &mut mem) else {
@@ -54,7 +54,7 @@ pub fn ask(alloc: Global, both: &mut Bodies, bytes: &[u8]) -> Result<Option<Answ
     match take(bytes) {
         Front::Whole(_) => {
             let r = read_request(alloc, bytes)?;
-            Ok(Some(ask_both(alloc, both, &r)?))
+            Ok(Some(ask_both(alloc, both, r)?))
         }
         Front::Part | Front::Bad => Ok(None),
     }

@@ -255,12 +255,28 @@ fn worked_requests_are_answered(rt: HostRuntime) -> Result<(), Fail> {
     Ok(())
 }
 
+// Adds 16,777,216 bytes.
+fn push_value(into: &mut Blob) -> Result<(), AllocError> {
+    let piece = [b'v'; 4096];
+    for _ in 0..4096 {
+        into.append(&piece)?;
+    }
+    Ok(())
+}
+
 // The put of a value of 16,777,216 bytes under `a`.
 fn long_put(alloc: Global) -> Result<Blob, AllocError> {
     let mut bytes = Blob::from_slice(alloc, b"\xC8\x10\0\0\0\x01\x01\0\0\0a")?;
-    let piece = [b'v'; 4096];
-    for _ in 0..4096 {
-        bytes.append(&piece)?;
+    push_value(&mut bytes)?;
+    Ok(bytes)
+}
+
+// What an mget of `a` three times is answered where it has 16,777,216 bytes: 50,331,680 bytes.
+fn three_of_them(alloc: Global) -> Result<Blob, AllocError> {
+    let mut bytes = Blob::from_slice(alloc, b"\0\0\0\0\x03")?;
+    for _ in 0..3 {
+        bytes.append(b"\0\0\0\x01\x01\0\0\0a")?;
+        push_value(&mut bytes)?;
     }
     Ok(bytes)
 }
@@ -284,13 +300,17 @@ const LIMITED: &[Step] = &[
     },
 ];
 
-// A reply of more than 67,108,864 bytes and a value of more than 16,777,216 are refused.
+// A reply of more than 67,108,864 bytes and a value of more than 16,777,216 are refused, and what is less isn't.
 #[test]
 fn limits_are_kept(rt: HostRuntime) -> Result<(), Fail> {
     let alloc = rt.alloc();
     let mut both = fresh(alloc);
     let first = long_put(alloc)?;
     assert!(&rt; says(alloc, &mut both, first.as_slice(), b"\0")?);
+    let thrice = b"\xC8\x31\0\0\0\x03\0\0\0\x01a\0\0\0\x01a\0\0\0\x01a";
+    let reply = three_of_them(alloc)?;
+    assert_eq!(&rt; reply.len(), 50_331_680);
+    assert!(&rt; says(alloc, &mut both, thrice, reply.as_slice())?);
     assert!(&rt; first_wrong(alloc, &mut both, LIMITED)?.is_none());
     Ok(())
 }
