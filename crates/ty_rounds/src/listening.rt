@@ -16,6 +16,24 @@ use crate::peer::Peer;
 use std::alloc::{AllocError, Global};
 use tc_io::{Ev, Wire};
 
+/// What each turn fills anew, so that no turn makes it.
+#[derive(Drop)]
+pub struct Buffers {
+    // the connections that wait
+    paused: Vec<u32>,
+    // the bytes of a read
+    bytes: [u8; 4096],
+}
+
+impl Buffers {
+    pub fn new(alloc: Global) -> Buffers {
+        Buffers {
+            paused: Vec::new(alloc),
+            bytes: [0; 4096],
+        }
+    }
+}
+
 // Lists the connections that wait.
 fn list_waiting(peers: &[Peer], paused: &mut Vec<u32>) -> Result<(), AllocError>
     ensures { OnOk result (paused.new.items ≡ waiting_numbers peers.now) }
@@ -102,11 +120,11 @@ fn hear(alloc: Global, peers: &mut Vec<Peer>, ev: Ev, buffer: &[u8; 4096]) -> Re
     }
 }
 
-/// Asks for one event, with the connections that wait paused, and takes it in. `paused` is a buffer.
+/// Asks for one event, with the connections that wait paused, and takes it in.
 pub fn listen<W: Wire>(
     alloc: Global,
     peers: &mut Vec<Peer>,
-    paused: &mut Vec<u32>,
+    buffers: &mut Buffers,
     wire: &mut W,
 ) -> Result<Ev, TurnErr>
     requires opened { W.opened wire.old ≡ true }
@@ -118,11 +136,10 @@ pub fn listen<W: Wire>(
     ensures later { W.faults wire.old ≤ W.faults wire.new }
     ensures cause { IsErrOf result TurnErr.Wire → Rose (W.faults wire.old) (W.faults wire.new) }
 {
-    list_waiting(peers.as_slice(), paused)?;
-    let busy = !paused.is_empty();
-    let mut buffer = [0; 4096];
-    let ev = wire.next(paused.as_slice(), busy, &mut buffer)?;
-    let Ok(()) = hear(alloc, peers, ev, &buffer) else {
+    list_waiting(peers.as_slice(), &mut buffers.paused)?;
+    let busy = !buffers.paused.is_empty();
+    let ev = wire.next(buffers.paused.as_slice(), busy, &mut buffers.bytes)?;
+    let Ok(()) = hear(alloc, peers, ev, &buffers.bytes) else {
         return Err(TurnErr::Memory);
     };
     Ok(ev)

@@ -9,7 +9,7 @@ ghost use Rattle.ty_rounds.specs.Holding.{Wired};
 ghost use Rattle.ty_rounds.specs.Turns.{Turns, Finishes};
 
 use crate::closing::close_over;
-use crate::listening::listen;
+use crate::listening::{Buffers, listen};
 use crate::outcome::{Outcome, TurnErr};
 use crate::peer::Peer;
 use crate::rounds::round_of_all;
@@ -27,8 +27,7 @@ pub struct Server<B> {
     pub base: B,
     pub walk: Walk,
     pub peers: Vec<Peer>,
-    // the connections that wait, a buffer of each turn
-    paused: Vec<u32>,
+    buffers: Buffers,
 }
 
 impl<B: Base> Server<B> {
@@ -43,7 +42,7 @@ impl<B: Base> Server<B> {
             base,
             walk: Walk::new(),
             peers: Vec::new(alloc),
-            paused: Vec::new(alloc),
+            buffers: Buffers::new(alloc),
         }
     }
 }
@@ -165,7 +164,7 @@ pub fn turn<B: Base, W: Wire, K: Clock>(
     ensures cause_space { IsErrOf result TurnErr.Volume → Rose (B.S.faults space.old) (B.S.faults space.new) }
 {
     let _ = clock;
-    let ev = match listen(server.alloc, &mut server.peers, &mut server.paused, wire) {
+    let ev = match listen(server.alloc, &mut server.peers, &mut server.buffers, wire) {
         Ok(ev) => ev,
         Err(e) => return Err(e),
     };
