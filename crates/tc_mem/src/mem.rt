@@ -187,12 +187,7 @@ impl MemBase {
     }
 
     // Joins bytes behind the value of a key, or gives it to a key that has none. An `Err` changes nothing.
-    fn put_joined(
-        &mut self,
-        key: Blob,
-        more: Blob,
-        reply: &mut Blob,
-    ) -> Result<Applied, AllocError>
+    fn put_joined(&mut self, key: Blob, more: Blob, reply: &mut Blob) -> Result<Applied, AllocError>
         ensures ok { IfOk result (λ a. (w : Walk) → Applies (applied (request.PutCat key more) self.old w) (request.PutCat key more) a self.new w reply.old reply.new) }
         ensures err { OnErr result (self.new ≡ self.old) }
         ensures front { OnErr result (IsPrefix reply.old reply.new) }

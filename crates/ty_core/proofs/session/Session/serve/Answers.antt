@@ -19,7 +19,7 @@ invariant_of-self-2 g c = record {
 
 pub returns-clause-served : goal.returns-clause-served
 returns-clause-served g c = let s = c.in_ok-served.ensures.served in (
-    s.0,
-    subst (λ (l : List ℕ). TakesOff s.0 c.in_ok-served.served l c.serve_front.new.unread.items) (ap (λ (q : Queue). q.unread) c.self.view_is) s.1,
-    λ t. serves_behind _ _ _ _ _ _ _ _ _ _ c.self.inside.taken (ap (λ (q : Queue). q.waiting) c.self.view_is) c.self.invariant.inside (s.2 t)
+  s.0,
+  subst (λ (l : List ℕ). TakesOff s.0 c.in_ok-served.served l c.serve_front.new.unread.items) (ap (λ (q : Queue). q.unread) c.self.view_is) s.1,
+  λ t. serves_behind _ _ _ _ _ _ _ _ _ _ c.self.inside.taken (ap (λ (q : Queue). q.waiting) c.self.view_is) c.self.invariant.inside (s.2 t),
 )
