@@ -5,8 +5,7 @@ use Rattle.tc_base.specs.declared.fields.NotWhole.TheVariants.{Part, Bad}
 use Rattle.std.proofs.lemmas.Bool.{cases_eq, ne_eqb}
 use Rattle.tc_base.specs.Reading.{◌>>=◌, Front, byte_at}
 
-abbrev pub IsBytes : List ℕ → Type 0
-IsBytes bytes = (i : ℕ) → get_or bytes i 0 < 256
+pub use Rattle.tc_base.specs.Bytes.{IsBytes}
 
 -- p reads what S spells: what it finds is spelled so, what is spelled so it finds, and it asks for more
 -- exactly where more bytes can make it whole

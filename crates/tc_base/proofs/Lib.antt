@@ -4,5 +4,6 @@ pub mod Exact
 pub mod ExactFields
 pub mod ExactNumbers
 pub mod ExactPairs
+pub mod Fronts
 pub mod Hashing
 pub mod Vnums

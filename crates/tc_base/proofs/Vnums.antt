@@ -7,7 +7,7 @@ use Rattle.std.proofs.Math.Nat.{pow-suc, pow-le-pow_right, mul-le-mul_right}
 use Rattle.tc_base.specs.declared.number.NumErr.{NumErr}
 use Rattle.tc_base.specs.declared.number.NumErr.TheVariants.{Short, Second, Wide}
 use Rattle.tc_base.specs.Vnum.{groups, vnum, tops, value_of, ended, vnum_at, IsShort, IsSecond, IsWide}
-use Rattle.tc_base.proofs.Exact.{IsBytes}
+use Rattle.tc_base.specs.Bytes.{IsBytes}
 
 -- the byte behind those with their top bit
 abbrev pub last : List ℕ → ℕ

@@ -1,51 +1,52 @@
 //! Requests and replies as values; their bytes are `ty_wire`'s.
 use crate::blob::Blob;
-use crate::seq::{Blobs, Pairs};
+use crate::key::Key;
+use crate::seq::{Blobs, Keys, Pairs};
 
 /// What a client asks for, in the order of the protocol's table.
 #[derive(Debug, Drop)]
 pub enum Request {
     /// Sets the value of a key.
     Put {
-        key: Blob,
+        key: Key,
         value: Blob,
     },
     /// Sets the value of a key that isn't held.
     PutKeep {
-        key: Blob,
+        key: Key,
         value: Blob,
     },
     /// Joins a value behind that of a key.
     PutCat {
-        key: Blob,
+        key: Key,
         value: Blob,
     },
     /// Joins a value behind that of a key, and keeps the last `width` bytes.
     PutShl {
-        key: Blob,
+        key: Key,
         value: Blob,
         width: u32,
     },
     /// Sets the value of a key, with no reply.
     PutNr {
-        key: Blob,
+        key: Key,
         value: Blob,
     },
     /// Removes a key.
     Out {
-        key: Blob,
+        key: Key,
     },
     /// Asks for the value of a key.
     Get {
-        key: Blob,
+        key: Key,
     },
     /// Asks for the values of keys.
     MGet {
-        keys: Blobs,
+        keys: Keys,
     },
     /// Asks for the size of the value of a key.
     Vsiz {
-        key: Blob,
+        key: Key,
     },
     /// Begins the walk over the keys.
     IterInit,
@@ -53,17 +54,17 @@ pub enum Request {
     IterNext,
     /// Asks for the keys that begin with a prefix, at most `maximum`, all where it is negative.
     FwmKeys {
-        prefix: Blob,
+        prefix: Key,
         maximum: i32,
     },
     /// Adds to the number that a key holds.
     AddInt {
-        key: Blob,
+        key: Key,
         number: u32,
     },
     /// Adds to the fraction that a key holds; always refused.
     AddDouble {
-        key: Blob,
+        key: Key,
         integer: u64,
         fraction: u64,
     },
@@ -71,7 +72,7 @@ pub enum Request {
     Ext {
         name: Blob,
         options: u32,
-        key: Blob,
+        key: Key,
         value: Blob,
     },
     /// Brings the database to the disk.

@@ -2,6 +2,7 @@
 ghost use Rattle.std.specs.Prelude.{◌≡◌, ◌<◌, ◌++◌, ◌∷◌, [], List, length, OnOk, OnErr, Some, slice_get};
 
 use crate::blob::Blob;
+use crate::key::Key;
 use std::alloc::{AllocError, Global};
 use std::marker::Model;
 
@@ -75,6 +76,9 @@ impl<T: Drop> Seq<T> {
 
 /// A list of byte strings.
 pub type Blobs = Seq<Blob>;
+
+/// A list of keys.
+pub type Keys = Seq<Key>;
 
 /// A key and its value.
 #[derive(Debug, Drop)]

@@ -1,7 +1,6 @@
 pub mod Answering
 pub mod Cases
 pub mod Entries
-pub mod Fronts
 pub mod Idle
 pub mod Lasts
 pub mod Prefixed

@@ -3,7 +3,6 @@ pub mod Applying
 pub mod Changes
 pub mod Codes
 pub mod Contents
-pub mod Fronts
 pub mod Maps
 pub mod Nexts
 pub mod Packing

@@ -1,7 +1,7 @@
 -- An entry of the log as its two reads show it.
 use Rattle.std.proofs.Common.{◌≡◌, ℕ, ◌+◌, ◌-◌, ◌<◌, ◌≤◌, List, length, take, drop, sym, ◌∙◌, ap, subst, arith, length-take, length-drop, true, false, Bool, ◌&&◌, nat_le, nat_eq}
 use Rattle.std.proofs.lemmas.List.{drop-drop, drop-take, take-take}
-use Rattle.tc_base.proofs.Exact.{IsBytes}
+use Rattle.tc_base.specs.Bytes.{IsBytes}
 use Rattle.ud_log.specs.Log.{number, entry_at, entries}
 use Rattle.ud_log.specs.Undo.{is_data, length_of, is_formed, all_formed}
 use Rattle.ud_log.proofs.Scanning.{Scanned, ScannedAll, scan_more, scan_broken, scan_done}

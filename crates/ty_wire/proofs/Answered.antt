@@ -6,7 +6,7 @@ use Rattle.tc_base.specs.declared.fields.NotWhole.TheVariants.{Part, Bad}
 use Rattle.ty_wire.specs.Prefixes.{IsPrefix, IsPart}
 use Rattle.ty_wire.specs.Spelling.{spelling, Fits}
 use Rattle.ty_wire.specs.Reading.{request_at}
-use Rattle.tc_base.proofs.Exact.{IsBytes}
+use Rattle.tc_base.specs.Bytes.{IsBytes}
 use Rattle.ty_wire.proofs.Requests.{exact_request}
 
 pub record IsTaken (bytes : List ℕ) (r : Request) (rest : List ℕ) : Type 0 where

@@ -8,7 +8,7 @@ use Rattle.tc_base.specs.declared.request.Request.TheVariants.{MGet, Misc}
 use Rattle.tc_base.specs.declared.fields.NotWhole.{NotWhole}
 use Rattle.tc_base.specs.declared.fields.NotWhole.TheVariants.{Part}
 use Rattle.tc_base.specs.Reading.{Front, ◌>>=◌, size_at, bytes_at}
-use Rattle.tc_base.proofs.Exact.{IsBytes}
+use Rattle.tc_base.specs.Bytes.{IsBytes}
 use Rattle.tc_base.proofs.ExactFields.{if_true, if_false}
 use Rattle.ty_wire.specs.declared.reading.Front.{Front as Answer}
 use Rattle.ty_wire.specs.declared.reading.Front.TheVariants as front

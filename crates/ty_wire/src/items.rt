@@ -5,7 +5,7 @@ ghost use Rattle.ty_wire.specs.Reading.{items_at};
 ghost use Rattle.ty_wire.specs.Items.{item_at, Skips, texts_of};
 
 use std::alloc::{AllocError, Global};
-use tc_base::{Blob, Blobs, NotWhole, read_bytes, read_size};
+use tc_base::{Blob, Blobs, Key, Keys, NotWhole, read_bytes, read_size};
 
 /// A text of at most `limit` bytes with its size in front, and the bytes behind it.
 pub fn read_item(limit: usize, bytes: &[u8]) -> Result<(&[u8], &[u8]), NotWhole>
@@ -61,4 +61,15 @@ pub fn copy_items(
         rest = behind;
     }
     Ok(items)
+}
+
+/// The texts as keys, each moved.
+pub fn keys_from(alloc: Global, texts: Blobs) -> Result<Keys, AllocError>
+    ensures { IfOk result (λ keys. keys ≡ texts) }
+{
+    let mut keys = Keys::new(alloc);
+    for text in texts.into_vec() {
+        keys.push(Key::new(text))?;
+    }
+    Ok(keys)
 }

@@ -9,7 +9,7 @@ ghost use Rattle.ty_wire.specs.Spelling.{key_text, spelling, Fits};
 ghost use Rattle.ty_wire.specs.Prefixes.{IsPrefix};
 ghost use Rattle.ty_wire.specs.Taking.{Takes, IsRead};
 
-use crate::items::{copy_items, skip_items};
+use crate::items::{copy_items, keys_from, skip_items};
 use crate::parsed::{Items, Parsed};
 use crate::shapes::{
     Read, ext_of, key_longs_of, key_of, key_word_of, master_of, pair_of, repl_of, restore_of,
@@ -17,7 +17,8 @@ use crate::shapes::{
 };
 use std::alloc::{AllocError, Global};
 use tc_base::{
-    Blob, Blobs, KEY_MOST, NotWhole, REQUEST_MOST, Request, VALUE_MOST, read_bytes, read_size,
+    Blob, Blobs, KEY_MOST, Key, Keys, NotWhole, REQUEST_MOST, Request, VALUE_MOST, read_bytes,
+    read_size,
 };
 
 /// What stands at the front of bytes.
@@ -229,10 +230,10 @@ fn blob(alloc: Global, bytes: &[u8]) -> Result<Blob, AllocError>
     Blob::from_slice(alloc, bytes)
 }
 
-fn both(alloc: Global, key: &[u8], value: &[u8]) -> Result<(Blob, Blob), AllocError>
+fn both(alloc: Global, key: &[u8], value: &[u8]) -> Result<(Key, Blob), AllocError>
     ensures { IfOk result (λ b. (b.0 ≡ key.now) × (b.1 ≡ value.now)) }
 {
-    Ok((blob(alloc, key)?, blob(alloc, value)?))
+    Ok((Key::from_slice(alloc, key)?, blob(alloc, value)?))
 }
 
 fn list(alloc: Global, items: Items<'_>) -> Result<Blobs, AllocError>
@@ -240,6 +241,13 @@ fn list(alloc: Global, items: Items<'_>) -> Result<Blobs, AllocError>
     ensures { IfOk result (λ b. b ≡ texts items.entry) }
 {
     copy_items(alloc, items.most, items.count, items.left, items.bytes)
+}
+
+fn key_list(alloc: Global, items: Items<'_>) -> Result<Keys, AllocError>
+    requires { AreWhole items }
+    ensures { IfOk result (λ keys. keys ≡ texts items.entry) }
+{
+    keys_from(alloc, list(alloc, items)?)
 }
 
 // A copy of a request whose texts lie where they were read.
@@ -269,29 +277,29 @@ fn copied(alloc: Global, p: Parsed<'_>) -> Result<Request, AllocError>
             Ok(Request::PutNr { key, value })
         }
         Parsed::Out(key) => Ok(Request::Out {
-            key: blob(alloc, key)?,
+            key: Key::from_slice(alloc, key)?,
         }),
         Parsed::Get(key) => Ok(Request::Get {
-            key: blob(alloc, key)?,
+            key: Key::from_slice(alloc, key)?,
         }),
         Parsed::MGet(keys) => Ok(Request::MGet {
-            keys: list(alloc, keys)?,
+            keys: key_list(alloc, keys)?,
         }),
         Parsed::Vsiz(key) => Ok(Request::Vsiz {
-            key: blob(alloc, key)?,
+            key: Key::from_slice(alloc, key)?,
         }),
         Parsed::IterInit => Ok(Request::IterInit),
         Parsed::IterNext => Ok(Request::IterNext),
         Parsed::FwmKeys(prefix, maximum) => Ok(Request::FwmKeys {
-            prefix: blob(alloc, prefix)?,
+            prefix: Key::from_slice(alloc, prefix)?,
             maximum,
         }),
         Parsed::AddInt(key, number) => Ok(Request::AddInt {
-            key: blob(alloc, key)?,
+            key: Key::from_slice(alloc, key)?,
             number,
         }),
         Parsed::AddDouble(key, integer, fraction) => Ok(Request::AddDouble {
-            key: blob(alloc, key)?,
+            key: Key::from_slice(alloc, key)?,
             integer,
             fraction,
         }),

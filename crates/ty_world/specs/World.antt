@@ -1,6 +1,7 @@
 -- What a transcript makes of the database and of the connections.
-use Rattle.std.specs.Prelude.{◌≡◌, ◌<◌, ℕ, suc, Bool, true, false, not, ◌&&◌, ◌||◌, List, [], ◌∷◌, ◌++◌, length, take, map, None, Ok, Err, nat_eq, nat_lt, slice_index, if◌then◌else◌}
+use Rattle.std.specs.Prelude.{◌≡◌, ℕ, suc, Bool, true, false, not, ◌&&◌, ◌||◌, List, [], ◌∷◌, ◌++◌, length, take, map, None, Ok, Err, nat_eq, nat_lt, if◌then◌else◌}
 use Rattle.std.specs.List.{list_any, filter}
+pub use Rattle.tc_base.specs.Bytes.{IsBytes}
 use Rattle.tc_base.specs.declared.request.Request.{Request}
 use Rattle.tc_base.specs.declared.request.Request.TheVariants.{Repl}
 use Rattle.tc_base.specs.declared.fields.NotWhole.TheVariants.{Part}
@@ -204,9 +205,6 @@ AllAsked w [] = Unit {0}
 AllAsked w (e ∷ es) = AsksRight w e × AllAsked (happens w e) es
 
 -- ---- what a wire may give
-
-abbrev pub IsBytes : List ℕ → Type 0
-IsBytes bytes = (i : ℕ) → slice_index bytes i < 256
 
 -- what came is bytes, and no more events are to come only where nothing waits
 pub record Comes (busy : Bool) (ev : Ev) (bytes : List ℕ) : Type 0 where

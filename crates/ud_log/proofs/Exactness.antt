@@ -2,7 +2,7 @@
 use Rattle.std.proofs.Common.{◌≡◌, ◌∙◌, inl, inr, ℕ, zero, suc, ◌+◌, ◌-◌, ◌*◌, ◌^◌, ◌<◌, ◌≤◌, List, [], ◌∷◌, ◌++◌, length, take, drop, refl, sym, ap, subst, arith, append_assoc, length-append, length-drop, take-append-drop}
 use Rattle.std.proofs.lemmas.Bool.{cases_lt}
 use Rattle.std.proofs.lemmas.List.{drop_at, drop-drop, length-take-le, append-nil}
-use Rattle.tc_base.proofs.Exact.{IsBytes}
+use Rattle.tc_base.specs.Bytes.{IsBytes}
 use Rattle.ud_log.specs.Entries.{Entry}
 use Rattle.ud_log.specs.Log.{spelled, number, numbers_in, numbers_bytes, magic, entry_bytes, entries_bytes, entry_at, entries_in, lengths, entries}
 use Rattle.ud_log.specs.Grammar.{Fits, Each, FitEight, HasNoEntry, Spells, ReadsAs, GrammarIsExact}

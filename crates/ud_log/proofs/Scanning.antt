@@ -4,7 +4,7 @@ use Rattle.std.proofs.lemmas.List.{places, append-nil, drop-drop, drop-take, tak
 use Rattle.std.proofs.lemmas.Bool.{cases_lt}
 use Rattle.std.proofs.lemmas.Bool.Decides.{nat_tests}
 use Rattle.std.proofs.Math.Seq.{take-add}
-use Rattle.tc_base.proofs.Exact.{IsBytes}
+use Rattle.tc_base.specs.Bytes.{IsBytes}
 use Rattle.ud_log.specs.Entries.{Entry}
 use Rattle.ud_log.specs.Log.{spelled, number, magic, entry_bytes, entries_bytes, numbers_in, entry_at, entries_in, lengths, entries}
 use Rattle.ud_log.specs.Undo.{length_of, agrees, all_short, is_formed, all_formed, all_inside, rule, nothing, undoes, broken, log_of}

@@ -1,6 +1,6 @@
 -- The grammar of a log's bytes: a magic word, 18 lengths, whole entries, and a rest that is none.
 use Rattle.std.specs.Prelude.{◌≡◌, ◌↔◌, ℕ, ◌+◌, ◌^◌, ◌<◌, ◌≤◌, List, [], ◌∷◌, ◌++◌, length, take, drop}
-use Rattle.tc_base.proofs.Exact.{IsBytes}
+use Rattle.tc_base.specs.Bytes.{IsBytes}
 use Rattle.ud_log.specs.Entries.{Entry}
 use Rattle.ud_log.specs.Log.{magic, numbers_bytes, entry_bytes, entries_bytes, lengths, entries}
 

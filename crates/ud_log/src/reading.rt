@@ -1,5 +1,5 @@
 ghost use Rattle.std.specs.Prelude.{◌≡◌, ◌+◌, ◌≤◌, ◌<◌, ◌*◌, ◌++◌, length, take, drop};
-ghost use Rattle.tc_base.proofs.Exact.{IsBytes};
+ghost use Rattle.tc_base.specs.Bytes.{IsBytes};
 ghost use Rattle.ud_log.specs.Log.{number, lengths};
 
 use crate::spell::{DATA_FILES, HEADER};

@@ -6,8 +6,8 @@ use Rattle.std.specs.Ordering.{nat_cmp, ordering_then, ordering_reverse}
 use Rattle.std.specs.Cmp.{nat_cmp_is}
 use Rattle.std.specs.Cmp.Lexicographic.{slice_cmp, nat_list_cmp_total}
 use Rattle.std.proofs.lemmas.Bool.{cases_order}
-use Rattle.tc_base.proofs.Exact.{IsBytes}
-use Rattle.tc_model.specs.Fronts.{front_of}
+use Rattle.tc_base.specs.Bytes.{IsBytes}
+use Rattle.tc_base.specs.Fronts.{front_of}
 
 -- the number of so many bytes more behind a number
 abbrev horner : ℕ → ℕ → List ℕ → ℕ

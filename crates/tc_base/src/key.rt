@@ -1,17 +1,18 @@
 //! Keys of a map.
-ghost use Rattle.std.specs.Prelude.{◌≡◌, ℕ, slice_index};
+ghost use Rattle.std.specs.Prelude.{◌≡◌, ℕ, slice_index, length, IfOk};
 ghost use Rattle.std.specs.Prelude.{nat_eq};
 ghost use Rattle.std.specs.Ordering.{nat_cmp, as_partial_cmp};
 ghost use Rattle.std.specs.Cmp.{partial_order_from_own_ties};
 ghost use Rattle.std.specs.Cmp.Rules.{comparing};
 ghost use Rattle.std.specs.Cmp.Lexicographic.{slice_cmp, pointwise};
 ghost use Rattle.std.proofs.Common.{rules};
-ghost use Rattle.tc_base.proofs.Exact.{IsBytes};
-ghost use Rattle.tc_model.specs.Fronts.{front_of};
+ghost use Rattle.tc_base.specs.Bytes.{IsBytes};
+ghost use Rattle.tc_base.specs.Fronts.{front_of};
 
+use std::alloc::{AllocError, Global};
 use std::cmp::Ordering;
 use std::marker::Model;
-use tc_base::Blob;
+use crate::blob::Blob;
 
 /// A byte string under which a value stands. Its order is that of bytes; the number of its first eight lies beside it, so that a search
 /// of a map looks at other memory only where these are the same.
@@ -23,8 +24,8 @@ pub struct Key {
 
 impl Model for Key {
     ghost use Rattle.std.specs.Prelude.{◌≡◌, ℕ, List};
-    ghost use Rattle.tc_base.proofs.Exact.{IsBytes};
-    ghost use Rattle.tc_model.specs.Fronts.{front_of};
+    ghost use Rattle.tc_base.specs.Bytes.{IsBytes};
+    ghost use Rattle.tc_base.specs.Fronts.{front_of};
 
     ghost Value = { List ℕ };
 
@@ -68,6 +69,13 @@ impl Key {
         }
     }
 
+    /// A copy of bytes.
+    pub fn from_slice(alloc: Global, bytes: &[u8]) -> Result<Key, AllocError>
+        ensures { IfOk result (λ k. k ≡ bytes.now) }
+    {
+        Ok(Key::new(Blob::from_slice(alloc, bytes)?))
+    }
+
     pub fn as_slice(&self) -> &[u8]
         ensures { result.now ≡ self.now }
     {
@@ -80,8 +88,6 @@ impl Key {
         self.bytes.len()
     }
 }
-
-ghost use Rattle.std.specs.Prelude.{length};
 
 impl PartialEq for Key {
     ghost eq = { pointwise nat_eq };

@@ -1,7 +1,7 @@
 use Rattle.std.proofs.Common.{◌≡◌, ◌<◌, ◌∙◌, ap, sym, subst, arith, ℕ, List, rules}
-use Rattle.tc_base.proofs.Exact.{IsBytes}
-use Rattle.tc_model.proofs.Fronts.{less_by, greater_by}
-use Rattle.tc_model.proofs.key.KeyOrd.cmp.Goals as goal
+use Rattle.tc_base.specs.Bytes.{IsBytes}
+use Rattle.tc_base.proofs.Fronts.{less_by, greater_by}
+use Rattle.tc_base.proofs.key.KeyOrd.cmp.Goals as goal
 
 pub returns-then-self-other : goal.returns-then-self-other
 returns-then-self-other c = sym (less_by _ _ _ _ _ _ c.self.view_is c.other.view_is c.self.invariant.0 c.other.invariant.0 c.self.invariant.1 c.other.invariant.1 (search rules))
