@@ -1,10 +1,9 @@
 -- Readers that answer exactly by a grammar, also where bytes are missing, and two of them in a row.
-use Rattle.std.proofs.Common.{◌≡◌, Bool, true, false, cond, eqb, eq-eqb, ℕ, suc, ◌<◌, List, [], ◌∷◌, ◌++◌, length, get_or, Result, Ok, Err, refl, sym, ap, subst, ◌∙◌, append_assoc, arith, inl, inr, ◌⊎◌, length-append}
+use Rattle.std.proofs.Common.{◌≡◌, Bool, true, false, cond, eqb, eq-eqb, ℕ, suc, ◌<◌, List, [], ◌∷◌, ◌++◌, length, Result, Ok, Err, refl, sym, ap, subst, ◌∙◌, append_assoc, arith, inl, inr, ◌⊎◌, length-append}
 use Rattle.tc_base.specs.declared.fields.NotWhole.{NotWhole}
 use Rattle.tc_base.specs.declared.fields.NotWhole.TheVariants.{Part, Bad}
 use Rattle.std.proofs.lemmas.Bool.{cases_eq, ne_eqb}
 use Rattle.tc_base.specs.Reading.{◌>>=◌, Front, byte_at}
-
 pub use Rattle.tc_base.specs.Bytes.{IsBytes}
 
 -- p reads what S spells: what it finds is spelled so, what is spelled so it finds, and it asks for more

@@ -1,7 +1,7 @@
 -- The readers of a number and of bytes are exact.
 use Rattle.std.proofs.Common.{◌≡◌, ◌⊎◌, ℕ, zero, suc, ◌-◌, ◌^◌, ◌<◌, ◌≤◌, Bool, true, false, cond, ltb, leb, List, [], ◌∷◌, ◌++◌, length, take, drop, Ok, Err, refl, sym, ap, subst, ◌∙◌, arith, inl, inr, length-append, replicate}
 use Rattle.std.specs.Int.{w32, from_be_bytes, to_be_bytes}
-use Rattle.std.proofs.lemmas.Bool.{ltb-false, ltb-true, lt-ltb, le-ltb, leb-true, le-leb}
+use Rattle.std.proofs.lemmas.Bool.{ltb-false, ltb-true, lt-ltb, le-ltb, leb-true, le-leb, cond-true, cond-false}
 use Rattle.std.proofs.lemmas.List.{take_at, drop_at, take-append-drop, length-take, length-replicate}
 use Rattle.std.proofs.lemmas.Nat.{be_bytes_4, from_be_bytes-to_be_bytes_4}
 use Rattle.tc_base.specs.declared.fields.NotWhole.TheVariants.{Part}
@@ -59,14 +59,6 @@ front_le (a ∷ b ∷ []) more = omega arith
 front_le (a ∷ b ∷ c ∷ []) more = omega arith
 front_le (a ∷ b ∷ c ∷ d ∷ rest) more = omega arith
 
-pub if_true : {A : Type 0} (b : Bool) (x y : A) → b ≡ true → cond b x y ≡ x
-if_true true x y e = refl
-if_true false x y e = absurd cc
-
-pub if_false : {A : Type 0} (b : Bool) (x y : A) → b ≡ false → cond b x y ≡ y
-if_false true x y e = absurd cc
-if_false false x y e = refl
-
 abbrev pub IsSize : ℕ → ℕ → List ℕ → Type 0
 IsSize limit k text = (k ≤ limit) × (text ≡ to_be_bytes w32 k)
 
@@ -101,7 +93,7 @@ exact_size limit small = record {
       let n : from_be_bytes w32 (to_be_bytes w32 x ++ rest) ≡ x = from_be_bytes-to_be_bytes_4 x (omega (arith, h.0)) in
       let fine : leb (from_be_bytes w32 (to_be_bytes w32 x ++ rest)) limit ≡ true = ap (λ (k : ℕ). leb k limit) n ∙ le-leb x limit h.0 in
       let long : ltb (length (to_be_bytes w32 x ++ rest)) 4 ≡ false = le-ltb _ _ (omega arith) in
-      ap (λ (l : List ℕ). size_at limit (l ++ rest)) h.1 ∙ if_true _ _ _ fine ∙ if_false _ _ _ long ∙ ap (λ (k : ℕ). Ok (k, rest)) n;
+      ap (λ (l : List ℕ). size_at limit (l ++ rest)) h.1 ∙ cond-true _ _ _ fine ∙ cond-false _ _ _ long ∙ ap (λ (k : ℕ). Ok (k, rest)) n;
   part = λ bytes fits e.
       elim (chosen (leb (from_be_bytes w32 bytes) limit) _ _ (Err Part) e) [
         | inl h ↦ elim (chosen (ltb (length bytes) 4) _ _ (Err Part) h.1) [
@@ -115,5 +107,5 @@ exact_size limit small = record {
       let fine : leb (from_be_bytes w32 bytes) limit ≡ true = le-leb _ _ (omega (arith, n, h.0, front_le bytes more)) in
       let len : length (bytes ++ more) ≡ 4 = ap length h.1 in
       let short : ltb (length bytes) 4 ≡ true = lt-ltb _ _ (omega (arith, some, len, length-append bytes more)) in
-      if_true _ _ _ fine ∙ if_true _ _ _ short;
+      cond-true _ _ _ fine ∙ cond-true _ _ _ short;
 }

@@ -49,8 +49,8 @@ less (suc n) acc (suc x ∷ xs) [] f g lt = absurd (omega (arith, lt, below n (a
 less (suc n) acc (x ∷ xs) (y ∷ ys) f g lt = ⊎_elim
     (λ same. behind_same x y (slice_cmp nat_cmp xs ys) same ∙ less n (acc * 256 + x) xs ys (rest x xs f) (rest y ys g) (subst (λ (z : ℕ). horner (acc * 256 + x) n xs < horner (acc * 256 + z) n ys) (sym same) lt))
     (⊎_elim
-        (λ under. behind_less x y (slice_cmp nat_cmp xs ys) under)
-        (λ over. absurd (omega (arith, lt, below n (acc * 256 + y) (acc * 256 + x) ys xs (rest y ys g) (omega (arith, over))))))
+    (λ under. behind_less x y (slice_cmp nat_cmp xs ys) under)
+    (λ over. absurd (omega (arith, lt, below n (acc * 256 + y) (acc * 256 + x) ys xs (rest y ys g) (omega (arith, over))))))
     (cases_order x y)
 
 front_is : (bytes : List ℕ) → front_of bytes ≡ horner 0 8 bytes

@@ -9,10 +9,10 @@ ghost use Rattle.std.proofs.Common.{rules};
 ghost use Rattle.tc_base.specs.Bytes.{IsBytes};
 ghost use Rattle.tc_base.specs.Fronts.{front_of};
 
+use crate::blob::Blob;
 use std::alloc::{AllocError, Global};
 use std::cmp::Ordering;
 use std::marker::Model;
-use crate::blob::Blob;
 
 /// A byte string under which a value stands. Its order is that of bytes; the number of its first eight lies beside it, so that a search
 /// of a map looks at other memory only where these are the same.

@@ -2,8 +2,8 @@
 use Rattle.std.proofs.Common.{◌≡◌, ℕ, suc, ◌+◌, ◌<◌, ◌≤◌, Bool, true, false, cond, List, [], ◌∷◌, ◌++◌, length, get_or, refl, sym, ap, subst, ◌∙◌, arith, eq-eqb, inl, inr, not, set}
 use Rattle.std.specs.Prelude.{Option, Some, None, nat_eq}
 use Rattle.std.specs.List.{position, position_or_len}
-use Rattle.std.proofs.lemmas.Bool.{ltb-true, ltb-false, eqb-true}
-use Rattle.tc_base.proofs.ExactFields.{chosen, if_true, if_false}
+use Rattle.std.proofs.lemmas.Bool.{ltb-true, ltb-false, eqb-true, cond-true, cond-false}
+use Rattle.tc_base.proofs.ExactFields.{chosen}
 use Rattle.tc_io.specs.declared.peers.Peer.{Peer}
 use Rattle.tc_io.specs.Peers.{bytes_to}
 
@@ -37,18 +37,18 @@ step c p ps = by_test (nat_eq p.conn c) (position_or_len (is c) ps)
 pub bytes_at : (c : ℕ) (ps : List Peer) (d : Peer) (i : ℕ) → i < length ps → i ≡ position_or_len (is c) ps → bytes_to c ps ≡ (get_or ps i d).taken.items
 bytes_at c [] d i lt e = absurd (omega arith)
 bytes_at c (p ∷ ps) d i lt e = elim (chosen (is c p) 0 (position_or_len (is c) ps + 1) i (sym (e ∙ step c p ps))) [
-  | inl h ↦ if_true _ _ _ h.0 ∙ ap (λ (k : ℕ). (get_or (p ∷ ps) k d).taken.items) h.1
+  | inl h ↦ cond-true _ _ _ h.0 ∙ ap (λ (k : ℕ). (get_or (p ∷ ps) k d).taken.items) h.1
   | inr h ↦
       let tail = bytes_at c ps d (position_or_len (is c) ps) (omega (arith, lt, h.1)) refl in
       let at : suc (position_or_len (is c) ps) ≡ i = omega (arith, h.1) in
-      if_false _ _ _ h.0 ∙ tail ∙ ap (λ (k : ℕ). (get_or (p ∷ ps) k d).taken.items) at
+      cond-false _ _ _ h.0 ∙ tail ∙ ap (λ (k : ℕ). (get_or (p ∷ ps) k d).taken.items) at
 ]
 
 pub none_taken : (c : ℕ) (ps : List Peer) → length ps ≤ position_or_len (is c) ps → bytes_to c ps ≡ []
 none_taken c [] le = refl
 none_taken c (p ∷ ps) le = elim (chosen (is c p) 0 (position_or_len (is c) ps + 1) (position_or_len (is c) (p ∷ ps)) (sym (step c p ps))) [
   | inl h ↦ absurd (omega (arith, le, h.1))
-  | inr h ↦ if_false _ _ _ h.0 ∙ none_taken c ps (omega (arith, le, h.1))
+  | inr h ↦ cond-false _ _ _ h.0 ∙ none_taken c ps (omega (arith, le, h.1))
 ]
 
 pub conn_at : (c : ℕ) (ps : List Peer) (d : Peer) (i : ℕ) → i < length ps → i ≡ position_or_len (is c) ps → (get_or ps i d).conn ≡ c

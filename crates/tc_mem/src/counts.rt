@@ -2,10 +2,10 @@
 ghost use Rattle.std.specs.Prelude.{◌≡◌, ◌+◌, ◌≤◌, ◌^◌, MatchOption, length};
 ghost use Rattle.tc_mem.specs.Counts.{entry_size};
 
-use tc_base::Blob;
+use tc_base::{Blob, Key};
 
 /// The bytes with those of another entry, or none where they don't fit.
-pub fn with_entry(bytes: u64, key: &Blob, value: &Blob) -> Option<u64>
+pub fn with_entry(bytes: u64, key: &Key, value: &Blob) -> Option<u64>
     ensures { MatchOption result (2 ^ 64 ≤ bytes + (length key.now + length value.now)) (λ n. n ≡ bytes + (length key.now + length value.now)) }
 {
     let with_key = bytes.checked_add(key.len() as u64)?;

@@ -17,7 +17,7 @@ ghost use Rattle.tc_model.specs.Plans.{IsPlan, CanLeave, changed_by, contents_by
 use crate::counts::{less_entry, with_entry};
 use std::alloc::{AllocError, Global};
 use std::marker::Model;
-use tc_base::{Blob, Kind, Reply, Request, VALUE_MOST};
+use tc_base::{Blob, Key, Kind, Reply, Request, VALUE_MOST};
 use tc_model as model;
 use tc_model::{Applied, ByteMap, Change, Deed, Plan, plan, plan_of_size, plan_of_stat};
 use ty_wire::{is_updating, write_reply};
@@ -67,7 +67,7 @@ impl MemBase {
     }
 
     // Gives a key a value. An `Err` changes nothing.
-    fn set(&mut self, key: Blob, value: Blob) -> Result<(), AllocError>
+    fn set(&mut self, key: Key, value: Blob) -> Result<(), AllocError>
         ensures ok { OnOk result (self.new ≡ with_map self.old (insert self.old.map key value)) }
         ensures err { OnErr result (self.new ≡ self.old) }
     {
@@ -81,7 +81,7 @@ impl MemBase {
     }
 
     // Takes a key out, where it is held.
-    fn remove(&mut self, key: &Blob)
+    fn remove(&mut self, key: &Key)
         ensures { self.new ≡ with_map self.old (remove self.old.map key.now) }
     {
         let removed = self.contents.remove(key);
@@ -142,7 +142,7 @@ impl MemBase {
     }
 
     // Gives a key a value, or fails where it is too long. An `Err` changes nothing.
-    fn put(&mut self, key: Blob, value: Blob, reply: &mut Blob) -> Result<Applied, AllocError>
+    fn put(&mut self, key: Key, value: Blob, reply: &mut Blob) -> Result<Applied, AllocError>
         ensures ok { IfOk result (λ a. (r : Request) (w : Walk) → refusal_of r ≡ Fail → updates r ≡ true → Applies (changed r Done (with_value self.old.map key value) self.old w) r a self.new w reply.old reply.new) }
         ensures err { OnErr result (self.new ≡ self.old) }
         ensures front { OnErr result (IsPrefix reply.old reply.new) }
@@ -156,7 +156,7 @@ impl MemBase {
     }
 
     // Gives a key a value and replies nothing. An `Err` changes nothing.
-    fn put_silently(&mut self, key: Blob, value: Blob) -> Result<Applied, AllocError>
+    fn put_silently(&mut self, key: Key, value: Blob) -> Result<Applied, AllocError>
         ensures ok { IfOk result (λ a. (w : Walk) (reply : List ℕ) → Applies (applied (request.PutNr key value) self.old w) (request.PutNr key value) a self.new w reply reply) }
         ensures err { OnErr result (self.new ≡ self.old) }
     {
@@ -168,7 +168,7 @@ impl MemBase {
     }
 
     // Joins bytes behind a value in its place. An `Err` changes nothing.
-    fn join(&mut self, key: &Blob, more: &Blob, reply: &mut Blob) -> Result<Applied, AllocError>
+    fn join(&mut self, key: &Key, more: &Blob, reply: &mut Blob) -> Result<Applied, AllocError>
         requires held { IsSome (get self.old.map key.now) }
         ensures ok { IfOk result (λ a. (w : Walk) → Applies (applied (request.PutCat key.now more.now) self.old w) (request.PutCat key.now more.now) a self.new w reply.old reply.new) }
         ensures err { OnErr result (self.new ≡ self.old) }
@@ -187,7 +187,7 @@ impl MemBase {
     }
 
     // Joins bytes behind the value of a key, or gives it to a key that has none. An `Err` changes nothing.
-    fn put_joined(&mut self, key: Blob, more: Blob, reply: &mut Blob) -> Result<Applied, AllocError>
+    fn put_joined(&mut self, key: Key, more: Blob, reply: &mut Blob) -> Result<Applied, AllocError>
         ensures ok { IfOk result (λ a. (w : Walk) → Applies (applied (request.PutCat key more) self.old w) (request.PutCat key more) a self.new w reply.old reply.new) }
         ensures err { OnErr result (self.new ≡ self.old) }
         ensures front { OnErr result (IsPrefix reply.old reply.new) }
@@ -199,7 +199,7 @@ impl MemBase {
     }
 
     // Gives a value to a key that has none. An `Err` changes nothing.
-    fn put_new(&mut self, key: Blob, value: Blob, reply: &mut Blob) -> Result<Applied, AllocError>
+    fn put_new(&mut self, key: Key, value: Blob, reply: &mut Blob) -> Result<Applied, AllocError>
         ensures ok { IfOk result (λ a. (w : Walk) → Applies (applied (request.PutKeep key value) self.old w) (request.PutKeep key value) a self.new w reply.old reply.new) }
         ensures err { OnErr result (self.new ≡ self.old) }
         ensures front { OnErr result (IsPrefix reply.old reply.new) }
@@ -274,7 +274,7 @@ fn fail(reply: &mut Blob) -> Result<Applied, AllocError>
 }
 
 // Whether a value has room for these bytes behind it.
-fn has_room(map: &ByteMap, key: &Blob, more: &Blob) -> bool
+fn has_room(map: &ByteMap, key: &Key, more: &Blob) -> bool
     ensures { IsTrue result ↔ (length (value_of map.now key.now ++ more.now) ≤ 16777216) }
 {
     let held = match map.get(key) {

@@ -11,7 +11,7 @@ ghost use Rattle.tc_model.specs.Plans.{within};
 
 use crate::map::ByteMap;
 use std::alloc::{AllocError, Global};
-use tc_base::{Blob, Kind, Pair, Pairs, REPLY_MOST, Reply};
+use tc_base::{Blob, Key, Kind, Pair, Pairs, REPLY_MOST, Reply};
 
 // A reply's first byte and a count or size behind it.
 const FRONT: usize = 5;
@@ -29,7 +29,7 @@ pub fn value_answer(alloc: Global, value: &[u8]) -> Result<Option<Reply>, AllocE
 }
 
 /// The value of a key.
-pub fn get_answer(alloc: Global, map: &ByteMap, key: &Blob) -> Result<Option<Reply>, AllocError>
+pub fn get_answer(alloc: Global, map: &ByteMap, key: &Key) -> Result<Option<Reply>, AllocError>
     ensures { IfOk result (λ o. o ≡ within (option_map (λ value. reply.Value value) (get map.now key.now))) }
 {
     match map.get(key) {
@@ -39,7 +39,7 @@ pub fn get_answer(alloc: Global, map: &ByteMap, key: &Blob) -> Result<Option<Rep
 }
 
 /// The length of the value of a key.
-pub fn length_answer(map: &ByteMap, key: &Blob) -> Option<Reply>
+pub fn length_answer(map: &ByteMap, key: &Key) -> Option<Reply>
     ensures { result ≡ within (length_of (get map.now key.now)) }
 {
     let Some(value) = map.get(key) else {
@@ -54,7 +54,7 @@ pub fn length_answer(map: &ByteMap, key: &Blob) -> Option<Reply>
 }
 
 // What is left of the room behind a key and its value, where the key is held.
-fn room_behind(map: &ByteMap, key: &Blob, room: usize) -> Option<usize>
+fn room_behind(map: &ByteMap, key: &Key, room: usize) -> Option<usize>
     ensures { MatchOption result (room < held_size key.now (get map.now key.now)) (λ n. n + held_size key.now (get map.now key.now) ≡ room) }
 {
     let Some(value) = map.get(key) else {
@@ -66,7 +66,7 @@ fn room_behind(map: &ByteMap, key: &Blob, room: usize) -> Option<usize>
 }
 
 // Whether the keys that are held and their values are no more than a reply takes.
-fn pairs_fit(map: &ByteMap, keys: &[Blob]) -> bool
+fn pairs_fit(map: &ByteMap, keys: &[Key]) -> bool
     ensures { result ≡ fits (reply.Pairs (pairs_of map.now keys.now)) }
 {
     let mut room = REPLY_MOST - FRONT;
@@ -80,7 +80,7 @@ fn pairs_fit(map: &ByteMap, keys: &[Blob]) -> bool
 }
 
 // Adds a key and its value, where it is held.
-fn push_held(alloc: Global, map: &ByteMap, key: &Blob, pairs: &mut Pairs) -> Result<(), AllocError>
+fn push_held(alloc: Global, map: &ByteMap, key: &Key, pairs: &mut Pairs) -> Result<(), AllocError>
     ensures { OnOk result (pairs.new ≡ pairs.old ++ held key.now (get map.now key.now)) }
 {
     let Some(value) = map.get(key) else {
@@ -94,7 +94,7 @@ fn push_held(alloc: Global, map: &ByteMap, key: &Blob, pairs: &mut Pairs) -> Res
 }
 
 // The keys that are held, with their values.
-fn held_pairs(alloc: Global, map: &ByteMap, keys: &[Blob]) -> Result<Pairs, AllocError>
+fn held_pairs(alloc: Global, map: &ByteMap, keys: &[Key]) -> Result<Pairs, AllocError>
     ensures { IfOk result (λ pairs. pairs ≡ pairs_of map.now keys.now) }
 {
     let mut pairs = Pairs::new(alloc);
@@ -105,11 +105,7 @@ fn held_pairs(alloc: Global, map: &ByteMap, keys: &[Blob]) -> Result<Pairs, Allo
 }
 
 /// The keys that are held, with their values.
-pub fn pairs_answer(
-    alloc: Global,
-    map: &ByteMap,
-    keys: &[Blob],
-) -> Result<Option<Reply>, AllocError>
+pub fn pairs_answer(alloc: Global, map: &ByteMap, keys: &[Key]) -> Result<Option<Reply>, AllocError>
     ensures { IfOk result (λ o. o ≡ within (Some (reply.Pairs (pairs_of map.now keys.now)))) }
 {
     if !pairs_fit(map, keys) {
@@ -134,7 +130,7 @@ fn most_of(map: &ByteMap, maximum: i32) -> usize
 pub fn list_answer(
     alloc: Global,
     map: &ByteMap,
-    prefix: &Blob,
+    prefix: &Key,
     maximum: i32,
 ) -> Result<Option<Reply>, AllocError>
     ensures { IfOk result (λ o. o ≡ within (Some (reply.List (at_most maximum (keys_from map.now prefix.now))))) }

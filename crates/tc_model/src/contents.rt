@@ -9,7 +9,7 @@ use crate::deeds::Change;
 use crate::map::ByteMap;
 use std::alloc::{AllocError, Global};
 use std::marker::Model;
-use tc_base::{Blob, Kind};
+use tc_base::{Blob, Key, Kind};
 
 /// The kind of a database and its data.
 #[derive(Drop)]
@@ -54,7 +54,7 @@ impl Contents {
     }
 
     /// Gives a key a value, and hands back the one that it had. An `Err` changes nothing.
-    pub fn set(&mut self, key: Blob, value: Blob) -> Result<Option<Blob>, AllocError>
+    pub fn set(&mut self, key: Key, value: Blob) -> Result<Option<Blob>, AllocError>
         ensures ok { OnOk result (self.new ≡ with_map self.old (insert self.old.map key value)) }
         ensures replaced { IfOk result (λ old. old ≡ get self.old.map key) }
         ensures err { OnErr result (self.new ≡ self.old) }
@@ -63,7 +63,7 @@ impl Contents {
     }
 
     /// Takes a key out, where it is held, and hands back its value.
-    pub fn remove(&mut self, key: &Blob) -> Option<Blob>
+    pub fn remove(&mut self, key: &Key) -> Option<Blob>
         ensures map { self.new ≡ with_map self.old (remove self.old.map key.now) }
         ensures value { result ≡ get self.old.map key.now }
     {
@@ -86,7 +86,7 @@ impl Contents {
     }
 
     /// Joins bytes behind the value of a key that is held, at the cost of these bytes. An `Err` changes nothing.
-    pub fn append(&mut self, key: &Blob, more: &[u8]) -> Result<(), AllocError>
+    pub fn append(&mut self, key: &Key, more: &[u8]) -> Result<(), AllocError>
         requires { IsSome (get self.old.map key.now) }
         ensures ok { OnOk result (self.new ≡ with_map self.old (insert self.old.map key.now (value_of self.old.map key.now ++ more.now))) }
         ensures err { OnErr result (self.new ≡ self.old) }

@@ -7,15 +7,15 @@ ghost use Rattle.tc_model.specs.Contents.{Contents, Walk};
 ghost use Rattle.tc_model.specs.Apply.{refusal_of, refused, changed, read};
 ghost use Rattle.tc_model.specs.Plans.{IsPlan, changed_by, within};
 
-use tc_base::{Blob, Blobs, Reply, Request};
+use tc_base::{Blob, Key, Keys, Reply, Request};
 
 /// What a request makes of the map.
 #[derive(Debug, Drop)]
 pub enum Change {
     /// Gives a key a value.
-    Set { key: Blob, value: Blob },
+    Set { key: Key, value: Blob },
     /// Takes a key out.
-    Remove { key: Blob },
+    Remove { key: Key },
     /// Takes all keys out.
     Clear,
 }
@@ -26,7 +26,7 @@ pub enum Deed {
     Keep,
     Store { change: Change },
     /// Begins a walk over these keys.
-    Begin { keys: Blobs },
+    Begin { keys: Keys },
     /// Drops the walk's first keys.
     Leave { count: usize },
 }

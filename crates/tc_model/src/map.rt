@@ -13,12 +13,12 @@ use crate::deeds::Change;
 use std::alloc::{AllocError, Global};
 use std::collections::BTreeMap;
 use std::marker::Model;
-use tc_base::{Blob, Blobs, REPLY_MOST};
+use tc_base::{Blob, Blobs, Key, Keys, REPLY_MOST};
 
 /// A finite map from keys to values. A call on a key costs the logarithm of the number of keys.
 #[derive(Drop)]
 pub struct ByteMap {
-    pairs: BTreeMap<Blob, Blob>,
+    pairs: BTreeMap<Key, Blob>,
 }
 
 impl Model for ByteMap {
@@ -45,7 +45,7 @@ impl ByteMap {
         }
     }
 
-    pub fn get(&self, key: &Blob) -> Option<&Blob>
+    pub fn get(&self, key: &Key) -> Option<&Blob>
         ensures { option_copied result ≡ map.get self.now key.now }
     {
         self.pairs.get(key)
@@ -59,7 +59,7 @@ impl ByteMap {
     }
 
     /// Gives a key a value, and hands back the one that it had. An `Err` changes nothing.
-    pub fn set(&mut self, key: Blob, value: Blob) -> Result<Option<Blob>, AllocError>
+    pub fn set(&mut self, key: Key, value: Blob) -> Result<Option<Blob>, AllocError>
         ensures ok { OnOk result (self.new ≡ map.insert self.old key value) }
         ensures replaced { IfOk result (λ old. old ≡ map.get self.old key) }
         ensures err { OnErr result (self.new ≡ self.old) }
@@ -69,7 +69,7 @@ impl ByteMap {
     }
 
     /// Joins bytes behind the value of a key, where it is held, at the cost of these bytes. An `Err` changes nothing.
-    pub fn append(&mut self, key: &Blob, more: &[u8]) -> Result<(), AllocError>
+    pub fn append(&mut self, key: &Key, more: &[u8]) -> Result<(), AllocError>
         ensures ok { OnOk result (IsSome (map.get self.old key.now) → self.new ≡ map.insert self.old key.now (value_of self.old key.now ++ more.now)) }
         ensures absent { map.get self.old key.now ≡ None → self.new ≡ self.old }
         ensures err { OnErr result (self.new ≡ self.old) }
@@ -81,7 +81,7 @@ impl ByteMap {
     }
 
     /// Takes a key out, where it is held, and hands back its value.
-    pub fn remove(&mut self, key: &Blob) -> Option<Blob>
+    pub fn remove(&mut self, key: &Key) -> Option<Blob>
         ensures map { self.new ≡ map.remove self.old key.now }
         ensures value { result ≡ map.get self.old key.now }
     {
@@ -117,12 +117,12 @@ impl ByteMap {
     }
 
     /// The keys, in ascending order.
-    pub fn keys(&self, alloc: Global) -> Result<Blobs, AllocError>
+    pub fn keys(&self, alloc: Global) -> Result<Keys, AllocError>
         ensures { IfOk result (λ keys. keys ≡ map.keys self.now) }
     {
-        let mut keys = Blobs::new(alloc);
+        let mut keys = Keys::new(alloc);
         for key in self.pairs.keys() {
-            keys.push(Blob::from_slice(alloc, key.as_slice())?)?;
+            keys.push(Key::from_slice(alloc, key.as_slice())?)?;
         }
         Ok(keys)
     }
@@ -140,7 +140,7 @@ impl ByteMap {
     }
 
     /// Whether the keys that begin with a prefix, at most so many of them, are no more than a reply takes.
-    pub fn list_fits(&self, prefix: &Blob, most: usize) -> bool
+    pub fn list_fits(&self, prefix: &Key, most: usize) -> bool
         ensures { result ≡ fits (reply.List (take most (keys_from self.now prefix.now))) }
     {
         let mut room = REPLY_MOST - 5;
@@ -162,7 +162,7 @@ impl ByteMap {
     }
 
     /// The keys that begin with a prefix, in ascending order, at most so many of them.
-    pub fn list(&self, alloc: Global, prefix: &Blob, most: usize) -> Result<Blobs, AllocError>
+    pub fn list(&self, alloc: Global, prefix: &Key, most: usize) -> Result<Blobs, AllocError>
         ensures { IfOk result (λ keys. keys ≡ take most (keys_from self.now prefix.now)) }
     {
         let mut keys = Blobs::new(alloc);
@@ -182,14 +182,14 @@ impl ByteMap {
 }
 
 // Whether a key begins with a prefix.
-fn begins(key: &Blob, prefix: &Blob) -> bool
+fn begins(key: &Key, prefix: &Key) -> bool
     ensures { result ≡ starts_with nat_eq key.now prefix.now }
 {
     key.as_slice().starts_with(prefix.as_slice())
 }
 
 // What is left of the room behind a key and its size.
-fn room_behind(key: &Blob, room: usize) -> Option<usize>
+fn room_behind(key: &Key, room: usize) -> Option<usize>
     ensures { MatchOption result (room < 4 + length key.now) (λ n. n + (4 + length key.now) ≡ room) }
 {
     room.checked_sub(4)?.checked_sub(key.len())

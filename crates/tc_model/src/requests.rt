@@ -17,9 +17,9 @@ use crate::map::ByteMap;
 use crate::updates::{joined, removing, setting, setting_new, setting_number, shifted, sum};
 use crate::{contents, walk};
 use std::alloc::{AllocError, Global};
-use tc_base::{Blob, Blobs, Kind, Reply, Request};
+use tc_base::{Blob, Key, Keys, Kind, Reply, Request};
 
-fn put(alloc: Global, r: &Request, key: &Blob, value: &Blob) -> Result<Plan, AllocError>
+fn put(alloc: Global, r: &Request, key: &Key, value: &Blob) -> Result<Plan, AllocError>
     requires { r.now ≡ request.Put key.now value.now }
     ensures { IfOk result (λ p. (c : Contents) (w : Walk) → IsPlan p c w (applied r.now c w)) }
 {
@@ -27,7 +27,7 @@ fn put(alloc: Global, r: &Request, key: &Blob, value: &Blob) -> Result<Plan, All
     Ok(change_by(r, Reply::Done, change))
 }
 
-fn put_silently(alloc: Global, r: &Request, key: &Blob, value: &Blob) -> Result<Plan, AllocError>
+fn put_silently(alloc: Global, r: &Request, key: &Key, value: &Blob) -> Result<Plan, AllocError>
     requires { r.now ≡ request.PutNr key.now value.now }
     ensures { IfOk result (λ p. (c : Contents) (w : Walk) → IsPlan p c w (applied r.now c w)) }
 {
@@ -39,7 +39,7 @@ fn put_new(
     alloc: Global,
     map: &ByteMap,
     r: &Request,
-    key: &Blob,
+    key: &Key,
     value: &Blob,
 ) -> Result<Plan, AllocError>
     requires { r.now ≡ request.PutKeep key.now value.now }
@@ -53,7 +53,7 @@ fn put_joined(
     alloc: Global,
     map: &ByteMap,
     r: &Request,
-    key: &Blob,
+    key: &Key,
     value: &Blob,
 ) -> Result<Plan, AllocError>
     requires { r.now ≡ request.PutCat key.now value.now }
@@ -67,7 +67,7 @@ fn put_shifted(
     alloc: Global,
     map: &ByteMap,
     r: &Request,
-    key: &Blob,
+    key: &Key,
     value: &Blob,
     width: u32,
 ) -> Result<Plan, AllocError>
@@ -78,7 +78,7 @@ fn put_shifted(
     Ok(change_by(r, Reply::Done, setting(alloc, key, after)?))
 }
 
-fn out(alloc: Global, map: &ByteMap, r: &Request, key: &Blob) -> Result<Plan, AllocError>
+fn out(alloc: Global, map: &ByteMap, r: &Request, key: &Key) -> Result<Plan, AllocError>
     requires { r.now ≡ request.Out key.now }
     ensures { IfOk result (λ p. (c : Contents) (w : Walk) → c.map ≡ map.now → IsPlan p c w (applied r.now c w)) }
 {
@@ -90,7 +90,7 @@ fn add(
     alloc: Global,
     map: &ByteMap,
     r: &Request,
-    key: &Blob,
+    key: &Key,
     number: u32,
 ) -> Result<Plan, AllocError>
     requires { r.now ≡ request.AddInt key.now number }
@@ -103,7 +103,7 @@ fn add(
     Ok(change_by(r, Reply::Four { number }, Some(change)))
 }
 
-fn get(alloc: Global, map: &ByteMap, r: &Request, key: &Blob) -> Result<Plan, AllocError>
+fn get(alloc: Global, map: &ByteMap, r: &Request, key: &Key) -> Result<Plan, AllocError>
     requires { r.now ≡ request.Get key.now }
     ensures { IfOk result (λ p. (c : Contents) (w : Walk) → c.map ≡ map.now → IsPlan p c w (applied r.now c w)) }
 {
@@ -111,7 +111,7 @@ fn get(alloc: Global, map: &ByteMap, r: &Request, key: &Blob) -> Result<Plan, Al
     Ok(answer_with(r, answer))
 }
 
-fn get_many(alloc: Global, map: &ByteMap, r: &Request, keys: &Blobs) -> Result<Plan, AllocError>
+fn get_many(alloc: Global, map: &ByteMap, r: &Request, keys: &Keys) -> Result<Plan, AllocError>
     requires { r.now ≡ request.MGet keys.now }
     ensures { IfOk result (λ p. (c : Contents) (w : Walk) → c.map ≡ map.now → IsPlan p c w (applied r.now c w)) }
 {
@@ -119,7 +119,7 @@ fn get_many(alloc: Global, map: &ByteMap, r: &Request, keys: &Blobs) -> Result<P
     Ok(answer_with(r, answer))
 }
 
-fn length(map: &ByteMap, r: &Request, key: &Blob) -> Plan
+fn length(map: &ByteMap, r: &Request, key: &Key) -> Plan
     requires { r.now ≡ request.Vsiz key.now }
     ensures { (c : Contents) (w : Walk) → c.map ≡ map.now → IsPlan result c w (applied r.now c w) }
 {
@@ -131,7 +131,7 @@ fn list(
     alloc: Global,
     map: &ByteMap,
     r: &Request,
-    prefix: &Blob,
+    prefix: &Key,
     maximum: i32,
 ) -> Result<Plan, AllocError>
     requires { r.now ≡ request.FwmKeys prefix.now maximum }
@@ -208,7 +208,7 @@ fn begin(alloc: Global, map: &ByteMap, r: &Request) -> Result<Plan, AllocError>
 }
 
 // The place of the first key that is held.
-fn first_held(map: &ByteMap, keys: &[Blob]) -> Option<usize>
+fn first_held(map: &ByteMap, keys: &[Key]) -> Option<usize>
     ensures { MatchOption result (next_of map.now keys.now ≡ None) (λ i. IsNext map.now keys.now i) }
 {
     for (i, key) in keys.iter().enumerate() {

@@ -11,17 +11,17 @@ ghost use Rattle.tc_model.specs.Plans.{changed_by};
 use crate::deeds::Change;
 use crate::map::ByteMap;
 use std::alloc::{AllocError, Global};
-use tc_base::{Blob, VALUE_MOST, get_le, set_le};
+use tc_base::{Blob, Key, VALUE_MOST, get_le, set_le};
 
 /// Sets a key to a value, or fails where it is too long.
-pub fn setting(alloc: Global, key: &Blob, value: Blob) -> Result<Option<Change>, AllocError>
+pub fn setting(alloc: Global, key: &Key, value: Blob) -> Result<Option<Change>, AllocError>
     ensures { IfOk result (λ o. (m : Map) → option_map (changed_by m) o ≡ with_value m key.now value) }
 {
     if value.len() > VALUE_MOST {
         return Ok(None);
     }
     Ok(Some(Change::Set {
-        key: Blob::from_slice(alloc, key.as_slice())?,
+        key: Key::from_slice(alloc, key.as_slice())?,
         value,
     }))
 }
@@ -30,7 +30,7 @@ pub fn setting(alloc: Global, key: &Blob, value: Blob) -> Result<Option<Change>,
 pub fn setting_new(
     alloc: Global,
     map: &ByteMap,
-    key: &Blob,
+    key: &Key,
     value: &Blob,
 ) -> Result<Option<Change>, AllocError>
     ensures { IfOk result (λ o. option_map (changed_by map.now) o ≡ with_new map.now key.now value.now) }
@@ -42,7 +42,7 @@ pub fn setting_new(
 }
 
 /// The value of a key with bytes joined behind.
-pub fn joined(alloc: Global, map: &ByteMap, key: &Blob, more: &[u8]) -> Result<Blob, AllocError>
+pub fn joined(alloc: Global, map: &ByteMap, key: &Key, more: &[u8]) -> Result<Blob, AllocError>
     ensures { IfOk result (λ b. b ≡ value_of map.now key.now ++ more.now) }
 {
     let Some(value) = map.get(key) else {
@@ -64,7 +64,7 @@ fn last_of(bytes: &[u8], width: usize) -> &[u8]
 pub fn shifted(
     alloc: Global,
     map: &ByteMap,
-    key: &Blob,
+    key: &Key,
     more: &[u8],
     width: usize,
 ) -> Result<Blob, AllocError>
@@ -80,14 +80,14 @@ pub fn shifted(
 }
 
 /// Takes a key out, or fails where it isn't held.
-pub fn removing(alloc: Global, map: &ByteMap, key: &Blob) -> Result<Option<Change>, AllocError>
+pub fn removing(alloc: Global, map: &ByteMap, key: &Key) -> Result<Option<Change>, AllocError>
     ensures { IfOk result (λ o. option_map (changed_by map.now) o ≡ without map.now key.now) }
 {
     if map.get(key).is_none() {
         return Ok(None);
     }
     Ok(Some(Change::Remove {
-        key: Blob::from_slice(alloc, key.as_slice())?,
+        key: Key::from_slice(alloc, key.as_slice())?,
     }))
 }
 
@@ -105,13 +105,13 @@ pub fn sum(value: Option<&Blob>, number: u32) -> Option<u32>
 }
 
 /// Sets a key to the spelling of a number.
-pub fn setting_number(alloc: Global, key: &Blob, number: u32) -> Result<Change, AllocError>
+pub fn setting_number(alloc: Global, key: &Key, number: u32) -> Result<Change, AllocError>
     ensures { IfOk result (λ change. (m : Map) → changed_by m change ≡ with_number m key.now number) }
 {
     let mut bytes = [0u8; 4];
     set_le(&mut bytes, 0, 4, u64::from(number));
     Ok(Change::Set {
-        key: Blob::from_slice(alloc, key.as_slice())?,
+        key: Key::from_slice(alloc, key.as_slice())?,
         value: Blob::from_slice(alloc, &bytes)?,
     })
 }

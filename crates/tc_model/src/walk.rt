@@ -3,12 +3,12 @@ ghost use Rattle.std.specs.Prelude.{◌≡◌, None, Some, drop, option_map};
 ghost use Rattle.tc_model.specs.Walks.{HasKeys};
 
 use std::marker::Model;
-use tc_base::{Blob, Blobs};
+use tc_base::{Key, Keys};
 
 /// The keys left of the one walk of the whole server, or no walk.
 #[derive(Drop)]
 pub struct Walk {
-    keys: Option<Blobs>,
+    keys: Option<Keys>,
     // How many of them were left behind.
     passed: usize,
 }
@@ -36,7 +36,7 @@ impl Walk {
     }
 
     /// Makes these keys the walk.
-    pub fn set(&mut self, keys: Blobs)
+    pub fn set(&mut self, keys: Keys)
         ensures { self.new ≡ Some keys }
     {
         self.keys = Some(keys);
@@ -44,7 +44,7 @@ impl Walk {
     }
 
     /// The keys left, or none where there is no walk.
-    pub fn keys(&self) -> Option<&[Blob]>
+    pub fn keys(&self) -> Option<&[Key]>
         ensures { option_map (λ keys. keys.now) result ≡ self.now }
     {
         match &self.keys {

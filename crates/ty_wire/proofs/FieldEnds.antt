@@ -1,11 +1,11 @@
 -- Where a request ends, once its sizes are there.
 use Rattle.std.proofs.Common.{◌≡◌, inl, inr, ℕ, ◌+◌, ◌*◌, ◌/◌, ◌<◌, ◌≤◌, nat_eq, List, [], ◌∷◌, ◌++◌, length, take, drop, Ok, Err, refl, sym, ap, subst, ◌∙◌, arith, length-append, length-drop}
-use Rattle.std.proofs.lemmas.Bool.{le-ltb, lt-ltb, cases_lt}
+use Rattle.std.proofs.lemmas.Bool.{le-ltb, lt-ltb, cases_lt, cond-true, cond-false}
 use Rattle.std.proofs.lemmas.List.{drop-append-le, drop-drop}
 use Rattle.tc_base.specs.declared.fields.NotWhole.TheVariants.{Part}
 use Rattle.tc_base.specs.Reading.{Front, ◌>>=◌, size_at}
 use Rattle.tc_base.proofs.Exact.{bind_ok, same_whole}
-use Rattle.tc_base.proofs.ExactFields.{chosen, if_true, if_false}
+use Rattle.tc_base.proofs.ExactFields.{chosen}
 use Rattle.ty_wire.specs.Form.{Field, text, word, long, Heads, Values}
 use Rattle.ty_wire.specs.Reading.{long_at, head_at, heads_then, body_then, values_at, room, items_at, counted_at, Entry, plain, counted, command_of, read_by, pick, entries, fields_at, request_at}
 use Rattle.ty_wire.specs.Seen.{number_size, numbers_size, end_from, end_at, list_at, entry_end, pick_end, or_none, command_end, announced_at, ArePart}
@@ -91,10 +91,10 @@ count_of fs most h rest = size_at (room fs h / 4) rest >>= λ n. texts_of fs mos
 body_short : {A : Type 0} (fs : List Field) (h : Heads fs) (k : Values fs → List ℕ → Front A) (bytes : List ℕ) → length bytes < texts_size fs h → body_then fs h k bytes ≡ Err Part
 body_short [] h k bytes short = absurd (omega (arith, short))
 body_short {A} (text most ∷ fs) h k bytes short = elim (cases_lt (length bytes) h.0) [
-  | inl lack ↦ ap (λ (r : Front (List ℕ)). r >>= λ x. body_then fs h.1 (λ v. k (x.0, v)) x.1) (if_true _ _ _ (lt-ltb _ _ lack))
+  | inl lack ↦ ap (λ (r : Front (List ℕ)). r >>= λ x. body_then fs h.1 (λ v. k (x.0, v)) x.1) (cond-true _ _ _ (lt-ltb _ _ lack))
   | inr there ↦
       let more : length (drop h.0 bytes) < texts_size fs h.1 = omega (arith, short, there, length-drop h.0 bytes) in
-      ap (λ (r : Front (List ℕ)). r >>= λ x. body_then fs h.1 (λ v. k (x.0, v)) x.1) (if_false _ _ _ (le-ltb _ _ there)) ∙ body_short fs h.1 (λ v. k (take h.0 bytes, v)) (drop h.0 bytes) more
+      ap (λ (r : Front (List ℕ)). r >>= λ x. body_then fs h.1 (λ v. k (x.0, v)) x.1) (cond-false _ _ _ (le-ltb _ _ there)) ∙ body_short fs h.1 (λ v. k (take h.0 bytes, v)) (drop h.0 bytes) more
 ]
 body_short (word ∷ fs) h k bytes short = body_short fs h.1 (λ v. k (h.0, v)) bytes short
 body_short (long ∷ fs) h k bytes short = body_short fs h.1 (λ v. k (h.0, v)) bytes short
@@ -129,8 +129,8 @@ entry_short (counted c fs most build) bytes n rest more e short = ap (λ (r : Fr
 pick_short : (es : List Entry) (c : ℕ) (bytes : List ℕ) (n : ℕ) (rest more : List ℕ) → pick_end es c bytes ≡ Ok (n, rest) → 2 + length (bytes ++ more) < n → pick es c (bytes ++ more) ≡ Err Part
 pick_short [] c bytes n rest more e short = absurd cc
 pick_short (d ∷ es) c bytes n rest more e short = elim (chosen (nat_eq c (command_of d)) _ _ (Ok (n, rest)) e) [
-  | inl h ↦ if_true _ _ _ h.0 ∙ entry_short d bytes n rest more h.1 short
-  | inr h ↦ if_false _ _ _ h.0 ∙ pick_short es c bytes n rest more h.1 short
+  | inl h ↦ cond-true _ _ _ h.0 ∙ entry_short d bytes n rest more h.1 short
+  | inr h ↦ cond-false _ _ _ h.0 ∙ pick_short es c bytes n rest more h.1 short
 ]
 
 or_none_short : (r : Front ℕ) (c : ℕ) (bytes more : List ℕ) → r ≡ pick_end entries c bytes → 2 + length (bytes ++ more) < or_none r → pick entries c (bytes ++ more) ≡ Err Part
@@ -141,7 +141,7 @@ command_short : (magic : ℕ) (rest more : List ℕ) → 1 + length (rest ++ mor
 unfolding request_at fields_at
 command_short magic [] more short = absurd (omega (arith, short))
 command_short magic (c ∷ rest) more short = elim (chosen (nat_eq magic 0xC8) (or_none (pick_end entries c rest)) 0 (command_end magic (c ∷ rest)) refl) [
-  | inl h ↦ if_true _ _ _ h.0 ∙ or_none_short (pick_end entries c rest) c rest more refl (omega (arith, short, h.1))
+  | inl h ↦ cond-true _ _ _ h.0 ∙ or_none_short (pick_end entries c rest) c rest more refl (omega (arith, short, h.1))
   | inr h ↦ absurd (omega (arith, short, h.1))
 ]
 

@@ -1,7 +1,7 @@
 -- A request that is read in pieces.
 use Rattle.std.proofs.Common.{◌≡◌, inl, inr, ℕ, suc, ◌+◌, ◌-◌, ◌*◌, ◌/◌, ◌<◌, ◌≤◌, min, List, [], ◌∷◌, ◌++◌, length, take, drop, Ok, Err, refl, sym, ap, subst, ◌∙◌, append_assoc, arith, length-append, length-drop}
 use Rattle.std.specs.Prelude.{Option, Some, None, MatchOption, max}
-use Rattle.std.proofs.lemmas.Bool.{le-ltb, lt-ltb, cases_lt}
+use Rattle.std.proofs.lemmas.Bool.{le-ltb, lt-ltb, cases_lt, cond-false, cond-true}
 use Rattle.std.proofs.lemmas.List.{append-nil, drop-drop}
 use Rattle.tc_base.specs.declared.request.Request.{Request}
 use Rattle.tc_base.specs.declared.request.Request.TheVariants.{MGet, Misc}
@@ -9,7 +9,6 @@ use Rattle.tc_base.specs.declared.fields.NotWhole.{NotWhole}
 use Rattle.tc_base.specs.declared.fields.NotWhole.TheVariants.{Part}
 use Rattle.tc_base.specs.Reading.{Front, ◌>>=◌, size_at, bytes_at}
 use Rattle.tc_base.specs.Bytes.{IsBytes}
-use Rattle.tc_base.proofs.ExactFields.{if_true, if_false}
 use Rattle.ty_wire.specs.declared.reading.Front.{Front as Answer}
 use Rattle.ty_wire.specs.declared.reading.Front.TheVariants as front
 use Rattle.ty_wire.specs.declared.looking.Place.{Place}
@@ -105,7 +104,7 @@ pub arguments_go_on : (bytes r1 r2 r3 : List ℕ) (n o count left : ℕ) → siz
 arguments_go_on bytes r1 r2 r3 n o count left e1 e2 is e3 there le =
     let room_is : left ≡ room misc_fields (n, (o, tt)) = omega (arith, is) in
     let h = misc_heads bytes r1 r2 r3 n o count left e1 e2 room_is e3 in
-    let all : bytes_at n r3 ≡ Ok (take n r3, drop n r3) = if_false _ _ _ (le-ltb _ _ there) in
+    let all : bytes_at n r3 ≡ Ok (take n r3, drop n r3) = cond-false _ _ _ (le-ltb _ _ there) in
     let s = stays_at (bytes_at n) 12 bytes (take n r3) n h.inside (subst (λ (l : List ℕ). Stays (bytes_at n) l (take n r3) n) h.behind (bytes_stay n r3 (take n r3) (drop n r3) all)) in
     let at : suc (suc (12 + n)) ≡ 14 + n = omega arith in
     record {
@@ -202,7 +201,7 @@ short_text p bytes n limit s rest more g is small e short =
     let b = bytes ++ more in
     let a = stays_at (size_at limit) p.at bytes s 4 g.inside (size_stays limit (drop p.at bytes) s rest e) in
     let lack : length (drop (p.at + 4) b) < s = omega (arith, short, length-drop (p.at + 4) b, a.inside, length-append bytes more) in
-    let lacks : bytes_at s (drop (p.at + 4) b) ≡ Err Part = if_true _ _ _ (lt-ltb _ _ lack) in
+    let lacks : bytes_at s (drop (p.at + 4) b) ≡ Err Part = cond-true _ _ _ (lt-ltb _ _ lack) in
     let item : item_at limit (drop p.at b) ≡ Err Part = ap (λ (r : Front ℕ). r >>= λ x. bytes_at x.0 x.1) (a.reads more) ∙ lacks in
     stopped p b n limit Part (going_more p bytes more g) is small item
 

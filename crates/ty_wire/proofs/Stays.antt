@@ -2,11 +2,11 @@
 use Rattle.std.proofs.Common.{◌≡◌, inl, inr, ℕ, ◌+◌, ◌≤◌, ltb, List, [], ◌∷◌, ◌++◌, length, take, drop, Ok, refl, sym, ap, ◌∙◌, arith, length-append, length-drop}
 use Rattle.std.specs.Int.{w32, from_be_bytes}
 use Rattle.std.specs.Prelude.{nat_lt, nat_le}
-use Rattle.std.proofs.lemmas.Bool.{ltb-false, le-ltb}
+use Rattle.std.proofs.lemmas.Bool.{ltb-false, le-ltb, cond-true, cond-false}
 use Rattle.std.proofs.lemmas.List.{append-nil, drop-append-le, take-append-le, drop-drop}
 use Rattle.tc_base.specs.Reading.{Front, ◌>>=◌, size_at, bytes_at}
 use Rattle.tc_base.proofs.Exact.{bind_ok, same_whole}
-use Rattle.tc_base.proofs.ExactFields.{chosen, if_true, if_false}
+use Rattle.tc_base.proofs.ExactFields.{chosen}
 use Rattle.ty_wire.specs.Items.{item_at}
 use Rattle.ty_wire.proofs.ItemLoops.{bytes_length}
 
@@ -34,7 +34,7 @@ size_stays limit bytes x rest e =
               reads = λ more.
                   let same = same_number bytes more long in
                   let still : nat_lt (length (bytes ++ more)) 4 ≡ ltb 1 0 = le-ltb _ _ (omega (arith, long, length-append bytes more)) in
-                  if_true _ _ _ (ap (λ (n : ℕ). nat_le n limit) same ∙ h.0) ∙ if_false _ _ _ still ∙ ap (λ (n : ℕ). Ok (n, drop 4 (bytes ++ more))) (same ∙ is);
+                  cond-true _ _ _ (ap (λ (n : ℕ). nat_le n limit) same ∙ h.0) ∙ cond-false _ _ _ still ∙ ap (λ (n : ℕ). Ok (n, drop 4 (bytes ++ more))) (same ∙ is);
             }
       ]
       | inr h ↦ absurd (let bad = h.1 in cc)
@@ -51,7 +51,7 @@ bytes_stay n bytes x rest e =
             inside = long;
             reads = λ more.
                 let still : nat_lt (length (bytes ++ more)) n ≡ ltb 1 0 = le-ltb _ _ (omega (arith, long, length-append bytes more)) in
-                if_false _ _ _ still ∙ ap (λ (l : List ℕ). Ok (l, drop n (bytes ++ more))) (take-append-le n bytes more long ∙ is);
+                cond-false _ _ _ still ∙ ap (λ (l : List ℕ). Ok (l, drop n (bytes ++ more))) (take-append-le n bytes more long ∙ is);
           }
     ]
 

@@ -2,12 +2,12 @@
 use Rattle.std.proofs.Common.{◌≡◌, inl, inr, ℕ, ◌+◌, ◌<◌, ◌≤◌, max, Bool, true, false, nat_eq, List, [], ◌∷◌, ◌++◌, length, Ok, Err, refl, sym, ap, subst, ◌∙◌, append_assoc, arith, length-append}
 use Rattle.std.specs.Prelude.{Option, Some, ◌||◌}
 use Rattle.std.specs.Int.{w32, to_be_bytes}
-use Rattle.std.proofs.lemmas.Bool.{cases_lt}
+use Rattle.std.proofs.lemmas.Bool.{cases_lt, cond-true, cond-false}
 use Rattle.tc_base.specs.declared.request.Request.{Request}
 use Rattle.tc_base.specs.declared.request.Request.TheVariants.{Put, PutKeep, PutCat, PutShl, PutNr, Out, Get, MGet, Vsiz, IterInit, IterNext, FwmKeys, AddInt, AddDouble, Ext, Sync, Optimize, Vanish, Copy, Restore, SetMst, Rnum, Size, Stat, Misc, Repl}
 use Rattle.tc_base.specs.Reading.{Front, ◌>>=◌}
 use Rattle.tc_base.proofs.Exact.{parted}
-use Rattle.tc_base.proofs.ExactFields.{chosen, if_true, if_false}
+use Rattle.tc_base.proofs.ExactFields.{chosen}
 use Rattle.ty_wire.specs.Form.{Field, text, word, long, Heads, Values, heads, long_bytes, head_bytes, header, AllFit, body, Form, form_bytes, FormFits}
 use Rattle.ty_wire.specs.Form as form
 use Rattle.ty_wire.specs.Spelling.{form as form_of, spelling, Fits}
@@ -99,8 +99,8 @@ find_little (d ∷ es) little c e found = elim (chosen (nat_eq c (command_of d))
 picked_end : (es : List Entry) (c : ℕ) (e : Entry) (b : List ℕ) → find es c ≡ Some e → pick_end es c b ≡ entry_end e b
 picked_end [] c e b found = absurd cc
 picked_end (d ∷ es) c e b found = elim (chosen (nat_eq c (command_of d)) (Some d) (find es c) (Some e) found) [
-  | inl h ↦ if_true _ _ _ h.0 ∙ ap (λ (k : Entry). entry_end k b) (same d e h.1)
-  | inr h ↦ if_false _ _ _ h.0 ∙ picked_end es c e b h.1
+  | inl h ↦ cond-true _ _ _ h.0 ∙ ap (λ (k : Entry). entry_end k b) (same d e h.1)
+  | inr h ↦ cond-false _ _ _ h.0 ∙ picked_end es c e b h.1
 ]
   where
     same : (a b : Entry) → ◌≡◌ {A = Option Entry} (Some a) (Some b) → a ≡ b

@@ -1,5 +1,4 @@
-use Rattle.std.proofs.Common.{◌≡◌, ◌<◌, ◌∙◌, ap, sym, subst, arith, ℕ, List, rules}
-use Rattle.tc_base.specs.Bytes.{IsBytes}
+use Rattle.std.proofs.Common.{sym, rules}
 use Rattle.tc_base.proofs.Fronts.{less_by, greater_by}
 use Rattle.tc_base.proofs.key.KeyOrd.cmp.Goals as goal
 
