@@ -1,7 +1,7 @@
 -- Which requests update, as a test and as a fact; and what a replica refuses.
 use Rattle.std.proofs.Common.{◌≡◌, ◌⊎◌, inl, inr, ℕ, zero, suc, ◌<◌, Bool, true, false, cond, List, [], ◌∷◌, length, get_or, refl, sym, arith}
 use Rattle.std.proofs.lemmas.Bool.{and_from, and_parts, or_cases, or_left, or_right}
-use Rattle.std.specs.Prelude.{◌&&◌, ◌||◌, codes, Contains}
+use Rattle.std.specs.Prelude.{◌&&◌, codes, Contains}
 use Rattle.std.specs.List.{list_any}
 use Rattle.std.specs.Cmp.Lexicographic.{same_text, other_text}
 use Rattle.tc_base.specs.declared.request.Request.{Request}

@@ -1,5 +1,5 @@
 -- A request at the front, by its reading and by its spelling.
-use Rattle.std.proofs.Common.{◌≡◌, ℕ, ◌≤◌, Bool, true, false, List, [], ◌++◌, length, drop, refl, sym, ap, subst, ◌∙◌, arith, length-append}
+use Rattle.std.proofs.Common.{◌≡◌, ℕ, ◌≤◌, Bool, true, false, List, ◌++◌, length, drop, sym, ap, subst, ◌∙◌, arith, length-append}
 use Rattle.std.proofs.lemmas.List.{drop-append-le}
 use Rattle.tc_base.proofs.Exact.{same_whole}
 use Rattle.ty_wire.proofs.Answered.{whole}

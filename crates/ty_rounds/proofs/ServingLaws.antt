@@ -11,9 +11,8 @@ use Rattle.ty_wire.specs.Reading.{request_at}
 use Rattle.ty_wire.specs.Spelling.{reply_bytes}
 use Rattle.tc_model.specs.Contents.{Contents, Walk}
 use Rattle.tc_model.specs.Apply.{Step, apply}
-use Rattle.tc_base.specs.declared.request.Request.TheVariants.{Repl}
 use Rattle.ty_core.specs.Queues.{Queue}
-use Rattle.ty_core.specs.Serving.{Serves, TakesOff, is_repl}
+use Rattle.ty_core.specs.Serving.{Serves, TakesOff}
 use Rattle.ty_core.specs.declared.serving.Served.{Served}
 use Rattle.ty_world.specs.Frames.{is_whole}
 use Rattle.ty_world.specs.World.{Client, served, front_of, is_ready, all_sent, round_one, round_all, owed_for, repl_reply}

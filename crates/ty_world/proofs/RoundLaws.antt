@@ -1,7 +1,7 @@
 -- A round that updates nothing leaves the contents.
-use Rattle.std.proofs.Common.{◌≡◌, Bool, true, false, List, [], ◌∷◌, refl, ◌∙◌}
+use Rattle.std.proofs.Common.{◌≡◌, false, List, [], ◌∷◌, refl, ◌∙◌}
 use Rattle.std.proofs.lemmas.Bool.{or_from, or_parts}
-use Rattle.std.specs.Prelude.{◌||◌, Ok, Err}
+use Rattle.std.specs.Prelude.{Ok, Err}
 use Rattle.tc_base.specs.declared.request.Request.{Request}
 use Rattle.tc_base.specs.Reading.{Front}
 use Rattle.tc_model.specs.Contents.{Contents, Walk}

@@ -1,4 +1,4 @@
-use Rattle.std.proofs.Common.{◌≡◌, ◌+◌, ◌∙◌, ap, length, arith, ℕ}
+use Rattle.std.proofs.Common.{◌≡◌, ◌∙◌, ap, length, arith, ℕ}
 use Rattle.std.specs.FinMap.{get}
 use Rattle.tc_model.specs.Maps.{size_of}
 use Rattle.tc_model.specs.Contents.{Contents}

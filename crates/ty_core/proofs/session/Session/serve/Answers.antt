@@ -1,4 +1,4 @@
-use Rattle.std.proofs.Common.{List, ℕ, subst, ap, length}
+use Rattle.std.proofs.Common.{List, ℕ, subst, ap}
 use Rattle.ty_core.specs.Queues.{Queue}
 use Rattle.ty_core.specs.Serving.{TakesOff}
 use Rattle.ty_wire.specs.Seen.{IsSeen}
