@@ -7,6 +7,7 @@ ghost use Rattle.tc_io.specs.declared.act.Act.{Act};
 use crate::serving::serve;
 use crate::words::are_words;
 use std::alloc::Global;
+use std::mem::ManuallyDrop;
 use tc_io::{At, Clock, Sink, Volume, Wire};
 use tc_mem::MemBase;
 use tc_space::NoSpace;
@@ -40,7 +41,10 @@ fn serve_pipe<W: Wire, K: Clock>(alloc: Global, wire: &mut W, clock: &mut K) -> 
     }
     let mut space = NoSpace::new();
     let mut server = Server::new(alloc, MemBase::new(alloc));
-    serve(&mut server, &mut space, wire, clock, u64::MAX)
+    let status = serve(&mut server, &mut space, wire, clock, u64::MAX);
+    // the process ends behind this: what the map holds is left to the system, since giving it back piece by piece takes half as long as serving
+    let _ = ManuallyDrop::new(server);
+    status
 }
 
 ghost use Rattle.tk_top.specs.Lines.{line};
