@@ -4,5 +4,6 @@
 mod behind;
 mod counts;
 mod mem;
+mod replies;
 
 pub use mem::MemBase;

@@ -15,6 +15,7 @@ ghost use Rattle.tc_model.specs.Applying.{Applies};
 ghost use Rattle.tc_model.specs.Plans.{IsPlan, CanLeave, changed_by, contents_by, walk_by};
 
 use crate::counts::{less_entry, with_entry};
+use crate::replies::{FAILED, UPDATED, fail, get};
 use std::alloc::{AllocError, Global};
 use std::marker::Model;
 use tc_base::{Blob, Key, Kind, Reply, Request, VALUE_MOST};
@@ -248,29 +249,10 @@ impl MemBase {
             Request::PutKeep { key, value } => self.put_new(key, value, reply),
             Request::PutCat { key, value } => self.put_joined(key, value, reply),
             Request::PutNr { key, value } => self.put_silently(key, value),
+            Request::Get { key } => get(self.contents.map(), &key, reply),
             other => self.follow(&other, walk, reply),
         }
     }
-}
-
-const UPDATED: Applied = Applied {
-    ok: true,
-    updated: true,
-};
-
-const FAILED: Applied = Applied {
-    ok: false,
-    updated: false,
-};
-
-// Replies that a request failed.
-fn fail(reply: &mut Blob) -> Result<Applied, AllocError>
-    ensures ok { IfOk result (λ a. a ≡ record { ok = false; updated = false }) }
-    ensures bytes { OnOk result (reply.new ≡ reply.old ++ reply_bytes Fail) }
-    ensures front { OnErr result (IsPrefix reply.old reply.new) }
-{
-    write_reply(&Reply::Fail, reply)?;
-    Ok(FAILED)
 }
 
 // Whether a value has room for these bytes behind it.
