@@ -4,6 +4,7 @@ pub mod Exact
 pub mod ExactFields
 pub mod ExactNumbers
 pub mod ExactPairs
-pub mod Fronts
+pub mod Foreseeing
 pub mod Hashing
+pub mod Parts
 pub mod Vnums

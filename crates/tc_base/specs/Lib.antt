@@ -1,8 +1,14 @@
+pub mod Bodies
 pub mod Bytes
 pub mod Decimal
 pub mod Endian
 pub mod Files
 pub mod Fronts
 pub mod Hashes
+pub mod Lists
+pub mod Maps
+pub mod OrderLaws
+pub mod Orders
 pub mod Reading
+pub mod Texts
 pub mod Vnum

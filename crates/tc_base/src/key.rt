@@ -1,61 +1,43 @@
 //! Keys of a map.
-ghost use Rattle.std.specs.Prelude.{◌≡◌, ℕ, slice_index, length, IfOk};
+ghost use Rattle.std.specs.Prelude.{◌≡◌, length, IfOk};
 ghost use Rattle.std.specs.Prelude.{nat_eq};
 ghost use Rattle.std.specs.Ordering.{nat_cmp, as_partial_cmp};
 ghost use Rattle.std.specs.Cmp.{partial_order_from_own_ties};
 ghost use Rattle.std.specs.Cmp.Rules.{comparing};
 ghost use Rattle.std.specs.Cmp.Lexicographic.{slice_cmp, pointwise};
 ghost use Rattle.std.proofs.Common.{rules};
-ghost use Rattle.tc_base.specs.Bytes.{IsBytes};
-ghost use Rattle.tc_base.specs.Fronts.{front_of};
+ghost use Rattle.tc_base.specs.Fronts.{front_at, Foresees};
 
 use crate::blob::Blob;
+use crate::long::Long;
+use crate::short::{SHORT_MOST, Short};
 use std::alloc::{AllocError, Global};
 use std::cmp::Ordering;
 use std::marker::Model;
 
-/// A byte string under which a value stands. Its order is that of bytes; the number of its first eight lies beside it, so that a search
-/// of a map looks at other memory only where these are the same.
+/// A byte string under which a value stands. Its order is that of bytes. A key of up to 46 bytes lies in the map itself, and of a longer
+/// one the numbers of its first 16, so that a search of the map seldom looks at other memory.
 #[derive(Debug, Drop)]
 pub struct Key {
-    front: u64,
-    bytes: Blob,
+    body: Body,
+}
+
+#[derive(Debug, Drop)]
+enum Body {
+    Short(Short),
+    Long(Long),
 }
 
 impl Model for Key {
-    ghost use Rattle.std.specs.Prelude.{◌≡◌, ℕ, List};
+    ghost use Rattle.std.specs.Prelude.{ℕ, List};
     ghost use Rattle.tc_base.specs.Bytes.{IsBytes};
-    ghost use Rattle.tc_base.specs.Fronts.{front_of};
+    ghost use Rattle.tc_base.specs.Bodies.{of_body};
 
     ghost Value = { List ℕ };
 
-    ghost view = { λ k. k.bytes };
+    ghost view = { λ k. of_body k.body };
 
-    ghost invariant = { λ k. (k.front ≡ front_of k.bytes) × IsBytes k.bytes };
-}
-
-// The byte at a place, or 0.
-fn byte_at(bytes: &[u8], i: usize) -> u8
-    ensures { result ≡ slice_index bytes.now i }
-{
-    if i < bytes.len() { bytes[i] } else { 0 }
-}
-
-// The number of the first eight bytes.
-fn front(bytes: &[u8]) -> u64
-    ensures value { result ≡ front_of bytes.now }
-    ensures bytes { IsBytes bytes.now }
-{
-    u64::from_be_bytes([
-        byte_at(bytes, 0),
-        byte_at(bytes, 1),
-        byte_at(bytes, 2),
-        byte_at(bytes, 3),
-        byte_at(bytes, 4),
-        byte_at(bytes, 5),
-        byte_at(bytes, 6),
-        byte_at(bytes, 7),
-    ])
+    ghost invariant = { λ k. IsBytes (of_body k.body) };
 }
 
 impl Key {
@@ -63,29 +45,73 @@ impl Key {
     pub fn new(bytes: Blob) -> Key
         ensures { result ≡ bytes }
     {
-        Key {
-            front: front(bytes.as_slice()),
-            bytes,
-        }
+        let body = if bytes.len() <= SHORT_MOST {
+            Body::Short(Short::new(bytes.as_slice()))
+        } else {
+            Body::Long(Long::new(bytes))
+        };
+        Key { body }
     }
 
     /// A copy of bytes.
     pub fn from_slice(alloc: Global, bytes: &[u8]) -> Result<Key, AllocError>
         ensures { IfOk result (λ k. k ≡ bytes.now) }
     {
-        Ok(Key::new(Blob::from_slice(alloc, bytes)?))
+        let body = if bytes.len() <= SHORT_MOST {
+            Body::Short(Short::new(bytes))
+        } else {
+            Body::Long(Long::new(Blob::from_slice(alloc, bytes)?))
+        };
+        Ok(Key { body })
     }
 
     pub fn as_slice(&self) -> &[u8]
         ensures { result.now ≡ self.now }
     {
-        self.bytes.as_slice()
+        match &self.body {
+            Body::Short(short) => short.as_slice(),
+            Body::Long(long) => long.as_slice(),
+        }
     }
 
     pub fn len(&self) -> usize
         ensures { result ≡ length self.now }
     {
-        self.bytes.len()
+        self.as_slice().len()
+    }
+
+    // The number of the first eight bytes.
+    fn first(&self) -> u64
+        ensures { result ≡ front_at 0 self.now }
+    {
+        match &self.body {
+            Body::Short(short) => short.number(0),
+            Body::Long(long) => long.first(),
+        }
+    }
+
+    // The number of the eight bytes behind them.
+    fn second(&self) -> u64
+        ensures { result ≡ front_at 8 self.now }
+    {
+        match &self.body {
+            Body::Short(short) => short.number(8),
+            Body::Long(long) => long.second(),
+        }
+    }
+
+    // The order of the first numbers that differ, of the first 40 bytes where both keys are short, else of 16.
+    fn order(&self, other: &Key) -> Ordering
+        ensures { Foresees result self.now other.now }
+    {
+        if let (Body::Short(a), Body::Short(b)) = (&self.body, &other.body) {
+            return a.order(b);
+        }
+        let (a, b) = (self.first(), other.first());
+        if a != b {
+            return a.cmp(&b);
+        }
+        self.second().cmp(&other.second())
     }
 }
 
@@ -95,7 +121,7 @@ impl PartialEq for Key {
     ghost laws = { Prim.search (comparing, rules) };
 
     fn eq(&self, other: &Key) -> bool {
-        self.bytes == other.bytes
+        self.as_slice() == other.as_slice()
     }
 }
 
@@ -113,12 +139,9 @@ impl Ord for Key {
     ghost matches_eq = { Prim.search (comparing, rules) };
 
     fn cmp(&self, other: &Key) -> Ordering {
-        if self.front < other.front {
-            Ordering::Less
-        } else if self.front > other.front {
-            Ordering::Greater
-        } else {
-            self.bytes.cmp(&other.bytes)
+        match self.order(other) {
+            Ordering::Equal => self.as_slice().cmp(other.as_slice()),
+            order => order,
         }
     }
 }

@@ -9,6 +9,15 @@ pub enum Mode {
     Cat,
 }
 
+/// How a file is packed.
+#[derive(Clone, Copy, Debug, PartialEq, Eq)]
+pub enum Form {
+    /// In the form that it has.
+    Keep,
+    /// In the large form, whose pointers have eight bytes.
+    Large,
+}
+
 /// The kinds of database: four in files, two in memory.
 #[derive(Clone, Copy, Debug, PartialEq, Eq)]
 pub enum Kind {

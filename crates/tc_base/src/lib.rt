@@ -6,13 +6,17 @@ mod decimal;
 mod endian;
 mod fault;
 mod fields;
+mod fronts;
 mod hashes;
 mod key;
 mod kind;
 mod limits;
+mod long;
 mod number;
+mod order;
 mod request;
 mod seq;
+mod short;
 mod steps;
 
 pub use blob::Blob;
@@ -22,9 +26,13 @@ pub use fault::Fault;
 pub use fields::{NotWhole, read_bytes, read_size};
 pub use hashes::{bucket_of, second_hash};
 pub use key::Key;
-pub use kind::{Kind, Mode, Rule};
-pub use limits::{KEY_MOST, REPLY_MOST, REQUEST_MOST, VALUE_MOST};
+pub use kind::{Form, Kind, Mode, Rule};
+pub use limits::{
+    BLOCK_MOST, CLIENTS_MOST, COLUMN_MOST, FILE_MOST, INDEXES_MOST, KEY_MOST, LOG_MOST, PAGE_END,
+    REPLY_MOST, REQUEST_MOST, SMALL_STARTS, VALUE_MOST,
+};
 pub use number::{NumErr, put_vnum, read_number, read_vnum, vnum_len};
+pub use order::{Cut, Decimal, Lexical, Order, Side, value_part};
 pub use request::{Reply, Request};
 pub use seq::{Blobs, Keys, Pair, Pairs, Seq};
 pub use steps::Steps;

@@ -1,7 +1,7 @@
 /// The most bytes that a key, a prefix, a name, a path or a host has on the wire.
 pub const KEY_MOST: usize = 1_048_576;
 
-/// The most bytes that a value, or one argument of a misc request, has on the wire.
+/// The most bytes that a value, or one argument of a misc request, has on the wire; and those of a value or a row text that is held.
 pub const VALUE_MOST: usize = 16_777_216;
 
 /// The most bytes of a whole request.
@@ -9,3 +9,27 @@ pub const REQUEST_MOST: usize = 33_554_432;
 
 /// The most bytes of a whole reply, its first byte counted.
 pub const REPLY_MOST: usize = 67_108_864;
+
+/// The most bytes of a column's name, and of its value.
+pub const COLUMN_MOST: usize = 1_048_576;
+
+/// The most columns that have an index.
+pub const INDEXES_MOST: usize = 16;
+
+/// The most connections of clients that are open at once.
+pub const CLIENTS_MOST: usize = 64;
+
+/// The most bytes of a file of the database but the undo log, where no other limit is given.
+pub const FILE_MOST: u64 = 1_099_511_627_776;
+
+/// The most bytes of the undo log.
+pub const LOG_MOST: u64 = 4_611_686_018_427_387_904;
+
+/// In a small hash file blocks start before this many units of alignment.
+pub const SMALL_STARTS: u64 = 4_294_967_296;
+
+/// The most bytes of a block of a hash file.
+pub const BLOCK_MOST: u64 = 1_073_741_824;
+
+/// The ids of a tree's pages are below it.
+pub const PAGE_END: u64 = 281_474_976_710_656;

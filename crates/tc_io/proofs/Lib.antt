@@ -3,3 +3,4 @@ pub mod Feeds
 pub mod PlayedReads
 pub mod Taken
 pub mod Writes
+mod Emptied

@@ -4,6 +4,7 @@ use Rattle.std.proofs.Common.{get_or, refl, subst, arith, inr}
 use Rattle.std.proofs.lemmas.List.{places, same_lists}
 use Rattle.std.proofs.lemmas.Bool.{leb-true, eqb-true}
 use Rattle.tc_base.specs.Files.{wrote}
+use Rattle.tc_io.specs.Whole.{wrote_bytes}
 use Rattle.tc_io.specs.Images.{Step, loaded, written, cut_to, synced, lost, reads, Image, Torn, Calls, of, now, Images}
 
 -- a write begins inside the file or at its end, and no call failed halfway
@@ -36,6 +37,7 @@ torn_whole at bytes old inside = record {
   behind = same_lists _ _ (grind (arith, places)) (λ i d h. grind (arith, places));
   grown = λ _. same_lists _ _ (grind (arith, places)) (λ i d h. grind (arith, places));
   beyond = λ far. absurd (omega arith);
+  are_bytes = wrote_bytes at bytes old;
 }
 
 both-0 : (a b : Bool) → (a && b) ≡ true → a ≡ true

@@ -1,5 +1,6 @@
 -- What calls make of files, and what a stop between or within them may leave.
 use Rattle.std.specs.Prelude.{◌≡◌, ◌⊎◌, ℕ, ◌+◌, ◌-◌, ◌<◌, ◌≤◌, List, [], ◌∷◌, length, take, drop, nat_eq, if◌then◌else◌}
+use Rattle.tc_base.specs.Bytes.{IsBytes}
 use Rattle.tc_base.specs.Files.{Files, wrote}
 
 -- what is done to one file
@@ -28,6 +29,7 @@ pub record Torn (at : ℕ) (bytes old new : List ℕ) : Type 0 where
   pub behind : drop (at + length bytes) (take (length old) new) ≡ drop (at + length bytes) old
   pub grown : at ≤ length old → drop (length old) new ≡ take (length new - length old) (drop (length old - at) bytes)
   pub beyond : length old < at → new ≡ old
+  pub are_bytes : IsBytes old → IsBytes bytes → IsBytes new
 
 -- what a stop may leave of the file: its images
 abbrev pub Image : List Step → List ℕ → Type 0
@@ -69,9 +71,11 @@ pub record WasLostSync (old new : Calls) (file : ℕ) : Type 0 where
   pub reads : List ℕ
   pub is : new ≡ (file, lost reads) ∷ old
 
--- a call that failed: it wasn't made, or it was
+-- a call that failed: it wasn't made, or it was, and the file reads something. That it wasn't, and the file reads something else, is within the
+-- second: each earlier image is among those that the write or the cut leaves
 abbrev pub IsLost : Calls → Calls → ℕ → Step → Type 0
 IsLost old new file step = (new ≡ old) ⊎ WasLost old new file step
 
+-- a sync that failed: the earlier images, among which is the one that the sync made leaves
 abbrev pub IsLostSync : Calls → Calls → ℕ → Type 0
 IsLostSync old new file = (new ≡ old) ⊎ WasLostSync old new file

@@ -13,4 +13,5 @@ pub mod Play
 pub mod Script
 pub mod Told
 pub mod Transcript
+pub mod Whole
 pub mod Wires

@@ -1,6 +1,7 @@
 -- The connections of a wire, and what its calls do to them.
 use Rattle.std.specs.Prelude.{◌≡◌, ◌<◌, ◌≤◌, ◌+◌, ℕ, Bool, true, false, List, [], ◌∷◌, ◌++◌, length, not, nat_eq}
 use Rattle.std.specs.List.{list_any, filter}
+use Rattle.std.proofs.Common.{arith}
 use Rattle.tc_io.specs.declared.wire.Ev.{Ev}
 use Rattle.tc_io.specs.declared.wire.Ev.TheVariants.{Opened, Read, Ended, Quiet, Shut}
 use Rattle.tc_io.specs.declared.wire.Sent.{Sent}
@@ -69,3 +70,15 @@ abbrev pub MayTake : ℕ → Sent → Type 0
 MayTake offered (Took n) = (0 < n) × (n ≤ offered)
 MayTake offered NotYet = Unit {0}
 MayTake offered Gone = Unit {0}
+
+-- no number falls behind one that was given, so each new one is above all that were given before
+pub given_rises : (conns ended : List ℕ) (given : ℕ) (paused : List ℕ) (busy : Bool) (ev : Ev) → MayCome conns ended given paused busy ev → given ≤ given_after given ev
+given_rises conns ended given paused busy (Opened c) may = omega (arith, may.0)
+given_rises conns ended given paused busy (Read c n) may = omega arith
+given_rises conns ended given paused busy (Ended c) may = omega arith
+given_rises conns ended given paused busy Quiet may = omega arith
+given_rises conns ended given paused busy Shut may = omega arith
+
+pub dialled_rises : (given : ℕ) (answer : Dialled) → MayDial given answer → given ≤ given_dialled given answer
+dialled_rises given (Conn c) may = omega (arith, may)
+dialled_rises given NotNow may = omega arith

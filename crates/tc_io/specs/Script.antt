@@ -63,7 +63,7 @@ abbrev pub lines_dialled : Lines → Dialled → Lines
 lines_dialled l answer = record { conns = open_dialled l.conns answer; ended = l.ended; given = given_dialled l.given answer }
 
 abbrev pub lines_closed : Lines → ℕ → Lines
-lines_closed l c = record { conns = without c l.conns; ended = l.ended; given = l.given }
+lines_closed l c = record { conns = without c l.conns; ended = without c l.ended; given = l.given }
 
 -- the script behind an entry of the transcript
 abbrev pub played : Script → Entry → Script

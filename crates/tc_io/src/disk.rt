@@ -1,5 +1,5 @@
 //! Files, and all that was done to them.
-ghost use Rattle.std.specs.Prelude.{◌≡◌, ◌≤◌, ℕ, ◌∷◌, [], true, length, IfOk, OnOk, OnErr, slice_index_or};
+ghost use Rattle.std.specs.Prelude.{◌≡◌, ◌<◌, ◌≤◌, ℕ, ◌∷◌, [], true, length, IfOk, OnOk, OnErr, slice_index_or};
 ghost use Rattle.tc_io.specs.Images.{Images, now, of, reads, loaded};
 ghost use Rattle.tc_io.specs.Chosen.{chosen};
 ghost use Rattle.tc_io.specs.History.{calls_of, step_of};
@@ -19,6 +19,13 @@ pub struct Disk {
     pub history: Vec<Call>,
     ghost held: { Holds files reads (calls_of history.items) },
     pub ghost fit: { all_fit (calls_of history.items) ≡ true },
+}
+
+// What stands in place of bytes that were not kept: a byte.
+fn fill_of(choice: &Choice) -> u8
+    ensures { choice.now.fill < 256 }
+{
+    choice.fill
 }
 
 impl Disk {
@@ -82,6 +89,7 @@ impl Disk {
         ensures possible { IfOk result (λ d. Images (calls_of self.now.history.items) (now (calls_of d.history.items))) }
         ensures settled { IfOk result (λ d. Settled (calls_of d.history.items)) }
     {
+        let _fill = fill_of(choice);
         let images = self.images(choice)?;
         let disk = Disk::loaded_with(self.alloc, &images)?;
         Ok(disk)

@@ -2,6 +2,7 @@
 #![tactic(auto)]
 
 mod act;
+mod answered;
 mod book;
 mod changes;
 mod choice;

@@ -378,7 +378,7 @@ impl Wire for MemWire {
         requires is_open { list_any (nat_eq conn) self.old.conns.items ≡ true }
         ensures opened { self.new.opened ≡ true }
         ensures conns { self.new.conns.items ≡ without conn self.old.conns.items }
-        ensures ended { self.new.ended.items ≡ self.old.ended.items }
+        ensures ended { self.new.ended.items ≡ without conn self.old.ended.items }
         ensures given { self.new.given ≡ self.old.given }
         ensures told { OnOk result (told self.new ≡ told self.old ++ Close conn ∷ []) }
         ensures told_err { OnErr result (told self.new ≡ told self.old) }
@@ -386,6 +386,7 @@ impl Wire for MemWire {
         ensures rightly { FailsRightly self.old.counts self.new.counts result }
     {
         peers::drop_conn(&mut self.conns, conn);
+        peers::drop_conn(&mut self.ended, conn);
         self.counts.refuse()?;
         if self.book.add(Entry::Close { conn }).is_err() {
             return Err(self.counts.starve());

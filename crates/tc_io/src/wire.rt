@@ -96,10 +96,10 @@ pub trait Wire {
     /// The connections that are open.
     ghost conns: { Self → List ℕ };
 
-    /// The connections of which no more input comes.
+    /// The open connections of which no more input comes.
     ghost ended: { Self → List ℕ };
 
-    /// Each number that was given is below it.
+    /// Each number that was given is below it, and no number below it is given again.
     ghost given: { Self → ℕ };
 
     /// What happened so far, where it tells that.
@@ -172,7 +172,7 @@ pub trait Wire {
         requires is_open { list_any (nat_eq conn) (conns self.old) ≡ true }
         ensures opened { opened self.new ≡ true }
         ensures conns { conns self.new ≡ without conn (conns self.old) }
-        ensures ended { ended self.new ≡ ended self.old }
+        ensures ended { ended self.new ≡ without conn (ended self.old) }
         ensures given { given self.new ≡ given self.old }
         ensures told { OnOk result (Adds (transcript self.old) (transcript self.new) (Close conn ∷ [])) }
         ensures told_err { OnErr result (Adds (transcript self.old) (transcript self.new) []) }

@@ -1,0 +1,7 @@
+-- Texts of bytes.
+use Rattle.std.specs.Prelude.{ℕ, Bool, List, nat_eq}
+use Rattle.std.specs.Cmp.Lexicographic.{pointwise}
+
+-- the same bytes
+abbrev pub is_text : List ℕ → List ℕ → Bool
+is_text a b = pointwise nat_eq a b
