@@ -30,7 +30,8 @@ impl NoSpace {
 }
 
 impl Space for NoSpace {
-    ghost use Rattle.std.specs.Prelude.{[], Some, ℕ, List, Option, true};
+    ghost use Rattle.std.specs.Prelude.{[], Some, None, ℕ, List, Option, true, ◌≤◌};
+    ghost use Rattle.std.proofs.Common.{refl, arith};
     ghost use Rattle.tc_base.specs.Files.{Files};
     ghost use Rattle.tc_space.specs.NoFiles.{no_files};
 
@@ -52,13 +53,23 @@ impl Space for NoSpace {
 
     ghost limit = { λ _ f. 0 };
 
+    ghost names = { λ _. None };
+
     ghost overfills = { λ _ f at size. ⊥ };
+
+    ghost log_full = { λ _. ⊥ };
 
     ghost bytes_read = { λ s. s.read };
 
     ghost faults = { λ _. 0 };
 
     ghost only_kept = { λ s o told sound left. left };
+
+    ghost keeps_files = { λ s told sound. refl };
+
+    ghost clean = { λ s told sound is. refl };
+
+    ghost within = { λ s file told sound is. omega arith };
 
     ghost earlier = { λ s t u o le left. left };
 

@@ -1,7 +1,8 @@
-ghost use Rattle.std.specs.Prelude.{◌≡◌, ◌≢◌, ◌+◌, ◌-◌, ◌^◌, ◌≤◌, ◌<◌, ◌⊎◌, true, false, Bool, List, ℕ, length, take, drop, min, OnOk, OnErr, IfOk, IsErrOf, Option, Some};
+ghost use Rattle.std.specs.Prelude.{◌≡◌, ◌+◌, ◌-◌, ◌^◌, ◌≤◌, ◌⊎◌, true, false, Bool, List, ℕ, length, take, drop, min, is_some, OnOk, OnErr, IsErrOf, Option, Some, is_ok, if◌then◌else◌};
 ghost use Rattle.tc_base.specs.Files.{Files, wrote};
-ghost use Rattle.tc_io.specs.Causes.{Rose, HasCause};
+ghost use Rattle.tc_io.specs.Causes.{Rose};
 ghost use Rattle.tc_space.specs.Moments.{LeavesOnly, Steady};
+ghost use Rattle.tc_space.specs.Effects.{Changes, Follows, Outcome, Reached};
 ghost use Rattle.tc_space.specs.Ranges.{IsDataFile, Passes};
 
 use crate::errors::SpaceErr;
@@ -38,8 +39,14 @@ pub trait Space {
     /// The greatest length of each file.
     ghost limit: { Self → ℕ → ℕ };
 
+    /// The names that its volume was given, where they are told.
+    ghost names: { Self → Option (List (List ℕ)) };
+
     /// The undo log has no room for the old bytes of so many bytes of a file from a place on.
     ghost overfills: { Self → ℕ → ℕ → ℕ → Type 0 };
+
+    /// The undo log is so long that it may have had no room.
+    ghost log_full: { Self → Type 0 };
 
     /// How many bytes were asked for by reads, up to the greatest number.
     ghost bytes_read: { Self → ℕ };
@@ -65,48 +72,41 @@ pub trait Space {
         ensures bytes { OnOk result (tells → into.new ≡ take (length into.old) (drop at (now self.old file))) }
         ensures now { tells → (g : ℕ) → now self.new g ≡ now self.old g }
         ensures steady { tells → Steady moment left kept self.old self.new }
+        ensures follows { Follows faults limit names self.old self.new }
         ensures sound { sound self.new }
         ensures touched { touched self.new ≡ touched self.old }
-        ensures limit { limit self.new ≡ limit self.old }
         ensures counted { bytes_read self.new ≡ min (bytes_read self.old + length into.old) (2 ^ 64 - 1) }
-        ensures cause { HasCause (faults self.old) (faults self.new) result };
+        ensures cause { OnErr result (Rose (faults self.old) (faults self.new)) };
 
     /// Writes all the bytes over a data file from a place on, which may make it longer. It takes no memory.
     fn write(&mut self, file: u32, at: u64, bytes: &[u8]) -> Result<(), SpaceErr>
         requires sound { sound self.old }
         requires file { IsDataFile file }
         requires inside { tells → at ≤ length (now self.old file) }
-        ensures wrote { OnOk result (tells → now self.new file ≡ wrote at bytes.now (now self.old file)) }
-        ensures others { OnOk result (tells → (g : ℕ) → g ≢ file → now self.new g ≡ now self.old g) }
+        ensures wrote { OnOk result (tells → Changes now file (wrote at bytes.now (now self.old file)) self.old self.new) }
         ensures steady { tells → Steady moment left kept self.old self.new }
-        ensures sound { OnOk result (sound self.new) }
-        ensures spoiled { OnErr result (flag self.new ≡ false) }
+        ensures follows { Follows faults limit names self.old self.new }
+        ensures outcome { Outcome sound flag result self.new }
         ensures touched { touched self.new ≡ true }
-        ensures limit { limit self.new ≡ limit self.old }
         ensures counted { bytes_read self.new ≡ bytes_read self.old }
-        ensures full { IsErrOf result SpaceErr.Full → Passes (limit self.old file) (overfills self.old file at (length bytes.now)) at (length bytes.now) }
-        ensures room { OnOk result (at + length bytes.now ≤ limit self.old file) }
-        ensures no_memory { IsErrOf result SpaceErr.Memory → ⊥ }
-        ensures later { faults self.old ≤ faults self.new }
-        ensures cause { IsErrOf result SpaceErr.Fault → Rose (faults self.old) (faults self.new) };
+        ensures room { OnOk result (Passes (limit self.old file) (overfills self.old file at (length bytes.now)) at (length bytes.now) → ⊥) }
+        ensures full { IsErrOf result SpaceErr.Full → Reached tells (Passes (limit self.old file) (overfills self.old file at (length bytes.now) × log_full self.new) at (length bytes.now)) now self.old self.new }
+        ensures cause { (IsErrOf result SpaceErr.Fault → Rose (faults self.old) (faults self.new)) × (IsErrOf result SpaceErr.Memory → ⊥) };
 
     /// Shortens a data file to a length. It takes no memory.
     fn cut(&mut self, file: u32, len: u64) -> Result<(), SpaceErr>
         requires sound { sound self.old }
         requires file { IsDataFile file }
         requires inside { tells → len ≤ length (now self.old file) }
-        ensures cut { OnOk result (tells → now self.new file ≡ take len (now self.old file)) }
-        ensures others { OnOk result (tells → (g : ℕ) → g ≢ file → now self.new g ≡ now self.old g) }
+        ensures cut { OnOk result (tells → Changes now file (take len (now self.old file)) self.old self.new) }
         ensures steady { tells → Steady moment left kept self.old self.new }
-        ensures sound { OnOk result (sound self.new) }
-        ensures spoiled { OnErr result (flag self.new ≡ false) }
+        ensures follows { Follows faults limit names self.old self.new }
+        ensures outcome { Outcome sound flag result self.new }
         ensures touched { touched self.new ≡ true }
-        ensures limit { limit self.new ≡ limit self.old }
         ensures counted { bytes_read self.new ≡ bytes_read self.old }
-        ensures full { IsErrOf result SpaceErr.Full → (size : ℕ) × overfills self.old file len size }
-        ensures no_memory { IsErrOf result SpaceErr.Memory → ⊥ }
-        ensures later { faults self.old ≤ faults self.new }
-        ensures cause { IsErrOf result SpaceErr.Fault → Rose (faults self.old) (faults self.new) };
+        ensures room { OnOk result (tells → overfills self.old file len (length (now self.old file) - len) → ⊥) }
+        ensures full { IsErrOf result SpaceErr.Full → Reached tells ((tells → overfills self.old file len (length (now self.old file) - len)) × log_full self.new) now self.old self.new }
+        ensures cause { (IsErrOf result SpaceErr.Fault → Rose (faults self.old) (faults self.new)) × (IsErrOf result SpaceErr.Memory → ⊥) };
 
     /// Makes the files now the kept ones. It takes no memory.
     fn commit(&mut self) -> Result<(), Fault>
@@ -114,23 +114,33 @@ pub trait Space {
         ensures now { OnOk result (tells → (g : ℕ) → now self.new g ≡ now self.old g) }
         ensures kept { OnOk result (tells → kept self.new ≡ Some (now self.old)) }
         ensures moments { tells → LeavesOnly moment left self.old self.new (λ o. (o ≡ kept self.old) ⊎ (o ≡ Some (now self.old))) }
-        ensures sound { OnOk result (sound self.new) }
-        ensures spoiled { OnErr result (flag self.new ≡ false) }
-        ensures touched { OnOk result (touched self.new ≡ false) }
-        ensures limit { limit self.new ≡ limit self.old }
+        ensures follows { Follows faults limit names self.old self.new }
+        ensures outcome { Outcome sound flag result self.new }
+        ensures touched { touched self.new ≡ (if is_ok result then false else touched self.old) }
         ensures counted { bytes_read self.new ≡ bytes_read self.old }
-        ensures cause { HasCause (faults self.old) (faults self.new) result };
+        ensures cause { OnErr result (Rose (faults self.old) (faults self.new)) };
 
     /// Gives up what was written since the last commit: the space isn't sound any more, and the kept files stay.
     fn spoil(&mut self)
         ensures spoiled { flag self.new ≡ false }
+        ensures now { tells → (g : ℕ) → now self.new g ≡ now self.old g }
         ensures steady { tells → Steady moment left kept self.old self.new }
-        ensures limit { limit self.new ≡ limit self.old }
+        ensures follows { Follows faults limit names self.old self.new }
+        ensures touched { touched self.new ≡ touched self.old }
         ensures counted { bytes_read self.new ≡ bytes_read self.old }
         ensures faults { faults self.new ≡ faults self.old };
 
     /// While it is sound a stop leaves the kept files and nothing else.
     ghost only_kept: { (s : Self) (o : Option Files) → tells → sound s → left s (moment s) o → o ≡ kept s };
+
+    /// While it is sound there are kept files.
+    ghost keeps_files: { (s : Self) → tells → sound s → is_some (kept s) ≡ true };
+
+    /// And where nothing was written since the last commit they are the files now.
+    ghost clean: { (s : Self) → tells → sound s → touched s ≡ false → kept s ≡ Some (now s) };
+
+    /// No data file passes its limit.
+    ghost within: { (s : Self) (file : ℕ) → tells → sound s → IsDataFile file → length (now s file) ≤ limit s file };
 
     /// What is left from a later moment on is left from an earlier one on.
     ghost earlier: { (s : Self) (t u : ℕ) (o : Option Files) → t ≤ u → left s u o → left s t o };

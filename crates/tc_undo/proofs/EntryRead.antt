@@ -1,10 +1,11 @@
 -- An entry of the log as its two reads show it.
 use Rattle.std.proofs.Common.{◌≡◌, ℕ, ◌+◌, ◌-◌, ◌<◌, ◌≤◌, List, length, take, drop, sym, ◌∙◌, ap, subst, arith, length-take, length-drop, true, false, Bool, ◌&&◌, nat_le, nat_eq}
+use Rattle.ud_log.specs.Scan.{Scanned, ScannedAll}
 use Rattle.std.proofs.lemmas.List.{drop-drop, drop-take, take-take}
 use Rattle.tc_base.specs.Bytes.{IsBytes}
 use Rattle.ud_log.specs.Log.{number, entry_at, entries}
 use Rattle.ud_log.specs.Undo.{is_data, length_of, is_formed, all_formed}
-use Rattle.ud_log.proofs.Scanning.{Scanned, ScannedAll, scan_more, scan_broken, scan_done}
+use Rattle.ud_log.proofs.Scanning.{scan_more, scan_broken, scan_done}
 
 pub part : (k n : ℕ) (l front : List ℕ) → k + n ≤ 16 → front ≡ take 16 l → take n (drop k front) ≡ take n (drop k l)
 part k n l front le is =

@@ -1,5 +1,6 @@
 -- From what recovery finds to what it makes.
 use Rattle.std.proofs.Common.{◌≡◌, ◌≤◌, ◌<◌, ⊎_elim, ℕ, List, [], length, ap, sym, subst, ◌∙◌, true, false, Bool, cond, Result, Ok, Err, refl}
+use Rattle.ud_state.specs.Recovery.{Ready}
 use Rattle.std.proofs.lemmas.Bool.{cases_lt}
 use Rattle.tc_base.specs.Files.{Files, resized}
 use Rattle.tc_base.specs.declared.kind.Rule.{Rule}
@@ -12,7 +13,7 @@ use Rattle.ud_log.specs.Entries.{undone}
 use Rattle.ud_log.proofs.Places.{length-put_back, length-resized}
 use Rattle.ud_state.proofs.Replaying.{inside_lens}
 use Rattle.ud_state.proofs.Writing.{lens_are}
-use Rattle.ud_state.proofs.Recovery.{Ready, ready_nothing}
+use Rattle.ud_state.proofs.Recovery.{ready_nothing}
 use Rattle.tc_undo.specs.Found.{FindsUndo, FindsNothing, Finds}
 
 pub undo_of : (b : Bool) (files : Files) (lens : List ℕ) (end : ℕ) → b ≡ true → Finds b files lens end → FindsUndo files lens end

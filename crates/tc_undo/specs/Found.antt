@@ -1,9 +1,9 @@
 -- What recovery finds in the log before it changes a file.
 use Rattle.std.specs.Prelude.{◌≡◌, ℕ, ◌+◌, ◌≤◌, List, Bool, true, false, Option, Some, None}
+use Rattle.ud_log.specs.Scan.{Scanned, ScannedAll}
 use Rattle.tc_base.specs.Files.{Files}
 use Rattle.ud_log.specs.Log.{entries}
 use Rattle.ud_log.specs.Undo.{all_inside, log_of, nothing, undoes}
-use Rattle.ud_log.proofs.Scanning.{Scanned, ScannedAll}
 use Rattle.ud_state.specs.State.{AreLens}
 use Rattle.tc_undo.specs.declared.scan.Seen.{Seen}
 use Rattle.tc_undo.specs.declared.put_back.Back.{Back}

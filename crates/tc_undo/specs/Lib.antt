@@ -1,3 +1,5 @@
 pub mod Errors
 pub mod Found
+pub mod Opening
 pub mod Room
+pub mod Usable

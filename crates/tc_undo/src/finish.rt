@@ -3,7 +3,7 @@ ghost use Rattle.std.specs.Prelude.{◌≡◌, ◌+◌, ◌≤◌, ◌<◌, ℕ,
 ghost use Rattle.tc_io.specs.Causes.{HasCause};
 ghost use Rattle.tc_io.specs.Images.{now};
 ghost use Rattle.ud_log.specs.Undo.{is_data, data_of};
-ghost use Rattle.ud_state.specs.Since.{Since, Leaves};
+ghost use Rattle.ud_state.specs.Since.{AllLeft, Since};
 ghost use Rattle.ud_state.specs.State.{EitherOf, Idle, IsOpen};
 
 use crate::room::Log;
@@ -15,7 +15,7 @@ use tc_io::Volume;
 pub fn finish<V: Volume>(vol: &mut V, log: &Log) -> Result<(), Fault>
     requires bound { V.bound vol.old ≡ true }
     requires open { V.tells → IsOpen (V.calls vol.old) log.now.end log.now.recorded log.now.changed }
-    ensures moments { V.tells → Since (Leaves (EitherOf (V.calls vol.old))) (V.calls vol.old) (V.calls vol.new) }
+    ensures moments { V.tells → Since (AllLeft (EitherOf (V.calls vol.old))) (V.calls vol.old) (V.calls vol.new) }
     ensures idle { OnOk result (V.tells → Idle (V.calls vol.new) (data_of (now (V.calls vol.old)))) }
     ensures bound { V.bound vol.new ≡ true }
     ensures names { V.names vol.new ≡ V.names vol.old }

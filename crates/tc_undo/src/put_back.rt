@@ -1,5 +1,6 @@
 //! Recovery puts the old bytes back, from the last entry to the first.
 ghost use Rattle.std.specs.Prelude.{◌≡◌, ◌+◌, ◌-◌, ◌^◌, ◌≤◌, ◌<◌, ◌++◌, ◌∷◌, ℕ, List, true, length, take, drop, OnOk, OnErr, IfOk, IfErr, IsErrOf};
+ghost use Rattle.ud_state.specs.Recovery.{CanPutBack, Restored};
 ghost use Rattle.tc_io.specs.Causes.{Rose};
 ghost use Rattle.tc_io.specs.Images.{now, written, IsLost};
 ghost use Rattle.ud_log.specs.Entries.{Entry};
@@ -10,7 +11,6 @@ ghost use Rattle.tc_base.specs.Files.{Files};
 ghost use Rattle.ud_log.specs.Log.{entries};
 ghost use Rattle.ud_state.specs.Since.{Quiet};
 ghost use Rattle.ud_state.specs.State.{Replay};
-ghost use Rattle.ud_state.proofs.PuttingBack.{CanPutBack, Restored};
 
 use crate::errors::{RecoverErr, rule};
 use tc_io::Volume;

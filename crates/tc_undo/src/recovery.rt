@@ -1,5 +1,6 @@
 //! Recovery: what an unfinished transaction did is undone.
 ghost use Rattle.std.specs.Prelude.{◌≡◌, ◌+◌, ◌-◌, ◌^◌, ◌≤◌, ◌<◌, ◌∷◌, ℕ, List, true, false, length, OnOk, OnErr, IfOk, IfErr, IsErrOf, Ok, Err};
+ghost use Rattle.ud_state.specs.Recovery.{Ready, Recovers};
 ghost use Rattle.tc_base.specs.Files.{Files};
 ghost use Rattle.tc_io.specs.Causes.{Rose, HasCause};
 ghost use Rattle.tc_io.specs.Images.{now, of, synced};
@@ -7,7 +8,6 @@ ghost use Rattle.ud_log.specs.Log.{entries};
 ghost use Rattle.ud_log.specs.Undo.{is_data, all_short, data_of, undo, undone_all};
 ghost use Rattle.ud_state.specs.Since.{Calm, Quiet};
 ghost use Rattle.ud_state.specs.State.{AreLens, Durable, Idle, IsSettled};
-ghost use Rattle.ud_state.proofs.Recovery.{Ready, Recovers};
 ghost use Rattle.tc_undo.specs.Errors.{OnBroken};
 ghost use Rattle.tc_undo.specs.Found.{FindsUndo, Finds};
 

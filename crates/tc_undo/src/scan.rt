@@ -1,10 +1,10 @@
 //! The log is read and checked, and nothing is changed.
 ghost use Rattle.std.specs.Prelude.{◌≡◌, ◌+◌, ◌-◌, ◌^◌, ◌≤◌, ◌<◌, ℕ, true, false, length, take, drop, OnOk, OnErr, IfOk, IsErrOf, IfErr, Err, nat_le};
+ghost use Rattle.ud_log.specs.Scan.{Scanned, ScannedAll};
 ghost use Rattle.tc_io.specs.Causes.{Rose, HasCause};
 ghost use Rattle.tc_io.specs.Images.{now};
 ghost use Rattle.ud_log.specs.Log.{lengths, magic};
 ghost use Rattle.ud_log.specs.Undo.{agrees, all_short, broken, nothing, log_of, rule as rule_of, undo};
-ghost use Rattle.ud_log.proofs.Scanning.{Scanned, ScannedAll};
 ghost use Rattle.ud_state.specs.State.{AreLens};
 ghost use Rattle.tc_undo.specs.Errors.{OnBroken};
 ghost use Rattle.tc_undo.specs.Found.{AfterScan, GoesOn, Finds};

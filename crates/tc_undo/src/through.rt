@@ -1,9 +1,9 @@
 //! A write or a cut, its old bytes first.
-ghost use Rattle.std.specs.Prelude.{◌≡◌, ◌+◌, ◌-◌, ◌^◌, ◌≤◌, ◌<◌, ℕ, true, false, length, take, OnOk, OnErr, IfOk};
+ghost use Rattle.std.specs.Prelude.{◌≡◌, ◌+◌, ◌-◌, ◌^◌, ◌≤◌, ◌<◌, ℕ, true, false, length, take, set, min, max, OnOk, OnErr, IfOk};
 ghost use Rattle.tc_base.specs.Files.{wrote};
 ghost use Rattle.tc_io.specs.Causes.{HasCause};
 ghost use Rattle.tc_io.specs.Images.{now, of};
-ghost use Rattle.ud_log.specs.Undo.{is_data, length_of, all_short, data_of};
+ghost use Rattle.ud_log.specs.Undo.{is_data, place_of, length_of, all_short, data_of};
 ghost use Rattle.ud_state.specs.Since.{Quiet};
 ghost use Rattle.ud_state.specs.State.{AreLens, IsOpen, IsValid};
 ghost use Rattle.tc_undo.specs.Room.{needs, log_end, stop_of};
@@ -40,6 +40,7 @@ pub fn write_through<V: Volume>(
     ensures low { OnOk result (log.new.end ≤ 2 ^ 62) }
     ensures lens { OnOk result (V.tells → AreLens lens.new (now (V.calls vol.new))) }
     ensures short { OnOk result (all_short lens.new ≡ true) }
+    ensures grown { OnOk result (lens.new ≡ set lens.old (place_of file) (max (length_of lens.old file) (at + length bytes.now))) }
     ensures wrote { OnOk result (V.tells → now (V.calls vol.new) file ≡ wrote at bytes.now (now (V.calls vol.old) file)) }
     ensures others { OnOk result (V.tells → (f : ℕ) → is_data f ≡ true → (file ≡ f → ⊥) → now (V.calls vol.new) f ≡ now (V.calls vol.old) f) }
     ensures bound { V.bound vol.new ≡ true }
@@ -78,6 +79,7 @@ pub fn cut_through<V: Volume>(
     ensures low { OnOk result (log.new.end ≤ 2 ^ 62) }
     ensures lens { OnOk result (V.tells → AreLens lens.new (now (V.calls vol.new))) }
     ensures short { OnOk result (all_short lens.new ≡ true) }
+    ensures shorter { OnOk result (lens.new ≡ set lens.old (place_of file) (min (length_of lens.old file) len)) }
     ensures cut { OnOk result (V.tells → now (V.calls vol.new) file ≡ take len (now (V.calls vol.old) file)) }
     ensures others { OnOk result (V.tells → (f : ℕ) → is_data f ≡ true → (file ≡ f → ⊥) → now (V.calls vol.new) f ≡ now (V.calls vol.old) f) }
     ensures bound { V.bound vol.new ≡ true }

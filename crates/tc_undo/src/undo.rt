@@ -1,14 +1,12 @@
 //! The space over a volume and its undo log.
-ghost use Rattle.std.specs.Prelude.{◌≡◌, ◌≢◌, ◌+◌, ◌-◌, ◌^◌, ◌≤◌, ◌<◌, ◌⊎◌, ℕ, List, true, false, length, get_or, OnOk, OnErr, IfOk, IfErr, IsErrOf, Some, Option, Ok, Err, max, ◌∷◌};
-ghost use Rattle.tc_io.specs.Causes.{Rose};
-ghost use Rattle.tc_io.specs.Images.{now as reads_now, synced};
-ghost use Rattle.ud_log.specs.Undo.{all_short, data_of, is_data, length_of, recovered, undo};
+ghost use Rattle.std.specs.Prelude.{◌≡◌, ◌+◌, ◌-◌, ◌^◌, ◌≤◌, ◌<◌, ℕ, true, false, length, IfOk, IfErr, MatchResult, max};
+ghost use Rattle.tc_io.specs.Images.{now as reads_now};
+ghost use Rattle.ud_log.specs.Undo.{data_of, is_data, length_of, recovered};
 ghost use Rattle.ud_state.specs.Since.{Left};
-ghost use Rattle.ud_state.specs.State.{AreLens, IsSettled, IsValid};
-ghost use Rattle.ud_state.proofs.Recovery.{Recovers};
-ghost use Rattle.tc_undo.specs.Errors.{OnRule};
 ghost use Rattle.ud_state.proofs.Valid.{valid_only, left_earlier};
+ghost use Rattle.tc_undo.specs.Opening.{HandsBack, IsRefused, OpensKept};
 ghost use Rattle.tc_undo.specs.Room.{needs, log_end, stop_of};
+ghost use Rattle.tc_undo.specs.Usable.{IsUsable, usable_clean, usable_kept, usable_within};
 
 use crate::errors::{RecoverErr, UndoErr, Unopened};
 use crate::finish::finish;
@@ -30,6 +28,7 @@ pub struct Undo<V: Volume> {
     limits: [u64; 18],
     lens: [u64; 18],
     log: Log,
+    ghost bound: { V.bound vol ≡ true },
 }
 
 impl<V: Volume> Undo<V> {
@@ -39,20 +38,13 @@ impl<V: Volume> Undo<V> {
     pub fn open(vol: V, limit: u64) -> Result<Undo<V>, Unopened<V>>
         requires bound { V.bound vol ≡ true }
         requires limit { limit ≤ 2 ^ 40 }
-        ensures sound { IfOk result (λ u. (u.sound ≡ true) × (V.bound u.vol ≡ true) × (all_short u.lens ≡ true) × (all_short u.limits ≡ true) × (u.log.end ≤ 2 ^ 62) × (V.tells → IsValid u.log.active (V.calls u.vol) u.log.end u.log.recorded u.log.changed) × (V.tells → AreLens u.lens (reads_now (V.calls u.vol)))) }
-        ensures untouched { IfOk result (λ u. (u.touched ≡ false) × (u.read ≡ 0)) }
+        ensures sound { IfOk result (λ u. (u.sound ≡ true) × IsUsable V.tells (V.calls u.vol) u.touched u.log u.lens u.limits) }
+        ensures begins { IfOk result (λ u. (u.touched ≡ false) × (u.read ≡ 0)) }
         ensures limits { IfOk result (λ u. (f : ℕ) → is_data f ≡ true → length_of u.limits f ≡ max limit (length_of u.lens f)) }
-        ensures recovers { IfOk result (λ u. V.tells → IsSettled (V.calls vol) → Recovers (V.calls vol) (V.calls u.vol)) }
-        ensures undone { IfOk result (λ u. V.tells → undo (reads_now (V.calls vol) 1) (reads_now (V.calls vol)) ≡ Ok (data_of (reads_now (V.calls u.vol)))) }
-        ensures kept { IfOk result (λ u. V.tells → recovered (reads_now (V.calls u.vol)) ≡ Some (data_of (reads_now (V.calls u.vol)))) }
-        ensures names { IfOk result (λ u. V.names u.vol ≡ V.names vol) }
-        ensures recovers_err { IfErr result (λ r. V.tells → IsSettled (V.calls vol) → Recovers (V.calls vol) (V.calls r.vol)) }
-        ensures broken { IfErr result (λ r. OnRule r.why (λ rule. V.tells → (undo (reads_now (V.calls vol) 1) (reads_now (V.calls vol)) ≡ Err rule) × (V.calls r.vol ≡ (1, synced) ∷ V.calls vol))) }
-        ensures bound_err { IfErr result (λ r. V.bound r.vol ≡ true) }
-        ensures names_err { IfErr result (λ r. V.names r.vol ≡ V.names vol) }
-        ensures no_memory { IfErr result (λ r. r.why ≢ UndoErr.Memory) }
-        ensures later { IfOk result (λ u. V.faults vol ≤ V.faults u.vol) }
-        ensures cause { IfErr result (λ r. (V.faults vol ≤ V.faults r.vol) × (r.why ≡ UndoErr.Fault → Rose (V.faults vol) (V.faults r.vol))) }
+        ensures kept { IfOk result (λ u. V.tells → OpensKept (V.calls vol) (V.calls u.vol)) }
+        ensures refused { IfErr result (λ r. V.tells → IsRefused r.why (V.calls vol) (V.calls r.vol)) }
+        ensures names { MatchResult result (λ u. V.names u.vol ≡ V.names vol) (λ r. V.names r.vol ≡ V.names vol) }
+        ensures cause { MatchResult result (λ u. V.faults vol ≤ V.faults u.vol) (λ r. HandsBack r.why (V.bound r.vol) (V.faults vol) (V.faults r.vol)) }
     {
         let mut vol = vol;
         match restore(&mut vol) {
@@ -100,7 +92,7 @@ impl<V: Volume> Space for Undo<V> {
 
     ghost left = { λ s. Left (V.calls s.vol) };
 
-    ghost sound = { λ s. (s.sound ≡ true) × (V.bound s.vol ≡ true) × (all_short s.lens ≡ true) × (all_short s.limits ≡ true) × (s.log.end ≤ 2 ^ 62) × (V.tells → IsValid s.log.active (V.calls s.vol) s.log.end s.log.recorded s.log.changed) × (V.tells → AreLens s.lens (reads_now (V.calls s.vol))) };
+    ghost sound = { λ s. (s.sound ≡ true) × IsUsable V.tells (V.calls s.vol) s.touched s.log s.lens s.limits };
 
     ghost flag = { λ s. s.sound };
 
@@ -110,11 +102,21 @@ impl<V: Volume> Space for Undo<V> {
 
     ghost overfills = { λ s f at size. 2 ^ 62 < log_end s.log.active s.log.end + needs (stop_of s.log.active s.log.recorded s.lens f (at + size) - at) };
 
+    ghost names = { λ s. V.names s.vol };
+
+    ghost log_full = { λ s. V.tells → 2 ^ 61 ≤ length (reads_now (V.calls s.vol) 1) };
+
     ghost bytes_read = { λ s. s.read };
 
     ghost faults = { λ s. V.faults s.vol };
 
-    ghost only_kept = { λ s o t sound left. valid_only s.log.active (V.calls s.vol) s.log.end s.log.recorded s.log.changed (sound.5 t) o left };
+    ghost only_kept = { λ s o t sound left. valid_only s.log.active (V.calls s.vol) s.log.end s.log.recorded s.log.changed (sound.1.valid t) o left };
+
+    ghost keeps_files = { λ s t sound. usable_kept V.tells (V.calls s.vol) s.touched s.log s.lens s.limits t sound.1 };
+
+    ghost clean = { λ s t sound is. usable_clean V.tells (V.calls s.vol) s.touched s.log s.lens s.limits t sound.1 is };
+
+    ghost within = { λ s file t sound is. usable_within V.tells (V.calls s.vol) s.touched s.log s.lens s.limits t sound.1 file is };
 
     ghost earlier = { λ s t u o le left. left_earlier (V.calls s.vol) t u o le left };
 

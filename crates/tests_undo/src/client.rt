@@ -1,25 +1,24 @@
 //! A client of any space: a dozen writes over two files and one commit, proved from the clauses of `Space` alone.
-ghost use Rattle.std.specs.Prelude.{◌≡◌, ◌≢◌, ℕ, ◌≤◌, ◌⊎◌, false, [], OnOk, OnErr, IsErrOf, IsTrue, Option, Some};
+ghost use Rattle.std.specs.Prelude.{◌≡◌, ◌≢◌, ℕ, ◌⊎◌, [], OnOk, IsErrOf, IsTrue, Option, Some};
 ghost use Rattle.tc_base.specs.Files.{Files};
 ghost use Rattle.tc_io.specs.Causes.{Rose};
+ghost use Rattle.tc_space.specs.Effects.{Follows, Outcome};
 ghost use Rattle.tc_space.specs.Moments.{LeavesOnly, Steady};
 ghost use Rattle.tests_undo.specs.Client.{Holds, OthersStay, IsWritten, main_first, side_first, main_second, side_second, main_last, side_last};
 
 use tc_space::{Space, SpaceErr};
 
 // Both files begun.
-#[tactic(auto, using(tc_space::specs::Moments::steady_then, tc_space::specs::Moments::steady_refl))]
+#[tactic(auto, using(tc_space::specs::Moments::steady_then, tc_space::specs::Moments::steady_refl, tc_space::specs::Effects::follows_then, tc_space::specs::Effects::follows_refl))]
 fn begin<S: Space>(space: &mut S) -> Result<(), SpaceErr>
     requires sound { S.sound space.old }
     requires holds { Holds S.tells S.now [] [] space.old }
     ensures wrote { OnOk result (Holds S.tells S.now main_first side_first space.new) }
     ensures others { OnOk result (S.tells → OthersStay (S.now space.old) (S.now space.new)) }
     ensures steady { S.tells → Steady S.moment S.left S.kept space.old space.new }
-    ensures sound { OnOk result (S.sound space.new) }
-    ensures spoiled { OnErr result (S.flag space.new ≡ false) }
-    ensures later { S.faults space.old ≤ S.faults space.new }
-    ensures cause { IsErrOf result SpaceErr.Fault → Rose (S.faults space.old) (S.faults space.new) }
-    ensures no_memory { IsErrOf result SpaceErr.Memory → ⊥ }
+    ensures outcome { Outcome S.sound S.flag result space.new }
+    ensures follows { Follows S.faults S.limit S.names space.old space.new }
+    ensures cause { (IsErrOf result SpaceErr.Fault → Rose (S.faults space.old) (S.faults space.new)) × (IsErrOf result SpaceErr.Memory → ⊥) }
 {
     space.write(0, 0, b"one two")?;
     space.write(2, 0, b"aaaa")?;
@@ -29,18 +28,16 @@ fn begin<S: Space>(space: &mut S) -> Result<(), SpaceErr>
 }
 
 // Bytes within the files written over, and more behind them.
-#[tactic(auto, using(tc_space::specs::Moments::steady_then, tc_space::specs::Moments::steady_refl))]
+#[tactic(auto, using(tc_space::specs::Moments::steady_then, tc_space::specs::Moments::steady_refl, tc_space::specs::Effects::follows_then, tc_space::specs::Effects::follows_refl))]
 fn go_on<S: Space>(space: &mut S) -> Result<(), SpaceErr>
     requires sound { S.sound space.old }
     requires holds { Holds S.tells S.now main_first side_first space.old }
     ensures wrote { OnOk result (Holds S.tells S.now main_second side_second space.new) }
     ensures others { OnOk result (S.tells → OthersStay (S.now space.old) (S.now space.new)) }
     ensures steady { S.tells → Steady S.moment S.left S.kept space.old space.new }
-    ensures sound { OnOk result (S.sound space.new) }
-    ensures spoiled { OnErr result (S.flag space.new ≡ false) }
-    ensures later { S.faults space.old ≤ S.faults space.new }
-    ensures cause { IsErrOf result SpaceErr.Fault → Rose (S.faults space.old) (S.faults space.new) }
-    ensures no_memory { IsErrOf result SpaceErr.Memory → ⊥ }
+    ensures outcome { Outcome S.sound S.flag result space.new }
+    ensures follows { Follows S.faults S.limit S.names space.old space.new }
+    ensures cause { (IsErrOf result SpaceErr.Fault → Rose (S.faults space.old) (S.faults space.new)) × (IsErrOf result SpaceErr.Memory → ⊥) }
 {
     space.write(0, 4, b"TWO")?;
     space.write(2, 6, b"cc")?;
@@ -50,18 +47,16 @@ fn go_on<S: Space>(space: &mut S) -> Result<(), SpaceErr>
 }
 
 // The rest.
-#[tactic(auto, using(tc_space::specs::Moments::steady_then, tc_space::specs::Moments::steady_refl))]
+#[tactic(auto, using(tc_space::specs::Moments::steady_then, tc_space::specs::Moments::steady_refl, tc_space::specs::Effects::follows_then, tc_space::specs::Effects::follows_refl))]
 fn end<S: Space>(space: &mut S) -> Result<(), SpaceErr>
     requires sound { S.sound space.old }
     requires holds { Holds S.tells S.now main_second side_second space.old }
     ensures wrote { OnOk result (Holds S.tells S.now main_last side_last space.new) }
     ensures others { OnOk result (S.tells → OthersStay (S.now space.old) (S.now space.new)) }
     ensures steady { S.tells → Steady S.moment S.left S.kept space.old space.new }
-    ensures sound { OnOk result (S.sound space.new) }
-    ensures spoiled { OnErr result (S.flag space.new ≡ false) }
-    ensures later { S.faults space.old ≤ S.faults space.new }
-    ensures cause { IsErrOf result SpaceErr.Fault → Rose (S.faults space.old) (S.faults space.new) }
-    ensures no_memory { IsErrOf result SpaceErr.Memory → ⊥ }
+    ensures outcome { Outcome S.sound S.flag result space.new }
+    ensures follows { Follows S.faults S.limit S.names space.old space.new }
+    ensures cause { (IsErrOf result SpaceErr.Fault → Rose (S.faults space.old) (S.faults space.new)) × (IsErrOf result SpaceErr.Memory → ⊥) }
 {
     space.write(0, 8, b"THREE, four")?;
     space.write(2, 11, b"e")?;
@@ -71,18 +66,16 @@ fn end<S: Space>(space: &mut S) -> Result<(), SpaceErr>
 }
 
 // All that is written: before a commit a stop leaves what was kept.
-#[tactic(auto, using(tc_space::specs::Moments::steady_then, tc_space::specs::Moments::steady_refl))]
+#[tactic(auto, using(tc_space::specs::Moments::steady_then, tc_space::specs::Moments::steady_refl, tc_space::specs::Effects::follows_then, tc_space::specs::Effects::follows_refl))]
 fn write_all<S: Space>(space: &mut S) -> Result<(), SpaceErr>
     requires sound { S.sound space.old }
     requires holds { Holds S.tells S.now [] [] space.old }
     ensures wrote { OnOk result (Holds S.tells S.now main_last side_last space.new) }
     ensures others { OnOk result (S.tells → OthersStay (S.now space.old) (S.now space.new)) }
     ensures steady { S.tells → Steady S.moment S.left S.kept space.old space.new }
-    ensures sound { OnOk result (S.sound space.new) }
-    ensures spoiled { OnErr result (S.flag space.new ≡ false) }
-    ensures later { S.faults space.old ≤ S.faults space.new }
-    ensures cause { IsErrOf result SpaceErr.Fault → Rose (S.faults space.old) (S.faults space.new) }
-    ensures no_memory { IsErrOf result SpaceErr.Memory → ⊥ }
+    ensures outcome { Outcome S.sound S.flag result space.new }
+    ensures follows { Follows S.faults S.limit S.names space.old space.new }
+    ensures cause { (IsErrOf result SpaceErr.Fault → Rose (S.faults space.old) (S.faults space.new)) × (IsErrOf result SpaceErr.Memory → ⊥) }
 {
     begin(space)?;
     go_on(space)?;
@@ -92,7 +85,7 @@ fn write_all<S: Space>(space: &mut S) -> Result<(), SpaceErr>
 
 /// Writes both files and commits. A stop leaves what was kept or all that is written, and the latter alone once it answers `Ok`.
 /// A refusal leaves what was kept, or in the commit either, and spoils the space.
-#[tactic(auto, using(tc_space::specs::Moments::steady_then, tc_space::specs::Moments::steady_refl))]
+#[tactic(auto, using(tc_space::specs::Moments::steady_then, tc_space::specs::Moments::steady_refl, tc_space::specs::Effects::follows_then, tc_space::specs::Effects::follows_refl))]
 pub fn store<S: Space>(space: &mut S) -> Result<(), SpaceErr>
     requires sound { S.sound space.old }
     requires holds { Holds S.tells S.now [] [] space.old }
@@ -101,10 +94,9 @@ pub fn store<S: Space>(space: &mut S) -> Result<(), SpaceErr>
     ensures kept { OnOk result (S.tells → S.kept space.new ≡ Some (S.now space.new)) }
     ensures stops { S.tells → LeavesOnly S.moment S.left space.old space.new (λ o. (o ≡ S.kept space.old) ⊎ IsWritten (S.now space.old) o) }
     ensures after { OnOk result (S.tells → (o : Option Files) → S.left space.new (S.moment space.new) o → o ≡ Some (S.now space.new)) }
-    ensures sound { OnOk result (S.sound space.new) }
-    ensures spoiled { OnErr result (S.flag space.new ≡ false) }
-    ensures cause { IsErrOf result SpaceErr.Fault → Rose (S.faults space.old) (S.faults space.new) }
-    ensures no_memory { IsErrOf result SpaceErr.Memory → ⊥ }
+    ensures outcome { Outcome S.sound S.flag result space.new }
+    ensures follows { Follows S.faults S.limit S.names space.old space.new }
+    ensures cause { (IsErrOf result SpaceErr.Fault → Rose (S.faults space.old) (S.faults space.new)) × (IsErrOf result SpaceErr.Memory → ⊥) }
 {
     write_all(space)?;
     space.commit()?;

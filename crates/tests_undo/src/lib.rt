@@ -7,8 +7,12 @@ mod client;
 #[cfg(test)]
 mod clients;
 #[cfg(test)]
+mod counted;
+#[cfg(test)]
 mod logs;
 #[cfg(test)]
 mod stops;
+#[cfg(test)]
+mod syncs;
 #[cfg(test)]
 mod transactions;

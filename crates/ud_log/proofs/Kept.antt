@@ -3,7 +3,7 @@ use Rattle.std.proofs.Common.{◌≡◌, ◌⊎◌, inl, inr, ⊎_elim, ℕ, ◌
 use Rattle.std.proofs.lemmas.List.{ext_get_or}
 use Rattle.std.proofs.lemmas.Bool.{cases_lt}
 use Rattle.tc_base.specs.Files.{resized}
-use Rattle.ud_log.specs.Entries.{Entry, put_back, undone, Inside, Covers}
+use Rattle.ud_log.specs.Entries.{Entry, put_back, undone, Inside, Covers, Stands, Holds}
 use Rattle.ud_log.proofs.Places.{wrote_before, wrote_inside, wrote_behind, length-resized, resized_at, length-put_back}
 
 -- a place is before a range, in it or behind it
@@ -51,14 +51,6 @@ put_back_or n (e ∷ es) x p fits lx =
       | inside low high ↦ inl (inl (low, high))
       | behind high ↦ ⊎_elim (λ h. inl (inr h)) (λ h. inr (wrote_behind e.at e.bytes (put_back es x) p bx high ∙ h)) (put_back_or n es x p fits.1 lx)
     ]
-
--- each place has an entry, or an image has there what the kept file has
-abbrev pub Stands : List Entry → List ℕ → List ℕ → Type 0
-Stands es kept image = (p : ℕ) → p < length kept → Covers es p ⊎ (get_or image p 0 ≡ get_or kept p 0)
-
--- the entries give the kept file's bytes at each place that they have
-abbrev pub Holds : List Entry → List ℕ → Type 0
-Holds es kept = (p : ℕ) → p < length kept → Covers es p → (x : List ℕ) → length x ≡ length kept → get_or (put_back es x) p 0 ≡ get_or kept p 0
 
 pub gives_kept : (es : List Entry) (kept image : List ℕ) → Inside (length kept) es → Holds es kept → Stands es kept image → undone (length kept) es image ≡ kept
 gives_kept es kept image fits holds stands =

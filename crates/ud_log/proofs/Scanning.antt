@@ -6,6 +6,7 @@ use Rattle.std.proofs.lemmas.Bool.Decides.{nat_tests}
 use Rattle.std.proofs.Math.Seq.{take-add}
 use Rattle.tc_base.specs.Bytes.{IsBytes}
 use Rattle.ud_log.specs.Entries.{Entry}
+use Rattle.ud_log.specs.Scan.{Scanned, ScannedAll}
 use Rattle.ud_log.specs.Log.{spelled, number, magic, entry_bytes, entries_bytes, numbers_in, entry_at, entries_in, lengths, entries}
 use Rattle.ud_log.specs.Undo.{length_of, agrees, all_short, is_formed, all_formed, all_inside, rule, nothing, undoes, broken, log_of}
 use Rattle.ud_log.proofs.Codec.{step, stop, length-entry}
@@ -65,24 +66,6 @@ entry_spelled l s front back fits is =
             ap (λ j. take n (drop k (take j l))) split ∙ ap (λ (x : List ℕ). take n x) (drop-take k (16 - k) l) ∙ take-take n (16 - k) (drop k l) (omega (arith, le))
 
 -- ---- the scan
-
--- the entries from place 152 to this one are whole and well formed, and this says whether each ends inside its file
-pub record Scanned (log lens : List ℕ) (place : ℕ) (fine : Bool) : Type 0 where
-  pub done : List Entry
-  pub most : ℕ
-  pub spelled : drop 152 log ≡ entries_bytes done ++ drop place log
-  pub there : place ≡ 152 + length (entries_bytes done)
-  pub parts : entries log ≡ done ++ entries_in most (drop place log)
-  pub formed : all_formed done ≡ true
-  pub inside : all_inside lens done ≡ fine
-  pub enough : length log ≤ place + most
-
--- the same of all whole entries
-pub record ScannedAll (log lens : List ℕ) (place : ℕ) (fine : Bool) : Type 0 where
-  pub spelled : drop 152 log ≡ entries_bytes (entries log) ++ drop place log
-  pub there : place ≡ 152 + length (entries_bytes (entries log))
-  pub formed : all_formed (entries log) ≡ true
-  pub inside : all_inside lens (entries log) ≡ fine
 
 pub scan_start : (log lens : List ℕ) → Scanned log lens 152 true
 scan_start log lens = record { done = []; most = length log; spelled = refl; there = refl; parts = refl; formed = refl; inside = refl; enough = omega arith }

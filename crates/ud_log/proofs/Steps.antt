@@ -3,10 +3,10 @@ use Rattle.std.proofs.Common.{◌≡◌, ◌⊎◌, inl, inr, ⊎_elim, ℕ, zer
 use Rattle.std.proofs.lemmas.List.{get_or-take, get_or-drop, get_or_past, get_or-replicate, length-replicate}
 use Rattle.std.proofs.lemmas.Bool.{cases_lt}
 use Rattle.tc_base.specs.Files.{wrote}
-use Rattle.ud_log.specs.Entries.{Entry, put_back, Inside, Covers}
+use Rattle.ud_log.specs.Entries.{Entry, put_back, Inside, Covers, Stands, Holds}
 use Rattle.tc_io.specs.Images.{Torn}
 use Rattle.ud_log.proofs.Places.{length-wrote, wrote_inside}
-use Rattle.ud_log.proofs.Kept.{before, inside, behind, place, put_back_or, Stands, Holds}
+use Rattle.ud_log.proofs.Kept.{before, inside, behind, place, put_back_or}
 
 pub torn_length : (at : ℕ) (bytes i j : List ℕ) → at ≤ length i → Torn at bytes i j → length j - length i ≤ length bytes - (length i - at)
 torn_length at bytes i j le torn =

@@ -90,14 +90,15 @@ short_now cs kept es tx f = short_of (cases_Bool (is_data f))
     short_of (inr is) = subst (λ b. length (cond b (now cs f) []) ≤ 2 ^ 40) (sym is) (omega arith)
 
 -- the log is being cut, with all data files on the disk
-pub cut_undo : (cs : Calls) (kept : Files) (es : List Entry) → Tx cs kept es → ((f : ℕ) → is_data f ≡ true → Durable cs f) → (ims : Files) → Images ((1, cut_to 0) ∷ cs) ims
-    → (recovered ims ≡ Some kept) ⊎ (recovered ims ≡ Some (data_of (now cs)))
-cut_undo cs kept es tx durable ims are =
-    let from = are 1 in
-    let d = data_log cs kept es (cut_to 0) tx.files in
-    ⊎_elim (λ same. inl (data_gives _ kept es d ims are (ap log_of (same ∙ tx.only from.0 from.1) ∙ log_done kept es tx.files.short tx.files.good)))
-    (λ cut. inr (with_nothing (data_of (now cs)) ims (short_now cs kept es tx) (λ f isd. ap (λ b. cond b (now cs f) []) isd) (λ f isd. durable f isd (ims f) (log_image cs (cut_to 0) f (ims f) isd (are f)) ∙ sym (ap (λ b. cond b (now cs f) []) isd)) (ap log_of cut ∙ log_nothing kept)))
-    from.2
+module _ (cs : Calls) (kept : Files) (es : List Entry) (tx : Tx cs kept es) where
+  pub cut_log : (i : List ℕ) → Image (of 1 ((1, cut_to 0) ∷ cs)) i → (i ≡ log_bytes kept es) ⊎ (i ≡ [])
+  cut_log i from = ⊎_elim (λ same. inl (same ∙ tx.only from.0 from.1)) (λ cut. inr cut) from.2
+
+  pub cut_kept : (ims : Files) → Images ((1, cut_to 0) ∷ cs) ims → ims 1 ≡ log_bytes kept es → recovered ims ≡ Some kept
+  cut_kept ims are is = data_gives _ kept es (data_log cs kept es (cut_to 0) tx.files) ims are (ap log_of is ∙ log_done kept es tx.files.short tx.files.good)
+
+  pub cut_gone : ((f : ℕ) → is_data f ≡ true → Durable cs f) → (ims : Files) → Images ((1, cut_to 0) ∷ cs) ims → ims 1 ≡ [] → recovered ims ≡ Some (data_of (now cs))
+  cut_gone durable ims are is = with_nothing (data_of (now cs)) ims (short_now cs kept es tx) (λ f isd. ap (λ b. cond b (now cs f) []) isd) (λ f isd. durable f isd (ims f) (log_image cs (cut_to 0) f (ims f) isd (are f)) ∙ sym (ap (λ b. cond b (now cs f) []) isd)) (ap log_of is ∙ log_nothing kept)
 
 -- the cut is on the disk
 pub cut_idle : (cs : Calls) (kept : Files) (es : List Entry) → Tx cs kept es → ((f : ℕ) → is_data f ≡ true → Durable cs f) → Idle ((1, synced) ∷ (1, cut_to 0) ∷ cs) (data_of (now cs))

@@ -10,3 +10,4 @@ pub mod Changing
 pub mod PuttingBack
 pub mod Valid
 pub mod Recovery
+pub mod Leaving

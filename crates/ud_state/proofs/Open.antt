@@ -3,12 +3,11 @@ use Rattle.std.proofs.Common.{◌≡◌, ◌⊎◌, inl, inr, ⊎_elim, ℕ, zer
 use Rattle.std.proofs.lemmas.List.{places, take_all, drop_all, append-nil}
 use Rattle.std.proofs.lemmas.Bool.{cases_lt, cases_eq}
 use Rattle.std.proofs.lemmas.Bool.Decides.{nat_tests}
-use Rattle.ud_log.specs.Entries.{Entry, Covers}
+use Rattle.ud_log.specs.Entries.{Entry, Covers, Stands}
 use Rattle.tc_base.specs.Files.{wrote, Files}
 use Rattle.tc_io.specs.Images.{Torn, Step, written, cut_to, synced, reads, Image, Calls, of, now, Images}
 use Rattle.ud_log.specs.Log.{entry_bytes, entries_bytes}
 use Rattle.ud_log.proofs.Places.{wrote_before, wrote_behind}
-use Rattle.ud_log.proofs.Kept.{Stands}
 use Rattle.ud_log.proofs.Steps.{cut_stands, covers_more, covers_last}
 use Rattle.ud_log.specs.Good.{IsGood}
 use Rattle.ud_state.specs.State.{Data, AllUndo, Pending, Tx, Logged}

@@ -7,40 +7,16 @@ use Rattle.tc_base.specs.Files.{Files, wrote}
 use Rattle.tc_io.specs.Images.{written, reads, Calls, of, now, Images, IsLost}
 use Rattle.ud_log.specs.Entries.{Entry, put_back}
 use Rattle.ud_log.specs.Log.{entry_bytes, entries_bytes, entries}
-use Rattle.ud_log.specs.Undo.{is_data, is_formed, of_file}
-use Rattle.ud_log.specs.Grammar.{Fits}
+use Rattle.ud_log.specs.Undo.{of_file}
 use Rattle.ud_log.proofs.Codec.{length-entry}
 use Rattle.ud_log.proofs.Places.{length-wrote}
+use Rattle.ud_state.specs.Recovery.{CanPut, AllCanPut, CanPutBack, Restored}
 use Rattle.ud_state.specs.State.{Replay}
 use Rattle.ud_state.specs.Since.{Quiet}
 use Rattle.ud_state.proofs.Transaction.{of-same, of-other}
 use Rattle.ud_state.proofs.Taken.{quiet_made, quiet_lost}
 use Rattle.ud_state.proofs.Replaying.{replay_undo, back_replay}
 use Rattle.ud_state.proofs.Runs.{not_log}
-
--- an entry that may be put back over these files
-pub record CanPut (cs : Calls) (e : Entry) : Type 0 where
-  pub formed : is_formed e ≡ true
-  pub is_data : is_data e.file ≡ true
-  pub fits : Fits e
-  pub inside : e.at + length e.bytes ≤ length (now cs e.file)
-
-abbrev pub AllCanPut : Calls → List Entry → Type 0
-AllCanPut cs [] = Unit {0}
-AllCanPut cs (e ∷ es) = CanPut cs e × AllCanPut cs es
-
--- the log's whole entries end at this place, and each may be put back
-pub record CanPutBack (cs : Calls) (end : ℕ) : Type 0 where
-  pub spelled : drop 152 (now cs 1) ≡ entries_bytes (entries (now cs 1)) ++ drop end (now cs 1)
-  pub there : end ≡ 152 + length (entries_bytes (entries (now cs 1)))
-  pub long : 152 ≤ length (now cs 1)
-  pub can : AllCanPut cs (entries (now cs 1))
-
--- these entries were put back
-pub record Restored (start cs : Calls) (es : List Entry) : Type 0 where
-  pub log : of 1 cs ≡ of 1 start
-  pub reads : (f : ℕ) → is_data f ≡ true → now cs f ≡ put_back (of_file f es) (now start f)
-  pub replay : (files : Files) (lens : List ℕ) → Replay start files lens (entries (now start 1)) → Replay cs files lens (entries (now start 1))
 
 -- those behind this place of the log were put back
 pub record Restores (start cs : Calls) (at : ℕ) : Type 0 where

@@ -1,5 +1,6 @@
 -- Recovery from the first sync to the empty log, stopped anywhere and run again.
 use Rattle.std.proofs.Common.{◌≡◌, ◌⊎◌, inl, inr, ⊎_elim, ℕ, ◌+◌, ◌^◌, ◌≤◌, List, [], ◌∷◌, ◌++◌, length, take, drop, refl, sym, ◌∙◌, ap, subst, arith, true, false, Bool, cond, ◌&&◌, nat_eq, nat_le, Option, Some, None}
+use Rattle.ud_log.specs.Scan.{ScannedAll}
 use Rattle.std.proofs.lemmas.Bool.{cases_Bool, and_parts}
 use Rattle.std.proofs.lemmas.Bool.Decides.{nat_tests}
 use Rattle.tc_base.specs.Files.{Files, resized}
@@ -9,34 +10,14 @@ use Rattle.ud_log.specs.Log.{entries, entries_bytes}
 use Rattle.ud_log.specs.Undo.{is_data, place_of, length_of, is_formed, all_short, all_formed, all_inside, nothing, undoes, log_of, data_of, recovered}
 use Rattle.ud_log.proofs.Logs.{data_below}
 use Rattle.ud_log.proofs.Places.{length-resized}
-use Rattle.ud_log.proofs.Scanning.{ScannedAll}
 use Rattle.ud_state.specs.State.{AllUndo, Idle, Replay, Durable, AreLens, IsSettled}
+use Rattle.ud_state.specs.Recovery.{StaysSettled, not_yet, since, Recovers, Ready, CanPut, AllCanPut, CanPutBack}
 use Rattle.ud_state.specs.Since.{Since, here, more, Leaves, Calm, Quiet, since_as}
 use Rattle.ud_state.proofs.Taken.{lost_image, quiet_made, quiet_lost, calm_undo}
 use Rattle.ud_state.proofs.Ends.{with_nothing, log_nothing}
 use Rattle.ud_state.proofs.Replaying.{replay_undo, cut_result, emptied, sync_log_calm, short_at}
 use Rattle.ud_state.proofs.Transaction.{of-other}
 use Rattle.ud_state.proofs.Runs.{sync_reads, not_log}
-use Rattle.ud_state.proofs.PuttingBack.{CanPut, AllCanPut, CanPutBack}
-
--- ---- what the contract of recovery says
-
--- each image undoes to what some image of an earlier moment undid to
-pub record Leads (old cs : Calls) : Type 0 where
-  pub from : (ims : Files) → Images cs ims → (jms : Files) × Images old jms × (recovered ims ≡ recovered jms)
-
-pub record StaysSettled (old cs : Calls) : Type 0 where
-  pub settled : IsSettled cs
-  pub leads : Leads old cs
-
--- the log wasn't brought to the disk; or it was first of all, and from then on each image undoes to what the files as they then read undid to
-pub data FromTheSync (old new : Calls) : Type 0 where
-  not_yet : IsLostSync old new 1 → FromTheSync old new
-  since : Quiet ((1, synced) ∷ old) new → FromTheSync old new
-
-pub record Recovers (old new : Calls) : Type 0 where
-  pub moments : Since (StaysSettled old) old new
-  pub from : FromTheSync old new
 
 calm_settled : (cs : Calls) (files : Files) → (w : Option Files) → w ≡ Some files → Leaves (λ o. o ≡ w) cs → IsSettled cs
 calm_settled cs files w is all = record {
@@ -126,13 +107,6 @@ can_put_back old cs lens end sc short long same files =
     }
 
 -- ---- the end
-
--- the log may go: each image undoes to these files, with the log or without it
-pub record Ready (cs : Calls) (files : Files) : Type 0 where
-  pub undo : AllUndo cs files
-  pub cut : AllUndo ((1, cut_to 0) ∷ cs) files
-  pub gone : Idle ((1, synced) ∷ (1, cut_to 0) ∷ cs) files
-  pub empty : length (now cs 1) ≡ 0 → Idle cs files
 
 none_left : (l : List ℕ) → length l ≡ 0 → l ≡ []
 none_left [] is = refl

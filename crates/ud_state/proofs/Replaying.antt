@@ -1,13 +1,13 @@
 -- Recovery: each step of it keeps what the files are recovered to.
-use Rattle.std.proofs.Common.{◌≡◌, ◌⊎◌, inl, inr, ⊎_elim, ℕ, zero, suc, ◌+◌, ◌^◌, ◌<◌, ◌≤◌, List, [], ◌∷◌, ◌++◌, length, replicate, get_or, refl, sym, ◌∙◌, ap, subst, arith, true, false, Bool, cond, Some, nat_eq, nat_le, ◌&&◌}
+use Rattle.std.proofs.Common.{◌≡◌, ◌⊎◌, inl, inr, ⊎_elim, ℕ, zero, suc, ◌+◌, ◌^◌, ◌<◌, ◌≤◌, List, [], ◌∷◌, ◌++◌, length, replicate, get_or, refl, sym, ◌∙◌, ap, subst, arith, true, false, Bool, cond, Some, nat_eq, nat_le}
 use Rattle.std.proofs.lemmas.Bool.{cases_lt, cases_eq, cases_Bool, and_parts}
 use Rattle.std.proofs.lemmas.List.{length-replicate}
 use Rattle.std.proofs.lemmas.Bool.Decides.{nat_tests}
 use Rattle.tc_base.specs.Files.{Files, resized}
 use Rattle.tc_io.specs.Images.{Torn, Step, written, synced, cut_to, reads, Image, Calls, of, now, Images}
-use Rattle.ud_log.specs.Entries.{Entry, Inside, Covers, undone}
+use Rattle.ud_log.specs.Entries.{Entry, Inside, Covers, undone, Stands}
 use Rattle.ud_log.proofs.Places.{length-put_back, length-resized}
-use Rattle.ud_log.proofs.Kept.{Stands, gives_kept, holds_of, stands_of}
+use Rattle.ud_log.proofs.Kept.{gives_kept, holds_of, stands_of}
 use Rattle.ud_log.proofs.Steps.{torn_stands, zeros_stand, cut_stands, torn_length}
 use Rattle.ud_log.specs.Good.{AllShort}
 use Rattle.ud_log.specs.Undo.{is_data, length_of, place_of, of_file, all_short, all_inside, Log, nothing, undoes, log_of, undone_all, by_log, files_of, recovered}

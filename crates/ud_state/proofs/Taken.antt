@@ -15,25 +15,26 @@ lost_image cs f g r i image = ⊎_elim
     (λ other. subst (λ (l : List Step). Image l i) (of-other f g (lost r) cs other) image)
     (cases_eq f g)
 
-lost_leaves : (P : Option Files → Type 0) (cs : Calls) (f : ℕ) (r : List ℕ) → Leaves P cs → Leaves P ((f, lost r) ∷ cs)
+pub lost_leaves : (P : Option Files → Type 0) (cs : Calls) (f : ℕ) (r : List ℕ) → Leaves P cs → Leaves P ((f, lost r) ∷ cs)
 lost_leaves P cs f r all ims are = all ims (λ g. lost_image cs f g r (ims g) (are g))
 
-module _ (P : Option Files → Type 0) (cs c1 : Calls) where
-  pub since_made : (c : ℕ × Step) → c1 ≡ c ∷ cs → Leaves P (c ∷ cs) → Since (Leaves P) cs c1
-  since_made c is leaves = subst (λ (d : Calls). Since (Leaves P) cs d) (sym is) (more c cs here leaves)
+-- Q holds after a call, and a failure keeps it
+module _ (Q : Calls → Type 0) (fails : (ds : Calls) (f : ℕ) (r : List ℕ) → Q ds → Q ((f, lost r) ∷ ds)) (cs c1 : Calls) where
+  pub since_made : (c : ℕ × Step) → c1 ≡ c ∷ cs → Q (c ∷ cs) → Since Q cs c1
+  since_made c is leaves = subst (λ (d : Calls). Since Q cs d) (sym is) (more c cs here leaves)
 
-  pub since_none : c1 ≡ cs → Since (Leaves P) cs c1
-  since_none is = subst (λ (c : Calls). Since (Leaves P) cs c) (sym is) here
+  pub since_none : c1 ≡ cs → Since Q cs c1
+  since_none is = subst (λ (c : Calls). Since Q cs c) (sym is) here
 
-  pub since_lost : (f : ℕ) (s : Step) → IsLost cs c1 f s → Leaves P ((f, s) ∷ cs) → Since (Leaves P) cs c1
+  pub since_lost : (f : ℕ) (s : Step) → IsLost cs c1 f s → Q ((f, s) ∷ cs) → Since Q cs c1
   since_lost f s is leaves = ⊎_elim since_none
-      (λ (was : WasLost cs c1 f s). subst (λ (c : Calls). Since (Leaves P) cs c) (sym was.is)
-      (more (f, lost was.reads) ((f, s) ∷ cs) (more (f, s) cs here leaves) (lost_leaves P ((f, s) ∷ cs) f was.reads leaves)))
+      (λ (was : WasLost cs c1 f s). subst (λ (c : Calls). Since Q cs c) (sym was.is)
+      (more (f, lost was.reads) ((f, s) ∷ cs) (more (f, s) cs here leaves) (fails ((f, s) ∷ cs) f was.reads leaves)))
       is
 
-  pub since_lost_sync : (f : ℕ) → IsLostSync cs c1 f → Leaves P cs → Since (Leaves P) cs c1
+  pub since_lost_sync : (f : ℕ) → IsLostSync cs c1 f → Q cs → Since Q cs c1
   since_lost_sync f is leaves = ⊎_elim since_none
-      (λ (was : WasLostSync cs c1 f). subst (λ (c : Calls). Since (Leaves P) cs c) (sym was.is) (more (f, lost was.reads) cs here (lost_leaves P cs f was.reads leaves)))
+      (λ (was : WasLostSync cs c1 f). subst (λ (c : Calls). Since Q cs c) (sym was.is) (more (f, lost was.reads) cs here (fails cs f was.reads leaves)))
       is
 
 -- what was kept is what the files as they read are recovered to
@@ -51,13 +52,13 @@ module _ (cs c1 : Calls) (image : Images cs (now cs)) (image1 : Images c1 (now c
   is_now = before (now cs) image
 
   pub quiet_made : (f : ℕ) (s : Step) → c1 ≡ (f, s) ∷ cs → AllUndo ((f, s) ∷ cs) kept → Quiet cs c1
-  quiet_made f s is all = quiet_since cs c1 image1 (since_made (λ o. o ≡ recovered (now cs)) cs c1 (f, s) is (as_now cs ((f, s) ∷ cs) kept is_now all))
+  quiet_made f s is all = quiet_since cs c1 image1 (since_made (Leaves (λ o. o ≡ recovered (now cs))) (lost_leaves (λ o. o ≡ recovered (now cs))) cs c1 (f, s) is (as_now cs ((f, s) ∷ cs) kept is_now all))
 
   pub quiet_lost : (f : ℕ) (s : Step) → IsLost cs c1 f s → AllUndo ((f, s) ∷ cs) kept → Quiet cs c1
-  quiet_lost f s is all = quiet_since cs c1 image1 (since_lost (λ o. o ≡ recovered (now cs)) cs c1 f s is (as_now cs ((f, s) ∷ cs) kept is_now all))
+  quiet_lost f s is all = quiet_since cs c1 image1 (since_lost (Leaves (λ o. o ≡ recovered (now cs))) (lost_leaves (λ o. o ≡ recovered (now cs))) cs c1 f s is (as_now cs ((f, s) ∷ cs) kept is_now all))
 
   pub quiet_lost_sync : (f : ℕ) → IsLostSync cs c1 f → Quiet cs c1
-  quiet_lost_sync f is = quiet_since cs c1 image1 (since_lost_sync (λ o. o ≡ recovered (now cs)) cs c1 f is (as_now cs cs kept is_now before))
+  quiet_lost_sync f is = quiet_since cs c1 image1 (since_lost_sync (Leaves (λ o. o ≡ recovered (now cs))) (lost_leaves (λ o. o ≡ recovered (now cs))) cs c1 f is (as_now cs cs kept is_now before))
 
 -- a sync of any file where each image is recovered to the same
 module _ (cs c1 : Calls) (image : Images cs (now cs)) (image1 : Images c1 (now c1)) (calm : Calm cs) (f : ℕ) where
@@ -74,7 +75,7 @@ module _ (cs c1 : Calls) (image : Images cs (now cs)) (image1 : Images c1 (now c
   synced_leaves ims are = calm.all ims (λ g. synced_image g (ims g) (are g))
 
   pub quiet_synced : c1 ≡ (f, synced) ∷ cs → Quiet cs c1
-  quiet_synced is = quiet_since cs c1 image1 (since_made (λ o. o ≡ recovered (now cs)) cs c1 (f, synced) is synced_leaves)
+  quiet_synced is = quiet_since cs c1 image1 (since_made (Leaves (λ o. o ≡ recovered (now cs))) (lost_leaves (λ o. o ≡ recovered (now cs))) cs c1 (f, synced) is synced_leaves)
 
   pub quiet_not_synced : IsLostSync cs c1 f → Quiet cs c1
-  quiet_not_synced is = quiet_since cs c1 image1 (since_lost_sync (λ o. o ≡ recovered (now cs)) cs c1 f is calm.all)
+  quiet_not_synced is = quiet_since cs c1 image1 (since_lost_sync (Leaves (λ o. o ≡ recovered (now cs))) (lost_leaves (λ o. o ≡ recovered (now cs))) cs c1 f is calm.all)

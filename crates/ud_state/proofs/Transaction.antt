@@ -2,10 +2,10 @@
 use Rattle.std.proofs.Common.{◌≡◌, ◌⊎◌, inl, inr, ⊎_elim, ℕ, ◌+◌, ◌<◌, ◌≤◌, List, [], ◌∷◌, ◌++◌, length, take, drop, refl, sym, ◌∙◌, ap, subst, arith, true, false, Bool, nat_eq, cond, Some}
 use Rattle.std.proofs.lemmas.Bool.{cases_eq, cases_Bool}
 use Rattle.std.proofs.lemmas.Bool.Decides.{nat_tests}
-use Rattle.ud_log.specs.Entries.{Entry, Inside, Covers, undone}
+use Rattle.ud_log.specs.Entries.{Entry, Inside, Covers, undone, Stands, Holds}
 use Rattle.tc_base.specs.Files.{Files}
 use Rattle.tc_io.specs.Images.{Step, written, cut_to, synced, lost, Image, Calls, of, now, Images}
-use Rattle.ud_log.proofs.Kept.{Stands, Holds, gives_kept}
+use Rattle.ud_log.proofs.Kept.{gives_kept}
 use Rattle.ud_log.proofs.Steps.{torn_stands, cut_stands, stands_more, holds_more}
 use Rattle.ud_log.specs.Good.{IsGood, AllGood}
 use Rattle.ud_state.specs.State.{Data}

@@ -2,10 +2,11 @@
 use Rattle.std.proofs.Common.{◌≡◌, ◌⊎◌, inl, inr, ⊎_elim, ℕ, ◌≤◌, List, [], ◌∷◌, length, Bool, true, false, cond, Option, Some, arith, sym, subst, ap, ◌∙◌}
 use Rattle.std.proofs.lemmas.Bool.{cases_Bool}
 use Rattle.tc_base.specs.Files.{Files}
-use Rattle.tc_io.specs.Images.{Calls, now, Images, ImagesSince}
+use Rattle.tc_io.specs.Images.{Calls, now, Images}
 use Rattle.ud_log.specs.Undo.{is_data, data_of, recovered}
-use Rattle.ud_state.specs.State.{Idle, IsValid, AreLens}
-use Rattle.ud_state.specs.Since.{Left}
+use Rattle.ud_state.specs.State.{Idle, IsOpen, IsValid, AreLens}
+use Rattle.ud_state.specs.Since.{Left, LeftSince}
+use Rattle.ud_state.proofs.Leaving.{all_left, left_now}
 use Rattle.ud_state.proofs.Open.{tx_undo}
 use Rattle.ud_state.proofs.Ends.{tx_now, idle_now, idle_undo}
 
@@ -13,19 +14,15 @@ valid_undo : (b : Bool) (cs : Calls) (end : ℕ) (recorded : List ℕ) (changed 
 valid_undo true cs end recorded changed v ims are = tx_undo cs v.kept v.es v.tx ims are ∙ sym (tx_now cs v.kept v.es v.tx)
 valid_undo false cs end recorded changed v ims are = idle_undo cs (data_of (now cs)) v ims are ∙ sym (idle_now cs (data_of (now cs)) v)
 
-at_moment : (cs : Calls) (ims : Files) → ImagesSince cs (length cs) ims → Images cs ims
-at_moment [] ims some = some
-at_moment (c ∷ cs) ims some = ⊎_elim (λ at_once. at_once) (λ earlier. absurd (omega (arith, earlier.0))) some
-
 pub valid_only : (b : Bool) (cs : Calls) (end : ℕ) (recorded : List ℕ) (changed : List Bool) → IsValid b cs end recorded changed → (o : Option Files) → Left cs (length cs) o → o ≡ recovered (now cs)
-valid_only b cs end recorded changed v o left = left.is ∙ valid_undo b cs end recorded changed v left.images (at_moment cs left.images left.some)
+valid_only b cs end recorded changed v o left = all_left (recovered (now cs)) cs (valid_undo b cs end recorded changed v) o (left_now cs o left.is)
 
-earlier_images : (cs : Calls) (t u : ℕ) (ims : Files) → t ≤ u → ImagesSince cs u ims → ImagesSince cs t ims
-earlier_images [] t u ims le some = some
-earlier_images (c ∷ cs) t u ims le some = ⊎_elim (λ at_once. inl at_once) (λ older. inr (omega (arith, le, older.0), earlier_images cs t u ims le older.1)) some
+earlier_left : (cs : Calls) (t u : ℕ) (o : Option Files) → t ≤ u → LeftSince cs u o → LeftSince cs t o
+earlier_left [] t u o le left = left
+earlier_left (c ∷ cs) t u o le left = ⊎_elim (λ at_once. inl at_once) (λ older. inr (omega (arith, le, older.0), earlier_left cs t u o le older.1)) left
 
 pub left_earlier : (cs : Calls) (t u : ℕ) (o : Option Files) → t ≤ u → Left cs u o → Left cs t o
-left_earlier cs t u o le left = record { images = left.images; some = earlier_images cs t u left.images le left.some; is = left.is }
+left_earlier cs t u o le left = record { is = earlier_left cs t u o le left.is }
 
 pub data_at : (a : Files) (f : ℕ) → is_data f ≡ true → data_of a f ≡ a f
 data_at a f isd = ap (λ t. cond t (a f) []) isd
@@ -54,3 +51,11 @@ idle_lens cs c1 lens idle are = record { long = are.long; at = λ f isd. are.at 
 pub valid_idle : (b : Bool) (cs : Calls) (end : ℕ) (recorded : List ℕ) (changed : List Bool) → b ≡ false → IsValid b cs end recorded changed → recovered (now cs) ≡ Some (data_of (now cs))
 valid_idle true cs end recorded changed off v = absurd cc
 valid_idle false cs end recorded changed off v = idle_now cs (data_of (now cs)) v
+
+pub valid_some : (b : Bool) (cs : Calls) (end : ℕ) (recorded : List ℕ) (changed : List Bool) → IsValid b cs end recorded changed → (kept : Files) × (recovered (now cs) ≡ Some kept)
+valid_some true cs end recorded changed v = (v.kept, tx_now cs v.kept v.es v.tx)
+valid_some false cs end recorded changed v = (data_of (now cs), idle_now cs (data_of (now cs)) v)
+
+pub valid_open : (b : Bool) (cs : Calls) (end : ℕ) (recorded : List ℕ) (changed : List Bool) → b ≡ true → IsOpen cs end recorded changed → IsValid b cs end recorded changed
+valid_open true cs end recorded changed on o = o
+valid_open false cs end recorded changed on o = absurd cc

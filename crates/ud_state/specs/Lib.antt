@@ -1,3 +1,4 @@
+pub mod Again
+pub mod Recovery
 pub mod Since
 pub mod State
-pub mod Again

@@ -1,8 +1,8 @@
 -- What stops leave at the moments since one.
-use Rattle.std.specs.Prelude.{◌≡◌, ◌⊎◌, ℕ, ◌≤◌, ◌∷◌, length, Option}
+use Rattle.std.specs.Prelude.{◌≡◌, ◌⊎◌, ℕ, ◌≤◌, List, [], ◌∷◌, length, Option}
 use Rattle.std.proofs.Common.{inl, inr, ⊎_elim, arith, refl, sym, subst, ap, ◌∙◌}
 use Rattle.tc_base.specs.Files.{Files}
-use Rattle.tc_io.specs.Images.{Step, Calls, Images, ImagesSince, now}
+use Rattle.tc_io.specs.Images.{Step, Calls, Images, now}
 use Rattle.ud_log.specs.Undo.{recovered}
 
 -- P holds after each call since then
@@ -10,15 +10,31 @@ pub data Since (P : Calls → Type 0) (old : Calls) : Calls → Type 0 where
   here : Since P old old
   more : (c : ℕ × Step) (cs : Calls) → Since P old cs → P (c ∷ cs) → Since P old (c ∷ cs)
 
--- what recovery makes of the images of some moment from that one on
-pub record Left (cs : Calls) (t : ℕ) (o : Option Files) : Type 0 where
+-- beside this image of the log, every choice of images of the data files is recovered to this
+abbrev pub Agree : Calls → List ℕ → Option Files → Type 0
+Agree cs log w = (ims : Files) → Images cs ims → ims 1 ≡ log → recovered ims ≡ w
+
+-- what a stop leaves now: of an image of the log, what every choice beside it is recovered to. Where the choices don't agree it may be anything
+pub record LeftNow (cs : Calls) (o : Option Files) : Type 0 where
   pub images : Files
-  pub some : ImagesSince cs t images
-  pub is : o ≡ recovered images
+  pub some : Images cs images
+  pub is : (w : Option Files) → Agree cs (images 1) w → o ≡ w
+
+-- at some moment from that one on
+abbrev pub LeftSince : Calls → ℕ → Option Files → Type 0
+LeftSince [] t o = LeftNow [] o
+LeftSince (c ∷ cs) t o = LeftNow (c ∷ cs) o ⊎ ((t ≤ length cs) × LeftSince cs t o)
+
+pub record Left (cs : Calls) (t : ℕ) (o : Option Files) : Type 0 where
+  pub is : LeftSince cs t o
 
 -- each image is recovered to what has P
 abbrev pub Leaves : (Option Files → Type 0) → Calls → Type 0
 Leaves P cs = (ims : Files) → Images cs ims → P (recovered ims)
+
+-- all that a stop leaves now has P
+abbrev pub AllLeft : (Option Files → Type 0) → Calls → Type 0
+AllLeft P cs = (o : Option Files) → LeftNow cs o → P o
 
 -- each image is recovered to what the files as they read are recovered to
 pub record Calm (cs : Calls) : Type 0 where
@@ -33,9 +49,9 @@ pub since_later : (P : Calls → Type 0) (old new : Calls) → Since P old new �
 since_later P old _ here = omega arith
 since_later P old _ (more c cs since p) = omega (arith, since_later P old cs since)
 
-pub since_each : (P : Option Files → Type 0) (old new : Calls) → Since (Leaves P) old new → (t : ℕ) (ims : Files) → t ≤ length old → ImagesSince new t ims → ImagesSince old t ims ⊎ P (recovered ims)
-since_each P old _ here t ims le some = inl some
-since_each P old _ (more c cs since p) t ims le some = ⊎_elim (λ at_once. inr (p ims at_once)) (λ earlier. since_each P old cs since t ims le earlier.1) some
+pub since_each : (P : Option Files → Type 0) (old new : Calls) → Since (AllLeft P) old new → (t : ℕ) (o : Option Files) → t ≤ length old → LeftSince new t o → LeftSince old t o ⊎ P o
+since_each P old _ here t o le left = inl left
+since_each P old _ (more c cs since p) t o le left = ⊎_elim (λ at_once. inr (p o at_once)) (λ earlier. since_each P old cs since t o le earlier.1) left
 
 pub since_then : (P : Calls → Type 0) (a b c : Calls) → Since P a b → Since P b c → Since P a c
 since_then P a b _ first here = first

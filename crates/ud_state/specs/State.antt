@@ -1,7 +1,6 @@
 -- A volume between calls: a transaction is open, or none is.
 use Rattle.std.specs.Prelude.{◌≡◌, ℕ, ◌^◌, ◌<◌, ◌≤◌, List, [], length, get_or, Bool, true, false, Option, Some, None, ◌⊎◌, ◌++◌, ◌-◌, replicate}
-use Rattle.ud_log.specs.Entries.{Entry, Covers, Inside}
-use Rattle.ud_log.proofs.Kept.{Stands, Holds}
+use Rattle.ud_log.specs.Entries.{Entry, Covers, Inside, Stands, Holds}
 use Rattle.tc_base.specs.Files.{Files, resized}
 use Rattle.tc_io.specs.Images.{Calls, of, now, Image, Images}
 use Rattle.ud_log.specs.Good.{AllGood, AllShort}

@@ -1,7 +1,8 @@
 use Rattle.std.proofs.Common.{◌<◌, ◌∙◌, ℕ, arith, refl, sym, subst}
+use Rattle.ud_state.specs.Recovery.{CanPutBack}
 use Rattle.tc_io.specs.Images.{Calls}
 use Rattle.ud_state.specs.Since.{quiet_refl, quiet_then}
-use Rattle.ud_state.proofs.PuttingBack.{CanPutBack, Restores, restores_start, restores_end, here, here_can, front, rest, log_parts, ends_there, inside_now, back_made, back_quiet, back_lost}
+use Rattle.ud_state.proofs.PuttingBack.{Restores, restores_start, restores_end, here, here_can, front, rest, log_parts, ends_there, inside_now, back_made, back_quiet, back_lost}
 use Rattle.tc_undo.specs.Found.{IsEntryAt}
 use Rattle.tc_undo.proofs.put_back.put_back_all.Goals as goal
 

@@ -1,10 +1,10 @@
 use Rattle.std.proofs.Common.{◌≡◌, subst}
+use Rattle.ud_state.specs.Recovery.{Ready}
 use Rattle.tc_base.specs.Files.{Files}
 use Rattle.tc_io.specs.Images.{now}
 use Rattle.ud_log.specs.Log.{entries}
 use Rattle.ud_log.specs.Undo.{undone_all}
 use Rattle.ud_state.specs.Since.{quiet_then}
-use Rattle.ud_state.proofs.Recovery.{Ready}
 use Rattle.ud_state.proofs.Runs.{durable_of}
 use Rattle.tc_undo.proofs.Marked.{all_marked}
 use Rattle.tc_undo.proofs.Settling.{finds_as, undo_of, nothing_of, undo_long, ready_undo, ready_none}

@@ -1,9 +1,10 @@
 use Rattle.std.proofs.Common.{◌≡◌, ◌≤◌, true, ◌∙◌, sym, ap, arith, length, List, ℕ, subst, Err}
+use Rattle.ud_log.specs.Scan.{ScannedAll}
 use Rattle.tc_base.specs.Files.{Files}
 use Rattle.tc_io.specs.Images.{now, Calls}
 use Rattle.ud_log.specs.Log.{lengths, entries}
 use Rattle.ud_log.specs.Undo.{undoes, log_of, all_short, all_inside, by_log, Log}
-use Rattle.ud_log.proofs.Scanning.{ScannedAll, says_nothing, says_undo, broken_two, lengths_front}
+use Rattle.ud_log.proofs.Scanning.{says_nothing, says_undo, broken_two, lengths_front}
 use Rattle.ud_log.proofs.Heading.{length-lengths}
 use Rattle.ud_state.specs.State.{AreLens}
 use Rattle.tc_undo.proofs.scan.look.Goals as goal

@@ -1,8 +1,9 @@
 use Rattle.std.proofs.Common.{◌≡◌, ℕ, false, ◌∙◌, sym, ap, arith, refl, subst, List, Option}
+use Rattle.ud_log.specs.Scan.{ScannedAll}
 use Rattle.tc_io.specs.Images.{now, Calls}
 use Rattle.ud_log.specs.Log.{lengths, entries}
 use Rattle.ud_log.specs.Undo.{all_short, all_formed, all_inside, broken}
-use Rattle.ud_log.proofs.Scanning.{ScannedAll, scan_start, broken_three, broken_four}
+use Rattle.ud_log.proofs.Scanning.{scan_start, broken_three, broken_four}
 use Rattle.tc_undo.specs.declared.scan.Seen.{Seen}
 use Rattle.tc_undo.specs.Found.{AfterScan}
 use Rattle.tc_undo.specs.Errors.{on_broken}

@@ -1,6 +1,6 @@
 use Rattle.std.proofs.Common.{◌≡◌, ◌≤◌, ◌-◌, true}
+use Rattle.ud_log.specs.Scan.{Scanned}
 use Rattle.tc_io.specs.Images.{now}
-use Rattle.ud_log.proofs.Scanning.{Scanned}
 use Rattle.tc_undo.proofs.scan.scan.Given as goal
 
 abbrev pub invariant-entries : goal.invariant-entries

@@ -1,7 +1,8 @@
 use Rattle.std.proofs.Common.{◌≡◌, ◌+◌, take, drop, ◌∙◌, sym, ap, arith, length-drop, subst, Bool, ◌&&◌, nat_le, get_or}
+use Rattle.ud_log.specs.Scan.{Scanned}
 use Rattle.tc_io.specs.Images.{now, Calls}
 use Rattle.ud_log.specs.Undo.{length_of}
-use Rattle.ud_log.proofs.Scanning.{Scanned, scan_done}
+use Rattle.ud_log.proofs.Scanning.{scan_done}
 use Rattle.tc_undo.proofs.EntryRead.{no_more, one_more, not_formed}
 use Rattle.tc_undo.proofs.scan.scan_entry.Goals as goal
 

@@ -1,4 +1,4 @@
-use Rattle.std.proofs.Common.{◌≡◌, ◌≤◌, ◌+◌, ◌∙◌, ap, sym, subst, length, arith, true, set, get_or}
+use Rattle.std.proofs.Common.{◌≡◌, ◌≤◌, ◌+◌, ◌∙◌, ap, sym, subst, length, arith, true, set, get_or, max}
 use Rattle.tc_base.specs.Files.{wrote}
 use Rattle.tc_io.specs.Images.{now, reads}
 use Rattle.ud_state.specs.Since.{quiet_then}
@@ -6,7 +6,8 @@ use Rattle.ud_state.specs.State.{Secured, AreLens, Unchanged}
 use Rattle.ud_state.proofs.Writing.{widen, lens_log, open_of, put_done, put_quiet, put_lost}
 use Rattle.ud_state.proofs.Changing.{step_reads, step_others, step_log, mark_unchanged, set_lens, length_write}
 use Rattle.ud_state.proofs.Replaying.{short_at}
-use Rattle.tc_undo.proofs.Needs.{short_set}
+use Rattle.ud_log.specs.Undo.{place_of, length_of}
+use Rattle.tc_undo.proofs.Needs.{short_set, same_set}
 use Rattle.tc_undo.proofs.through.write_through.Goals as goal
 
 pub returns-in_err-write-clause-quiet : goal.returns-in_err-write-clause-quiet
@@ -93,3 +94,9 @@ returns-clause-others g c = λ t h ish other.
     let mid = g.V.Volume.calls c.secure.new.vol in
     let new = g.V.Volume.calls c.write.new.self in
     step_others mid new c.args.file _ (c.in_ok-write.ensures.made t) c.requires.is_data h other ∙ ap (λ s. reads s) ((c.in_ok-secure.ensures.only t).same h ish)
+
+pub returns-clause-grown : goal.returns-clause-grown
+returns-clause-grown g c =
+    let f = c.args.file in
+    let item : get_or c.args.lens.now c.place-i.result 0 ≡ length_of c.args.lens.now f = ap (λ k. get_or c.args.lens.now k 0) c.place-i.ensures.place in
+    same_set c.args.lens.now c.place-i.result (place_of f) c.max.result (max (length_of c.args.lens.now f) (c.args.at + length c.args.bytes.now)) c.place-i.ensures.place (omega (arith, c.max.ensures, item))

@@ -9,8 +9,8 @@ unfolding wrote
 write-requires-3-clause-inside g c =
     let tells = g.S.Space.tells in
     let now = g.S.Space.now in
-    let h1 = main_step tells now c.args.space.now c.write.new.self [] [] 0 (codes "one two") (codes "one two") c.requires.holds c.in_ok-write.ensures.wrote c.in_ok-write.ensures.others refl in
-    let h2 = side_step tells now c.write.new.self c.write-2.new.self (codes "one two") [] 0 (codes "aaaa") (codes "aaaa") h1 c.in_ok-write-2.ensures.wrote c.in_ok-write-2.ensures.others refl in
+    let h1 = main_step tells now c.args.space.now c.write.new.self [] [] 0 (codes "one two") (codes "one two") c.requires.holds c.in_ok-write.ensures.wrote refl in
+    let h2 = side_step tells now c.write.new.self c.write-2.new.self (codes "one two") [] 0 (codes "aaaa") (codes "aaaa") h1 c.in_ok-write-2.ensures.wrote refl in
     main_fits tells now c.write-2.new.self (codes "one two") (codes "aaaa") 7 h2 (lit≤ tt)
 
 pub write-requires-4-clause-inside : goal.write-requires-4-clause-inside
@@ -18,9 +18,9 @@ unfolding wrote
 write-requires-4-clause-inside g c =
     let tells = g.S.Space.tells in
     let now = g.S.Space.now in
-    let h1 = main_step tells now c.args.space.now c.write.new.self [] [] 0 (codes "one two") (codes "one two") c.requires.holds c.in_ok-write.ensures.wrote c.in_ok-write.ensures.others refl in
-    let h2 = side_step tells now c.write.new.self c.write-2.new.self (codes "one two") [] 0 (codes "aaaa") (codes "aaaa") h1 c.in_ok-write-2.ensures.wrote c.in_ok-write-2.ensures.others refl in
-    let h3 = main_step tells now c.write-2.new.self c.write-3.new.self (codes "one two") (codes "aaaa") 7 (codes " three") (codes "one two three") h2 c.in_ok-write-3.ensures.wrote c.in_ok-write-3.ensures.others refl in
+    let h1 = main_step tells now c.args.space.now c.write.new.self [] [] 0 (codes "one two") (codes "one two") c.requires.holds c.in_ok-write.ensures.wrote refl in
+    let h2 = side_step tells now c.write.new.self c.write-2.new.self (codes "one two") [] 0 (codes "aaaa") (codes "aaaa") h1 c.in_ok-write-2.ensures.wrote refl in
+    let h3 = main_step tells now c.write-2.new.self c.write-3.new.self (codes "one two") (codes "aaaa") 7 (codes " three") (codes "one two three") h2 c.in_ok-write-3.ensures.wrote refl in
     side_fits tells now c.write-3.new.self (codes "one two three") (codes "aaaa") 2 h3 (lit≤ tt)
 
 pub returns-clause-wrote : goal.returns-clause-wrote
@@ -28,8 +28,8 @@ unfolding wrote
 returns-clause-wrote g c =
     let tells = g.S.Space.tells in
     let now = g.S.Space.now in
-    let h1 = main_step tells now c.args.space.now c.write.new.self [] [] 0 (codes "one two") (codes "one two") c.requires.holds c.in_ok-write.ensures.wrote c.in_ok-write.ensures.others refl in
-    let h2 = side_step tells now c.write.new.self c.write-2.new.self (codes "one two") [] 0 (codes "aaaa") (codes "aaaa") h1 c.in_ok-write-2.ensures.wrote c.in_ok-write-2.ensures.others refl in
-    let h3 = main_step tells now c.write-2.new.self c.write-3.new.self (codes "one two") (codes "aaaa") 7 (codes " three") (codes "one two three") h2 c.in_ok-write-3.ensures.wrote c.in_ok-write-3.ensures.others refl in
-    let h4 = side_step tells now c.write-3.new.self c.write-4.new.self (codes "one two three") (codes "aaaa") 2 (codes "bbbb") (codes "aabbbb") h3 c.in_ok-write-4.ensures.wrote c.in_ok-write-4.ensures.others refl in
+    let h1 = main_step tells now c.args.space.now c.write.new.self [] [] 0 (codes "one two") (codes "one two") c.requires.holds c.in_ok-write.ensures.wrote refl in
+    let h2 = side_step tells now c.write.new.self c.write-2.new.self (codes "one two") [] 0 (codes "aaaa") (codes "aaaa") h1 c.in_ok-write-2.ensures.wrote refl in
+    let h3 = main_step tells now c.write-2.new.self c.write-3.new.self (codes "one two") (codes "aaaa") 7 (codes " three") (codes "one two three") h2 c.in_ok-write-3.ensures.wrote refl in
+    let h4 = side_step tells now c.write-3.new.self c.write-4.new.self (codes "one two three") (codes "aaaa") 2 (codes "bbbb") (codes "aabbbb") h3 c.in_ok-write-4.ensures.wrote refl in
     h4

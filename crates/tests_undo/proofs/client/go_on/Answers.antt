@@ -16,7 +16,7 @@ unfolding wrote
 write-requires-2-clause-inside g c =
     let tells = g.S.Space.tells in
     let now = g.S.Space.now in
-    let h1 = main_step tells now c.args.space.now c.write.new.self (codes "one two three") (codes "aabbbb") 4 (codes "TWO") (codes "one TWO three") c.requires.holds c.in_ok-write.ensures.wrote c.in_ok-write.ensures.others refl in
+    let h1 = main_step tells now c.args.space.now c.write.new.self (codes "one two three") (codes "aabbbb") 4 (codes "TWO") (codes "one TWO three") c.requires.holds c.in_ok-write.ensures.wrote refl in
     side_fits tells now c.write.new.self (codes "one TWO three") (codes "aabbbb") 6 h1 (lit≤ tt)
 
 pub write-requires-3-clause-inside : goal.write-requires-3-clause-inside
@@ -24,8 +24,8 @@ unfolding wrote
 write-requires-3-clause-inside g c =
     let tells = g.S.Space.tells in
     let now = g.S.Space.now in
-    let h1 = main_step tells now c.args.space.now c.write.new.self (codes "one two three") (codes "aabbbb") 4 (codes "TWO") (codes "one TWO three") c.requires.holds c.in_ok-write.ensures.wrote c.in_ok-write.ensures.others refl in
-    let h2 = side_step tells now c.write.new.self c.write-2.new.self (codes "one TWO three") (codes "aabbbb") 6 (codes "cc") (codes "aabbbbcc") h1 c.in_ok-write-2.ensures.wrote c.in_ok-write-2.ensures.others refl in
+    let h1 = main_step tells now c.args.space.now c.write.new.self (codes "one two three") (codes "aabbbb") 4 (codes "TWO") (codes "one TWO three") c.requires.holds c.in_ok-write.ensures.wrote refl in
+    let h2 = side_step tells now c.write.new.self c.write-2.new.self (codes "one TWO three") (codes "aabbbb") 6 (codes "cc") (codes "aabbbbcc") h1 c.in_ok-write-2.ensures.wrote refl in
     main_fits tells now c.write-2.new.self (codes "one TWO three") (codes "aabbbbcc") 0 h2 (lit≤ tt)
 
 pub write-requires-4-clause-inside : goal.write-requires-4-clause-inside
@@ -33,9 +33,9 @@ unfolding wrote
 write-requires-4-clause-inside g c =
     let tells = g.S.Space.tells in
     let now = g.S.Space.now in
-    let h1 = main_step tells now c.args.space.now c.write.new.self (codes "one two three") (codes "aabbbb") 4 (codes "TWO") (codes "one TWO three") c.requires.holds c.in_ok-write.ensures.wrote c.in_ok-write.ensures.others refl in
-    let h2 = side_step tells now c.write.new.self c.write-2.new.self (codes "one TWO three") (codes "aabbbb") 6 (codes "cc") (codes "aabbbbcc") h1 c.in_ok-write-2.ensures.wrote c.in_ok-write-2.ensures.others refl in
-    let h3 = main_step tells now c.write-2.new.self c.write-3.new.self (codes "one TWO three") (codes "aabbbbcc") 0 (codes "ONE") (codes "ONE TWO three") h2 c.in_ok-write-3.ensures.wrote c.in_ok-write-3.ensures.others refl in
+    let h1 = main_step tells now c.args.space.now c.write.new.self (codes "one two three") (codes "aabbbb") 4 (codes "TWO") (codes "one TWO three") c.requires.holds c.in_ok-write.ensures.wrote refl in
+    let h2 = side_step tells now c.write.new.self c.write-2.new.self (codes "one TWO three") (codes "aabbbb") 6 (codes "cc") (codes "aabbbbcc") h1 c.in_ok-write-2.ensures.wrote refl in
+    let h3 = main_step tells now c.write-2.new.self c.write-3.new.self (codes "one TWO three") (codes "aabbbbcc") 0 (codes "ONE") (codes "ONE TWO three") h2 c.in_ok-write-3.ensures.wrote refl in
     side_fits tells now c.write-3.new.self (codes "ONE TWO three") (codes "aabbbbcc") 3 h3 (lit≤ tt)
 
 pub returns-clause-wrote : goal.returns-clause-wrote
@@ -43,8 +43,8 @@ unfolding wrote
 returns-clause-wrote g c =
     let tells = g.S.Space.tells in
     let now = g.S.Space.now in
-    let h1 = main_step tells now c.args.space.now c.write.new.self (codes "one two three") (codes "aabbbb") 4 (codes "TWO") (codes "one TWO three") c.requires.holds c.in_ok-write.ensures.wrote c.in_ok-write.ensures.others refl in
-    let h2 = side_step tells now c.write.new.self c.write-2.new.self (codes "one TWO three") (codes "aabbbb") 6 (codes "cc") (codes "aabbbbcc") h1 c.in_ok-write-2.ensures.wrote c.in_ok-write-2.ensures.others refl in
-    let h3 = main_step tells now c.write-2.new.self c.write-3.new.self (codes "one TWO three") (codes "aabbbbcc") 0 (codes "ONE") (codes "ONE TWO three") h2 c.in_ok-write-3.ensures.wrote c.in_ok-write-3.ensures.others refl in
-    let h4 = side_step tells now c.write-3.new.self c.write-4.new.self (codes "ONE TWO three") (codes "aabbbbcc") 3 (codes "dddddddd") (codes "aabdddddddd") h3 c.in_ok-write-4.ensures.wrote c.in_ok-write-4.ensures.others refl in
+    let h1 = main_step tells now c.args.space.now c.write.new.self (codes "one two three") (codes "aabbbb") 4 (codes "TWO") (codes "one TWO three") c.requires.holds c.in_ok-write.ensures.wrote refl in
+    let h2 = side_step tells now c.write.new.self c.write-2.new.self (codes "one TWO three") (codes "aabbbb") 6 (codes "cc") (codes "aabbbbcc") h1 c.in_ok-write-2.ensures.wrote refl in
+    let h3 = main_step tells now c.write-2.new.self c.write-3.new.self (codes "one TWO three") (codes "aabbbbcc") 0 (codes "ONE") (codes "ONE TWO three") h2 c.in_ok-write-3.ensures.wrote refl in
+    let h4 = side_step tells now c.write-3.new.self c.write-4.new.self (codes "ONE TWO three") (codes "aabbbbcc") 3 (codes "dddddddd") (codes "aabdddddddd") h3 c.in_ok-write-4.ensures.wrote refl in
     h4

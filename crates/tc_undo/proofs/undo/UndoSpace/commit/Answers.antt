@@ -8,7 +8,7 @@ use Rattle.tc_undo.proofs.Steadiness.{leaves_of}
 use Rattle.tc_undo.proofs.undo.UndoSpace.commit.Goals as goal
 
 pub returns-then-not-self-clause-kept : goal.returns-then-not-self-clause-kept
-returns-then-not-self-clause-kept g c = λ t. valid_idle _ _ _ _ _ c.if-not-self.true (c.requires.5 t)
+returns-then-not-self-clause-kept g c = λ t. valid_idle _ _ _ _ _ c.if-not-self.true (c.requires.1.valid t)
 
 pub returns-in-Ok-clause-kept : goal.returns-in-Ok-clause-kept
 returns-in-Ok-clause-kept g c = λ t. idle_now _ _ (c.in-Ok.ensures.idle t)

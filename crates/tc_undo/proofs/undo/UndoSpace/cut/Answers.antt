@@ -1,7 +1,9 @@
-use Rattle.std.proofs.Common.{ap, get_or}
+use Rattle.std.proofs.Common.{◌∙◌, ap, sym, take}
+use Rattle.tc_base.specs.Files.{Files}
+use Rattle.tc_io.specs.Images.{now as reads_now}
 use Rattle.ud_state.proofs.Replaying.{short_at}
-use Rattle.tc_undo.specs.Room.{log_end}
-use Rattle.tc_undo.proofs.Needs.{cut_full}
+use Rattle.ud_state.proofs.Valid.{data_at, data_others}
+use Rattle.tc_undo.specs.Usable.{data_file}
 use Rattle.tc_undo.proofs.Steadiness.{steady_of}
 use Rattle.tc_undo.proofs.undo.UndoSpace.cut.Goals as goal
 
@@ -12,7 +14,15 @@ pub returns-in-Err-clause-steady : goal.returns-in-Err-clause-steady
 returns-in-Err-clause-steady g c = λ t. steady_of (λ s. g.V.Volume.calls s.vol) c.args.self.now _ (c.cut_through.ensures.quiet t)
 
 pub stop_at-requires-clause-small : goal.stop_at-requires-clause-small
-stop_at-requires-clause-small g c = short_at c.args.self.now.lens c.place.result c.requires.sound.2
+stop_at-requires-clause-small g c = short_at c.args.self.now.lens c.place.result c.requires.sound.1.short
 
-pub returns-in-None-clause-full : goal.returns-in-None-clause-full
-returns-in-None-clause-full g c = λ is. cut_full c.args.self.now.log.active c.args.self.now.log.recorded c.args.self.now.lens c.args.file c.args.len (log_end c.args.self.now.log.active c.args.self.now.log.end) _ (ap (λ k. get_or c.args.self.now.lens k 0) c.place.ensures.place) c.in-None.ensures
+pub returns-in-Ok-clause-cut : goal.returns-in-Ok-clause-cut
+returns-in-Ok-clause-cut g c = λ t.
+    let old : Files = reads_now (g.V.Volume.calls c.args.self.now.vol) in
+    let new : Files = reads_now (g.V.Volume.calls c.cut_through.new.vol) in
+    let f = c.args.file in
+    let isd = data_file f c.requires.file in
+    record {
+      here = data_at new f isd ∙ c.in-Ok.ensures.cut t ∙ ap (take c.args.len) (sym (data_at old f isd));
+      others = data_others old new f (c.in-Ok.ensures.others t);
+    }

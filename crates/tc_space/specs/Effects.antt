@@ -1,0 +1,32 @@
+-- What a call on a space does to it, by the members of a space.
+use Rattle.std.specs.Prelude.{◌≡◌, ◌≢◌, ℕ, ◌≤◌, Bool, false, List, Option, Result, OnOk, OnErr}
+use Rattle.std.proofs.Common.{◌∙◌, arith, refl}
+use Rattle.tc_base.specs.Files.{Files}
+
+-- whatever it answers: the count of faults hasn't fallen, and the limits and the names of the volume stay
+pub record Follows {S : Type 0} (faults : S → ℕ) (limit : S → ℕ → ℕ) (names : S → Option (List (List ℕ))) (old new : S) : Type 0 where
+  pub later : faults old ≤ faults new
+  pub same_limit : limit new ≡ limit old
+  pub same_names : names new ≡ names old
+
+module _ {S : Type 0} (faults : S → ℕ) (limit : S → ℕ → ℕ) (names : S → Option (List (List ℕ))) where
+  pub follows_refl : (a : S) → Follows faults limit names a a
+  follows_refl a = record { later = omega arith; same_limit = refl; same_names = refl }
+
+  pub follows_then : (a b c : S) → Follows faults limit names a b → Follows faults limit names b c → Follows faults limit names a c
+  follows_then a b c first second = record { later = omega (arith, first.later, second.later); same_limit = second.same_limit ∙ first.same_limit; same_names = second.same_names ∙ first.same_names }
+
+-- one file has these bytes, and all others stay
+pub record Changes {S : Type 0} (now : S → Files) (file : ℕ) (bytes : List ℕ) (old new : S) : Type 0 where
+  pub here : now new file ≡ bytes
+  pub others : (g : ℕ) → g ≢ file → now new g ≡ now old g
+
+-- after Ok it may be used, after a refusal not
+pub record Outcome {S T E : Type 0} (sound : S → Type 0) (flag : S → Bool) (result : Result T E) (new : S) : Type 0 where
+  pub ok : OnOk result (sound new)
+  pub err : OnErr result (flag new ≡ false)
+
+-- a limit was reached, and the files stay
+pub record Reached {S : Type 0} (tells why : Type 0) (now : S → Files) (old new : S) : Type 0 where
+  pub by : why
+  pub same : tells → (g : ℕ) → now new g ≡ now old g

@@ -1,0 +1,80 @@
+-- What a call does to a map, or to a list of pairs, that is kept in one file of a space.
+use Rattle.std.specs.Prelude.{◌≡◌, ◌⊎◌, ℕ, ◌+◌, ◌-◌, ◌^◌, ◌≤◌, min, List, Bool, true, false, Option, None, IsSome}
+use Rattle.std.proofs.Common.{inl, inr, ⊎_elim, refl, arith}
+use Rattle.tc_base.specs.declared.kind.Mode.{Mode}
+use Rattle.tc_base.specs.declared.kind.Mode.TheVariants.{Keep}
+use Rattle.tc_space.specs.Frames.{Reads, Writes}
+use Rattle.tc_space.specs.declared.space.Space.{Ghosts}
+
+-- it may be called: the space is sound and, where its files are told, something is held
+pub record IsReady {S V M : Type 0} (s : Ghosts S) (Means : V → S → M → Type 0) (v : V) (space : S) : Type 0 where
+  pub sound : s.sound space
+  pub held : s.tells → (m : M) × Means v space m
+
+-- its own file
+abbrev pub Only : ℕ → ℕ → Type 0
+Only file g = g ≡ file
+
+-- the file, the region and the count of gets stay
+pub record StaysMap {V : Type 0} (file_of : V → ℕ) (region : V → List ℕ) (gets : V → ℕ) (old new : V) : Type 0 where
+  pub file : file_of new ≡ file_of old
+  pub region_same : region new ≡ region old
+  pub gets_same : gets new ≡ gets old
+
+-- the file and the region stay, and a get is counted
+pub record CountsGet {V : Type 0} (file_of : V → ℕ) (region : V → List ℕ) (gets : V → ℕ) (old new : V) : Type 0 where
+  pub file : file_of new ≡ file_of old
+  pub region_same : region new ≡ region old
+  pub counted : gets new ≡ min (gets old + 1) (2 ^ 64 - 1)
+
+-- a put gave the key a value. With Keep there was none
+pub record Puts {S V M : Type 0} (s : Ghosts S) (own : ℕ → Type 0) (Means : V → S → M → Type 0) (mode : Mode) (found : M → Option (List ℕ)) (f : M → M) (v v' : V) (old new : S) : Type 0 where
+  pub writes : Writes s own Means f v v' old new
+  pub absent : mode ≡ Keep → (m : M) → Means v old m → found m ≡ None
+
+-- a put was refused since the key is held and was to be kept. Nothing has changed
+pub record Exists {S V M : Type 0} (s : Ghosts S) (Means : V → S → M → Type 0) (mode : Mode) (found : M → Option (List ℕ)) (v v' : V) (old new : S) : Type 0 where
+  pub keep : mode ≡ Keep
+  pub there : (m : M) → Means v old m → IsSome (found m)
+  pub reads : Reads s Means v v' old new
+
+-- what was there was taken out, and this says whether anything was. Else nothing has changed
+pub record TakesOut {S V M : Type 0} (s : Ghosts S) (own : ℕ → Type 0) (Means : V → S → M → Type 0) (has : M → Bool) (f : M → M) (taken : Bool) (v v' : V) (old new : S) : Type 0 where
+  pub held : (m : M) → Means v old m → taken ≡ has m
+  pub out : taken ≡ true → Writes s own Means f v v' old new
+  pub none : taken ≡ false → Reads s Means v v' old new
+
+-- a limit is reached, as the space stands, on the way from what was held to what the call was to make of it
+pub record FullBy {S V M : Type 0} (Means : V → S → M → Type 0) (fills : V → S → M → M → Type 0) (f : M → M) (v : V) (old new : S) : Type 0 where
+  pub by : (m : M) → Means v old m → fills v new m (f m)
+
+-- a counter rose by at least as much as the count of gets did, or stands where it stops
+pub record Ticks (gets gets' steps steps' : ℕ) : Type 0 where
+  pub rises : steps ≤ steps'
+  pub enough : (gets' + steps ≤ gets + steps') ⊎ (2 ^ 64 - 1 ≤ steps')
+
+-- ---- it may be called again
+
+module _ {S V M : Type 0} (s : Ghosts S) (Means : V → S → M → Type 0) where
+  pub ready_reads : (v v' : V) (a b : S) → Reads s Means v v' a b → IsReady s Means v a → IsReady s Means v' b
+  ready_reads v v' a b reads ready = record { sound = reads.sound; held = λ t. let h = ready.held t in (h.0, reads.means h.0 h.1) }
+
+  module _ (own : ℕ → Type 0) where
+    pub ready_writes : (f : M → M) (v v' : V) (a b : S) → Writes s own Means f v v' a b → IsReady s Means v a → IsReady s Means v' b
+    ready_writes f v v' a b writes ready = record { sound = writes.sound; held = λ t. let h = ready.held t in (f h.0, writes.means h.0 h.1) }
+
+    pub ready_puts : (mode : Mode) (found : M → Option (List ℕ)) (f : M → M) (v v' : V) (a b : S) → Puts s own Means mode found f v v' a b → IsReady s Means v a → IsReady s Means v' b
+    ready_puts mode found f v v' a b puts ready = ready_writes f v v' a b puts.writes ready
+
+    pub ready_takes : (has : M → Bool) (f : M → M) (taken : Bool) (v v' : V) (a b : S) → TakesOut s own Means has f taken v v' a b → IsReady s Means v a → IsReady s Means v' b
+    ready_takes has f true v v' a b takes ready = ready_writes f v v' a b (takes.out refl) ready
+    ready_takes has f false v v' a b takes ready = ready_reads v v' a b (takes.none refl) ready
+
+  pub ready_exists : (mode : Mode) (found : M → Option (List ℕ)) (v v' : V) (a b : S) → Exists s Means mode found v v' a b → IsReady s Means v a → IsReady s Means v' b
+  ready_exists mode found v v' a b exists ready = ready_reads v v' a b exists.reads ready
+
+pub ticks_then : (g h i s t u : ℕ) → Ticks g h s t → Ticks h i t u → Ticks g i s u
+ticks_then g h i s t u first second = record {
+  rises = omega (arith, first.rises, second.rises);
+  enough = ⊎_elim (λ more. ⊎_elim (λ so_far. inl (omega (arith, so_far, more))) (λ full. inr (omega (arith, full, second.rises))) first.enough) (λ full. inr full) second.enough;
+}

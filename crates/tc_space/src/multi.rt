@@ -1,0 +1,157 @@
+//! A list of pairs over one file.
+ghost use Rattle.std.specs.Prelude.{◌≡◌, ℕ, List, length, take, OnOk, OnErr, IfOk, IsErrOf};
+ghost use Rattle.tc_base.specs.Lists.{first, values};
+ghost use Rattle.tc_base.specs.declared.seq.Pair.{Pair};
+ghost use Rattle.tc_io.specs.Causes.{Rose};
+ghost use Rattle.tc_space.specs.Changes.{Rises, all_out, first_in, first_out, has_pair, inside, put_first, put_last, same};
+ghost use Rattle.tc_space.specs.Frames.{In, Keeps, Reads, Refuses, Writes};
+ghost use Rattle.tc_space.specs.Stores.{Exists, FullBy, IsReady, Only, Puts, TakesOut, Ticks};
+
+use crate::errors::{PutErr, RecErr};
+use crate::space::Space;
+use tc_base::{Blob, Blobs, Cut, Form, Mode, Order, Pairs, Steps};
+
+/// A list of pairs in an order of their keys over one file of a space, equal keys in order of arrival.
+///
+/// After a refusal of a call that writes, the space isn't sound or nothing has changed. `get`, `all` and `range` change nothing, whatever
+/// they answer.
+pub trait Multi {
+    type S: Space;
+
+    type O: Order;
+
+    /// The number of its file.
+    ghost file_of: { Self → ℕ };
+
+    /// With these bytes in its file it holds these pairs.
+    ghost holds: { Self → List ℕ → List Pair → Type 0 };
+
+    /// A file of these bytes opens to these pairs.
+    ghost stands: { List ℕ → List Pair → Type 0 };
+
+    /// A limit is reached, as the space stands, on the way from a list to another.
+    ghost fills: { Self → Self.S → List Pair → List Pair → Type 0 };
+
+    /// How often the map that it stands on was asked for a key, up to the greatest number.
+    ghost gets: { Self → ℕ };
+
+    /// The number of its file.
+    fn file(&self) -> u32
+        ensures { result ≡ file_of self.now };
+
+    /// How many pairs are held.
+    fn count(&self) -> u64
+        ensures { (bytes : List ℕ) (ps : List Pair) → holds self.now bytes ps → result ≡ length ps };
+
+    /// The first value of a key.
+    fn get<L>(
+        &mut self,
+        space: &mut Self::S,
+        key: &[u8],
+        steps: &mut Steps<L>,
+    ) -> Result<Option<Blob>, RecErr>
+        requires { IsReady Self.S.Space (In Self.S.Space file_of holds) self.old space.old }
+        ensures value { IfOk result (λ found. (ps : List Pair) → In Self.S.Space file_of holds self.old space.old ps → found ≡ first ps key.now) }
+        ensures reads { Reads Self.S.Space (In Self.S.Space file_of holds) self.old self.new space.old space.new }
+        ensures keeps { Keeps Self.S.Space space.old space.new }
+        ensures file { file_of self.new ≡ file_of self.old }
+        ensures steps { Ticks (gets self.old) (gets self.new) steps.old steps.new }
+        ensures cause { (IsErrOf result RecErr.Fault → Rose (Self.S.faults space.old) (Self.S.faults space.new)) × (IsErrOf result RecErr.Full → ⊥) };
+
+    /// All values of a key, in order of arrival.
+    fn all(&mut self, space: &mut Self::S, key: &[u8]) -> Result<Blobs, RecErr>
+        requires { IsReady Self.S.Space (In Self.S.Space file_of holds) self.old space.old }
+        ensures value { IfOk result (λ found. (ps : List Pair) → In Self.S.Space file_of holds self.old space.old ps → found ≡ values ps key.now) }
+        ensures reads { Reads Self.S.Space (In Self.S.Space file_of holds) self.old self.new space.old space.new }
+        ensures keeps { Keeps Self.S.Space space.old space.new }
+        ensures file { file_of self.new ≡ file_of self.old }
+        ensures cause { (IsErrOf result RecErr.Fault → Rose (Self.S.faults space.old) (Self.S.faults space.new)) × (IsErrOf result RecErr.Full → ⊥) };
+
+    /// Replaces the first value of a key, or joins behind it, or adds the pair where the key isn't held. Exists comes exactly with `Keep` on
+    /// a held key.
+    fn put(
+        &mut self,
+        space: &mut Self::S,
+        key: &[u8],
+        value: &[u8],
+        mode: Mode,
+    ) -> Result<(), PutErr>
+        requires { IsReady Self.S.Space (In Self.S.Space file_of holds) self.old space.old }
+        ensures put { OnOk result (Puts Self.S.Space (Only (file_of self.old)) (In Self.S.Space file_of holds) mode (first_in key.now) (put_first Self.O.cmp mode key.now value.now) self.old self.new space.old space.new) }
+        ensures exists { IsErrOf result PutErr.Exists → Exists Self.S.Space (In Self.S.Space file_of holds) mode (first_in key.now) self.old self.new space.old space.new }
+        ensures refused { OnErr result (Refuses Self.S.Space (In Self.S.Space file_of holds) self.old self.new space.old space.new) }
+        ensures full { IsErrOf result PutErr.Full → FullBy (In Self.S.Space file_of holds) fills (put_first Self.O.cmp mode key.now value.now) self.old space.old space.new }
+        ensures keeps { Keeps Self.S.Space space.old space.new }
+        ensures file { file_of self.new ≡ file_of self.old }
+        ensures cause { IsErrOf result PutErr.Fault → Rose (Self.S.faults space.old) (Self.S.faults space.new) };
+
+    /// Adds a pair behind those of its key.
+    fn putdup(&mut self, space: &mut Self::S, key: &[u8], value: &[u8]) -> Result<(), RecErr>
+        requires { IsReady Self.S.Space (In Self.S.Space file_of holds) self.old space.old }
+        ensures put { OnOk result (Writes Self.S.Space (Only (file_of self.old)) (In Self.S.Space file_of holds) (put_last Self.O.cmp key.now value.now) self.old self.new space.old space.new) }
+        ensures refused { OnErr result (Refuses Self.S.Space (In Self.S.Space file_of holds) self.old self.new space.old space.new) }
+        ensures full { IsErrOf result RecErr.Full → FullBy (In Self.S.Space file_of holds) fills (put_last Self.O.cmp key.now value.now) self.old space.old space.new }
+        ensures keeps { Keeps Self.S.Space space.old space.new }
+        ensures file { file_of self.new ≡ file_of self.old }
+        ensures cause { IsErrOf result RecErr.Fault → Rose (Self.S.faults space.old) (Self.S.faults space.new) };
+
+    /// Takes the first pair of a key out. False comes exactly where the key isn't held.
+    fn out(&mut self, space: &mut Self::S, key: &[u8]) -> Result<bool, RecErr>
+        requires { IsReady Self.S.Space (In Self.S.Space file_of holds) self.old space.old }
+        ensures out { IfOk result (λ taken. TakesOut Self.S.Space (Only (file_of self.old)) (In Self.S.Space file_of holds) (has_pair key.now) (first_out Self.O.cmp key.now) taken self.old self.new space.old space.new) }
+        ensures refused { OnErr result (Refuses Self.S.Space (In Self.S.Space file_of holds) self.old self.new space.old space.new) }
+        ensures full { IsErrOf result RecErr.Full → FullBy (In Self.S.Space file_of holds) fills (first_out Self.O.cmp key.now) self.old space.old space.new }
+        ensures keeps { Keeps Self.S.Space space.old space.new }
+        ensures file { file_of self.new ≡ file_of self.old }
+        ensures cause { IsErrOf result RecErr.Fault → Rose (Self.S.faults space.old) (Self.S.faults space.new) };
+
+    /// Takes all pairs of a key out. False comes exactly where the key isn't held.
+    fn out_all(&mut self, space: &mut Self::S, key: &[u8]) -> Result<bool, RecErr>
+        requires { IsReady Self.S.Space (In Self.S.Space file_of holds) self.old space.old }
+        ensures out { IfOk result (λ taken. TakesOut Self.S.Space (Only (file_of self.old)) (In Self.S.Space file_of holds) (has_pair key.now) (all_out Self.O.cmp key.now) taken self.old self.new space.old space.new) }
+        ensures refused { OnErr result (Refuses Self.S.Space (In Self.S.Space file_of holds) self.old self.new space.old space.new) }
+        ensures full { IsErrOf result RecErr.Full → FullBy (In Self.S.Space file_of holds) fills (all_out Self.O.cmp key.now) self.old space.old space.new }
+        ensures keeps { Keeps Self.S.Space space.old space.new }
+        ensures file { file_of self.new ≡ file_of self.old }
+        ensures cause { IsErrOf result RecErr.Fault → Rose (Self.S.faults space.old) (Self.S.faults space.new) };
+
+    /// The first pairs of a stretch of keys, at most `max`.
+    fn range<C: Cut<Self::O>, L>(
+        &mut self,
+        space: &mut Self::S,
+        cut: &C,
+        max: u64,
+        steps: &mut Steps<L>,
+    ) -> Result<Pairs, RecErr>
+        requires { IsReady Self.S.Space (In Self.S.Space file_of holds) self.old space.old }
+        ensures value { IfOk result (λ found. (ps : List Pair) → In Self.S.Space file_of holds self.old space.old ps → found ≡ take max (inside (C.side_of cut.now) ps)) }
+        ensures reads { Reads Self.S.Space (In Self.S.Space file_of holds) self.old self.new space.old space.new }
+        ensures keeps { Keeps Self.S.Space space.old space.new }
+        ensures file { file_of self.new ≡ file_of self.old }
+        ensures steps { Ticks (gets self.old) (gets self.new) steps.old steps.new }
+        ensures cause { (IsErrOf result RecErr.Fault → Rose (Self.S.faults space.old) (Self.S.faults space.new)) × (IsErrOf result RecErr.Full → ⊥) };
+
+    /// Brings what is held in memory to the file, which then stands for the pairs.
+    fn settle(&mut self, space: &mut Self::S) -> Result<(), RecErr>
+        requires { IsReady Self.S.Space (In Self.S.Space file_of holds) self.old space.old }
+        ensures settled { OnOk result (Writes Self.S.Space (Only (file_of self.old)) (In Self.S.Space file_of holds) same self.old self.new space.old space.new) }
+        ensures stands { OnOk result ((ps : List Pair) → In Self.S.Space file_of holds self.old space.old ps → stands (Self.S.now space.new (file_of self.old)) ps) }
+        ensures refused { OnErr result (Refuses Self.S.Space (In Self.S.Space file_of holds) self.old self.new space.old space.new) }
+        ensures full { IsErrOf result RecErr.Full → FullBy (In Self.S.Space file_of holds) fills same self.old space.old space.new }
+        ensures keeps { Keeps Self.S.Space space.old space.new }
+        ensures file { file_of self.new ≡ file_of self.old }
+        ensures cause { IsErrOf result RecErr.Fault → Rose (Self.S.faults space.old) (Self.S.faults space.new) };
+
+    /// Packs the file, in the form that it has or in the large one. The pairs stay.
+    fn pack(&mut self, space: &mut Self::S, form: Form) -> Result<(), RecErr>
+        requires { IsReady Self.S.Space (In Self.S.Space file_of holds) self.old space.old }
+        ensures packed { OnOk result (Writes Self.S.Space (Only (file_of self.old)) (In Self.S.Space file_of holds) same self.old self.new space.old space.new) }
+        ensures refused { OnErr result (Refuses Self.S.Space (In Self.S.Space file_of holds) self.old self.new space.old space.new) }
+        ensures full { IsErrOf result RecErr.Full → FullBy (In Self.S.Space file_of holds) fills same self.old space.old space.new }
+        ensures keeps { Keeps Self.S.Space space.old space.new }
+        ensures file { file_of self.new ≡ file_of self.old }
+        ensures cause { IsErrOf result RecErr.Fault → Rose (Self.S.faults space.old) (Self.S.faults space.new) };
+
+    /// The pairs stand in the order of their keys.
+    ghost rises: { (m : Self) (bytes : List ℕ) (ps : List Pair) → holds m bytes ps → Rises Self.O.cmp ps };
+}

@@ -1,0 +1,137 @@
+//! A map over one file.
+ghost use Rattle.std.specs.Prelude.{◌≡◌, ◌≤◌, ℕ, List, OnOk, OnErr, IfOk, IsErrOf};
+ghost use Rattle.std.specs.FinMap.{get, keys, len};
+ghost use Rattle.tc_base.specs.Maps.{Map};
+ghost use Rattle.tc_io.specs.Causes.{Rose};
+ghost use Rattle.tc_space.specs.Changes.{is_in, out_of, put_in, same, value_in};
+ghost use Rattle.tc_space.specs.Frames.{In, Keeps, Reads, Refuses, Writes};
+ghost use Rattle.tc_space.specs.Stores.{CountsGet, Exists, FullBy, IsReady, Only, Puts, StaysMap, TakesOut};
+
+use crate::errors::{PutErr, RecErr};
+use crate::space::Space;
+use tc_base::{Blob, Blobs, Form, Mode, Steps};
+
+/// A finite map over one file of a space, with a region of 128 bytes for its owner.
+///
+/// After a refusal of a call that writes, the space isn't sound or nothing has changed. `get` and `keys` change nothing, whatever they answer.
+pub trait Records {
+    type S: Space;
+
+    /// The number of its file.
+    ghost file_of: { Self → ℕ };
+
+    /// With these bytes in its file it holds this map.
+    ghost holds: { Self → List ℕ → Map → Type 0 };
+
+    /// A file of these bytes opens to this map and region.
+    ghost stands: { List ℕ → Map → List ℕ → Type 0 };
+
+    /// The region.
+    ghost region: { Self → List ℕ };
+
+    /// A limit is reached, as the space stands, on the way from a map to another.
+    ghost fills: { Self → Self.S → Map → Map → Type 0 };
+
+    /// How often `get` was called, up to the greatest number.
+    ghost gets: { Self → ℕ };
+
+    /// The number of its file.
+    fn file(&self) -> u32
+        ensures { result ≡ file_of self.now };
+
+    /// How many keys are held.
+    fn count(&self) -> u64
+        ensures { (bytes : List ℕ) (m : Map) → holds self.now bytes m → result ≡ len m };
+
+    /// The region.
+    fn opaque(&self) -> [u8; 128]
+        ensures { result ≡ region self.now };
+
+    /// The value of a key.
+    fn get<L>(
+        &mut self,
+        space: &mut Self::S,
+        key: &[u8],
+        steps: &mut Steps<L>,
+    ) -> Result<Option<Blob>, RecErr>
+        requires { IsReady Self.S.Space (In Self.S.Space file_of holds) self.old space.old }
+        ensures value { IfOk result (λ found. (m : Map) → In Self.S.Space file_of holds self.old space.old m → found ≡ get m key.now) }
+        ensures reads { Reads Self.S.Space (In Self.S.Space file_of holds) self.old self.new space.old space.new }
+        ensures keeps { Keeps Self.S.Space space.old space.new }
+        ensures counts { CountsGet file_of region gets self.old self.new }
+        ensures steps { steps.old ≤ steps.new }
+        ensures cause { (IsErrOf result RecErr.Fault → Rose (Self.S.faults space.old) (Self.S.faults space.new)) × (IsErrOf result RecErr.Full → ⊥) };
+
+    /// Gives a key a value. Exists comes exactly with `Keep` on a held key.
+    fn put<L>(
+        &mut self,
+        space: &mut Self::S,
+        key: &[u8],
+        value: &[u8],
+        mode: Mode,
+        steps: &mut Steps<L>,
+    ) -> Result<(), PutErr>
+        requires { IsReady Self.S.Space (In Self.S.Space file_of holds) self.old space.old }
+        ensures put { OnOk result (Puts Self.S.Space (Only (file_of self.old)) (In Self.S.Space file_of holds) mode (value_in key.now) (put_in mode key.now value.now) self.old self.new space.old space.new) }
+        ensures exists { IsErrOf result PutErr.Exists → Exists Self.S.Space (In Self.S.Space file_of holds) mode (value_in key.now) self.old self.new space.old space.new }
+        ensures refused { OnErr result (Refuses Self.S.Space (In Self.S.Space file_of holds) self.old self.new space.old space.new) }
+        ensures full { IsErrOf result PutErr.Full → FullBy (In Self.S.Space file_of holds) fills (put_in mode key.now value.now) self.old space.old space.new }
+        ensures keeps { Keeps Self.S.Space space.old space.new }
+        ensures stays { StaysMap file_of region gets self.old self.new }
+        ensures steps { steps.old ≤ steps.new }
+        ensures cause { IsErrOf result PutErr.Fault → Rose (Self.S.faults space.old) (Self.S.faults space.new) };
+
+    /// Takes a key out. False comes exactly where it isn't held.
+    fn out<L>(
+        &mut self,
+        space: &mut Self::S,
+        key: &[u8],
+        steps: &mut Steps<L>,
+    ) -> Result<bool, RecErr>
+        requires { IsReady Self.S.Space (In Self.S.Space file_of holds) self.old space.old }
+        ensures out { IfOk result (λ taken. TakesOut Self.S.Space (Only (file_of self.old)) (In Self.S.Space file_of holds) (is_in key.now) (out_of key.now) taken self.old self.new space.old space.new) }
+        ensures refused { OnErr result (Refuses Self.S.Space (In Self.S.Space file_of holds) self.old self.new space.old space.new) }
+        ensures full { IsErrOf result RecErr.Full → FullBy (In Self.S.Space file_of holds) fills (out_of key.now) self.old space.old space.new }
+        ensures keeps { Keeps Self.S.Space space.old space.new }
+        ensures stays { StaysMap file_of region gets self.old self.new }
+        ensures steps { steps.old ≤ steps.new }
+        ensures cause { IsErrOf result RecErr.Fault → Rose (Self.S.faults space.old) (Self.S.faults space.new) };
+
+    /// The keys, in ascending order of their bytes.
+    fn keys<L>(&mut self, space: &mut Self::S, steps: &mut Steps<L>) -> Result<Blobs, RecErr>
+        requires { IsReady Self.S.Space (In Self.S.Space file_of holds) self.old space.old }
+        ensures value { IfOk result (λ all. (m : Map) → In Self.S.Space file_of holds self.old space.old m → all ≡ keys m) }
+        ensures reads { Reads Self.S.Space (In Self.S.Space file_of holds) self.old self.new space.old space.new }
+        ensures keeps { Keeps Self.S.Space space.old space.new }
+        ensures stays { StaysMap file_of region gets self.old self.new }
+        ensures steps { steps.old ≤ steps.new }
+        ensures cause { (IsErrOf result RecErr.Fault → Rose (Self.S.faults space.old) (Self.S.faults space.new)) × (IsErrOf result RecErr.Full → ⊥) };
+
+    /// Gives the region other bytes, which `settle` brings to the file.
+    fn set_opaque(&mut self, bytes: &[u8; 128])
+        ensures region { region self.new ≡ bytes.now }
+        ensures means { (file : List ℕ) (m : Map) → holds self.old file m → holds self.new file m }
+        ensures file { file_of self.new ≡ file_of self.old }
+        ensures gets { gets self.new ≡ gets self.old };
+
+    /// Brings what is held in memory to the file, which then stands for the map and the region.
+    fn settle(&mut self, space: &mut Self::S) -> Result<(), RecErr>
+        requires { IsReady Self.S.Space (In Self.S.Space file_of holds) self.old space.old }
+        ensures settled { OnOk result (Writes Self.S.Space (Only (file_of self.old)) (In Self.S.Space file_of holds) same self.old self.new space.old space.new) }
+        ensures stands { OnOk result ((m : Map) → In Self.S.Space file_of holds self.old space.old m → stands (Self.S.now space.new (file_of self.old)) m (region self.old)) }
+        ensures refused { OnErr result (Refuses Self.S.Space (In Self.S.Space file_of holds) self.old self.new space.old space.new) }
+        ensures full { IsErrOf result RecErr.Full → FullBy (In Self.S.Space file_of holds) fills same self.old space.old space.new }
+        ensures keeps { Keeps Self.S.Space space.old space.new }
+        ensures stays { StaysMap file_of region gets self.old self.new }
+        ensures cause { IsErrOf result RecErr.Fault → Rose (Self.S.faults space.old) (Self.S.faults space.new) };
+
+    /// Packs the file, in the form that it has or in the large one. The map and the region stay.
+    fn pack(&mut self, space: &mut Self::S, form: Form) -> Result<(), RecErr>
+        requires { IsReady Self.S.Space (In Self.S.Space file_of holds) self.old space.old }
+        ensures packed { OnOk result (Writes Self.S.Space (Only (file_of self.old)) (In Self.S.Space file_of holds) same self.old self.new space.old space.new) }
+        ensures refused { OnErr result (Refuses Self.S.Space (In Self.S.Space file_of holds) self.old self.new space.old space.new) }
+        ensures full { IsErrOf result RecErr.Full → FullBy (In Self.S.Space file_of holds) fills same self.old space.old space.new }
+        ensures keeps { Keeps Self.S.Space space.old space.new }
+        ensures stays { StaysMap file_of region gets self.old self.new }
+        ensures cause { IsErrOf result RecErr.Fault → Rose (Self.S.faults space.old) (Self.S.faults space.new) };
+}

@@ -1,0 +1,49 @@
+//! A volume that counts its syncs.
+use tc_base::Fault;
+use tc_io::Volume;
+
+/// Another volume, and how many syncs it was asked for.
+#[derive(Drop)]
+pub struct Counted<V: Volume> {
+    pub vol: V,
+    pub syncs: u64,
+}
+
+impl<V: Volume> Volume for Counted<V> {
+    ghost tells = { V.tells };
+
+    ghost calls = { λ s. V.calls s.vol };
+
+    ghost bound = { λ s. V.bound s.vol };
+
+    ghost names = { λ s. V.names s.vol };
+
+    ghost faults = { λ s. V.faults s.vol };
+
+    ghost now_is_image = { λ s told. V.now_is_image s.vol told };
+
+    fn bind(&mut self, name: &str) -> Result<(), Fault> {
+        self.vol.bind(name)
+    }
+
+    fn len(&mut self, file: u32) -> Result<u64, Fault> {
+        self.vol.len(file)
+    }
+
+    fn read(&mut self, file: u32, at: u64, into: &mut [u8]) -> Result<(), Fault> {
+        self.vol.read(file, at, into)
+    }
+
+    fn write(&mut self, file: u32, at: u64, bytes: &[u8]) -> Result<(), Fault> {
+        self.vol.write(file, at, bytes)
+    }
+
+    fn cut(&mut self, file: u32, len: u64) -> Result<(), Fault> {
+        self.vol.cut(file, len)
+    }
+
+    fn sync(&mut self, file: u32) -> Result<(), Fault> {
+        self.syncs = self.syncs.saturating_add(1);
+        self.vol.sync(file)
+    }
+}
