@@ -17,7 +17,7 @@ fn add_blocks(count: u64, into: &mut Blob) -> Result<(), AllocError> {
     let zeros = [0; 272];
     for i in 0..count {
         if i % 2 == 1 {
-            write_rec(0x90, 0, 0, b"a", b"1", 16, into)?;
+            write_rec(0x90, 0, 0, b"a", b"1", 16, false, into)?;
         } else {
             let units = 2 + i / 2 % 16;
             into.append(&[0xB0, (units * 16 % 256) as u8, (units / 16) as u8, 0, 0])?;

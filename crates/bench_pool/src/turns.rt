@@ -21,7 +21,7 @@ fn take(pool: &mut Pool, space: &mut Memory, size: u64) -> Result<u64, RecErr>
     requires { space.old.sound ≡ true }
     ensures { OnOk result (space.new.sound ≡ true) }
 {
-    if size == 0 || pool.size() > u64::MAX - size {
+    if size == 0 || size % pool.unit() != 0 || pool.size() > u64::MAX - size {
         return Err(RecErr::Full);
     }
     pool.take(space, 0, size)
@@ -35,6 +35,9 @@ fn give(pool: &mut Pool, space: &mut Memory, out: Out) -> Result<(), RecErr>
     let Out { place, size } = out;
     if size == 0 || size >= 1 << 32 {
         return Ok(());
+    }
+    if place % pool.unit() != 0 || size % pool.unit() != 0 {
+        return Err(RecErr::Full);
     }
     if place > pool.size() || size > pool.size() - place || !pool.meets_none(place, size) {
         return Err(RecErr::Full);

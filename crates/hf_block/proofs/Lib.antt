@@ -1,4 +1,5 @@
 pub mod Blocking
+pub mod FreeHeads
 pub mod Listing
 pub mod NextBlock
 pub mod Padding

@@ -3,13 +3,17 @@ use Rattle.std.proofs.Common.{◌≡◌, ◌∙◌, ℕ, ◌+◌, ◌-◌, ◌^�
 use Rattle.std.proofs.lemmas.List.{append-nil, length-take-le, drop-drop, drop-take, take-take, take_all, take_rest}
 use Rattle.std.proofs.Math.Seq.{take-add}
 use Rattle.hf_block.specs.declared.block.BlockAt.{BlockAt}
-use Rattle.hf_block.specs.Pieces.{Piece, spell, size_of, is_free, AllWhole, spell_all, IsFilled, placed}
+use Rattle.hf_block.specs.Pieces.{Piece, spell, size_of, is_free, IsSize, AllWhole, AllHaveWidth, spell_all, IsFilled, placed}
 use Rattle.hf_block.specs.Rows.{StandInRow}
 use Rattle.hf_block.specs.Walks.{Walked, IsNext, between}
 
 pub whole-append : (unit : ℕ) (ps qs : List Piece) → AllWhole unit ps → AllWhole unit qs → AllWhole unit (ps ++ qs)
 whole-append unit [] qs h k = k
 whole-append unit (p ∷ ps) qs h k = (h.0, whole-append unit ps qs h.1 k)
+
+widths-append : (w : ℕ) (ps qs : List Piece) → AllHaveWidth w ps → AllHaveWidth w qs → AllHaveWidth w (ps ++ qs)
+widths-append w [] qs h k = k
+widths-append w (p ∷ ps) qs h k = (h.0, widths-append w ps qs h.1 k)
 
 pub spell-append : (ps qs : List Piece) → spell_all (ps ++ qs) ≡ spell_all ps ++ spell_all qs
 spell-append [] qs = refl
@@ -22,16 +26,17 @@ placed-append at (p ∷ ps) qs =
     (placed-append (at + size_of p) ps qs ∙ ap (λ (n : ℕ). placed (at + size_of p) ps ++ placed n qs) (omega (arith, length-append (spell p) (spell_all ps))))
 
 -- one more block in a row
-pub row_more : (first at : ℕ) (b : BlockAt) (bs : List BlockAt) → b.place ≡ at → 0 < b.size → b.size < 2 ^ 32 → StandInRow first at bs → StandInRow first (at + b.size) (bs ++ b ∷ [])
-row_more first at b [] place some few h = (place ∙ sym h, some, few, ap (λ (n : ℕ). n + b.size) h)
-row_more first at b (c ∷ bs) place some few h = (h.0, h.1, h.2, row_more (first + c.size) at b bs place some few h.3)
+pub row_more : (unit first at : ℕ) (b : BlockAt) (bs : List BlockAt) → b.place ≡ at → IsSize unit b.size → StandInRow unit first at bs → StandInRow unit first (at + b.size) (bs ++ b ∷ [])
+row_more unit first at b [] place is h = (place ∙ sym h, is, ap (λ (n : ℕ). n + b.size) h)
+row_more unit first at b (c ∷ bs) place is h = (h.0, h.1, row_more unit (first + c.size) at b bs place is h.2)
 
-pub walked_none : (unit at : ℕ) (bytes : List ℕ) (old : List BlockAt) → Walked unit at at bytes old old
-walked_none unit at bytes old =
+pub walked_none : (w unit at : ℕ) (bytes : List ℕ) (old : List BlockAt) → Walked w unit at at bytes old old
+walked_none w unit at bytes old =
     let z : at - at ≡ 0 = omega arith in
     record {
       pieces = [];
       whole = tt;
+      widths = tt;
       is = rw z refl;
       listed = sym (append-nil old);
       on = omega arith;
@@ -39,12 +44,13 @@ walked_none unit at bytes old =
       rest = λ ps filled. (ps, rw z filled);
     }
 
-pub walked_one : (unit at n : ℕ) (kind : Bool) (bytes : List ℕ) (old : List BlockAt) → n ≤ length bytes → IsNext unit n kind bytes → Walked unit at (at + n) bytes old (old ++ record { place = at; size = n; free = kind } ∷ [])
-walked_one unit at n kind bytes old le h =
+pub walked_one : (w unit at n : ℕ) (kind : Bool) (bytes : List ℕ) (old : List BlockAt) → n ≤ length bytes → IsNext w unit n kind bytes → Walked w unit at (at + n) bytes old (old ++ record { place = at; size = n; free = kind } ∷ [])
+walked_one w unit at n kind bytes old le h =
     let e : at + n - at ≡ n = omega arith in
     record {
       pieces = h.piece ∷ [];
       whole = (h.whole, tt);
+      widths = (h.width, tt);
       is = rw e (h.is ∙ sym (append-nil (spell h.piece)));
       listed = ap (λ (b : BlockAt). old ++ b ∷ []) (λ i. record { place = at; size = sym h.size i; free = sym h.kind i });
       on = omega arith;
@@ -52,14 +58,15 @@ walked_one unit at n kind bytes old le h =
       rest = λ ps filled. rw e (h.rest ps filled);
     }
 
-pub walked_then : (unit at mid next : ℕ) (bytes : List ℕ) (old half new : List BlockAt) → Walked unit at mid bytes old half → Walked unit mid next (drop (mid - at) bytes) half new → Walked unit at next bytes old new
-walked_then unit at mid next bytes old half new a b =
+pub walked_then : (w unit at mid next : ℕ) (bytes : List ℕ) (old half new : List BlockAt) → Walked w unit at mid bytes old half → Walked w unit mid next (drop (mid - at) bytes) half new → Walked w unit at next bytes old new
+walked_then w unit at mid next bytes old half new a b =
     let sum : next - at ≡ (mid - at) + (next - mid) = omega (arith, a.on, b.on) in
     let long : length (spell_all a.pieces) ≡ mid - at = sym (ap length a.is) ∙ length-take-le (mid - at) bytes a.within in
     let place : at + length (spell_all a.pieces) ≡ mid = omega (arith, long, a.on) in
     record {
       pieces = a.pieces ++ b.pieces;
       whole = whole-append unit a.pieces b.pieces a.whole b.whole;
+      widths = widths-append w a.pieces b.pieces a.widths b.widths;
       is = rw (sum, take-add (mid - at) (next - mid) bytes, a.is, b.is) (sym (spell-append a.pieces b.pieces));
       listed = b.listed ∙ ap (λ (l : List BlockAt). l ++ placed mid b.pieces) a.listed ∙ append_assoc old (placed at a.pieces) (placed mid b.pieces)
           ∙ ap (λ (l : List BlockAt). old ++ l) (sym (placed-append at a.pieces b.pieces ∙ ap (λ (n : ℕ). placed at a.pieces ++ placed n b.pieces) place));
@@ -68,7 +75,7 @@ walked_then unit at mid next bytes old half new a b =
       rest = λ ps filled.
           let q = a.rest ps filled in
           let r = b.rest q.0 q.1 in
-          (r.0, subst (λ (l : List ℕ). IsFilled unit l r.0) (drop-drop (next - mid) (mid - at) bytes ∙ ap (λ (n : ℕ). drop n bytes) (sym sum)) r.1);
+          (r.0, subst (λ (l : List ℕ). IsFilled w unit l r.0) (drop-drop (next - mid) (mid - at) bytes ∙ ap (λ (n : ℕ). drop n bytes) (sym sum)) r.1);
     }
 
 -- a part of the chunk is the front of what is left
@@ -99,7 +106,7 @@ between_part at end len file part within long is =
     is ∙ sym (take-take len (end - at) (drop at file) (omega (arith, within))) ∙ ap (λ (n : ℕ). take n (between at end file)) (sym long)
 
 -- all was listed
-pub filled : (unit first end : ℕ) (bytes : List ℕ) (new : List BlockAt) → first + length bytes ≡ end → Walked unit first end bytes [] new → (ps : List Piece) × IsFilled unit bytes ps × (new ≡ placed first ps)
-filled unit first end bytes new long w =
+pub filled : (w unit first end : ℕ) (bytes : List ℕ) (new : List BlockAt) → first + length bytes ≡ end → Walked w unit first end bytes [] new → (ps : List Piece) × IsFilled w unit bytes ps × (new ≡ placed first ps)
+filled w unit first end bytes new long k =
     let all : take (end - first) bytes ≡ bytes = take_all (end - first) bytes (omega (arith, long)) in
-    (w.pieces, record { whole = w.whole; is = sym all ∙ w.is }, w.listed)
+    (k.pieces, record { whole = k.whole; widths = k.widths; is = sym all ∙ k.is }, k.listed)

@@ -1,14 +1,14 @@
 -- Blocks are filled up to a multiple of the unit.
-use Rattle.std.proofs.Common.{◌≡◌, ◌∙◌, ℕ, ◌+◌, ◌-◌, ◌*◌, ◌/◌, ◌%◌, ◌<◌, ◌≤◌, List, [], ◌∷◌, ◌++◌, length, take, replicate, refl, sym, ap, arith, append_assoc, length-append}
+use Rattle.std.proofs.Common.{◌≡◌, ◌∙◌, ℕ, ◌+◌, ◌-◌, ◌*◌, ◌/◌, ◌%◌, ◌<◌, ◌≤◌, List, [], ◌∷◌, ◌++◌, length, take, drop, replicate, refl, sym, ap, arith, append_assoc, length-append}
 use Rattle.std.proofs.Math.Nat.{add-mul-mod_self_right, mul-mod_left, mod-add-div'}
-use Rattle.std.proofs.lemmas.List.{append-nil, length-replicate, take-replicate, replicate-append-replicate}
+use Rattle.std.proofs.lemmas.List.{take_at, append-nil, length-replicate, take-replicate, replicate-append-replicate}
 use Rattle.tc_base.specs.Endian.{le_bytes}
 use Rattle.tc_base.specs.Files.{wrote}
 use Rattle.tc_base.specs.Vnum.{vnum}
 use Rattle.tc_base.proofs.Endians.{length-le_bytes}
 use Rattle.hf_block.specs.Heads.{rec_head}
 use Rattle.hf_block.specs.Pieces.{Record, held, spell}
-use Rattle.hf_block.specs.Written.{padding, front_bytes, content, written, record_bytes}
+use Rattle.hf_block.specs.Written.{padding, front_bytes, content, written, record_bytes, block_len}
 
 pub mod-sum : (a b c u : ℕ) → (a % u + b % u + c % u) % u ≡ (a + b + c) % u
 mod-sum a b c u =
@@ -26,59 +26,69 @@ padded u n some =
     let f : n + y ≡ (n / u + 1) * u = omega (arith, mod-add-div' n u, low) in
     sym (add-mul-mod_self_right (n + y % u) (y / u) u) ∙ ap (λ (m : ℕ). m % u) (sym e ∙ f) ∙ mul-mod_left (n / u + 1) u
 
-pub length-rec_head : (hash left right pad key value : ℕ) → length (rec_head hash left right pad key value) ≡ 12 + length (vnum key) + length (vnum value)
+pub length-rec_head : (w hash left right pad key value : ℕ) → length (rec_head w hash left right pad key value) ≡ 4 + 2 * w + length (vnum key) + length (vnum value)
 unfolding rec_head
-length-rec_head hash left right pad key value =
+length-rec_head w hash left right pad key value =
     omega (
       arith,
       length-le_bytes 1 hash,
-      length-append (le_bytes 1 hash) (le_bytes 4 left ++ (le_bytes 4 right ++ (le_bytes 2 pad ++ (vnum key ++ vnum value)))),
-      length-le_bytes 4 left,
-      length-append (le_bytes 4 left) (le_bytes 4 right ++ (le_bytes 2 pad ++ (vnum key ++ vnum value))),
-      length-le_bytes 4 right,
-      length-append (le_bytes 4 right) (le_bytes 2 pad ++ (vnum key ++ vnum value)),
+      length-append (le_bytes 1 hash) (le_bytes w left ++ (le_bytes w right ++ (le_bytes 2 pad ++ (vnum key ++ vnum value)))),
+      length-le_bytes w left,
+      length-append (le_bytes w left) (le_bytes w right ++ (le_bytes 2 pad ++ (vnum key ++ vnum value))),
+      length-le_bytes w right,
+      length-append (le_bytes w right) (le_bytes 2 pad ++ (vnum key ++ vnum value)),
       length-le_bytes 2 pad,
       length-append (le_bytes 2 pad) (vnum key ++ vnum value),
       length-append (vnum key) (vnum value),
     )
 
-pub length-held : (r : Record) → length (spell (held r)) ≡ 12 + length (vnum (length r.key)) + length (vnum (length r.value)) + length r.key + length r.value + length r.pad
+pub length-held : (r : Record) → length (spell (held r)) ≡ 4 + 2 * r.wide + length (vnum (length r.key)) + length (vnum (length r.value)) + length r.key + length r.value + length r.pad
 unfolding spell
 length-held r =
     omega (
       arith,
-      length-rec_head r.hash r.left r.right (length r.pad) (length r.key) (length r.value),
-      length-append (rec_head r.hash r.left r.right (length r.pad) (length r.key) (length r.value)) (r.key ++ (r.value ++ r.pad)),
+      length-rec_head r.wide r.hash r.left r.right (length r.pad) (length r.key) (length r.value),
+      length-append (rec_head r.wide r.hash r.left r.right (length r.pad) (length r.key) (length r.value)) (r.key ++ (r.value ++ r.pad)),
       length-append r.key (r.value ++ r.pad),
       length-append r.value r.pad,
     )
 
-pub record_aligned : (hash left right : ℕ) (key value : List ℕ) (u : ℕ) → 1 ≤ u → length (record_bytes hash left right key value u) % u ≡ 0
+pub record_long : (w hash left right : ℕ) (key value : List ℕ) (u : ℕ) → length (record_bytes w hash left right key value u) ≡ block_len w key value u
 unfolding record_bytes
-record_aligned hash left right key value u some =
-    let l = length-held (written hash left right key value u) in
-    let z : length (replicate (padding u (content key value)) 0) ≡ padding u (content key value) = length-replicate {A = ℕ} (padding u (content key value)) 0 in
-    ap (λ (n : ℕ). n % u) (omega (arith, l, z)) ∙ padded u (content key value) some
+record_long w hash left right key value u =
+    let l = length-held (written w hash left right key value u) in
+    let z : length (replicate (padding u (content w key value)) 0) ≡ padding u (content w key value) = length-replicate {A = ℕ} (padding u (content w key value)) 0 in
+    omega (arith, l, z)
 
--- the head's first twelve bytes
-pub front_is : (hash left right pad : ℕ) (a b c : List ℕ) → hash < 256
-    → a ≡ wrote 2 (le_bytes 4 left) (0xC8 ∷ hash ∷ 0 ∷ 0 ∷ 0 ∷ 0 ∷ 0 ∷ 0 ∷ 0 ∷ 0 ∷ 0 ∷ 0 ∷ []) → b ≡ wrote 6 (le_bytes 4 right) a → c ≡ wrote 10 (le_bytes 2 pad) b
-    → c ≡ front_bytes hash left right pad
-unfolding wrote le_bytes front_bytes
-front_is hash left right pad a b c small e1 e2 e3 =
-    let h : hash % 256 ≡ hash = omega arith in
-    e3 ∙ rw (e2, e1, h) refl
+pub record_aligned : (w hash left right : ℕ) (key value : List ℕ) (u : ℕ) → 1 ≤ u → length (record_bytes w hash left right key value u) % u ≡ 0
+record_aligned w hash left right key value u some =
+    ap (λ (n : ℕ). n % u) (record_long w hash left right key value u) ∙ padded u (content w key value) some
+
+one_byte : (n : ℕ) → n < 256 → n ∷ [] ≡ le_bytes 1 n
+unfolding le_bytes
+one_byte n small = let h : n % 256 ≡ n = omega arith in rw h refl
+
+-- the head's first bytes, one after the other
+pub front_is : (w hash left right pad : ℕ) (old a b c d : List ℕ) → hash < 256
+    → a ≡ old ++ (0xC8 ∷ hash ∷ []) → b ≡ a ++ le_bytes w left → c ≡ b ++ le_bytes w right → d ≡ c ++ le_bytes 2 pad
+    → d ≡ old ++ front_bytes w hash left right pad
+unfolding front_bytes
+front_is w hash left right pad old a b c d small e1 e2 e3 e4 =
+    e4 ∙ rw (e3, e2, e1) (joined old (le_bytes w left) (le_bytes w right) (le_bytes 2 pad)) ∙ ap (λ (l : List ℕ). old ++ 0xC8 ∷ (l ++ (le_bytes w left ++ (le_bytes w right ++ le_bytes 2 pad)))) (one_byte hash small)
+  where
+    joined : (old x y z : List ℕ) → (((old ++ (0xC8 ∷ hash ∷ [])) ++ x) ++ y) ++ z ≡ old ++ 0xC8 ∷ ((hash ∷ []) ++ (x ++ (y ++ z)))
+    joined old x y z = simp append_assoc
 
 seam : (old a b c d e f k v z : List ℕ) → (((((old ++ 200 ∷ (a ++ (b ++ (c ++ d)))) ++ e) ++ f) ++ k) ++ v) ++ z ≡ old ++ ((200 ∷ (a ++ (b ++ (c ++ (d ++ (e ++ f)))))) ++ (k ++ (v ++ z)))
 seam old a b c d e f k v z = simp append_assoc
 
 -- one after the other
-pub record_is : (hash left right : ℕ) (key value old : List ℕ) (u pad : ℕ) → pad ≡ padding u (content key value)
-    → (((((old ++ front_bytes hash left right pad) ++ vnum (length key)) ++ vnum (length value)) ++ key) ++ value) ++ replicate pad 0 ≡ old ++ record_bytes hash left right key value u
+pub record_is : (w hash left right : ℕ) (key value old : List ℕ) (u pad : ℕ) → pad ≡ padding u (content w key value)
+    → (((((old ++ front_bytes w hash left right pad) ++ vnum (length key)) ++ vnum (length value)) ++ key) ++ value) ++ replicate pad 0 ≡ old ++ record_bytes w hash left right key value u
 unfolding front_bytes record_bytes spell rec_head
-record_is hash left right key value old u pad is =
-    let z : length (replicate (padding u (content key value)) 0) ≡ padding u (content key value) = length-replicate {A = ℕ} (padding u (content key value)) 0 in
-    rw (is, z) (seam old (le_bytes 1 hash) (le_bytes 4 left) (le_bytes 4 right) (le_bytes 2 (padding u (content key value))) (vnum (length key)) (vnum (length value)) key value (replicate (padding u (content key value)) 0))
+record_is w hash left right key value old u pad is =
+    let z : length (replicate (padding u (content w key value)) 0) ≡ padding u (content w key value) = length-replicate {A = ℕ} (padding u (content w key value)) 0 in
+    rw (is, z) (seam old (le_bytes 1 hash) (le_bytes w left) (le_bytes w right) (le_bytes 2 (padding u (content w key value))) (vnum (length key)) (vnum (length value)) key value (replicate (padding u (content w key value)) 0))
 
 pub more_zeros : (old : List ℕ) (count rest n : ℕ) → n ≤ rest → rest ≤ count → n ≤ 256 → (old ++ replicate (count - rest) 0) ++ take n (replicate 256 0) ≡ old ++ replicate (count - (rest - n)) 0
 more_zeros old count rest n le within few =
@@ -97,3 +107,8 @@ chained_more old f v1 v2 a1 a2 front k v key value e1 e2 e3 e4 e5 = (front ++ (k
 
 pub further : (old a z : List ℕ) → ((m : List ℕ) × (a ≡ old ++ m)) → ((m : List ℕ) × (z ≡ a ++ m)) → (m : List ℕ) × (z ≡ old ++ m)
 further old a z p q = (p.0 ++ q.0, q.1 ∙ ap (λ (l : List ℕ). l ++ q.0) p.1 ∙ append_assoc old p.0 q.0)
+
+-- a number written into the front of a field, and the front taken
+pub field_front : (width n : ℕ) (old : List ℕ) → take width (wrote 0 (le_bytes width n) old) ≡ le_bytes width n
+unfolding wrote
+field_front width n old = take_at (le_bytes width n) (drop (0 + length (le_bytes width n)) old) width (length-le_bytes width n)

@@ -1,6 +1,5 @@
 pub mod Fronts
 pub mod Heads
-pub mod OnlyReads
 pub mod Pieces
 pub mod Rows
 pub mod Walks

@@ -1,11 +1,12 @@
 -- The blocks of a file as a list.
-use Rattle.std.specs.Prelude.{◌≡◌, ℕ, ◌+◌, ◌<◌, ◌^◌, true, Some, List, [], ◌∷◌, slice_get}
+use Rattle.std.specs.Prelude.{◌≡◌, ℕ, ◌+◌, true, Some, List, [], ◌∷◌, slice_get}
 use Rattle.hf_block.specs.declared.block.BlockAt.{BlockAt}
+use Rattle.hf_block.specs.Pieces.{IsSize}
 
--- the blocks stand one after the other from one place to another, none of them empty or of 2 ^ 32 bytes and more
-abbrev pub StandInRow : ℕ → ℕ → List BlockAt → Type 0
-StandInRow at end [] = at ≡ end
-StandInRow at end (b ∷ bs) = (b.place ≡ at) × (0 < b.size) × (b.size < 2 ^ 32) × StandInRow (at + b.size) end bs
+-- the blocks stand one after the other from one place to another, each with a size that a block may have
+abbrev pub StandInRow : ℕ → ℕ → ℕ → List BlockAt → Type 0
+StandInRow unit at end [] = at ≡ end
+StandInRow unit at end (b ∷ bs) = (b.place ≡ at) × IsSize unit b.size × StandInRow unit (at + b.size) end bs
 
 -- a free block of that size at that place is listed
 abbrev pub IsListed : List BlockAt → ℕ → ℕ → Type 0

@@ -3,18 +3,19 @@ use Rattle.std.specs.Prelude.{◌≡◌, ℕ, ◌+◌, ◌-◌, ◌≤◌, Bool,
 use Rattle.hf_block.specs.declared.block.Block.{Block}
 use Rattle.hf_block.specs.declared.block.Block.TheVariants.{Rec, Free}
 use Rattle.hf_block.specs.declared.block.BlockAt.{BlockAt}
-use Rattle.hf_block.specs.Pieces.{Piece, IsWhole, AllWhole, IsFilled, spell, size_of, is_free, spell_all, placed}
+use Rattle.hf_block.specs.Pieces.{Piece, IsWhole, AllWhole, HasWidth, AllHaveWidth, IsFilled, spell, size_of, is_free, spell_all, placed}
 
 -- from one place to the next the bytes are whole blocks, which were listed; and if whole blocks fill all the bytes from the
 -- first place on, they do so from the next
-pub record Walked (unit at next : ℕ) (bytes : List ℕ) (old new : List BlockAt) : Type 0 where
+pub record Walked (wide unit at next : ℕ) (bytes : List ℕ) (old new : List BlockAt) : Type 0 where
   pub pieces : List Piece
   pub whole : AllWhole unit pieces
+  pub widths : AllHaveWidth wide pieces
   pub is : take (next - at) bytes ≡ spell_all pieces
   pub listed : new ≡ old ++ placed at pieces
   pub on : at ≤ next
   pub within : next - at ≤ length bytes
-  pub rest : (ps : List Piece) → IsFilled unit bytes ps → (qs : List Piece) × IsFilled unit (drop (next - at) bytes) qs
+  pub rest : (ps : List Piece) → IsFilled wide unit bytes ps → (qs : List Piece) × IsFilled wide unit (drop (next - at) bytes) qs
 
 -- the bytes from one place up to another
 abbrev pub between : ℕ → ℕ → List ℕ → List ℕ
@@ -30,10 +31,11 @@ is_free_block (Rec hash left right pad key value head) = false
 is_free_block (Free size) = true
 
 -- a whole block of n bytes stands at the front; and if whole blocks fill the bytes, they do so behind it
-pub record IsNext (unit n : ℕ) (free : Bool) (bytes : List ℕ) : Type 0 where
+pub record IsNext (wide unit n : ℕ) (free : Bool) (bytes : List ℕ) : Type 0 where
   pub piece : Piece
   pub whole : IsWhole unit piece
+  pub width : HasWidth wide piece
   pub is : take n bytes ≡ spell piece
   pub size : size_of piece ≡ n
   pub kind : is_free piece ≡ free
-  pub rest : (ps : List Piece) → IsFilled unit bytes ps → (qs : List Piece) × IsFilled unit (drop n bytes) qs
+  pub rest : (ps : List Piece) → IsFilled wide unit bytes ps → (qs : List Piece) × IsFilled wide unit (drop n bytes) qs

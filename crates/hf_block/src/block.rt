@@ -7,7 +7,7 @@ pub enum Block {
     Rec {
         /// The second hash of its key.
         hash: u8,
-        /// The place of its left subtree, shifted right by the alignment power, below 2^32; 0 for none.
+        /// The place of its left subtree, shifted right by the alignment power; 0 for none. Below 2^32 but in the large form.
         left: u64,
         /// The same of its right subtree.
         right: u64,

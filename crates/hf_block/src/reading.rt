@@ -1,7 +1,8 @@
 //! The head of a block at the front of bytes.
-ghost use Rattle.std.specs.Prelude.{◌≡◌, ◌↔◌, ◌+◌, ◌≤◌, length, IfOk, Ok, Err};
+ghost use Rattle.std.specs.Prelude.{◌≡◌, ◌↔◌, ◌+◌, ◌*◌, ◌≤◌, length, IfOk, Ok, Err};
 ghost use Rattle.tc_base.specs.Reading.{Gives};
 ghost use Rattle.tc_base.specs.Vnum.{vnum};
+ghost use Rattle.hf_head.specs.Heads.{wide};
 ghost use Rattle.hf_block.specs.declared.block.Block.{Block};
 ghost use Rattle.hf_block.specs.Heads.{head_bytes, Fits, IsPrefix, IsPart};
 ghost use Rattle.hf_block.specs.Fronts.{rec_front, free_front, block_front};
@@ -21,22 +22,31 @@ pub enum BlockErr {
     Bad,
 }
 
-// The bytes before the key of a record with a key and a value of these sizes.
-pub(crate) fn head_len(key: u64, value: u64) -> u64
-    ensures value { result ≡ 12 + length (vnum key) + length (vnum value) }
-    ensures most { result ≤ 32 }
+// The bytes of a chain.
+pub(crate) fn width(large: bool) -> usize
+    ensures value { result ≡ wide large }
+    ensures some { 4 ≤ result }
+    ensures most { result ≤ 8 }
 {
-    12 + vnum_len(key) as u64 + vnum_len(value) as u64
+    if large { 8 } else { 4 }
+}
+
+// The bytes before the key of a record with a key and a value of these sizes.
+pub(crate) fn head_len(key: u64, value: u64, large: bool) -> u64
+    ensures value { result ≡ 4 + 2 * wide large + length (vnum key) + length (vnum value) }
+    ensures most { result ≤ 40 }
+{
+    4 + 2 * width(large) as u64 + vnum_len(key) as u64 + vnum_len(value) as u64
 }
 
 // What stands behind the first byte of a record.
 #[tactic(auto, unfolding(crate::specs::Fronts::rec_front))]
-fn read_rec(bytes: &[u8]) -> Result<(Block, &[u8]), NotWhole>
-    ensures { Gives (λ x. (x.0, x.1.now)) result (rec_front bytes.now) }
+fn read_rec(bytes: &[u8], large: bool) -> Result<(Block, &[u8]), NotWhole>
+    ensures { Gives (λ x. (x.0, x.1.now)) result (rec_front (wide large) bytes.now) }
 {
     let (hash, rest) = read_le(1, bytes)?;
-    let (left, rest) = read_le(4, rest)?;
-    let (right, rest) = read_le(4, rest)?;
+    let (left, rest) = read_le(width(large), rest)?;
+    let (right, rest) = read_le(width(large), rest)?;
     let (pad, rest) = read_le(2, rest)?;
     let (key, rest) = read_number(rest)?;
     let (value, rest) = read_number(rest)?;
@@ -47,7 +57,7 @@ fn read_rec(bytes: &[u8]) -> Result<(Block, &[u8]), NotWhole>
         pad: pad as u16,
         key,
         value,
-        head: head_len(key, value),
+        head: head_len(key, value, large),
     };
     Ok((block, rest))
 }
@@ -58,29 +68,33 @@ fn read_free(bytes: &[u8]) -> Result<(Block, &[u8]), NotWhole>
     ensures { Gives (λ x. (x.0, x.1.now)) result (free_front bytes.now) }
 {
     let (size, rest) = read_le(4, bytes)?;
+    if size == 0 {
+        return Err(NotWhole::Bad);
+    }
     Ok((Block::Free { size }, rest))
 }
 
 #[tactic(auto, unfolding(crate::specs::Fronts::block_front))]
-fn read_front(bytes: &[u8]) -> Result<(Block, &[u8]), NotWhole>
-    ensures { Gives (λ x. (x.0, x.1.now)) result (block_front bytes.now) }
+fn read_front(bytes: &[u8], large: bool) -> Result<(Block, &[u8]), NotWhole>
+    ensures { Gives (λ x. (x.0, x.1.now)) result (block_front (wide large) bytes.now) }
 {
     match bytes {
         [] => Err(NotWhole::Part),
-        [0xC8, rest @ ..] => read_rec(rest),
+        [0xC8, rest @ ..] => read_rec(rest, large),
         [0xB0, rest @ ..] => read_free(rest),
         _ => Err(NotWhole::Bad),
     }
 }
 
-/// The head of the block at the front of the bytes; what stands behind it isn't looked at. It takes no memory.
-pub fn read_block(bytes: &[u8]) -> Result<Block, BlockErr>
-    ensures found { IfOk result (λ b. Fits b × IsPrefix (head_bytes b) bytes.now) }
-    ensures again { (b : Block) → Fits b → IsPrefix (head_bytes b) bytes.now → result ≡ Ok b }
-    ensures short { (result ≡ Err BlockErr.Short) ↔ ((b : Block) × Fits b × IsPart bytes.now (head_bytes b)) }
-    ensures bad { (result ≡ Err BlockErr.Bad) ↔ ((b : Block) → Fits b → (IsPrefix (head_bytes b) bytes.now → ⊥) × (IsPart bytes.now (head_bytes b) → ⊥)) }
+/// The head of the block at the front of the bytes, of a file in the large form or not; what stands behind it isn't looked at. It
+/// takes no memory.
+pub fn read_block(bytes: &[u8], large: bool) -> Result<Block, BlockErr>
+    ensures found { IfOk result (λ b. Fits (wide large) b × IsPrefix (head_bytes (wide large) b) bytes.now) }
+    ensures again { (b : Block) → Fits (wide large) b → IsPrefix (head_bytes (wide large) b) bytes.now → result ≡ Ok b }
+    ensures short { (result ≡ Err BlockErr.Short) ↔ ((b : Block) × Fits (wide large) b × IsPart bytes.now (head_bytes (wide large) b)) }
+    ensures bad { (result ≡ Err BlockErr.Bad) ↔ ((b : Block) → Fits (wide large) b → (IsPrefix (head_bytes (wide large) b) bytes.now → ⊥) × (IsPart bytes.now (head_bytes (wide large) b) → ⊥)) }
 {
-    match read_front(bytes) {
+    match read_front(bytes, large) {
         Ok((block, _)) => Ok(block),
         Err(NotWhole::Part) => Err(BlockErr::Short),
         Err(NotWhole::Bad) => Err(BlockErr::Bad),

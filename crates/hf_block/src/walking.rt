@@ -3,12 +3,12 @@ ghost use Rattle.std.specs.Prelude.{◌≡◌, ℕ, ◌+◌, ◌-◌, ◌≤◌,
 ghost use Rattle.tc_io.specs.Causes.{Rose, HasCause};
 ghost use Rattle.tc_base.specs.declared.kind.Rule.{Rule};
 ghost use Rattle.tc_space.specs.Ranges.{IsDataFile};
-ghost use Rattle.hf_head.specs.Heads.{IsValid, unit as head_unit};
+ghost use Rattle.hf_head.specs.Heads.{IsValid, is_large, wide, unit as head_unit};
 ghost use Rattle.hf_block.specs.Heads.{Fits};
 ghost use Rattle.hf_block.specs.Pieces.{Piece, IsFilled, IsSize, placed};
 ghost use Rattle.hf_block.specs.Rows.{StandInRow};
 ghost use Rattle.hf_block.specs.Walks.{Walked, IsNext, between, total, is_free_block};
-ghost use Rattle.hf_block.specs.OnlyReads.{OnlyReads};
+ghost use Rattle.tc_space.specs.Frames.{OnlyReads};
 
 use crate::block::{Block, BlockAt, Blocks};
 use crate::reading::read_block;
@@ -57,8 +57,8 @@ pub const WHOLE_BLOCKS: Rule = Rule {
 };
 
 // The size of a block whose head this is, if a block may have it, and whether it is free.
-fn measure(block: &Block, unit: u64) -> Option<(u64, bool)>
-    requires fits { Fits block.now }
+fn measure(block: &Block, unit: u64, large: bool) -> Option<(u64, bool)>
+    requires fits { Fits (wide large) block.now }
     requires unit { 1 ≤ unit }
     ensures some { IfSome result (λ m. (m.0 ≡ total block.now) × (m.1 ≡ is_free_block block.now) × IsSize unit m.0) }
     ensures none { IfNone result (IsSize unit (total block.now) → ⊥) }
@@ -78,26 +78,26 @@ fn measure(block: &Block, unit: u64) -> Option<(u64, bool)>
             (*head + *key + *value + u64::from(*pad), false)
         }
     };
-    if size == 0 || size % unit != 0 || size >= 1 << 32 {
+    if size % unit != 0 || size >= 1 << 32 {
         return None;
     }
     Some((size, free))
 }
 
 // The size of the block whose first bytes these are, and whether it is free, where so many bytes are left up to the end.
-fn one_block(front: &[u8], left: u64, unit: u64) -> Option<(u64, bool)>
+fn one_block(front: &[u8], left: u64, unit: u64, large: bool) -> Option<(u64, bool)>
     requires some { 0 < length front.now }
     requires within { length front.now ≤ left }
-    requires enough { (length front.now ≡ left) ⊎ (32 ≤ length front.now) }
+    requires enough { (length front.now ≡ left) ⊎ (40 ≤ length front.now) }
     requires unit { 5 ≤ unit }
-    ensures some { IfSome result (λ m. (0 < m.0) × (m.0 < 2 ^ 32) × (m.0 ≤ left)) }
-    ensures next { IfSome result (λ m. (bytes : List ℕ) → front.now ≡ take (length front.now) bytes → length bytes ≡ left → IsNext unit m.0 m.1 bytes) }
-    ensures none { IfNone result ((bytes : List ℕ) → front.now ≡ take (length front.now) bytes → length bytes ≡ left → (ps : List Piece) → IsFilled unit bytes ps → ⊥) }
+    ensures some { IfSome result (λ m. IsSize unit m.0 × (m.0 ≤ left)) }
+    ensures next { IfSome result (λ m. (bytes : List ℕ) → front.now ≡ take (length front.now) bytes → length bytes ≡ left → IsNext (wide large) unit m.0 m.1 bytes) }
+    ensures none { IfNone result ((bytes : List ℕ) → front.now ≡ take (length front.now) bytes → length bytes ≡ left → (ps : List Piece) → IsFilled (wide large) unit bytes ps → ⊥) }
 {
-    let Ok(block) = read_block(front) else {
+    let Ok(block) = read_block(front, large) else {
         return None;
     };
-    let Some((size, free)) = measure(&block, unit) else {
+    let Some((size, free)) = measure(&block, unit, large) else {
         return None;
     };
     if size > left {
@@ -108,22 +108,30 @@ fn one_block(front: &[u8], left: u64, unit: u64) -> Option<(u64, bool)>
 
 // Lists the blocks of a chunk of bytes from place `at` on, and answers where the next block begins. The last block may end
 // behind the chunk.
-fn walk_chunk(chunk: &[u8], at: u64, end: u64, unit: u64, list: &mut Blocks) -> Result<u64, WalkErr>
+fn walk_chunk(
+    chunk: &[u8],
+    at: u64,
+    end: u64,
+    unit: u64,
+    large: bool,
+    list: &mut Blocks,
+) -> Result<u64, WalkErr>
     requires some { 0 < length chunk.now }
     requires within { at + length chunk.now ≤ end }
-    requires enough { (at + length chunk.now ≡ end) ⊎ (32 ≤ length chunk.now) }
+    requires enough { (at + length chunk.now ≡ end) ⊎ (40 ≤ length chunk.now) }
     requires unit { 5 ≤ unit }
     ensures on { IfOk result (λ next. (at < next) × (next ≤ end)) }
-    ensures row { IfOk result (λ next. (first : ℕ) → StandInRow first at list.old → StandInRow first next list.new) }
-    ensures walked { IfOk result (λ next. (bytes : List ℕ) → chunk.now ≡ take (length chunk.now) bytes → at + length bytes ≡ end → Walked unit at next bytes list.old list.new) }
+    ensures row { IfOk result (λ next. (first : ℕ) → StandInRow unit first at list.old → StandInRow unit first next list.new) }
+    ensures walked { IfOk result (λ next. (bytes : List ℕ) → chunk.now ≡ take (length chunk.now) bytes → at + length bytes ≡ end → Walked (wide large) unit at next bytes list.old list.new) }
     ensures rule { (rule : Rule) → result ≡ Err (WalkErr.Broken rule) → rule ≡ WHOLE_BLOCKS }
-    ensures broken { (rule : Rule) → result ≡ Err (WalkErr.Broken rule) → (bytes : List ℕ) → chunk.now ≡ take (length chunk.now) bytes → at + length bytes ≡ end → (ps : List Piece) → IsFilled unit bytes ps → ⊥ }
+    ensures broken { (rule : Rule) → result ≡ Err (WalkErr.Broken rule) → (bytes : List ℕ) → chunk.now ≡ take (length chunk.now) bytes → at + length bytes ≡ end → (ps : List Piece) → IsFilled (wide large) unit bytes ps → ⊥ }
     ensures no_fault { IsErrOf result WalkErr.Fault → ⊥ }
 {
     let len = chunk.len() as u64;
     let mut next = at;
-    while next - at < len && (len - (next - at) >= 32 || at + len == end) {
-        let Some((size, free)) = one_block(&chunk[(next - at) as usize..], end - next, unit) else {
+    while next - at < len && (len - (next - at) >= 40 || at + len == end) {
+        let Some((size, free)) = one_block(&chunk[(next - at) as usize..], end - next, unit, large)
+        else {
             return Err(WalkErr::Broken(WHOLE_BLOCKS));
         };
         list.push(BlockAt {
@@ -143,6 +151,7 @@ fn walk_piece<S: Space>(
     at: u64,
     end: u64,
     unit: u64,
+    large: bool,
     chunk: &mut [u8],
     blocks: &mut Blocks,
 ) -> Result<u64, WalkErr>
@@ -151,18 +160,18 @@ fn walk_piece<S: Space>(
     requires inside { S.tells → end ≤ length (S.now space.old file) }
     requires some { 0 < length chunk.old }
     requires within { at + length chunk.old ≤ end }
-    requires enough { (at + length chunk.old ≡ end) ⊎ (32 ≤ length chunk.old) }
+    requires enough { (at + length chunk.old ≡ end) ⊎ (40 ≤ length chunk.old) }
     requires unit { 5 ≤ unit }
     ensures on { IfOk result (λ next. (at < next) × (next ≤ end)) }
-    ensures row { IfOk result (λ next. (first : ℕ) → StandInRow first at blocks.old → StandInRow first next blocks.new) }
-    ensures walked { IfOk result (λ next. S.tells → Walked unit at next (between at end (S.now space.old file)) blocks.old blocks.new) }
+    ensures row { IfOk result (λ next. (first : ℕ) → StandInRow unit first at blocks.old → StandInRow unit first next blocks.new) }
+    ensures walked { IfOk result (λ next. S.tells → Walked (wide large) unit at next (between at end (S.now space.old file)) blocks.old blocks.new) }
     ensures rule { (rule : Rule) → result ≡ Err (WalkErr.Broken rule) → rule ≡ WHOLE_BLOCKS }
-    ensures broken { (rule : Rule) → result ≡ Err (WalkErr.Broken rule) → S.tells → (ps : List Piece) → IsFilled unit (between at end (S.now space.old file)) ps → ⊥ }
-    ensures reads { OnlyReads S.tells S.now S.moment S.left S.kept S.sound S.touched S.limit S.faults space.old space.new }
+    ensures broken { (rule : Rule) → result ≡ Err (WalkErr.Broken rule) → S.tells → (ps : List Piece) → IsFilled (wide large) unit (between at end (S.now space.old file)) ps → ⊥ }
+    ensures reads { OnlyReads S.Space space.old space.new }
     ensures cause { IsErrOf result WalkErr.Fault → Rose (S.faults space.old) (S.faults space.new) }
 {
     space.read(file, at, chunk)?;
-    walk_chunk(chunk, at, end, unit, blocks)
+    walk_chunk(chunk, at, end, unit, large, blocks)
 }
 
 /// The blocks of a file from the head's first block to its file size, in ascending place, whatever the space tells. It reads each block's head once, many
@@ -177,21 +186,31 @@ pub fn walk<S: Space>(
     requires file { IsDataFile file }
     requires head { IsValid head.now }
     requires inside { S.tells → head.now.size ≤ length (S.now space.old file) }
-    ensures row { IfOk result (λ blocks. StandInRow head.now.first head.now.size blocks) }
-    ensures listed { IfOk result (λ blocks. S.tells → (ps : List Piece) × IsFilled (head_unit head.now) (between head.now.first head.now.size (S.now space.old file)) ps × (blocks ≡ placed head.now.first ps)) }
+    ensures row { IfOk result (λ blocks. StandInRow (head_unit head.now) head.now.first head.now.size blocks) }
+    ensures listed { IfOk result (λ blocks. S.tells → (ps : List Piece) × IsFilled (wide (is_large head.now)) (head_unit head.now) (between head.now.first head.now.size (S.now space.old file)) ps × (blocks ≡ placed head.now.first ps)) }
     ensures rule { (rule : Rule) → result ≡ Err (WalkErr.Broken rule) → rule ≡ WHOLE_BLOCKS }
-    ensures broken { (rule : Rule) → result ≡ Err (WalkErr.Broken rule) → S.tells → (ps : List Piece) → IsFilled (head_unit head.now) (between head.now.first head.now.size (S.now space.old file)) ps → ⊥ }
-    ensures reads { OnlyReads S.tells S.now S.moment S.left S.kept S.sound S.touched S.limit S.faults space.old space.new }
+    ensures broken { (rule : Rule) → result ≡ Err (WalkErr.Broken rule) → S.tells → (ps : List Piece) → IsFilled (wide (is_large head.now)) (head_unit head.now) (between head.now.first head.now.size (S.now space.old file)) ps → ⊥ }
+    ensures reads { OnlyReads S.Space space.old space.new }
     ensures cause { IsErrOf result WalkErr.Fault → Rose (S.faults space.old) (S.faults space.new) }
 {
     let unit = head.unit();
+    let large = head.is_large();
     let end = head.size;
     let mut blocks = Blocks::new(alloc);
     let mut chunk = [0; 4096];
     let mut at = head.first;
     while at < end {
         let len = (end - at).min(4096) as usize;
-        match walk_piece(space, file, at, end, unit, &mut chunk[..len], &mut blocks) {
+        match walk_piece(
+            space,
+            file,
+            at,
+            end,
+            unit,
+            large,
+            &mut chunk[..len],
+            &mut blocks,
+        ) {
             Ok(next) => at = next,
             Err(e) => return Err(e),
         }

@@ -1,5 +1,5 @@
 -- The head of a hash, tree or table file.
-use Rattle.std.specs.Prelude.{◌≡◌, ℕ, ◌+◌, ◌*◌, ◌%◌, ◌^◌, ◌≤◌, ◌⊎◌, List, [], ◌∷◌, ◌++◌, replicate, slice_index}
+use Rattle.std.specs.Prelude.{◌≡◌, ℕ, ◌+◌, ◌*◌, ◌%◌, ◌^◌, ◌≤◌, ◌⊎◌, ◌==◌, Bool, if◌then◌else◌, List, [], ◌∷◌, ◌++◌, replicate, slice_index}
 use Rattle.tc_base.specs.Endian.{le_bytes, field}
 use Rattle.hf_head.specs.declared.errors.HeadErr.{HeadErr}
 use Rattle.hf_head.specs.declared.head.Head.{Head}
@@ -31,15 +31,23 @@ IsKind h = (h.kind ≡ 0) ⊎ (h.kind ≡ 1) ⊎ (h.kind ≡ 3)
 abbrev pub HasPowers : Head → Type 0
 HasPowers h = (4 ≤ h.apow) × (h.apow ≤ 16) × (h.fpow ≤ 20)
 
-abbrev pub HasNoOptions : Head → Type 0
-HasNoOptions h = h.options ≡ 0
+-- none, or the large form
+abbrev pub HasKnownOptions : Head → Type 0
+HasKnownOptions h = (h.options ≡ 0) ⊎ (h.options ≡ 1)
+
+abbrev pub is_large : Head → Bool
+is_large h = h.options == 1
+
+-- the bytes of a bucket entry and of a chain
+abbrev pub wide : Bool → ℕ
+wide large = if large then 8 else 4
 
 abbrev pub unit : Head → ℕ
 unit h = 2 ^ h.apow
 
 -- head, bucket array and pool section
 abbrev pub sections : Head → ℕ
-sections h = 256 + 4 * h.buckets + (64 + 4 * 2 ^ h.fpow)
+sections h = 256 + wide (is_large h) * h.buckets + (64 + 4 * 2 ^ h.fpow)
 
 pub record HasNumbers (h : Head) : Type 0 where
   pub some_buckets : 1 ≤ h.buckets
@@ -53,12 +61,12 @@ pub record HasNumbers (h : Head) : Type 0 where
 pub record IsValid (h : Head) : Type 0 where
   pub is_kind : IsKind h
   pub powers : HasPowers h
-  pub no_options : HasNoOptions h
+  pub known_options : HasKnownOptions h
   pub numbers : HasNumbers h
 
 -- the first refusal that is so
 abbrev pub IsRefused : HeadErr → List ℕ → Type 0
-IsRefused e bytes = IsFirst (HasMagic bytes) (IsKind (head_in bytes)) (HasPowers (head_in bytes)) (HasNoOptions (head_in bytes)) (HasNumbers (head_in bytes)) e
+IsRefused e bytes = IsFirst (HasMagic bytes) (IsKind (head_in bytes)) (HasPowers (head_in bytes)) (HasKnownOptions (head_in bytes)) (HasNumbers (head_in bytes)) e
 
 -- the bytes written: zeros where no field is named
 unfoldable pub spelled : Head → List ℕ

@@ -14,7 +14,7 @@ pub struct Head {
     pub apow: u8,
     /// The free pool power, 0 to 20: the pool section has 64 + 4 × 2 to this power bytes.
     pub fpow: u8,
-    /// The options, 0.
+    /// The options: 0, or 1 for the large form, whose bucket entries and chains have 8 bytes and not 4.
     pub options: u8,
     /// The number of buckets, 1 to 2^38.
     pub buckets: u64,
@@ -29,7 +29,7 @@ pub struct Head {
 }
 
 impl Head {
-    ghost use Rattle.hf_head.specs.Heads.{head_in, spelled, Spells, IsKind, HasPowers, HasNumbers, IsValid, IsRefused};
+    ghost use Rattle.hf_head.specs.Heads.{head_in, spelled, Spells, IsKind, HasPowers, HasNumbers, HasKnownOptions, IsValid, IsRefused, is_large, sections, wide};
 
     /// The head that 256 bytes spell. Each refusal is the first of its variants that is so.
     pub fn read(bytes: &[u8; 256]) -> Result<Head, HeadErr>
@@ -76,7 +76,7 @@ impl Head {
         if !head.has_powers() {
             return Err(HeadErr::Power);
         }
-        if head.options != 0 {
+        if !head.has_known_options() {
             return Err(HeadErr::Opts);
         }
         if !head.has_numbers() {
@@ -97,13 +97,34 @@ impl Head {
         self.apow >= 4 && self.apow <= 16 && self.fpow <= 20
     }
 
+    fn has_known_options(&self) -> bool
+        ensures { IsTrue result ↔ HasKnownOptions self.now }
+    {
+        self.options == 0 || self.options == 1
+    }
+
+    /// Whether it is the head of a file in the large form.
+    pub fn is_large(&self) -> bool
+        ensures { result ≡ is_large self.now }
+    {
+        self.options == 1
+    }
+
+    /// The bytes of a bucket entry and of a chain: 4, in the large form 8.
+    pub fn width(&self) -> u64
+        ensures value { result ≡ wide (is_large self.now) }
+        ensures most { result ≤ 8 }
+    {
+        if self.is_large() { 8 } else { 4 }
+    }
+
     // The least place of the first block.
     fn behind_sections(&self) -> u64
         requires buckets { self.now.buckets ≤ 2 ^ 38 }
         requires fpow { self.now.fpow ≤ 20 }
-        ensures { result ≡ 256 + 4 * self.now.buckets + (64 + 4 * 2 ^ self.now.fpow) }
+        ensures { result ≡ sections self.now }
     {
-        256 + 4 * self.buckets + (64 + (4 << self.fpow))
+        256 + self.width() * self.buckets + (64 + (4 << self.fpow))
     }
 
     fn has_numbers(&self) -> bool

@@ -5,7 +5,7 @@ use Rattle.std.proofs.lemmas.Bool.{cases_eq, cases_lt, eq-eqb, ne_eqb}
 use Rattle.tc_base.specs.Files.{wrote}
 use Rattle.hf_block.specs.Heads.{free_head}
 use Rattle.hf_block.specs.Walks.{between}
-use Rattle.hf_block.specs.Pieces.{Piece, held, free, size_of, AllWhole, spell_all, IsFilled}
+use Rattle.hf_block.specs.Pieces.{Piece, held, free, size_of, AllWhole, spell_all, AreBlocks}
 use Rattle.hf_layout.specs.Frees.{Frees, IsThere, with_block, without}
 use Rattle.hf_layout.specs.Layout.{piece_at, record_of, free_of, record_at, frees_of, LaidOut, Keeps, TakesBack, MeetsNoRecord}
 use Rattle.hf_block.proofs.Listing.{between_long}
@@ -135,7 +135,7 @@ given_back unit first end ps frees lent now new x bytes at start total h g in_ro
         room = h.room;
         on = h.on;
         within = omega (arith, within, wrote_long start (free_head total) bytes (omega (arith, length-free_head total, big, last, within)));
-        filled = subst (λ (b : List ℕ). IsFilled unit b new_ps) (sym same_bytes) (fused unit total g.xs g.ys mid (between first end bytes) h.room w.0 w.2 mid_long some multiple few raw);
+        filled = subst (λ (b : List ℕ). AreBlocks unit b new_ps) (sym same_bytes) (fused unit total g.xs g.ys mid (between first end bytes) h.room w.0 w.2 mid_long some multiple few raw);
         shared = λ q. elim (sides q start total) [
           | inl out ↦ shared_as (frees_of first ps q) (frees_of first new_ps q) (frees q) (new q) (lent q) (without lent at q) (ap free_of (sw.out q out)) (with q ∙ with_off now start total q (apart q out) ∙ g.off q out) (without_off lent at q (not_at q out)) (h.shared q)
           | inr in_row ↦ elim (cases_eq q start) [
@@ -262,7 +262,7 @@ front_of unit first end ps frees lent new bytes place size found tail h at there
         room = h.room;
         on = h.on;
         within = omega (arith, h.within, long_one, long_two);
-        filled = subst (λ (b : List ℕ). IsFilled unit b new_ps) (sym same_bytes) sp.0;
+        filled = subst (λ (b : List ℕ). AreBlocks unit b new_ps) (sym same_bytes) sp.0;
         shared = λ q. elim (sides q place found) [
           | inl out ↦ shared_as (frees_of first ps q) (frees_of first new_ps q) (frees q) (new q) (lent q) (with_block lent place size q) (ap free_of (sw.out q out)) (with q ∙ with_off (without frees place) (place + size) (found - size) q (not_rest q out) ∙ without_off frees place q (not_front q out)) (with_off lent place size q (not_front q out)) (h.shared q)
           | inr row ↦ elim (cases_eq q place) [
@@ -301,7 +301,7 @@ front_of unit first end ps frees lent new bytes place size found tail h at there
     hr : List ℕ
     hr = free_head (found - size)
 
-    sp : IsFilled unit (wrote (long s.xs + size) hr (wrote (long s.xs) hs (between first end bytes))) new_ps × AllWhole unit row × (long row ≡ long (free found tail ∷ []))
+    sp : AreBlocks unit (wrote (long s.xs + size) hr (wrote (long s.xs) hs (between first end bytes))) new_ps × AllWhole unit row × (long row ≡ long (free found tail ∷ []))
     sp = split unit size found tail s.xs s.ys (between first end bytes) h.room some multiple less h1.filled
 
     whole_found : size_of (free found tail) ≡ found

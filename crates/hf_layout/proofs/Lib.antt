@@ -1,3 +1,5 @@
+pub mod Chains
+pub mod Bytes
 pub mod Places
 pub mod Segments
 pub mod Shares

@@ -5,7 +5,7 @@ use Rattle.std.proofs.lemmas.Bool.{cases_eq}
 use Rattle.hf_block.specs.declared.block.BlockAt.{BlockAt}
 use Rattle.hf_block.specs.Rows.{IsListed}
 use Rattle.hf_block.specs.Walks.{between}
-use Rattle.hf_block.specs.Pieces.{Piece, held, free, size_of, is_free, AllWhole, IsFilled, placed}
+use Rattle.hf_block.specs.Pieces.{Piece, held, free, size_of, is_free, AllWhole, AreBlocks, placed}
 use Rattle.hf_layout.specs.Frees.{Frees, IsThere, LieInside, none}
 use Rattle.hf_layout.specs.Layout.{piece_at, free_of, frees_of, LaidOut}
 use Rattle.hf_layout.proofs.Places.{here, later}
@@ -49,7 +49,7 @@ same_option None (Some t) h = (h t).1 refl
 same_option (Some t) p h = sym ((h t).0 refl)
 
 -- a pool of the listed free blocks is the file's, with nothing lent out
-pub listed_pool : (unit first end : ℕ) (ps : List Piece) (blocks : List BlockAt) (frees : Frees) (bytes : List ℕ) → 5 ≤ unit → first ≤ end → end ≤ length bytes → IsFilled unit (between first end bytes) ps → blocks ≡ placed first ps → ((q t : ℕ) → IsThere frees q t ↔ IsListed blocks q t) → LaidOut unit first end ps frees none bytes
+pub listed_pool : (unit first end : ℕ) (ps : List Piece) (blocks : List BlockAt) (frees : Frees) (bytes : List ℕ) → 5 ≤ unit → first ≤ end → end ≤ length bytes → AreBlocks unit (between first end bytes) ps → blocks ≡ placed first ps → ((q t : ℕ) → IsThere frees q t ↔ IsListed blocks q t) → LaidOut unit first end ps frees none bytes
 listed_pool unit first end ps blocks frees bytes room on within filled is all = record {
   room = room;
   on = on;

@@ -6,7 +6,7 @@ use Rattle.std.proofs.lemmas.List.{append-nil, places, same_lists}
 use Rattle.tc_base.specs.Files.{wrote}
 use Rattle.hf_block.specs.Heads.{free_head}
 use Rattle.hf_block.specs.Walks.{between}
-use Rattle.hf_block.specs.Pieces.{Record, Piece, held, free, spell, size_of, AllWhole, spell_all, IsFilled}
+use Rattle.hf_block.specs.Pieces.{Record, Piece, held, free, spell, size_of, AllWhole, spell_all, AreBlocks}
 use Rattle.hf_block.proofs.Listing.{spell-append, whole-append}
 use Rattle.hf_layout.specs.Frees.{Frees, with_block, without}
 use Rattle.hf_layout.specs.Layout.{piece_at, record_of, free_of, record_at, frees_of, IsShared, LaidOut, HasBlock, Writes}
@@ -25,7 +25,7 @@ record_off q place r o ne = ap (λ (b : Bool). cond b (Some r) o) (ne_eqb q plac
 -- a record and what is left over in the place of a block
 put_row : (unit first end place size : ℕ) (ps more xs ys : List Piece) (p : Piece) (frees lent lent' : Frees) (bytes bytes' : List ℕ) (r : Record)
     → LaidOut unit first end ps frees lent bytes → ps ≡ xs ++ ((p ∷ []) ++ ys) → first + long xs ≡ place → piece_at first ps place ≡ Some p → size_of p ≡ size → frees place ≡ None
-    → AllWhole unit (held r ∷ more) → long (held r ∷ more) ≡ size → end ≤ length bytes' → IsFilled unit (between first end bytes') (xs ++ ((held r ∷ more) ++ ys))
+    → AllWhole unit (held r ∷ more) → long (held r ∷ more) ≡ size → end ≤ length bytes' → AreBlocks unit (between first end bytes') (xs ++ ((held r ∷ more) ++ ys))
     → ((q : ℕ) → (q < place) ⊎ (place + size ≤ q) → lent' q ≡ lent q) → lent' place ≡ None
     → ((q : ℕ) → place < q → q < place + size → lent' q ≡ free_of (piece_at (place + size_of (held r)) more q)) → ((q : ℕ) → record_of (piece_at (place + size_of (held r)) more q) ≡ None)
     → Writes unit first end ps frees lent' place r bytes'
@@ -86,7 +86,7 @@ record Found (unit first end : ℕ) (ps : List Piece) (bytes : List ℕ) (place 
   pub at : piece_at first ps place ≡ Some piece
   pub size_is : size_of piece ≡ size
   pub last : place + size ≤ end
-  pub filled : IsFilled unit (between first end bytes) (xs ++ ((piece ∷ []) ++ ys))
+  pub filled : AreBlocks unit (between first end bytes) (xs ++ ((piece ∷ []) ++ ys))
 
 stands : (unit first end place size : ℕ) (ps : List Piece) (frees lent : Frees) (bytes : List ℕ) → LaidOut unit first end ps frees lent bytes → HasBlock first ps place size → Found unit first end ps bytes place size
 stands unit first end place size ps frees lent bytes h block =
@@ -100,7 +100,7 @@ stands unit first end place size ps frees lent bytes h block =
       at = block.1;
       size_is = block.2;
       last = omega (arith, (ends_within unit first ps block.0 place block.1).1, block.2, ends unit first end ps frees lent bytes h);
-      filled = subst (λ (l : List Piece). IsFilled unit (between first end bytes) l) s.is h.filled;
+      filled = subst (λ (l : List Piece). AreBlocks unit (between first end bytes) l) s.is h.filled;
     }
 
 pub fills : FillsBlock
@@ -112,7 +112,7 @@ fills unit first end place ps frees lent bytes r h whole block unpooled =
     wrote_between first end place (spell (held r)) bytes (omega (arith, s.place_is)) s.last h.within ∙ ap (λ (k : ℕ). wrote k (spell (held r)) (between first end bytes)) n ∙ ap (λ (l : List ℕ). wrote (long s.xs) l (between first end bytes)) (sym (append-nil (spell (held r)))) in
     put_row unit first end place (size_of (held r)) ps [] s.xs s.ys s.piece frees lent (without lent place) bytes (wrote place (spell (held r)) bytes) r h s.is s.place_is s.at s.size_is unpooled (whole, tt) same
     (omega (arith, h.within, wrote_long place (spell (held r)) bytes (omega (arith, s.last, h.within))))
-    (subst (λ (b : List ℕ). IsFilled unit b (s.xs ++ ((held r ∷ []) ++ s.ys))) (sym bytes_same) (replaced unit s.xs (s.piece ∷ []) (held r ∷ []) s.ys (between first end bytes) (whole, tt) (omega (arith, same, s.size_is, long-cons s.piece [])) s.filled))
+    (subst (λ (b : List ℕ). AreBlocks unit b (s.xs ++ ((held r ∷ []) ++ s.ys))) (sym bytes_same) (replaced unit s.xs (s.piece ∷ []) (held r ∷ []) s.ys (between first end bytes) (whole, tt) (omega (arith, same, s.size_is, long-cons s.piece [])) s.filled))
     (λ q out. without_off lent place q (elim out [ inl low ↦ (λ e. omega (arith, low, e)) | inr high ↦ (λ e. omega (arith, high, e, whole.size.some)) ]))
     (without_at lent place place refl)
     (λ q low high. without_off lent place q (λ e. omega (arith, low, e)) ∙ (inside_none unit first end ps frees lent bytes s.piece place q h s.at low (omega (arith, high, s.size_is))).1)
@@ -215,10 +215,10 @@ fills_front unit first end place size ps frees lent bytes r h whole block unpool
         wrote_between first end (place + n) (free_head rest) one_written (omega (arith, s.place_is)) (omega (arith, s.last, length-free_head rest, big, less)) (omega (arith, h.within, long_one))
         ∙ ap (λ (k : ℕ). wrote k (free_head rest) (between first end one_written)) (omega (arith, s.place_is, front_long))
 
-    filled : IsFilled unit (between first end after) (s.xs ++ ((held r ∷ more) ++ s.ys))
+    filled : AreBlocks unit (between first end after) (s.xs ++ ((held r ∷ more) ++ s.ys))
     filled =
-        subst (λ (l : List Piece). IsFilled unit (between first end after) l) (append_assoc s.xs (held r ∷ []) (more ++ s.ys))
-        (subst (λ (b : List ℕ). IsFilled unit b (front ++ (more ++ s.ys))) (sym after_range)
+        subst (λ (l : List Piece). AreBlocks unit (between first end after) l) (append_assoc s.xs (held r ∷ []) (more ++ s.ys))
+        (subst (λ (b : List ℕ). AreBlocks unit b (front ++ (more ++ s.ys))) (sym after_range)
         (fused unit rest front s.ys mid (between first end one_written) h.room (whole-append unit s.xs (held r ∷ []) w.0 (whole, tt)) w.2 mid_long some multiple few first_range))
 
 -- the bytes up to behind what was written at an end

@@ -7,7 +7,7 @@ use Rattle.tc_base.specs.Files.{wrote}
 use Rattle.tc_base.proofs.Endians.{length-le_bytes}
 use Rattle.hf_block.specs.Heads.{free_head}
 use Rattle.hf_block.specs.Walks.{between}
-use Rattle.hf_block.specs.Pieces.{Piece, free, spell, size_of, IsWhole, AllWhole, spell_all, IsFilled}
+use Rattle.hf_block.specs.Pieces.{Piece, free, spell, size_of, IsWhole, AllWhole, spell_all, AreBlocks}
 use Rattle.hf_block.proofs.Listing.{spell-append, whole-append}
 use Rattle.hf_layout.proofs.Places.{long, long-cons, whole_parts}
 
@@ -84,7 +84,7 @@ whole_with unit xs old new ys whole more =
     whole-append unit xs (new ++ ys) a.0 (whole-append unit new ys more b.1)
 
 -- a row of blocks is written over by another of its length
-pub replaced : (unit : ℕ) (xs old new ys : List Piece) (bytes : List ℕ) → AllWhole unit new → long new ≡ long old → IsFilled unit bytes (xs ++ (old ++ ys)) → IsFilled unit (wrote (long xs) (spell_all new) bytes) (xs ++ (new ++ ys))
+pub replaced : (unit : ℕ) (xs old new ys : List Piece) (bytes : List ℕ) → AllWhole unit new → long new ≡ long old → AreBlocks unit bytes (xs ++ (old ++ ys)) → AreBlocks unit (wrote (long xs) (spell_all new) bytes) (xs ++ (new ++ ys))
 replaced unit xs old new ys bytes more same h = record {
   whole = whole_with unit xs old new ys h.whole more;
   is = ap (λ (l : List ℕ). wrote (long xs) (spell_all new) l) (h.is ∙ parts xs old ys) ∙ wrote_mid (spell_all xs) (spell_all old) (spell_all ys) (spell_all new) (long xs) refl same ∙ sym (parts xs new ys);
@@ -129,7 +129,7 @@ unfolding wrote
 wrote_nothing n bytes = same_lists _ _ (grind (arith, places)) (λ i d h. grind (arith, places))
 
 -- the head of a free block written over bytes between blocks
-pub fused : (unit total : ℕ) (xs ys : List Piece) (mid bytes : List ℕ) → 5 ≤ unit → AllWhole unit xs → AllWhole unit ys → length mid ≡ total → 0 < total → total % unit ≡ 0 → total < 2 ^ 32 → bytes ≡ spell_all xs ++ (mid ++ spell_all ys) → IsFilled unit (wrote (long xs) (free_head total) bytes) (xs ++ (one_free total mid ++ ys))
+pub fused : (unit total : ℕ) (xs ys : List Piece) (mid bytes : List ℕ) → 5 ≤ unit → AllWhole unit xs → AllWhole unit ys → length mid ≡ total → 0 < total → total % unit ≡ 0 → total < 2 ^ 32 → bytes ≡ spell_all xs ++ (mid ++ spell_all ys) → AreBlocks unit (wrote (long xs) (free_head total) bytes) (xs ++ (one_free total mid ++ ys))
 unfolding spell
 fused unit total xs ys mid bytes room first last same some multiple few is =
     let l = length-free_head total in
@@ -147,7 +147,7 @@ pub rest_aligned : (unit size found : ℕ) → size < found → size % unit ≡ 
 rest_aligned unit size found less e f = ap (λ (n : ℕ). n % unit) (omega (arith, e)) ∙ mod-add-mod size unit (found - size) ∙ ap (λ (n : ℕ). n % unit) (omega (arith, less)) ∙ f
 
 -- a free block parted by two heads
-pub split : (unit size found : ℕ) (tail : List ℕ) (xs ys : List Piece) (bytes : List ℕ) → 5 ≤ unit → 0 < size → size % unit ≡ 0 → size < found → IsFilled unit bytes (xs ++ ((free found tail ∷ []) ++ ys)) → IsFilled unit (wrote (long xs + size) (free_head (found - size)) (wrote (long xs) (free_head size) bytes)) (xs ++ (two_free size found tail ++ ys)) × AllWhole unit (two_free size found tail) × (long (two_free size found tail) ≡ long (free found tail ∷ []))
+pub split : (unit size found : ℕ) (tail : List ℕ) (xs ys : List Piece) (bytes : List ℕ) → 5 ≤ unit → 0 < size → size % unit ≡ 0 → size < found → AreBlocks unit bytes (xs ++ ((free found tail ∷ []) ++ ys)) → AreBlocks unit (wrote (long xs + size) (free_head (found - size)) (wrote (long xs) (free_head size) bytes)) (xs ++ (two_free size found tail ++ ys)) × AllWhole unit (two_free size found tail) × (long (two_free size found tail) ≡ long (free found tail ∷ []))
 unfolding spell
 split unit size found tail xs ys bytes room some multiple less h =
     let w = (whole_parts unit (free found tail ∷ []) ys (whole_parts unit xs ((free found tail ∷ []) ++ ys) h.whole).1).0.0 in

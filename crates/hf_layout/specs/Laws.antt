@@ -1,10 +1,11 @@
 -- What records written into a file make of its blocks.
-use Rattle.std.specs.Prelude.{◌≡◌, ℕ, ◌+◌, ◌-◌, ◌<◌, List, length, Some, None}
+use Rattle.std.specs.Prelude.{◌≡◌, ℕ, ◌+◌, ◌-◌, ◌%◌, ◌^◌, ◌<◌, ◌≤◌, List, length, take, drop, Some, None}
 use Rattle.tc_base.specs.Files.{wrote}
+use Rattle.tc_base.specs.Endian.{le_bytes}
 use Rattle.hf_block.specs.Heads.{free_head}
-use Rattle.hf_block.specs.Pieces.{Record, Piece, held, spell, size_of, IsWhole}
-use Rattle.hf_layout.specs.Frees.{Frees, LieInside, with_block, without}
-use Rattle.hf_layout.specs.Layout.{LaidOut, HasBlock, Stands, Writes, record_at}
+use Rattle.hf_block.specs.Pieces.{Record, Piece, held, spell, size_of, IsWhole, AllHaveWidth}
+use Rattle.hf_layout.specs.Frees.{Frees, IsThere, LieInside, with_block, without}
+use Rattle.hf_layout.specs.Layout.{LaidOut, HasBlock, HaveWidth, Stands, Writes, record_at}
 
 -- a record over a whole block of its size that isn't the pool's: a block lent out, or a record before
 abbrev pub FillsBlock : Type 0
@@ -39,3 +40,34 @@ RecordIsBlock = (unit first end place : ℕ) (pieces : List Piece) (frees lent :
 -- the pool's free blocks lie in the file
 abbrev pub PoolLiesInside : Type 0
 PoolLiesInside = (unit first end : ℕ) (pieces : List Piece) (frees lent : Frees) (bytes : List ℕ) → LaidOut unit first end pieces frees lent bytes → LieInside frees (length bytes)
+
+-- a record's bytes stand at its place
+abbrev pub RecordHasBytes : Type 0
+RecordHasBytes = (unit first end place : ℕ) (pieces : List Piece) (frees lent : Frees) (bytes : List ℕ) (r : Record) → LaidOut unit first end pieces frees lent bytes → record_at first pieces place ≡ Some r → take (size_of (held r)) (drop place bytes) ≡ spell (held r)
+
+-- the bytes of its left chain written: the record has another left chain, and that is all
+abbrev pub SetsLeft : Type 0
+SetsLeft =
+    (unit first end place x : ℕ) (pieces : List Piece) (frees lent : Frees) (bytes : List ℕ) (r : Record) → LaidOut unit first end pieces frees lent bytes → record_at first pieces place ≡ Some r → x < 256 ^ r.wide
+    → Writes unit first end pieces frees lent place (record r { left = x }) (wrote (place + 2) (le_bytes r.wide x) bytes)
+
+abbrev pub SetsRight : Type 0
+SetsRight =
+    (unit first end place x : ℕ) (pieces : List Piece) (frees lent : Frees) (bytes : List ℕ) (r : Record) → LaidOut unit first end pieces frees lent bytes → record_at first pieces place ≡ Some r → x < 256 ^ r.wide
+    → Writes unit first end pieces frees lent place (record r { right = x }) (wrote (place + 2 + r.wide) (le_bytes r.wide x) bytes)
+
+-- a free block of the pool is a block of the file
+abbrev pub FreeIsBlock : Type 0
+FreeIsBlock = (unit first end place size : ℕ) (pieces : List Piece) (frees lent : Frees) (bytes : List ℕ) → LaidOut unit first end pieces frees lent bytes → IsThere frees place size → HasBlock first pieces place size
+
+-- a block's place is a multiple of the unit, as the first one's is
+abbrev pub PlacesAreAligned : Type 0
+PlacesAreAligned = (unit first end place size : ℕ) (pieces : List Piece) (frees lent : Frees) (bytes : List ℕ) → LaidOut unit first end pieces frees lent bytes → first % unit ≡ 0 → HasBlock first pieces place size → place % unit ≡ 0
+
+-- what is written from the first block on leaves the bytes before it
+abbrev pub FrontStays : Type 0
+FrontStays = (first place : ℕ) (x bytes : List ℕ) → first ≤ place → place ≤ length bytes → take first (wrote place x bytes) ≡ take first bytes
+
+-- records whose blocks were listed in one form have its chains
+abbrev pub ListedHaveWidth : Type 0
+ListedHaveWidth = (wide first : ℕ) (pieces : List Piece) → AllHaveWidth wide pieces → HaveWidth wide first pieces

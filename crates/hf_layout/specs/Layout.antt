@@ -1,6 +1,6 @@
 -- The blocks of a file, and which of them a pool has as free.
 use Rattle.std.specs.Prelude.{◌≡◌, ℕ, ◌+◌, ◌≤◌, ◌==◌, ◌⊎◌, List, [], ◌∷◌, length, Option, Some, None, if◌then◌else◌}
-use Rattle.hf_block.specs.Pieces.{Record, Piece, held, free, size_of, IsSize, IsFilled}
+use Rattle.hf_block.specs.Pieces.{Record, Piece, held, free, size_of, IsSize, AreBlocks}
 use Rattle.hf_block.specs.Walks.{between}
 use Rattle.hf_layout.specs.Frees.{Frees, MeetsNone, without}
 
@@ -23,6 +23,10 @@ free_of (Some (free size tail)) = Some (size_of (free size tail))
 abbrev pub record_at : ℕ → List Piece → ℕ → Option Record
 record_at first pieces q = record_of (piece_at first pieces q)
 
+-- each record's chains have that many bytes
+abbrev pub HaveWidth : ℕ → ℕ → List Piece → Type 0
+HaveWidth wide first pieces = (q : ℕ) (r : Record) → record_at first pieces q ≡ Some r → r.wide ≡ wide
+
 -- the free blocks among them
 abbrev pub frees_of : ℕ → List Piece → Frees
 frees_of first pieces q = free_of (piece_at first pieces q)
@@ -36,7 +40,7 @@ pub record LaidOut (unit first end : ℕ) (pieces : List Piece) (frees lent : Fr
   pub room : 5 ≤ unit
   pub on : first ≤ end
   pub within : end ≤ length bytes
-  pub filled : IsFilled unit (between first end bytes) pieces
+  pub filled : AreBlocks unit (between first end bytes) pieces
   pub shared : (q : ℕ) → IsShared (frees_of first pieces q) (frees q) (lent q)
 
 -- so it is again, and each record stays

@@ -6,6 +6,7 @@
 mod laws;
 
 pub use laws::{
-    block_stands, lent_is_a_block, pool_lies_inside, record_fills_a_block, record_fills_a_front,
-    record_is_a_block, record_stands_behind,
+    block_stands, chains_are_set, free_is_a_block, front_stays, lent_is_a_block, listed_have_width,
+    places_are_aligned, pool_lies_inside, record_fills_a_block, record_fills_a_front,
+    record_has_bytes, record_is_a_block, record_stands_behind,
 };

@@ -6,33 +6,52 @@ use Rattle.hf_block.specs.Heads.{free_head}
 use Rattle.hf_block.specs.Pieces.{Piece, AllWhole, spell_all}
 use Rattle.hf_layout.specs.Frees.{Frees, IsThere, IsBest, MeetsNone, with_block, without}
 use Rattle.hf_layout.specs.Layout.{piece_at, record_of, free_of, record_at, frees_of, LaidOut, Keeps, TakesBack, HasBlock}
-use Rattle.hf_layout.proofs.Segments.{length-free_head, wrote_nothing}
+use Rattle.hf_layout.proofs.Bytes.{head_stands, wrote_apart, whole_at}
+use Rattle.hf_layout.proofs.Segments.{length-free_head, wrote_nothing, large, rest_aligned}
 use Rattle.hf_block.proofs.Listing.{spell-append}
 use Rattle.hf_layout.proofs.Places.{long, whole_parts, behind, in_front, parted_at}
-use Rattle.hf_layout.proofs.Shares.{nothing, shared_as, ends, known, inside_none, block_large, Gathered, gather_one, gather_same}
+use Rattle.hf_layout.proofs.Shares.{nothing, shared_as, ends, ends_within, known, inside_none, block_large, Gathered, gather_one, gather_same}
 use Rattle.hf_layout.proofs.Gathers.{gather_front, gather_back, given_back, lent_whole, lent_front}
 use Rattle.hf_pool.specs.Marks.{marked, parted}
 use Rattle.hf_pool.specs.Trims.{Row, row_end, row_block}
 use Rattle.hf_pool.specs.Joins.{FrontJoined, BackJoined, GivesBack}
 
-pub parted_front : (place size found : ℕ) (bytes : List ℕ) → size < found → parted place size found bytes ≡ marked (place + size) (found - size) (marked place size bytes)
-parted_front place size found bytes less = ap (λ (b : Bool). cond b bytes (marked (place + size) (found - size) (marked place size bytes))) (ne_eqb found size (omega arith))
-
 -- what a pool holds once the front of a free block is taken
 abbrev pub Left : Frees → Frees → ℕ → ℕ → ℕ → Type 0
 Left old new size place found = (q : ℕ) → new q ≡ cond (found == size) (without old place q) (with_block (without old place) (place + size) (found - size) q)
 
-pub taken : (unit first end : ℕ) (ps : List Piece) (frees new lent : Frees) (bytes after : List ℕ) (place size found : ℕ) → LaidOut unit first end ps frees lent bytes → IsBest frees size place found → 0 < size → size % unit ≡ 0 → Left frees new size place found → after ≡ parted place size found bytes → Keeps unit first end ps new (with_block lent place size) after
+pub parted_front : (place size found : ℕ) (bytes : List ℕ) → size < found → parted place size found bytes ≡ marked (place + size) (found - size) bytes
+parted_front place size found bytes less = ap (λ (b : Bool). cond b bytes (marked (place + size) (found - size) bytes)) (ne_eqb found size (omega arith))
+
+pub parted_whole : (place size found : ℕ) (bytes : List ℕ) → found ≡ size → parted place size found bytes ≡ bytes
+parted_whole place size found bytes e = ap (λ (b : Bool). cond b bytes (marked (place + size) (found - size) bytes)) (eq-eqb found size e)
+
+-- what is left over holds a head, and lies in the file
+rest_inside : (unit first end : ℕ) (ps : List Piece) (frees lent : Frees) (bytes : List ℕ) (place size found : ℕ) → LaidOut unit first end ps frees lent bytes → IsThere frees place found → size < found → 0 < size → size % unit ≡ 0 → (5 ≤ size) × (place + size + 5 ≤ length bytes)
+rest_inside unit first end ps frees lent bytes place size found h there less some multiple =
+    let k = known unit first end ps frees lent bytes place found h there in
+    let w = whole_at unit first ps k.piece place h.filled.whole k.at in
+    let far = ends_within unit first ps k.piece place k.at in
+    let e = ends unit first end ps frees lent bytes h in
+    let whole : found % unit ≡ 0 = subst (λ (n : ℕ). n % unit ≡ 0) k.size w.size.aligned in
+    let front = large unit size some multiple in
+    let rest = large unit (found - size) (omega (arith, less)) (rest_aligned unit size found less multiple whole) in
+    (omega (arith, front, h.room), omega (arith, rest, h.room, far.1, k.size, e, h.within, less))
+
+-- a block is lent out: with a head of its size it is one of the file's
+pub taken : (unit first end : ℕ) (ps : List Piece) (frees new lent : Frees) (bytes after : List ℕ) (place size found : ℕ) → LaidOut unit first end ps frees lent bytes → IsBest frees size place found → 0 < size → size % unit ≡ 0 → Left frees new size place found → after ≡ parted place size found bytes → Keeps unit first end ps new (with_block lent place size) (marked place size after)
 taken unit first end ps frees new lent bytes after place size found h best some multiple left is = elim (cases_eq found size) [
   | inl e ↦
       let t = eq-eqb found size e in
       let there : IsThere frees place size = best.there ∙ ap (λ (n : ℕ). Some n) e in
-      subst (λ (b : List ℕ). Keeps unit first end ps new (with_block lent place size) b) (sym (is ∙ ap (λ (b : Bool). cond b bytes (marked (place + size) (found - size) (marked place size bytes))) t))
+      subst (λ (b : List ℕ). Keeps unit first end ps new (with_block lent place size) b) (sym (ap (marked place size) (is ∙ parted_whole place size found bytes e) ∙ head_stands unit first end ps frees lent bytes place size h there))
       (lent_whole unit first end ps frees lent new bytes place size h there (λ q. left q ∙ ap (λ (b : Bool). cond b (without frees place q) (with_block (without frees place) (place + size) (found - size) q)) t))
   | inr ne ↦
+      let less : size < found = omega (arith, best.enough, ne) in
       let t = ne_eqb found size ne in
-      subst (λ (b : List ℕ). Keeps unit first end ps new (with_block lent place size) b) (sym (is ∙ ap (λ (b : Bool). cond b bytes (marked (place + size) (found - size) (marked place size bytes))) t))
-      (lent_front unit first end ps frees lent new bytes place size found h best.there some multiple (omega (arith, best.enough, ne)) (λ q. left q ∙ ap (λ (b : Bool). cond b (without frees place q) (with_block (without frees place) (place + size) (found - size) q)) t))
+      let room = rest_inside unit first end ps frees lent bytes place size found h best.there less some multiple in
+      subst (λ (b : List ℕ). Keeps unit first end ps new (with_block lent place size) b) (sym (ap (marked place size) (is ∙ parted_front place size found bytes less) ∙ wrote_apart place (place + size) (free_head size) (free_head (found - size)) bytes (omega (arith, length-free_head size, room.0)) (omega (arith, length-free_head (found - size), room.1))))
+      (lent_front unit first end ps frees lent new bytes place size found h best.there some multiple less (λ q. left q ∙ ap (λ (b : Bool). cond b (without frees place q) (with_block (without frees place) (place + size) (found - size) q)) t))
 ]
 
 -- ---- given back

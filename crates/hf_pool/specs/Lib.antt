@@ -1,3 +1,4 @@
+pub mod Multiples
 pub mod Joins
 pub mod Marks
 pub mod Orders

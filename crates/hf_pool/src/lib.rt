@@ -1,5 +1,5 @@
 //! The free blocks of a hash file.
-#![tactic(auto)]
+#![tactic(auto, using(tc_space::specs::Frames::keeps_refl, tc_space::specs::Frames::keeps_then))]
 
 mod index;
 mod marks;

@@ -1,6 +1,6 @@
 //! The free blocks of a file and its size.
 use crate::index::Index;
-use crate::marks::{mark, part};
+use crate::marks::mark;
 use hf_block::Blocks;
 use std::alloc::{AllocError, Global};
 use tc_base::{Blob, put_vnum, vnum_len};
@@ -12,20 +12,24 @@ pub struct Pool {
     index: Index,
     unit: u64,
     size: u64,
-    ghost some: { 0 < unit },
-    ghost within: { (q t : ℕ) → tree.get nat_cmp index.by_place q ≡ Some t → (0 < t) × (t < 2 ^ 32) × (q + t ≤ size) },
+    ghost some: { 5 ≤ unit },
+    ghost aligned: { size % unit ≡ 0 },
+    ghost within: { LieWithin size (tree.get nat_cmp index.by_place) },
+    ghost multiples: { AreMultiples unit (tree.get nat_cmp index.by_place) },
 }
 
 impl Pool {
     ghost use Rattle.std.specs.Prelude.{◌≡◌, ◌≢◌, ℕ, ◌+◌, ◌-◌, ◌%◌, ◌<◌, ◌≤◌, ◌^◌, ◌⊎◌, ◌↔◌, ◌++◌, List, length, replicate, IfOk, OnOk, OnErr, IsErrOf, IsTrue, true, false};
     ghost use Rattle.tc_io.specs.Causes.{Rose};
     ghost use Rattle.tc_space.specs.Ranges.{IsDataFile, Passes};
-    ghost use Rattle.hf_block.specs.Pieces.{Piece, IsFilled, placed};
+    ghost use Rattle.hf_block.specs.Pieces.{Piece, IsSize, AreBlocks, placed};
     ghost use Rattle.hf_block.specs.Walks.{between};
     ghost use Rattle.hf_layout.specs.Frees.{Frees, IsThere, IsBest, HasNone, MeetsNone, LieInside, with_block, none};
-    ghost use Rattle.hf_layout.specs.Layout.{LaidOut, Keeps, TakesBack, HasBlock, MeetsNoRecord};
-    ghost use Rattle.hf_pool.specs.Pools.{frees, TakesFree, Grows};
-    ghost use Rattle.hf_pool.specs.Marks.{OnlyMarks, parted, marked};
+    ghost use Rattle.hf_layout.specs.Layout.{LaidOut, Keeps};
+    ghost use Rattle.hf_pool.specs.Pools.{frees, TakesFree, Grows, IsTaken, Lends, GoesBack};
+    ghost use Rattle.hf_pool.specs.Marks.{marked};
+    ghost use Rattle.tc_space.specs.Effects.{Changes, Outcome};
+    ghost use Rattle.tc_space.specs.Frames.{Others, OnlyWrites};
     ghost use Rattle.hf_pool.specs.Joins.{FrontJoined, BackJoined, GivesBack};
     ghost use Rattle.hf_pool.specs.Trims.{Trimmed};
     ghost use Rattle.hf_block.specs.Rows.{StandInRow, IsListed};
@@ -36,6 +40,14 @@ impl Pool {
         ensures { result ≡ self.now.size }
     {
         self.size
+    }
+
+    /// The unit of places and sizes.
+    pub fn unit(&self) -> u64
+        ensures value { result ≡ self.now.unit }
+        ensures some { 5 ≤ result }
+    {
+        self.unit
     }
 
     /// Whether a block there meets no free block.
@@ -51,8 +63,8 @@ impl Pool {
     fn part_in_memory(&mut self, place: u64, found: u64, size: u64) -> Result<(), AllocError>
         requires best { IsBest (frees self.old) size place found }
         requires some { 0 < size }
+        requires aligned { size % self.old.unit ≡ 0 }
         ensures ok { OnOk result (TakesFree self.old self.new size place found) }
-        ensures unit { self.new.unit ≡ self.old.unit }
     {
         self.index.remove(place, found);
         if found > size {
@@ -61,27 +73,24 @@ impl Pool {
         Ok(())
     }
 
-    /// Takes a block of that size: the least free block that is large enough, the one at the lowest place among equals, of
-    /// which what is left over stays free; else one at the end. It answers the block's place. After a refusal the space isn't
-    /// sound.
+    /// Takes a block of that size, a multiple of the unit: the least free block that is large enough, the one at the lowest place among equals, of
+    /// which what is left over stays free; else one at the end. It answers the block's place, a multiple of the unit. Only the head of what is left
+    /// over is written. After a refusal the space isn't sound.
     pub fn take<S: Space>(&mut self, space: &mut S, file: u32, size: u64) -> Result<u64, RecErr>
         requires sound { S.sound space.old }
         requires file { IsDataFile file }
         requires some { 0 < size }
+        requires aligned { size % self.old.unit ≡ 0 }
         requires fits { self.old.size + size < 2 ^ 64 }
         requires held { S.tells → LieInside (frees self.old) (length (S.now space.old file)) }
         ensures taken { IfOk result (λ place. ((found : ℕ) × TakesFree self.old self.new size place found) ⊎ Grows self.old self.new size place) }
-        ensures bytes { IfOk result (λ place. (found : ℕ) → IsBest (frees self.old) size place found → S.tells → S.now space.new file ≡ parted place size found (S.now space.old file)) }
-        ensures grown { OnOk result (HasNone (frees self.old) size → S.tells → S.now space.new file ≡ S.now space.old file) }
-        ensures lent { IfOk result (λ place. S.tells → (first end found : ℕ) (pieces : List Piece) (lent : Frees) → LaidOut self.old.unit first end pieces (frees self.old) lent (S.now space.old file) → size % self.old.unit ≡ 0 → IsBest (frees self.old) size place found → Keeps self.old.unit first end pieces (frees self.new) (with_block lent place size) (S.now space.new file)) }
-        ensures beyond { OnOk result (S.tells → (first end : ℕ) (pieces : List Piece) (lent : Frees) → LaidOut self.old.unit first end pieces (frees self.old) lent (S.now space.old file) → HasNone (frees self.old) size → LaidOut self.old.unit first end pieces (frees self.new) lent (S.now space.new file)) }
-        ensures clear { IfOk result (λ place. S.tells → (first end : ℕ) (pieces : List Piece) (lent : Frees) → LaidOut self.old.unit first end pieces (frees self.old) lent (S.now space.old file) → end ≤ self.old.size → MeetsNoRecord first pieces place size) }
-        ensures unit { self.new.unit ≡ self.old.unit }
-        ensures others { OnOk result (S.tells → (g : ℕ) → g ≢ file → S.now space.new g ≡ S.now space.old g) }
-        ensures sound { OnOk result (S.sound space.new) }
-        ensures spoiled { OnErr result (S.flag space.new ≡ false) }
-        ensures marks { OnlyMarks S.tells S.moment S.left S.kept S.limit S.bytes_read S.faults space.old space.new }
-        ensures full { IsErrOf result RecErr.Full → (place : ℕ) × (found : ℕ) × IsBest (frees self.old) size place found × (Passes (S.limit space.old file) (S.overfills space.old file place 5) place 5 ⊎ ((s : S) × S.sound s × (S.tells → S.now s file ≡ marked place size (S.now space.old file)) × Passes (S.limit space.old file) (S.overfills s file (place + size) 5) (place + size) 5)) }
+        ensures aligned { IfOk result (λ place. place % self.old.unit ≡ 0) }
+        ensures bytes { IfOk result (λ place. S.tells → IsTaken (frees self.old) size place (S.now space.old file) (S.now space.new file)) }
+        ensures lends { IfOk result (λ place. S.tells → Lends self.old.unit self.old.size (frees self.old) (frees self.new) size place (S.now space.old file) (S.now space.new file)) }
+        ensures others { OnOk result (Others S.Space (λ g. g ≡ file) space.old space.new) }
+        ensures outcome { Outcome S.sound S.flag result space.new }
+        ensures writes { OnlyWrites S.Space space.old space.new }
+        ensures full { IsErrOf result RecErr.Full → (place : ℕ) × (found : ℕ) × IsBest (frees self.old) size place found × Passes (S.limit space.old file) (S.log_full space.new) (place + size) 5 }
         ensures cause { IsErrOf result RecErr.Fault → Rose (S.faults space.old) (S.faults space.new) }
     {
         let Some((place, found)) = self.index.best(size) else {
@@ -94,7 +103,7 @@ impl Pool {
             return Err(RecErr::Memory);
         };
         if found > size {
-            if let Err(e) = part(space, file, place, size, found - size) {
+            if let Err(e) = mark(space, file, place + size, found - size) {
                 return Err(e);
             }
         }
@@ -142,6 +151,7 @@ impl Pool {
         requires some { 0 < size }
         requires size { size < 2 ^ 32 }
         requires within { at + size ≤ self.old.size }
+        requires aligned { (at % self.old.unit ≡ 0) × (size % self.old.unit ≡ 0) }
         requires apart { MeetsNone (frees self.old) at size }
         ensures ok { IfOk result (λ b. GivesBack (frees self.old) (frees self.new) at size b.0 b.1) }
         ensures end { OnOk result (self.new.size ≡ self.old.size) }
@@ -154,8 +164,8 @@ impl Pool {
         Ok((start, total))
     }
 
-    /// Gives a block back: it is joined with the free neighbour before it and then with the one behind it, each where the sum is
-    /// below 2^32, and its head is written. After a refusal the space isn't sound.
+    /// Gives a block back, whose place and size are multiples of the unit: it is joined with the free neighbour before it and then with the one behind
+    /// it, each where the sum is below 2^32, and its head is written. After a refusal the space isn't sound.
     pub fn give<S: Space>(
         &mut self,
         space: &mut S,
@@ -168,18 +178,16 @@ impl Pool {
         requires some { 0 < size }
         requires size { size < 2 ^ 32 }
         requires within { at + size ≤ self.old.size }
+        requires aligned { (at % self.old.unit ≡ 0) × (size % self.old.unit ≡ 0) }
         requires apart { MeetsNone (frees self.old) at size }
         requires inside { S.tells → at + size ≤ length (S.now space.old file) }
-        ensures given { OnOk result ((start : ℕ) × (total : ℕ) × GivesBack (frees self.old) (frees self.new) at size start total × (S.tells → S.now space.new file ≡ marked start total (S.now space.old file))) }
+        ensures given { OnOk result ((start : ℕ) × (total : ℕ) × GivesBack (frees self.old) (frees self.new) at size start total × (S.tells → Changes S.now file (marked start total (S.now space.old file)) space.old space.new)) }
+        ensures back { OnOk result (S.tells → GoesBack self.old.unit (frees self.old) (frees self.new) at size (S.now space.old file) (S.now space.new file)) }
         ensures end { OnOk result (self.new.size ≡ self.old.size) }
-        ensures back { OnOk result (S.tells → (first end : ℕ) (pieces : List Piece) (lent : Frees) → LaidOut self.old.unit first end pieces (frees self.old) lent (S.now space.old file) → HasBlock first pieces at size → TakesBack self.old.unit first end pieces (frees self.new) lent at (S.now space.new file)) }
-        ensures rest { OnOk result (S.tells → (first end : ℕ) (pieces : List Piece) (lent : Frees) → LaidOut self.old.unit first end pieces (frees self.old) lent (marked at size (S.now space.old file)) → HasBlock first pieces at size → TakesBack self.old.unit first end pieces (frees self.new) lent at (S.now space.new file)) }
         ensures unit { self.new.unit ≡ self.old.unit }
-        ensures others { OnOk result (S.tells → (g : ℕ) → g ≢ file → S.now space.new g ≡ S.now space.old g) }
-        ensures sound { OnOk result (S.sound space.new) }
-        ensures spoiled { OnErr result (S.flag space.new ≡ false) }
-        ensures marks { OnlyMarks S.tells S.moment S.left S.kept S.limit S.bytes_read S.faults space.old space.new }
-        ensures full { IsErrOf result RecErr.Full → (start : ℕ) × (total : ℕ) × GivesBack (frees self.old) (frees self.new) at size start total × Passes (S.limit space.old file) (S.overfills space.old file start 5) start 5 }
+        ensures outcome { Outcome S.sound S.flag result space.new }
+        ensures writes { OnlyWrites S.Space space.old space.new }
+        ensures full { IsErrOf result RecErr.Full → (start : ℕ) × (total : ℕ) × GivesBack (frees self.old) (frees self.new) at size start total × Passes (S.limit space.old file) (S.log_full space.new) start 5 }
         ensures cause { IsErrOf result RecErr.Fault → Rose (S.faults space.old) (S.faults space.new) }
     {
         let Ok((start, total)) = self.give_in_memory(at, size) else {
@@ -209,12 +217,13 @@ impl Pool {
         first: u64,
         size: u64,
     ) -> Result<Pool, AllocError>
-        requires unit { 0 < unit }
-        requires blocks { StandInRow first size blocks.now }
+        requires unit { 5 ≤ unit }
+        requires first { first % unit ≡ 0 }
+        requires blocks { StandInRow unit first size blocks.now }
         ensures free { IfOk result (λ pool. (q t : ℕ) → IsThere (frees pool) q t ↔ IsListed blocks.now q t) }
         ensures size { IfOk result (λ pool. pool.size ≡ size) }
         ensures unit { IfOk result (λ pool. pool.unit ≡ unit) }
-        ensures laid { IfOk result (λ pool. (pieces : List Piece) (bytes : List ℕ) → 5 ≤ unit → size ≤ length bytes → IsFilled unit (between first size bytes) pieces → blocks.now ≡ placed first pieces → LaidOut unit first size pieces (frees pool) none bytes) }
+        ensures laid { IfOk result (λ pool. (pieces : List Piece) (bytes : List ℕ) → size ≤ length bytes → AreBlocks unit (between first size bytes) pieces → blocks.now ≡ placed first pieces → LaidOut unit first size pieces (frees pool) none bytes) }
     {
         let _ = first;
         let mut index = Index::new(alloc);
@@ -285,7 +294,8 @@ fn put_zeros(count: usize, into: &mut Blob) -> Result<(), AllocError>
     Ok(())
 }
 
-ghost use Rattle.std.specs.Prelude.{◌≡◌, ℕ, ◌+◌, ◌<◌, ◌≤◌, ◌^◌, ◌++◌, List, length, replicate, Some, OnOk, OnErr};
+ghost use Rattle.std.specs.Prelude.{◌≡◌, ℕ, ◌+◌, ◌%◌, ◌<◌, ◌≤◌, ◌^◌, ◌++◌, List, length, replicate, Some, OnOk, OnErr};
+ghost use Rattle.hf_pool.specs.Multiples.{AreMultiples, LieWithin};
 ghost use Rattle.tc_base.specs.Vnum.{vnum};
 ghost use Rattle.std.specs.Ordering.{nat_cmp};
 ghost use Rattle.std.specs.BTreeMap as tree;

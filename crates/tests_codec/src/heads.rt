@@ -132,7 +132,7 @@ fn each_field_has_its_range(rt: HostRuntime) -> Result<(), Fail> {
         ),
         (
             Head {
-                options: 1,
+                options: 2,
                 ..small()
             },
             HeadErr::Opts,

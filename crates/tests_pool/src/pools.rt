@@ -17,7 +17,7 @@ fn block(place: u64, size: u64, free: bool) -> BlockAt
 
 // A free block, a record, a free block and a record.
 fn four(alloc: Global) -> Result<Blocks, AllocError>
-    ensures { IfOk result (λ blocks. StandInRow 336 432 blocks) }
+    ensures { IfOk result (λ blocks. StandInRow 16 336 432 blocks) }
 {
     let mut blocks = Blocks::new(alloc);
     blocks.push(block(336, 32, true))?;
@@ -32,7 +32,7 @@ fn take(pool: &mut Pool, space: &mut Scratch, size: u64) -> Result<u64, RecErr>
     requires { space.old.sound ≡ true }
     ensures { OnOk result (space.new.sound ≡ true) }
 {
-    if size == 0 || pool.size() > u64::MAX - size {
+    if size == 0 || size % pool.unit() != 0 || pool.size() > u64::MAX - size {
         return Err(RecErr::Full);
     }
     pool.take(space, 0, size)
@@ -47,6 +47,8 @@ fn give(pool: &mut Pool, space: &mut Scratch, at: u64, size: u64) -> Result<(), 
         || size >= 1 << 32
         || at > pool.size()
         || size > pool.size() - at
+        || at % pool.unit() != 0
+        || size % pool.unit() != 0
         || !pool.meets_none(at, size)
     {
         return Err(RecErr::Full);
@@ -97,13 +99,12 @@ fn blocks_are_taken_and_given(rt: HostRuntime) -> Result<(), Fail> {
             }
         }
     }
-    // The heads of 16 bytes at 336, and of 48 at 352.
+    // The head of 48 bytes at 352; the block taken at 336 has none until its record is written.
     for (i, b) in space.bytes().iter().enumerate() {
         let wanted = match i {
-            336 | 352 => 0xB0,
-            337 => 0x10,
+            352 => 0xB0,
             353 => 0x30,
-            338 | 339 | 340 | 354 | 355 | 356 => 0,
+            354 | 355 | 356 => 0,
             _ => 1,
         };
         assert_eq!(&rt; *b, wanted);

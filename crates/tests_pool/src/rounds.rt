@@ -55,6 +55,7 @@ fn record(alloc: Global, size: usize) -> Result<Blob, AllocError> {
         b"a",
         &value[..size.saturating_sub(16).min(128)],
         16,
+        false,
         &mut record,
     )?;
     Ok(record)
@@ -71,7 +72,7 @@ fn put(
     requires { space.old.sound ≡ true }
     ensures { IfOk result (λ done. done ≡ true → space.new.sound ≡ true) }
 {
-    if size == 0 || pool.size() > u64::MAX - size {
+    if size == 0 || size % pool.unit() != 0 || pool.size() > u64::MAX - size {
         return Ok(false);
     }
     let taken = pool.take(space, 0, size)?;
@@ -86,6 +87,9 @@ fn give(pool: &mut Pool, space: &mut Scratch, at: u64, size: u64) -> Result<bool
     ensures { IfOk result (λ done. done ≡ true → space.new.sound ≡ true) }
 {
     if size == 0 || size >= 1 << 32 || at > pool.size() || size > pool.size() - at {
+        return Ok(false);
+    }
+    if at % pool.unit() != 0 || size % pool.unit() != 0 {
         return Ok(false);
     }
     if !pool.meets_none(at, size) {

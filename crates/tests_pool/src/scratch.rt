@@ -50,7 +50,8 @@ fn put(file: &mut Vec<u8>, at: u64, bytes: &[u8]) -> Result<(), AllocError> {
 ghost use Rattle.std.specs.Prelude.{◌≡◌, true, IfOk};
 
 impl Space for Scratch {
-    ghost use Rattle.std.specs.Prelude.{[], Some, ℕ, List, Option, true};
+    ghost use Rattle.std.specs.Prelude.{[], Some, None, ℕ, List, Option, true};
+    ghost use Rattle.std.proofs.Common.{refl};
     ghost use Rattle.tc_base.specs.Files.{Files};
     ghost use Rattle.tc_space.specs.NoFiles.{no_files};
 
@@ -72,13 +73,23 @@ impl Space for Scratch {
 
     ghost limit = { λ _ f. 4294967296 };
 
+    ghost names = { λ _. None };
+
     ghost overfills = { λ _ f at size. ⊥ };
+
+    ghost log_full = { λ _. ⊥ };
 
     ghost bytes_read = { λ s. s.read };
 
     ghost faults = { λ s. s.faults };
 
     ghost only_kept = { λ s o told sound left. left };
+
+    ghost keeps_files = { λ s told sound. refl };
+
+    ghost clean = { λ s told sound is. refl };
+
+    ghost within = { λ s file told sound is. absurd told };
 
     ghost earlier = { λ s t u o le left. left };
 

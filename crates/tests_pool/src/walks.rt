@@ -37,11 +37,11 @@ fn listed(alloc: Global, blocks: &[u8]) -> Result<Blocks, WalkErr> {
 #[test]
 fn blocks_are_listed(rt: HostRuntime) -> Result<(), Fail> {
     let mut blocks = Blob::new(rt.alloc());
-    write_rec(0x90, 0, 0, b"a", b"1", 16, &mut blocks)?;
+    write_rec(0x90, 0, 0, b"a", b"1", 16, false, &mut blocks)?;
     blocks.append(b"\xB0\x20\0\0\0")?;
     blocks.append(&[9; 27])?;
-    write_rec(1, 0, 0, b"key", &[7; 5000], 16, &mut blocks)?;
-    write_rec(0x90, 0, 0, b"a", b"1", 16, &mut blocks)?;
+    write_rec(1, 0, 0, b"key", &[7; 5000], 16, false, &mut blocks)?;
+    write_rec(0x90, 0, 0, b"a", b"1", 16, false, &mut blocks)?;
     let wanted = [
         BlockAt {
             place: 336,

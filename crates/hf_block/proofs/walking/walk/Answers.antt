@@ -1,12 +1,13 @@
-use Rattle.std.proofs.Common.{◌≡◌, ◌∙◌, ℕ, ◌^◌, ◌≤◌, List, [], length, drop, refl, sym, ap, subst, arith, lit<, length-append, length-take, length-drop, Result, Err}
+use Rattle.std.proofs.Common.{◌≡◌, ◌∙◌, ℕ, ◌^◌, ◌≤◌, Bool, List, [], length, drop, refl, sym, ap, subst, arith, lit<, length-append, length-take, length-drop, Result, Err}
 use Rattle.std.proofs.Math.Nat.{pow-le-pow_right}
 use Rattle.hf_block.specs.declared.block.BlockAt.{BlockAt}
 use Rattle.hf_block.specs.declared.walking.WalkErr.{WalkErr}
 use Rattle.hf_block.specs.declared.walking.WalkErr.TheVariants.{Broken}
+use Rattle.hf_head.specs.Heads.{wide, unit}
 use Rattle.hf_block.specs.Pieces.{IsFilled}
 use Rattle.hf_block.specs.Rows.{StandInRow}
 use Rattle.hf_block.specs.Walks.{Walked, between}
-use Rattle.hf_block.specs.OnlyReads.{reads_refl, reads_then}
+use Rattle.tc_space.specs.Frames.{only_reads_refl, only_reads_then}
 use Rattle.hf_block.proofs.Listing.{walked_none, walked_then, between_on}
 use Rattle.hf_block.proofs.walking.walk.Goals as goal
 
@@ -15,12 +16,12 @@ same_error e f h = let s : e ≡ f = cc in ap (λ (x : WalkErr). Err x) s
 
 pub loop-at-init : goal.loop-at-init
 loop-at-init g c = record {
-  reads = reads_refl _ _ _ _ _ _ _ _ _ c.args.space.now c.requires.sound;
+  reads = only_reads_refl g.S.Space c.args.space.now c.requires.sound;
   low = omega arith;
   high = c.requires.head.numbers.size_least;
   long = refl;
-  row = subst (λ (b : List BlockAt). StandInRow c.args.head.now.first c.args.head.now.first b) (sym c.new-blocks.ensures) refl;
-  walked = λ t. subst (λ (b : List BlockAt). Walked c.unit-unit.result c.args.head.now.first c.args.head.now.first (between c.args.head.now.first c.args.head.now.size (g.S.Space.now c.args.space.now c.args.file)) [] b) (sym c.new-blocks.ensures) (walked_none _ _ _ []);
+  row = subst (λ (b : List BlockAt). StandInRow c.unit-unit.result c.args.head.now.first c.args.head.now.first b) (sym c.new-blocks.ensures) refl;
+  walked = λ t. subst (λ (b : List BlockAt). Walked (wide c.is_large-large.result) c.unit-unit.result c.args.head.now.first c.args.head.now.first (between c.args.head.now.first c.args.head.now.size (g.S.Space.now c.args.space.now c.args.file)) [] b) (sym c.new-blocks.ensures) (walked_none _ _ _ _ []);
 }
 
 pub walk_piece-requires-clause-unit : goal.walk_piece-requires-clause-unit
@@ -34,7 +35,7 @@ loop-at-preserved g c =
     let n = c.min-len.result in
     let sized : length c.walk_piece.new.chunk ≡ n = omega (arith, c.walk_piece.auto.chunk, length-take n c.loop-at.chunk, v.long, c.min-len.ensures) in
     record {
-      reads = reads_then _ _ _ _ _ _ _ _ _ c.args.space.now c.loop-at.space c.walk_piece.new.space v.reads c.in-Ok.ensures.reads;
+      reads = only_reads_then g.S.Space c.args.space.now c.loop-at.space c.walk_piece.new.space v.reads c.in-Ok.ensures.reads;
       low = omega (arith, v.low, c.in-Ok.ensures.on);
       high = c.in-Ok.ensures.on.1;
       long = omega (arith, sized, v.long, length-append c.walk_piece.new.chunk (drop n c.loop-at.chunk), length-drop n c.loop-at.chunk, c.min-len.ensures);
@@ -42,8 +43,8 @@ loop-at-preserved g c =
       walked = λ t.
           let f : List ℕ = g.S.Space.now c.args.space.now c.args.file in
           let rest = ap (λ (l : List ℕ). between c.loop-at.at c.args.head.now.size l) (v.reads.files t c.args.file) ∙ between_on c.args.head.now.first c.loop-at.at c.args.head.now.size f v.low v.high in
-          walked_then c.unit-unit.result c.args.head.now.first c.loop-at.at c.in-Ok.next (between c.args.head.now.first c.args.head.now.size f) [] c.loop-at.blocks c.walk_piece.new.blocks (v.walked t)
-          (subst (λ (l : List ℕ). Walked c.unit-unit.result c.loop-at.at c.in-Ok.next l c.loop-at.blocks c.walk_piece.new.blocks) rest (c.in-Ok.ensures.walked t));
+          walked_then (wide c.is_large-large.result) c.unit-unit.result c.args.head.now.first c.loop-at.at c.in-Ok.next (between c.args.head.now.first c.args.head.now.size f) [] c.loop-at.blocks c.walk_piece.new.blocks (v.walked t)
+          (subst (λ (l : List ℕ). Walked (wide c.is_large-large.result) c.unit-unit.result c.loop-at.at c.in-Ok.next l c.loop-at.blocks c.walk_piece.new.blocks) rest (c.in-Ok.ensures.walked t));
     }
 
 pub returns-in-Err-clause-broken : goal.returns-in-Err-clause-broken
@@ -51,5 +52,5 @@ returns-in-Err-clause-broken g c = λ rule e t ps filled.
     let v = c.loop-at.invariant in
     let f : List ℕ = g.S.Space.now c.args.space.now c.args.file in
     let rest = ap (λ (l : List ℕ). between c.loop-at.at c.args.head.now.size l) (v.reads.files t c.args.file) ∙ between_on c.args.head.now.first c.loop-at.at c.args.head.now.size f v.low v.high in
-    let q = (v.walked t).rest ps (subst (λ (u : ℕ). IsFilled u (between c.args.head.now.first c.args.head.now.size f) ps) (sym c.unit-unit.ensures) filled) in
-    c.in-Err.ensures.broken rule (same_error c.in-Err.e (Broken rule) e) t q.0 (subst (λ (l : List ℕ). IsFilled c.unit-unit.result l q.0) (sym rest) q.1)
+    let q = (v.walked t).rest ps (subst (λ (u : ℕ). IsFilled (wide c.is_large-large.result) u (between c.args.head.now.first c.args.head.now.size f) ps) (sym c.unit-unit.ensures) (subst (λ (b : Bool). IsFilled (wide b) (unit c.args.head.now) (between c.args.head.now.first c.args.head.now.size f) ps) (sym c.is_large-large.ensures) filled)) in
+    c.in-Err.ensures.broken rule (same_error c.in-Err.e (Broken rule) e) t q.0 (subst (λ (l : List ℕ). IsFilled (wide c.is_large-large.result) c.unit-unit.result l q.0) (sym rest) q.1)

@@ -1,24 +1,30 @@
-use Rattle.std.proofs.Common.{ℕ, List, sym, ◌∙◌}
-use Rattle.hf_layout.proofs.Gathers.{meets_no_record, beyond_no_record}
+use Rattle.std.proofs.Common.{◌∙◌, ℕ, ◌≡◌, List, refl, sym, arith}
 use Rattle.hf_pool.specs.Pools.{frees}
-use Rattle.hf_pool.proofs.Laying.{taken, parted_front}
+use Rattle.hf_pool.proofs.Aligned.{within_longer}
+use Rattle.hf_pool.proofs.Building.{sum_aligned}
+use Rattle.hf_pool.proofs.Laying.{parted_front, parted_whole}
+use Rattle.hf_pool.proofs.Lending.{lends_behind, lends_block}
 use Rattle.hf_pool.proofs.pool.Pool.take.Goals as goal
 
-pub returns-in_default-clause-clear : goal.returns-in_default-clause-clear
-returns-in_default-clause-clear g c = λ t first end pieces lent laid within.
-    beyond_no_record c.args.self.now.unit first end pieces (frees c.args.self.now) lent (g.S.Space.now c.args.space.now c.args.file) c.args.self.now.size c.args.size laid within
+pub invariant_of-self-clause-aligned : goal.invariant_of-self-clause-aligned
+invariant_of-self-clause-aligned g c = sum_aligned c.args.self.now.unit c.args.self.now.size c.args.size c.args.self.now.aligned c.requires.aligned
 
-pub returns-in_default-part-clause-lent : goal.returns-in_default-part-clause-lent
-returns-in_default-part-clause-lent g c = λ t first end found pieces lent laid multiple best.
+pub returns-in_default-clause-lends : goal.returns-in_default-clause-lends
+returns-in_default-clause-lends g c = λ t. lends_behind c.args.self.now.unit c.args.self.now.size (frees c.args.self.now) _ c.args.size (g.S.Space.now c.args.space.now c.args.file) c.in_default.ensures.none (λ q. refl)
+
+pub returns-in_default-mark-clause-aligned : goal.returns-in_default-mark-clause-aligned
+returns-in_default-mark-clause-aligned g c = (c.args.self.now.multiples c.in-Some.place c.in-Some.found c.in-Some.ensures.some.there).0
+
+pub returns-in_default-mark-clause-lends : goal.returns-in_default-mark-clause-lends
+returns-in_default-mark-clause-lends g c = λ t.
     let bytes : List ℕ = g.S.Space.now c.args.space.now c.args.file in
-    let after : List ℕ = g.S.Space.now c.part.new.space c.args.file in
-    let place : ℕ = c.in-Some.place in
-    taken c.args.self.now.unit first end pieces (frees c.args.self.now) (frees c.part_in_memory.new.self) lent bytes after place c.args.size c.in-Some.found laid c.in-Some.ensures.some c.requires.some multiple c.in-Ok.ensures.ok.left (c.in_default-part.ensures.bytes t ∙ sym (parted_front place c.args.size c.in-Some.found bytes c.if-found-size.true))
+    let after : List ℕ = g.S.Space.now c.mark.new.space c.args.file in
+    lends_block c.args.self.now.unit c.args.self.now.size (frees c.args.self.now) (frees c.part_in_memory.new.self) c.args.size c.in-Some.place c.in-Some.found bytes after c.in-Some.ensures.some c.requires.some c.requires.aligned c.in-Ok.ensures.ok.left ((c.in_default-mark.ensures.marked t).here ∙ sym (parted_front c.in-Some.place c.args.size c.in-Some.found bytes c.if-found-size.true))
 
-pub returns-in_default-part-clause-clear : goal.returns-in_default-part-clause-clear
-returns-in_default-part-clause-clear g c = λ t first end pieces lent laid within.
-    meets_no_record c.args.self.now.unit first end pieces (frees c.args.self.now) lent (g.S.Space.now c.args.space.now c.args.file) c.in-Some.place c.args.size c.in-Some.found laid c.in-Some.ensures.some.there c.in-Some.ensures.some.enough
+pub returns-else-found-size-clause-lends : goal.returns-else-found-size-clause-lends
+returns-else-found-size-clause-lends g c = λ t.
+    let bytes : List ℕ = g.S.Space.now c.args.space.now c.args.file in
+    lends_block c.args.self.now.unit c.args.self.now.size (frees c.args.self.now) (frees c.part_in_memory.new.self) c.args.size c.in-Some.place c.in-Some.found bytes bytes c.in-Some.ensures.some c.requires.some c.requires.aligned c.in-Ok.ensures.ok.left (sym (parted_whole c.in-Some.place c.args.size c.in-Some.found bytes (omega (arith, c.if-found-size.false, c.in-Some.ensures.some.enough))))
 
-pub returns-else-found-size-clause-clear : goal.returns-else-found-size-clause-clear
-returns-else-found-size-clause-clear g c = λ t first end pieces lent laid within.
-    meets_no_record c.args.self.now.unit first end pieces (frees c.args.self.now) lent (g.S.Space.now c.args.space.now c.args.file) c.in-Some.place c.args.size c.in-Some.found laid c.in-Some.ensures.some.there c.in-Some.ensures.some.enough
+pub invariant_of-self-clause-within : goal.invariant_of-self-clause-within
+invariant_of-self-clause-within g c = within_longer c.args.self.now.size _ _ (omega arith) c.args.self.now.within

@@ -3,6 +3,7 @@ use Rattle.std.specs.BTreeMap as tree
 use Rattle.std.specs.Ordering.{nat_cmp}
 use Rattle.hf_pool.specs.Trims.{row_end}
 use Rattle.hf_pool.proofs.Indexing.{none_behind, gone_more, kept_more, row_more}
+use Rattle.hf_pool.proofs.Aligned.{multiples_less, within_cut}
 use Rattle.hf_pool.proofs.Laying.{trimmed}
 use Rattle.hf_pool.proofs.pool.Pool.trim.Goals as goal
 
@@ -35,3 +36,14 @@ pub returns-clause-laid : goal.returns-clause-laid
 returns-clause-laid c = λ first pieces lent bytes laid.
     let v = c.loop-place.invariant in
     trimmed c.args.self.now.unit first c.args.self.now.size c.loop-place.self.size pieces (λ (q : ℕ). tree.get nat_cmp c.args.self.now.index.by_place q) (λ (q : ℕ). tree.get nat_cmp c.loop-place.self.index.by_place q) lent bytes laid v.lower v.kept v.gone v.row
+
+pub invariant_of-self-clause-multiples : goal.invariant_of-self-clause-multiples
+invariant_of-self-clause-multiples c = multiples_less _ _ _ _ c.loop-place.self.multiples c.remove.ensures
+
+pub invariant_of-self-clause-aligned : goal.invariant_of-self-clause-aligned
+invariant_of-self-clause-aligned c = let b = c.in-Some.ensures.some in (c.loop-place.self.multiples c.in-Some.place b.0 b.1).0
+
+pub invariant_of-self-clause-within : goal.invariant_of-self-clause-within
+invariant_of-self-clause-within c =
+    let b = c.in-Some.ensures.some in
+    within_cut c.in-Some.place b.0 c.loop-place.self.size _ _ c.loop-place.self.within c.loop-place.self.index.apart b.1 b.2 c.remove.ensures

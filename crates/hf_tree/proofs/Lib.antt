@@ -1,0 +1,9 @@
+pub mod Orders
+pub mod Trees
+pub mod Hanging
+pub mod Whole
+pub mod Calls
+pub mod Off
+pub mod Few
+pub mod Ways
+pub mod Fields
