@@ -1,0 +1,304 @@
+//! Files of all kinds.
+use crate::telling::differing;
+use std::test::Fail;
+
+const CREATE_MAPS: &str =
+    "hash create a.tch => create hash a.tch 131071 4 10 decimal false 0 0 0 0 large false
+hash create a.tch 1 => create hash a.tch 1 4 10 decimal false 0 0 0 0 large false
+hash create a.tch 0 => -
+hash create a.tch 16777216 => create hash a.tch 16777216 4 10 decimal false 0 0 0 0 large false
+hash create a.tch 16777217 => -
+hash create a.tch 3 4 => create hash a.tch 3 4 10 decimal false 0 0 0 0 large false
+hash create a.tch 3 3 => -
+hash create a.tch 3 16 => create hash a.tch 3 16 10 decimal false 0 0 0 0 large false
+hash create a.tch 3 17 => -
+hash create a.tch 3 4 0 => create hash a.tch 3 4 0 decimal false 0 0 0 0 large false
+hash create a.tch 3 4 20 => create hash a.tch 3 4 20 decimal false 0 0 0 0 large false
+hash create a.tch 3 4 21 => -
+hash create a.tch 3 4 0 1 => -
+hash create a.tch  => -
+hash create -tl a.tch => create hash a.tch 131071 4 10 decimal false 0 0 0 0 large true
+hash create -tl -tl a.tch => -
+hash create -cd a.tch => -
+hash create a.tch -tl => -
+hash create => -
+table create a.tct => create table a.tct 131071 4 10 decimal false 0 0 0 0 large false
+table create a.tct 1 => create table a.tct 1 4 10 decimal false 0 0 0 0 large false
+table create a.tct 0 => -
+table create a.tct 16777216 => create table a.tct 16777216 4 10 decimal false 0 0 0 0 large false
+table create a.tct 16777217 => -
+table create a.tct 3 4 => create table a.tct 3 4 10 decimal false 0 0 0 0 large false
+table create a.tct 3 3 => -
+table create a.tct 3 16 => create table a.tct 3 16 10 decimal false 0 0 0 0 large false
+table create a.tct 3 17 => -
+table create a.tct 3 4 0 => create table a.tct 3 4 0 decimal false 0 0 0 0 large false
+table create a.tct 3 4 20 => create table a.tct 3 4 20 decimal false 0 0 0 0 large false
+table create a.tct 3 4 21 => -
+table create a.tct 3 4 0 1 => -
+table create a.tct  => -
+table create -tl a.tct => create table a.tct 131071 4 10 decimal false 0 0 0 0 large true
+table create -tl -tl a.tct => -
+table create -cd a.tct => -
+table create a.tct -tl => -
+table create => -
+hash create a.tcb => -
+table create a.tch => -
+hash create * => -
+";
+
+const CREATE_TREES: &str =
+    "tree create a.tcb => create tree a.tcb 32749 8 10 decimal false 128 256 0 0 large false
+tree create a.tcb 4 => create tree a.tcb 32749 8 10 decimal false 4 256 0 0 large false
+tree create a.tcb 3 => -
+tree create a.tcb 256 => create tree a.tcb 32749 8 10 decimal false 256 256 0 0 large false
+tree create a.tcb 257 => -
+tree create a.tcb 4 4 => create tree a.tcb 32749 8 10 decimal false 4 4 0 0 large false
+tree create a.tcb 4 3 => -
+tree create a.tcb 4 256 => create tree a.tcb 32749 8 10 decimal false 4 256 0 0 large false
+tree create a.tcb 4 257 => -
+tree create a.tcb 4 5 1 => create tree a.tcb 1 8 10 decimal false 4 5 0 0 large false
+tree create a.tcb 4 5 0 => -
+tree create a.tcb 4 5 6 4 => create tree a.tcb 6 4 10 decimal false 4 5 0 0 large false
+tree create a.tcb 4 5 6 3 => -
+tree create a.tcb 4 5 6 16 0 => create tree a.tcb 6 16 0 decimal false 4 5 0 0 large false
+tree create a.tcb 4 5 6 17 0 => -
+tree create a.tcb 4 5 6 8 20 => create tree a.tcb 6 8 20 decimal false 4 5 0 0 large false
+tree create a.tcb 4 5 6 8 21 => -
+tree create a.tcb 4 5 6 8 9 1 => -
+tree create -cd a.tcb => create tree a.tcb 32749 8 10 decimal true 128 256 0 0 large false
+tree create -tl a.tcb => create tree a.tcb 32749 8 10 decimal false 128 256 0 0 large true
+tree create -cd -tl a.tcb 5 => create tree a.tcb 32749 8 10 decimal true 5 256 0 0 large true
+tree create -tl -cd a.tcb 5 => create tree a.tcb 32749 8 10 decimal true 5 256 0 0 large true
+tree create -cd -cd a.tcb => -
+tree create -tl -tl a.tcb => -
+tree create a.tch => -
+tree create + => -
+";
+
+const CREATE_FIXED: &str =
+    "fixed create a.tcf => create fixed a.tcf 0 0 0 decimal false 0 0 255 268435456 large false
+fixed create a.tcf 1 => create fixed a.tcf 0 0 0 decimal false 0 0 1 268435456 large false
+fixed create a.tcf 0 => -
+fixed create a.tcf 1048576 => create fixed a.tcf 0 0 0 decimal false 0 0 1048576 268435456 large false
+fixed create a.tcf 1048577 => -
+fixed create a.tcf 3 512 => create fixed a.tcf 0 0 0 decimal false 0 0 3 512 large false
+fixed create a.tcf 3 511 => -
+fixed create a.tcf 3 1099511627776 => create fixed a.tcf 0 0 0 decimal false 0 0 3 1099511627776 large false
+fixed create a.tcf 3 1099511627777 => -
+fixed create a.tcf 3 512 1 => -
+fixed create a.tcf 00000000000000000003 => create fixed a.tcf 0 0 0 decimal false 0 0 3 268435456 large false
+fixed create a.tcf 000000000000000000003 => -
+fixed create -tl a.tcf => -
+fixed create -cd a.tcf => -
+fixed create a.tct => -
+";
+
+const RECORDS: &str = "hash inform a.tch => inform hash a.tch
+hash inform => -
+hash inform a.tch x => -
+hash inform -pv a.tch => -
+hash inform xa.tchx => -
+hash inform * => -
+hash out a.tch b => out hash a.tch [b]
+hash out a.tch  => out hash a.tch []
+hash out a.tch -b => out hash a.tch [-b]
+hash out a.tch => -
+hash out a.tch b c => -
+hash out -dk a.tch b => -
+hash get a.tch b => get hash a.tch [b]
+hash get a.tch  => get hash a.tch []
+hash get a.tch => -
+hash get a.tch b c => -
+hash get * b => -
+hash get + b => -
+hash list a.tch => list hash a.tch most all values false
+hash list -pv a.tch => list hash a.tch most all values true
+hash list -m 0 a.tch => list hash a.tch most 0 values false
+hash list -m 2147483647 -pv a.tch => list hash a.tch most 2147483647 values true
+hash list -pv -m 5 a.tch => list hash a.tch most 5 values true
+hash list -m 2147483648 a.tch => -
+hash list -pv -pv a.tch => -
+hash list -m 1 -m 1 a.tch => -
+hash list -m a.tch => -
+hash list a.tch 1 => -
+hash restore a.tch => restore hash a.tch 18446744073709551615
+hash restore -ts 0 a.tch => restore hash a.tch 0
+hash restore -ts 18446744073709551616 a.tch => -
+hash restore -ts 1 -ts 1 a.tch => -
+hash restore a.tch 1 => -
+hash optimize -tl a.tch => optimize hash a.tch large true
+hash optimize -tl -tl a.tch => -
+hash optimize a.tch => optimize hash a.tch large false
+hash optimize a.tch x => -
+tree inform a.tcb => inform tree a.tcb
+tree inform => -
+tree inform a.tcb x => -
+tree inform -pv a.tcb => -
+tree inform xa.tcbx => -
+tree inform * => -
+tree out a.tcb b => out tree a.tcb [b]
+tree out a.tcb  => out tree a.tcb []
+tree out a.tcb -b => out tree a.tcb [-b]
+tree out a.tcb => -
+tree out a.tcb b c => -
+tree out -dk a.tcb b => -
+tree get a.tcb b => get tree a.tcb [b]
+tree get a.tcb  => get tree a.tcb []
+tree get a.tcb => -
+tree get a.tcb b c => -
+tree get * b => -
+tree get + b => -
+tree list a.tcb => list tree a.tcb most all values false
+tree list -pv a.tcb => list tree a.tcb most all values true
+tree list -m 0 a.tcb => list tree a.tcb most 0 values false
+tree list -m 2147483647 -pv a.tcb => list tree a.tcb most 2147483647 values true
+tree list -pv -m 5 a.tcb => list tree a.tcb most 5 values true
+tree list -m 2147483648 a.tcb => -
+tree list -pv -pv a.tcb => -
+tree list -m 1 -m 1 a.tcb => -
+tree list -m a.tcb => -
+tree list a.tcb 1 => -
+tree restore a.tcb => restore tree a.tcb 18446744073709551615
+tree restore -ts 0 a.tcb => restore tree a.tcb 0
+tree restore -ts 18446744073709551616 a.tcb => -
+tree restore -ts 1 -ts 1 a.tcb => -
+tree restore a.tcb 1 => -
+tree optimize -tl a.tcb => optimize tree a.tcb large true
+tree optimize -tl -tl a.tcb => -
+tree optimize a.tcb => optimize tree a.tcb large false
+";
+
+const MORE_RECORDS: &str = "tree optimize a.tcb x => -
+fixed inform a.tcf => inform fixed a.tcf
+fixed inform => -
+fixed inform a.tcf x => -
+fixed inform -pv a.tcf => -
+fixed inform xa.tcfx => -
+fixed inform * => -
+fixed out a.tcf b => out fixed a.tcf [b]
+fixed out a.tcf  => out fixed a.tcf []
+fixed out a.tcf -b => out fixed a.tcf [-b]
+fixed out a.tcf => -
+fixed out a.tcf b c => -
+fixed out -dk a.tcf b => -
+fixed get a.tcf b => get fixed a.tcf [b]
+fixed get a.tcf  => get fixed a.tcf []
+fixed get a.tcf => -
+fixed get a.tcf b c => -
+fixed get * b => -
+fixed get + b => -
+fixed list a.tcf => list fixed a.tcf most all values false
+fixed list -pv a.tcf => list fixed a.tcf most all values true
+fixed list -m 0 a.tcf => list fixed a.tcf most 0 values false
+fixed list -m 2147483647 -pv a.tcf => list fixed a.tcf most 2147483647 values true
+fixed list -pv -m 5 a.tcf => list fixed a.tcf most 5 values true
+fixed list -m 2147483648 a.tcf => -
+fixed list -pv -pv a.tcf => -
+fixed list -m 1 -m 1 a.tcf => -
+fixed list -m a.tcf => -
+fixed list a.tcf 1 => -
+fixed restore a.tcf => restore fixed a.tcf 18446744073709551615
+fixed restore -ts 0 a.tcf => restore fixed a.tcf 0
+fixed restore -ts 18446744073709551616 a.tcf => -
+fixed restore -ts 1 -ts 1 a.tcf => -
+fixed restore a.tcf 1 => -
+fixed optimize -tl a.tcf => -
+fixed optimize a.tcf => optimize fixed a.tcf large false
+fixed optimize a.tcf x => -
+table inform a.tct => inform table a.tct
+table inform => -
+table inform a.tct x => -
+table inform -pv a.tct => -
+table inform xa.tctx => -
+table inform * => -
+table out a.tct b => out table a.tct [b]
+table out a.tct  => out table a.tct []
+table out a.tct -b => out table a.tct [-b]
+table out a.tct => -
+table out a.tct b c => -
+table out -dk a.tct b => -
+table get a.tct b => get table a.tct [b]
+table get a.tct  => get table a.tct []
+table get a.tct => -
+table get a.tct b c => -
+table get * b => -
+table get + b => -
+table list a.tct => list table a.tct most all values false
+table list -pv a.tct => list table a.tct most all values true
+table list -m 0 a.tct => list table a.tct most 0 values false
+table list -m 2147483647 -pv a.tct => list table a.tct most 2147483647 values true
+table list -pv -m 5 a.tct => list table a.tct most 5 values true
+table list -m 2147483648 a.tct => -
+table list -pv -pv a.tct => -
+table list -m 1 -m 1 a.tct => -
+table list -m a.tct => -
+table list a.tct 1 => -
+table restore a.tct => restore table a.tct 18446744073709551615
+table restore -ts 0 a.tct => restore table a.tct 0
+table restore -ts 18446744073709551616 a.tct => -
+table restore -ts 1 -ts 1 a.tct => -
+table restore a.tct 1 => -
+table optimize -tl a.tct => optimize table a.tct large true
+table optimize -tl -tl a.tct => -
+table optimize a.tct => optimize table a.tct large false
+table optimize a.tct x => -
+";
+
+const PUTS: &str = "hash put a.tch b 1 => put hash a.tch over [b] [1]
+hash put a.tch   => put hash a.tch over [] []
+hash put -dk a.tch b 1 => put hash a.tch keep [b] [1]
+hash put -dc a.tch b 1 => put hash a.tch cat [b] [1]
+hash put -dk -dc a.tch b 1 => -
+hash put -dc -dk a.tch b 1 => -
+hash put -dk -dk a.tch b 1 => -
+hash put a.tch b => -
+hash put a.tch b 1 2 => -
+hash put a.tch => -
+hash put * b 1 => -
+hash put -dd a.tch b 1 => -
+tree put a.tcb b 1 => put tree a.tcb over [b] [1]
+tree put a.tcb   => put tree a.tcb over [] []
+tree put -dk a.tcb b 1 => put tree a.tcb keep [b] [1]
+tree put -dc a.tcb b 1 => put tree a.tcb cat [b] [1]
+tree put -dk -dc a.tcb b 1 => -
+tree put -dc -dk a.tcb b 1 => -
+tree put -dk -dk a.tcb b 1 => -
+tree put a.tcb b => -
+tree put a.tcb b 1 2 => -
+tree put a.tcb => -
+tree put * b 1 => -
+tree put -dd a.tcb b 1 => put tree a.tcb dup [b] [1]
+fixed put a.tcf b 1 => put fixed a.tcf over [b] [1]
+fixed put a.tcf   => put fixed a.tcf over [] []
+fixed put -dk a.tcf b 1 => put fixed a.tcf keep [b] [1]
+fixed put -dc a.tcf b 1 => put fixed a.tcf cat [b] [1]
+fixed put -dk -dc a.tcf b 1 => -
+fixed put -dc -dk a.tcf b 1 => -
+fixed put -dk -dk a.tcf b 1 => -
+fixed put a.tcf b => -
+fixed put a.tcf b 1 2 => -
+fixed put a.tcf => -
+fixed put * b 1 => -
+fixed put -dd a.tcf b 1 => -
+tree put -dd -dk a.tcb b 1 => -
+tree put -dd -dd a.tcb b 1 => -
+tree put a.tcb -dd -dk => put tree a.tcb over [-dd] [-dk]
+hash put a.tcb b 1 => -
+";
+
+#[test]
+fn files_of_each_kind(rt: HostRuntime) -> Result<(), Fail> {
+    let lines = differing(rt.alloc(), CREATE_MAPS)?;
+    assert!(rt; lines.is_empty(), "{lines}");
+    let lines = differing(rt.alloc(), CREATE_TREES)?;
+    assert!(rt; lines.is_empty(), "{lines}");
+    let lines = differing(rt.alloc(), CREATE_FIXED)?;
+    assert!(rt; lines.is_empty(), "{lines}");
+    let lines = differing(rt.alloc(), RECORDS)?;
+    assert!(rt; lines.is_empty(), "{lines}");
+    let lines = differing(rt.alloc(), MORE_RECORDS)?;
+    assert!(rt; lines.is_empty(), "{lines}");
+    let lines = differing(rt.alloc(), PUTS)?;
+    assert!(rt; lines.is_empty(), "{lines}");
+    Ok(())
+}

@@ -1,0 +1,16 @@
+//! The words behind the program's name, read as what they ask for.
+#![tactic(auto)]
+
+mod making;
+mod managing;
+mod names;
+mod numbers;
+mod options;
+mod order;
+mod parsing;
+mod serving;
+mod tables;
+mod words;
+
+pub use order::{DbName, Order, PutWord};
+pub use parsing::parse;
