@@ -1,0 +1,14 @@
+//! The count of failed calls.
+ghost use Rattle.std.specs.Prelude.{◌≤◌};
+ghost use Rattle.tc_io.specs.Causes.{Rose};
+
+use tc_base::Fault;
+
+/// Counts a fault.
+pub fn fault(faults: &mut u64) -> Fault
+    ensures rose { Rose faults.old faults.new }
+    ensures later { faults.old ≤ faults.new }
+{
+    *faults = faults.saturating_add(1);
+    Fault
+}

@@ -1,0 +1,361 @@
+//! The listening socket and those of the connections, over one poll.
+ghost use Rattle.std.specs.Prelude.{◌<◌, length, IfSome};
+ghost use Rattle.tc_io.specs.Lines.{CanTake};
+ghost use Rattle.ty_net.specs.Finds.{MayFind};
+
+use crate::leaving::Leaving;
+use crate::line::{Heard, Line};
+use crate::roster::Roster;
+use mio::event::Event;
+use mio::net::{TcpListener, TcpStream};
+use mio::{Events, Interest, Poll, Token};
+use std::alloc::Global;
+use std::io::ErrorKind;
+use std::net::{Net, SocketAddr, ToSocketAddrs};
+use std::time::Duration;
+use std::{io, rt};
+use tc_io::Sent;
+
+const LISTENER: usize = usize::MAX;
+
+// So many events of the system are taken in at once: more than there are sockets.
+const EVENTS: usize = 256;
+
+// So many turns go by between two questions to the system, where there is always something ready.
+const TURNS_MOST: u32 = 64;
+
+// So many go by where nothing is ready, but requests wait to be served.
+const BUSY_TURNS_MOST: u32 = 8;
+
+/// What was found ready.
+pub enum Found {
+    Bytes(u32, usize),
+    End(u32),
+    Nothing,
+}
+
+/// Of which connections something is looked for.
+#[derive(Clone, Copy, PartialEq, Eq)]
+pub enum Of {
+    All,
+    /// Those whose end was told.
+    Closing,
+}
+
+#[derive(Drop)]
+pub struct Sockets {
+    alloc: Global,
+    poll: Poll,
+    events: Events,
+    listener: TcpListener,
+    lines: Vec<Line>,
+    leaving: Leaving,
+    // where the next search begins
+    cursor: usize,
+    // so many turns since the system was asked
+    turns: u32,
+    // a connection may wait to be accepted
+    may_accept: bool,
+    // the last accept found no descriptor
+    is_starved: bool,
+    // the last event was a connection that opened
+    just_opened: bool,
+    // a line may be readable
+    has_ready: bool,
+    // bytes may be gathered that aren't written yet
+    owes: bool,
+    // where the last line was found
+    found_at: usize,
+}
+
+/// The first address of a host.
+pub fn address_of<R: Net>(net: &R, host: &[u8], port: u16) -> io::Result<SocketAddr> {
+    let Ok(name) = std::str::from_utf8(host) else {
+        return Err(io::Error::from(ErrorKind::InvalidInput));
+    };
+    let mut found = (name, port).to_socket_addrs(net)?;
+    match found.next() {
+        Some(address) => Ok(address),
+        None => Err(io::Error::from(ErrorKind::NotFound)),
+    }
+}
+
+fn place_of(lines: &[Line], number: usize) -> Option<usize>
+    ensures { IfSome result (λ i. i < length lines.now) }
+{
+    lines
+        .iter()
+        .position(|line| line.number() as usize == number)
+}
+
+// Takes in one event of a connection. Answers whether it is there.
+fn note(lines: &mut Vec<Line>, event: &Event) -> bool {
+    match place_of(lines, event.token().0) {
+        Some(i) => {
+            lines[i].note(event);
+            true
+        }
+        None => false,
+    }
+}
+
+impl Sockets {
+    /// Listens at an address.
+    pub fn listen<R: Net>(alloc: Global, net: &R, host: &[u8], port: u16) -> io::Result<Sockets> {
+        let address = address_of(net, host, port)?;
+        let poll = Poll::new(net)?;
+        let events = Events::with_capacity(alloc, EVENTS)?;
+        let mut listener = TcpListener::bind(net, address)?;
+        poll.registry()
+            .register(&mut listener, Token(LISTENER), Interest::READABLE)?;
+        Ok(Sockets {
+            alloc,
+            poll,
+            events,
+            listener,
+            lines: Vec::new(alloc),
+            leaving: Leaving::new(alloc),
+            cursor: 0,
+            turns: 0,
+            may_accept: true,
+            is_starved: false,
+            just_opened: false,
+            has_ready: false,
+            owes: false,
+            found_at: 0,
+        })
+    }
+
+    /// Whether the system is to be asked although something is ready.
+    pub fn is_due(&mut self) -> bool {
+        self.turns = self.turns.saturating_add(1);
+        self.turns > TURNS_MOST
+    }
+
+    /// Whether the system is to be asked although there are requests to serve.
+    pub fn is_due_while_busy(&self) -> bool {
+        self.turns >= BUSY_TURNS_MOST
+    }
+
+    /// Asks the system what is ready, and waits so long for it.
+    pub fn ask<R: rt::Clock>(&mut self, rt: &R, wait: Duration) -> io::Result<()> {
+        self.turns = 0;
+        self.poll.poll(&mut self.events, Some(wait))?;
+        if !self.events.is_empty() {
+            self.has_ready = true;
+            self.owes = true;
+        }
+        for event in self.events.iter() {
+            if event.token().0 == LISTENER {
+                self.may_accept = true;
+            } else if !note(&mut self.lines, event) {
+                self.leaving.note(event);
+            }
+        }
+        if !self.leaving.is_empty() {
+            self.leaving.tend(rt);
+        }
+        Ok(())
+    }
+
+    /// Nothing happened for a while: what failed for want of descriptors is tried again.
+    pub fn rest(&mut self) {
+        if self.is_starved {
+            self.may_accept = true;
+        }
+    }
+
+    /// Writes what was taken for connections that aren't about to get more.
+    pub fn flush_ripe(&mut self, paused: &[u32]) {
+        if !self.owes {
+            return;
+        }
+        let mut owes = false;
+        for line in self.lines.iter_mut() {
+            if line.owes() {
+                line.flush_ripe(paused);
+                owes = owes || line.owes();
+            }
+        }
+        self.owes = owes;
+    }
+
+    /// Writes all that was taken.
+    pub fn flush_all(&mut self) {
+        for line in self.lines.iter_mut() {
+            line.flush();
+        }
+    }
+
+    /// Whether each of these waits for its peer to read.
+    pub fn are_refused(&self, paused: &[u32]) -> bool {
+        for number in paused {
+            let Some(i) = place_of(&self.lines, *number as usize) else {
+                return false;
+            };
+            if !self.lines[i].is_refused() {
+                return false;
+            }
+        }
+        true
+    }
+
+    /// Whether a connection may wait to be accepted.
+    pub fn may_accept(&self) -> bool {
+        self.may_accept
+    }
+
+    /// Whether an accept comes before reads.
+    pub fn accepts_first(&self) -> bool {
+        self.may_accept && !self.just_opened
+    }
+
+    /// The next connection that waits to be accepted.
+    pub fn accept(&mut self) -> Option<TcpStream> {
+        match self.listener.accept() {
+            Ok((stream, _)) => {
+                self.is_starved = false;
+                Some(stream)
+            }
+            Err(e) => {
+                self.was_not_accepted(e.kind());
+                None
+            }
+        }
+    }
+
+    // What a failed accept says. Without descriptors those that leave are given up, and it is tried again when one closes or nothing
+    // happens for a while.
+    fn was_not_accepted(&mut self, kind: ErrorKind) {
+        match kind {
+            ErrorKind::Interrupted | ErrorKind::ConnectionAborted => {}
+            ErrorKind::WouldBlock => {
+                self.may_accept = false;
+                self.is_starved = false;
+            }
+            _ => {
+                self.may_accept = !self.leaving.is_empty();
+                self.is_starved = true;
+                self.leaving.clear();
+            }
+        }
+    }
+
+    /// Keeps a connection's socket under its number.
+    pub fn add(&mut self, number: u32, stream: TcpStream, is_readable: bool) -> io::Result<()> {
+        let _ = stream.set_nodelay(true);
+        let mut line = Line::new(self.alloc, number, stream, is_readable)?;
+        self.lines.reserve(1)?;
+        self.poll.registry().register(
+            line.stream(),
+            Token(number as usize),
+            Interest::READABLE.add(Interest::WRITABLE),
+        )?;
+        self.lines.push(line)?;
+        self.just_opened = true;
+        self.has_ready = true;
+        Ok(())
+    }
+
+    /// The next connection that gives something, of those that may.
+    pub fn hear(&mut self, of: Of, roster: &Roster, paused: &[u32], into: &mut [u8; 4096]) -> Found
+        ensures { MayFind roster.now.conns.items roster.now.ended.items paused.now result }
+    {
+        if !self.has_ready {
+            return Found::Nothing;
+        }
+        let mut has_ready = false;
+        for _ in 0..self.lines.len() {
+            if self.cursor >= self.lines.len() {
+                self.cursor = 0;
+            }
+            let Some(line) = self.lines.get_mut(self.cursor) else {
+                return Found::Nothing;
+            };
+            self.cursor = self.cursor.saturating_add(1);
+            match hear_line(line, of, roster, paused, into) {
+                Found::Nothing => has_ready = has_ready || line.is_readable(),
+                found => {
+                    self.just_opened = false;
+                    return found;
+                }
+            }
+        }
+        self.has_ready = has_ready;
+        Found::Nothing
+    }
+
+    // Offers bytes to the connection of that number, where it stands there.
+    fn offer_at(&mut self, at: usize, number: u32, bytes: &[u8]) -> Option<Sent>
+        requires { 0 < length bytes.now }
+        ensures { IfSome result (λ sent. CanTake bytes.now sent) }
+    {
+        let line = self.lines.get_mut(at)?;
+        if line.number() != number {
+            return None;
+        }
+        self.found_at = at;
+        Some(line.offer(bytes))
+    }
+
+    /// Offers bytes to a connection.
+    pub fn offer(&mut self, number: u32, bytes: &[u8]) -> Sent
+        requires { 0 < length bytes.now }
+        ensures { CanTake bytes.now result }
+    {
+        self.owes = true;
+        // sends come in ascending number
+        if let Some(sent) = self.offer_at(self.found_at, number, bytes) {
+            return sent;
+        }
+        if let Some(sent) = self.offer_at(self.found_at.saturating_add(1), number, bytes) {
+            return sent;
+        }
+        match place_of(&self.lines, number as usize) {
+            Some(i) => {
+                self.found_at = i;
+                self.lines[i].offer(bytes)
+            }
+            None => Sent::Gone,
+        }
+    }
+
+    /// Closes a connection, once its peer has what was written for it, or is late.
+    pub fn remove<R: rt::Clock>(&mut self, rt: &R, number: u32) {
+        if self.is_starved {
+            self.may_accept = true;
+        }
+        let Some(i) = place_of(&self.lines, number as usize) else {
+            return;
+        };
+        let line = self.lines.remove(i);
+        if i < self.cursor {
+            self.cursor -= 1;
+        }
+        self.leaving.add(rt, line);
+    }
+}
+
+// What one line gives, where it may.
+fn hear_line(
+    line: &mut Line,
+    of: Of,
+    roster: &Roster,
+    paused: &[u32],
+    into: &mut [u8; 4096],
+) -> Found
+    ensures { MayFind roster.now.conns.items roster.now.ended.items paused.now result }
+{
+    if !line.is_readable() || (of == Of::Closing && !line.is_closing()) {
+        return Found::Nothing;
+    }
+    let number = line.number();
+    if !roster.hears(number) || paused.contains(&number) {
+        return Found::Nothing;
+    }
+    match line.read(into) {
+        Heard::Bytes(n) => Found::Bytes(number, n),
+        Heard::End => Found::End(number),
+        Heard::Nothing => Found::Nothing,
+    }
+}
