@@ -1,5 +1,5 @@
 //! The map in memory behind requests.
-#![tactic(auto, using(tc_space::specs::Moments::steady_refl))]
+#![tactic(auto, using(tc_space::specs::Frames::keeps_refl))]
 
 mod behind;
 mod counts;

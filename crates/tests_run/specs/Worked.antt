@@ -2,7 +2,7 @@
 use Rattle.std.specs.Prelude.{ℕ, List, [], ◌∷◌, ◌++◌, codes, map}
 use Rattle.tc_io.specs.declared.wire.Entry.{Entry}
 use Rattle.ty_world.specs.World.{Client, World, world_after}
-use Rattle.tk_top.specs.Serving.{before}
+use Rattle.tk_top.specs.Top.{before}
 
 -- `one` is set to `first`, and asked for
 abbrev pub put : List ℕ

@@ -1,6 +1,7 @@
 //! Requests of one connection, in whatever pieces they come.
 use crate::played::{FOUND, GET, PUT, alone, joined, ran, words};
 use std::test::Fail;
+use tc_io::{At, Entry, MemWire};
 
 #[derive(Drop)]
 struct Case {
@@ -179,13 +180,16 @@ fn the_longest_key_is_looked_for(rt: HostRuntime) -> Result<(), Fail> {
 #[test]
 fn other_words_are_refused(rt: HostRuntime) -> Result<(), Fail> {
     let alloc = rt.alloc();
-    let lists: [&[&str]; 6] = [
+    let lists: [&[&str]; 9] = [
         &[],
         &["pipe"],
         &["pipe", "x"],
         &["pipe", "*", "*"],
         &["*", "pipe"],
-        &["serve", "*"],
+        &["serve", "x"],
+        &["serve", "a.tch"],
+        &["serve", "-port", "0", "*"],
+        &["pipe", "+"],
     ];
     for list in lists {
         let order = words(alloc, list)?;
@@ -194,5 +198,70 @@ fn other_words_are_refused(rt: HostRuntime) -> Result<(), Fail> {
         assert_eq!(rt; end.line.bytes(), b"tokyo: words\n".as_slice());
         assert_eq!(rt; end.wire.log().len(), 0);
     }
+    Ok(())
+}
+
+// Whether the first call of the wire opened this address.
+fn is_opened(wire: &MemWire, name: &[u8], number: u16) -> bool {
+    match wire.log() {
+        [
+            Entry::Open {
+                at: At::Host { host, port },
+            },
+            ..
+        ] => host.as_slice() == name && *port == number,
+        _ => false,
+    }
+}
+
+#[test]
+fn serve_opens_its_address(rt: HostRuntime) -> Result<(), Fail> {
+    let alloc = rt.alloc();
+    let lists: [(&[&str], &[u8], u16); 3] = [
+        (&["serve", "*"], b"127.0.0.1", 1978),
+        (&["serve", "-port", "2000", "*"], b"127.0.0.1", 2000),
+        (
+            &["serve", "-host", "example.org", "-port", "1", "*"],
+            b"example.org",
+            1,
+        ),
+    ];
+    for (list, name, number) in lists {
+        let order = words(alloc, list)?;
+        let end = ran(alloc, &order, alone(alloc, GET, 4096)?)?;
+        assert_eq!(rt; end.status, 0);
+        assert_eq!(rt; end.wire.sent(0), b"\x01".as_slice());
+        assert!(rt; is_opened(&end.wire, name, number));
+    }
+    Ok(())
+}
+
+#[test]
+fn turns_are_spent(rt: HostRuntime) -> Result<(), Fail> {
+    let alloc = rt.alloc();
+    let order = words(alloc, &["serve", "-turns", "2", "*"])?;
+    let end = ran(alloc, &order, alone(alloc, GET, 4096)?)?;
+    assert_eq!(rt; end.status, 8);
+    assert_eq!(rt; end.line.bytes(), b"tokyo: turns spent\n".as_slice());
+    assert_eq!(rt; end.wire.sent(0), b"\x01".as_slice());
+    Ok(())
+}
+
+// A value of 16,777,216 bytes is asked for three times at once: a reply of 50,331,680 bytes behind that of the put.
+#[test]
+fn a_long_reply_is_sent_whole(rt: HostRuntime) -> Result<(), Fail> {
+    let alloc = rt.alloc();
+    let order = words(alloc, &["pipe", "*"])?;
+    let mut input = joined(alloc, &[b"\xC8\x10\0\0\0\x01\x01\0\0\0k"])?;
+    for _ in 0..4096 {
+        input.extend_from_slice(&[b'v'; 4096])?;
+    }
+    input.extend_from_slice(b"\xC8\x31\0\0\0\x03\0\0\0\x01k\0\0\0\x01k\0\0\0\x01k")?;
+    let end = ran(alloc, &order, alone(alloc, &input, 4096)?)?;
+    let sent = end.wire.sent(0);
+    assert_eq!(rt; end.status, 0);
+    assert_eq!(rt; sent.len(), 50_331_681);
+    assert!(rt; sent.starts_with(b"\0\0\0\0\0\x03\0\0\0\x01\x01\0\0\0kvv"));
+    assert!(rt; sent.ends_with(b"vv"));
     Ok(())
 }

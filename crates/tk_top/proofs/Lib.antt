@@ -1,3 +1,8 @@
-pub mod Replies
+pub mod Causes
+pub mod Kept
+pub mod Memory
+pub mod Over
+pub mod Pieces
 pub mod Running
-pub mod TheWords
+pub mod Starting
+pub mod Stopping

@@ -1,46 +1,62 @@
--- What a run leaves.
-use Rattle.std.specs.Prelude.{◌≡◌, ◌⊎◌, ◌<◌, ◌+◌, ℕ, ◌-◌, ◌^◌, true, false, List, [], ◌∷◌, length, Option, Some}
-use Rattle.std.specs.FinMap.{empty}
-use Rattle.tc_base.specs.declared.kind.Kind.TheVariants.{MemHash}
-use Rattle.tc_io.specs.declared.act.Act.{Act}
-use Rattle.tc_io.specs.declared.wire.At.TheVariants.{Pipe}
+-- What a run that serves leaves, of its transcript and of a space.
+use Rattle.std.specs.Prelude.{◌≡◌, ◌⊎◌, ◌≢◌, ◌<◌, ◌+◌, ℕ, true, false, List, [], ◌∷◌, length, Option, Some}
+use Rattle.tc_base.specs.Files.{Files}
+use Rattle.tc_io.specs.Told.{Adds}
 use Rattle.tc_io.specs.Script.{Script}
+use Rattle.tc_io.specs.declared.act.Act.{Act}
+use Rattle.tc_io.specs.declared.wire.Wire as wire
+use Rattle.tc_io.specs.declared.wire.At.{At}
+use Rattle.tc_io.specs.declared.wire.Entry.{Entry}
+use Rattle.tc_space.specs.declared.space.Space as space
 use Rattle.tc_model.specs.Contents.{Contents}
-use Rattle.ty_world.specs.World.{World, started, IsRested}
-use Rattle.ty_world.specs.Answers.{AllSpelled, AllAnswered}
+use Rattle.ty_world.specs.World.{World, Mark, mark_of, started, world_after, AllAsked, IsRested}
+use Rattle.ty_world.specs.Answers.{AllSpelled, AllAnswered, AreInOrder}
 use Rattle.ty_world.specs.Measure.{requests_in}
+use Rattle.ty_world.specs.Playing.{unplayed}
+use Rattle.ty_rounds.specs.Kept.{StandFor, LeavesMarks}
 use Rattle.ty_rounds.specs.Holding.{IsFine}
+use Rattle.tk_top.specs.declared.ends.End.{End}
+use Rattle.tk_top.specs.declared.ends.End.TheVariants.{Done, TurnsSpent}
+use Rattle.tk_top.specs.Runs.{IsLast, AtExit}
 
--- the map in memory, with no key
-abbrev pub no_keys : Contents
-no_keys = record { kind = MemHash; map = empty }
-
-abbrev pub before : World
-before = started [] no_keys
-
--- what a run of this status leaves of the world that its transcript makes
-pub record Serves (status : ℕ) (w : World) : Type 0 where
+-- what a run that ends so leaves of the world that its transcript makes
+pub record ServesAt (end : End) (turns : ℕ) (at : At) (first : Mark) (es : List Entry) (v : World) : Type 0 where
   -- each byte sent is one that is owed, in order; and what is owed is what the abstract database answers in round order, by the world's definition
-  pub replies : IsFine w
+  pub replies : IsFine v
   -- the requests placed are those that came, in order, and what is unread stands behind them
-  pub spelled : AllSpelled w
+  pub spelled : AllSpelled v
+  -- no number comes twice
+  pub ordered : AreInOrder v
   -- at the end no whole request is left unserved, and all that is owed was sent, but to a peer that is gone
-  pub done : status ≡ 0 → (w.shut ≡ true) × AllAnswered w
+  pub done : end ≡ Done → (v.shut ≡ true) × AllAnswered v
   -- each connection was sent all or its last send took not all, and none that is over is left open
-  pub rested : (status ≡ 0) ⊎ (status ≡ 8) → IsRested w
+  pub rested : (end ≡ Done) ⊎ (end ≡ TurnsSpent) → IsRested v
+  -- however it ended, this holds before the last turn
+  pub last : IsLast end [] first es v
   -- no event was the last, and there were as many as there are turns
-  pub spent : status ≡ 8 → (w.shut ≡ false) × (w.events ≡ 2 ^ 64 - 1)
-  -- the standard streams were taken once, or the run didn't come to it
-  pub opens : (w.opens ≡ Pipe ∷ []) ⊎ ((w.opens ≡ []) × ((status ≡ 1) ⊎ (status ≡ 7)))
+  pub spent : end ≡ TurnsSpent → (v.shut ≡ false) × (v.events ≡ turns)
+  -- this address was opened once, or the run didn't come to it
+  pub opens : (v.opens ≡ at ∷ []) ⊎ ((v.opens ≡ []) × (end ≢ Done) × (end ≢ TurnsSpent))
 
--- where a script is played that the turns suffice for, they aren't spent, and at status 0 it is played to its end
-pub record PlaysOut (now : Option Script) (status : ℕ) (acts : List Act) (given : ℕ) : Type 0 where
-  pub enough : length acts + requests_in given acts < 2 ^ 64 - 1 → status ≡ 8 → ⊥
-  pub out : status ≡ 0 → (s : Script) × (now ≡ Some s) × (s.acts ≡ [])
+-- where a script is played that the turns suffice for, they aren't spent, and where it is done it is played to its end
+pub record PlaysAll (turns : ℕ) (now : Option Script) (end : End) (acts : List Act) (given : ℕ) : Type 0 where
+  pub enough : length acts + requests_in given acts < turns → end ≢ TurnsSpent
+  pub out : end ≡ Done → (s : Script) × (now ≡ Some s) × (s.acts ≡ [])
 
--- a status of a run that serves, and of any run
-abbrev pub IsServing : ℕ → Type 0
-IsServing status = (status ≡ 0) ⊎ (status ≡ 5) ⊎ (status ≡ 7) ⊎ (status ≡ 8)
+-- a run over a space that began at this mark
+pub record SpaceRun {S : Type 0} (s : space.Ghosts S) (reopens : Files → Contents → Type 0) (end : End) (turns : ℕ) (at : At) (old new : S) (first : Mark) (es : List Entry) (v : World) : Type 0 where
+  pub asked : AllAsked (started [] first) es
+  pub serves : ServesAt end turns at first es v
+  pub exit : (o : Option Files) → s.left new (s.moment new) o → AtExit reopens end (mark_of (world_after serves.last.earlier (started [] first))) v o
+  pub moments : LeavesMarks s reopens old new v.marks
 
-abbrev pub IsStatus : ℕ → Type 0
-IsStatus status = (status ≡ 0) ⊎ (status ≡ 1) ⊎ (status ≡ 5) ⊎ (status ≡ 7) ⊎ (status ≡ 8)
+-- what came of the wire, and what it makes of a space and of a script, where it began so
+pub record RunsOver {S W : Type 0} (s : space.Ghosts S) (g : wire.Ghosts W) (reopens : Files → Contents → Type 0) (end : End) (turns : ℕ) (at : At) (old new : S) (x y : W) (start : Mark → Type 0) : Type 0 where
+  pub entries : List Entry
+  pub told : Adds (g.transcript x) (g.transcript y) entries
+  pub ends : (first : Mark) → start first → SpaceRun s reopens end turns at old new first entries (world_after entries (started [] first))
+  pub plays : (first : Mark) → start first → (acts : List Act) (given : ℕ) → g.plays x ≡ Some (unplayed acts given) → PlaysAll turns (g.plays y) end acts given
+
+-- a space whose files are told, and stand for a mark
+abbrev pub Begins : {S : Type 0} → space.Ghosts S → (Files → Contents → Type 0) → S → Mark → Type 0
+Begins s opens space m = s.tells × StandFor opens (s.now space) m

@@ -1,54 +1,48 @@
 //! The loop of turns.
-ghost use Rattle.std.specs.Prelude.{◌≡◌, ◌≢◌, ◌⊎◌, ◌≤◌, ◌<◌, ◌+◌, [], ◌∷◌, ℕ, Bool, true, false, List, None, length, Option, Some};
-ghost use Rattle.tc_io.specs.Causes.{Rose};
-ghost use Rattle.tc_io.specs.declared.act.Act.{Act};
-ghost use Rattle.ty_world.specs.Measure.{requests_in};
-ghost use Rattle.ty_world.specs.Playing.{unplayed};
-ghost use Rattle.ty_rounds.specs.Kept.{Reopens};
-ghost use Rattle.tk_top.specs.Runs.{Ends};
+ghost use Rattle.std.specs.Prelude.{◌≡◌, ◌≤◌, [], List, None};
+ghost use Rattle.tc_io.specs.declared.wire.At.{At};
+ghost use Rattle.tc_space.specs.Effects.{Follows};
+ghost use Rattle.ty_rounds.specs.Kept.{HoldsMark};
+ghost use Rattle.ty_rounds.specs.Ready.{IsReady};
+ghost use Rattle.tk_top.specs.declared.ends.End.TheVariants.{Full};
+ghost use Rattle.tk_top.specs.Causes.{Caused};
+ghost use Rattle.tk_top.specs.Ends.{IsEnd};
+ghost use Rattle.tk_top.specs.Runs.{Ends, FullRun};
 
+use crate::ends::End;
 use tc_io::{Clock, Wire};
 use tc_space::Space;
 use ty_base::Base;
-use ty_rounds::{Outcome, Server, TurnErr, turn};
+use ty_rounds::{Outcome, Server, turn};
 
-/// So many turns, or fewer where no event will come any more. Answers the status.
+/// So many turns, or fewer where no event will come any more.
 pub fn serve<B: Base, W: Wire, K: Clock>(
     server: &mut Server<B>,
     space: &mut B::S,
     wire: &mut W,
     clock: &mut K,
     turns: u64,
-) -> u8
-    requires opened { W.opened wire.old ≡ true }
-    requires conns { W.conns wire.old ≡ [] }
+) -> End
+    requires ready { IsReady B.S.Space W.Wire B.holds server.old.base space.old wire.old server.old.peers.items }
     requires peers { server.old.peers.items ≡ [] }
     requires walk { server.old.walk ≡ None }
-    requires sound { B.S.sound space.old }
-    requires untouched { B.S.touched space.old ≡ false }
-    requires is_of { B.S.tells → B.is_of server.old.base (B.S.now space.old) }
-    requires kept { B.S.tells → Reopens B.reopens (B.S.kept space.old) (B.contents server.old.base) }
-    ensures told { Ends B.S.tells B.S.moment B.S.left B.reopens (W.transcript wire.old) (W.transcript wire.new) (W.plays wire.old) (W.plays wire.new) result turns space.old space.new (B.contents server.old.base) }
+    ensures told { Ends B.S.Space W.Wire B.holds B.reopens result turns server.old.base space.old space.new wire.old wire.new }
+    ensures full { result ≡ Full → (opens : List At) → FullRun (B.fills space.new) (HoldsMark B.S.Space B.holds B.reopens server.old.base space.old) opens (W.transcript wire.old) (W.transcript wire.new) }
+    ensures follows { Follows B.S.faults B.S.limit B.S.names space.old space.new }
     ensures later_wire { W.faults wire.old ≤ W.faults wire.new }
-    ensures later_space { B.S.faults space.old ≤ B.S.faults space.new }
-    ensures wire_fault { result ≡ 7 → Rose (W.faults wire.old) (W.faults wire.new) }
-    ensures volume_fault { result ≡ 3 → Rose (B.S.faults space.old) (B.S.faults space.new) }
-    ensures full { result ≡ 6 → B.fills }
-    ensures status { IsEnd result }
-    ensures complete { B.S.tells → (acts : List Act) (given : ℕ) → W.plays wire.old ≡ Some (unplayed acts given) → length acts + requests_in given acts < turns → result ≢ 8 }
+    ensures caused { Caused result (B.S.faults space.old) (B.S.faults space.new) (W.faults wire.old) (W.faults wire.new) }
+    ensures ends { IsEnd result }
 {
     for done in 0..turns {
         let _ = done;
-        match turn(server, space, wire, clock) {
-            Ok(Outcome::Went) => {}
-            Ok(Outcome::Shut) => return 0,
-            Err(TurnErr::Wire) => return 7,
-            Err(TurnErr::Volume) => return 3,
-            Err(TurnErr::Full) => return 6,
-            Err(TurnErr::Memory) => return 5,
+        let outcome = match turn(server, space, wire, clock) {
+            Ok(outcome) => outcome,
+            Err(e) => return End::from(e),
+        };
+        match outcome {
+            Outcome::Went => {}
+            Outcome::Shut => return End::Done,
         }
     }
-    8
+    End::TurnsSpent
 }
-
-ghost use Rattle.tk_top.specs.Runs.{IsEnd};

@@ -1,17 +1,22 @@
 //! The top call.
-ghost use Rattle.std.specs.Prelude.{◌<◌, ◌^◌, ◌-◌, ◌≡◌, ◌≢◌, ◌⊎◌, ◌≤◌, ◌↔◌, ◌++◌, [], ◌∷◌, ℕ, Bool, true, false, List, Option, Some, length, IsTrue};
+ghost use Rattle.std.specs.Prelude.{◌≡◌, Some, false};
 ghost use Rattle.tc_io.specs.Causes.{Rose};
-ghost use Rattle.tc_io.specs.Told.{Adds};
-ghost use Rattle.tc_io.specs.declared.act.Act.{Act};
+ghost use Rattle.tk_top.specs.declared.ends.End.{End};
+ghost use Rattle.tk_top.specs.declared.ends.End.TheVariants.{WireFault};
+ghost use Rattle.tk_top.specs.Ends.{status_of};
+ghost use Rattle.tk_top.specs.Top.{MemoryRun, Runs, RunsAsked};
+ghost use Rattle.tk_top.specs.Words.{asked_in, asked_of};
+ghost use Rattle.tk_words.specs.Words.{texts};
 
-use crate::serving::serve;
-use crate::words::are_words;
+use crate::base::serve_base;
+use crate::ends::End;
+use crate::lines::put_line;
+use crate::words::{Asked, what_is_asked};
 use std::alloc::Global;
-use std::mem::ManuallyDrop;
-use tc_io::{At, Clock, Sink, Volume, Wire};
+use tc_io::{Clock, Sink, Volume, Wire};
 use tc_mem::MemBase;
 use tc_space::NoSpace;
-use ty_rounds::Server;
+use tk_words::{Order, parse};
 
 /// The status, and the volume.
 #[derive(Drop)]
@@ -20,49 +25,57 @@ pub struct Ran<V> {
     pub vol: V,
 }
 
-ghost use Rattle.tc_io.specs.declared.wire.Entry.{Entry};
-ghost use Rattle.ty_world.specs.World.{world_after, AllAsked};
-ghost use Rattle.ty_world.specs.Playing.{unplayed};
-ghost use Rattle.tk_top.specs.Serving.{before, Serves, PlaysOut, IsStatus, IsServing};
-ghost use Rattle.tk_top.specs.Words.{texts, AreWords};
-
-// The map in memory, served over the standard streams.
-fn serve_pipe<W: Wire, K: Clock>(alloc: Global, wire: &mut W, clock: &mut K) -> u8
+// The map in memory, served as it is asked to.
+fn serve_memory<W: Wire, K: Clock>(alloc: Global, asked: &Asked, wire: &mut W, clock: &mut K) -> End
     requires opened { W.opened wire.old ≡ false }
-    requires conns { W.conns wire.old ≡ [] }
-    ensures status { IsServing result }
-    ensures told { (entries : List Entry) × Adds (W.transcript wire.old) (W.transcript wire.new) entries × Serves result (world_after entries before) × AllAsked before entries }
-    ensures plays { (acts : List Act) (given : ℕ) → W.plays wire.old ≡ Some (unplayed acts given) → PlaysOut (W.plays wire.new) result acts given }
-    ensures later { W.faults wire.old ≤ W.faults wire.new }
-    ensures cause { result ≡ 7 → Rose (W.faults wire.old) (W.faults wire.new) }
+    ensures served { MemoryRun W.Wire result asked.now wire.old wire.new }
+    ensures fault { result ≡ WireFault → Rose (W.faults wire.old) (W.faults wire.new) }
 {
-    if wire.open(&At::Pipe).is_err() {
-        return 7;
-    }
     let mut space = NoSpace::new();
-    let mut server = Server::new(alloc, MemBase::new(alloc));
-    let status = serve(&mut server, &mut space, wire, clock, u64::MAX);
-    // the process ends behind this: what the map holds is left to the system, since giving it back piece by piece takes half as long as serving
-    let _ = ManuallyDrop::new(server);
-    status
+    serve_base(
+        alloc,
+        MemBase::new(alloc),
+        &mut space,
+        &asked.at,
+        wire,
+        clock,
+        asked.turns,
+    )
 }
 
-ghost use Rattle.tk_top.specs.Lines.{line};
-
-/// The line that is written to the standard error at a status, nothing at 0.
-pub fn line_of(status: u8) -> &'static [u8]
-    ensures { result.now ≡ line status }
+// What an order asks for.
+fn serve_order<W: Wire, K: Clock>(alloc: Global, order: Order, wire: &mut W, clock: &mut K) -> End
+    requires opened { W.opened wire.old ≡ false }
+    ensures { RunsAsked W.Wire (asked_in (Some order)) result wire.old wire.new }
 {
-    match status {
-        0 => b"",
-        1 => b"tokyo: words\n",
-        5 => b"tokyo: no memory\n",
-        7 => b"tokyo: wire fault\n",
-        _ => b"tokyo: turns spent\n",
+    match what_is_asked(order) {
+        Some(asked) => serve_memory(alloc, &asked, wire, clock),
+        None => End::Words,
     }
 }
 
-/// What the program does.
+// What the words ask for.
+fn serve_words<W: Wire, K: Clock>(
+    alloc: Global,
+    words: &Vec<String>,
+    wire: &mut W,
+    clock: &mut K,
+) -> End
+    requires opened { W.opened wire.old ≡ false }
+    ensures { RunsAsked W.Wire (asked_of (texts words.now.items)) result wire.old wire.new }
+{
+    let read = match parse(alloc, words) {
+        Ok(read) => read,
+        Err(_) => return End::NoMemory,
+    };
+    match read {
+        Some(order) => serve_order(alloc, order, wire, clock),
+        None => End::Words,
+    }
+}
+
+/// What the program does with the words behind its name. Today it serves a map in memory: `pipe *` over the standard streams, and
+/// `serve *` with its options at an address; their limit has no effect on it. All other words are answered with status 1.
 pub fn run<V: Volume, W: Wire, O: Sink, E: Sink, K: Clock>(
     alloc: Global,
     words: &Vec<String>,
@@ -72,34 +85,17 @@ pub fn run<V: Volume, W: Wire, O: Sink, E: Sink, K: Clock>(
     err: &mut E,
     clock: &mut K,
 ) -> Ran<V>
-    requires { W.opened wire.old ≡ false }
-    // The words alone decide whether it serves.
-    ensures words { result.status ≡ 1 ↔ (AreWords (texts words.now.items) → ⊥) }
-    // Where the wire tells its transcript, these entries came behind it, and they make of the abstract database and its connections what a run of this status leaves.
-    ensures replies { (entries : List Entry) × Adds (W.transcript wire.old) (W.transcript wire.new) entries × Serves result.status (world_after entries before) × AllAsked before entries }
-    // A script that the turns suffice for is played to its end.
-    ensures plays { (acts : List Act) (given : ℕ) → W.plays wire.old ≡ Some (unplayed acts given) → PlaysOut (W.plays wire.new) result.status acts given }
-    // A fault comes only of the wire.
-    ensures fault { result.status ≡ 7 → Rose (W.faults wire.old) (W.faults wire.new) }
-    // There is no other status.
-    ensures status { IsStatus result.status }
+    requires opened { W.opened wire.old ≡ false }
+    ensures runs { (end : End) × (result.status ≡ status_of end) × Runs W.Wire E.Sink (texts words.now.items) end wire.old wire.new err.old err.new }
     // The volume is handed back untouched, and nothing is written to `out`.
     ensures volume { result.vol ≡ vol }
     ensures out { out.new ≡ out.old }
-    // Other words bring no call of the wire, and status 0 none of `err`.
-    ensures unserved { result.status ≡ 1 → wire.new ≡ wire.old }
-    ensures silent { result.status ≡ 0 → err.new ≡ err.old }
-    // Where it was never refused, the sink has the status's line and nothing else.
-    ensures line { E.faults err.new ≡ E.faults err.old → E.faults err.old < 2 ^ 64 - 1 → Adds (E.taken err.old) (E.taken err.new) (line result.status) }
 {
     let _ = out;
-    let status = if are_words(words) {
-        serve_pipe(alloc, wire, clock)
-    } else {
-        1
-    };
-    if status != 0 {
-        let _ = err.put(line_of(status));
+    let end = serve_words(alloc, words, wire, clock);
+    let _ = put_line(end, err);
+    Ran {
+        status: end.status(),
+        vol,
     }
-    Ran { status, vol }
 }

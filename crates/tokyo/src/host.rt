@@ -1,40 +1,9 @@
-//! The real sinks and the real clock. They tell nothing of content.
+//! The real clock. It tells nothing of content.
 ghost use Rattle.std.specs.Prelude.{None};
 
-use std::io::Write;
 use std::rt;
 use std::time::SystemTime;
-use tc_base::Fault;
-use tc_io::{Clock, Sink};
-
-/// A standard stream that is written to.
-#[derive(Drop)]
-pub struct StdSink<O> {
-    writer: O,
-    faults: u64,
-}
-
-impl<O: Write> StdSink<O> {
-    pub fn new(writer: O) -> StdSink<O> {
-        StdSink { writer, faults: 0 }
-    }
-}
-
-impl<O: Write> Sink for StdSink<O> {
-    ghost faults = { λ s. s.faults };
-
-    ghost taken = { λ _. None };
-
-    fn put(&mut self, bytes: &[u8]) -> Result<(), Fault> {
-        match self.writer.write_all(bytes) {
-            Ok(()) => Ok(()),
-            Err(_) => {
-                self.faults = self.faults.saturating_add(1);
-                Err(Fault)
-            }
-        }
-    }
-}
+use tc_io::Clock;
 
 /// The machine's clock: microseconds since 1970, and 0 where it can't be read.
 #[derive(Drop)]

@@ -1,41 +1,62 @@
-//! The program: a database served over the standard streams.
+//! The program: a database served over the standard streams or over sockets.
 #![tactic(auto)]
 
 mod host;
-mod pipe;
 
-use host::{HostClock, StdSink};
-use pipe::PipeWire;
+use host::HostClock;
+use std::alloc::{AllocError, Global};
 use std::env;
+use std::fs::{File, Files};
 use std::io::ErrorKind;
+use std::os::fd::AsRawFd;
 use std::process::ExitCode;
 use tc_io::{MemVolume, Sink};
-use tk_top::{line_of, run};
+use tk_top::{End, put_line, run};
+use ty_net::{NetWire, StdSink};
 
-// Writes the line of a status that comes before the run.
-fn give_up(err: &mut impl Sink, status: u8) -> ExitCode {
-    let _ = err.put(line_of(status));
-    ExitCode::from(status)
+// Writes the line of an end that comes before the run.
+fn give_up(err: &mut impl Sink, end: End) -> ExitCode {
+    let _ = put_line(end, err);
+    ExitCode::from(end.status())
+}
+
+// Takes the descriptors of standard streams that are closed, since a file or a socket would get them otherwise and be taken for a
+// stream. What stands there in their place is a folder: each read and write of it fails.
+fn take_low<R: Files<File = File>>(alloc: Global, files: &R) -> Result<Vec<File>, AllocError> {
+    let mut taken = Vec::new(alloc);
+    for _ in 0..3 {
+        let Ok(folder) = File::open(files, "/") else {
+            break;
+        };
+        if folder.as_raw_fd() > 2 {
+            break;
+        }
+        taken.push(folder)?;
+    }
+    Ok(taken)
 }
 
 fn main(rt: HostRuntime) -> ExitCode {
     let alloc = rt.alloc();
     let mut out = StdSink::new(rt.stdout());
     let mut err = StdSink::new(rt.stderr());
+    let Ok(_taken) = take_low(alloc, &rt) else {
+        return give_up(&mut err, End::NoMemory);
+    };
     let args = match env::args(&rt) {
         Ok(args) => args,
         // a word that isn't UTF-8 is none of ours
-        Err(e) if e.kind() != ErrorKind::OutOfMemory => return give_up(&mut err, 1),
-        Err(_) => return give_up(&mut err, 5),
+        Err(e) if e.kind() != ErrorKind::OutOfMemory => return give_up(&mut err, End::Words),
+        Err(_) => return give_up(&mut err, End::NoMemory),
     };
     let Ok(words) = args.skip(1).collect::<Vec<String>>(alloc) else {
-        return give_up(&mut err, 5);
+        return give_up(&mut err, End::NoMemory);
     };
     let Ok(vol) = MemVolume::new(alloc) else {
-        return give_up(&mut err, 5);
+        return give_up(&mut err, End::NoMemory);
     };
-    let Ok(mut wire) = PipeWire::new(alloc, rt.stdin(), rt.stdout()) else {
-        return give_up(&mut err, 5);
+    let Ok(mut wire) = NetWire::new(alloc, &rt, rt.stdin(), rt.stdout()) else {
+        return give_up(&mut err, End::NoMemory);
     };
     let mut clock = HostClock::new(&rt);
     let ran = run(

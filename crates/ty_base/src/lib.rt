@@ -2,5 +2,9 @@
 #![tactic(auto)]
 
 mod base;
+mod errors;
+mod opens;
 
 pub use base::Base;
+pub use errors::AnyErr;
+pub use opens::Opens;

@@ -1,21 +1,23 @@
 -- A request at the front, by its reading and by its spelling.
-use Rattle.std.proofs.Common.{◌≡◌, ℕ, ◌≤◌, Bool, true, false, List, ◌++◌, length, drop, sym, ap, subst, ◌∙◌, arith, length-append}
-use Rattle.std.proofs.lemmas.List.{drop-append-le}
+use Rattle.std.proofs.Common.{◌≡◌, ℕ, ◌≤◌, Bool, true, false, List, ◌++◌, length, take, drop, sym, ap, subst, ◌∙◌, arith, length-append, refl}
+use Rattle.std.proofs.lemmas.List.{append_cancel_right, drop-append-le, take-append-drop}
 use Rattle.tc_base.proofs.Exact.{same_whole}
 use Rattle.ty_wire.proofs.Answered.{whole}
-use Rattle.std.specs.Prelude.{Ok, ◌&&◌, ◌||◌}
+use Rattle.std.specs.Prelude.{Ok, ◌&&◌, ◌||◌, Option, Some, None, if◌then◌else◌}
+use Rattle.tc_base.specs.Files.{Files}
 use Rattle.tc_base.specs.declared.request.Request.{Request}
 use Rattle.tc_model.specs.Apply.{Step, apply, is_updated, refusal_of, updates}
 use Rattle.tc_model.specs.Applying.{Applies}
 use Rattle.tc_model.specs.declared.applied.Applied.{Applied}
 use Rattle.tc_model.specs.Contents.{Contents, Walk}
 use Rattle.tc_model.proofs.Updating.{apply_refused}
+use Rattle.tc_space.specs.declared.space.Space.{Ghosts}
 use Rattle.ty_wire.specs.Prefixes.{IsPrefix}
 use Rattle.ty_wire.specs.Reading.{request_at}
 use Rattle.ty_wire.specs.Spelling.{spelling, Fits, reply_bytes}
 use Rattle.tc_model.specs.Packing.{is_optimize}
 use Rattle.ty_core.specs.declared.serving.Served.{Served}
-use Rattle.ty_core.specs.Serving.{Serves, TakesOff, is_repl}
+use Rattle.ty_core.specs.Serving.{IsWhole, Serves, ServesFront, TakesOff, feed_of, update_of}
 
 pub refused_applies : (replica : Bool) (r : Request) (c : Contents) (w : Walk) (old new : List ℕ) → (replica && updates r) ≡ true → new ≡ old ++ reply_bytes (refusal_of r)
     → Applies (apply replica r c w) r (record { ok = false; updated = false }) c w old new
@@ -27,33 +29,53 @@ refused_applies replica r c w old new u e = let is = sym (apply_refused replica 
   updated = ap (λ (s : Step). is_updated r s) is;
 }
 
-record IsFront (bytes : List ℕ) (n : ℕ) (r : Request) : Type 0 where
-  parts : bytes ≡ spelling r ++ drop n bytes
-  reads : request_at bytes ≡ Ok (r, drop n bytes)
+-- ---- the request at the front
+
+pub record IsFront (n : ℕ) (bytes : List ℕ) (r : Request) : Type 0 where
+  pub parts : bytes ≡ spelling r ++ drop n bytes
+  pub reads : request_at bytes ≡ Ok (r, drop n bytes)
+  pub fits : Fits r
+  pub within : n ≤ length bytes
 
 -- the request whose spelling stands at the front is the one that is read
-read_is : (bytes : List ℕ) (n : ℕ) (r q : Request) → request_at bytes ≡ Ok (q, drop n bytes) → Fits r → IsPrefix (spelling r) bytes → IsFront bytes n r
-read_is bytes n r q reads fits begins =
+pub front_is : (n : ℕ) (bytes : List ℕ) (r : Request) → IsWhole n bytes → Fits r → IsPrefix (spelling r) bytes → IsFront n bytes r
+front_is n bytes r is fits begins =
+    let reads = is.read.2 in
     let w : request_at bytes ≡ Ok (r, begins.0) = whole bytes r begins.0 fits begins.1 in
-    let s = same_whole r q begins.0 (drop n bytes) (sym w ∙ reads) in
-    record { parts = begins.1 ∙ ap (λ (l : List ℕ). spelling r ++ l) s.1; reads = w ∙ ap (λ (l : List ℕ). Ok (r, l)) s.1 }
+    let s = same_whole r is.read.0 begins.0 (drop n bytes) (sym w ∙ reads) in
+    record { parts = begins.1 ∙ ap (λ (l : List ℕ). spelling r ++ l) s.1; reads = w ∙ ap (λ (l : List ℕ). Ok (r, l)) s.1; fits = fits; within = is.read.1 }
 
-pub takes_off : (bytes u u' : List ℕ) (n : ℕ) (r q : Request) (d : Served) → bytes ≡ u → request_at u ≡ Ok (q, drop n u) → Fits r → IsPrefix (spelling r) bytes → u' ≡ drop n u → d.feeds ≡ is_repl r → TakesOff r d u u'
-takes_off bytes u u' n r q d same reads fits begins left feeds =
-    let f = read_is u n r q reads fits (subst (λ (l : List ℕ). IsPrefix (spelling r) l) same begins) in record {
-      front = f.reads ∙ ap (λ (l : List ℕ). Ok (r, l)) (sym left);
-      fits = fits;
-      spelled = f.parts ∙ ap (λ (l : List ℕ). spelling r ++ l) (sym left);
-      feeds = feeds;
-    }
+pub takes_off : (n : ℕ) (bytes : List ℕ) (r : Request) (d : Served) → IsFront n bytes r → d.feeds ≡ feed_of r → TakesOff r d bytes (drop n bytes)
+takes_off n bytes r d f feeds = record { front = f.reads; fits = f.fits; spelled = f.parts; feeds = feeds }
 
-pub serves : (replica : Bool) (r : Request) (a : Applied) (d : Served) (packs : Bool) (c c' : Contents) (w w' : Walk) (waiting waiting' : List ℕ) → d.commits ≡ (a.updated || packs) → packs ≡ is_optimize r
-    → Applies (apply replica r c w) r a c' w' waiting waiting' → Serves replica r d c c' w w' waiting waiting'
-serves replica r a d packs c c' w w' waiting waiting' is p applied = record {
+-- its bytes are those that aren't left
+pub own_bytes : (n : ℕ) (bytes : List ℕ) (r : Request) → IsFront n bytes r → take n bytes ≡ spelling r
+own_bytes n bytes r f = append_cancel_right (take n bytes) (spelling r) (drop n bytes) (take-append-drop n bytes ∙ f.parts)
+
+-- ---- what is left to do
+
+-- bytes that were copied where the request might update, and are kept where it did
+pub copied_update : (logs : Bool) (r : Request) (s : Step) (updated : Bool) (bytes : List ℕ) → updated ≡ is_updated r s → bytes ≡ spelling r
+    → (if updated then (if logs && updates r then Some bytes else None) else None) ≡ update_of logs r s
+copied_update logs r s updated bytes is same = ap (λ (b : Bool). if b then (if logs && updates r then Some bytes else None) else None) is ∙ go logs s.ok (updates r) (Some bytes) ∙ ap (λ (l : List ℕ). if logs && is_updated r s then Some l else None) same
+  where
+    go : (l o u : Bool) (x : Option (List ℕ)) → (if o && u then (if l && u then x else None) else None) ≡ (if l && (o && u) then x else None)
+    go true true true x = refl
+    go true true false x = refl
+    go true false u x = refl
+    go false true true x = refl
+    go false true false x = refl
+    go false false u x = refl
+
+pub serves : (replica logs : Bool) (r : Request) (a : Applied) (d : Served) (packs : Bool) (c c' : Contents) (w w' : Walk) (waiting waiting' own : List ℕ) → d.commits ≡ (a.updated || packs) → packs ≡ is_optimize r
+    → d.update ≡ (if a.updated then (if logs && updates r then Some own else None) else None) → own ≡ spelling r
+    → Applies (apply replica r c w) r a c' w' waiting waiting' → Serves replica logs r d c c' w w' waiting waiting'
+serves replica logs r a d packs c c' w w' waiting waiting' own is p u o applied = record {
   contents = applied.contents;
   walk = applied.walk;
   waiting_is = applied.bytes;
   commits = is ∙ ap (λ (b : Bool). b || packs) applied.updated ∙ ap (λ (b : Bool). is_updated r (apply replica r c w) || b) p;
+  update = u ∙ copied_update logs r (apply replica r c w) a.updated own applied.updated o;
 }
 
 -- ---- a session's fields
@@ -62,10 +84,19 @@ pub still_inside : (old new : List ℕ) (taken : ℕ) → IsPrefix old new → t
 still_inside old new taken more le = omega (arith, le, ap length more.1, length-append old more.0)
 
 -- what came behind the bytes that wait waits
-pub serves_behind : (replica : Bool) (r : Request) (d : Served) (c c' : Contents) (w w' : Walk) (waiting old new : List ℕ) (taken : ℕ) → drop taken old ≡ waiting → taken ≤ length old → Serves replica r d c c' w w' old new → Serves replica r d c c' w w' waiting (drop taken new)
-serves_behind replica r d c c' w w' waiting old new taken is le s = record {
+serves_behind : (replica logs : Bool) (r : Request) (d : Served) (c c' : Contents) (w w' : Walk) (waiting old new : List ℕ) (taken : ℕ) → drop taken old ≡ waiting → taken ≤ length old → Serves replica logs r d c c' w w' old new → Serves replica logs r d c c' w w' waiting (drop taken new)
+serves_behind replica logs r d c c' w w' waiting old new taken is le s = record {
   contents = s.contents;
   walk = s.walk;
   waiting_is = let more = reply_bytes (apply replica r c w).reply in ap (drop taken) s.waiting_is ∙ drop-append-le taken old more le ∙ ap (λ (l : List ℕ). l ++ more) is;
   commits = s.commits;
+  update = s.update;
+}
+
+pub front_behind : {S B : Type 0} (s : Ghosts S) (holds : B → Files → Contents → Type 0) (replica logs : Bool) (d : Served) (b b' : B) (a a' : S) (w w' : Walk) (u v u' v' waiting old new : List ℕ) (taken : ℕ)
+    → v ≡ u → v' ≡ u' → drop taken old ≡ waiting → taken ≤ length old → ServesFront s holds replica logs d b b' a a' w w' v v' old new → ServesFront s holds replica logs d b b' a a' w w' u u' waiting (drop taken new)
+front_behind s holds replica logs d b b' a a' w w' u v u' v' waiting old new taken same left is le f = record {
+  request = f.request;
+  takes = subst (λ (l : List ℕ). TakesOff f.request d l u') same (subst (λ (l : List ℕ). TakesOff f.request d v l) left f.takes);
+  serves = λ c h. let x = f.serves c h in (x.0, x.1, serves_behind replica logs f.request d c x.0 w w' waiting old new taken is le x.2);
 }

@@ -1,28 +1,61 @@
 -- What serving the request at the front of the unread bytes does.
-use Rattle.std.specs.Prelude.{◌≡◌, ℕ, Bool, true, false, List, ◌++◌, ◌||◌, Ok}
+use Rattle.std.specs.Prelude.{◌≡◌, ◌≤◌, ℕ, Bool, List, ◌++◌, ◌||◌, ◌&&◌, length, drop, Ok, Option, Some, None, if◌then◌else◌}
+use Rattle.tc_base.specs.Files.{Files}
 use Rattle.tc_base.specs.declared.request.Request.{Request}
 use Rattle.tc_base.specs.declared.request.Request.TheVariants.{Repl}
+use Rattle.tc_space.specs.declared.space.Space.{Ghosts}
+use Rattle.ty_wire.specs.Prefixes.{IsPrefix}
 use Rattle.ty_wire.specs.Reading.{request_at}
 use Rattle.ty_wire.specs.Spelling.{spelling, Fits, reply_bytes}
 use Rattle.tc_model.specs.Contents.{Contents, Walk}
-use Rattle.tc_model.specs.Apply.{apply, is_updated}
+use Rattle.tc_model.specs.Apply.{Step, apply, is_updated}
 use Rattle.tc_model.specs.Packing.{is_optimize}
+use Rattle.ty_base.specs.Holding.{Held}
+use Rattle.ty_core.specs.declared.serving.Feed.{Feed}
 use Rattle.ty_core.specs.declared.serving.Served.{Served}
 
-abbrev pub is_repl : Request → Bool
-is_repl (Repl timestamp server) = true
-is_repl _ = false
+-- the feed that a request asks for
+abbrev pub feed_of : Request → Option Feed
+feed_of (Repl timestamp server) = Some (record { above = timestamp; server = server })
+feed_of _ = None
+
+-- the bytes of a request that updated, where they are asked for
+abbrev pub update_of : Bool → Request → Step → Option (List ℕ)
+update_of logs r s = if logs && is_updated r s then Some (spelling r) else None
+
+-- the bytes begin with the request
+pub record Begins (r : Request) (unread : List ℕ) : Type 0 where
+  pub rest : List ℕ
+  pub front : request_at unread ≡ Ok (r, rest)
+
+-- a request of so many bytes stands at their front, by its reading and by its spelling
+pub record IsWhole (whole : ℕ) (unread : List ℕ) : Type 0 where
+  pub read : (r : Request) × (whole ≤ length unread) × (request_at unread ≡ Ok (r, drop whole unread))
+  pub spelled : (r : Request) × Fits r × IsPrefix (spelling r) unread
 
 -- the request is the one that the bytes begin with, by its reading and by its spelling, and the others are left
 pub record TakesOff (r : Request) (d : Served) (unread unread' : List ℕ) : Type 0 where
   pub front : request_at unread ≡ Ok (r, unread')
   pub fits : Fits r
   pub spelled : unread ≡ spelling r ++ unread'
-  pub feeds : d.feeds ≡ is_repl r
+  pub feeds : d.feeds ≡ feed_of r
 
 -- what it makes of the database is what the abstract one does; an optimize is to be committed, though it updates nothing
-pub record Serves (replica : Bool) (r : Request) (d : Served) (c c' : Contents) (w w' : Walk) (waiting waiting' : List ℕ) : Type 0 where
+pub record Serves (replica logs : Bool) (r : Request) (d : Served) (c c' : Contents) (w w' : Walk) (waiting waiting' : List ℕ) : Type 0 where
   pub contents : c' ≡ (apply replica r c w).contents
   pub walk : w' ≡ (apply replica r c w).walk
   pub waiting_is : waiting' ≡ waiting ++ reply_bytes (apply replica r c w).reply
   pub commits : d.commits ≡ (is_updated r (apply replica r c w) || is_optimize r)
+  pub update : d.update ≡ update_of logs r (apply replica r c w)
+
+-- the request at the front was served: whatever was held, what it makes of that is held now
+pub record ServesFront {S B : Type 0} (s : Ghosts S) (holds : B → Files → Contents → Type 0) (replica logs : Bool) (d : Served) (base base' : B) (old new : S) (w w' : Walk) (unread unread' waiting waiting' : List ℕ) : Type 0 where
+  pub request : Request
+  pub takes : TakesOff request d unread unread'
+  pub serves : (c : Contents) → Held s holds base old c → (e : Contents) × Held s holds base' new e × Serves replica logs request d c e w w' waiting waiting'
+
+-- a limit is reached between contents and what the request at the front makes of them
+pub record FillsFront {S B : Type 0} (s : Ghosts S) (holds : B → Files → Contents → Type 0) (fills : Contents → Contents → Type 0) (replica : Bool) (base : B) (old : S) (w : Walk) (unread : List ℕ) : Type 0 where
+  pub request : Request
+  pub begins : Begins request unread
+  pub full : (c : Contents) → Held s holds base old c → fills c (apply replica request c w).contents

@@ -1,8 +1,8 @@
 //! One connection: the bytes that came of it, and those that wait to be sent.
-#![tactic(auto)]
+#![tactic(auto, using(tc_space::specs::Frames::keeps_then, tc_space::specs::Frames::keeps_refl))]
 
 mod serving;
 mod session;
 
-pub use serving::Served;
+pub use serving::{Feed, Served};
 pub use session::Session;

@@ -1,18 +1,16 @@
 //! The request at the front of bytes, served.
-ghost use Rattle.std.specs.Prelude.{◌≡◌, ◌≢◌, ◌⊎◌, ◌≤◌, ◌++◌, ◌&&◌, ℕ, Bool, true, false, List, Option, OnOk, OnErr, IfOk, IsErrOf, IsTrue, Ok, length};
+ghost use Rattle.std.specs.Prelude.{◌≡◌, ◌≢◌, ◌⊎◌, ◌≤◌, ◌++◌, ◌&&◌, ℕ, Bool, true, false, List, Option, OnOk, OnErr, IfOk, IsErrOf, IsTrue, Ok, length, drop, if◌then◌else◌, Some, None};
 ghost use Rattle.tc_base.specs.declared.request.Request.{Request};
-ghost use Rattle.tc_base.specs.Reading.{Front};
 ghost use Rattle.tc_io.specs.Causes.{Rose};
-ghost use Rattle.tc_space.specs.Moments.{Steady};
-ghost use Rattle.tc_model.specs.Apply.{apply, updates};
-ghost use Rattle.tc_model.specs.Applying.{Applies};
+ghost use Rattle.tc_space.specs.Frames.{Keeps};
+ghost use Rattle.tc_model.specs.Contents.{Contents};
+ghost use Rattle.tc_model.specs.Apply.{apply, refusal_of, updates};
 ghost use Rattle.ty_wire.specs.Prefixes.{IsPrefix};
-ghost use Rattle.ty_wire.specs.Reading.{request_at};
-ghost use Rattle.ty_wire.specs.Spelling.{spelling, Fits};
+ghost use Rattle.ty_base.specs.Holding.{Declines, Held, IsReady, Leaves};
+ghost use Rattle.ty_base.specs.Holding as holding;
 ghost use Rattle.tc_model.specs.Packing.{is_optimize};
-ghost use Rattle.ty_core.specs.Serving.{Serves, TakesOff, is_repl};
+ghost use Rattle.ty_core.specs.Serving.{FillsFront, IsWhole, ServesFront, feed_of};
 
-use bytes::BytesMut;
 use std::alloc::{AllocError, Global};
 use tc_base::{Blob, Reply, Request};
 use tc_model::{Applied, Walk};
@@ -20,13 +18,22 @@ use tc_space::{RecErr, Space};
 use ty_base::Base;
 use ty_wire::{is_updating, read_request, write_reply};
 
-/// What is left to do behind a request that was served.
+/// Whom a `repl` asks to be fed: the update records above a timestamp, for a server of this number.
 #[derive(Clone, Copy, Debug, PartialEq, Eq)]
+pub struct Feed {
+    pub above: u64,
+    pub server: u32,
+}
+
+/// What is left to do behind a request that was served.
+#[derive(Debug, Drop)]
 pub struct Served {
     /// Whether there is anything to commit: it updated the contents, or packs the files.
     pub commits: bool,
-    /// Whether it asks for the feed of updates, to which no reply was added.
-    pub feeds: bool,
+    /// The feed of updates that it asks for, to which no reply was added.
+    pub feeds: Option<Feed>,
+    /// The bytes of the request where it updated and they were asked for.
+    pub update: Option<Blob>,
 }
 
 // The reply to a request that is refused.
@@ -40,13 +47,11 @@ fn refusal(request: &Request) -> Reply
     }
 }
 
-ghost use Rattle.tc_model.specs.Apply.{refusal_of};
-
-// Whether a replica refuses a request.
-fn is_refused(request: &Request, replica: bool) -> bool
-    ensures { result ≡ (replica && updates request.now) }
+// Whether a test holds and the request updates where it succeeds.
+fn if_updating(request: &Request, test: bool) -> bool
+    ensures { result ≡ (test && updates request.now) }
 {
-    if replica { is_updating(request) } else { false }
+    if test { is_updating(request) } else { false }
 }
 
 // Whether it packs the files.
@@ -56,11 +61,35 @@ fn is_packing(request: &Request) -> bool
     matches!(request, Request::Optimize { .. })
 }
 
-// Whether it asks for the feed of updates.
-fn is_feed(request: &Request) -> bool
-    ensures { result ≡ is_repl request.now }
+// The feed that it asks for.
+fn asked_feed(request: &Request) -> Option<Feed>
+    ensures { result ≡ feed_of request.now }
 {
-    matches!(request, Request::Repl { .. })
+    match request {
+        Request::Repl { timestamp, server } => Some(Feed {
+            above: *timestamp,
+            server: *server,
+        }),
+        _ => None,
+    }
+}
+
+// A copy of the bytes where they are asked for.
+fn copy(alloc: Global, bytes: &[u8], asked: bool) -> Result<Option<Blob>, AllocError>
+    ensures { IfOk result (λ o. o ≡ (if asked then Some bytes.now else None)) }
+{
+    if asked {
+        Ok(Some(Blob::from_slice(alloc, bytes)?))
+    } else {
+        Ok(None)
+    }
+}
+
+// What was copied, where it is kept.
+fn kept(copied: Option<Blob>, keeps: bool) -> Option<Blob>
+    ensures { result ≡ (if keeps then copied else None) }
+{
+    if keeps { copied } else { None }
 }
 
 /// Serves a request: on a replica each updating one of a client fails, else the base serves it.
@@ -72,65 +101,62 @@ pub fn answer<B: Base>(
     replica: bool,
     reply: &mut Blob,
 ) -> Result<Applied, RecErr>
-    requires sound { B.S.sound space.old }
-    requires is_of { B.S.tells → B.is_of base.old (B.S.now space.old) }
-    ensures applied { IfOk result (λ a. B.S.tells → Applies (apply replica request (B.contents base.old) walk.old) request a (B.contents base.new) walk.new reply.old reply.new) }
-    ensures writes { IfOk result (λ a. a.updated ≡ false → is_optimize request ≡ false → B.S.touched space.new ≡ B.S.touched space.old) }
-    ensures steady { B.S.tells → Steady B.S.moment B.S.left B.S.kept space.old space.new }
-    ensures sound { OnOk result (B.S.sound space.new) }
-    ensures is_of_still { OnOk result (B.S.tells → B.is_of base.new (B.S.now space.new)) }
-    ensures refused { OnErr result ((B.S.flag space.new ≡ false) ⊎ (B.S.sound space.new × (B.contents base.new ≡ B.contents base.old) × (walk.new ≡ walk.old))) }
+    requires ready { IsReady B.S.Space B.holds base.old space.old }
+    ensures applied { IfOk result (λ a. (c : Contents) → Held B.S.Space B.holds base.old space.old c → holding.Serves B.S.Space B.holds (apply replica request c walk.old) request a base.new space.new walk.new reply.old reply.new) }
+    ensures leaves { IfOk result (λ a. Leaves B.S.Space ((a.updated ≡ false) × (is_optimize request ≡ false)) space.old space.new) }
+    ensures refused { OnErr result (Declines B.S.Space B.holds base.old base.new space.old space.new walk.old walk.new) }
     ensures reply_front { IsPrefix reply.old reply.new }
-    ensures full { IsErrOf result RecErr.Full → B.fills }
-    ensures later { B.S.faults space.old ≤ B.S.faults space.new }
+    ensures full { IsErrOf result RecErr.Full → (c : Contents) → Held B.S.Space B.holds base.old space.old c → B.fills space.new c (apply replica request c walk.old).contents }
+    ensures keeps { Keeps B.S.Space space.old space.new }
     ensures cause { IsErrOf result RecErr.Fault → Rose (B.S.faults space.old) (B.S.faults space.new) }
 {
-    if is_refused(&request, replica) {
+    if if_updating(&request, replica) {
         write_reply(&refusal(&request), reply)?;
         return Ok(Applied {
             ok: false,
             updated: false,
         });
     }
-    base.apply(space, request, walk, reply)
+    match base.apply(space, request, walk, reply) {
+        Ok(applied) => Ok(applied),
+        Err(e) => Err(e),
+    }
 }
 
-/// Serves the request at the front of bytes that begin with a whole one of `whole` bytes.
+/// Serves the request at the front of bytes, whose own are the first `whole`. Where `logs` is set, the bytes of one that updates are given back.
 pub fn serve_front<B: Base>(
     alloc: Global,
-    unread: &mut BytesMut,
+    unread: &[u8],
     whole: usize,
     waiting: &mut Blob,
     base: &mut B,
     space: &mut B::S,
     walk: &mut Walk,
     replica: bool,
+    logs: bool,
 ) -> Result<Served, RecErr>
-    requires front { (r : Request) × (whole ≤ length unread.old.items) × (request_at unread.old.items ≡ Ok (r, drop whole unread.old.items)) }
-    requires spelled { (r : Request) × Fits r × IsPrefix (spelling r) unread.old.items }
-    requires sound { B.S.sound space.old }
-    requires is_of { B.S.tells → B.is_of base.old (B.S.now space.old) }
-    ensures served { IfOk result (λ d. (r : Request) × TakesOff r d unread.old.items unread.new.items × (B.S.tells → Serves replica r d (B.contents base.old) (B.contents base.new) walk.old walk.new waiting.old waiting.new)) }
-    ensures writes { IfOk result (λ d. d.commits ≡ false → B.S.touched space.new ≡ B.S.touched space.old) }
-    ensures steady { B.S.tells → Steady B.S.moment B.S.left B.S.kept space.old space.new }
-    ensures sound { OnOk result (B.S.sound space.new) }
-    ensures is_of_still { OnOk result (B.S.tells → B.is_of base.new (B.S.now space.new)) }
-    ensures refused { OnErr result ((B.S.flag space.new ≡ false) ⊎ (B.S.sound space.new × (B.contents base.new ≡ B.contents base.old) × (walk.new ≡ walk.old))) }
-    ensures unread_err { OnErr result (unread.new ≡ unread.old) }
-    ensures reply_front { IsPrefix waiting.old waiting.new }
-    ensures full { IsErrOf result RecErr.Full → B.fills }
-    ensures later { B.S.faults space.old ≤ B.S.faults space.new }
+    requires whole { IsWhole whole unread.now }
+    requires ready { IsReady B.S.Space B.holds base.old space.old }
+    ensures served { IfOk result (λ d. ServesFront B.S.Space B.holds replica logs d base.old base.new space.old space.new walk.old walk.new unread.now (drop whole unread.now) waiting.old waiting.new) }
+    ensures leaves { IfOk result (λ d. Leaves B.S.Space (d.commits ≡ false) space.old space.new) }
+    ensures refused { OnErr result (Declines B.S.Space B.holds base.old base.new space.old space.new walk.old walk.new) }
+    ensures waiting_front { IsPrefix waiting.old waiting.new }
+    ensures full { IsErrOf result RecErr.Full → FillsFront B.S.Space B.holds (B.fills space.new) replica base.old space.old walk.old unread.now }
+    ensures keeps { Keeps B.S.Space space.old space.new }
     ensures cause { IsErrOf result RecErr.Fault → Rose (B.S.faults space.old) (B.S.faults space.new) }
 {
-    let request = read_request(alloc, unread.as_slice())?;
+    let request = read_request(alloc, unread)?;
     let packs = is_packing(&request);
-    let feeds = is_feed(&request);
-    let applied = answer(base, space, request, walk, replica, waiting)?;
-    unread.advance(whole);
+    let feeds = asked_feed(&request);
+    let copied = copy(alloc, &unread[..whole], if_updating(&request, logs))?;
+    let applied = match answer(base, space, request, walk, replica, waiting) {
+        Ok(applied) => applied,
+        Err(e) => return Err(e),
+    };
+    let update = kept(copied, applied.updated);
     Ok(Served {
         commits: applied.updated | packs,
         feeds,
+        update,
     })
 }
-
-ghost use Rattle.std.specs.Prelude.{drop};

@@ -1,14 +1,12 @@
 //! One connection's bytes.
-ghost use Rattle.std.specs.Prelude.{◌≡◌, ◌≢◌, ◌⊎◌, ◌≤◌, ◌++◌, ℕ, Bool, true, false, List, [], Option, OnOk, OnErr, IfOk, IsErrOf, Ok, length, drop};
+ghost use Rattle.std.specs.Prelude.{◌≡◌, ◌≤◌, ◌++◌, ℕ, false, [], OnOk, OnErr, IfOk, IsErrOf, length, drop};
 ghost use Rattle.tc_io.specs.Causes.{Rose};
-ghost use Rattle.tc_space.specs.Moments.{Steady};
-ghost use Rattle.tc_base.specs.declared.request.Request.{Request};
+ghost use Rattle.tc_space.specs.Frames.{Keeps};
 ghost use Rattle.ty_wire.specs.declared.reading.Front.TheVariants.{Whole};
-ghost use Rattle.ty_wire.specs.Spelling.{spelling, Fits};
 ghost use Rattle.ty_wire.specs.Taking.{Takes, IsRead};
-ghost use Rattle.tc_model.specs.Packing.{is_optimize};
+ghost use Rattle.ty_base.specs.Holding.{Declines, IsReady, Leaves};
 ghost use Rattle.ty_core.specs.Queues.{queue};
-ghost use Rattle.ty_core.specs.Serving.{Serves, TakesOff};
+ghost use Rattle.ty_core.specs.Serving.{FillsFront, ServesFront};
 
 use crate::serving::{Served, serve_front};
 use bytes::BytesMut;
@@ -107,41 +105,44 @@ impl Session {
         self.waiting.append(bytes)
     }
 
-    /// Serves the request at the front: it is taken off the unread bytes, and its reply waits. Of a `repl` no reply is added.
+    /// Serves the request at the front: it is taken off the unread bytes, and its reply waits. Of a `repl` no reply is added. Where `logs` is
+    /// set the bytes of a request that updated are given back. After an `Err` the session is of no more use.
     pub fn serve<B: Base>(
         &mut self,
         base: &mut B,
         space: &mut B::S,
         walk: &mut Walk,
         replica: bool,
+        logs: bool,
     ) -> Result<Served, RecErr>
         requires whole { (n : ℕ) × IsRead self.old.unread (Whole n) }
         requires quiet { self.old.waiting ≡ [] }
-        requires sound { B.S.sound space.old }
-        requires is_of { B.S.tells → B.is_of base.old (B.S.now space.old) }
-        ensures served { IfOk result (λ d. (r : Request) × TakesOff r d self.old.unread self.new.unread × (B.S.tells → Serves replica r d (B.contents base.old) (B.contents base.new) walk.old walk.new self.old.waiting self.new.waiting)) }
-        ensures writes { IfOk result (λ d. d.commits ≡ false → B.S.touched space.new ≡ B.S.touched space.old) }
-        ensures steady { B.S.tells → Steady B.S.moment B.S.left B.S.kept space.old space.new }
-        ensures sound { OnOk result (B.S.sound space.new) }
-        ensures is_of_still { OnOk result (B.S.tells → B.is_of base.new (B.S.now space.new)) }
-        ensures refused { OnErr result ((B.S.flag space.new ≡ false) ⊎ (B.S.sound space.new × (B.contents base.new ≡ B.contents base.old) × (walk.new ≡ walk.old))) }
-        ensures full { IsErrOf result RecErr.Full → B.fills }
-        ensures later { B.S.faults space.old ≤ B.S.faults space.new }
+        requires ready { IsReady B.S.Space B.holds base.old space.old }
+        ensures served { IfOk result (λ d. ServesFront B.S.Space B.holds replica logs d base.old base.new space.old space.new walk.old walk.new self.old.unread self.new.unread self.old.waiting self.new.waiting) }
+        ensures leaves { IfOk result (λ d. Leaves B.S.Space (d.commits ≡ false) space.old space.new) }
+        ensures refused { OnErr result (Declines B.S.Space B.holds base.old base.new space.old space.new walk.old walk.new) }
+        ensures full { IsErrOf result RecErr.Full → FillsFront B.S.Space B.holds (B.fills space.new) replica base.old space.old walk.old self.old.unread }
+        ensures keeps { Keeps B.S.Space space.old space.new }
         ensures cause { IsErrOf result RecErr.Fault → Rose (B.S.faults space.old) (B.S.faults space.new) }
     {
         let Front::Whole(whole) = self.front else {
             unreachable!();
         };
-        let served = serve_front(
+        let served = match serve_front(
             self.alloc,
-            &mut self.unread,
+            self.unread.as_slice(),
             whole,
             &mut self.waiting,
             base,
             space,
             walk,
             replica,
-        )?;
+            logs,
+        ) {
+            Ok(served) => served,
+            Err(e) => return Err(e),
+        };
+        self.unread.advance(whole);
         self.seen = Seen::new();
         self.front = look(self.unread.as_slice(), &mut self.seen);
         Ok(served)

@@ -1,26 +1,27 @@
 -- Closings: a connection that is closed leaves the list, and no other does.
-use Rattle.std.proofs.Common.{◌≡◌, ℕ, zero, suc, ◌+◌, ◌<◌, ◌≤◌, Bool, true, false, not, List, [], ◌∷◌, ◌++◌, length, get_or, refl, sym, ap, subst, ◌∙◌, append_assoc, arith, eq-eqb, length-append, Ok, Err}
+use Rattle.std.proofs.Common.{◌≡◌, ℕ, zero, suc, ◌+◌, ◌<◌, ◌≤◌, Bool, true, false, not, List, [], ◌∷◌, ◌++◌, length, get_or, take, cond, refl, sym, ap, subst, ◌∙◌, append_assoc, arith, eq-eqb, length-append, Ok, Err}
 use Rattle.std.proofs.lemmas.Bool.{cond-false, cond-true, or_from, or_parts}
-use Rattle.std.specs.Prelude.{nat_eq, ◌&&◌, Result, IsErr, remove}
+use Rattle.std.specs.Prelude.{nat_eq, ◌&&◌, ◌||◌, Result, IsErr, remove}
 use Rattle.std.specs.List.{list_any, filter}
-use Rattle.std.proofs.lemmas.List.{append-nil}
+use Rattle.std.proofs.lemmas.List.{append-nil, take_all}
 use Rattle.tc_base.specs.declared.fault.Fault.{Fault}
 use Rattle.tc_io.specs.Told.{Adds}
 use Rattle.tc_io.specs.Script.{Plays}
-use Rattle.tc_io.specs.Lines.{without}
+use Rattle.tc_io.specs.Lines.{without, has}
+use Rattle.tc_io.specs.declared.wire.Wire.{Ghosts}
 use Rattle.tc_io.specs.declared.wire.Entry.{Entry}
 use Rattle.tc_io.specs.declared.wire.Entry.TheVariants.{Close}
 use Rattle.ty_world.specs.World as world
-use Rattle.ty_world.specs.World.{Client, World, happens, world_after, is_rested, AllAsked, AllCame}
+use Rattle.ty_world.specs.World.{Client, World, happens, world_after, is_restless, AllOf, ClosesOne, AllAsked, AllCame}
 use Rattle.ty_rounds.specs.Peers.{numbers, is_over}
 use Rattle.ty_rounds.specs.Holding.{Holds, AllHold, AllFine, AreApart, Wired}
 use Rattle.ty_rounds.specs.Closings.{ClosedFront, ClosesFront, ClosedAll, ClosesAll}
-use Rattle.ty_rounds.specs.Turns.{Told, MayPlay}
+use Rattle.ty_rounds.specs.Ready as ready
 use Rattle.ty_rounds.specs.declared.peer.Peer.{Peer}
-use Rattle.ty_rounds.proofs.Places.{eq_swap}
+use Rattle.ty_rounds.proofs.Places.{eq_swap, same_parts, take_next}
 use Rattle.ty_rounds.proofs.Hearing.{more_hold}
 use Rattle.ty_rounds.proofs.Waiting.{over_is}
-use Rattle.ty_rounds.proofs.SendLaws.{after_more, asked_more, came_more}
+use Rattle.ty_rounds.proofs.Entries.{after_more, asked_more, came_more, all_more, same_refl}
 use Rattle.ty_rounds.proofs.Telling.{Adds-then, Plays-then, Adds-none, Plays-none}
 
 abbrev other : ℕ → Client → Bool
@@ -65,6 +66,7 @@ record Leaves (c : ℕ) (stay rest : List Client) (k : Client) : Type 0 where
   there : filter (other c) (stay ++ k ∷ rest) ≡ stay ++ rest
   gone : filter (λ (j : Client). nat_eq j.conn c) (stay ++ k ∷ rest) ≡ k ∷ []
   asked : list_any (λ j. nat_eq j.conn c && not (world.is_over j)) (stay ++ k ∷ rest) ≡ false
+  listed : list_any (λ j. nat_eq j.conn c) (stay ++ k ∷ rest) ≡ true
 
 leaves : (front back : List Peer) (p : Peer) (stay rest : List Client) (k : Client) → AllHold front stay → Holds p k → AllHold back rest → AreApart (numbers (front ++ p ∷ back)) → world.is_over k ≡ true → Leaves p.conn stay rest k
 leaves [] back p [] rest k f h b apart over =
@@ -73,11 +75,16 @@ leaves [] back p [] rest k f h b apart over =
       there = cond-false (other p.conn k) _ _ (ap not same) ∙ stay_all p.conn back rest b apart.0;
       gone = cond-true (nat_eq k.conn p.conn) _ _ same ∙ ap (λ (l : List Client). k ∷ l) (go_none p.conn back rest b apart.0);
       asked = or_from (nat_eq k.conn p.conn && not (world.is_over k)) (list_any (λ j. nat_eq j.conn p.conn && not (world.is_over j)) rest) (second (nat_eq k.conn p.conn) (not (world.is_over k)) (ap not over)) (ask_none p.conn back rest b apart.0);
+      listed = left_true (nat_eq k.conn p.conn) (list_any (λ j. nat_eq j.conn p.conn) rest) same;
     }
   where
     second : (a b : Bool) → b ≡ false → (a && b) ≡ false
     second true b e = e
     second false b e = refl
+
+    left_true : (a b : Bool) → a ≡ true → (a || b) ≡ true
+    left_true true b e = refl
+    left_true false b e = absurd cc
 leaves [] back p (j ∷ stay) rest k f h b apart over = absurd f
 leaves (x ∷ front) back p [] rest k f h b apart over = absurd f
 leaves (x ∷ front) back p (j ∷ stay) rest k f h b apart over =
@@ -87,11 +94,16 @@ leaves (x ∷ front) back p (j ∷ stay) rest k f h b apart over =
       there = cond-true (other p.conn j) _ _ (ap not away) ∙ ap (λ (l : List Client). j ∷ l) r.there;
       gone = cond-false (nat_eq j.conn p.conn) _ _ away ∙ r.gone;
       asked = or_from (nat_eq j.conn p.conn && not (world.is_over j)) (list_any (λ i. nat_eq i.conn p.conn && not (world.is_over i)) (stay ++ k ∷ rest)) (first (nat_eq j.conn p.conn) (not (world.is_over j)) away) r.asked;
+      listed = right_true (nat_eq j.conn p.conn) (list_any (λ i. nat_eq i.conn p.conn) (stay ++ k ∷ rest)) r.listed;
     }
   where
     first : (a b : Bool) → a ≡ false → (a && b) ≡ false
     first false b e = refl
     first true b e = absurd cc
+
+    right_true : (a b : Bool) → b ≡ true → (a || b) ≡ true
+    right_true true b e = refl
+    right_true false b e = e
 
 -- ---- numbers
 
@@ -163,39 +175,21 @@ any_drop f (x ∷ ks) js k a = let s = or_parts (f x) (list_any f (ks ++ k ∷ j
 
 -- ---- the loop
 
-pub none_closed : (a : Told) (x : MayPlay) (ps : List Peer) → ClosesFront a a x x ps ps 0
-none_closed a x ps = record {
-  entries = [];
-  told = Adds-none a;
-  plays = Plays-none x;
-  ends = λ w held past rested. record {
-    front = [];
-    back = ps;
-    stay = [];
-    rest = w.there;
-    peers_are = refl;
-    clients_are = refl;
-    at = refl;
-    held = tt;
-    left = held;
-    none_over = refl;
-    past = past;
-    same = record { contents = refl; walk = refl; marks = refl; shut = refl; events = refl; opens = refl };
-    asked = tt;
-    came = tt;
-    rested = rested;
-  };
-}
+-- none of those that were looked at is over
+abbrev pub FrontClear : List Peer → ℕ → Type 0
+FrontClear now i = ready.NoneOver (take i now)
 
-same_parts : (front back front' back' : List Peer) → front ++ back ≡ front' ++ back' → length front ≡ length front' → (front ≡ front') × (back ≡ back')
-same_parts [] back [] back' e l = (refl, e)
-same_parts [] back (y ∷ front') back' e l = absurd (omega (arith, l))
-same_parts (x ∷ front) back [] back' e l = absurd (omega (arith, l))
-same_parts (x ∷ front) back (y ∷ front') back' e l =
-    let first : x ≡ y = cc in
-    let rest : front ++ back ≡ front' ++ back' = cc in
-    let r = same_parts front back front' back' rest (omega (arith, l)) in
-    (ap (λ (z : Peer). z ∷ front) first ∙ ap (λ (l : List Peer). y ∷ l) r.0, r.1)
+more_there : (ns : List ℕ) (c d : ℕ) → has (without c ns) d ≡ true → has ns d ≡ true
+more_there [] c d e = e
+more_there (n ∷ ns) c d e = go (nat_eq n c) (nat_eq d n) refl e (more_there ns c d)
+  where
+    go : (b h : Bool) → nat_eq d n ≡ h → has (cond (not b) (n ∷ without c ns) (without c ns)) d ≡ true → (has (without c ns) d ≡ true → has ns d ≡ true) → (h || has ns d) ≡ true
+    go b true is e f = refl
+    go true false is e f = f e
+    go false false is e f = f (ap (λ (x : Bool). x || has (without c ns) d) (sym is) ∙ e)
+
+pub still_there : (conns conns' all : List ℕ) (c : ℕ) → conns' ≡ without c conns → ((d : ℕ) → has conns d ≡ true → has all d ≡ true) → (d : ℕ) → has conns' d ≡ true → has all d ≡ true
+still_there conns conns' all c is fewer d e = fewer d (more_there conns c d (ap (λ (l : List ℕ). has l d) (sym is) ∙ e))
 
 -- the one that is looked at, and the client that it stands for
 record Looks (f : List Peer) (now : List Peer) (i : ℕ) (p : Peer) (stay rest : List Client) : Type 0 where
@@ -231,80 +225,6 @@ remove_here : (front back : List Peer) (p : Peer) → remove (front ++ p ∷ bac
 remove_here [] back p = refl
 remove_here (x ∷ front) back p = ap (λ (l : List Peer). x ∷ l) (remove_here front back p)
 
-pub one_stays : (a b : Told) (x y : MayPlay) (ps now : List Peer) (i : ℕ) (p : Peer) → i < length now → p ≡ get_or now i p → is_over p ≡ false → ClosesFront a b x y ps now i → ClosesFront a b x y ps now (i + 1)
-one_stays a b x y ps now i p lt e over f = record {
-  entries = f.entries;
-  told = f.told;
-  plays = f.plays;
-  ends = λ w held past rested.
-      let c = f.ends w held past rested in
-      let l = looks c.front c.back now i p c.stay c.rest c.peers_are c.at lt e c.left in
-      record {
-        front = c.front ++ p ∷ [];
-        back = l.back;
-        stay = c.stay ++ l.client ∷ [];
-        rest = l.behind;
-        peers_are = l.peers_are ∙ sym (append_assoc c.front (p ∷ []) l.back);
-        clients_are = c.clients_are ∙ ap (λ (r : List Client). c.stay ++ r) l.clients_are ∙ sym (append_assoc c.stay (l.client ∷ []) l.behind);
-        at = omega (arith, c.at, length-append c.front (p ∷ []));
-        held = more_hold c.front c.stay p l.client c.held l.holds;
-        left = l.left;
-        none_over = any_append world.is_over c.stay (l.client ∷ []) c.none_over (or_from (world.is_over l.client) false (over_is p l.client l.holds ∙ over) refl);
-        past = c.past;
-        same = c.same;
-        asked = c.asked;
-        came = c.came;
-        rested = c.rested;
-      };
-}
-
-pub one_closes : (a b d : Told) (x y z : MayPlay) (ps now now' : List Peer) (i : ℕ) (p : Peer) → i < length now → p ≡ get_or now i p → is_over p ≡ true → AreApart (numbers now) → now' ≡ remove now i → ClosesFront a b x y ps now i → Adds b d (Close p.conn ∷ []) → Plays y z (Close p.conn ∷ []) → ClosesFront a d x z ps now' i
-one_closes a b d x y z ps now now' i p lt e over apart less f told plays = record {
-  entries = f.entries ++ Close p.conn ∷ [];
-  told = Adds-then a b d f.entries (Close p.conn ∷ []) f.told told;
-  plays = Plays-then x y z f.entries (Close p.conn ∷ []) f.plays plays;
-  ends = λ w held past rested.
-      let c = f.ends w held past rested in
-      let l = looks c.front c.back now i p c.stay c.rest c.peers_are c.at lt e c.left in
-      let v = world_after f.entries w in
-      let apart' : AreApart (numbers (c.front ++ p ∷ l.back)) = subst (λ (q : List Peer). AreApart (numbers q)) l.peers_are apart in
-      let g = leaves c.front l.back p c.stay l.behind l.client c.held l.holds l.left apart' (over_is p l.client l.holds ∙ over) in
-      let there : v.there ≡ c.stay ++ l.client ∷ l.behind = c.clients_are ∙ ap (λ (r : List Client). c.stay ++ r) l.clients_are in
-      subst (λ (u : World). ClosedFront now' i w u (f.entries ++ Close p.conn ∷ [])) (sym (after_more f.entries (Close p.conn ∷ []) w)) (record {
-        front = c.front;
-        back = l.back;
-        stay = c.stay;
-        rest = l.behind;
-        peers_are = less ∙ ap (λ (q : List Peer). remove q i) l.peers_are ∙ ap (λ (n : ℕ). remove (c.front ++ p ∷ l.back) n) (sym c.at) ∙ remove_here c.front l.back p;
-        clients_are = ap (filter (other p.conn)) there ∙ g.there;
-        at = c.at;
-        held = c.held;
-        left = l.left;
-        none_over = c.none_over;
-        past = subst (λ (r : List Client). AllFine (v.past ++ r)) (sym (ap (filter (λ (j : Client). nat_eq j.conn p.conn)) there ∙ g.gone)) (fine_more v.past (l.client ∷ []) c.past ((p.session.waiting, l.holds.owed), tt));
-        same = record { contents = c.same.contents; walk = c.same.walk; marks = c.same.marks; shut = c.same.shut; events = c.same.events; opens = c.same.opens };
-        asked = asked_more f.entries (Close p.conn ∷ []) w c.asked (ap (list_any (λ j. nat_eq j.conn p.conn && not (world.is_over j))) there ∙ g.asked, tt);
-        came = came_more f.entries (Close p.conn ∷ []) c.came (tt, tt);
-        rested = ap (list_any (λ k. not (is_rested k))) (ap (filter (other p.conn)) there ∙ g.there) ∙ any_drop (λ k. not (is_rested k)) c.stay l.behind l.client (ap (list_any (λ k. not (is_rested k))) (sym there) ∙ c.rested);
-      });
-}
-
-pub close_fails : (a b d : Told) (x y z : MayPlay) (ps now now' : List Peer) (i : ℕ) (r : Result (Unit {0}) Fault) → IsErr r → ClosesFront a b x y ps now i → Adds b d [] → ClosesAll a d x z ps now' r
-close_fails a b d x y z ps now now' i (Ok u) failed f told = absurd (let e : false ≡ true = failed in cc)
-close_fails a b d x y z ps now now' i (Err e) failed f told = record {
-  entries = f.entries;
-  told = subst (λ (l : List Entry). Adds a d l) (append-nil f.entries) (Adds-then a b d f.entries [] f.told told);
-  plays = tt;
-  ends = λ w held past rested. let c = f.ends w held past rested in record {
-    there = subst AllFine (sym c.clients_are) (fine_more c.stay c.rest (fine_holds c.front c.stay c.held) (fine_holds c.back c.rest c.left));
-    past = c.past;
-    same = c.same;
-    asked = c.asked;
-    came = c.came;
-    done = tt;
-  };
-}
-
 closed_end : (now : List Peer) (i : ℕ) (w v : World) (es : List Entry) → ClosedFront now i w v es → length now ≤ i → ClosedAll (Ok tt) now w v es
 closed_end now i w v es c le = go c.back c.rest refl refl c.left
   where
@@ -325,10 +245,142 @@ closed_end now i w v es c le = go c.back c.rest refl refl c.left
     go (x ∷ xs) [] e f a = absurd a
     go (x ∷ xs) (y ∷ ys) e f a = absurd (omega (arith, le, c.at, ap length c.peers_are, ap length e, length-append c.front c.back))
 
-pub all_closed : (a b : Told) (x y : MayPlay) (ps now : List Peer) (i : ℕ) → ClosesFront a b x y ps now i → length now ≤ i → ClosesAll a b x y ps now (Ok tt)
-all_closed a b x y ps now i f le = record {
-  entries = f.entries;
-  told = f.told;
-  plays = f.plays;
-  ends = λ w held past rested. closed_end now i w (world_after f.entries w) f.entries (f.ends w held past rested) le;
-}
+module _ {W : Type 0} (g : Ghosts W) where
+  pub none_closed : (x : W) (ps : List Peer) → ClosesFront g x x ps ps 0
+  none_closed x ps = record {
+    entries = [];
+    told = Adds-none (g.transcript x);
+    plays = Plays-none (g.plays x);
+    calls = tt;
+    ends = λ w held past rested. record {
+      front = [];
+      back = ps;
+      stay = [];
+      rest = w.there;
+      peers_are = refl;
+      clients_are = refl;
+      at = refl;
+      held = tt;
+      left = held;
+      none_over = refl;
+      past = past;
+      same = same_refl w;
+      asked = tt;
+      came = tt;
+      rested = rested;
+    };
+  }
+
+  pub one_stays : (x y : W) (ps now : List Peer) (i : ℕ) (p : Peer) → i < length now → p ≡ get_or now i p → is_over p ≡ false → ClosesFront g x y ps now i → ClosesFront g x y ps now (i + 1)
+  one_stays x y ps now i p lt e over f = record {
+    entries = f.entries;
+    told = f.told;
+    plays = f.plays;
+    calls = f.calls;
+    ends = λ w held past rested.
+        let c = f.ends w held past rested in
+        let l = looks c.front c.back now i p c.stay c.rest c.peers_are c.at lt e c.left in
+        record {
+          front = c.front ++ p ∷ [];
+          back = l.back;
+          stay = c.stay ++ l.client ∷ [];
+          rest = l.behind;
+          peers_are = l.peers_are ∙ sym (append_assoc c.front (p ∷ []) l.back);
+          clients_are = c.clients_are ∙ ap (λ (r : List Client). c.stay ++ r) l.clients_are ∙ sym (append_assoc c.stay (l.client ∷ []) l.behind);
+          at = omega (arith, c.at, length-append c.front (p ∷ []));
+          held = more_hold c.front c.stay p l.client c.held l.holds;
+          left = l.left;
+          none_over = any_append world.is_over c.stay (l.client ∷ []) c.none_over (or_from (world.is_over l.client) false (over_is p l.client l.holds ∙ over) refl);
+          past = c.past;
+          same = c.same;
+          asked = c.asked;
+          came = c.came;
+          rested = c.rested;
+        };
+  }
+
+  pub one_closes : (x y z : W) (ps now now' : List Peer) (i : ℕ) (p : Peer) → i < length now → p ≡ get_or now i p → is_over p ≡ true → AreApart (numbers now) → has (g.conns x) p.conn ≡ true → now' ≡ remove now i → ClosesFront g x y ps now i → Adds (g.transcript y) (g.transcript z) (Close p.conn ∷ []) → Plays (g.plays y) (g.plays z) (Close p.conn ∷ []) → ClosesFront g x z ps now' i
+  one_closes x y z ps now now' i p lt e over apart listed less f told plays = record {
+    entries = f.entries ++ Close p.conn ∷ [];
+    told = Adds-then (g.transcript x) (g.transcript y) (g.transcript z) f.entries (Close p.conn ∷ []) f.told told;
+    plays = Plays-then (g.plays x) (g.plays y) (g.plays z) f.entries (Close p.conn ∷ []) f.plays plays;
+    calls = all_more (ClosesOne (g.conns x)) f.entries (Close p.conn ∷ []) f.calls (listed, tt);
+    ends = λ w held past rested.
+        let c = f.ends w held past rested in
+        let l = looks c.front c.back now i p c.stay c.rest c.peers_are c.at lt e c.left in
+        let v = world_after f.entries w in
+        let apart' : AreApart (numbers (c.front ++ p ∷ l.back)) = subst (λ (q : List Peer). AreApart (numbers q)) l.peers_are apart in
+        let n = leaves c.front l.back p c.stay l.behind l.client c.held l.holds l.left apart' (over_is p l.client l.holds ∙ over) in
+        let there : v.there ≡ c.stay ++ l.client ∷ l.behind = c.clients_are ∙ ap (λ (r : List Client). c.stay ++ r) l.clients_are in
+        subst (λ (u : World). ClosedFront now' i w u (f.entries ++ Close p.conn ∷ [])) (sym (after_more f.entries (Close p.conn ∷ []) w)) (record {
+          front = c.front;
+          back = l.back;
+          stay = c.stay;
+          rest = l.behind;
+          peers_are = less ∙ ap (λ (q : List Peer). remove q i) l.peers_are ∙ ap (λ (m : ℕ). remove (c.front ++ p ∷ l.back) m) (sym c.at) ∙ remove_here c.front l.back p;
+          clients_are = ap (filter (other p.conn)) there ∙ n.there;
+          at = c.at;
+          held = c.held;
+          left = l.left;
+          none_over = c.none_over;
+          past = subst (λ (r : List Client). AllFine (v.past ++ r)) (sym (ap (filter (λ (j : Client). nat_eq j.conn p.conn)) there ∙ n.gone)) (fine_more v.past (l.client ∷ []) c.past ((p.session.waiting, l.holds.owed), tt));
+          same = record { mark = c.same.mark; walk = c.same.walk; marks = c.same.marks; shut = c.same.shut; events = c.same.events; opens = c.same.opens; given = c.same.given };
+          asked = asked_more f.entries (Close p.conn ∷ []) w c.asked (
+            record {
+              there = ap (list_any (λ j. nat_eq j.conn p.conn)) there ∙ n.listed;
+              over = ap (list_any (λ j. nat_eq j.conn p.conn && not (world.is_over j))) there ∙ n.asked;
+              rested = c.rested;
+            },
+            tt,
+          );
+          came = came_more f.entries (Close p.conn ∷ []) w c.came (tt, tt);
+          rested = ap (list_any is_restless) (ap (filter (other p.conn)) there ∙ n.there) ∙ any_drop is_restless c.stay l.behind l.client (ap (list_any is_restless) (sym there) ∙ c.rested);
+        });
+  }
+
+  pub close_fails : (x y z : W) (ps now now' : List Peer) (i : ℕ) (r : Result (Unit {0}) Fault) → IsErr r → ClosesFront g x y ps now i → Adds (g.transcript y) (g.transcript z) [] → ClosesAll g x z ps now' r
+  close_fails x y z ps now now' i (Ok u) failed f told = absurd (let e : false ≡ true = failed in cc)
+  close_fails x y z ps now now' i (Err e) failed f told = record {
+    entries = f.entries;
+    told = subst (λ (l : List Entry). Adds (g.transcript x) (g.transcript z) l) (append-nil f.entries) (Adds-then (g.transcript x) (g.transcript y) (g.transcript z) f.entries [] f.told told);
+    plays = tt;
+    calls = f.calls;
+    ends = λ w held past rested. let c = f.ends w held past rested in record {
+      there = subst AllFine (sym c.clients_are) (fine_more c.stay c.rest (fine_holds c.front c.stay c.held) (fine_holds c.back c.rest c.left));
+      past = c.past;
+      same = c.same;
+      asked = c.asked;
+      came = c.came;
+      done = tt;
+    };
+  }
+
+  pub all_closed : (x y : W) (ps now : List Peer) (i : ℕ) → ClosesFront g x y ps now i → length now ≤ i → ClosesAll g x y ps now (Ok tt)
+  all_closed x y ps now i f le = record {
+    entries = f.entries;
+    told = f.told;
+    plays = f.plays;
+    calls = f.calls;
+    ends = λ w held past rested. closed_end now i w (world_after f.entries w) f.entries (f.ends w held past rested) le;
+  }
+
+-- ---- those that were looked at, of the server
+
+over_push : (ps : List Peer) (p : Peer) → ready.NoneOver ps → is_over p ≡ false → ready.NoneOver (ps ++ p ∷ [])
+over_push [] p h is = or_from (is_over p) false is refl
+over_push (x ∷ ps) p h is = let s = or_parts (is_over x) (list_any is_over ps) h in or_from (is_over x) (list_any is_over (ps ++ p ∷ [])) s.0 (over_push ps p s.1 is)
+
+pub clear_more : (now : List Peer) (i : ℕ) (p : Peer) → i < length now → p ≡ get_or now i p → is_over p ≡ false → FrontClear now i → FrontClear now (i + 1)
+clear_more now i p lt is over h = subst ready.NoneOver (sym (take_next now i p lt is)) (over_push (take i now) p h over)
+
+pub clear_less : (now now' : List Peer) (i : ℕ) → now' ≡ remove now i → FrontClear now i → FrontClear now' i
+clear_less now now' i is h = subst (λ (l : List Peer). FrontClear l i) (sym is) (subst ready.NoneOver (same_front now i) h)
+  where
+    same_front : (ps : List Peer) (i : ℕ) → take i ps ≡ take i (remove ps i)
+    same_front [] zero = refl
+    same_front [] (suc i) = refl
+    same_front (x ∷ ps) zero = refl
+    same_front (x ∷ ps) (suc i) = ap (λ (l : List Peer). x ∷ l) (same_front ps i)
+
+pub clear_all : (now : List Peer) (i : ℕ) → length now ≤ i → FrontClear now i → ready.NoneOver now
+clear_all now i le h = subst ready.NoneOver (take_all i now le) h

@@ -1,20 +1,23 @@
 -- What an event makes of the connections.
-use Rattle.std.proofs.Common.{◌≡◌, ◌<◌, ℕ, zero, suc, Bool, true, false, not, List, [], ◌∷◌, ◌++◌, length, get_or, take, map, refl, sym, ap, subst, ◌∙◌, arith}
+use Rattle.std.proofs.Common.{◌≡◌, ◌<◌, ◌≤◌, ℕ, zero, suc, Bool, true, false, not, List, [], ◌∷◌, ◌++◌, length, get_or, take, map, refl, sym, ap, subst, ◌∙◌, arith}
 use Rattle.std.proofs.lemmas.Bool.{or_from, or_parts}
 use Rattle.std.specs.Prelude.{◌==◌, nat_lt, nat_eq}
 use Rattle.std.specs.List.{list_any}
 use Rattle.tc_io.specs.Told.{Adds}
 use Rattle.tc_io.specs.Script.{Plays}
-use Rattle.tc_io.specs.Lines.{MayCome, open_after}
+use Rattle.tc_io.specs.Lines.{MayCome, open_after, given_after}
+use Rattle.tc_io.specs.declared.wire.Wire.{Ghosts}
 use Rattle.tc_io.specs.Transcript.{bytes_of}
 use Rattle.tc_io.specs.declared.wire.Ev.{Ev}
 use Rattle.tc_io.specs.declared.wire.Ev.TheVariants.{Opened, Read, Ended, Quiet, Shut}
 use Rattle.tc_io.specs.declared.wire.Entry.TheVariants.{Event}
 use Rattle.ty_core.specs.Queues.{Queue, queue}
-use Rattle.ty_world.specs.World.{Client, heard, with_read, with_end, new_client, unstopped, IsBytes}
+use Rattle.ty_world.specs.World.{Client, heard, with_read, with_end, new_client, unstopped, IsBytes, IsAbove}
 use Rattle.ty_rounds.specs.Peers.{numbers, waiting_numbers}
 use Rattle.ty_rounds.specs.Holding.{Holds, AllHold, AreApart, Wired}
-use Rattle.ty_rounds.specs.Turns.{Told, MayPlay, Asks, Hears}
+use Rattle.ty_rounds.specs.Events.{MayHear}
+use Rattle.ty_rounds.specs.Ready.{Each, IsCalm, NoneOver, StayFew}
+use Rattle.ty_rounds.specs.Turns.{Asks, Hears}
 use Rattle.ty_rounds.proofs.Waiting.{paused_is, busy_is}
 use Rattle.ty_rounds.specs.declared.peer.Peer.{Peer}
 use Rattle.ty_rounds.proofs.Places.{eq_swap}
@@ -71,7 +74,7 @@ apart_more (x ∷ xs) c a none =
     let s = or_parts (nat_eq c x) (list_any (nat_eq c) xs) none in
     (has_more xs x c a.0 (eq_swap c x s.0), apart_more xs c a.1 s.1)
 
-pub ends : (p : Peer) (k : Client) → Holds p k → Holds (record p { ended = true }) (with_end k)
+pub ends : (p : Peer) (k : Client) → Holds p k → Holds (record p { ended = true; stirs = true }) (with_end k)
 ends p k h = record { conn = h.conn; unread = h.unread; owed = h.owed; gone = h.gone; ended = refl; extra = h.extra }
 
 -- ---- the call
@@ -82,37 +85,63 @@ take_bytes (suc n) [] i fits = omega arith
 take_bytes (suc n) (x ∷ xs) zero fits = fits 0
 take_bytes (suc n) (x ∷ xs) (suc i) fits = take_bytes n xs i (λ j. fits (suc j))
 
-pub asks : (a b : Told) (x y : MayPlay) (ps : List Peer) (ev : Ev) (paused : List ℕ) (busy : Bool) (buffer : List ℕ) → paused ≡ waiting_numbers ps → busy ≡ not (length paused == 0)
-    → Adds a b (Event paused busy ev (bytes_of ev buffer) ∷ []) → Plays x y (Event paused busy ev (bytes_of ev buffer) ∷ []) → IsBytes buffer → (ev ≡ Shut → busy ≡ false) → Asks a b x y ps ev
-asks a b x y ps ev paused busy buffer is_paused is_busy told plays fits last = record {
-  paused = paused;
-  busy = busy;
-  bytes = bytes_of ev buffer;
-  told = told;
-  plays = plays;
-  asked = λ w held. (is_paused ∙ paused_is ps w.there held, is_busy ∙ ap (λ (l : List ℕ). not (length l == 0)) is_paused ∙ busy_is ps w.there held);
-  came = record { are_bytes = front_bytes ev; last = last };
-}
-  where
-    front_bytes : (ev : Ev) → IsBytes (bytes_of ev buffer)
-    front_bytes (Opened c) = λ i. omega arith
-    front_bytes (Read c n) = λ i. take_bytes n buffer i fits
-    front_bytes (Ended c) = λ i. omega arith
-    front_bytes Quiet = λ i. omega arith
-    front_bytes Shut = λ i. omega arith
+rises : (conns ended : List ℕ) (given : ℕ) (paused : List ℕ) (busy : Bool) (ev : Ev) (before : ℕ) → MayCome conns ended given paused busy ev → before ≤ given → IsAbove before ev × (given_after before ev ≤ given_after given ev)
+rises conns ended given paused busy (Opened c) before may le = (omega (arith, may.0, le), omega arith)
+rises conns ended given paused busy (Read c n) before may le = (tt, le)
+rises conns ended given paused busy (Ended c) before may le = (tt, le)
+rises conns ended given paused busy Quiet before may le = (tt, le)
+rises conns ended given paused busy Shut before may le = (tt, le)
 
-pub hears : (a b : Told) (x y : MayPlay) (ps ps' : List Peer) (ev : Ev) (paused : List ℕ) (busy : Bool) (buffer : List ℕ) → paused ≡ waiting_numbers ps → busy ≡ not (length paused == 0)
-    → Adds a b (Event paused busy ev (bytes_of ev buffer) ∷ []) → Plays x y (Event paused busy ev (bytes_of ev buffer) ∷ []) → IsBytes buffer → (ev ≡ Shut → busy ≡ false)
-    → ((ks : List Client) → AllHold ps ks → AllHold ps' (heard (map unstopped ks) ev (bytes_of ev buffer))) → Hears a b x y ps ps' ev
-unfolding asks
-hears a b x y ps ps' ev paused busy buffer is_paused is_busy told plays fits last holds = record { asks = asks a b x y ps ev paused busy buffer is_paused is_busy told plays fits last; holds = holds }
-
-pub shut_last : (conns ended : List ℕ) (given : ℕ) (paused : List ℕ) (busy : Bool) (ev : Ev) → MayCome conns ended given paused busy ev → ev ≡ Shut → busy ≡ false
+shut_last : (conns ended : List ℕ) (given : ℕ) (paused : List ℕ) (busy : Bool) (ev : Ev) → MayCome conns ended given paused busy ev → ev ≡ Shut → busy ≡ false
 shut_last conns ended given paused busy (Opened c) may is = absurd cc
 shut_last conns ended given paused busy (Read c n) may is = absurd cc
 shut_last conns ended given paused busy (Ended c) may is = absurd cc
 shut_last conns ended given paused busy Quiet may is = absurd cc
 shut_last conns ended given paused busy Shut may is = may
+
+front_bytes : (ev : Ev) (buffer : List ℕ) → IsBytes buffer → IsBytes (bytes_of ev buffer)
+front_bytes (Opened c) buffer fits = λ i. omega arith
+front_bytes (Read c n) buffer fits = λ i. take_bytes n buffer i fits
+front_bytes (Ended c) buffer fits = λ i. omega arith
+front_bytes Quiet buffer fits = λ i. omega arith
+front_bytes Shut buffer fits = λ i. omega arith
+
+-- the event may be taken in by a server that paused those that wait
+pub may_hear : (conns ended : List ℕ) (given : ℕ) (paused : List ℕ) (busy : Bool) (ps : List Peer) (ev : Ev) → paused ≡ waiting_numbers ps → MayCome conns ended given paused busy ev → MayHear ps ev
+may_hear conns ended given paused busy ps (Opened c) is may = tt
+may_hear conns ended given paused busy ps (Read c n) is may = (may.1, ap (list_any (nat_eq c)) (sym is) ∙ may.4)
+may_hear conns ended given paused busy ps (Ended c) is may = tt
+may_hear conns ended given paused busy ps Quiet is may = tt
+may_hear conns ended given paused busy ps Shut is may = tt
+
+module _ {W : Type 0} (g : Ghosts W) where
+  -- `next` was called, with those paused that wait
+  pub record Called (x y : W) (ps : List Peer) (ev : Ev) (paused : List ℕ) (busy : Bool) (buffer : List ℕ) : Type 0 where
+    pub paused_is : paused ≡ waiting_numbers ps
+    pub busy_is : busy ≡ not (length paused == 0)
+    pub told : Adds (g.transcript x) (g.transcript y) (Event paused busy ev (bytes_of ev buffer) ∷ [])
+    pub plays : Plays (g.plays x) (g.plays y) (Event paused busy ev (bytes_of ev buffer) ∷ [])
+    pub may : MayCome (g.conns x) (g.ended x) (g.given x) paused busy ev
+    pub conns : g.conns y ≡ open_after (g.conns x) ev
+    pub given : g.given y ≡ given_after (g.given x) ev
+    pub are_bytes : IsBytes buffer
+
+  pub asks : (x y : W) (ps : List Peer) (ev : Ev) (paused : List ℕ) (busy : Bool) (buffer : List ℕ) → Called x y ps ev paused busy buffer → Asks g x y ps ev
+  asks x y ps ev paused busy buffer c = record {
+    paused = paused;
+    busy = busy;
+    bytes = bytes_of ev buffer;
+    told = c.told;
+    plays = c.plays;
+    asked = λ w held. (c.paused_is ∙ paused_is ps w.there held, c.busy_is ∙ ap (λ (l : List ℕ). not (length l == 0)) c.paused_is ∙ busy_is ps w.there held);
+    came = λ before le. record { are_bytes = front_bytes ev buffer c.are_bytes; last = shut_last _ _ _ paused busy ev c.may; above = (rises _ _ _ paused busy ev before c.may le).0 };
+    above = λ before le. subst (λ (n : ℕ). given_after before ev ≤ n) (sym c.given) (rises _ _ _ paused busy ev before c.may le).1;
+  }
+
+  pub hears : (x y : W) (ps ps' : List Peer) (ev : Ev) (paused : List ℕ) (busy : Bool) (buffer : List ℕ) → Called x y ps ev paused busy buffer
+      → ((ks : List Client) → AllHold ps ks → AllHold ps' (heard (map unstopped ks) ev (bytes_of ev buffer))) → (NoneOver ps → StayFew ps ps') → (Each IsCalm ps → Each IsCalm ps') → Hears g x y ps ps' ev
+  unfolding asks
+  hears x y ps ps' ev paused busy buffer c holds few calm = record { asks = asks x y ps ev paused busy buffer c; conns = c.conns; holds = holds; few = few; calm = calm }
 
 pub wired_after : (conns conns' : List ℕ) (ended : List ℕ) (given : ℕ) (paused : List ℕ) (busy : Bool) (ps ps' : List Peer) (ev : Ev) → MayCome conns ended given paused busy ev → conns' ≡ open_after conns ev → numbers ps' ≡ open_after (numbers ps) ev → Wired conns ps → Wired conns' ps'
 wired_after conns conns' ended given paused busy ps ps' ev may is named w = record {

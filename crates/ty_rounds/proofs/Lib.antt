@@ -1,7 +1,11 @@
 pub mod ClosingLaws
+pub mod Entries
+pub mod Few
 pub mod Fine
 pub mod Finishing
+pub mod Going
 pub mod Hearing
+pub mod Keeping
 pub mod Leaving
 pub mod Places
 pub mod SendLaws

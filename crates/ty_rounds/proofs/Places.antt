@@ -124,3 +124,66 @@ pub one_at : (ps : List Peer) (i : ℕ) (p q : Peer) → i < length ps → p ≡
 one_at [] i p q lt e f = absurd (omega (arith, lt))
 one_at (x ∷ ps) zero p q lt e f = e ∙ sym f
 one_at (x ∷ ps) (suc i) p q lt e f = one_at ps i p q (omega (arith, lt)) e f
+
+-- ---- where the clients of the world are parted at one of them
+
+pub none_of : (c : ℕ) (ps : List Peer) (ks : List Client) → AllHold ps ks → list_any (nat_eq c) (numbers ps) ≡ false → list_any (λ k. nat_eq k.conn c) ks ≡ false
+none_of c [] [] a e = refl
+none_of c [] (k ∷ ks) a e = absurd a
+none_of c (p ∷ ps) [] a e = absurd a
+none_of c (p ∷ ps) (k ∷ ks) a e =
+    let s = or_parts (nat_eq c p.conn) (list_any (nat_eq c) (numbers ps)) e in
+    or_from (nat_eq k.conn c) (list_any (λ j. nat_eq j.conn c) ks) (ap (λ (n : ℕ). nat_eq n c) a.0.conn ∙ eq_swap c p.conn s.0) (none_of c ps ks a.1 s.1)
+
+pub record Split (ks : List Client) (i : ℕ) (p : Peer) : Type 0 where
+  pub before : List Client
+  pub client : Client
+  pub behind : List Client
+  pub there : ks ≡ before ++ client ∷ behind
+  pub at : length before ≡ i
+  pub holds : Holds p client
+  pub alone : list_any (λ k. nat_eq k.conn p.conn) (before ++ behind) ≡ false
+
+pub split_at : (ps : List Peer) (ks : List Client) (i : ℕ) (p : Peer) → AreApart (numbers ps) → i < length ps → p ≡ get_or ps i p → AllHold ps ks → Split ks i p
+split_at [] ks i p apart lt is a = absurd (omega (arith, lt))
+split_at (x ∷ ps) [] i p apart lt is a = absurd a
+split_at (x ∷ ps) (k ∷ ks) zero p apart lt is a = record {
+  before = [];
+  client = k;
+  behind = ks;
+  there = refl;
+  at = refl;
+  holds = subst (λ (z : Peer). Holds z k) (sym is) a.0;
+  alone = none_of p.conn ps ks a.1 (ap (λ (z : Peer). list_any (nat_eq z.conn) (numbers ps)) is ∙ apart.0);
+}
+split_at (x ∷ ps) (k ∷ ks) (suc i) p apart lt is a =
+    let r = split_at ps ks i p apart.1 (omega (arith, lt)) is a.1 in
+    let away : nat_eq x.conn p.conn ≡ false = apart_at x ps i p apart.0 (omega (arith, lt)) is in
+    record {
+      before = k ∷ r.before;
+      client = r.client;
+      behind = r.behind;
+      there = ap (λ (l : List Client). k ∷ l) r.there;
+      at = ap suc r.at;
+      holds = r.holds;
+      alone = or_from (nat_eq k.conn p.conn) (list_any (λ j. nat_eq j.conn p.conn) (r.before ++ r.behind)) (ap (λ (n : ℕ). nat_eq n p.conn) a.0.conn ∙ away) r.alone;
+    }
+
+-- the one of that number alone changes
+pub at_one : (c : ℕ) (f : Client → Client) (before : List Client) (k : Client) (behind : List Client) → k.conn ≡ c → list_any (λ j. nat_eq j.conn c) (before ++ behind) ≡ false → map (at_conn c f) (before ++ k ∷ behind) ≡ before ++ f k ∷ behind
+at_one c f [] k behind named alone = λ i. cond-true (nat_eq k.conn c) (f k) k (eq-eqb k.conn c named) i ∷ at_others c f behind alone i
+  where
+    at_others : (c : ℕ) (f : Client → Client) (ks : List Client) → list_any (λ j. nat_eq j.conn c) ks ≡ false → map (at_conn c f) ks ≡ ks
+    at_others c f [] e = refl
+    at_others c f (j ∷ ks) e = let s = or_parts (nat_eq j.conn c) (list_any (λ j. nat_eq j.conn c) ks) e in λ i. cond-false (nat_eq j.conn c) (f j) j s.0 i ∷ at_others c f ks s.1 i
+at_one c f (j ∷ before) k behind named alone = let s = or_parts (nat_eq j.conn c) (list_any (λ j. nat_eq j.conn c) (before ++ behind)) alone in λ i. cond-false (nat_eq j.conn c) (f j) j s.0 i ∷ at_one c f before k behind named s.1 i
+
+pub same_parts : {A : Type 0} (front back front' back' : List A) → front ++ back ≡ front' ++ back' → length front ≡ length front' → (front ≡ front') × (back ≡ back')
+same_parts [] back [] back' e l = (refl, e)
+same_parts [] back (y ∷ front') back' e l = absurd (omega (arith, l))
+same_parts (x ∷ front) back [] back' e l = absurd (omega (arith, l))
+same_parts (x ∷ front) back (y ∷ front') back' e l =
+    let first : x ≡ y = cc in
+    let rest : front ++ back ≡ front' ++ back' = cc in
+    let r = same_parts front back front' back' rest (omega (arith, l)) in
+    (λ i. first i ∷ r.0 i, r.1)

@@ -4,11 +4,11 @@ use Rattle.std.specs.List.{list_any}
 use Rattle.tc_base.specs.declared.fault.Fault.{Fault}
 use Rattle.tc_io.specs.Told.{Adds}
 use Rattle.tc_io.specs.Script.{Plays}
+use Rattle.tc_io.specs.declared.wire.Wire as wire
 use Rattle.tc_io.specs.declared.wire.Entry.{Entry}
-use Rattle.ty_world.specs.World.{Client, World, is_over, world_after, AllAsked, AllCame}
+use Rattle.ty_world.specs.World.{Client, World, is_over, world_after, ClosesOne, AllOf, AllAsked, AllCame}
 use Rattle.ty_rounds.specs.Holding.{AllHold, AllFine, Same}
 use Rattle.ty_rounds.specs.Sending.{NoneRestless}
-use Rattle.ty_rounds.specs.Turns.{Told, MayPlay}
 use Rattle.ty_rounds.specs.declared.peer.Peer.{Peer}
 
 abbrev pub NoneOver : List Client → Type 0
@@ -29,14 +29,8 @@ pub record ClosedFront (ps' : List Peer) (count : ℕ) (w v : World) (es : List 
   pub past : AllFine v.past
   pub same : Same w v
   pub asked : AllAsked w es
-  pub came : AllCame es
+  pub came : AllCame w es
   pub rested : NoneRestless v.there
-
-pub record ClosesFront (a b : Told) (x y : MayPlay) (ps ps' : List Peer) (count : ℕ) : Type 0 where
-  pub entries : List Entry
-  pub told : Adds a b entries
-  pub plays : Plays x y entries
-  pub ends : (w : World) → AllHold ps w.there → AllFine w.past → NoneRestless w.there → ClosedFront ps' count w (world_after entries w) entries
 
 -- a world in which all that were over were closed
 pub record ClosedAll (ok : Result (Unit {0}) Fault) (ps' : List Peer) (w v : World) (es : List Entry) : Type 0 where
@@ -44,11 +38,20 @@ pub record ClosedAll (ok : Result (Unit {0}) Fault) (ps' : List Peer) (w v : Wor
   pub past : AllFine v.past
   pub same : Same w v
   pub asked : AllAsked w es
-  pub came : AllCame es
+  pub came : AllCame w es
   pub done : OnOk ok (AllHold ps' v.there × NoneRestless v.there × NoneOver v.there)
 
-pub record ClosesAll (a b : Told) (x y : MayPlay) (ps ps' : List Peer) (ok : Result (Unit {0}) Fault) : Type 0 where
-  pub entries : List Entry
-  pub told : Adds a b entries
-  pub plays : OnOk ok (Plays x y entries)
-  pub ends : (w : World) → AllHold ps w.there → AllFine w.past → NoneRestless w.there → ClosedAll ok ps' w (world_after entries w) entries
+module _ {W : Type 0} (g : wire.Ghosts W) where
+  pub record ClosesFront (x y : W) (ps ps' : List Peer) (count : ℕ) : Type 0 where
+    pub entries : List Entry
+    pub told : Adds (g.transcript x) (g.transcript y) entries
+    pub plays : Plays (g.plays x) (g.plays y) entries
+    pub calls : AllOf (ClosesOne (g.conns x)) entries
+    pub ends : (w : World) → AllHold ps w.there → AllFine w.past → NoneRestless w.there → ClosedFront ps' count w (world_after entries w) entries
+
+  pub record ClosesAll (x y : W) (ps ps' : List Peer) (ok : Result (Unit {0}) Fault) : Type 0 where
+    pub entries : List Entry
+    pub told : Adds (g.transcript x) (g.transcript y) entries
+    pub plays : OnOk ok (Plays (g.plays x) (g.plays y) entries)
+    pub calls : AllOf (ClosesOne (g.conns x)) entries
+    pub ends : (w : World) → AllHold ps w.there → AllFine w.past → NoneRestless w.there → ClosedAll ok ps' w (world_after entries w) entries

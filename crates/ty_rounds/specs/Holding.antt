@@ -1,10 +1,8 @@
 -- Where the server's connections stand for a world's.
-use Rattle.std.specs.Prelude.{◌≡◌, ℕ, Bool, false, List, [], ◌∷◌, ◌++◌, nat_eq}
+use Rattle.std.specs.Prelude.{◌≡◌, ◌≤◌, ℕ, Bool, false, List, [], ◌∷◌, ◌++◌, nat_eq}
 use Rattle.std.specs.List.{list_any}
-use Rattle.tc_io.specs.declared.wire.Entry.{Entry}
-use Rattle.tc_io.specs.declared.wire.Entry.TheVariants.{Open, Dial, Event, Send, Close}
 use Rattle.tc_model.specs.Contents.{Contents, Walk}
-use Rattle.ty_world.specs.World.{Client, World, Round, IsRested}
+use Rattle.ty_world.specs.World.{Client, World, Mark, mark_of, Round, IsRested}
 use Rattle.ty_rounds.specs.Peers.{numbers}
 use Rattle.ty_rounds.specs.declared.peer.Peer.{Peer}
 
@@ -39,36 +37,39 @@ AllFine (k ∷ ks) = ((rest : List ℕ) × (k.owed ≡ k.out ++ rest)) × AllFin
 abbrev pub IsFine : World → Type 0
 IsFine w = AllFine w.there × AllFine w.past
 
--- between two turns
-pub record Stands (c : Contents) (k : Walk) (ps : List Peer) (w : World) : Type 0 where
-  pub contents : w.contents ≡ c
+-- it takes bytes, and its last send took all
+pub record IsGoing (k : Client) : Type 0 where
+  pub here : k.gone ≡ false
+  pub going : k.stopped ≡ false
+
+abbrev pub AllGoing : List Client → Type 0
+AllGoing [] = Unit {0}
+AllGoing (k ∷ ks) = IsGoing k × AllGoing ks
+
+-- between two turns, where this is known of the mark, and the numbers given are below that
+pub record Stands (known : Mark → Type 0) (given : ℕ) (k : Walk) (ps : List Peer) (w : World) : Type 0 where
+  pub mark : known (mark_of w)
   pub walk : w.walk ≡ k
   pub each : AllHold ps w.there
   pub past : AllFine w.past
   pub rested : IsRested w
-  pub older : List Contents
-  pub marked : w.marks ≡ w.contents ∷ older
+  pub older : List Mark
+  pub marked : w.marks ≡ mark_of w ∷ older
+  pub above : w.given ≤ given
 
--- a round was served: these are its contents, its walk and its clients
-pub record RoundsTo (commits : Bool) (c : Contents) (k : Walk) (ps : List Peer) (r : Round) : Type 0 where
+-- a round was served: its contents are held, and these are its walk and its clients
+pub record RoundsTo (commits : Bool) (holds : Contents → Type 0) (k : Walk) (ps : List Peer) (r : Round) : Type 0 where
   pub was : commits ≡ r.commits
-  pub contents : c ≡ r.contents
+  pub contents : holds r.contents
   pub walk : k ≡ r.walk
   pub each : AllHold ps r.clients
 
 -- nothing but the connections has changed
 pub record Same (w v : World) : Type 0 where
-  pub contents : v.contents ≡ w.contents
+  pub mark : mark_of v ≡ mark_of w
   pub walk : v.walk ≡ w.walk
   pub marks : v.marks ≡ w.marks
   pub shut : v.shut ≡ w.shut
   pub events : v.events ≡ w.events
   pub opens : v.opens ≡ w.opens
-
-abbrev pub NoSend : List Entry → Type 0
-NoSend [] = Unit {0}
-NoSend (Open at ∷ es) = NoSend es
-NoSend (Dial host port answer ∷ es) = NoSend es
-NoSend (Event paused busy ev bytes ∷ es) = NoSend es
-NoSend (Send c bytes answer ∷ es) = ⊥
-NoSend (Close c ∷ es) = NoSend es
+  pub given : v.given ≡ w.given

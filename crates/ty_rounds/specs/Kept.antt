@@ -1,32 +1,50 @@
--- What a stop leaves, by contents.
-use Rattle.std.specs.Prelude.{◌≡◌, ◌⊎◌, ℕ, List, [], ◌∷◌, Option, Some}
+-- What is kept, and what a stop leaves, by marks.
+use Rattle.std.specs.Prelude.{◌≡◌, ◌⊎◌, List, [], ◌∷◌, Option, Some}
 use Rattle.tc_base.specs.Files.{Files}
 use Rattle.tc_space.specs.Moments.{LeavesOnly}
+use Rattle.tc_space.specs.declared.space.Space.{Ghosts}
 use Rattle.tc_model.specs.Contents.{Contents}
+use Rattle.ty_world.specs.World.{Mark}
+use Rattle.ty_base.specs.Holding.{Held}
 
--- these are files, and they reopen to the contents
-pub record Reopens (reopens : Files → Contents → Type 0) (o : Option Files) (c : Contents) : Type 0 where
+-- files stand for a mark: they reopen to its contents, and file 2 is its log
+pub record StandFor (reopens : Files → Contents → Type 0) (files : Files) (m : Mark) : Type 0 where
+  pub contents : reopens files m.contents
+  pub log : files 2 ≡ m.log
+
+-- these are files, and they stand for the mark
+pub record Reopens (reopens : Files → Contents → Type 0) (o : Option Files) (m : Mark) : Type 0 where
   pub files : Files
   pub is : o ≡ Some files
-  pub reopen : reopens files c
+  pub stand : StandFor reopens files m
 
--- what is kept, or the contents
-pub record MovesTo {S : Type 0} (moment : S → ℕ) (left : S → ℕ → Option Files → Type 0) (kept : S → Option Files) (reopens : Files → Contents → Type 0) (old new : S) (c : Contents) : Type 0 where
-  pub leaves : LeavesOnly moment left old new (λ o. (o ≡ kept old) ⊎ Reopens reopens o c)
+-- a database holds a mark's contents, and file 2 is its log
+pub record HasMark {S B : Type 0} (s : Ghosts S) (holds : B → Files → Contents → Type 0) (base : B) (space : S) (m : Mark) : Type 0 where
+  pub held : Held s holds base space m.contents
+  pub log : s.now space 2 ≡ m.log
 
--- one of two contents
-pub record LeavesTwo {S : Type 0} (moment : S → ℕ) (left : S → ℕ → Option Files → Type 0) (reopens : Files → Contents → Type 0) (old new : S) (c d : Contents) : Type 0 where
-  pub leaves : LeavesOnly moment left old new (λ o. Reopens reopens o c ⊎ Reopens reopens o d)
+-- and the files now stand for it
+pub record HoldsMark {S B : Type 0} (s : Ghosts S) (holds : B → Files → Contents → Type 0) (reopens : Files → Contents → Type 0) (base : B) (space : S) (m : Mark) : Type 0 where
+  pub has : HasMark s holds base space m
+  pub stand : reopens (s.now space) m.contents
 
-abbrev pub IsIn : Contents → List Contents → Type 0
-IsIn c [] = ⊥
-IsIn c (d ∷ ds) = (c ≡ d) ⊎ IsIn c ds
+-- a stop leaves what is kept, or what stands for the mark
+pub record MovesTo {S : Type 0} (s : Ghosts S) (reopens : Files → Contents → Type 0) (old new : S) (m : Mark) : Type 0 where
+  pub leaves : LeavesOnly s.moment s.left old new (λ o. (o ≡ s.kept old) ⊎ Reopens reopens o m)
 
--- one of the contents at the marks
-pub record AtMark (reopens : Files → Contents → Type 0) (o : Option Files) (marks : List Contents) : Type 0 where
-  pub contents : Contents
-  pub mark : IsIn contents marks
-  pub reopen : Reopens reopens o contents
+-- what stands for one of two marks
+pub record LeavesTwo {S : Type 0} (s : Ghosts S) (reopens : Files → Contents → Type 0) (old new : S) (m n : Mark) : Type 0 where
+  pub leaves : LeavesOnly s.moment s.left old new (λ o. Reopens reopens o m ⊎ Reopens reopens o n)
 
-pub record LeavesMarks {S : Type 0} (moment : S → ℕ) (left : S → ℕ → Option Files → Type 0) (reopens : Files → Contents → Type 0) (old new : S) (marks : List Contents) : Type 0 where
-  pub leaves : LeavesOnly moment left old new (λ o. AtMark reopens o marks)
+abbrev pub IsIn : Mark → List Mark → Type 0
+IsIn m [] = ⊥
+IsIn m (n ∷ ns) = (m ≡ n) ⊎ IsIn m ns
+
+-- what stands for one of the marks
+pub record AtMark (reopens : Files → Contents → Type 0) (o : Option Files) (marks : List Mark) : Type 0 where
+  pub mark : Mark
+  pub listed : IsIn mark marks
+  pub reopen : Reopens reopens o mark
+
+pub record LeavesMarks {S : Type 0} (s : Ghosts S) (reopens : Files → Contents → Type 0) (old new : S) (marks : List Mark) : Type 0 where
+  pub leaves : LeavesOnly s.moment s.left old new (λ o. AtMark reopens o marks)

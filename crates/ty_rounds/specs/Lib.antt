@@ -2,8 +2,10 @@ pub mod Closings
 pub mod Errors
 pub mod Events
 pub mod Holding
+pub mod Keeping
 pub mod Kept
 pub mod Peers
+pub mod Ready
 pub mod Repls
 pub mod Sending
 pub mod Serving

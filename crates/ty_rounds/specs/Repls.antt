@@ -11,3 +11,4 @@ pub record OwesRepl (old new : Peer) (r : Request) : Type 0 where
   pub gone : new.gone ≡ old.gone
   pub ended : new.ended ≡ old.ended
   pub extra : new.extra ≡ old.extra
+  pub stirs : new.stirs ≡ old.stirs

@@ -1,22 +1,65 @@
 -- What serving one connection does.
-use Rattle.std.specs.Prelude.{◌≡◌, ℕ, Bool, List, ◌++◌, length}
+use Rattle.std.specs.Prelude.{◌≡◌, ℕ, Bool, false, List, [], ◌∷◌, ◌++◌, length, map}
+use Rattle.tc_io.specs.declared.wire.Ev.{Ev}
 use Rattle.tc_model.specs.Contents.{Contents, Walk}
-use Rattle.ty_world.specs.World.{Client, round_one, round_all}
-use Rattle.ty_rounds.specs.Holding.{Holds, AllHold}
+use Rattle.ty_world.specs.World.{Client, World, round_one, round_all, heard, unstopped}
+use Rattle.tc_base.specs.Files.{Files}
+use Rattle.tc_space.specs.declared.space.Space as space
+use Rattle.ty_base.specs.Holding as holding
+use Rattle.ty_base.specs.Holding.{Held, Leaves}
+use Rattle.ty_rounds.specs.Holding.{Holds, AllHold, RoundsTo}
+use Rattle.ty_rounds.specs.Peers.{numbers}
+use Rattle.ty_rounds.specs.Ready.{Each, FewUnread, FewWaiting, IsCalm}
 use Rattle.ty_rounds.specs.declared.peer.Peer.{Peer}
 
 -- whatever client the connection stood for, it stands for what the round makes of it
-pub record RoundsOne (u : Bool) (c c' : Contents) (w w' : Walk) (p' : Peer) (k : Client) : Type 0 where
+pub record RoundsOne (u : Bool) (c : Contents) (known : Contents → Type 0) (w w' : Walk) (p' : Peer) (k : Client) : Type 0 where
   pub was : u ≡ (round_one c w k).commits
-  pub contents : c' ≡ (round_one c w k).contents
+  pub contents : known (round_one c w k).contents
   pub walk : w' ≡ (round_one c w k).walk
   pub holds : Holds p' (round_one c w k).client
 
-pub record ServesOne (u : Bool) (c c' : Contents) (w w' : Walk) (p p' : Peer) : Type 0 where
-  pub each : (k : Client) → Holds p k → RoundsOne u c c' w w' p' k
+pub record ServesOne (u : Bool) (c : Contents) (known : Contents → Type 0) (w w' : Walk) (p p' : Peer) : Type 0 where
+  pub each : (k : Client) → Holds p k → RoundsOne u c known w w' p' k
+
+-- the contents behind the first requests of a round and one more, where there is one
+abbrev pub behind_next : Contents → Walk → List Client → List Client → Contents
+behind_next c w front [] = (round_all c w front).contents
+behind_next c w front (k ∷ ks) = (round_all c w (front ++ k ∷ [])).contents
+
+-- somewhere in a round this holds of the contents behind its first requests and of those behind one more
+pub record FillsAt (fills : Contents → Contents → Type 0) (c : Contents) (w : Walk) (ks : List Client) : Type 0 where
+  pub front : List Client
+  pub back : List Client
+  pub parts : ks ≡ front ++ back
+  pub full : fills (round_all c w front).contents (behind_next c w front back)
+
+-- and in the round of an event
+abbrev pub FillsIn : (Contents → Contents → Type 0) → World → Ev → List ℕ → Type 0
+FillsIn fills w ev bytes = FillsAt fills w.contents w.walk (heard (map unstopped w.there) ev bytes)
+
+-- the round was made: its numbers stay, no connection holds more but for one reply, and the space may be used; nothing is written where it has nothing to commit
+pub record Rounds {S B : Type 0} (s : space.Ghosts S) (holds : B → Files → Contents → Type 0) (commits : Bool) (base base' : B) (old new : S) (w w' : Walk) (ps ps' : List Peer) : Type 0 where
+  pub numbers : numbers ps' ≡ numbers ps
+  pub unread : Each FewUnread ps → Each FewUnread ps'
+  pub waiting : s.tells → Each FewWaiting ps → Each FewWaiting ps'
+  pub calm : Each IsCalm ps'
+  pub each : (c : Contents) → Held s holds base old c → (ks : List Client) → AllHold ps ks → RoundsTo commits (Held s holds base' new) w' ps' (round_all c w ks)
+  pub ready : holding.IsReady s holds base' new
+  pub leaves : Leaves s (commits ≡ false) old new
+
+-- the same of one connection
+pub record ServesReady {S B : Type 0} (s : space.Ghosts S) (holds : B → Files → Contents → Type 0) (commits : Bool) (base base' : B) (old new : S) (w w' : Walk) (p p' : Peer) : Type 0 where
+  pub conn : p'.conn ≡ p.conn
+  pub unread : FewUnread p → FewUnread p'
+  pub waiting : s.tells → FewWaiting p → FewWaiting p'
+  pub calm : IsCalm p'
+  pub each : (c : Contents) → Held s holds base old c → ServesOne commits c (Held s holds base' new) w w' p p'
+  pub ready : holding.IsReady s holds base' new
+  pub leaves : Leaves s (commits ≡ false) old new
 
 -- a round over the first connections
-pub record Halfway (u : Bool) (c c' : Contents) (w w' : Walk) (old now : List Peer) (count : ℕ) (ks : List Client) : Type 0 where
+pub record Halfway (u : Bool) (c : Contents) (known : Contents → Type 0) (w w' : Walk) (old now : List Peer) (count : ℕ) (ks : List Client) : Type 0 where
   pub front : List Peer
   pub back : List Peer
   pub served : List Client
@@ -25,7 +68,7 @@ pub record Halfway (u : Bool) (c c' : Contents) (w w' : Walk) (old now : List Pe
   pub clients_are : ks ≡ served ++ rest
   pub at : length front ≡ count
   pub was : u ≡ (round_all c w served).commits
-  pub contents : c' ≡ (round_all c w served).contents
+  pub contents : known (round_all c w served).contents
   pub walk : w' ≡ (round_all c w served).walk
   pub done : AllHold front (round_all c w served).clients
   pub left : AllHold back rest

@@ -1,5 +1,5 @@
 //! One turn: an event of the wire, a round of requests, a commit, then sends and closings.
-#![tactic(auto)]
+#![tactic(auto, using(tc_space::specs::Frames::keeps_then, tc_space::specs::Frames::keeps_refl, tc_space::specs::Effects::follows_then, tc_space::specs::Effects::follows_refl))]
 
 mod closing;
 mod listening;

@@ -1,14 +1,15 @@
 //! One event of the wire, which the server takes in.
-ghost use Rattle.std.specs.Prelude.{◌≡◌, ◌≤◌, ◌<◌, ◌++◌, ℕ, Bool, true, false, List, [], Some, length, map, nat_eq, slice_get, OnOk, OnErr, IfOk, IfErr, IfSome, IfNone, IsErrOf};
+ghost use Rattle.std.specs.Prelude.{◌≡◌, ◌≤◌, ◌++◌, ◌∷◌, ℕ, true, false, List, [], Some, length, map, nat_eq, slice_get, OnOk, IfOk, IfErr, IfSome, IfNone, IsErrOf};
 ghost use Rattle.std.specs.List.{list_any};
 ghost use Rattle.tc_io.specs.Causes.{Rose};
 ghost use Rattle.tc_io.specs.Lines.{open_after};
 ghost use Rattle.tc_io.specs.Transcript.{bytes_of};
-ghost use Rattle.ty_world.specs.World.{Client, IsBytes, heard, unstopped, at_conn, with_read, with_end};
+ghost use Rattle.ty_world.specs.World.{Client, IsBytes, heard, new_client, at_conn, with_read, with_end};
 ghost use Rattle.ty_rounds.specs.declared.peer.Peer.{Peer};
 ghost use Rattle.ty_rounds.specs.Events.{MayHear};
 ghost use Rattle.ty_rounds.specs.Holding.{AllHold, AreApart, Wired};
 ghost use Rattle.ty_rounds.specs.Peers.{numbers, waiting_numbers};
+ghost use Rattle.ty_rounds.specs.Ready.{Each, IsCalm, NoneOver, StayFew};
 ghost use Rattle.ty_rounds.specs.Turns.{Hears, HearErr};
 
 use crate::outcome::TurnErr;
@@ -36,11 +37,12 @@ impl Buffers {
 
 // Lists the connections that wait.
 fn list_waiting(peers: &[Peer], paused: &mut Vec<u32>) -> Result<(), AllocError>
+    requires { Each IsCalm peers.now }
     ensures { OnOk result (paused.new.items ≡ waiting_numbers peers.now) }
 {
     paused.clear();
     for p in peers {
-        if p.waits() {
+        if p.is_paused() {
             paused.push(p.conn)?;
         }
     }
@@ -65,12 +67,16 @@ fn take_read(peers: &mut Vec<Peer>, conn: u32, bytes: &[u8]) -> Result<(), Alloc
     requires { AreApart (numbers peers.old.items) }
     ensures heard { OnOk result ((ks : List Client) → AllHold peers.old.items ks → AllHold peers.new.items (map (at_conn conn (with_read bytes.now)) ks)) }
     ensures numbers { numbers peers.new.items ≡ numbers peers.old.items }
+    ensures few { OnOk result (list_any (nat_eq conn) (waiting_numbers peers.old.items) ≡ false → NoneOver peers.old.items → length bytes.now ≤ 4096 → StayFew peers.old.items peers.new.items) }
+    ensures calm { OnOk result (Each IsCalm peers.old.items → Each IsCalm peers.new.items) }
 {
     let Some(i) = index_of(peers, conn) else {
         return Ok(());
     };
     let p = &mut peers[i];
+    let _front = p.session.look();
     p.session.push(bytes)?;
+    p.stirs = true;
     Ok(())
 }
 
@@ -79,33 +85,37 @@ fn take_end(peers: &mut Vec<Peer>, conn: u32)
     requires { AreApart (numbers peers.old.items) }
     ensures heard { (ks : List Client) → AllHold peers.old.items ks → AllHold peers.new.items (map (at_conn conn with_end) ks) }
     ensures numbers { numbers peers.new.items ≡ numbers peers.old.items }
+    ensures few { StayFew peers.old.items peers.new.items }
+    ensures calm { Each IsCalm peers.old.items → Each IsCalm peers.new.items }
 {
     let Some(i) = index_of(peers, conn) else {
         return;
     };
     let p = &mut peers[i];
     p.ended = true;
+    p.stirs = true;
 }
 
 // A connection opened.
 fn take_opened(alloc: Global, peers: &mut Vec<Peer>, conn: u32) -> Result<(), AllocError>
     ensures heard { OnOk result ((ks : List Client) → AllHold peers.old.items ks → AllHold peers.new.items (ks ++ new_client conn (length ks) ∷ [])) }
     ensures numbers { OnOk result (numbers peers.new.items ≡ numbers peers.old.items ++ conn ∷ []) }
+    ensures few { OnOk result (StayFew peers.old.items peers.new.items) }
+    ensures calm { OnOk result (Each IsCalm peers.old.items → Each IsCalm peers.new.items) }
 {
     let p = Peer::new(alloc, conn, peers.len());
     peers.push(p)?;
     Ok(())
 }
 
-ghost use Rattle.std.specs.Prelude.{◌∷◌};
-ghost use Rattle.ty_world.specs.World.{new_client};
-
 // Takes an event in.
 fn hear(alloc: Global, peers: &mut Vec<Peer>, ev: Ev, buffer: &[u8; 4096]) -> Result<(), AllocError>
-    requires may { MayHear ev }
+    requires may { MayHear peers.old.items ev }
     requires apart { AreApart (numbers peers.old.items) }
     ensures heard { OnOk result ((ks : List Client) → AllHold peers.old.items ks → AllHold peers.new.items (heard ks ev (bytes_of ev buffer.now))) }
     ensures numbers { OnOk result (numbers peers.new.items ≡ open_after (numbers peers.old.items) ev) }
+    ensures few { OnOk result (NoneOver peers.old.items → StayFew peers.old.items peers.new.items) }
+    ensures calm { OnOk result (Each IsCalm peers.old.items → Each IsCalm peers.new.items) }
     ensures bytes { IsBytes buffer.now }
 {
     match ev {
@@ -129,10 +139,11 @@ pub fn listen<W: Wire>(
 ) -> Result<Ev, TurnErr>
     requires opened { W.opened wire.old ≡ true }
     requires wired { Wired (W.conns wire.old) peers.old.items }
+    requires calm { Each IsCalm peers.old.items }
     ensures opened { W.opened wire.new ≡ true }
     ensures wired { OnOk result (Wired (W.conns wire.new) peers.new.items) }
-    ensures ok { IfOk result (λ ev. Hears (W.transcript wire.old) (W.transcript wire.new) (W.plays wire.old) (W.plays wire.new) peers.old.items peers.new.items ev) }
-    ensures err { IfErr result (λ e. HearErr (W.transcript wire.old) (W.transcript wire.new) (W.plays wire.old) (W.plays wire.new) peers.old.items e) }
+    ensures ok { IfOk result (λ ev. Hears W.Wire wire.old wire.new peers.old.items peers.new.items ev) }
+    ensures err { IfErr result (λ e. HearErr W.Wire wire.old wire.new peers.old.items e) }
     ensures later { W.faults wire.old ≤ W.faults wire.new }
     ensures cause { IsErrOf result TurnErr.Wire → Rose (W.faults wire.old) (W.faults wire.new) }
 {

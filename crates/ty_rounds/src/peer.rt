@@ -1,5 +1,5 @@
 //! One connection.
-ghost use Rattle.std.specs.Prelude.{◌≡◌, ◌==◌, ◌<◌, [], IsTrue, ◌↔◌, Bool, ℕ, true, false, length, not};
+ghost use Rattle.std.specs.Prelude.{◌≡◌, ◌==◌, ◌<◌, ◌||◌, [], IsTrue, ◌↔◌, Bool, ℕ, true, false, length, not};
 
 use std::alloc::Global;
 use ty_core::Session;
@@ -16,6 +16,8 @@ pub struct Peer {
     pub ended: bool,
     // it is one above the most that are served
     pub extra: bool,
+    // false only where it neither waits nor is over: a turn passes it by
+    pub stirs: bool,
 }
 
 /// The most connections that are served at once.
@@ -25,6 +27,7 @@ ghost use Rattle.ty_core.specs.Queues.{queue};
 
 impl Peer {
     ghost use Rattle.ty_rounds.specs.Peers.{all_taken, waits, is_over};
+    ghost use Rattle.ty_rounds.specs.Ready.{IsCalm};
     ghost use Rattle.ty_wire.specs.Reading.{request_at};
     ghost use Rattle.ty_wire.specs.Taking.{IsRead};
     ghost use Rattle.ty_wire.specs.declared.reading.Front.TheVariants.{Whole};
@@ -37,6 +40,7 @@ impl Peer {
         ensures gone { result.gone ≡ false }
         ensures ended { result.ended ≡ false }
         ensures extra { result.extra ≡ not (nat_lt others 64) }
+        ensures stirs { result.stirs ≡ true }
     {
         Peer {
             conn,
@@ -44,6 +48,7 @@ impl Peer {
             gone: false,
             ended: false,
             extra: others >= CLIENTS_MOST,
+            stirs: true,
         }
     }
 
@@ -91,6 +96,35 @@ impl Peer {
             Front::Part => self.ended,
             Front::Bad => true,
         }
+    }
+
+    /// Whether it waits; of one that is calm it looks at one flag.
+    pub fn is_paused(&self) -> bool
+        ensures { IsCalm self.now → result ≡ waits self.now }
+    {
+        if !self.stirs {
+            return false;
+        }
+        self.waits()
+    }
+
+    /// Whether it is to be closed; of one that is calm it looks at one flag.
+    pub fn is_done(&self) -> bool
+        ensures { IsCalm self.now → result ≡ is_over self.now }
+    {
+        if !self.stirs {
+            return false;
+        }
+        self.is_over()
+    }
+
+    /// Notes whether a turn that brings it no event has anything to do for it.
+    pub fn settle(&mut self)
+        ensures { self.new ≡ record self.old { stirs = waits self.old || is_over self.old } }
+    {
+        let waits = self.waits();
+        let over = self.is_over();
+        self.stirs = waits | over;
     }
 }
 

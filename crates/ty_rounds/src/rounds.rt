@@ -1,29 +1,32 @@
 //! A round: one request of each connection.
-ghost use Rattle.std.specs.Prelude.{◌≡◌, ◌⊎◌, ◌≤◌, ◌++◌, ◌||◌, [], ◌∷◌, ℕ, Bool, true, false, List, Option, OnOk, OnErr, IfOk, IsErrOf};
-ghost use Rattle.tc_base.specs.Files.{Files};
+ghost use Rattle.std.specs.Prelude.{◌≡◌, [], ◌∷◌, ℕ, List, OnOk, IfOk, IsErrOf};
 ghost use Rattle.tc_io.specs.Causes.{Rose};
-ghost use Rattle.tc_space.specs.Moments.{Steady};
-ghost use Rattle.ty_world.specs.World.{Client, round_one, round_all};
-ghost use Rattle.ty_rounds.specs.Serving.{ServesOne};
-ghost use Rattle.ty_rounds.specs.Holding.{AllHold, RoundsTo};
-ghost use Rattle.ty_rounds.specs.Peers.{numbers};
+ghost use Rattle.tc_space.specs.Frames.{Keeps};
+ghost use Rattle.tc_model.specs.Contents.{Contents};
+ghost use Rattle.ty_base.specs.Holding as holding;
+ghost use Rattle.ty_base.specs.Holding.{Held};
+ghost use Rattle.ty_world.specs.World.{Client, round_one};
+ghost use Rattle.ty_rounds.specs.Serving.{ServesReady, FillsAt, Rounds};
+ghost use Rattle.ty_rounds.specs.Holding.{Holds, AllHold};
+ghost use Rattle.ty_rounds.specs.Ready.{Each, IsCalm};
 ghost use Rattle.tc_base.specs.declared.request.Request.{Request};
-ghost use Rattle.ty_core.specs.Serving.{is_repl};
+ghost use Rattle.ty_core.specs.Serving.{feed_of};
+ghost use Rattle.ty_core.specs.declared.serving.Feed.{Feed};
 ghost use Rattle.ty_rounds.specs.Repls.{OwesRepl};
 
 use crate::peer::Peer;
 use tc_model::Walk;
 use tc_space::{RecErr, Space};
 use ty_base::Base;
+use ty_core::Feed;
 
 // What a `repl` is answered: so far it is refused.
-fn owe_repl(p: &mut Peer, feeds: bool) -> Result<(), RecErr>
-    ensures owes { OnOk result ((r : Request) → feeds ≡ is_repl r → OwesRepl p.old p.new r) }
-    ensures conn { p.new.conn ≡ p.old.conn }
+fn owe_repl(p: &mut Peer, feeds: &Option<Feed>) -> Result<(), RecErr>
+    ensures owes { OnOk result ((r : Request) → feeds.now ≡ feed_of r → OwesRepl p.old p.new r) }
     ensures memory { IsErrOf result RecErr.Fault → ⊥ }
     ensures room { IsErrOf result RecErr.Full → ⊥ }
 {
-    if feeds {
+    if feeds.is_some() {
         p.session.owe(&[1])?;
     }
     Ok(())
@@ -36,18 +39,16 @@ fn serve_one<B: Base>(
     space: &mut B::S,
     walk: &mut Walk,
 ) -> Result<bool, RecErr>
-    requires sound { B.S.sound space.old }
-    requires is_of { B.S.tells → B.is_of base.old (B.S.now space.old) }
-    ensures conn { p.new.conn ≡ p.old.conn }
-    ensures served { IfOk result (λ u. B.S.tells → ServesOne u (B.contents base.old) (B.contents base.new) walk.old walk.new p.old p.new) }
-    ensures writes { IfOk result (λ u. u ≡ false → B.S.touched space.new ≡ B.S.touched space.old) }
-    ensures steady { B.S.tells → Steady B.S.moment B.S.left B.S.kept space.old space.new }
-    ensures sound { OnOk result (B.S.sound space.new) }
-    ensures is_of_still { OnOk result (B.S.tells → B.is_of base.new (B.S.now space.new)) }
-    ensures full { IsErrOf result RecErr.Full → B.fills }
-    ensures later { B.S.faults space.old ≤ B.S.faults space.new }
+    requires ready { holding.IsReady B.S.Space B.holds base.old space.old }
+    requires calm { IsCalm p.old }
+    ensures served { IfOk result (λ u. ServesReady B.S.Space B.holds u base.old base.new space.old space.new walk.old walk.new p.old p.new) }
+    ensures full { IsErrOf result RecErr.Full → (c : Contents) → Held B.S.Space B.holds base.old space.old c → (k : Client) → Holds p.old k → B.fills space.new c (round_one c walk.old k).contents }
+    ensures keeps { Keeps B.S.Space space.old space.new }
     ensures cause { IsErrOf result RecErr.Fault → Rose (B.S.faults space.old) (B.S.faults space.new) }
 {
+    if !p.stirs {
+        return Ok(false);
+    }
     if p.gone {
         return Ok(false);
     }
@@ -57,8 +58,11 @@ fn serve_one<B: Base>(
     if !p.has_whole() {
         return Ok(false);
     }
-    let served = p.session.serve(base, space, walk, false)?;
-    owe_repl(p, served.feeds)?;
+    let served = match p.session.serve(base, space, walk, false, false) {
+        Ok(served) => served,
+        Err(e) => return Err(e),
+    };
+    owe_repl(p, &served.feeds)?;
     Ok(served.commits)
 }
 
@@ -69,22 +73,20 @@ pub fn round_of_all<B: Base>(
     space: &mut B::S,
     walk: &mut Walk,
 ) -> Result<bool, RecErr>
-    requires sound { B.S.sound space.old }
-    requires is_of { B.S.tells → B.is_of base.old (B.S.now space.old) }
-    ensures numbers { numbers peers.new.items ≡ numbers peers.old.items }
-    ensures round { IfOk result (λ u. B.S.tells → (ks : List Client) → AllHold peers.old.items ks → RoundsTo u (B.contents base.new) walk.new peers.new.items (round_all (B.contents base.old) walk.old ks)) }
-    ensures writes { IfOk result (λ u. u ≡ false → B.S.touched space.new ≡ B.S.touched space.old) }
-    ensures steady { B.S.tells → Steady B.S.moment B.S.left B.S.kept space.old space.new }
-    ensures sound { OnOk result (B.S.sound space.new) }
-    ensures is_of_still { OnOk result (B.S.tells → B.is_of base.new (B.S.now space.new)) }
-    ensures full { IsErrOf result RecErr.Full → B.fills }
-    ensures later { B.S.faults space.old ≤ B.S.faults space.new }
+    requires ready { holding.IsReady B.S.Space B.holds base.old space.old }
+    requires calm { Each IsCalm peers.old.items }
+    ensures rounds { IfOk result (λ u. Rounds B.S.Space B.holds u base.old base.new space.old space.new walk.old walk.new peers.old.items peers.new.items) }
+    ensures full { IsErrOf result RecErr.Full → (c : Contents) → Held B.S.Space B.holds base.old space.old c → (ks : List Client) → AllHold peers.old.items ks → FillsAt (B.fills space.new) c walk.old ks }
+    ensures keeps { Keeps B.S.Space space.old space.new }
     ensures cause { IsErrOf result RecErr.Fault → Rose (B.S.faults space.old) (B.S.faults space.new) }
 {
     let mut commits = false;
     for i in 0..peers.len() {
         let p = &mut peers[i];
-        let one = serve_one(p, base, space, walk)?;
+        let one = match serve_one(p, base, space, walk) {
+            Ok(one) => one,
+            Err(e) => return Err(e),
+        };
         commits = commits || one;
     }
     Ok(commits)

@@ -1,23 +1,23 @@
 //! Sends: each connection is offered what waits for it.
-ghost use Rattle.std.specs.Prelude.{◌≡◌, ◌≤◌, ◌<◌, ◌++◌, ℕ, Bool, true, false, List, Some, length, map, nat_eq, Option, Ok, IfOk, OnOk};
+ghost use Rattle.std.specs.Prelude.{◌≡◌, [], ◌∷◌, true, nat_eq, OnOk};
 ghost use Rattle.std.specs.List.{list_any};
 ghost use Rattle.tc_io.specs.Causes.{HasCause};
-ghost use Rattle.ty_rounds.specs.Holding.{AllHold, Wired};
-ghost use Rattle.ty_rounds.specs.Peers.{numbers};
-ghost use Rattle.ty_rounds.specs.Sending.{DeliversOne, DeliversFront};
+ghost use Rattle.ty_rounds.specs.Holding.{Wired};
+ghost use Rattle.ty_rounds.specs.Ready.{Each, IsCalm, StayFew};
+ghost use Rattle.ty_rounds.specs.Sending.{DeliversAll, DeliversOne, WireStays};
 
 use crate::peer::Peer;
 use tc_base::Fault;
 use tc_io::{Sent, Wire};
 
 // Offers the bytes that wait until they are taken, or not now, or the connection is gone.
-fn deliver<W: Wire>(wire: &mut W, p: &mut Peer) -> Result<(), Fault>
+fn offer<W: Wire>(wire: &mut W, p: &mut Peer) -> Result<(), Fault>
     requires opened { W.opened wire.old ≡ true }
     requires is_open { list_any (nat_eq p.old.conn) (W.conns wire.old) ≡ true }
-    ensures opened { W.opened wire.new ≡ true }
-    ensures conns { W.conns wire.new ≡ W.conns wire.old }
+    ensures wire_stays { WireStays W.Wire wire.old wire.new }
     ensures conn { p.new.conn ≡ p.old.conn }
-    ensures told { DeliversOne (W.transcript wire.old) (W.transcript wire.new) (W.plays wire.old) (W.plays wire.new) p.old p.new result }
+    ensures told { DeliversOne W.Wire wire.old wire.new p.old p.new result }
+    ensures few { StayFew (p.old ∷ []) (p.new ∷ []) }
     ensures cause { HasCause (W.faults wire.old) (W.faults wire.new) result }
 {
     while !p.all_taken() {
@@ -33,13 +33,36 @@ fn deliver<W: Wire>(wire: &mut W, p: &mut Peer) -> Result<(), Fault>
     Ok(())
 }
 
+// Offers what waits, where anything may.
+fn deliver<W: Wire>(wire: &mut W, p: &mut Peer) -> Result<(), Fault>
+    requires opened { W.opened wire.old ≡ true }
+    requires is_open { list_any (nat_eq p.old.conn) (W.conns wire.old) ≡ true }
+    requires calm { IsCalm p.old }
+    ensures wire_stays { WireStays W.Wire wire.old wire.new }
+    ensures conn { p.new.conn ≡ p.old.conn }
+    ensures told { DeliversOne W.Wire wire.old wire.new p.old p.new result }
+    ensures few { StayFew (p.old ∷ []) (p.new ∷ []) }
+    ensures calm { OnOk result (IsCalm p.new) }
+    ensures cause { HasCause (W.faults wire.old) (W.faults wire.new) result }
+{
+    if !p.stirs {
+        return Ok(());
+    }
+    offer(wire, p)?;
+    p.settle();
+    Ok(())
+}
+
 /// Sends to each connection in ascending number.
 pub fn deliver_all<W: Wire>(wire: &mut W, peers: &mut Vec<Peer>) -> Result<(), Fault>
     requires opened { W.opened wire.old ≡ true }
     requires wired { Wired (W.conns wire.old) peers.old.items }
-    ensures opened { W.opened wire.new ≡ true }
+    requires calm { Each IsCalm peers.old.items }
+    ensures wire_stays { WireStays W.Wire wire.old wire.new }
     ensures wired { Wired (W.conns wire.new) peers.new.items }
-    ensures told { DeliversAll (W.transcript wire.old) (W.transcript wire.new) (W.plays wire.old) (W.plays wire.new) peers.old.items peers.new.items result }
+    ensures told { DeliversAll W.Wire wire.old wire.new peers.old.items peers.new.items result }
+    ensures few { OnOk result (StayFew peers.old.items peers.new.items) }
+    ensures calm { OnOk result (Each IsCalm peers.new.items) }
     ensures cause { HasCause (W.faults wire.old) (W.faults wire.new) result }
 {
     for i in 0..peers.len() {
@@ -48,5 +71,3 @@ pub fn deliver_all<W: Wire>(wire: &mut W, peers: &mut Vec<Peer>) -> Result<(), F
     }
     Ok(())
 }
-
-ghost use Rattle.ty_rounds.specs.Sending.{DeliversAll};

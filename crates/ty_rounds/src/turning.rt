@@ -1,12 +1,20 @@
 //! One event, and all that it brings.
-ghost use Rattle.std.specs.Prelude.{◌≡◌, ◌⊎◌, ◌≤◌, ◌++◌, [], ◌∷◌, ℕ, Bool, true, false, List, None, Option, OnOk, OnErr, IfOk, IfErr, IsErrOf, IsTrue, ◌↔◌};
-ghost use Rattle.tc_base.specs.Files.{Files};
-ghost use Rattle.tc_io.specs.Causes.{Rose};
+ghost use Rattle.std.specs.Prelude.{◌≡◌, ◌≤◌, [], true, false, List, None, OnOk, IfOk, IfErr, IsErrOf, IsTrue, ◌↔◌};
+ghost use Rattle.tc_io.specs.Causes.{HasCause, Rose};
 ghost use Rattle.tc_io.specs.declared.wire.Ev.TheVariants.{Shut};
-ghost use Rattle.ty_rounds.specs.declared.outcome.TurnErr.TheVariants.{Wire as wire_err, Full as full_err};
-ghost use Rattle.ty_rounds.specs.Kept.{Reopens, MovesTo};
-ghost use Rattle.ty_rounds.specs.Holding.{Wired};
-ghost use Rattle.ty_rounds.specs.Turns.{Turns, Finishes};
+ghost use Rattle.tc_space.specs.Effects.{Follows};
+ghost use Rattle.tc_space.specs.Frames.{Keeps, OnlyReads};
+ghost use Rattle.tc_model.specs.Contents.{Contents};
+ghost use Rattle.ty_base.specs.Holding as holding;
+ghost use Rattle.ty_base.specs.Holding.{Held};
+ghost use Rattle.ty_world.specs.World.{Client, Mark};
+ghost use Rattle.ty_rounds.specs.declared.outcome.TurnErr.TheVariants.{Wire as wire_err};
+ghost use Rattle.ty_rounds.specs.Holding.{AllHold, Wired};
+ghost use Rattle.ty_rounds.specs.Kept.{HasMark, HoldsMark, MovesTo};
+ghost use Rattle.ty_rounds.specs.Keeping.{IsKept};
+ghost use Rattle.ty_rounds.specs.Ready.{Each, IsCalm, IsReady};
+ghost use Rattle.ty_rounds.specs.Serving.{FillsAt, Rounds};
+ghost use Rattle.ty_rounds.specs.Turns.{Turns, FullTurn, Finishes};
 
 use crate::closing::close_over;
 use crate::listening::{Buffers, listen};
@@ -54,64 +62,49 @@ fn round<B: Base>(
     space: &mut B::S,
     walk: &mut Walk,
 ) -> Result<bool, TurnErr>
-    requires sound { B.S.sound space.old }
-    requires is_of { B.S.tells → B.is_of base.old (B.S.now space.old) }
-    ensures numbers { numbers peers.new.items ≡ numbers peers.old.items }
-    ensures round { IfOk result (λ u. B.S.tells → (ks : List Client) → AllHold peers.old.items ks → RoundsTo u (B.contents base.new) walk.new peers.new.items (round_all (B.contents base.old) walk.old ks)) }
-    ensures writes { IfOk result (λ u. u ≡ false → B.S.touched space.new ≡ B.S.touched space.old) }
-    ensures steady { B.S.tells → Steady B.S.moment B.S.left B.S.kept space.old space.new }
-    ensures sound { OnOk result (B.S.sound space.new) }
-    ensures is_of_still { OnOk result (B.S.tells → B.is_of base.new (B.S.now space.new)) }
+    requires ready { holding.IsReady B.S.Space B.holds base.old space.old }
+    requires calm { Each IsCalm peers.old.items }
+    ensures rounds { IfOk result (λ u. Rounds B.S.Space B.holds u base.old base.new space.old space.new walk.old walk.new peers.old.items peers.new.items) }
     ensures not_wire { IfErr result (λ e. e ≡ wire_err → ⊥) }
-    ensures full { IsErrOf result TurnErr.Full → B.fills }
-    ensures later { B.S.faults space.old ≤ B.S.faults space.new }
+    ensures full { IsErrOf result TurnErr.Full → (c : Contents) → Held B.S.Space B.holds base.old space.old c → (ks : List Client) → AllHold peers.old.items ks → FillsAt (B.fills space.new) c walk.old ks }
+    ensures keeps { Keeps B.S.Space space.old space.new }
     ensures cause { IsErrOf result TurnErr.Volume → Rose (B.S.faults space.old) (B.S.faults space.new) }
 {
     Ok(round_of_all(peers, base, space, walk)?)
 }
 
-ghost use Rattle.tc_space.specs.Moments.{Steady};
-ghost use Rattle.ty_world.specs.World.{Client, round_all};
-ghost use Rattle.ty_rounds.specs.Holding.{AllHold, RoundsTo};
-ghost use Rattle.ty_rounds.specs.Peers.{numbers};
-
 // Settles and commits, where there is anything to commit.
 fn keep<B: Base>(base: &mut B, space: &mut B::S, commits: bool) -> Result<(), TurnErr>
-    requires sound { B.S.sound space.old }
-    requires is_of { B.S.tells → B.is_of base.old (B.S.now space.old) }
+    requires ready { holding.IsReady B.S.Space B.holds base.old space.old }
     requires untouched { commits ≡ false → B.S.touched space.old ≡ false }
-    ensures contents { OnOk result (B.S.tells → B.contents base.new ≡ B.contents base.old) }
-    ensures kept { OnOk result (B.S.tells → commits ≡ true → Reopens B.reopens (B.S.kept space.new) (B.contents base.old)) }
-    ensures idle { OnOk result (B.S.tells → commits ≡ false → B.S.kept space.new ≡ B.S.kept space.old) }
-    ensures moments { B.S.tells → MovesTo B.S.moment B.S.left B.S.kept B.reopens space.old space.new (B.contents base.old) }
-    ensures sound { OnOk result (B.S.sound space.new) }
-    ensures is_of_still { OnOk result (B.S.tells → B.is_of base.new (B.S.now space.new)) }
-    ensures untouched { OnOk result (B.S.touched space.new ≡ false) }
+    ensures kept { OnOk result (IsKept B.S.Space B.holds B.reopens commits base.old base.new space.old space.new) }
+    ensures moments { (m : Mark) → HasMark B.S.Space B.holds base.old space.old m → MovesTo B.S.Space B.reopens space.old space.new m }
+    ensures idle { commits ≡ false → OnlyReads B.S.Space space.old space.new }
     ensures not_wire { IfErr result (λ e. e ≡ wire_err → ⊥) }
-    ensures full { IsErrOf result TurnErr.Full → B.fills }
-    ensures later { B.S.faults space.old ≤ B.S.faults space.new }
+    ensures full { IsErrOf result TurnErr.Full → (c : Contents) → Held B.S.Space B.holds base.old space.old c → B.fills space.new c c }
+    ensures follows { Follows B.S.faults B.S.limit B.S.names space.old space.new }
     ensures cause { IsErrOf result TurnErr.Volume → Rose (B.S.faults space.old) (B.S.faults space.new) }
 {
     if !commits {
         return Ok(());
     }
     base.settle(space)?;
-    if space.commit().is_err() {
-        return Err(TurnErr::Volume);
+    match space.commit() {
+        Ok(()) => Ok(()), // it is kept
+        Err(_) => Err(TurnErr::Volume),
     }
-    Ok(())
 }
 
 // Sends what waits, and closes what is over.
 fn finish<W: Wire>(wire: &mut W, peers: &mut Vec<Peer>) -> Result<(), TurnErr>
     requires opened { W.opened wire.old ≡ true }
     requires wired { Wired (W.conns wire.old) peers.old.items }
+    requires calm { Each IsCalm peers.old.items }
     ensures opened { W.opened wire.new ≡ true }
     ensures wired { OnOk result (Wired (W.conns wire.new) peers.new.items) }
-    ensures told { Finishes (W.transcript wire.old) (W.transcript wire.new) (W.plays wire.old) (W.plays wire.new) result peers.old.items peers.new.items }
+    ensures told { Finishes W.Wire wire.old wire.new result peers.old.items peers.new.items }
     ensures only_wire { IfErr result (λ e. e ≡ wire_err) }
-    ensures later { W.faults wire.old ≤ W.faults wire.new }
-    ensures cause { IsErrOf result TurnErr.Wire → Rose (W.faults wire.old) (W.faults wire.new) }
+    ensures cause { HasCause (W.faults wire.old) (W.faults wire.new) result }
 {
     match deliver_all(wire, peers) {
         Ok(()) => {}
@@ -137,29 +130,23 @@ fn is_shut(ev: Ev) -> bool
 }
 
 /// One turn: an event, one request of each connection that is ready, a commit where anything is to be kept, then sends and
-/// closings. After an `Err` the server is to be dropped.
+/// closings. A connection holds at most 33,558,528 unread bytes after it, and at most one reply of 67,108,864.
+///
+/// `Memory`, `Full` and `Volume` come before anything was sent, and what a stop leaves is then what was kept before the round or
+/// after it; `Wire` comes behind the commit too. After an `Err` the server is to be dropped, and the space to be opened again.
 pub fn turn<B: Base, W: Wire, K: Clock>(
     server: &mut Server<B>,
     space: &mut B::S,
     wire: &mut W,
     clock: &mut K,
 ) -> Result<Outcome, TurnErr>
-    requires opened { W.opened wire.old ≡ true }
-    requires wired { Wired (W.conns wire.old) server.old.peers.items }
-    requires sound { B.S.sound space.old }
-    requires untouched { B.S.touched space.old ≡ false }
-    requires is_of { B.S.tells → B.is_of server.old.base (B.S.now space.old) }
-    requires kept { B.S.tells → Reopens B.reopens (B.S.kept space.old) (B.contents server.old.base) }
+    requires ready { IsReady B.S.Space W.Wire B.holds server.old.base space.old wire.old server.old.peers.items }
+    ensures ready { OnOk result (IsReady B.S.Space W.Wire B.holds server.new.base space.new wire.new server.new.peers.items) }
     ensures opened { W.opened wire.new ≡ true }
-    ensures wired { OnOk result (Wired (W.conns wire.new) server.new.peers.items) }
-    ensures sound { OnOk result (B.S.sound space.new) }
-    ensures untouched { OnOk result (B.S.touched space.new ≡ false) }
-    ensures is_of_still { OnOk result (B.S.tells → B.is_of server.new.base (B.S.now space.new)) }
-    ensures kept { OnOk result (B.S.tells → Reopens B.reopens (B.S.kept space.new) (B.contents server.new.base)) }
-    ensures told { Turns B.S.tells B.S.moment B.S.left B.reopens (W.transcript wire.old) (W.transcript wire.new) (W.plays wire.old) (W.plays wire.new) result space.old space.new (B.contents server.old.base) (B.contents server.new.base) server.old.walk server.new.walk server.old.peers.items server.new.peers.items }
-    ensures full { IsErrOf result TurnErr.Full → B.fills }
+    ensures told { Turns B.S.Space W.Wire B.holds B.reopens result server.old.base server.new.base space.old space.new wire.old wire.new server.old.walk server.new.walk server.old.peers.items server.new.peers.items }
+    ensures full { IsErrOf result TurnErr.Full → FullTurn (B.fills space.new) (HoldsMark B.S.Space B.holds B.reopens server.old.base space.old) (W.given wire.old) server.old.walk server.old.peers.items (W.transcript wire.old) (W.transcript wire.new) }
+    ensures follows { Follows B.S.faults B.S.limit B.S.names space.old space.new }
     ensures later_wire { W.faults wire.old ≤ W.faults wire.new }
-    ensures later_space { B.S.faults space.old ≤ B.S.faults space.new }
     ensures cause_wire { IsErrOf result TurnErr.Wire → Rose (W.faults wire.old) (W.faults wire.new) }
     ensures cause_space { IsErrOf result TurnErr.Volume → Rose (B.S.faults space.old) (B.S.faults space.new) }
 {

@@ -1,11 +1,13 @@
 -- What a reading says of the front, in the grammar's words.
-use Rattle.std.proofs.Common.{◌≡◌, ℕ, ◌+◌, ◌-◌, ◌≤◌, List, ◌++◌, length, drop, Ok, Err, refl, sym, ap, ◌∙◌, arith, length-append}
+use Rattle.std.proofs.Common.{◌≡◌, ℕ, ◌+◌, ◌-◌, ◌≤◌, List, ◌++◌, length, drop, Result, Ok, Err, refl, sym, ap, ◌∙◌, arith, length-append}
 use Rattle.std.proofs.lemmas.List.Prefix.{front_rest}
 use Rattle.tc_base.specs.declared.request.Request.{Request}
+use Rattle.tc_base.specs.declared.fields.NotWhole.{NotWhole}
 use Rattle.tc_base.specs.declared.fields.NotWhole.TheVariants.{Part, Bad}
 use Rattle.ty_wire.specs.Prefixes.{IsPrefix, IsPart}
 use Rattle.ty_wire.specs.Spelling.{spelling, Fits}
 use Rattle.ty_wire.specs.Reading.{request_at}
+use Rattle.ty_wire.specs.Taking.{HasOneAtMost}
 use Rattle.tc_base.specs.Bytes.{IsBytes}
 use Rattle.ty_wire.proofs.Requests.{exact_request}
 
@@ -30,6 +32,17 @@ partly bytes fits e = let f = exact_request.part bytes fits e in (f.0, f.3.0, (f
 -- a whole request is read
 pub whole : (bytes : List ℕ) (r : Request) (rest : List ℕ) → Fits r → bytes ≡ spelling r ++ rest → request_at bytes ≡ Ok (r, rest)
 whole bytes r rest fits parts = ap request_at parts ∙ exact_request.again r (spelling r) rest (fits, refl)
+
+same_request : (r s : Request) (a b : List ℕ) → (x : Result (Request × List ℕ) NotWhole) → x ≡ Ok (r, a) → x ≡ Ok (s, b) → r ≡ s
+same_request r s a b (Ok x) e f =
+    let p : x ≡ (r, a) = cc in
+    let q : x ≡ (s, b) = cc in
+    sym (ap (λ (t : Request × List ℕ). t.0) p) ∙ ap (λ (t : Request × List ℕ). t.0) q
+same_request r s a b (Err x) e f = absurd cc
+
+-- whoever spells the front, it is the one that is read
+pub alone : (bytes : List ℕ) → HasOneAtMost bytes
+alone bytes r s f g p q = same_request r s p.0 q.0 (request_at bytes) (whole bytes r p.0 f p.1) (whole bytes s q.0 g q.1)
 
 pub badly : (bytes : List ℕ) → request_at bytes ≡ Err Bad → (r : Request) → Fits r → (IsPrefix (spelling r) bytes → ⊥) × (IsPart bytes (spelling r) → ⊥)
 badly bytes e r fits = (

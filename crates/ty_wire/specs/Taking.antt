@@ -14,6 +14,10 @@ Takes bytes (Whole n) = (r : Request) × Fits r × (length (spelling r) ≡ n) �
 Takes bytes Part = (r : Request) × Fits r × IsPart bytes (spelling r)
 Takes bytes Bad = (r : Request) → Fits r → (IsPrefix (spelling r) bytes → ⊥) × (IsPart bytes (spelling r) → ⊥)
 
+-- at most one request stands at the front: no spelling is a prefix of another
+abbrev pub HasOneAtMost : List ℕ → Type 0
+HasOneAtMost bytes = (r s : Request) → Fits r → Fits s → IsPrefix (spelling r) bytes → IsPrefix (spelling s) bytes → r ≡ s
+
 -- the same, as reading from left to right says
 abbrev pub IsRead : List ℕ → Front → Type 0
 IsRead bytes (Whole n) = (r : Request) × (n ≤ length bytes) × (request_at bytes ≡ Ok (r, drop n bytes))

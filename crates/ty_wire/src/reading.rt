@@ -7,7 +7,7 @@ ghost use Rattle.ty_wire.specs.Reading.{pick, counted_at, named_entries, number_
 ghost use Rattle.ty_wire.specs.Parsed.{parsed, texts, IsWhole, AreWhole};
 ghost use Rattle.ty_wire.specs.Spelling.{key_text, spelling, Fits};
 ghost use Rattle.ty_wire.specs.Prefixes.{IsPrefix};
-ghost use Rattle.ty_wire.specs.Taking.{Takes, IsRead};
+ghost use Rattle.ty_wire.specs.Taking.{HasOneAtMost, Takes, IsRead};
 
 use crate::items::{copy_items, keys_from, skip_items};
 use crate::parsed::{Items, Parsed};
@@ -216,6 +216,7 @@ fn request_of(bytes: &[u8]) -> Read<'_, Parsed<'_>>
 pub fn take(bytes: &[u8]) -> Front
     ensures grammar { Takes bytes.now result }
     ensures reading { IsRead bytes.now result }
+    ensures alone { HasOneAtMost bytes.now }
 {
     match request_of(bytes) {
         Ok((_, rest)) => Front::Whole(bytes.len() - rest.len()),

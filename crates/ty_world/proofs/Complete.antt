@@ -1,5 +1,5 @@
 -- With enough turns a script is played to its end.
-use Rattle.std.proofs.Common.{◌≡◌, ◌⊎◌, inl, inr, ℕ, suc, ◌+◌, ◌≤◌, Bool, true, false, not, cond, List, [], ◌∷◌, length, refl, sym, ap, subst, ◌∙◌, arith, map}
+use Rattle.std.proofs.Common.{◌≡◌, ◌⊎◌, inl, inr, ℕ, ◌+◌, ◌≤◌, Bool, true, false, not, cond, List, [], ◌∷◌, length, refl, sym, ap, subst, ◌∙◌, arith, map}
 use Rattle.std.specs.Prelude.{◌||◌, nat_eq}
 use Rattle.std.specs.List.{list_any, filter}
 use Rattle.std.proofs.lemmas.Map.Views.{any-filter_same}
@@ -7,17 +7,14 @@ use Rattle.std.proofs.lemmas.Bool.{eqb-true}
 use Rattle.tc_io.specs.declared.wire.At.{At}
 use Rattle.tc_io.specs.declared.wire.Ev.{Ev}
 use Rattle.tc_io.specs.declared.wire.Ev.TheVariants as event
-use Rattle.tc_io.specs.declared.wire.Dialled.{Dialled}
-use Rattle.tc_io.specs.declared.wire.Dialled.TheVariants.{NotNow}
 use Rattle.tc_io.specs.declared.wire.Sent.{Sent}
 use Rattle.tc_io.specs.declared.wire.Sent.TheVariants.{Took}
 use Rattle.tc_io.specs.declared.act.Act.{Act}
 use Rattle.tc_io.specs.declared.wire.Entry.{Entry}
 use Rattle.tc_io.specs.declared.wire.Entry.TheVariants.{Open, Dial, Event, Send, Close}
 use Rattle.tc_io.specs.Lines.{has}
-use Rattle.tc_io.specs.Script.{Script, Lines, next_act, next_dial, lines_after, lines_dialled, played, Agrees, plays_all, AllAgree}
-use Rattle.tc_model.specs.Contents.{Contents}
-use Rattle.ty_world.specs.World.{Client, World, started, unstopped, heard, sent, at_conn, round_all, happens, world_after, waits, shut_after, should_pause, is_some_waiting, IsRested, AsksRight, AllAsked}
+use Rattle.tc_io.specs.Script.{Script, Lines, next_act, lines_after, played, Agrees, plays_all, AllAgree}
+use Rattle.ty_world.specs.World.{Client, World, Mark, started, with_round, unstopped, heard, sent, at_conn, round_all, happens, world_after, waits, shut_after, should_pause, is_some_waiting, IsRested, AsksRight, AllAsked}
 use Rattle.ty_world.specs.Measure.{requests_in, left_of, total, measure}
 use Rattle.ty_world.specs.Playing.{Fits, AllFit, Meets, unplayed}
 use Rattle.ty_world.proofs.Events.{Out, next_out, next_meets}
@@ -132,7 +129,7 @@ sends_leave acts c bytes answer [] is = refl
 sends_leave acts c bytes answer (k ∷ ks) is = let a = sent_left acts k bytes answer (nat_eq k.conn c) is in let b = sends_leave acts c bytes answer ks is in omega (arith, a, b)
 
 abbrev closed_lines : Lines → ℕ → Lines
-closed_lines l c = record { conns = filter (λ d. not (nat_eq d c)) l.conns; ended = l.ended; given = l.given }
+closed_lines l c = record { conns = filter (λ d. not (nat_eq d c)) l.conns; ended = filter (λ d. not (nat_eq d c)) l.ended; given = l.given }
 
 other_listed : (xs : List ℕ) (c d : ℕ) → nat_eq d c ≡ false → has (filter (λ e. not (nat_eq e c)) xs) d ≡ has xs d
 other_listed xs c d other = any-filter_same (nat_eq d) (λ e. not (nat_eq e c)) true (λ e is. ap (λ (x : ℕ). not (nat_eq x c)) (sym (eqb-true d e is)) ∙ ap not other) xs
@@ -152,7 +149,7 @@ close_fits l c (k ∷ ks) h = go (nat_eq k.conn c) refl (close_fits l c ks h.1)
   where
     go : (b : Bool) → nat_eq k.conn c ≡ b → AllFit (closed_lines l c) (filter (λ k. not (nat_eq k.conn c)) ks) → AllFit (closed_lines l c) (cond (not b) (k ∷ filter (λ k. not (nat_eq k.conn c)) ks) (filter (λ k. not (nat_eq k.conn c)) ks))
     go true is rest = rest
-    go false is rest = (record { listed = other_listed l.conns c k.conn is ∙ h.0.listed; ends = h.0.ends; below = h.0.below; here = h.0.here; going = h.0.going }, rest)
+    go false is rest = (record { listed = other_listed l.conns c k.conn is ∙ h.0.listed; ends = h.0.ends ∙ sym (other_listed l.ended c k.conn is); below = h.0.below; here = h.0.here; going = h.0.going }, rest)
 
 close_leaves : (acts : List Act) (c : ℕ) (ks : List Client) → total acts (filter (λ k. not (nat_eq k.conn c)) ks) ≤ total acts ks
 close_leaves acts c [] = omega arith
@@ -166,10 +163,7 @@ close_leaves acts c (k ∷ ks) = go (nat_eq k.conn c) (close_leaves acts c ks)
 
 pub entry_falls : (e : Entry) (w : World) (s : Script) → s.dials ≡ [] → Meets s.lines w.there → AsksRight w e → Agrees s e → Falls w s (happens w e) (played s e)
 entry_falls (Open at) w s none h asked agrees = record { meets = h; falls = λ on. omega arith; played_out = λ on off. absurd cc; stays = λ off. off; kept_out = λ off. refl; undialled = none }
-entry_falls (Dial host port answer) w s none h asked agrees =
-    let is : answer ≡ NotNow = agrees ∙ ap (λ (d : List Dialled). (next_dial d s.lines).0) none in
-    subst (λ (x : Dialled). Falls w s w (record { acts = s.acts; dials = (next_dial s.dials s.lines).1; lines = lines_dialled s.lines x })) (sym is)
-    (record { meets = h; falls = λ on. omega arith; played_out = λ on off. absurd cc; stays = λ off. off; kept_out = λ off. refl; undialled = ap (λ (d : List Dialled). (next_dial d s.lines).1) none })
+entry_falls (Dial host port answer) w s none h asked agrees = absurd asked
 entry_falls (Event paused busy ev bytes) w s none h asked agrees =
     subst (λ (x : Ev). Falls w s (happens w (Event paused busy x bytes)) (played s (Event paused busy x bytes))) (sym agrees.0)
     (subst (λ (b : List ℕ). Falls w s (happens w (Event paused busy n.0 b)) (played s (Event paused busy n.0 b))) (sym agrees.1)
@@ -181,8 +175,12 @@ entry_falls (Event paused busy ev bytes) w s none h asked agrees =
     f : EventFalls w s paused busy n.0 n.1 n.2
     f = event_falls w s paused busy h asked.0 asked.1 asked.2 asked.3
 
-    go : (ks : List Client) → ks ≡ w.there → Falls w s (record { contents = (round_all w.contents w.walk (heard ks n.0 n.1)).contents; walk = (round_all w.contents w.walk (heard ks n.0 n.1)).walk; marks = cond (round_all w.contents w.walk (heard ks n.0 n.1)).updated ((round_all w.contents w.walk (heard ks n.0 n.1)).contents ∷ w.marks) w.marks; there = (round_all w.contents w.walk (heard ks n.0 n.1)).clients; past = w.past; shut = shut_after w.shut n.0; events = suc w.events; opens = w.opens }) (record { acts = n.2; dials = s.dials; lines = lines_after s.lines n.0 })
-    go ks is = subst (λ (k : List Client). Falls w s (record { contents = (round_all w.contents w.walk (heard k n.0 n.1)).contents; walk = (round_all w.contents w.walk (heard k n.0 n.1)).walk; marks = cond (round_all w.contents w.walk (heard k n.0 n.1)).updated ((round_all w.contents w.walk (heard k n.0 n.1)).contents ∷ w.marks) w.marks; there = (round_all w.contents w.walk (heard k n.0 n.1)).clients; past = w.past; shut = shut_after w.shut n.0; events = suc w.events; opens = w.opens }) (record { acts = n.2; dials = s.dials; lines = lines_after s.lines n.0 })) (sym is)
+    -- behind the event, whose clients these are
+    behind : List Client → World
+    behind ks = with_round w n.0 (round_all w.contents w.walk (heard ks n.0 n.1))
+
+    go : (ks : List Client) → ks ≡ w.there → Falls w s (behind ks) (record { acts = n.2; dials = s.dials; lines = lines_after s.lines n.0 })
+    go ks is = subst (λ (k : List Client). Falls w s (behind k) (record { acts = n.2; dials = s.dials; lines = lines_after s.lines n.0 })) (sym is)
         (record { meets = f.0; falls = λ on. (let g = f.1 on in omega (arith, g)); played_out = λ on off. f.2 off; stays = λ off. absurd (let o = asked.3 in cc); kept_out = λ off. absurd (let o = asked.3 in cc); undialled = none })
 entry_falls (Send c bytes answer) w s none h asked agrees = record {
   meets = record { each = sends_fit s.lines c bytes answer w.there agrees h.each; fresh = h.fresh };
@@ -193,7 +191,7 @@ entry_falls (Send c bytes answer) w s none h asked agrees = record {
   undialled = none;
 }
 entry_falls (Close c) w s none h asked agrees = record {
-  meets = record { each = close_fits s.lines c w.there h.each; fresh = λ d le. (fewer_listed s.lines.conns c d (h.fresh d le).0, (h.fresh d le).1) };
+  meets = record { each = close_fits s.lines c w.there h.each; fresh = λ d le. (fewer_listed s.lines.conns c d (h.fresh d le).0, fewer_listed s.lines.ended c d (h.fresh d le).1) };
   falls = λ on. (let a = close_leaves s.acts c w.there in omega (arith, a));
   played_out = λ on off. absurd cc;
   stays = λ off. off;
@@ -226,11 +224,11 @@ all_fall (e ∷ es) w s none h asked agrees =
     falls_then w (happens w e) (world_after es (happens w e)) s (played s e) (plays_all es (played s e)) one (all_fall es (happens w e) (played s e) one.undialled one.meets asked.1 agrees.1)
 
 -- a run that isn't at its end had no more turns than the script has events and whole requests
-pub turns_bound : (es : List Entry) (opens : List At) (c : Contents) (acts : List Act) (given : ℕ) → AllAsked (started opens c) es → AllAgree (unplayed acts given) es → (world_after es (started opens c)).shut ≡ false → (world_after es (started opens c)).events ≤ length acts + requests_in given acts
-turns_bound es opens c acts given asked agrees on =
-    let f = (all_fall es (started opens c) (unplayed acts given) refl (record { each = tt; fresh = λ d le. (refl, refl) }) asked agrees).falls on in
+pub turns_bound : (es : List Entry) (opens : List At) (m : Mark) (acts : List Act) (given : ℕ) → AllAsked (started opens m) es → AllAgree (unplayed acts given) es → (world_after es (started opens m)).shut ≡ false → (world_after es (started opens m)).events ≤ length acts + requests_in given acts
+turns_bound es opens m acts given asked agrees on =
+    let f = (all_fall es (started opens m) (unplayed acts given) refl (record { each = tt; fresh = λ d le. (refl, refl) }) asked agrees).falls on in
     omega (arith, f)
 
 -- and at its end each event of the script was given or skipped
-pub all_played : (es : List Entry) (opens : List At) (c : Contents) (acts : List Act) (given : ℕ) → AllAsked (started opens c) es → AllAgree (unplayed acts given) es → (world_after es (started opens c)).shut ≡ true → (plays_all es (unplayed acts given)).acts ≡ []
-all_played es opens c acts given asked agrees off = (all_fall es (started opens c) (unplayed acts given) refl (record { each = tt; fresh = λ d le. (refl, refl) }) asked agrees).played_out refl off
+pub all_played : (es : List Entry) (opens : List At) (m : Mark) (acts : List Act) (given : ℕ) → AllAsked (started opens m) es → AllAgree (unplayed acts given) es → (world_after es (started opens m)).shut ≡ true → (plays_all es (unplayed acts given)).acts ≡ []
+all_played es opens m acts given asked agrees off = (all_fall es (started opens m) (unplayed acts given) refl (record { each = tt; fresh = λ d le. (refl, refl) }) asked agrees).played_out refl off

@@ -20,7 +20,7 @@ use Rattle.ty_wire.specs.Reading.{request_at}
 use Rattle.ty_wire.proofs.Answered.{taken}
 use Rattle.tc_model.specs.Contents.{Contents, Walk}
 use Rattle.tc_model.specs.Apply.{Step, apply}
-use Rattle.ty_world.specs.World.{Client, World, started, served, serves, is_ready, round_one, round_all, unstopped, at_conn, new_client, with_read, with_end, heard, sent, happens, world_after, AllCame}
+use Rattle.ty_world.specs.World.{Client, World, Mark, started, served, serves, is_ready, round_one, round_all, unstopped, at_conn, new_client, with_read, with_end, heard, sent, happens, world_after, AllCame}
 use Rattle.ty_world.specs.Answers.{IsSpelled, EachSpelled, AllSpelled}
 
 -- with bytes
@@ -119,7 +119,7 @@ sent_right bytes Gone k h = record { spelled = record { parts = h.spelled.parts;
 unstopped_right : (k : Client) → IsRight k → IsRight (unstopped k)
 unstopped_right k h = record { spelled = record { parts = h.spelled.parts; fit = h.spelled.fit }; are_bytes = h.are_bytes }
 
-rights : (es : List Entry) (w : World) → AllCame es → Right w.there → Right w.past → Right (world_after es w).there × Right (world_after es w).past
+rights : (es : List Entry) (w : World) → AllCame w es → Right w.there → Right w.past → Right (world_after es w).there × Right (world_after es w).past
 rights [] w came there past = (there, past)
 rights (Open at ∷ es) w came there past = rights es (happens w (Open at)) came.1 there past
 rights (Dial host port answer ∷ es) w came there past = rights es w came.1 there past
@@ -132,7 +132,7 @@ each_spelled [] h = tt
 each_spelled (k ∷ ks) h = (h.0.spelled, each_spelled ks h.1)
 
 -- the requests placed are those that came, in order
-pub all_spelled : (es : List Entry) (opens : List At) (c : Contents) → AllCame es → AllSpelled (world_after es (started opens c))
-all_spelled es opens c came =
-    let r = rights es (started opens c) came tt tt in
-    (each_spelled (world_after es (started opens c)).there r.0, each_spelled (world_after es (started opens c)).past r.1)
+pub all_spelled : (es : List Entry) (opens : List At) (m : Mark) → AllCame (started opens m) es → AllSpelled (world_after es (started opens m))
+all_spelled es opens m came =
+    let r = rights es (started opens m) came tt tt in
+    (each_spelled (world_after es (started opens m)).there r.0, each_spelled (world_after es (started opens m)).past r.1)

@@ -1,5 +1,5 @@
 -- What is true of every connection of a run.
-use Rattle.std.specs.Prelude.{◌≡◌, false, List, [], ◌∷◌, ◌++◌, All}
+use Rattle.std.specs.Prelude.{◌≡◌, ◌<◌, ℕ, false, List, [], ◌∷◌, ◌++◌, All}
 use Rattle.std.specs.List.{flat_map}
 use Rattle.ty_wire.specs.Spelling.{spelling, Fits}
 use Rattle.ty_wire.specs.Frames.{HasNone}
@@ -22,10 +22,30 @@ pub record IsAnswered (k : Client) : Type 0 where
   pub none : HasNone k.unread
   pub told : k.out ≡ k.owed
 
--- but for a peer that is gone, and one above 64, which is closed at once
+-- but for a peer that is gone
 abbrev pub EachAnswered : List Client → Type 0
 EachAnswered [] = Unit {0}
-EachAnswered (k ∷ ks) = (k.gone ≡ false → k.extra ≡ false → IsAnswered k) × EachAnswered ks
+EachAnswered (k ∷ ks) = (k.gone ≡ false → IsAnswered k) × EachAnswered ks
 
 abbrev pub AllAnswered : World → Type 0
 AllAnswered w = EachAnswered w.there × EachAnswered w.past
+
+-- ---- numbers
+
+abbrev pub AllBelow : ℕ → List Client → Type 0
+AllBelow given [] = Unit {0}
+AllBelow given (k ∷ ks) = (k.conn < given) × AllBelow given ks
+
+abbrev pub AllAbove : ℕ → List Client → Type 0
+AllAbove c [] = Unit {0}
+AllAbove c (k ∷ ks) = (c < k.conn) × AllAbove c ks
+
+abbrev pub Ascends : List Client → Type 0
+Ascends [] = Unit {0}
+Ascends (k ∷ ks) = AllAbove k.conn ks × Ascends ks
+
+-- those that are there ascend, and each number is below the next that may be given
+pub record AreInOrder (w : World) : Type 0 where
+  pub ascend : Ascends w.there
+  pub there : AllBelow w.given w.there
+  pub past : AllBelow w.given w.past

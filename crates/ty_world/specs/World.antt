@@ -1,5 +1,5 @@
 -- What a transcript makes of the database and of the connections.
-use Rattle.std.specs.Prelude.{◌≡◌, ℕ, suc, Bool, true, false, not, ◌&&◌, ◌||◌, List, [], ◌∷◌, ◌++◌, length, take, map, None, Ok, Err, nat_eq, nat_lt, if◌then◌else◌}
+use Rattle.std.specs.Prelude.{◌≡◌, ℕ, suc, Bool, true, false, not, ◌<◌, ◌≤◌, ◌&&◌, ◌||◌, List, [], ◌∷◌, ◌++◌, length, take, drop, map, None, Ok, Err, nat_eq, nat_lt, if◌then◌else◌}
 use Rattle.std.specs.List.{list_any, filter}
 pub use Rattle.tc_base.specs.Bytes.{IsBytes}
 use Rattle.tc_base.specs.declared.request.Request.{Request}
@@ -13,6 +13,7 @@ use Rattle.tc_io.specs.declared.wire.Sent.{Sent}
 use Rattle.tc_io.specs.declared.wire.Sent.TheVariants.{Took, NotYet, Gone}
 use Rattle.tc_io.specs.declared.wire.Entry.{Entry}
 use Rattle.tc_io.specs.declared.wire.Entry.TheVariants.{Open, Dial, Event, Send, Close}
+use Rattle.tc_io.specs.Lines.{given_after}
 use Rattle.ty_wire.specs.Reading.{request_at}
 use Rattle.ty_wire.specs.Spelling.{reply_bytes}
 use Rattle.tc_model.specs.Contents.{Contents, Walk}
@@ -35,25 +36,33 @@ pub record Client : Type 0 where
   -- its last send of this turn took not all
   pub stopped : Bool
 
+-- what a commit keeps: the contents, and the update log, which is file 2
+pub record Mark : Type 0 where
+  pub contents : Contents
+  pub log : List ℕ
+
 pub record World : Type 0 where
   pub contents : Contents
   pub walk : Walk
-  -- the contents at the marks, the newest first
-  pub marks : List Contents
+  -- no request changes it
+  pub log : List ℕ
+  -- the newest first
+  pub marks : List Mark
   -- client connections in ascending number, and those closed
   pub there : List Client
   pub past : List Client
   pub shut : Bool
   pub events : ℕ
   pub opens : List At
+  -- all numbers that were given are below it
+  pub given : ℕ
 
--- the database is opened, and nothing was asked for yet
-abbrev pub start : Contents → World
-start c = record { contents = c; walk = None; marks = c ∷ []; there = []; past = []; shut = false; events = 0; opens = [] }
+abbrev pub mark_of : World → Mark
+mark_of w = record { contents = w.contents; log = w.log }
 
--- and these were opened
-abbrev pub started : List At → Contents → World
-started opens c = record { contents = c; walk = None; marks = c ∷ []; there = []; past = []; shut = false; events = 0; opens = opens }
+-- the database is opened, these addresses were, and nothing was asked for yet
+abbrev pub started : List At → Mark → World
+started opens m = record { contents = m.contents; walk = None; log = m.log; marks = m ∷ []; there = []; past = []; shut = false; events = 0; opens = opens; given = 0 }
 
 -- ---- one connection
 
@@ -164,15 +173,17 @@ sent bytes Gone k = record k { stopped = true; gone = true }
 abbrev pub round_of : World → Ev → List ℕ → Round
 round_of w ev bytes = round_all w.contents w.walk (heard (map unstopped w.there) ev bytes)
 
-abbrev pub marked : Bool → Contents → List Contents → List Contents
-marked updated c marks = if updated then c ∷ marks else marks
+abbrev pub marked : Bool → Mark → List Mark → List Mark
+marked updated m marks = if updated then m ∷ marks else marks
+
+-- behind an event and its round
+abbrev pub with_round : World → Ev → Round → World
+with_round w ev r = record w { contents = r.contents; walk = r.walk; marks = marked r.updated (record { contents = r.contents; log = w.log }) w.marks; there = r.clients; shut = shut_after w.shut ev; events = suc w.events; given = given_after w.given ev }
 
 abbrev pub happens : World → Entry → World
 happens w (Open at) = record w { opens = w.opens ++ at ∷ [] }
 happens w (Dial host port answer) = w
-happens w (Event paused busy ev bytes) =
-    let r = round_of w ev bytes in
-    record { contents = r.contents; walk = r.walk; marks = marked r.updated r.contents w.marks; there = r.clients; past = w.past; shut = shut_after w.shut ev; events = suc w.events; opens = w.opens }
+happens w (Event paused busy ev bytes) = with_round w ev (round_of w ev bytes)
 happens w (Send c bytes answer) = record w { there = map (at_conn c (sent bytes answer)) w.there }
 happens w (Close c) = record w { there = filter (λ k. not (nat_eq k.conn c)) w.there; past = w.past ++ filter (λ k. nat_eq k.conn c) w.there }
 
@@ -188,17 +199,41 @@ should_pause w = map (λ k. k.conn) (filter waits w.there)
 abbrev pub is_some_waiting : World → Bool
 is_some_waiting w = list_any waits w.there
 
+-- a client that was sent neither all nor as much as it takes
+abbrev pub is_restless : Client → Bool
+is_restless k = not (is_rested k)
+
 -- the turn before it was brought to its end: all was offered, and all that is over was closed
 abbrev pub IsRested : World → Type 0
-IsRested w = (list_any (λ k. not (is_rested k)) w.there ≡ false) × (list_any is_over w.there ≡ false)
+IsRested w = (list_any is_restless w.there ≡ false) × (list_any is_over w.there ≡ false)
 
--- no connection is closed that isn't over, and an event is asked for with those that wait paused, busily where there are any
+-- a send: its client is the only one of that number and takes more; it is offered all that it is owed and wasn't sent; those before it rest
+pub record IsOffered (ks : List Client) (c : ℕ) (bytes : List ℕ) : Type 0 where
+  pub before : List Client
+  pub client : Client
+  pub behind : List Client
+  pub there : ks ≡ before ++ client ∷ behind
+  pub conn : client.conn ≡ c
+  pub alone : list_any (λ k. nat_eq k.conn c) (before ++ behind) ≡ false
+  pub here : client.gone ≡ false
+  pub going : client.stopped ≡ false
+  pub bytes_are : bytes ≡ drop (length client.out) client.owed
+  pub some : 0 < length bytes
+  pub rested : list_any is_restless before ≡ false
+
+-- a closing: its client is there and over, and all sends are done
+pub record IsClosed (ks : List Client) (c : ℕ) : Type 0 where
+  pub there : list_any (λ k. nat_eq k.conn c) ks ≡ true
+  pub over : list_any (λ k. nat_eq k.conn c && not (is_over k)) ks ≡ false
+  pub rested : list_any is_restless ks ≡ false
+
+-- nothing is dialled; an event is asked for with those that wait paused, busily where there are any; then come the sends, in ascending number, and the closings
 abbrev pub AsksRight : World → Entry → Type 0
 AsksRight w (Open at) = Unit {0}
-AsksRight w (Dial host port answer) = Unit {0}
+AsksRight w (Dial host port answer) = ⊥
 AsksRight w (Event paused busy ev bytes) = IsRested w × (paused ≡ should_pause w) × (busy ≡ is_some_waiting w) × (w.shut ≡ false)
-AsksRight w (Send c bytes answer) = Unit {0}
-AsksRight w (Close c) = list_any (λ k. nat_eq k.conn c && not (is_over k)) w.there ≡ false
+AsksRight w (Send c bytes answer) = IsOffered w.there c bytes
+AsksRight w (Close c) = IsClosed w.there c
 
 abbrev pub AllAsked : World → List Entry → Type 0
 AllAsked w [] = Unit {0}
@@ -206,18 +241,65 @@ AllAsked w (e ∷ es) = AsksRight w e × AllAsked (happens w e) es
 
 -- ---- what a wire may give
 
+-- a new number is above all that were given
+abbrev pub IsAbove : ℕ → Ev → Type 0
+IsAbove given (Opened c) = given ≤ c
+IsAbove given (Read c n) = Unit {0}
+IsAbove given (Ended c) = Unit {0}
+IsAbove given Quiet = Unit {0}
+IsAbove given Shut = Unit {0}
+
 -- what came is bytes, and no more events are to come only where nothing waits
-pub record Comes (busy : Bool) (ev : Ev) (bytes : List ℕ) : Type 0 where
+pub record Comes (given : ℕ) (busy : Bool) (ev : Ev) (bytes : List ℕ) : Type 0 where
   pub are_bytes : IsBytes bytes
   pub last : ev ≡ Shut → busy ≡ false
+  pub above : IsAbove given ev
 
-abbrev pub Came : Entry → Type 0
-Came (Open at) = Unit {0}
-Came (Dial host port answer) = Unit {0}
-Came (Event paused busy ev bytes) = Comes busy ev bytes
-Came (Send c bytes answer) = Unit {0}
-Came (Close c) = Unit {0}
+abbrev pub Came : World → Entry → Type 0
+Came w (Open at) = Unit {0}
+Came w (Dial host port answer) = Unit {0}
+Came w (Event paused busy ev bytes) = Comes w.given busy ev bytes
+Came w (Send c bytes answer) = Unit {0}
+Came w (Close c) = Unit {0}
 
-abbrev pub AllCame : List Entry → Type 0
-AllCame [] = Unit {0}
-AllCame (e ∷ es) = Came e × AllCame es
+abbrev pub AllCame : World → List Entry → Type 0
+AllCame w [] = Unit {0}
+AllCame w (e ∷ es) = Came w e × AllCame (happens w e) es
+
+-- ---- one turn
+
+-- a send to one of these, or a closing of one
+abbrev pub SendsTo : List ℕ → Entry → Type 0
+SendsTo conns (Open at) = ⊥
+SendsTo conns (Dial host port answer) = ⊥
+SendsTo conns (Event paused busy ev bytes) = ⊥
+SendsTo conns (Send c bytes answer) = list_any (nat_eq c) conns ≡ true
+SendsTo conns (Close c) = ⊥
+
+abbrev pub ClosesOne : List ℕ → Entry → Type 0
+ClosesOne conns (Open at) = ⊥
+ClosesOne conns (Dial host port answer) = ⊥
+ClosesOne conns (Event paused busy ev bytes) = ⊥
+ClosesOne conns (Send c bytes answer) = ⊥
+ClosesOne conns (Close c) = list_any (nat_eq c) conns ≡ true
+
+abbrev pub AllOf : (Entry → Type 0) → List Entry → Type 0
+AllOf P [] = Unit {0}
+AllOf P (e ∷ es) = P e × AllOf P es
+
+-- sends, and then closings, of these
+pub record AreFinishing (conns : List ℕ) (es : List Entry) : Type 0 where
+  pub sends : List Entry
+  pub closings : List Entry
+  pub parts : es ≡ sends ++ closings
+  pub are_sends : AllOf (SendsTo conns) sends
+  pub are_closings : AllOf (ClosesOne conns) closings
+
+-- whether the round of a turn has anything to commit
+abbrev pub commits_in : World → List Entry → Bool
+commits_in w [] = false
+commits_in w (Open at ∷ es) = false
+commits_in w (Dial host port answer ∷ es) = false
+commits_in w (Event paused busy ev bytes ∷ es) = (round_of w ev bytes).commits
+commits_in w (Send c bytes answer ∷ es) = false
+commits_in w (Close c ∷ es) = false

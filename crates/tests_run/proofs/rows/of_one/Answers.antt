@@ -11,11 +11,11 @@ use Rattle.tc_model.specs.Maps.{Map}
 use Rattle.tc_model.specs.Contents.{with_map}
 use Rattle.tc_model.specs.Apply.{apply, read}
 use Rattle.ty_world.specs.World.{round_one, owed_for}
-use Rattle.tk_top.specs.Serving.{no_keys}
+use Rattle.tk_top.specs.Top.{no_keys}
 use Rattle.tests_run.proofs.rows.of_one.Goals as goal
 
 answer : Map → List ℕ → Option (List ℕ) → List ℕ
-answer m key o = owed_for (Get key) (read (Get key) (option_map (λ value. reply.Value value) o) (with_map no_keys m) None)
+answer m key o = owed_for (Get key) (read (Get key) (option_map (λ value. reply.Value value) o) (with_map no_keys.contents m) None)
 
 pub returns-clause-get_alone : goal.returns-clause-get_alone
 unfolding apply round_one request_at fields_at spelling answer

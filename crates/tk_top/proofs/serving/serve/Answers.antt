@@ -1,61 +1,57 @@
-use Rattle.std.proofs.Common.{arith, rules, ◌≡◌}
+use Rattle.std.proofs.Common.{arith, rules, ◌≡◌, ◌∙◌, subst, sym}
+use Rattle.tc_space.specs.Effects.{follows_then, follows_refl}
 use Rattle.ty_rounds.specs.declared.outcome.Outcome.TheVariants.{Went, Shut}
-use Rattle.ty_rounds.specs.declared.outcome.TurnErr.TheVariants.{Volume, Full, Wire, Memory}
-use Rattle.tk_top.proofs.Running.{run_start, run_more, run_shut, run_wire, run_volume, run_full, run_memory, run_spent, not_spent, at_ok, at_err, none_wired}
+use Rattle.ty_rounds.specs.declared.outcome.TurnErr.TheVariants as turn
+use Rattle.tk_top.specs.Causes.{Caused}
+use Rattle.tk_top.specs.Ends.{IsEnd}
+use Rattle.tk_top.specs.Runs.{Ends}
+use Rattle.tk_top.proofs.Causes.{caused_turn, full_turn, is_end_turn}
+use Rattle.tk_top.proofs.Running.{run_err, run_fills, run_more, run_shut, run_spent, run_start, turn_is}
 use Rattle.tk_top.proofs.serving.serve.Goals as goal
 
 pub loop-done-init : goal.loop-done-init
-loop-done-init g c = let s = g.B.S.Space in record {
-  opened = c.requires.opened;
-  wired = none_wired _ _ c.requires.conns c.requires.peers;
-  sound = c.requires.sound;
-  untouched = c.requires.untouched;
-  is_of = c.requires.is_of;
-  kept = c.requires.kept;
-  told = run_start s.tells s.moment s.left g.B.Base.reopens _ _ _ _ _ _ c.requires.walk c.requires.peers;
+loop-done-init g c = let s = g.B.S.Space in let w = g.W.Wire in record {
+  ready = c.requires.ready;
+  told = run_start s w g.B.Base.holds g.B.Base.reopens _ _ _ _ _ c.requires.walk c.requires.peers;
   later_wire = omega arith;
-  later_space = omega arith;
+  follows = follows_refl s.faults s.limit s.names c.args.space.now;
 }
 
 pub loop-done-preserved : goal.loop-done-preserved
-loop-done-preserved g c = let s = g.B.S.Space in record {
-  opened = c.in-Ok-Went.ensures.opened;
-  wired = c.in-Ok-Went.ensures.wired;
-  sound = c.in-Ok-Went.ensures.sound;
-  untouched = c.in-Ok-Went.ensures.untouched;
-  is_of = c.in-Ok-Went.ensures.is_of_still;
-  kept = c.in-Ok-Went.ensures.kept;
-  told = run_more s.tells s.moment s.left g.B.Base.reopens _ _ _ _ _ _ _ c.loop-done.space _ _ _ _ _ _ c.loop-done.server.peers.items _ _ c.loop-done.invariant.told (at_ok s.tells s.moment s.left g.B.Base.reopens _ _ _ _ _ _ _ _ _ _ _ _ c.in-Ok-Went.field-0 Went c.in-Ok-Went.field-0-is c.in-Ok-Went.ensures.told);
+loop-done-preserved g c = let s = g.B.S.Space in let w = g.W.Wire in record {
+  ready = c.in-Ok.ensures.ready;
+  told = run_more s w g.B.Base.holds g.B.Base.reopens _ _ _ _ _ _ _ _ _ _ _ _ _ _ c.loop-done.invariant.told (turn_is s w g.B.Base.holds g.B.Base.reopens _ _ _ _ _ _ _ _ _ _ c.in-Ok.outcome Went c.in-Went.is c.in-Ok.ensures.told);
   later_wire = omega (arith, c.loop-done.invariant.later_wire, c.turn.ensures.later_wire);
-  later_space = omega (arith, c.loop-done.invariant.later_space, c.turn.ensures.later_space);
+  follows = follows_then s.faults s.limit s.names c.args.space.now c.loop-done.space c.turn.new.space c.loop-done.invariant.follows c.turn.ensures.follows;
 }
 
-pub returns-in-Ok-Shut-clause-told : goal.returns-in-Ok-Shut-clause-told
-returns-in-Ok-Shut-clause-told g c = let s = g.B.S.Space in
-    run_shut s.tells s.moment s.left g.B.Base.reopens s.kept _ _ _ _ _ _ _ c.loop-done.space c.turn.new.space _ _ _ _ _ c.loop-done.server.peers.items _ _ _ (λ o t l. g.met.B.S.Space.only_kept c.turn.new.space o t c.in-Ok-Shut.ensures.sound l) c.in-Ok-Shut.ensures.kept c.loop-done.invariant.told (at_ok s.tells s.moment s.left g.B.Base.reopens _ _ _ _ _ _ _ _ _ _ _ _ c.in-Ok-Shut.field-0 Shut c.in-Ok-Shut.field-0-is c.in-Ok-Shut.ensures.told)
+pub returns-in-Shut-clause-told : goal.returns-in-Shut-clause-told
+returns-in-Shut-clause-told g c = let s = g.B.S.Space in let w = g.W.Wire in let ready = c.in-Ok.ensures.ready in
+    run_shut s w g.B.Base.holds g.B.Base.reopens _ _ _ _ _ _ _ _ _ _ _ _ _ _ _
+    (λ t. (λ o l. g.met.B.S.Space.only_kept c.turn.new.space o t ready.base_is.sound l, g.met.B.S.Space.clean c.turn.new.space t ready.base_is.sound ready.untouched))
+    c.loop-done.invariant.ready.wired c.loop-done.invariant.told (turn_is s w g.B.Base.holds g.B.Base.reopens _ _ _ _ _ _ _ _ _ _ c.in-Ok.outcome Shut c.in-Shut.is c.in-Ok.ensures.told)
+
+pub returns-in-Err-clause-told : goal.returns-in-Err-clause-told
+returns-in-Err-clause-told g c = let s = g.B.S.Space in let w = g.W.Wire in
+    subst (λ end. Ends s w g.B.Base.holds g.B.Base.reopens end c.args.turns c.args.server.now.base c.args.space.now c.turn.new.space c.args.wire.now c.turn.new.wire) (sym c.from.ensures)
+    (run_err s w g.B.Base.holds g.B.Base.reopens _ _ _ _ _ _ _ _ _ _ _ _ _ _ _ c.in-Err.e c.loop-done.invariant.ready.wired c.loop-done.invariant.told c.in-Err.ensures.told)
+
+pub returns-in-Err-clause-full : goal.returns-in-Err-clause-full
+returns-in-Err-clause-full g c = λ is opens. let s = g.B.S.Space in let w = g.W.Wire in
+    let e : c.in-Err.e ≡ turn.Full = full_turn c.in-Err.e (sym c.from.ensures ∙ is) in
+    run_fills s w g.B.Base.holds g.B.Base.reopens (g.B.Base.fills c.turn.new.space) _ _ _ _ _ _ _ _ _ _ opens c.loop-done.invariant.told (c.in-Err.ensures.full (search (rules)))
+
+pub returns-in-Err-clause-caused : goal.returns-in-Err-clause-caused
+returns-in-Err-clause-caused g c = let s = g.B.S.Space in let w = g.W.Wire in
+    subst (λ end. Caused end (s.faults c.args.space.now) (s.faults c.turn.new.space) (w.faults c.args.wire.now) (w.faults c.turn.new.wire)) (sym c.from.ensures)
+    (caused_turn c.in-Err.e _ _ _ _ _ _ c.loop-done.invariant.follows.later c.loop-done.invariant.later_wire (λ is. c.in-Err.ensures.cause_space (search rules)) (λ is. c.in-Err.ensures.cause_wire (search rules)))
+
+pub returns-in-Err-clause-ends : goal.returns-in-Err-clause-ends
+returns-in-Err-clause-ends g c = subst IsEnd (sym c.from.ensures) (is_end_turn c.in-Err.e)
 
 pub returns-clause-told : goal.returns-clause-told
-returns-clause-told g c = let s = g.B.S.Space in
+returns-clause-told g c = let s = g.B.S.Space in let w = g.W.Wire in let ready = c.loop-done.invariant.ready in
     let all : c.loop-done.done ≡ c.args.turns = search rules in
-    run_spent s.tells s.moment s.left g.B.Base.reopens s.kept _ _ _ _ _ c.loop-done.space _ _ _ c.loop-done.server.peers.items c.loop-done.done _ all (λ o t l. g.met.B.S.Space.only_kept c.loop-done.space o t c.loop-done.invariant.sound l) c.loop-done.invariant.kept c.loop-done.invariant.told
-
-pub returns-clause-complete : goal.returns-clause-complete
-returns-clause-complete g c = λ t acts given is enough same. let s = g.B.S.Space in
-    let all : c.loop-done.done ≡ c.args.turns = search rules in
-    not_spent s.tells s.moment s.left g.B.Base.reopens _ _ _ _ _ c.loop-done.space _ _ _ c.loop-done.server.peers.items c.loop-done.done _ acts given all t is enough c.loop-done.invariant.told
-
-pub returns-in-Err-Wire-clause-told : goal.returns-in-Err-Wire-clause-told
-returns-in-Err-Wire-clause-told g c = let s = g.B.S.Space in
-    run_wire s.tells s.moment s.left g.B.Base.reopens _ _ _ _ _ _ _ c.loop-done.space c.turn.new.space _ _ _ _ _ c.loop-done.server.peers.items _ _ _ c.loop-done.invariant.told (at_err s.tells s.moment s.left g.B.Base.reopens _ _ _ _ _ _ _ _ _ _ _ _ c.in-Err-Wire.field-0 Wire c.in-Err-Wire.field-0-is c.in-Err-Wire.ensures.told)
-
-pub returns-in-Err-Volume-clause-told : goal.returns-in-Err-Volume-clause-told
-returns-in-Err-Volume-clause-told g c = let s = g.B.S.Space in
-    run_volume s.tells s.moment s.left g.B.Base.reopens _ _ _ _ _ _ _ c.loop-done.space c.turn.new.space _ _ _ _ _ c.loop-done.server.peers.items _ _ _ c.loop-done.invariant.told (at_err s.tells s.moment s.left g.B.Base.reopens _ _ _ _ _ _ _ _ _ _ _ _ c.in-Err-Volume.field-0 Volume c.in-Err-Volume.field-0-is c.in-Err-Volume.ensures.told)
-
-pub returns-in-Err-Full-clause-told : goal.returns-in-Err-Full-clause-told
-returns-in-Err-Full-clause-told g c = let s = g.B.S.Space in
-    run_full s.tells s.moment s.left g.B.Base.reopens _ _ _ _ _ _ _ c.loop-done.space c.turn.new.space _ _ _ _ _ c.loop-done.server.peers.items _ _ _ c.loop-done.invariant.told (at_err s.tells s.moment s.left g.B.Base.reopens _ _ _ _ _ _ _ _ _ _ _ _ c.in-Err-Full.field-0 Full c.in-Err-Full.field-0-is c.in-Err-Full.ensures.told)
-
-pub returns-in-Err-Memory-clause-told : goal.returns-in-Err-Memory-clause-told
-returns-in-Err-Memory-clause-told g c = let s = g.B.S.Space in
-    run_memory s.tells s.moment s.left g.B.Base.reopens _ _ _ _ _ _ _ c.loop-done.space c.turn.new.space _ _ _ _ _ c.loop-done.server.peers.items _ _ _ c.loop-done.invariant.told (at_err s.tells s.moment s.left g.B.Base.reopens _ _ _ _ _ _ _ _ _ _ _ _ c.in-Err-Memory.field-0 Memory c.in-Err-Memory.field-0-is c.in-Err-Memory.ensures.told)
+    run_spent s w g.B.Base.holds g.B.Base.reopens _ _ _ _ _ _ _ _ c.loop-done.done c.args.turns all
+    (λ t. (λ o l. g.met.B.S.Space.only_kept c.loop-done.space o t ready.base_is.sound l, g.met.B.S.Space.clean c.loop-done.space t ready.base_is.sound ready.untouched))
+    c.loop-done.invariant.told

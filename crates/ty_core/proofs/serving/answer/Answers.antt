@@ -1,17 +1,31 @@
 use Rattle.std.proofs.Common.{sym, ap, ◌∙◌, subst}
-use Rattle.std.specs.Prelude.{◌++◌, IfOk}
+use Rattle.std.specs.Prelude.{[], ◌++◌}
+use Rattle.std.proofs.lemmas.List.{append-nil}
 use Rattle.tc_base.specs.declared.request.Reply.{Reply}
 use Rattle.ty_wire.specs.Spelling.{reply_bytes}
 use Rattle.tc_model.specs.Apply.{Step}
-use Rattle.tc_model.specs.Applying.{Applies}
 use Rattle.tc_model.proofs.Updating.{apply_same}
+use Rattle.ty_base.specs.Holding.{Serves, leaves_nothing}
 use Rattle.ty_core.proofs.Fronts.{refused_applies}
 use Rattle.ty_core.proofs.serving.answer.Goals as goal
 
-pub returns-then-is_refused-clause-applied : goal.returns-then-is_refused-clause-applied
-returns-then-is_refused-clause-applied g c = λ t. refused_applies c.args.replica c.args.request _ _ _ _ (sym c.is_refused.ensures ∙ c.if-is_refused.true) (c.in_ok-write_reply.ensures.ok ∙ ap (λ (a : Reply). c.args.reply.now ++ reply_bytes a) c.refusal.ensures)
+pub returns-then-if_updating-clause-applied : goal.returns-then-if_updating-clause-applied
+returns-then-if_updating-clause-applied g c = λ d h. record {
+  contents = d;
+  holds = h;
+  applies = refused_applies c.args.replica c.args.request d _ _ _ (sym c.if_updating.ensures ∙ c.if-if_updating.true) (c.in_ok-write_reply.ensures.ok ∙ ap (λ (a : Reply). c.args.reply.now ++ reply_bytes a) c.refusal.ensures);
+}
 
-pub returns-clause-applied : goal.returns-clause-applied
-returns-clause-applied g c =
-    subst (λ (s : Step). IfOk c.apply.result (λ a. g.B.S.Space.tells → Applies s c.args.request a (g.B.Base.contents c.apply.new.self) c.apply.new.walk c.args.reply.now c.apply.new.reply))
-    (sym (apply_same c.args.replica c.args.request (g.B.Base.contents c.args.base.now) c.args.walk.now (sym c.is_refused.ensures ∙ c.if-is_refused.false))) c.apply.ensures.applied
+pub returns-then-if_updating-clause-leaves : goal.returns-then-if_updating-clause-leaves
+returns-then-if_updating-clause-leaves g c = leaves_nothing g.B.S.Space _ c.args.space.now c.requires.ready.sound
+
+pub returns-in-Ok-clause-applied : goal.returns-in-Ok-clause-applied
+returns-in-Ok-clause-applied g c = λ d h.
+    subst (λ (s : Step). Serves g.B.S.Space g.B.Base.holds s c.args.request c.in-Ok.applied c.apply.new.self c.apply.new.space c.apply.new.walk c.args.reply.now c.apply.new.reply) (sym (apply_same c.args.replica c.args.request d c.args.walk.now (sym c.if_updating.ensures ∙ c.if-if_updating.false))) (c.in-Ok.ensures.applied d h)
+
+pub returns-in-Err-clause-full : goal.returns-in-Err-clause-full
+returns-in-Err-clause-full g c = λ is d h.
+    subst (λ (s : Step). g.B.Base.fills c.apply.new.space d s.contents) (sym (apply_same c.args.replica c.args.request d c.args.walk.now (sym c.if_updating.ensures ∙ c.if-if_updating.false))) (c.in-Err.ensures.full is d h)
+
+pub returns-in_err-write_reply-clause-reply_front : goal.returns-in_err-write_reply-clause-reply_front
+returns-in_err-write_reply-clause-reply_front g c = ([], c.in_err-write_reply.ensures.err ∙ sym (append-nil c.args.reply.now))

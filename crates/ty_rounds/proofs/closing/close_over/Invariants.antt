@@ -1,13 +1,21 @@
-use Rattle.std.proofs.Common.{◌≡◌, ◌≤◌, ◌-◌, true, length}
+use Rattle.std.proofs.Common.{◌≡◌, ◌≤◌, ◌-◌, ℕ, true, length}
+use Rattle.tc_io.specs.Lines.{has}
 use Rattle.ty_rounds.specs.Holding.{Wired}
+use Rattle.ty_rounds.specs.Ready.{Each, IsCalm, StayFew}
 use Rattle.ty_rounds.specs.Closings.{ClosesFront}
+use Rattle.ty_rounds.proofs.ClosingLaws.{FrontClear}
 use Rattle.ty_rounds.proofs.closing.close_over.Given as goal
 
 abbrev pub invariant-loop-i : goal.invariant-loop-i
 invariant-loop-i g l = let wire = g.W.Wire in record {
   opened : wire.opened l.wire ≡ true;
+  fewer : (c : ℕ) → has (wire.conns l.wire) c ≡ true → has (wire.conns l.fn.wire) c ≡ true;
+  given : wire.given l.wire ≡ wire.given l.fn.wire;
   wired : Wired (wire.conns l.wire) l.peers.items;
-  told : ClosesFront (wire.transcript l.fn.wire) (wire.transcript l.wire) (wire.plays l.fn.wire) (wire.plays l.wire) l.fn.peers.items l.peers.items l.i;
+  told : ClosesFront g.W.Wire l.fn.wire l.wire l.fn.peers.items l.peers.items l.i;
+  clear : FrontClear l.peers.items l.i;
+  calm : Each IsCalm l.peers.items;
+  few : StayFew l.fn.peers.items l.peers.items;
   within : l.i ≤ length l.peers.items;
   faults : wire.faults l.fn.wire ≤ wire.faults l.wire;
 }

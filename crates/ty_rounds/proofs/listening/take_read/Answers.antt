@@ -1,7 +1,11 @@
+use Rattle.std.proofs.Common.{true}
 use Rattle.std.proofs.Common.{rules, refl, ◌<◌, length}
 use Rattle.ty_world.specs.World.{with_read}
 use Rattle.ty_rounds.proofs.Places.{others_hold, set_holds, none_there, found_there}
 use Rattle.ty_rounds.proofs.ServingLaws.{numbers_kept}
+use Rattle.std.proofs.Common.{ap, true}
+use Rattle.ty_core.specs.Queues.{Queue}
+use Rattle.ty_rounds.proofs.Few.{few_refl, few_read, calm_set}
 use Rattle.ty_rounds.proofs.Hearing.{reads}
 use Rattle.ty_rounds.proofs.listening.take_read.Goals as goal
 
@@ -15,7 +19,18 @@ pub returns-clause-heard : goal.returns-clause-heard
 returns-clause-heard c = λ ks a.
     let there = found_there c.deref.result.now c.args.peers.now.items c.in-Some.i c.args.conn c.deref.ensures.value c.in-Some.ensures.found in
     let at = there.at c.index_mut-p.result.now (search rules) in
-    set_holds c.args.conn (with_read c.args.bytes.now) c.args.peers.now.items ks c.in-Some.i c.index_mut-p.result.now (record c.index_mut-p.result.now { session = c.push.new.self }) c.requires there.below (search rules) at (λ k h. reads c.index_mut-p.result.now (record c.index_mut-p.result.now { session = c.push.new.self }) c.args.bytes.now k c.in_ok-push.ensures.ok refl refl refl refl h) a
+    set_holds c.args.conn (with_read c.args.bytes.now) c.args.peers.now.items ks c.in-Some.i c.index_mut-p.result.now (record c.index_mut-p.result.now { session = c.push.new.self; stirs = true }) c.requires there.below (search rules) at (λ k h. reads c.index_mut-p.result.now (record c.index_mut-p.result.now { session = c.push.new.self; stirs = true }) c.args.bytes.now k c.in_ok-push.ensures.ok refl refl refl refl h) a
 
 pub returns-clause-numbers : goal.returns-clause-numbers
-returns-clause-numbers c = numbers_kept c.args.peers.now.items c.in-Some.i c.index_mut-p.result.now (record c.index_mut-p.result.now { session = c.push.new.self }) (found_there c.deref.result.now c.args.peers.now.items c.in-Some.i c.args.conn c.deref.ensures.value c.in-Some.ensures.found).below (search rules) refl
+returns-clause-numbers c = numbers_kept c.args.peers.now.items c.in-Some.i c.index_mut-p.result.now (record c.index_mut-p.result.now { session = c.push.new.self; stirs = true }) (found_there c.deref.result.now c.args.peers.now.items c.in-Some.i c.args.conn c.deref.ensures.value c.in-Some.ensures.found).below (search rules) refl
+
+pub returns-in_default-clause-few : goal.returns-in_default-clause-few
+returns-in_default-clause-few c = λ idle none long. few_refl _
+
+pub returns-clause-few : goal.returns-clause-few
+returns-clause-few c = λ idle none long.
+    let there = found_there c.deref.result.now c.args.peers.now.items c.in-Some.i c.args.conn c.deref.ensures.value c.in-Some.ensures.found in
+    few_read c.args.peers.now.items c.in-Some.i c.args.conn c.index_mut-p.result.now (record c.index_mut-p.result.now { session = c.push.new.self; stirs = true }) c.look-front.result c.args.bytes.now there.below (search rules) (there.at c.index_mut-p.result.now (search rules)) c.look-front.ensures.grammar c.look-front.ensures.reading idle none long (ap (λ (z : Queue). z.unread) c.in_ok-push.ensures.ok) (ap (λ (z : Queue). z.waiting) c.in_ok-push.ensures.ok)
+
+pub returns-clause-calm : goal.returns-clause-calm
+returns-clause-calm c = λ h. calm_set c.args.peers.now.items c.in-Some.i (record c.index_mut-p.result.now { session = c.push.new.self; stirs = true }) refl h

@@ -1,33 +1,54 @@
-use Rattle.std.proofs.Common.{arith, rules, refl, ◌≡◌, ◌∙◌, sym}
+use Rattle.std.proofs.Common.{rules, refl, ◌≡◌, ◌∙◌, false}
 use Rattle.std.specs.Prelude.{◌||◌}
-use Rattle.std.proofs.lemmas.Bool.{or_parts}
-use Rattle.tc_space.specs.Moments.{steady_then, steady_refl}
-use Rattle.ty_rounds.proofs.ServingLaws.{begin, more_is, numbers_kept}
+use Rattle.tc_space.specs.Frames.{keeps_then, keeps_refl}
+use Rattle.ty_base.specs.Holding.{leaves_nothing}
+use Rattle.ty_rounds.specs.Ready.{FewUnread, FewWaiting, IsCalm}
+use Rattle.ty_rounds.proofs.Few.{each_at, each_set}
+use Rattle.ty_rounds.proofs.ServingLaws.{begin, fills_at, more_is, finish, numbers_kept, leaves_then}
 use Rattle.ty_rounds.proofs.rounds.round_of_all.Goals as goal
 
 pub loop-i-init : goal.loop-i-init
-loop-i-init g c = let s = g.B.S.Space in record {
+loop-i-init g c = record {
   numbers = refl;
-  round = λ t ks a. begin _ _ _ ks a;
-  writes = λ e. refl;
-  steady = λ t. steady_refl s.moment s.left s.kept c.args.space.now;
-  sound = c.requires.sound;
-  is_of = c.requires.is_of;
-  later = omega arith;
+  unread = λ h. h;
+  waiting = λ t h. h;
+  calm = c.requires.calm;
+  round = λ d h ks a. begin _ d _ _ ks h a;
+  ready = c.requires.ready;
+  leaves = leaves_nothing g.B.S.Space (false ≡ false) c.args.space.now c.requires.ready.sound;
+  keeps = keeps_refl g.B.S.Space c.args.space.now;
 }
-
-pub returns-in_err-one-clause-numbers : goal.returns-in_err-one-clause-numbers
-returns-in_err-one-clause-numbers g c = numbers_kept _ _ c.index_mut-p.result.now _ (search rules) (search rules) c.serve_one.ensures.conn ∙ c.loop-i.invariant.numbers
 
 pub loop-i-preserved : goal.loop-i-preserved
 loop-i-preserved g c = let s = g.B.S.Space in
-    let is : c.if-commits.commits ≡ (c.loop-i.commits || c.in_ok-one.one) = search rules in
+    let is : c.if-commits.commits ≡ (c.loop-i.commits || c.in-Ok.one) = search rules in
+    let one = c.in-Ok.ensures.served in
+    let i = c.loop-i.invariant in
     record {
-      numbers = numbers_kept _ _ c.index_mut-p.result.now _ (search rules) (search rules) c.serve_one.ensures.conn ∙ c.loop-i.invariant.numbers;
-      round = λ t ks a. more_is _ c.loop-i.commits c.in_ok-one.one _ _ _ _ _ _ _ _ ks _ c.index_mut-p.result.now c.serve_one.new.p is (c.loop-i.invariant.round t ks a) (search rules) (search rules) (c.in_ok-one.ensures.served t);
-      writes = λ e. let n = or_parts c.loop-i.commits c.in_ok-one.one (sym is ∙ e) in c.in_ok-one.ensures.writes n.1 ∙ c.loop-i.invariant.writes n.0;
-      steady = λ t. steady_then s.moment s.left s.kept c.args.space.now c.loop-i.space c.serve_one.new.space (c.loop-i.invariant.steady t) (c.serve_one.ensures.steady t);
-      sound = c.in_ok-one.ensures.sound;
-      is_of = c.in_ok-one.ensures.is_of_still;
-      later = omega (arith, c.loop-i.invariant.later, c.serve_one.ensures.later);
+      numbers = numbers_kept _ _ c.index_mut-p.result.now _ (search rules) (search rules) one.conn ∙ i.numbers;
+      unread = λ h. let few = i.unread h in each_set FewUnread _ _ _ (one.unread (each_at FewUnread _ c.loop-i.i c.index_mut-p.result.now (search rules) (search rules) few)) few;
+      waiting = λ t h. let few = i.waiting t h in each_set FewWaiting _ _ _ (one.waiting t (each_at FewWaiting _ c.loop-i.i c.index_mut-p.result.now (search rules) (search rules) few)) few;
+      calm = each_set IsCalm _ _ _ one.calm i.calm;
+      round = λ d h ks a. more_is _ c.loop-i.commits c.in-Ok.one d _ _ _ _ _ _ _ ks _ c.index_mut-p.result.now c.serve_one.new.p is (i.round d h ks a) (search rules) (search rules) one.each;
+      ready = one.ready;
+      leaves = leaves_then s _ c.loop-i.commits c.in-Ok.one _ c.loop-i.space _ is i.leaves one.leaves;
+      keeps = keeps_then s c.args.space.now c.loop-i.space c.serve_one.new.space i.keeps c.serve_one.ensures.keeps;
     }
+
+pub returns-clause-rounds : goal.returns-clause-rounds
+returns-clause-rounds g c = let i = c.loop-i.invariant in record {
+  numbers = i.numbers;
+  unread = i.unread;
+  waiting = i.waiting;
+  calm = i.calm;
+  each = λ d h ks a. finish _ d _ _ _ _ _ ks _ (i.round d h ks a) (search rules);
+  ready = i.ready;
+  leaves = i.leaves;
+}
+
+pub returns-in-Err-clause-full : goal.returns-in-Err-clause-full
+returns-in-Err-clause-full g c = λ is d h ks a.
+    fills_at (g.B.Base.fills c.serve_one.new.space) _ d _ _ c.loop-i.walk _ _ ks _ c.index_mut-p.result.now (c.loop-i.invariant.round d h ks a) (search rules) (search rules) (c.in-Err.ensures.full (search rules))
+
+pub serve_one-requires-clause-calm : goal.serve_one-requires-clause-calm
+serve_one-requires-clause-calm g c = each_at IsCalm _ c.loop-i.i c.index_mut-p.result.now (search rules) (search rules) c.loop-i.invariant.calm

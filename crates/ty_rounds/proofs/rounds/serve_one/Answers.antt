@@ -1,15 +1,66 @@
-use Rattle.std.proofs.Common.{rules, refl}
-use Rattle.ty_rounds.proofs.ServingLaws.{gone_idle, waits_idle, none_idle, one_served}
+use Rattle.std.proofs.Common.{rules, refl, sym, subst, false, ◌≡◌, ◌∙◌}
+use Rattle.tc_model.specs.Contents.{Contents}
+use Rattle.ty_base.specs.Holding.{leaves_nothing}
+use Rattle.ty_rounds.proofs.Few.{calm_stirs, quiet_none}
+use Rattle.ty_rounds.proofs.ServingLaws.{one_contents, gone_idle, waits_idle, none_idle, one_served, still_ready, fewer_unread, few_waiting}
 use Rattle.ty_rounds.proofs.rounds.serve_one.Goals as goal
 
+pub returns-then-not-p-clause-served : goal.returns-then-not-p-clause-served
+returns-then-not-p-clause-served g c = record {
+  conn = refl;
+  unread = λ h. h;
+  waiting = λ t h. h;
+  calm = c.requires.calm;
+  each = λ d h. none_idle _ d _ c.args.p.now _ h refl (quiet_none c.args.p.now (c.requires.calm (search rules)));
+  ready = c.requires.ready;
+  leaves = leaves_nothing g.B.S.Space (false ≡ false) c.args.space.now c.requires.ready.sound;
+}
+
 pub returns-then-p-clause-served : goal.returns-then-p-clause-served
-returns-then-p-clause-served g c = λ t. gone_idle _ _ _ (search rules)
+returns-then-p-clause-served g c = record {
+  conn = refl;
+  unread = λ h. h;
+  waiting = λ t h. h;
+  calm = c.requires.calm;
+  each = λ d h. gone_idle _ d _ _ h (search rules);
+  ready = c.requires.ready;
+  leaves = leaves_nothing g.B.S.Space (false ≡ false) c.args.space.now c.requires.ready.sound;
+}
 
 pub returns-then-not-all_taken-clause-served : goal.returns-then-not-all_taken-clause-served
-returns-then-not-all_taken-clause-served g c = λ t. waits_idle _ _ c.args.p.now _ refl (search rules)
+returns-then-not-all_taken-clause-served g c = record {
+  conn = refl;
+  unread = λ h. h;
+  waiting = λ t h. h;
+  calm = c.requires.calm;
+  each = λ d h. waits_idle _ d _ c.args.p.now _ h refl (search rules);
+  ready = c.requires.ready;
+  leaves = leaves_nothing g.B.S.Space (false ≡ false) c.args.space.now c.requires.ready.sound;
+}
 
 pub returns-then-not-has_whole-clause-served : goal.returns-then-not-has_whole-clause-served
-returns-then-not-has_whole-clause-served g c = λ t. none_idle _ _ c.args.p.now _ refl (search rules)
+returns-then-not-has_whole-clause-served g c = record {
+  conn = refl;
+  unread = λ h. h;
+  waiting = λ t h. h;
+  calm = c.requires.calm;
+  each = λ d h. none_idle _ d _ c.args.p.now _ h refl (search rules);
+  ready = c.requires.ready;
+  leaves = leaves_nothing g.B.S.Space (false ≡ false) c.args.space.now c.requires.ready.sound;
+}
 
 pub returns-clause-served : goal.returns-clause-served
-returns-clause-served g c = λ t. let s = c.in_ok-served.ensures.served in one_served _ _ _ _ c.args.p.now c.owe_repl.new.p c.serve.new.self s.0 c.in_ok-served.served (search rules) (search rules) s.1 (s.2 t) (c.in_ok-owe_repl.ensures.owes s.0 s.1.feeds)
+returns-clause-served g c = let s = c.in-Ok.ensures.served in let o = c.in_ok-owe_repl.ensures.owes s.request s.takes.feeds in record {
+  conn = o.conn;
+  unread = fewer_unread c.args.p.now c.owe_repl.new.p c.serve.new.self s.request c.in-Ok.served s.takes o;
+  waiting = few_waiting g.B.S.Space g.B.Base.holds c.in-Ok.served _ _ _ _ _ _ c.args.p.now c.owe_repl.new.p c.serve.new.self c.requires.ready s (search rules) o;
+  calm = calm_stirs c.owe_repl.new.p (o.stirs ∙ search rules);
+  each = λ d h. let x = s.serves d h in one_served _ d x.0 _ _ c.args.p.now c.owe_repl.new.p c.serve.new.self s.request c.in-Ok.served (search rules) (search rules) s.takes x.2 o x.1;
+  ready = still_ready g.B.S.Space g.B.Base.holds false c.in-Ok.served _ _ _ _ _ _ _ _ _ _ _ c.requires.ready s c.in-Ok.ensures.leaves;
+  leaves = c.in-Ok.ensures.leaves;
+}
+
+pub returns-in-Err-clause-full : goal.returns-in-Err-clause-full
+returns-in-Err-clause-full g c = λ is d h k held.
+    let x = c.in-Err.ensures.full (search rules) in
+    subst (λ (e : Contents). g.B.Base.fills c.serve.new.space d e) (sym (one_contents d c.args.walk.now c.args.p.now k x.request x.begins.rest (search rules) (search rules) x.begins.front held)) (x.full d h)

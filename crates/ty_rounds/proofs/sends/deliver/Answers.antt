@@ -1,21 +1,22 @@
-use Rattle.std.proofs.Common.{arith, refl, ◌∙◌, true}
-use Rattle.ty_rounds.proofs.SendLaws.{took_by, not_now_by, gone_by, stops_not_yet, stops_gone, one_more, rests_stopped}
+use Rattle.std.proofs.Common.{rules, refl}
+use Rattle.ty_rounds.proofs.Few.{few_refl, few_same, calm_settled, quiet_taken}
+use Rattle.ty_rounds.proofs.SendLaws.{nothing_sent, rests_sent, settles}
 use Rattle.ty_rounds.proofs.sends.deliver.Goals as goal
 
-pub loop-wire-preserved : goal.loop-wire-preserved
-loop-wire-preserved g c = record {
-  opened = c.send.ensures.opened;
-  conns = c.send.ensures.conns ∙ c.loop-wire.invariant.conns;
-  conn = c.loop-wire.invariant.conn;
-  told = one_more _ _ _ _ _ _ c.args.p.now c.loop-wire.p (record c.loop-wire.p { session = c.taken.new.self }) c.waiting.result.now c.in_ok-n.field-0 c.loop-wire.invariant.told c.loop-wire.invariant.conn c.in_ok-n.ensures.told c.in_ok-n.ensures.plays
-      (λ k h. took_by c.loop-wire.p (record c.loop-wire.p { session = c.taken.new.self }) c.in-Took.n c.waiting.result.now c.in_ok-n.field-0 k c.in-Took.is c.waiting.ensures c.taken.ensures refl refl refl refl h);
-  faults = omega (arith, c.send.ensures.cause.later, c.loop-wire.invariant.faults);
-}
+pub returns-then-not-p-clause-wire_stays : goal.returns-then-not-p-clause-wire_stays
+returns-then-not-p-clause-wire_stays g c = record { opened = c.requires.opened; conns = refl; given = refl }
 
-pub returns-in-NotYet-clause-told : goal.returns-in-NotYet-clause-told
-returns-in-NotYet-clause-told g c = rests_stopped _ _ _ _ _ _ c.args.p.now c.loop-wire.p c.loop-wire.p c.waiting.result.now c.in_ok-n.field-0 c.loop-wire.invariant.told c.loop-wire.invariant.conn c.in_ok-n.ensures.told c.in_ok-n.ensures.plays
-    (λ k h. not_now_by c.loop-wire.p c.waiting.result.now c.in_ok-n.field-0 k c.in-NotYet.is h) (λ k. stops_not_yet c.waiting.result.now c.in_ok-n.field-0 k c.in-NotYet.is)
+pub returns-then-not-p-clause-told : goal.returns-then-not-p-clause-told
+returns-then-not-p-clause-told g c = rests_sent g.W.Wire _ _ c.args.p.now _ (nothing_sent g.W.Wire _ c.args.p.now) (quiet_taken c.args.p.now (c.requires.calm (search rules)))
 
-pub returns-in-Gone-clause-told : goal.returns-in-Gone-clause-told
-returns-in-Gone-clause-told g c = rests_stopped _ _ _ _ _ _ c.args.p.now c.loop-wire.p (record c.loop-wire.p { gone = true }) c.waiting.result.now c.in_ok-n.field-0 c.loop-wire.invariant.told c.loop-wire.invariant.conn c.in_ok-n.ensures.told c.in_ok-n.ensures.plays
-    (λ k h. gone_by c.loop-wire.p c.waiting.result.now c.in_ok-n.field-0 k c.in-Gone.is h) (λ k. stops_gone c.waiting.result.now c.in_ok-n.field-0 k c.in-Gone.is)
+pub returns-then-not-p-clause-few : goal.returns-then-not-p-clause-few
+returns-then-not-p-clause-few g c = few_refl _
+
+pub returns-clause-told : goal.returns-clause-told
+returns-clause-told g c = settles g.W.Wire _ _ c.args.p.now c.offer.new.p c.settle.new.self c.settle.ensures c.in_ok-offer.ensures.told
+
+pub returns-clause-few : goal.returns-clause-few
+returns-clause-few g c = few_same c.args.p.now c.offer.new.p c.settle.new.self (search rules) c.offer.ensures.few
+
+pub returns-clause-calm : goal.returns-clause-calm
+returns-clause-calm g c = calm_settled c.offer.new.p c.settle.new.self c.settle.ensures

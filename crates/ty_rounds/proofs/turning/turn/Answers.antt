@@ -1,73 +1,95 @@
-use Rattle.std.proofs.Common.{refl, sym, subst}
-use Rattle.tc_model.specs.Contents.{Contents}
-use Rattle.ty_rounds.specs.Kept.{Reopens}
-use Rattle.ty_rounds.proofs.Leaving.{kept_after}
-use Rattle.ty_rounds.proofs.Turned.{hear_ends, round_ends, keep_ends, finish_ends, went_ends, shut_ends, idle_contents}
+use Rattle.std.proofs.Common.{rules, refl}
+use Rattle.ty_rounds.proofs.Turned.{full_round, full_keep, hear_ends, round_ends, keep_ends, finish_ends, went_ends, shut_ends, ready_again}
 use Rattle.ty_rounds.proofs.turning.turn.Goals as goal
 
 pub returns-in-Err-clause-told : goal.returns-in-Err-clause-told
-returns-in-Err-clause-told g c = let s = g.B.S.Space in
-    hear_ends s.tells s.moment s.left s.kept g.B.Base.reopens _ _ _ _ _ _ _ _ _ _ c.in-Err.e c.args.space.now c.in-Err.ensures.err
-    (λ o t l. g.met.B.S.Space.only_kept c.args.space.now o t c.requires.sound l) c.requires.kept
+returns-in-Err-clause-told g c = hear_ends g.B.S.Space g.W.Wire g.B.Base.holds g.B.Base.reopens _ _ c.args.space.now _ _ _ _ _ _ c.in-Err.e c.in-Err.ensures.err
+    (record { sound = c.requires.ready.base_is.sound; only = λ o t l. g.met.B.S.Space.only_kept c.args.space.now o t c.requires.ready.base_is.sound l; clean = λ t. g.met.B.S.Space.clean c.args.space.now t c.requires.ready.base_is.sound c.requires.ready.untouched })
 
 pub returns-in-Err-round-clause-told : goal.returns-in-Err-round-clause-told
-returns-in-Err-round-clause-told g c = let s = g.B.S.Space in
-    round_ends s.tells s.moment s.left s.kept g.B.Base.reopens _ _ _ _ _ _ _ _ _ _ _ c.in-Ok.ev c.in-Err-round.e c.args.space.now c.round.new.space c.in-Ok.ensures.ok c.in-Err-round.ensures.not_wire c.round.ensures.steady
-    (λ o t l. g.met.B.S.Space.only_kept c.args.space.now o t c.requires.sound l) (λ t u o le l. g.met.B.S.Space.earlier c.round.new.space t u o le l) c.requires.kept
+returns-in-Err-round-clause-told g c = round_ends g.B.S.Space g.W.Wire g.B.Base.holds g.B.Base.reopens _ _ c.args.space.now c.round.new.space _ _ _ _ _ c.listen.new.peers.items _ c.in-Ok.ev c.in-Err-round.e c.in-Ok.ensures.ok c.in-Err-round.ensures.not_wire c.round.ensures.keeps
+    (record { sound = c.requires.ready.base_is.sound; only = λ o t l. g.met.B.S.Space.only_kept c.args.space.now o t c.requires.ready.base_is.sound l; clean = λ t. g.met.B.S.Space.clean c.args.space.now t c.requires.ready.base_is.sound c.requires.ready.untouched })
+    (λ t u o le l. g.met.B.S.Space.earlier c.round.new.space t u o le l)
+
+pub keep-requires-clause-untouched : goal.keep-requires-clause-untouched
+keep-requires-clause-untouched g c = λ e. search rules
 
 pub returns-in-Err-keep-clause-told : goal.returns-in-Err-keep-clause-told
-returns-in-Err-keep-clause-told g c = let s = g.B.S.Space in
-    keep_ends s.tells s.moment s.left s.kept g.B.Base.reopens _ _ _ _ _ (g.B.Base.contents c.round.new.base) _ _ _ _ _ _ c.round.new.peers.items _ c.in-Ok.ev c.in-Ok-round.commits c.in-Err-keep.e c.args.space.now c.round.new.space c.keep.new.space c.in-Ok.ensures.ok c.in-Err-keep.ensures.not_wire c.in-Ok-round.ensures.round c.round.ensures.steady c.keep.ensures.moments
-    (λ o t l. g.met.B.S.Space.only_kept c.args.space.now o t c.requires.sound l) (λ t u o le l. g.met.B.S.Space.earlier c.keep.new.space t u o le l) c.requires.kept
-
-pub returns-then-is_shut-clause-kept : goal.returns-then-is_shut-clause-kept
-returns-then-is_shut-clause-kept g c = λ t. let s = g.B.S.Space in
-    subst (λ (x : Contents). Reopens g.B.Base.reopens (s.kept c.keep.new.space) x) (sym (c.in-Ok-keep.ensures.contents t))
-    (kept_after s.moment s.left s.kept g.B.Base.reopens c.in-Ok-round.commits c.args.space.now c.round.new.space c.keep.new.space (g.B.Base.contents c.args.server.now.base) (g.B.Base.contents c.round.new.base) (c.requires.kept t) (c.round.ensures.steady t) (c.in-Ok-keep.ensures.kept t) (c.in-Ok-keep.ensures.idle t)
-    (idle_contents c.in-Ok-round.commits _ _ c.args.server.now.walk c.round.new.walk c.listen.new.peers.items c.round.new.peers.items (c.in-Ok-round.ensures.round t)))
-
-pub returns-clause-kept : goal.returns-clause-kept
-returns-clause-kept g c = λ t. let s = g.B.S.Space in
-    subst (λ (x : Contents). Reopens g.B.Base.reopens (s.kept c.keep.new.space) x) (sym (c.in-Ok-keep.ensures.contents t))
-    (kept_after s.moment s.left s.kept g.B.Base.reopens c.in-Ok-round.commits c.args.space.now c.round.new.space c.keep.new.space (g.B.Base.contents c.args.server.now.base) (g.B.Base.contents c.round.new.base) (c.requires.kept t) (c.round.ensures.steady t) (c.in-Ok-keep.ensures.kept t) (c.in-Ok-keep.ensures.idle t)
-    (idle_contents c.in-Ok-round.commits _ _ c.args.server.now.walk c.round.new.walk c.listen.new.peers.items c.round.new.peers.items (c.in-Ok-round.ensures.round t)))
+returns-in-Err-keep-clause-told g c = keep_ends g.B.S.Space g.W.Wire g.B.Base.holds g.B.Base.reopens _ c.round.new.base _ c.args.space.now c.round.new.space c.keep.new.space _ _ _ c.round.new.walk _ _ c.listen.new.peers.items c.round.new.peers.items _ c.in-Ok.ev c.in-Ok-round.commits c.in-Err-keep.e c.in-Ok.ensures.ok c.in-Err-keep.ensures.not_wire c.in-Ok-round.ensures.rounds c.round.ensures.keeps c.keep.ensures.moments c.keep.ensures.idle
+    (record { sound = c.requires.ready.base_is.sound; only = λ o t l. g.met.B.S.Space.only_kept c.args.space.now o t c.requires.ready.base_is.sound l; clean = λ t. g.met.B.S.Space.clean c.args.space.now t c.requires.ready.base_is.sound c.requires.ready.untouched })
+    (λ t u o le l. g.met.B.S.Space.earlier c.keep.new.space t u o le l)
 
 pub returns-in-Err-finish-clause-told : goal.returns-in-Err-finish-clause-told
-returns-in-Err-finish-clause-told g c = let s = g.B.S.Space in
-    finish_ends s.tells s.moment s.left s.kept g.B.Base.reopens _ _ _ _ _ _ _ (g.B.Base.contents c.round.new.base) _ _ _ _ _ c.listen.new.peers.items c.round.new.peers.items _ c.in-Ok.ev c.in-Ok-round.commits c.finish.result c.args.space.now c.round.new.space c.keep.new.space
-    (λ o t l. g.met.B.S.Space.only_kept c.keep.new.space o t c.in-Ok-keep.ensures.sound l) (
-      c.in-Ok.ensures.ok,
-      c.in-Ok-round.ensures.round,
-      c.round.ensures.steady,
-      c.keep.ensures.moments,
-      c.finish.ensures.told,
-      c.requires.kept,
-      λ t. kept_after s.moment s.left s.kept g.B.Base.reopens c.in-Ok-round.commits c.args.space.now c.round.new.space c.keep.new.space (g.B.Base.contents c.args.server.now.base) (g.B.Base.contents c.round.new.base) (c.requires.kept t) (c.round.ensures.steady t) (c.in-Ok-keep.ensures.kept t) (c.in-Ok-keep.ensures.idle t)
-          (idle_contents c.in-Ok-round.commits _ _ c.args.server.now.walk c.round.new.walk c.listen.new.peers.items c.round.new.peers.items (c.in-Ok-round.ensures.round t)),
-    )
+returns-in-Err-finish-clause-told g c = finish_ends g.B.S.Space g.W.Wire g.B.Base.holds g.B.Base.reopens _ c.round.new.base c.keep.new.base _ c.args.space.now c.round.new.space c.keep.new.space _ c.listen.new.wire _ _ c.round.new.walk _ _ c.listen.new.peers.items c.round.new.peers.items _ c.in-Ok.ev c.in-Ok-round.commits c.finish.result
+    (record { sound = c.in-Ok-keep.ensures.kept.ready.sound; only = λ o t l. g.met.B.S.Space.only_kept c.keep.new.space o t c.in-Ok-keep.ensures.kept.ready.sound l; clean = λ t. g.met.B.S.Space.clean c.keep.new.space t c.in-Ok-keep.ensures.kept.ready.sound c.in-Ok-keep.ensures.kept.untouched })
+    (record {
+      hears = c.in-Ok.ensures.ok;
+      rounds = c.in-Ok-round.ensures.rounds;
+      keeps = c.round.ensures.keeps;
+      kept = c.in-Ok-keep.ensures.kept;
+      moves = c.keep.ensures.moments;
+      idle = c.keep.ensures.idle;
+      finishes = c.finish.ensures.told;
+      clean = record { sound = c.requires.ready.base_is.sound; only = λ o t l. g.met.B.S.Space.only_kept c.args.space.now o t c.requires.ready.base_is.sound l; clean = λ t. g.met.B.S.Space.clean c.args.space.now t c.requires.ready.base_is.sound c.requires.ready.untouched };
+    })
 
 pub returns-then-is_shut-clause-told : goal.returns-then-is_shut-clause-told
-returns-then-is_shut-clause-told g c = let s = g.B.S.Space in
-    shut_ends s.tells s.moment s.left s.kept g.B.Base.reopens _ _ _ _ _ _ _ (g.B.Base.contents c.round.new.base) _ _ _ _ c.listen.new.peers.items c.round.new.peers.items _ c.in-Ok.ev c.in-Ok-round.commits c.args.space.now c.round.new.space c.keep.new.space (c.if-is_shut.ensures.0 refl) c.in-Ok-keep.ensures.contents (
-      c.in-Ok.ensures.ok,
-      c.in-Ok-round.ensures.round,
-      c.round.ensures.steady,
-      c.keep.ensures.moments,
-      c.in-Ok-finish.ensures.told,
-      c.requires.kept,
-      λ t. kept_after s.moment s.left s.kept g.B.Base.reopens c.in-Ok-round.commits c.args.space.now c.round.new.space c.keep.new.space (g.B.Base.contents c.args.server.now.base) (g.B.Base.contents c.round.new.base) (c.requires.kept t) (c.round.ensures.steady t) (c.in-Ok-keep.ensures.kept t) (c.in-Ok-keep.ensures.idle t)
-          (idle_contents c.in-Ok-round.commits _ _ c.args.server.now.walk c.round.new.walk c.listen.new.peers.items c.round.new.peers.items (c.in-Ok-round.ensures.round t)),
-    )
+returns-then-is_shut-clause-told g c = shut_ends g.B.S.Space g.W.Wire g.B.Base.holds g.B.Base.reopens _ c.round.new.base c.keep.new.base c.args.space.now c.round.new.space c.keep.new.space _ c.listen.new.wire _ _ c.round.new.walk _ c.listen.new.peers.items c.round.new.peers.items _ c.in-Ok.ev c.in-Ok-round.commits (c.if-is_shut.ensures.0 refl)
+    (record {
+      hears = c.in-Ok.ensures.ok;
+      rounds = c.in-Ok-round.ensures.rounds;
+      keeps = c.round.ensures.keeps;
+      kept = c.in-Ok-keep.ensures.kept;
+      moves = c.keep.ensures.moments;
+      idle = c.keep.ensures.idle;
+      finishes = c.in-Ok-finish.ensures.told;
+      clean = record { sound = c.requires.ready.base_is.sound; only = λ o t l. g.met.B.S.Space.only_kept c.args.space.now o t c.requires.ready.base_is.sound l; clean = λ t. g.met.B.S.Space.clean c.args.space.now t c.requires.ready.base_is.sound c.requires.ready.untouched };
+    })
 
 pub returns-clause-told : goal.returns-clause-told
-returns-clause-told g c = let s = g.B.S.Space in
-    went_ends s.tells s.moment s.left s.kept g.B.Base.reopens _ _ _ _ _ _ _ (g.B.Base.contents c.round.new.base) _ _ _ _ c.listen.new.peers.items c.round.new.peers.items _ c.in-Ok.ev c.in-Ok-round.commits c.args.space.now c.round.new.space c.keep.new.space (λ e. absurd (let f = c.if-is_shut.ensures.1 e in cc)) c.in-Ok-keep.ensures.contents (
-      c.in-Ok.ensures.ok,
-      c.in-Ok-round.ensures.round,
-      c.round.ensures.steady,
-      c.keep.ensures.moments,
-      c.in-Ok-finish.ensures.told,
-      c.requires.kept,
-      λ t. kept_after s.moment s.left s.kept g.B.Base.reopens c.in-Ok-round.commits c.args.space.now c.round.new.space c.keep.new.space (g.B.Base.contents c.args.server.now.base) (g.B.Base.contents c.round.new.base) (c.requires.kept t) (c.round.ensures.steady t) (c.in-Ok-keep.ensures.kept t) (c.in-Ok-keep.ensures.idle t)
-          (idle_contents c.in-Ok-round.commits _ _ c.args.server.now.walk c.round.new.walk c.listen.new.peers.items c.round.new.peers.items (c.in-Ok-round.ensures.round t)),
-    )
+returns-clause-told g c = went_ends g.B.S.Space g.W.Wire g.B.Base.holds g.B.Base.reopens _ c.round.new.base c.keep.new.base c.args.space.now c.round.new.space c.keep.new.space _ c.listen.new.wire _ _ c.round.new.walk _ c.listen.new.peers.items c.round.new.peers.items _ c.in-Ok.ev c.in-Ok-round.commits (λ e. absurd (let f = c.if-is_shut.ensures.1 e in cc))
+    (record {
+      hears = c.in-Ok.ensures.ok;
+      rounds = c.in-Ok-round.ensures.rounds;
+      keeps = c.round.ensures.keeps;
+      kept = c.in-Ok-keep.ensures.kept;
+      moves = c.keep.ensures.moments;
+      idle = c.keep.ensures.idle;
+      finishes = c.in-Ok-finish.ensures.told;
+      clean = record { sound = c.requires.ready.base_is.sound; only = λ o t l. g.met.B.S.Space.only_kept c.args.space.now o t c.requires.ready.base_is.sound l; clean = λ t. g.met.B.S.Space.clean c.args.space.now t c.requires.ready.base_is.sound c.requires.ready.untouched };
+    })
+
+pub returns-then-is_shut-clause-ready : goal.returns-then-is_shut-clause-ready
+returns-then-is_shut-clause-ready g c = ready_again g.B.S.Space g.W.Wire g.B.Base.holds g.B.Base.reopens _ c.round.new.base c.keep.new.base c.args.space.now c.round.new.space c.keep.new.space _ c.listen.new.wire _ _ c.round.new.walk _ c.listen.new.peers.items c.round.new.peers.items _ c.in-Ok.ev c.in-Ok-round.commits c.requires.ready
+    (record {
+      hears = c.in-Ok.ensures.ok;
+      rounds = c.in-Ok-round.ensures.rounds;
+      keeps = c.round.ensures.keeps;
+      kept = c.in-Ok-keep.ensures.kept;
+      moves = c.keep.ensures.moments;
+      idle = c.keep.ensures.idle;
+      finishes = c.in-Ok-finish.ensures.told;
+      clean = record { sound = c.requires.ready.base_is.sound; only = λ o t l. g.met.B.S.Space.only_kept c.args.space.now o t c.requires.ready.base_is.sound l; clean = λ t. g.met.B.S.Space.clean c.args.space.now t c.requires.ready.base_is.sound c.requires.ready.untouched };
+    }) c.finish.ensures.opened c.in-Ok-finish.ensures.wired
+
+pub returns-clause-ready : goal.returns-clause-ready
+returns-clause-ready g c = ready_again g.B.S.Space g.W.Wire g.B.Base.holds g.B.Base.reopens _ c.round.new.base c.keep.new.base c.args.space.now c.round.new.space c.keep.new.space _ c.listen.new.wire _ _ c.round.new.walk _ c.listen.new.peers.items c.round.new.peers.items _ c.in-Ok.ev c.in-Ok-round.commits c.requires.ready
+    (record {
+      hears = c.in-Ok.ensures.ok;
+      rounds = c.in-Ok-round.ensures.rounds;
+      keeps = c.round.ensures.keeps;
+      kept = c.in-Ok-keep.ensures.kept;
+      moves = c.keep.ensures.moments;
+      idle = c.keep.ensures.idle;
+      finishes = c.in-Ok-finish.ensures.told;
+      clean = record { sound = c.requires.ready.base_is.sound; only = λ o t l. g.met.B.S.Space.only_kept c.args.space.now o t c.requires.ready.base_is.sound l; clean = λ t. g.met.B.S.Space.clean c.args.space.now t c.requires.ready.base_is.sound c.requires.ready.untouched };
+    }) c.finish.ensures.opened c.in-Ok-finish.ensures.wired
+
+pub returns-in-Err-round-clause-full : goal.returns-in-Err-round-clause-full
+returns-in-Err-round-clause-full g c = λ is. full_round g.B.S.Space g.W.Wire g.B.Base.holds g.B.Base.reopens (g.B.Base.fills c.round.new.space) _ c.args.space.now _ _ _ _ c.listen.new.peers.items c.in-Ok.ev c.in-Ok.ensures.ok (c.in-Err-round.ensures.full (search rules))
+
+pub returns-in-Err-keep-clause-full : goal.returns-in-Err-keep-clause-full
+returns-in-Err-keep-clause-full g c = λ is. full_keep g.B.S.Space g.W.Wire g.B.Base.holds g.B.Base.reopens (g.B.Base.fills c.keep.new.space) _ c.round.new.base c.args.space.now c.round.new.space _ _ _ c.round.new.walk _ c.listen.new.peers.items c.round.new.peers.items c.in-Ok.ev c.in-Ok-round.commits c.in-Ok.ensures.ok c.in-Ok-round.ensures.rounds (c.in-Err-keep.ensures.full (search rules))
+
+pub round-requires-clause-calm : goal.round-requires-clause-calm
+round-requires-clause-calm g c = c.in-Ok.ensures.ok.calm c.requires.ready.calm

@@ -3,7 +3,7 @@ use Rattle.tc_base.specs.declared.request.Request.{Request}
 use Rattle.tc_base.specs.declared.fields.NotWhole.{NotWhole}
 use Rattle.tc_base.specs.Reading.{Front}
 use Rattle.ty_wire.specs.Parsed.{parsed}
-use Rattle.ty_wire.proofs.Answered.{taken, partly, badly}
+use Rattle.ty_wire.proofs.Answered.{taken, partly, badly, alone}
 use Rattle.ty_wire.proofs.reading.take.Goals as goal
 
 abbrev failed : NotWhole → Front Request
@@ -26,3 +26,12 @@ returns-in-Err-Part-clause-grammar c = partly _ (λ i. omega (arith, c.type_inv.
 
 pub returns-in-Err-Bad-clause-grammar : goal.returns-in-Err-Bad-clause-grammar
 returns-in-Err-Bad-clause-grammar c = badly _ (c.in-Err-Bad.ensures.read ∙ ap failed c.in-Err-Bad.field-0-is)
+
+pub returns-in-Ok-clause-alone : goal.returns-in-Ok-clause-alone
+returns-in-Ok-clause-alone c = alone c.args.bytes.now
+
+pub returns-in-Err-Part-clause-alone : goal.returns-in-Err-Part-clause-alone
+returns-in-Err-Part-clause-alone c = alone c.args.bytes.now
+
+pub returns-in-Err-Bad-clause-alone : goal.returns-in-Err-Bad-clause-alone
+returns-in-Err-Bad-clause-alone c = alone c.args.bytes.now

@@ -1,0 +1,191 @@
+-- A database in the files of a space: what its opening leaves, and the run behind it.
+use Rattle.std.proofs.Common.{◌≡◌, ◌⊎◌, ◌≢◌, ◌≤◌, inl, inr, ⊎_elim, ℕ, Bool, true, false, cond, List, [], ◌∷◌, refl, sym, subst, ◌∙◌, arith}
+use Rattle.std.specs.Prelude.{Option, Some}
+use Rattle.tc_base.specs.Files.{Files}
+use Rattle.tc_base.specs.declared.kind.Rule.{Rule}
+use Rattle.tc_io.specs.declared.wire.Wire as wire
+use Rattle.tc_io.specs.declared.wire.At.{At}
+use Rattle.tc_io.specs.declared.wire.Entry.{Entry}
+use Rattle.tc_io.specs.declared.wire.Entry.TheVariants.{Open, Dial, Event, Send, Close}
+use Rattle.tc_space.specs.Moments.{LeavesOnly, Steady}
+use Rattle.tc_space.specs.declared.space.Space as space
+use Rattle.tc_model.specs.Contents.{Contents}
+use Rattle.ty_world.specs.World.{World, Mark, started, happens, world_after, round_of}
+use Rattle.ty_base.specs.declared.errors.AnyErr.{AnyErr}
+use Rattle.ty_base.specs.declared.errors.AnyErr.TheVariants as any
+use Rattle.ty_base.specs.Holding.{Stays}
+use Rattle.ty_base.specs.Opening.{Breaks, IsOpened}
+use Rattle.ty_rounds.specs.Kept.{HoldsMark, StandFor, Reopens, MovesTo, LeavesMarks, IsIn}
+use Rattle.ty_rounds.specs.Turns.{Told}
+use Rattle.ty_rounds.proofs.Telling.{Adds-none}
+use Rattle.tk_top.specs.declared.ends.End.{End}
+use Rattle.tk_top.specs.declared.ends.End.TheVariants.{Done, Words, Refused, VolumeFault, Broken, NoMemory, Full, WireFault, TurnsSpent}
+use Rattle.tk_top.specs.Ends.{IsEnd, end_of}
+use Rattle.tk_top.specs.Causes.{Caused}
+use Rattle.tk_top.specs.Over.{Judged}
+use Rattle.tk_top.specs.Runs.{FullRun}
+use Rattle.tk_top.specs.Serving.{Begins, RunsOver}
+use Rattle.tk_top.proofs.Over.{not_played, unserved}
+
+-- ---- marks stay
+
+kept_in : (b : Bool) (c d : Mark) (ms : List Mark) → IsIn c ms → IsIn c (cond b (d ∷ ms) ms)
+kept_in true c d ms h = inr h
+kept_in false c d ms h = h
+
+happens_keeps : (e : Entry) (w : World) (c : Mark) → IsIn c w.marks → IsIn c (happens w e).marks
+happens_keeps (Open at) w c h = h
+happens_keeps (Dial host port answer) w c h = h
+happens_keeps (Event paused busy ev bytes) w c h = kept_in (round_of w ev bytes).updated c (record { contents = (round_of w ev bytes).contents; log = w.log }) w.marks h
+happens_keeps (Send k bytes answer) w c h = h
+happens_keeps (Close k) w c h = h
+
+all_keep : (es : List Entry) (w : World) (c : Mark) → IsIn c w.marks → IsIn c (world_after es w).marks
+all_keep [] w c h = h
+all_keep (e ∷ es) w c h = all_keep es (happens w e) c (happens_keeps e w c h)
+
+pub first_in : (es : List Entry) (first : Mark) → IsIn first (world_after es (started [] first)).marks
+first_in es first = all_keep es (started [] first) first (inl refl)
+
+-- ---- opening
+
+module _ {S : Type 0} (s : space.Ghosts S) (reopens : Files → Contents → Type 0) where
+  pub steady_moves : (old mid : S) (m : Mark) → Steady s.moment s.left s.kept old mid → MovesTo s reopens old mid m
+  steady_moves old mid m st = record { leaves = record { later = st.leaves.later; each = λ t o le l. ⊎_elim (λ was. inl was) (λ is. inr (inl is)) (st.leaves.each t o le l) } }
+
+  pub commit_moves : (old mid new : S) (m : Mark) → Steady s.moment s.left s.kept old mid → LeavesOnly s.moment s.left mid new (λ o. (o ≡ s.kept mid) ⊎ (o ≡ Some (s.now mid))) → StandFor reopens (s.now mid) m → MovesTo s reopens old new m
+  commit_moves old mid new m st cm stand = record {
+    leaves = record {
+      later = omega (arith, st.leaves.later, cm.later);
+      each = λ t o le l. ⊎_elim
+          (λ at_mid. ⊎_elim (λ was. inl was) (λ is. inr (inl is)) (st.leaves.each t o le at_mid))
+          (λ p. inr (⊎_elim (λ is. inl (is ∙ st.same)) (λ is. inr (record { files = s.now mid; is = is; stand = stand })) p))
+          (cm.each t o (omega (arith, le, st.leaves.later)) l);
+    };
+  }
+
+module _ {S B : Type 0} (s : space.Ghosts S) (holds : B → Files → Contents → Type 0) (reopens opens : Files → Contents → Type 0) where
+  -- a database that was opened stands for the mark of its files
+  pub opened_stand : (b : B) (old mid : S) (m : Mark) → Begins s opens old m → Stays s 2 old mid → IsOpened holds reopens b (s.now mid) m.contents → StandFor reopens (s.now mid) m
+  opened_stand b old mid m h log o = record { contents = o.stand; log = log.same h.0 ∙ h.1.log }
+
+  pub opened_holds : (b : B) (old mid new : S) (m : Mark) → Begins s opens old m → Stays s 2 old mid → IsOpened holds reopens b (s.now mid) m.contents → ((f : ℕ) → s.now new f ≡ s.now mid f) → HoldsMark s holds reopens b new m
+  opened_holds b old mid new m h log o same =
+      let there : s.now mid ≡ s.now new = λ i f. sym (same f) i in
+      record {
+        has = record { held = (h.0, subst (λ (f : Files). holds b f m.contents) there o.holds); log = same 2 ∙ log.same h.0 ∙ h.1.log };
+        stand = subst (λ (f : Files). reopens f m.contents) there o.stand;
+      }
+
+-- ---- the run behind an opening
+
+abbrev pub Fresh : {S : Type 0} → space.Ghosts S → S → Type 0
+Fresh s a = s.tells → ((o : Option Files) → s.left a (s.moment a) o → o ≡ s.kept a) × (s.kept a ≡ Some (s.now a))
+
+pub ended_not : (e : AnyErr) → (end_of e ≢ Done) × (end_of e ≢ TurnsSpent)
+ended_not (any.Broken file rule) = (λ i. absurd cc, λ i. absurd cc)
+ended_not any.Full = (λ i. absurd cc, λ i. absurd cc)
+ended_not any.Fault = (λ i. absurd cc, λ i. absurd cc)
+ended_not any.Memory = (λ i. absurd cc, λ i. absurd cc)
+
+module _ {S W : Type 0} (s : space.Ghosts S) (g : wire.Ghosts W) (reopens opens : Files → Contents → Type 0) (stand : (files : Files) (c : Contents) → opens files c → reopens files c) where
+  kept_stands : (a : S) (first : Mark) → Fresh s a → Begins s opens a first → Reopens reopens (s.kept a) first
+  kept_stands a first fresh h = record { files = s.now a; is = (fresh h.0).1; stand = record { contents = stand (s.now a) first.contents h.1.contents; log = h.1.log } }
+
+  moved : (a : S) (first : Mark) (o : Option Files) → Reopens reopens (s.kept a) first → o ≡ s.kept a → Reopens reopens o first
+  moved a first o k is = record { files = k.files; is = is ∙ k.is; stand = k.stand }
+
+  opening_marks : (s0 s1 : S) (first : Mark) (ms : List Mark) → IsIn first ms → Reopens reopens (s.kept s0) first → MovesTo s reopens s0 s1 first → LeavesMarks s reopens s0 s1 ms
+  opening_marks s0 s1 first ms held k moves = record {
+    leaves = record {
+      later = moves.leaves.later;
+      each = λ t o le l. ⊎_elim (λ was. inl was) (λ p. inr (record { mark = first; listed = held; reopen = ⊎_elim (λ is. moved s0 first o k is) (λ r. r) p })) (moves.leaves.each t o le l);
+    };
+  }
+
+  marks_then : (s0 s1 s2 : S) (ms : List Mark) → LeavesMarks s reopens s0 s1 ms → LeavesMarks s reopens s1 s2 ms → LeavesMarks s reopens s0 s2 ms
+  marks_then s0 s1 s2 ms one two = record {
+    leaves = record {
+      later = omega (arith, one.leaves.later, two.leaves.later);
+      each = λ t o le l. ⊎_elim (λ mid. one.leaves.each t o le mid) (λ m. inr m) (two.leaves.each t o (omega (arith, le, one.leaves.later)) l);
+    };
+  }
+
+  -- it was refused
+  pub over_refused : (e : AnyErr) (turns : ℕ) (at : At) (s0 s1 : S) (x : W) → Fresh s s0 → ((t u : ℕ) (o : Option Files) → t ≤ u → s.left s1 u o → s.left s1 t o) → ((m : Mark) → Begins s opens s0 m → MovesTo s reopens s0 s1 m) → RunsOver s g reopens (end_of e) turns at s0 s1 x x (Begins s opens s0)
+  over_refused e turns at s0 s1 x fresh earlier moves = record {
+    entries = [];
+    told = Adds-none (g.transcript x);
+    ends = λ first h.
+        let k = kept_stands s0 first fresh h in
+        let mv = moves first h in
+        record {
+          asked = tt;
+          serves = unserved (end_of e) turns at [] first [] refl (inr refl) (ended_not e).0 (ended_not e).1;
+          exit = λ o l. inl (⊎_elim (λ was. moved s0 first o k ((fresh h.0).0 o was)) (λ p. ⊎_elim (λ is. moved s0 first o k is) (λ r. r) p) (mv.leaves.each (s.moment s0) o (omega arith) (earlier (s.moment s0) (s.moment s1) o mv.leaves.later l)));
+          moments = opening_marks s0 s1 first (first ∷ []) (inl refl) k mv;
+        };
+    plays = λ first h acts given p. not_played turns (g.plays x) (end_of e) acts given (ended_not e).0 (ended_not e).1;
+  }
+
+  -- it wasn't
+  pub over_opened : (begun : Mark → Type 0) (end : End) (turns : ℕ) (at : At) (s0 s1 s2 : S) (x y : W) → Fresh s s0 → ((m : Mark) → Begins s opens s0 m → MovesTo s reopens s0 s1 m) → ((m : Mark) → Begins s opens s0 m → begun m) → RunsOver s g reopens end turns at s1 s2 x y begun → RunsOver s g reopens end turns at s0 s2 x y (Begins s opens s0)
+  over_opened begun end turns at s0 s1 s2 x y fresh moves begins run = record {
+    entries = run.entries;
+    told = run.told;
+    ends = λ first h.
+        let k = kept_stands s0 first fresh h in
+        let r = run.ends first (begins first h) in
+        record {
+          asked = r.asked;
+          serves = r.serves;
+          exit = r.exit;
+          moments = marks_then s0 s1 s2 _ (opening_marks s0 s1 first _ (first_in run.entries first) k (moves first h)) r.moments;
+        };
+    plays = λ first h acts given p. run.plays first (begins first h) acts given p;
+  }
+
+pub full_opened : (fills : Contents → Contents → Type 0) (start begun : Mark → Type 0) (a b : Told) → ((m : Mark) → start m → begun m) → FullRun fills begun [] a b → FullRun fills start [] a b
+full_opened fills start begun a b begins x = record { earlier = x.earlier; paused = x.paused; busy = x.busy; ev = x.ev; bytes = x.bytes; told = x.told; some = λ first h. x.some first (begins first h) }
+
+-- ---- ends
+
+pub judged_err : (e : AnyErr) (stand : Type 0) (breaks : ℕ → Rule → Type 0) → Breaks e breaks → (e ≡ any.Full → stand) → Judged (end_of e) stand breaks
+judged_err (any.Broken file rule) stand breaks b full = b
+judged_err any.Full stand breaks b full = full refl
+judged_err any.Fault stand breaks b full = tt
+judged_err any.Memory stand breaks b full = tt
+
+pub judged_end : (end : End) (stand : Type 0) (breaks : ℕ → Rule → Type 0) → IsEnd end → stand → Judged end stand breaks
+judged_end Done stand breaks is h = h
+judged_end Words stand breaks is h = is
+judged_end Refused stand breaks is h = is
+judged_end VolumeFault stand breaks is h = tt
+judged_end (Broken file rule) stand breaks is h = absurd is
+judged_end NoMemory stand breaks is h = tt
+judged_end Full stand breaks is h = h
+judged_end WireFault stand breaks is h = h
+judged_end TurnsSpent stand breaks is h = h
+
+pub judged_as : (end : End) (P Q : Type 0) (R T : ℕ → Rule → Type 0) → (P → Q) → ((file : ℕ) (rule : Rule) → R file rule → T file rule) → Judged end P R → Judged end Q T
+judged_as Done P Q R T f k h = f h
+judged_as Words P Q R T f k h = h
+judged_as Refused P Q R T f k h = h
+judged_as VolumeFault P Q R T f k h = h
+judged_as (Broken file rule) P Q R T f k h = k file rule h
+judged_as NoMemory P Q R T f k h = h
+judged_as Full P Q R T f k h = f h
+judged_as WireFault P Q R T f k h = f h
+judged_as TurnsSpent P Q R T f k h = f h
+
+pub full_err : (e : AnyErr) → end_of e ≡ Full → e ≡ any.Full
+full_err (any.Broken file rule) is = absurd cc
+full_err any.Full is = refl
+full_err any.Fault is = absurd cc
+full_err any.Memory is = absurd cc
+
+pub caused_err : (e : AnyErr) (v v' w w' : ℕ) → (e ≡ any.Fault → v ≡ v → Caused VolumeFault v v' w w') → Caused (end_of e) v v' w w'
+caused_err (any.Broken file rule) v v' w w' c = tt
+caused_err any.Full v v' w w' c = tt
+caused_err any.Fault v v' w w' c = c refl refl
+caused_err any.Memory v v' w w' c = tt

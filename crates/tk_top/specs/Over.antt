@@ -1,0 +1,105 @@
+-- What a run over a volume leaves of it.
+use Rattle.std.specs.Prelude.{◌≡◌, ◌⊎◌, ℕ, max, true, false, List, [], length, Option, Some, Err}
+use Rattle.tc_base.specs.Files.{Files}
+use Rattle.tc_base.specs.declared.kind.Rule.{Rule}
+use Rattle.tc_io.specs.Images.{Calls, now, Images, ImagesSince, IsLostSync}
+use Rattle.tc_io.specs.Told.{Adds}
+use Rattle.tc_io.specs.declared.act.Act.{Act}
+use Rattle.tc_io.specs.declared.wire.Wire as wire
+use Rattle.tc_io.specs.declared.wire.At.{At}
+use Rattle.tc_io.specs.declared.wire.Entry.{Entry}
+use Rattle.tc_space.specs.declared.space.Space as space
+use Rattle.ud_log.specs.Undo.{data_of, is_data, undo, recovered}
+use Rattle.ud_state.specs.Since.{LeftSince}
+use Rattle.ud_state.specs.State.{IsSettled}
+use Rattle.tc_model.specs.Contents.{Contents}
+use Rattle.ty_world.specs.World.{World, Mark, mark_of, started, world_after, AllAsked}
+use Rattle.ty_world.specs.Playing.{unplayed}
+use Rattle.ty_base.specs.Holding.{IsReady}
+use Rattle.ty_rounds.specs.Kept.{HoldsMark, Reopens, AtMark}
+use Rattle.ty_rounds.specs.Turns.{Told}
+use Rattle.tk_top.specs.declared.ends.End.{End}
+use Rattle.tk_top.specs.declared.ends.End.TheVariants.{Done, Words, Refused, VolumeFault, Broken, NoMemory, Full, WireFault, TurnsSpent}
+use Rattle.tk_top.specs.Runs.{AtExit, FullRun}
+use Rattle.tk_top.specs.Serving.{Begins, ServesAt, PlaysAll}
+
+-- it is recovered to what an image of the opening volume is recovered to
+pub record AsOpening (opening : Calls) (o : Option Files) : Type 0 where
+  pub image : Files
+  pub is_one : Images opening image
+  pub same : o ≡ recovered image
+
+-- a run over a volume whose files, as they read, recovered and reopened to this mark. The files as they read are one of the images
+pub record VolumeRun (reopens : Files → Contents → Type 0) (end : End) (turns : ℕ) (at : At) (old new : Calls) (first : Mark) (es : List Entry) (v : World) : Type 0 where
+  pub asked : AllAsked (started [] first) es
+  pub serves : ServesAt end turns at first es v
+  -- at the exit; where the run ended before the log was brought to the disk, as an opening image
+  pub exit : (ims : Files) → Images new ims → AtExit reopens end (mark_of (world_after serves.last.earlier (started [] first))) v (recovered ims) ⊎ ((es ≡ []) × IsLostSync old new 1 × AsOpening old (recovered ims))
+  -- at any moment: a mark, or as an opening image
+  pub moments : (ims : Files) → ImagesSince new (length old) ims → AtMark reopens (recovered ims) v.marks ⊎ AsOpening old (recovered ims)
+
+-- the files, as they read, are told, recovered, and may be opened as this mark
+abbrev pub BeginsAt : Type 0 → (Files → Contents → Type 0) → Calls → Mark → Type 0
+BeginsAt tells opens old first = tells × Reopens opens (recovered (now old)) first
+
+-- what came of the wire, and what it makes of a volume that was settled and of a script
+pub record FilesRun {W : Type 0} (tells : Type 0) (g : wire.Ghosts W) (opens reopens : Files → Contents → Type 0) (end : End) (turns : ℕ) (at : At) (old new : Calls) (x y : W) : Type 0 where
+  pub entries : List Entry
+  pub told : Adds (g.transcript x) (g.transcript y) entries
+  pub ends : IsSettled old → (first : Mark) → BeginsAt tells opens old first → VolumeRun reopens end turns at old new first entries (world_after entries (started [] first))
+  pub plays : (first : Mark) → BeginsAt tells opens old first → (acts : List Act) (given : ℕ) → g.plays x ≡ Some (unplayed acts given) → PlaysAll turns (g.plays y) end acts given
+
+-- a limit was reached where the files were opened, or in the round of the last event
+pub record FullFiles (tells : Type 0) (fills : Contents → Contents → Type 0) (opens : Contents → Type 0) (start : Mark → Type 0) (a b : Told) : Type 0 where
+  pub which : (tells → (c : Contents) × opens c × fills c c) ⊎ FullRun fills start [] a b
+
+-- a rule that is broken is one of the log; or it is one of the layout, of what the log makes of the files
+pub record BreaksAt (breaks : Files → ℕ → Rule → Type 0) (old : Calls) (file : ℕ) (rule : Rule) : Type 0 where
+  pub which : ((file ≡ 1) × (undo (now old 1) (now old) ≡ Err rule)) ⊎ ((files : Files) × (recovered (now old) ≡ Some files) × breaks files file rule)
+
+-- these are files, and they may be opened as the contents
+pub record Recover (opens : Files → Contents → Type 0) (o : Option Files) (c : Contents) : Type 0 where
+  pub files : Files
+  pub is : o ≡ Some files
+  pub stand : opens files c
+
+-- the files, as they read, stand for some contents
+pub record StandsFor (opens : Files → Contents → Type 0) (old : Calls) : Type 0 where
+  pub contents : Contents
+  pub stand : Recover opens (recovered (now old)) contents
+
+-- what a space over a volume tells is what the calls of the volume make of its files
+pub record IsOver (tells told : Type 0) (calls : Calls) (moment : ℕ) (left : ℕ → Option Files → Type 0) (files : Files) (names given : Option (List (List ℕ))) (faults count : ℕ) : Type 0 where
+  pub to : tells → told
+  pub from : told → tells
+  pub moment_is : moment ≡ length calls
+  pub leaves : (t : ℕ) (ims : Files) → ImagesSince calls t ims → left t (recovered ims)
+  pub left_is : (t : ℕ) (o : Option Files) → left t o → LeftSince calls t o
+  pub now_is : files ≡ data_of (now calls)
+  pub names_are : names ≡ given
+  pub faults_are : faults ≡ count
+
+-- a database was opened and is kept: it may be used, nothing is left to commit, and it holds and stands for what its files stood for
+pub record OpensAs {S B : Type 0} (s : space.Ghosts S) (holds : B → Files → Contents → Type 0) (reopens opens : Files → Contents → Type 0) (b : B) (old new : S) : Type 0 where
+  pub ready : IsReady s holds b new
+  pub untouched : s.touched new ≡ false
+  pub marks : (m : Mark) → Begins s opens old m → HoldsMark s holds reopens b new m
+
+-- these ends come only over files that stand for contents; and where a rule is named, it is broken
+abbrev pub Judged : End → Type 0 → (ℕ → Rule → Type 0) → Type 0
+Judged Done stand breaks = stand
+Judged Words stand breaks = ⊥
+Judged Refused stand breaks = ⊥
+Judged VolumeFault stand breaks = Unit {0}
+Judged (Broken file rule) stand breaks = breaks file rule
+Judged NoMemory stand breaks = Unit {0}
+Judged Full stand breaks = stand
+Judged WireFault stand breaks = stand
+Judged TurnsSpent stand breaks = stand
+
+-- a space of this volume that has reached a limit; each of its data files may have so many bytes, or as many as it had where that is more
+pub record FilesFull {S V : Type 0} (s : space.Ghosts S) (under : S → V) (tells : Type 0) (fills : S → Contents → Contents → Type 0) (opens : Files → Contents → Type 0) (most : ℕ) (old : Calls) (vol : V) (a b : Told) : Type 0 where
+  pub space : S
+  pub vol_is : under space ≡ vol
+  pub limits : tells → (files : Files) → recovered (now old) ≡ Some files → (f : ℕ) → is_data f ≡ true → s.limit space f ≡ max most (length (files f))
+  pub full : FullFiles tells (fills space) (Recover opens (recovered (now old))) (BeginsAt tells opens old) a b

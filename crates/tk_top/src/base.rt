@@ -1,0 +1,50 @@
+//! A database that was opened, served.
+ghost use Rattle.std.specs.Prelude.{◌≡◌, ◌≤◌, false, []};
+ghost use Rattle.tc_space.specs.Effects.{Follows};
+ghost use Rattle.ty_base.specs.Holding.{IsReady};
+ghost use Rattle.ty_rounds.specs.Kept.{HoldsMark};
+ghost use Rattle.tk_top.specs.declared.ends.End.TheVariants.{Full};
+ghost use Rattle.tk_top.specs.Causes.{Caused};
+ghost use Rattle.tk_top.specs.Ends.{IsEnd};
+ghost use Rattle.tk_top.specs.Runs.{FullRun};
+ghost use Rattle.tk_top.specs.Serving.{RunsOver};
+
+use crate::ends::End;
+use crate::serving::serve;
+use std::alloc::Global;
+use std::mem::ManuallyDrop;
+use tc_io::{At, Clock, Wire};
+use tc_space::Space;
+use ty_base::Base;
+use ty_rounds::Server;
+
+/// Serves a database at an address, for so many turns at most. What it holds in memory isn't given back piece by piece: the process ends
+/// behind this.
+pub fn serve_base<B: Base + Drop, W: Wire, K: Clock>(
+    alloc: Global,
+    base: B,
+    space: &mut B::S,
+    at: &At,
+    wire: &mut W,
+    clock: &mut K,
+    turns: u64,
+) -> End
+    requires opened { W.opened wire.old ≡ false }
+    requires ready { IsReady B.S.Space B.holds base space.old }
+    requires untouched { B.S.touched space.old ≡ false }
+    ensures told { RunsOver B.S.Space W.Wire B.reopens result turns at.now space.old space.new wire.old wire.new (HoldsMark B.S.Space B.holds B.reopens base space.old) }
+    ensures full { result ≡ Full → FullRun (B.fills space.new) (HoldsMark B.S.Space B.holds B.reopens base space.old) [] (W.transcript wire.old) (W.transcript wire.new) }
+    ensures follows { Follows B.S.faults B.S.limit B.S.names space.old space.new }
+    ensures later_wire { W.faults wire.old ≤ W.faults wire.new }
+    ensures caused { Caused result (B.S.faults space.old) (B.S.faults space.new) (W.faults wire.old) (W.faults wire.new) }
+    ensures ends { IsEnd result }
+{
+    match wire.open(at) {
+        Ok(()) => {}
+        Err(_) => return End::WireFault,
+    }
+    let mut server = Server::new(alloc, base);
+    let end = serve(&mut server, space, wire, clock, turns);
+    let _ = ManuallyDrop::new(server);
+    end
+}

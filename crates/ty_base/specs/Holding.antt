@@ -1,0 +1,57 @@
+-- What a database holds over the files of its space.
+use Rattle.std.specs.Prelude.{◌≡◌, ◌≢◌, ◌⊎◌, ℕ, false, List}
+use Rattle.std.proofs.Common.{◌∙◌, refl}
+use Rattle.tc_base.specs.Files.{Files}
+use Rattle.tc_base.specs.declared.request.Request.{Request}
+use Rattle.tc_space.specs.Frames.{OnlyReads, Reads, only_reads_refl}
+use Rattle.tc_space.specs.declared.space.Space.{Ghosts}
+use Rattle.tc_model.specs.Contents.{Contents, Walk}
+use Rattle.tc_model.specs.Apply.{Step}
+use Rattle.tc_model.specs.Applying.{Applies}
+use Rattle.tc_model.specs.declared.applied.Applied.{Applied}
+
+-- it holds these contents, with the files as they are now
+abbrev pub Held : {S B : Type 0} → Ghosts S → (B → Files → Contents → Type 0) → B → S → Contents → Type 0
+Held s holds base space c = s.tells × holds base (s.now space) c
+
+-- what a request makes of the contents is held now
+pub record Serves {S B : Type 0} (s : Ghosts S) (held : B → Files → Contents → Type 0) (step : Step) (r : Request) (a : Applied) (base : B) (space : S) (w : Walk) (old new : List ℕ) : Type 0 where
+  pub contents : Contents
+  pub holds : Held s held base space contents
+  pub applies : Applies step r a contents w old new
+
+-- it may be used: so may the space, and some contents are held where files are told
+pub record IsReady {S B : Type 0} (s : Ghosts S) (holds : B → Files → Contents → Type 0) (base : B) (space : S) : Type 0 where
+  pub sound : s.sound space
+  pub held : s.tells → (c : Contents) × holds base (s.now space) c
+
+-- a file stays
+pub record Stays {S : Type 0} (s : Ghosts S) (file : ℕ) (old new : S) : Type 0 where
+  pub same : s.tells → s.now new file ≡ s.now old file
+
+-- the space may be used, file 2 stays, and nothing is written where it is idle
+pub record Leaves {S : Type 0} (s : Ghosts S) (idle : Type 0) (old new : S) : Type 0 where
+  pub sound : s.sound new
+  pub log : Stays s 2 old new
+  pub reads : idle → OnlyReads s old new
+
+-- the space may not be used any more, or files, contents and walk stay
+abbrev pub Declines : {S B : Type 0} → Ghosts S → (B → Files → Contents → Type 0) → B → B → S → S → Walk → Walk → Type 0
+Declines s holds base base' old new walk walk' = (s.flag new ≡ false) ⊎ (Reads s (Held s holds) base base' old new × (walk' ≡ walk))
+
+module _ {S : Type 0} (s : Ghosts S) where
+  pub stays_refl : (file : ℕ) (a : S) → Stays s file a a
+  stays_refl file a = record { same = λ t. refl }
+
+  pub stays_then : (file : ℕ) (a b c : S) → Stays s file a b → Stays s file b c → Stays s file a c
+  stays_then file a b c first second = record { same = λ t. second.same t ∙ first.same t }
+
+  pub leaves_nothing : (idle : Type 0) (a : S) → s.sound a → Leaves s idle a a
+  leaves_nothing idle a is = record { sound = is; log = stays_refl 2 a; reads = λ i. only_reads_refl s a is }
+
+  pub leaves_less : (idle less : Type 0) (a b : S) → (less → idle) → Leaves s idle a b → Leaves s less a b
+  leaves_less idle less a b fewer l = record { sound = l.sound; log = l.log; reads = λ i. l.reads (fewer i) }
+
+-- files that differ in file 2 alone
+abbrev pub AreApart : Files → Files → Type 0
+AreApart f g = (n : ℕ) → n ≢ 2 → g n ≡ f n

@@ -1,0 +1,56 @@
+-- Settling and committing, or neither.
+use Rattle.std.proofs.Common.{◌≡◌, ◌⊎◌, inl, inr, ⊎_elim, ℕ, Bool, false, ◌∙◌, sym, subst, arith}
+use Rattle.std.specs.Prelude.{Some}
+use Rattle.tc_base.specs.Files.{Files}
+use Rattle.tc_space.specs.Frames.{Keeps}
+use Rattle.tc_space.specs.Moments.{LeavesOnly}
+use Rattle.tc_space.specs.declared.space.Space.{Ghosts}
+use Rattle.tc_model.specs.Contents.{Contents}
+use Rattle.ty_world.specs.World.{Mark}
+use Rattle.ty_base.specs.Holding.{Held, IsReady, Stays}
+use Rattle.ty_rounds.specs.Kept.{HasMark, MovesTo}
+use Rattle.ty_rounds.specs.Keeping.{IsKept}
+
+module _ {S : Type 0} (s : Ghosts S) where
+  pub none_moved : (reopens : Files → Contents → Type 0) (a : S) (m : Mark) → MovesTo s reopens a a m
+  none_moved reopens a m = record { leaves = record { later = omega arith; each = λ t o le l. inl l } }
+
+  pub settled_moves : (reopens : Files → Contents → Type 0) (a b : S) (m : Mark) → Keeps s a b → s.tells → MovesTo s reopens a b m
+  settled_moves reopens a b m keeps t = let st = keeps.steady t in record { leaves = record { later = st.leaves.later; each = λ u o le l. ⊎_elim (λ was. inl was) (λ is. inr (inl is)) (st.leaves.each u o le l) } }
+
+  -- what is settled: whatever was held, it is, and the files stand for it
+  abbrev pub Settles : {B : Type 0} → (B → Files → Contents → Type 0) → (Files → Contents → Type 0) → B → B → S → S → Type 0
+  Settles holds reopens base base' a b = (c : Contents) → Held s holds base a c → Held s holds base' b c × reopens (s.now b) c
+
+  pub committed_moves : {B : Type 0} (holds : B → Files → Contents → Type 0) (reopens : Files → Contents → Type 0) (base base' : B) (a b d : S) (m : Mark) → Keeps s a b → Settles holds reopens base base' a b → Stays s 2 a b
+      → (s.tells → LeavesOnly s.moment s.left b d (λ o. (o ≡ s.kept b) ⊎ (o ≡ Some (s.now b)))) → HasMark s holds base a m → MovesTo s reopens a d m
+  committed_moves holds reopens base base' a b d m keeps settled log commits h =
+      let t = h.held.0 in
+      let st = keeps.steady t in
+      let cm = commits t in
+      record {
+        leaves = record {
+          later = omega (arith, st.leaves.later, cm.later);
+          each = λ u o le l. ⊎_elim
+              (λ mid. ⊎_elim (λ was. inl was) (λ is. inr (inl is)) (st.leaves.each u o le mid))
+              (λ p. inr (⊎_elim (λ is. inl (is ∙ st.same)) (λ is. inr (record { files = s.now b; is = is; stand = record { contents = (settled m.contents h.held).1; log = log.same t ∙ h.log } })) p))
+              (cm.each u o (omega (arith, le, st.leaves.later)) l);
+        };
+      }
+
+  module _ {B : Type 0} (holds : B → Files → Contents → Type 0) (reopens : Files → Contents → Type 0) where
+    pub nothing_kept : (commits : Bool) (base : B) (a : S) → IsReady s holds base a → s.touched a ≡ false → commits ≡ false → IsKept s holds reopens commits base base a a
+    nothing_kept commits base a is untouched none = record { ready = is; untouched = untouched; marks = λ m h stood. record { has = h; stand = stood none } }
+
+    pub is_kept : (commits : Bool) (base base' : B) (a b d : S) → IsReady s holds base a → Settles holds reopens base base' a b → Stays s 2 a b → (s.tells → (g : ℕ) → s.now d g ≡ s.now b g) → s.sound d → s.touched d ≡ false → IsKept s holds reopens commits base base' a d
+    is_kept commits base base' a b d is settled log now sound untouched = record {
+      ready = record { sound = sound; held = λ t. let h = is.held t in (h.0, held_on t h.0 (settled h.0 (t, h.1)).0.1) };
+      untouched = untouched;
+      marks = λ m h stood. let t = h.held.0 in let x = settled m.contents h.held in record {
+        has = record { held = (t, held_on t m.contents x.0.1); log = now t 2 ∙ log.same t ∙ h.log };
+        stand = subst (λ (files : Files). reopens files m.contents) (λ i f. sym (now t f) i) x.1;
+      };
+    }
+      where
+        held_on : s.tells → (c : Contents) → holds base' (s.now b) c → holds base' (s.now d) c
+        held_on t c h = subst (λ (files : Files). holds base' files c) (λ i f. sym (now t f) i) h
