@@ -8,7 +8,9 @@ use Rattle.tc_base.specs.declared.request.Request.{Request}
 use Rattle.tc_base.specs.declared.request.Request.TheVariants.{Put, PutKeep, PutCat, PutShl, PutNr, Out, AddInt, Vanish, Misc}
 use Rattle.ty_wire.specs.Updating.{IsUpdating, IsUpdatingCall}
 use Rattle.tc_model.specs.Contents.{Contents, Walk}
-use Rattle.tc_model.specs.Apply.{apply, applied, refused, updates, updates_call, updating_names, is_text}
+use Rattle.tc_base.specs.Texts.{is_text}
+use Rattle.tc_model.specs.Misc.{updates_call, updating_names}
+use Rattle.tc_model.specs.Apply.{apply, applied, refused, updates}
 
 text_true : (a b : List ℕ) → a ≡ b → is_text a b ≡ true
 text_true a b same = go (is_text a b) refl

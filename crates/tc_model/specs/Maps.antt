@@ -1,38 +1,18 @@
--- A map from keys to values, and what is read of it.
-use Rattle.std.specs.Prelude.{ℕ, ℤ, pos, negsuc, ◌+◌, List, [], ◌∷◌, ◌++◌, length, take, filter, Option, Some, None, sum_by, unwrap_or, nat_eq}
-use Rattle.std.specs.List.{starts_with}
-use Rattle.std.specs.Ordering.{nat_cmp}
-use Rattle.std.specs.Cmp.Lexicographic.{slice_cmp}
-use Rattle.std.specs.FinMap.{FinMap, get, keys, entries}
-use Rattle.tc_base.specs.declared.seq.Pair.{Pair}
-
--- keys and values are bytes; keys are ordered by their bytes, a proper prefix first
-abbrev pub Map : Type 0
-Map = FinMap (slice_cmp nat_cmp) (List ℕ)
-
--- the value of a key, no bytes where it isn't held
-abbrev pub value_of : Map → List ℕ → List ℕ
-value_of m key = unwrap_or (get m key) []
+-- Changes of maps: none where they fail.
+use Rattle.std.specs.Prelude.{ℕ, ◌+◌, List, length, sum_by, Option, Some, None, option_map, is_some, if◌then◌else◌}
+use Rattle.std.specs.declared.cmp.Ordering.{Ordering}
+use Rattle.std.specs.FinMap.{FinMap, get, insert, remove, entries}
+use Rattle.tc_base.specs.Maps.{Map}
+use Rattle.tc_model.specs.Values.{allowed}
 
 -- the bytes of all keys and values
-abbrev pub size_of : Map → ℕ
-size_of m = sum_by (λ e. length e.0 + length e.1) (entries m)
+abbrev pub bytes_in : Map → ℕ
+bytes_in m = sum_by (λ e. length e.0 + length e.1) (entries m)
 
--- a key with its value, where it is held
-abbrev pub held : List ℕ → Option (List ℕ) → List Pair
-held key None = []
-held key (Some value) = record { key = key; value = value } ∷ []
+-- the map with a key set to a value; a new value of more than 16,777,216 bytes is refused
+abbrev pub with_value : Map → List ℕ → List ℕ → Option Map
+with_value m key value = option_map (insert m key) (allowed value)
 
--- those of the keys that are held, with their values; a repeated key comes again
-abbrev pub pairs_of : Map → List (List ℕ) → List Pair
-pairs_of m [] = []
-pairs_of m (key ∷ rest) = held key (get m key) ++ pairs_of m rest
-
--- at most so many, all where the number is negative
-abbrev pub at_most : ℤ → List (List ℕ) → List (List ℕ)
-at_most (pos n) xs = take n xs
-at_most (negsuc n) xs = xs
-
--- the keys that begin with the prefix, in ascending order
-abbrev pub keys_from : Map → List ℕ → List (List ℕ)
-keys_from m prefix = filter (λ key. starts_with nat_eq key prefix) (keys m)
+-- the map without a key that is held; none where it isn't
+abbrev pub without : {K X : Type 0} {R : K → K → Ordering} → FinMap R X → K → Option (FinMap R X)
+without m key = if is_some (get m key) then Some (remove m key) else None

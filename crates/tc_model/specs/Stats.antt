@@ -1,11 +1,10 @@
 -- The text that stat gives: three lines of a word, a tab and a value.
 use Rattle.std.specs.Prelude.{ℕ, List, [], ◌∷◌, ◌++◌, codes}
 use Rattle.std.specs.Fmt.{decimal}
-use Rattle.std.specs.FinMap.{len}
 use Rattle.tc_base.specs.declared.kind.Kind.{Kind}
 use Rattle.tc_base.specs.declared.kind.Kind.TheVariants.{Hash, Tree, Fixed, Table, MemHash, MemTree}
-use Rattle.tc_model.specs.Maps.{size_of}
-use Rattle.tc_model.specs.Contents.{Contents}
+use Rattle.tc_model.specs.Contents.{Contents, kind_of}
+use Rattle.tc_model.specs.Stores.{count, size_of}
 
 abbrev pub kind_text : Kind → List ℕ
 kind_text Hash = codes "hash"
@@ -22,4 +21,4 @@ abbrev pub text_of : Kind → ℕ → ℕ → List ℕ
 text_of kind rnum size = line (codes "type") (kind_text kind) ++ (line (codes "rnum") (decimal rnum) ++ line (codes "size") (decimal size))
 
 abbrev pub stat_text : Contents → List ℕ
-stat_text c = text_of c.kind (len c.map) (size_of c.map)
+stat_text c = text_of (kind_of c) (count c) (size_of c)

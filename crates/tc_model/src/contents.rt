@@ -1,96 +1,136 @@
 //! The contents of a database.
-ghost use Rattle.std.specs.Prelude.{◌≡◌, ◌++◌, IsSome, IfOk, OnOk, OnErr};
-ghost use Rattle.std.specs.FinMap.{empty, get, insert, remove};
-ghost use Rattle.tc_model.specs.Maps.{value_of};
-ghost use Rattle.tc_model.specs.Contents.{with_map};
-ghost use Rattle.tc_model.specs.Plans.{changed_by};
+ghost use Rattle.std.specs.Prelude.{◌≡◌};
+ghost use Rattle.tc_model.specs.Contents.{no_data, kind_of};
+ghost use Rattle.tc_model.specs.Views.{contents_of};
 
-use crate::deeds::Change;
-use crate::map::ByteMap;
+use crate::maps::{Copied, IdMap, KeyMap};
+use crate::query::IndexKind;
 use std::alloc::{AllocError, Global};
 use std::marker::Model;
-use tc_base::{Blob, Key, Kind};
+use tc_base::{Blob, Kind, Pairs};
 
-/// The kind of a database and its data.
+/// The data of each kind, with its shape.
+#[derive(Drop)]
+pub(crate) enum Data {
+    Hash {
+        memory: bool,
+        map: KeyMap<Blob>,
+    },
+    Tree {
+        memory: bool,
+        decimal: bool,
+        pairs: Pairs,
+    },
+    Fixed {
+        width: u32,
+        most: u64,
+        ids: IdMap,
+    },
+    Table {
+        rows: KeyMap<Pairs>,
+        indexes: KeyMap<IndexKind>,
+    },
+}
+
+impl Copied for Data {
+    fn copied(&self, alloc: Global) -> Result<Data, AllocError> {
+        match self {
+            Data::Hash { memory, map } => Ok(Data::Hash {
+                memory: *memory,
+                map: map.copied(alloc)?,
+            }),
+            Data::Tree {
+                memory,
+                decimal,
+                pairs,
+            } => Ok(Data::Tree {
+                memory: *memory,
+                decimal: *decimal,
+                pairs: pairs.copied(alloc)?,
+            }),
+            Data::Fixed { width, most, ids } => Ok(Data::Fixed {
+                width: *width,
+                most: *most,
+                ids: ids.copied(alloc)?,
+            }),
+            Data::Table { rows, indexes } => Ok(Data::Table {
+                rows: rows.copied(alloc)?,
+                indexes: indexes.copied(alloc)?,
+            }),
+        }
+    }
+}
+
+/// A shape and the data in it.
 #[derive(Drop)]
 pub struct Contents {
-    kind: Kind,
-    map: ByteMap,
+    pub(crate) data: Data,
 }
 
 impl Model for Contents {
     ghost use Rattle.tc_model.specs.Contents.{Contents};
     ghost use Rattle.tc_model.specs.Codes.{contents_code};
+    ghost use Rattle.tc_model.specs.Views.{contents_of};
 
     ghost Value = { Contents };
 
     ghost coded = { contents_code };
 
-    ghost view = { λ c. record { kind = c.kind; map = c.map } };
+    ghost view = { λ c. contents_of c.data };
 }
 
 impl Contents {
-    /// No data, of a shape. What a kind doesn't have isn't looked at: `decimal` counts for trees alone, `width` and `max_id` for fixed alone.
+    /// No data, in a shape: `decimal` counts for trees alone, `width` and `max_id` for fixed alone.
     pub fn new(alloc: Global, kind: Kind, decimal: bool, width: u32, max_id: u64) -> Contents
-        ensures kind { result.kind ≡ kind }
-        ensures map { result.map ≡ empty }
+        ensures { result ≡ no_data kind decimal width max_id }
     {
-        Contents {
-            kind,
-            map: ByteMap::new(alloc),
-        }
+        let data = match kind {
+            Kind::Hash => Data::Hash {
+                memory: false,
+                map: KeyMap::new(alloc),
+            },
+            Kind::MemHash => Data::Hash {
+                memory: true,
+                map: KeyMap::new(alloc),
+            },
+            Kind::Tree => Data::Tree {
+                memory: false,
+                decimal,
+                pairs: Pairs::new(alloc),
+            },
+            Kind::MemTree => Data::Tree {
+                memory: true,
+                decimal,
+                pairs: Pairs::new(alloc),
+            },
+            Kind::Fixed => Data::Fixed {
+                width,
+                most: max_id,
+                ids: IdMap::new(alloc),
+            },
+            Kind::Table => Data::Table {
+                rows: KeyMap::new(alloc),
+                indexes: KeyMap::new(alloc),
+            },
+        };
+        Contents { data }
     }
 
     pub fn kind(&self) -> Kind
-        ensures { result ≡ self.now.kind }
+        ensures { result ≡ kind_of self.now }
     {
-        self.kind
+        kind_of(&self.data)
     }
+}
 
-    pub fn map(&self) -> &ByteMap
-        ensures { result.now ≡ self.now.map }
-    {
-        &self.map
-    }
-
-    /// Gives a key a value, and hands back the one that it had. An `Err` changes nothing.
-    pub fn set(&mut self, key: Key, value: Blob) -> Result<Option<Blob>, AllocError>
-        ensures ok { OnOk result (self.new ≡ with_map self.old (insert self.old.map key value)) }
-        ensures replaced { IfOk result (λ old. old ≡ get self.old.map key) }
-        ensures err { OnErr result (self.new ≡ self.old) }
-    {
-        self.map.set(key, value)
-    }
-
-    /// Takes a key out, where it is held, and hands back its value.
-    pub fn remove(&mut self, key: &Key) -> Option<Blob>
-        ensures map { self.new ≡ with_map self.old (remove self.old.map key.now) }
-        ensures value { result ≡ get self.old.map key.now }
-    {
-        self.map.remove(key)
-    }
-
-    /// Takes all keys out.
-    pub fn clear(&mut self)
-        ensures { self.new ≡ with_map self.old empty }
-    {
-        self.map.clear();
-    }
-
-    /// Changes the map. An `Err` changes nothing.
-    pub fn change(&mut self, change: Change) -> Result<(), AllocError>
-        ensures ok { OnOk result (self.new ≡ with_map self.old (changed_by self.old.map change)) }
-        ensures err { OnErr result (self.new ≡ self.old) }
-    {
-        self.map.change(change)
-    }
-
-    /// Joins bytes behind the value of a key that is held, at the cost of these bytes. An `Err` changes nothing.
-    pub fn append(&mut self, key: &Key, more: &[u8]) -> Result<(), AllocError>
-        requires { IsSome (get self.old.map key.now) }
-        ensures ok { OnOk result (self.new ≡ with_map self.old (insert self.old.map key.now (value_of self.old.map key.now ++ more.now))) }
-        ensures err { OnErr result (self.new ≡ self.old) }
-    {
-        self.map.append(key, more)
+/// The kind of data.
+pub(crate) fn kind_of(data: &Data) -> Kind
+    ensures { result ≡ kind_of (contents_of data.now) }
+{
+    match data {
+        Data::Hash { memory, .. } => { if *memory { Kind::MemHash } else { Kind::Hash } }
+        Data::Tree { memory, .. } => { if *memory { Kind::MemTree } else { Kind::Tree } }
+        Data::Fixed { .. } => Kind::Fixed,
+        Data::Table { .. } => Kind::Table,
     }
 }

@@ -1,20 +1,39 @@
-//! The abstract database: its contents, and what each request makes of them and is answered.
+//! The abstract database of every kind: what each request makes of its contents, and what it is answered.
 #![tactic(auto)]
 
-mod answers;
 mod applied;
 mod apply;
+mod cells;
 mod contents;
-mod deeds;
-mod map;
-mod requests;
-mod updates;
+mod effects;
+mod indexes;
+mod maps;
+mod meaning;
+mod misc;
+mod operators;
+mod queries;
+mod query;
+mod reading;
+mod reads;
+mod rows;
+mod search;
+mod stores;
+mod texts;
+mod trees;
 mod walk;
 
 pub use applied::Applied;
-pub use apply::apply_plain;
+pub use apply::{apply_plain, replay};
 pub use contents::Contents;
-pub use deeds::{Change, Deed, Plan};
-pub use map::ByteMap;
-pub use requests::{plan, plan_of_size, plan_of_stat};
+pub use effects::stat_lines;
+pub use indexes::index_pairs;
+pub use maps::{Copied, IdMap, KeyMap};
+pub use meaning::{found, has_short_keys};
+pub use misc::Misc;
+pub use queries::read_query;
+pub use query::{Cond, Deed, IndexKind, Query, Sort};
+pub use reading::read_misc;
+pub use search::{Found, FoundRow, arrange, holds};
+pub use stores::{last_of, spelled, sum_of};
+pub use texts::maximum_of;
 pub use walk::Walk;

@@ -1,9 +1,10 @@
-//! The plain body and the one in memory, side by side.
+//! The plain body and the database in memory, side by side.
 use std::alloc::{AllocError, Global};
 use tc_base::{Blob, Kind, Request};
-use tc_mem::MemBase;
+use tc_mem::MemEngine;
 use tc_model::{Contents, Walk, apply_plain};
 use tc_space::NoSpace;
+use ty_answers::Database;
 use ty_base::Base;
 use ty_wire::{Front, read_request, take};
 
@@ -12,7 +13,7 @@ use ty_wire::{Front, read_request, take};
 pub struct Bodies {
     contents: Contents,
     plain: Walk,
-    base: MemBase,
+    base: Database<MemEngine>,
     walk: Walk,
 }
 
@@ -24,11 +25,16 @@ pub struct Answer {
     pub alike: bool,
 }
 
-pub fn fresh(alloc: Global) -> Bodies {
+/// Both, empty, of a kind in memory.
+pub fn fresh(alloc: Global, kind: Kind) -> Bodies {
+    let engine = match kind {
+        Kind::MemTree => MemEngine::tree(alloc),
+        _ => MemEngine::map(alloc),
+    };
     Bodies {
-        contents: Contents::new(alloc, Kind::MemHash, false, 0, 0),
+        contents: Contents::new(alloc, kind, false, 0, 0),
         plain: Walk::new(),
-        base: MemBase::new(alloc),
+        base: Database::new(alloc, engine),
         walk: Walk::new(),
     }
 }

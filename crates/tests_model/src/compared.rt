@@ -1,7 +1,7 @@
 use crate::bodies::{Bodies, ask, fresh};
 use std::alloc::{AllocError, Global};
 use std::test::Fail;
-use tc_base::Blob;
+use tc_base::{Blob, Kind};
 
 // Numbers that look drawn by chance, and are the same in each run.
 #[derive(Drop)]
@@ -27,14 +27,14 @@ impl Draws {
         numbers[place as usize]
     }
 
-    // A text of so many of the letters a, b and c.
+    // A text of so many of the letters a and b and the digit 1.
     fn text(&mut self, alloc: Global, len: u32) -> Result<Blob, AllocError> {
         let mut bytes = Blob::new(alloc);
         for _ in 0..len {
             let letter = match self.next() % 3 {
                 0 => b'a',
                 1 => b'b',
-                _ => b'c',
+                _ => b'1',
             };
             bytes.push(letter)?;
         }
@@ -59,7 +59,13 @@ const NUMBERS: [u32; 9] = [
     0xFFFF_FFFF,
 ];
 
-// A request's command byte, and its fields: keys, values, numbers of four and eight bytes, and counted keys.
+// Names of misc, and one that is none.
+const NAMES: [&str; 13] = [
+    "put", "putkeep", "putcat", "out", "get", "putlist", "outlist", "getlist", "putdup", "range",
+    "search", "setindex", "a",
+];
+
+// A request's command byte, and its fields: keys, values, names of misc, numbers of four and eight bytes, and counted keys.
 #[derive(Drop)]
 struct Form {
     command: u8,
@@ -80,6 +86,7 @@ fn form_of(number: u64) -> Form {
         9 => (0x51, b"".as_slice()),
         10 => (0x58, b"kw".as_slice()),
         11 => (0x60, b"kw".as_slice()),
+        12 => (0x90, b"nwm".as_slice()),
         _ => return rare(number),
     };
     Form { command, fields }
@@ -87,18 +94,17 @@ fn form_of(number: u64) -> Form {
 
 fn rare(number: u64) -> Form {
     let (command, fields) = match number {
-        12 => (0x50, b"".as_slice()),
-        13 => (0x61, b"kll".as_slice()),
-        14 => (0x68, b"kwkv".as_slice()),
-        15 => (0x70, b"".as_slice()),
-        16 => (0x71, b"k".as_slice()),
-        17 => (0x73, b"k".as_slice()),
-        18 => (0x74, b"klw".as_slice()),
-        19 => (0x78, b"kwlw".as_slice()),
-        20 => (0x80, b"".as_slice()),
-        21 => (0x81, b"".as_slice()),
-        22 => (0x88, b"".as_slice()),
-        23 => (0x90, b"kwm".as_slice()),
+        13 => (0x50, b"".as_slice()),
+        14 => (0x61, b"kll".as_slice()),
+        15 => (0x68, b"kwkv".as_slice()),
+        16 => (0x70, b"".as_slice()),
+        17 => (0x71, b"k".as_slice()),
+        18 => (0x73, b"k".as_slice()),
+        19 => (0x74, b"klw".as_slice()),
+        20 => (0x78, b"kwlw".as_slice()),
+        21 => (0x80, b"".as_slice()),
+        22 => (0x81, b"".as_slice()),
+        23 => (0x88, b"".as_slice()),
         24 => (0xA0, b"lw".as_slice()),
         _ => (0x72, b"".as_slice()),
     };
@@ -153,6 +159,12 @@ fn push_field(
             let len = draws.of(&VALUES);
             push_text(alloc, draws, len, heads, texts)
         }
+        b'n' => {
+            let place = draws.next() % NAMES.len() as u64;
+            let name = NAMES[place as usize].as_bytes();
+            push_number(heads, u32::try_from(name.len()).unwrap_or(0))?;
+            texts.append(name)
+        }
         b'm' => {
             let count = draws.of(&[0, 1, 2, 3, 4, 5]);
             push_number(heads, count)?;
@@ -177,11 +189,12 @@ fn spelled(alloc: Global, draws: &mut Draws, form: &Form) -> Result<Blob, AllocE
     Ok(heads)
 }
 
-// Which request comes next: most are about keys, and few empty the contents.
+// Which request comes next: most are about keys, many are misc, and few empty the contents.
 fn chosen(draws: &mut Draws) -> u64 {
     match draws.next() % 100 {
-        0..85 => draws.next() % 12,
-        85..99 => 12 + draws.next() % 13,
+        0..70 => draws.next() % 13,
+        70..85 => 12,
+        85..99 => 13 + draws.next() % 12,
         _ => 25,
     }
 }
@@ -214,20 +227,22 @@ fn turn(
     Ok(())
 }
 
-// Both bodies answer thousands of requests alike.
+// Both bodies answer thousands of requests alike, of either kind.
 #[test]
 fn bodies_answer_alike(rt: HostRuntime) -> Result<(), Fail> {
     let alloc = rt.alloc();
-    let mut both = fresh(alloc);
-    let mut draws = Draws { state: 20_091_117 };
-    let mut count = Count {
-        updated: 0,
-        unlike: 0,
-    };
-    for _ in 0..8000 {
-        turn(alloc, &mut both, &mut draws, &mut count)?;
+    for kind in [Kind::MemHash, Kind::MemTree] {
+        let mut both = fresh(alloc, kind);
+        let mut draws = Draws { state: 20_091_117 };
+        let mut count = Count {
+            updated: 0,
+            unlike: 0,
+        };
+        for _ in 0..8000 {
+            turn(alloc, &mut both, &mut draws, &mut count)?;
+        }
+        assert_eq!(&rt; count.unlike, 0);
+        assert!(&rt; count.updated > 2000);
     }
-    assert_eq!(&rt; count.unlike, 0);
-    assert!(&rt; count.updated > 2000);
     Ok(())
 }

@@ -1,4 +1,4 @@
-//! Requests on the abstract database, and on the map in memory beside it.
+//! Requests on the abstract database, and on the databases in memory beside it.
 #![tactic(auto)]
 
 #[cfg(test)]

@@ -1,7 +1,7 @@
 use crate::bodies::{Bodies, fresh, says};
 use std::alloc::{AllocError, Global};
 use std::test::Fail;
-use tc_base::Blob;
+use tc_base::{Blob, Kind};
 
 // A request's bytes, and those of its reply.
 #[derive(Drop)]
@@ -240,18 +240,19 @@ const REFUSED: &[Step] = &[
     },
 ];
 
-// Both bodies reply so, each table from empty contents.
+// Both bodies reply so, each table from empty contents; what stat says is of the hash.
 #[test]
 fn worked_requests_are_answered(rt: HostRuntime) -> Result<(), Fail> {
     let alloc = rt.alloc();
-    for (i, steps) in [SHIFTED, ADDED, GIVEN, WALKED, COUNTED, REFUSED]
-        .iter()
-        .enumerate()
-    {
-        let mut both = fresh(alloc);
-        let wrong = first_wrong(alloc, &mut both, steps)?;
-        assert!(&rt; wrong.is_none(), "table {i}");
+    for (i, steps) in [SHIFTED, ADDED, GIVEN, WALKED, REFUSED].iter().enumerate() {
+        for kind in [Kind::MemHash, Kind::MemTree] {
+            let mut both = fresh(alloc, kind);
+            let wrong = first_wrong(alloc, &mut both, steps)?;
+            assert!(&rt; wrong.is_none(), "table {i}");
+        }
     }
+    let mut both = fresh(alloc, Kind::MemHash);
+    assert!(&rt; first_wrong(alloc, &mut both, COUNTED)?.is_none());
     Ok(())
 }
 
@@ -304,7 +305,7 @@ const LIMITED: &[Step] = &[
 #[test]
 fn limits_are_kept(rt: HostRuntime) -> Result<(), Fail> {
     let alloc = rt.alloc();
-    let mut both = fresh(alloc);
+    let mut both = fresh(alloc, Kind::MemHash);
     let first = long_put(alloc)?;
     assert!(&rt; says(alloc, &mut both, first.as_slice(), b"\0")?);
     let thrice = b"\xC8\x31\0\0\0\x03\0\0\0\x01a\0\0\0\x01a\0\0\0\x01a";

@@ -2,7 +2,7 @@
 use Rattle.std.specs.Prelude.{◌≡◌, ℕ}
 use Rattle.tc_base.specs.Files.{Files}
 use Rattle.tc_base.specs.declared.kind.Kind.{Kind}
-use Rattle.tc_model.specs.Contents.{Contents}
+use Rattle.tc_model.specs.Contents.{Contents, kind_of}
 use Rattle.tc_base.specs.declared.kind.Rule.{Rule}
 use Rattle.tc_space.specs.declared.errors.RecErr.{RecErr}
 use Rattle.tc_space.specs.declared.errors.RecErr.TheVariants as rec
@@ -11,7 +11,7 @@ use Rattle.ty_base.specs.declared.errors.AnyErr.TheVariants as any
 
 -- contents of a kind, for which files stand
 pub record OpensTo (kind : Kind) (reopens : Files → Contents → Type 0) (files : Files) (c : Contents) : Type 0 where
-  pub kind_is : c.kind ≡ kind
+  pub kind_is : kind_of c ≡ kind
   pub stand : reopens files c
 
 -- they are held, and the files stand for them

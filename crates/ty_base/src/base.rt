@@ -4,7 +4,7 @@ ghost use Rattle.tc_base.specs.Files.{Files};
 ghost use Rattle.tc_io.specs.Causes.{Rose};
 ghost use Rattle.tc_space.specs.Frames.{Keeps, Reads, Refuses};
 ghost use Rattle.ty_wire.specs.Prefixes.{IsPrefix};
-ghost use Rattle.tc_model.specs.Contents.{Contents};
+ghost use Rattle.tc_model.specs.Contents.{Contents, kind_of};
 ghost use Rattle.tc_model.specs.Apply.{apply};
 ghost use Rattle.tc_model.specs.Packing.{is_optimize};
 ghost use Rattle.ty_base.specs.Holding.{AreApart, Declines, Held, IsReady, Leaves, Serves, Stays};
@@ -33,7 +33,7 @@ pub trait Base {
 
     /// Its kind.
     fn kind(&self) -> Kind
-        ensures { (files : Files) (c : Contents) → holds self.now files c → result ≡ c.kind };
+        ensures { (files : Files) (c : Contents) → holds self.now files c → result ≡ kind_of c };
 
     /// Serves a request: its reply goes behind the bytes that are there. On an `Err` they have some more behind them.
     fn apply(

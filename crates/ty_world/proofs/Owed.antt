@@ -8,13 +8,9 @@ use Rattle.tc_base.specs.declared.request.Request.TheVariants.{Put, PutKeep, Put
 use Rattle.tc_base.specs.declared.request.Reply.{Reply}
 use Rattle.tc_base.specs.declared.request.Reply.TheVariants as reply
 use Rattle.ty_wire.specs.Spelling.{reply_bytes}
-use Rattle.std.specs.Prelude.{option_map}
-use Rattle.std.specs.FinMap.{get, empty, len, keys}
-use Rattle.tc_model.specs.Maps.{Map, value_of, size_of, pairs_of, at_most, keys_from}
-use Rattle.tc_model.specs.Stats.{stat_text}
-use Rattle.tc_model.specs.Changes.{with_value, with_new, without, last, sum_of, with_number}
 use Rattle.tc_model.specs.Contents.{Contents, Walk}
-use Rattle.tc_model.specs.Apply.{Step, apply, applied, refused, changed, told, read, length_of, next_in, stepped, added, fits, updates}
+use Rattle.tc_model.specs.Stores.{all_keys}
+use Rattle.tc_model.specs.Apply.{Step, Effect, apply, applied, effect, refused, told, took, next_in, stepped, fits, updates}
 use Rattle.ty_world.specs.World.{owed_for, repl_reply}
 
 abbrev Small : Step → Type 0
@@ -25,56 +21,48 @@ refused_small (PutNr key value) c w = omega arith
 refused_small (Misc name options args) c w = omega arith
 refused_small _ c w = omega arith
 
-told_small : (r : Request) (answer : Reply) (c : Contents) (w v : Walk) → Small (told r answer c w v)
-told_small r answer c w v = go (fits answer) refl
+told_small : (r : Request) (answer : Reply) (after : Contents) (walk : Walk) (c : Contents) (w : Walk) → Small (told r answer after walk c w)
+told_small r answer after walk c w = go (fits answer) refl
   where
-    go : (b : Bool) → fits answer ≡ b → Small (cond b (record { contents = c; walk = v; reply = answer; ok = true }) (refused r c w))
+    go : (b : Bool) → fits answer ≡ b → Small (cond b (record { contents = after; walk = walk; reply = answer; ok = true }) (refused r c w))
     go true is = leb-true (length (reply_bytes answer)) 67108864 is
     go false is = refused_small r c w
 
-changed_small : (r : Request) (answer : Reply) (m : Option Map) (c : Contents) (w : Walk) → length (reply_bytes answer) ≤ 67108864 → Small (changed r answer m c w)
-changed_small r answer None c w few = refused_small r c w
-changed_small r answer (Some m) c w few = few
-
-read_small : (r : Request) (answer : Option Reply) (c : Contents) (w : Walk) → Small (read r answer c w)
-read_small r None c w = refused_small r c w
-read_small r (Some answer) c w = told_small r answer c w w
+took_small : (r : Request) (e : Effect) (c : Contents) (w : Walk) → Small (took r e c w)
+took_small r None c w = refused_small r c w
+took_small r (Some e) c w = told_small r e.1 e.0 w c w
 
 stepped_small : (r : Request) (next : Option (List ℕ × List (List ℕ))) (c : Contents) (w : Walk) → Small (stepped r next c w)
 stepped_small r None c w = refused_small r c w
-stepped_small r (Some next) c w = told_small r (reply.Value next.0) c w (Some next.1)
-
-added_small : (r : Request) (key : List ℕ) (n : Option ℕ) (c : Contents) (w : Walk) → Small (added r key n c w)
-added_small r key None c w = refused_small r c w
-added_small r key (Some n) c w = changed_small r (reply.Four n) (Some (with_number c.map key n)) c w (omega arith)
+stepped_small r (Some next) c w = told_small r (reply.Value next.0) c (Some next.1) c w
 
 applied_small : (r : Request) (c : Contents) (w : Walk) → Small (applied r c w)
-applied_small (Put key value) c w = changed_small (Put key value) reply.Done (with_value c.map key value) c w (omega arith)
-applied_small (PutKeep key value) c w = changed_small (PutKeep key value) reply.Done (with_new c.map key value) c w (omega arith)
-applied_small (PutCat key value) c w = changed_small (PutCat key value) reply.Done (with_value c.map key (value_of c.map key ++ value)) c w (omega arith)
-applied_small (PutShl key value width) c w = changed_small (PutShl key value width) reply.Done (with_value c.map key (last width (value_of c.map key ++ value))) c w (omega arith)
-applied_small (PutNr key value) c w = changed_small (PutNr key value) reply.Silent (with_value c.map key value) c w (omega arith)
-applied_small (Out key) c w = changed_small (Out key) reply.Done (without c.map key) c w (omega arith)
-applied_small (Get key) c w = read_small (Get key) (option_map (λ value. reply.Value value) (get c.map key)) c w
-applied_small (MGet wanted) c w = read_small (MGet wanted) (Some (reply.Pairs (pairs_of c.map wanted))) c w
-applied_small (Vsiz key) c w = read_small (Vsiz key) (length_of (get c.map key)) c w
-applied_small IterInit c w = told_small IterInit reply.Done c w (Some (keys c.map))
-applied_small IterNext c w = stepped_small IterNext (next_in c.map w) c w
-applied_small (FwmKeys prefix maximum) c w = read_small (FwmKeys prefix maximum) (Some (reply.List (at_most maximum (keys_from c.map prefix)))) c w
-applied_small (AddInt key number) c w = added_small (AddInt key number) key (sum_of (get c.map key) number) c w
+applied_small IterInit c w = told_small IterInit reply.Done c (Some (all_keys c)) c w
+applied_small IterNext c w = stepped_small IterNext (next_in c w) c w
+applied_small (Repl timestamp server) c w = omega arith
+applied_small (Put key value) c w = took_small (Put key value) (effect (Put key value) c) c w
+applied_small (PutKeep key value) c w = took_small (PutKeep key value) (effect (PutKeep key value) c) c w
+applied_small (PutCat key value) c w = took_small (PutCat key value) (effect (PutCat key value) c) c w
+applied_small (PutShl key value width) c w = took_small (PutShl key value width) (effect (PutShl key value width) c) c w
+applied_small (PutNr key value) c w = took_small (PutNr key value) (effect (PutNr key value) c) c w
+applied_small (Out key) c w = took_small (Out key) (effect (Out key) c) c w
+applied_small (Get key) c w = took_small (Get key) (effect (Get key) c) c w
+applied_small (MGet keys) c w = took_small (MGet keys) (effect (MGet keys) c) c w
+applied_small (Vsiz key) c w = took_small (Vsiz key) (effect (Vsiz key) c) c w
+applied_small (FwmKeys prefix maximum) c w = took_small (FwmKeys prefix maximum) (effect (FwmKeys prefix maximum) c) c w
+applied_small (AddInt key number) c w = took_small (AddInt key number) (effect (AddInt key number) c) c w
 applied_small (AddDouble key integer fraction) c w = omega arith
 applied_small (Ext name options key value) c w = omega arith
-applied_small Sync c w = told_small Sync reply.Done c w w
-applied_small (Optimize text) c w = told_small (Optimize text) reply.Done c w w
-applied_small Vanish c w = changed_small Vanish reply.Done (Some empty) c w (omega arith)
+applied_small Sync c w = took_small Sync (effect Sync c) c w
+applied_small (Optimize text) c w = took_small (Optimize text) (effect (Optimize text) c) c w
+applied_small Vanish c w = took_small Vanish (effect Vanish c) c w
 applied_small (Copy path) c w = omega arith
 applied_small (Restore path timestamp options) c w = omega arith
 applied_small (SetMst host port timestamp options) c w = omega arith
-applied_small Rnum c w = told_small Rnum (reply.Eight (len c.map)) c w w
-applied_small Size c w = told_small Size (reply.Eight (size_of c.map)) c w w
-applied_small Stat c w = told_small Stat (reply.Value (stat_text c)) c w w
-applied_small (Misc name options args) c w = omega arith
-applied_small (Repl timestamp server) c w = omega arith
+applied_small Rnum c w = took_small Rnum (effect Rnum c) c w
+applied_small Size c w = took_small Size (effect Size c) c w
+applied_small Stat c w = took_small Stat (effect Stat c) c w
+applied_small (Misc name options args) c w = took_small (Misc name options args) (effect (Misc name options args) c) c w
 
 apply_small : (replica : Bool) (r : Request) (c : Contents) (w : Walk) → Small (apply replica r c w)
 unfolding apply

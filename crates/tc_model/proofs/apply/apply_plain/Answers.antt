@@ -1,17 +1,11 @@
-use Rattle.std.proofs.Common.{◌∙◌, ◌++◌, ap, Bool, ◌&&◌}
-use Rattle.ty_wire.specs.Spelling.{reply_bytes}
-use Rattle.tc_base.specs.declared.request.Reply.{Reply}
-use Rattle.tc_model.specs.Apply.{apply, updates}
+use Rattle.std.proofs.Common.{◌∙◌, sym, subst}
+use Rattle.tc_model.specs.Apply.{Step, apply}
+use Rattle.tc_model.specs.Applying.{Applies}
+use Rattle.tc_model.proofs.Taking.{plain_is, ok_more}
 use Rattle.tc_model.proofs.apply.apply_plain.Goals as goal
 
-pub returns-clause-ok : goal.returns-clause-ok
+pub returns-in-Plain-clause-ok : goal.returns-in-Plain-clause-ok
 unfolding apply
-returns-clause-ok c =
-    let p = c.in_ok-ok.ensures in
-    record {
-      contents = c.in_ok-perform.ensures.contents ∙ p.stored;
-      walk = c.in_ok-perform.ensures.walk ∙ p.walked;
-      bytes = c.in_ok-write_reply.ensures.ok ∙ ap (λ (r : Reply). c.args.reply.now ++ reply_bytes r) p.answered;
-      ok = p.done;
-      updated = c.is_updated.ensures ∙ ap (λ (b : Bool). b && updates c.args.r.now) p.done;
-    }
+returns-in-Plain-clause-ok c =
+    ok_more c.take_effect.result (λ a h. subst (λ (s : Step). Applies s c.args.r.now a c.take_effect.new.c c.args.walk.now c.args.reply.now c.take_effect.new.reply)
+    (plain_is c.args.r.now c.args.c.now c.args.walk.now (sym c.way_of.ensures ∙ c.in-Plain.is)) (h c.args.walk.now)) c.take_effect.ensures.ok

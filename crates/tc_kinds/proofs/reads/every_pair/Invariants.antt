@@ -1,8 +1,0 @@
-use Rattle.std.proofs.Common.{◌≡◌, ◌++◌, drop}
-use Rattle.std.specs.Prelude.{flat_map}
-use Rattle.tc_kinds.specs.Stores.{all_pairs}
-use Rattle.tc_kinds.specs.Views.{contents_of}
-use Rattle.tc_kinds.proofs.reads.every_pair.Given as goal
-
-abbrev pub invariant-loop-key : goal.invariant-loop-key
-invariant-loop-key l = l.found ++ flat_map (all_pairs (contents_of l.data)) (drop l.key-index l.keys) ≡ flat_map (all_pairs (contents_of l.data)) l.keys
