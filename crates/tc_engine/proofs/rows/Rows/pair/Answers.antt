@@ -1,0 +1,12 @@
+use Rattle.std.proofs.Common.{refl, arith, length-append}
+use Rattle.tc_engine.proofs.Gathering.{adds_long}
+use Rattle.tc_engine.proofs.rows.Rows.pair.Goals as goal
+
+pub returns-then-not-has_room-clause-added : goal.returns-then-not-has_room-clause-added
+returns-then-not-has_room-clause-added c = adds_long _ _ _ (λ short. let less = c.if-not-has_room.ensures.lacks refl short in omega (arith, less, length-append c.args.key.now c.args.value.now)) refl refl refl
+
+pub overflow_cast-key : goal.overflow_cast-key
+overflow_cast-key c = let fits = (c.if-not-has_room.ensures.fits refl).fits in let within = c.args.self.now.within in let small = c.args.self.now.small in omega (arith, fits, within, small)
+
+pub overflow_cast-value : goal.overflow_cast-value
+overflow_cast-value c = let fits = (c.if-not-has_room.ensures.fits refl).fits in let within = c.args.self.now.within in let small = c.args.self.now.small in omega (arith, fits, within, small)

@@ -1,0 +1,44 @@
+-- From the step that a request makes to what a database promises of it.
+use Rattle.std.proofs.Common.{◌≡◌, ◌∙◌, ℕ, Bool, false, List, refl, sym, ap, subst}
+use Rattle.std.specs.Prelude.{◌&&◌}
+use Rattle.tc_base.specs.Files.{Files}
+use Rattle.tc_base.specs.declared.request.Request.{Request}
+use Rattle.tc_space.specs.declared.space.Space.{Ghosts}
+use Rattle.tc_model.specs.Contents.{Contents, Walk}
+use Rattle.tc_model.specs.Apply.{apply, applied, updates}
+use Rattle.tc_model.specs.Applying.{Applies}
+use Rattle.tc_model.specs.declared.applied.Applied.{Applied}
+use Rattle.ty_base.specs.Holding.{Held, Leaves, Serves}
+use Rattle.ty_answers.specs.Engines.{engine_of}
+use Rattle.ty_answers.specs.Steps.{IsFullStep, Steps}
+use Rattle.ty_answers.specs.declared.database.Database.{Database}
+
+applied_here : (r : Request) (c : Contents) (w : Walk) → apply false r c w ≡ applied r c w
+unfolding apply
+applied_here r c w = refl
+
+module _ {S E : Type 0} (s : Ghosts S) (holds : E → Files → Contents → Type 0) where
+  pub serves : (r : Request) (done updating : Bool) (a : Applied) (e : E) (d : Database E) (x y : S) (w w' : Walk) (old new : List ℕ) → updating ≡ updates r → a.ok ≡ done → a.updated ≡ (done && updating) → Steps s holds r done e (engine_of d) x y w w' old new → (c : Contents) → Held s holds e x c → Serves s (λ b. holds (engine_of b)) (apply false r c w) r a d y w' old new
+  serves r done updating a e d x y w w' old new up ok updated n c h =
+      let z = n.applied_is c h in
+      record {
+        contents = z.0;
+        holds = z.1;
+        applies = subst (λ step. Applies step r a z.0 w' old new) (sym (applied_here r c w)) (record {
+          contents = z.2.contents;
+          walk = z.2.walk;
+          bytes = z.2.bytes;
+          ok = ok ∙ z.2.ok;
+          updated = updated ∙ (ap (λ u. done && u) up ∙ ap (λ t. t && updates r) z.2.ok);
+        });
+      }
+
+  pub leaves : (r : Request) (done updating : Bool) (idle : Type 0) (e e' : E) (x y : S) (w w' : Walk) (old new : List ℕ) → updating ≡ updates r → (idle → (done && updating) ≡ false) → Steps s holds r done e e' x y w w' old new → Leaves s idle x y
+  leaves r done updating idle e e' x y w w' old new up quiet n = record {
+    sound = n.sound;
+    log = n.log;
+    reads = λ i. n.idle (sym (ap (λ u. done && u) up) ∙ quiet i);
+  }
+
+  pub full_applies : (fills : S → Contents → Contents → Type 0) (r : Request) (w : Walk) (e : E) (x y : S) → IsFullStep s holds fills r w e x y → (c : Contents) → Held s holds e x c → fills y c (apply false r c w).contents
+  full_applies fills r w e x y full c h = subst (λ step. fills y c step.contents) (sym (applied_here r c w)) (full.by c h)

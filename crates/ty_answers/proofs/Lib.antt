@@ -1,0 +1,10 @@
+pub mod Applying
+pub mod Calling
+pub mod Dispatch
+pub mod Filling
+pub mod Making
+pub mod Naming
+pub mod NextKeys
+pub mod RowReplies
+pub mod Sums
+pub mod Telling

@@ -1,0 +1,25 @@
+use Rattle.std.proofs.Common.{ℕ, List, subst}
+use Rattle.tc_space.specs.Frames.{keeps_then, reads_then}
+use Rattle.ty_base.specs.Holding.{Held}
+use Rattle.tc_model.specs.Stores.{all_pairs}
+use Rattle.tc_engine.specs.Rows.{Adds, extends_then}
+use Rattle.ty_answers.proofs.Filling.{text_rows, texts_more}
+use Rattle.ty_answers.proofs.reads.fill_all.Goals as goal
+
+pub loop-key-preserved-in_ok-pairs : goal.loop-key-preserved-in_ok-pairs
+loop-key-preserved-in_ok-pairs g c = record {
+  reads = reads_then g.E.S.Space (Held g.E.S.Space g.E.Engine.holds) _ _ _ _ _ _ c.loop-key.invariant.reads c.pairs.ensures.reads;
+  keeps = keeps_then g.E.S.Space _ _ _ c.loop-key.invariant.keeps c.pairs.ensures.keeps;
+  front = extends_then c.args.into.now c.loop-key.into c.pairs.new.into c.loop-key.invariant.front c.pairs.ensures.front;
+  rows = λ k h. texts_more (all_pairs k) c.args.into.now c.loop-key.into c.pairs.new.into c.loop-key.yielded c.in-Some.key (c.loop-key.invariant.rows k h)
+      (subst (λ (x : List ℕ). Adds c.loop-key.into c.pairs.new.into (text_rows (all_pairs k x))) c.new-key.ensures (c.in_ok-pairs.ensures.rows k (c.loop-key.invariant.reads.means k h)));
+}
+
+pub loop-key-preserved : goal.loop-key-preserved
+loop-key-preserved g c = record {
+  reads = reads_then g.E.S.Space (Held g.E.S.Space g.E.Engine.holds) _ _ _ _ _ _ c.loop-key.invariant.reads c.pairs.ensures.reads;
+  keeps = keeps_then g.E.S.Space _ _ _ c.loop-key.invariant.keeps c.pairs.ensures.keeps;
+  front = extends_then c.args.into.now c.loop-key.into c.pairs.new.into c.loop-key.invariant.front c.pairs.ensures.front;
+  rows = λ k h. texts_more (all_pairs k) c.args.into.now c.loop-key.into c.pairs.new.into c.loop-key.yielded c.in-Some.key (c.loop-key.invariant.rows k h)
+      (subst (λ (x : List ℕ). Adds c.loop-key.into c.pairs.new.into (text_rows (all_pairs k x))) c.new-key.ensures (c.in_ok-pairs.ensures.rows k (c.loop-key.invariant.reads.means k h)));
+}

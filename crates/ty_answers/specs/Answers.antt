@@ -1,0 +1,68 @@
+-- What a request leaves of an engine, and of the bytes of replies.
+use Rattle.std.specs.Prelude.{◌≡◌, ◌++◌, ◌&&◌, ℕ, Bool, false, List, [], Option, Some, None, if◌then◌else◌, option_map}
+use Rattle.tc_base.specs.Files.{Files}
+use Rattle.tc_base.specs.declared.request.Reply.{Reply}
+use Rattle.tc_base.specs.declared.request.Reply.TheVariants as reply
+use Rattle.tc_space.specs.Frames.{OnlyReads}
+use Rattle.tc_space.specs.declared.space.Space.{Ghosts}
+use Rattle.ty_wire.specs.Spelling.{reply_bytes}
+use Rattle.tc_model.specs.Contents.{Contents}
+use Rattle.tc_model.specs.Apply.{Effect, fits}
+use Rattle.ty_base.specs.Holding.{Held, Stays}
+use Rattle.tc_engine.specs.Changes.{Change}
+use Rattle.ty_answers.specs.declared.voice.Voice.{Voice}
+use Rattle.ty_answers.specs.declared.voice.Voice.TheVariants.{Plain, Silent, Misc}
+
+-- how a change is answered, and how its refusal
+abbrev pub done_reply : Voice → Reply
+done_reply Plain = reply.Done
+done_reply Silent = reply.Silent
+done_reply Misc = reply.List []
+
+abbrev pub fail_reply : Voice → Reply
+fail_reply Plain = reply.Fail
+fail_reply Silent = reply.Silent
+fail_reply Misc = reply.FailMisc
+
+-- ---- effects as functions of contents
+
+abbrev pub Request : Type 0
+Request = Contents → Effect
+
+-- a change that is answered so
+abbrev pub changed_by : Reply → Change → Request
+changed_by answer f c = option_map (λ d. (d, answer)) (f c)
+
+-- contents stay, and are answered so
+abbrev pub told_by : (Contents → Option Reply) → Request
+told_by f c = option_map (λ answer. (c, answer)) (f c)
+
+-- ---- a request's end: it fails where it has no effect, or where its reply would be too long
+
+abbrev pub whole : Effect → Bool
+whole None = false
+whole (Some e) = fits e.1
+
+abbrev pub contents_of : Effect → Contents → Contents
+contents_of None c = c
+contents_of (Some e) c = if fits e.1 then e.0 else c
+
+abbrev pub reply_of : Effect → Reply → Reply
+reply_of None refusal = refusal
+reply_of (Some e) refusal = if fits e.1 then e.1 else refusal
+
+pub record Answered (e : Effect) (refusal : Reply) (done : Bool) (c d : Contents) (old new : List ℕ) : Type 0 where
+  pub ok : done ≡ whole e
+  pub contents : d ≡ contents_of e c
+  pub bytes : new ≡ old ++ reply_bytes (reply_of e refusal)
+
+-- the request is answered; where nothing was updated, nothing was written
+pub record Answers {S E : Type 0} (s : Ghosts S) (holds : E → Files → Contents → Type 0) (effect : Request) (refusal : Reply) (updating : Bool) (done : Bool) (e e' : E) (a b : S) (old new : List ℕ) : Type 0 where
+  pub sound : s.sound b
+  pub log : Stays s 2 a b
+  pub answered : (c : Contents) → Held s holds e a c → (d : Contents) × Held s holds e' b d × Answered (effect c) refusal done c d old new
+  pub idle : (done && updating) ≡ false → OnlyReads s a b
+
+-- a limit is reached, as the space stands, between the contents and those that the request was to leave
+pub record IsFullBy {S E : Type 0} (s : Ghosts S) (holds : E → Files → Contents → Type 0) (fills : S → Contents → Contents → Type 0) (effect : Request) (e : E) (a b : S) : Type 0 where
+  pub by : (c : Contents) → Held s holds e a c → fills b c (contents_of (effect c) c)

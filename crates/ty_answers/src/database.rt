@@ -1,0 +1,174 @@
+//! A database behind requests, over any engine.
+ghost use Rattle.std.specs.Prelude.{◌≡◌, ◌++◌, true, false, List, ℕ, OnOk, OnErr, IfOk, IsErrOf};
+ghost use Rattle.tc_base.specs.Files.{Files};
+ghost use Rattle.tc_io.specs.Causes.{Rose};
+ghost use Rattle.tc_space.specs.Frames.{Keeps, Refuses};
+ghost use Rattle.ty_base.specs.Holding.{AreApart, Declines, Held, IsReady};
+ghost use Rattle.ty_wire.specs.Prefixes.{IsPrefix};
+ghost use Rattle.tc_model.specs.Apply.{updates};
+ghost use Rattle.tc_model.specs.Contents.{Contents};
+ghost use Rattle.ty_answers.specs.Engines.{engine_of};
+ghost use Rattle.ty_answers.specs.Steps.{IsFullStep, Steps};
+
+use crate::changes::{clear, out, store};
+use crate::failing::fail;
+use crate::misc::call;
+use crate::numbers::{add, shift};
+use crate::reads::{done, fwmkeys, get, mget, rnum, size, stat, vsiz};
+use crate::voice::Voice;
+use crate::walks::{begin, step};
+use std::alloc::Global;
+use tc_base::{Blob, Form, Kind, Mode, Request};
+use tc_engine::{Engine, Opens};
+use tc_model::{Applied, Walk};
+use tc_space::RecErr;
+use ty_base::{AnyErr, Base};
+use ty_wire::is_updating;
+
+/// An engine behind requests.
+#[derive(Drop)]
+pub struct Database<E> {
+    alloc: Global,
+    engine: E,
+}
+
+impl<E> Database<E> {
+    pub fn new(alloc: Global, engine: E) -> Database<E>
+        ensures { engine_of result ≡ engine }
+    {
+        Database { alloc, engine }
+    }
+}
+
+// Serves a request, and answers whether it succeeded.
+fn serve<E: Engine>(
+    alloc: Global,
+    engine: &mut E,
+    space: &mut E::S,
+    request: Request,
+    updating: bool,
+    walk: &mut Walk,
+    reply: &mut Blob,
+) -> Result<bool, RecErr>
+    requires ready { IsReady E.S.Space E.holds engine.old space.old }
+    requires updating { updating ≡ updates request }
+    ensures steps { IfOk result (λ done. Steps E.S.Space E.holds request done engine.old engine.new space.old space.new walk.old walk.new reply.old reply.new) }
+    ensures declines { OnErr result (Declines E.S.Space E.holds engine.old engine.new space.old space.new walk.old walk.new) }
+    ensures front { IsPrefix reply.old reply.new }
+    ensures full { IsErrOf result RecErr.Full → IsFullStep E.S.Space E.holds E.fills request walk.old engine.old space.old space.new }
+    ensures keeps { Keeps E.S.Space space.old space.new }
+    ensures cause { IsErrOf result RecErr.Fault → Rose (E.S.faults space.old) (E.S.faults space.new) }
+{
+    let plain = Voice::Plain;
+    match request {
+        Request::Put { key, value } => {
+            store(engine, space, plain, Mode::Over, key, value, reply)
+        }
+        Request::PutKeep { key, value } => {
+            store(engine, space, plain, Mode::Keep, key, value, reply)
+        }
+        Request::PutCat { key, value } => {
+            store(engine, space, plain, Mode::Cat, key, value, reply)
+        }
+        Request::PutShl { key, value, width } => {
+            shift(alloc, engine, space, key, &value, width, reply)
+        }
+        Request::PutNr { key, value } => {
+            store(engine, space, Voice::Silent, Mode::Over, key, value, reply)
+        }
+        Request::Out { key } => out(engine, space, plain, &key, reply),
+        Request::Get { key } => get(alloc, engine, space, &key, reply),
+        Request::MGet { keys } => mget(alloc, engine, space, &keys, reply),
+        Request::Vsiz { key } => vsiz(engine, space, &key, reply),
+        Request::IterInit => begin(engine, space, walk, reply),
+        Request::IterNext => step(engine, space, walk, reply),
+        Request::FwmKeys { prefix, maximum } => {
+            fwmkeys(alloc, engine, space, &prefix, maximum, reply)
+        }
+        Request::AddInt { key, number } => add(alloc, engine, space, key, number, reply),
+        Request::AddDouble { .. } => fail(plain, reply),
+        Request::Ext { .. } => fail(plain, reply),
+        Request::Sync => done(reply),
+        Request::Optimize { .. } => done(reply),
+        Request::Vanish => clear(engine, space, plain, reply),
+        Request::Copy { .. } => fail(plain, reply),
+        Request::Restore { .. } => fail(plain, reply),
+        Request::SetMst { .. } => fail(plain, reply),
+        Request::Rnum => rnum(engine, space, reply),
+        Request::Size => size(engine, space, reply),
+        Request::Stat => stat(alloc, engine, space, reply),
+        Request::Misc {
+            name,
+            options,
+            args,
+        } => call(alloc, engine, space, &name, options, &args, updating, reply),
+        Request::Repl { .. } => Ok(true),
+    }
+}
+
+impl<E: Engine> Base for Database<E> {
+    type S = E::S;
+
+    ghost holds = { λ b. E.holds (engine_of b) };
+
+    ghost reopens = { E.reopens };
+
+    ghost fills = { E.fills };
+
+    ghost lines = { E.lines };
+
+    ghost apart = { λ b. E.apart (engine_of b) };
+
+    fn kind(&self) -> Kind {
+        self.engine.kind()
+    }
+
+    fn apply(
+        &mut self,
+        space: &mut E::S,
+        request: Request,
+        walk: &mut Walk,
+        reply: &mut Blob,
+    ) -> Result<Applied, RecErr> {
+        let updating = is_updating(&request);
+        let ok = match serve(
+            self.alloc,
+            &mut self.engine,
+            space,
+            request,
+            updating,
+            walk,
+            reply,
+        ) {
+            Ok(ok) => ok,
+            Err(e) => return Err(e),
+        };
+        Ok(Applied {
+            ok,
+            updated: ok & updating,
+        })
+    }
+
+    fn settle(&mut self, space: &mut E::S) -> Result<(), RecErr> {
+        self.engine.settle(space)
+    }
+
+    fn pack(&mut self, space: &mut E::S, form: Form) -> Result<(), RecErr> {
+        self.engine.pack(space, form)
+    }
+
+    fn inform(&mut self, space: &mut E::S, into: &mut Blob) -> Result<(), RecErr> {
+        self.engine.inform(space, into)
+    }
+}
+
+impl<E: Opens> ty_base::Opens for Database<E> {
+    ghost breaks = { E.breaks };
+
+    ghost unbroken = { E.unbroken };
+
+    fn open(alloc: Global, kind: Kind, space: &mut E::S) -> Result<Database<E>, AnyErr> {
+        let engine = E::open(alloc, kind, space)?;
+        Ok(Database { alloc, engine })
+    }
+}
