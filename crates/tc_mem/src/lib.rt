@@ -1,9 +1,9 @@
-//! The map in memory behind requests.
+//! The databases in memory, as engines.
 #![tactic(auto, using(tc_space::specs::Frames::keeps_refl))]
 
-mod behind;
-mod counts;
-mod mem;
-mod replies;
+mod data;
+mod engine;
+mod many;
+mod reading;
 
-pub use mem::MemBase;
+pub use engine::MemEngine;
