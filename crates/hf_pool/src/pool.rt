@@ -30,6 +30,7 @@ impl Pool {
     ghost use Rattle.hf_pool.specs.Marks.{marked};
     ghost use Rattle.tc_space.specs.Effects.{Changes, Outcome};
     ghost use Rattle.tc_space.specs.Frames.{Others, OnlyWrites};
+    ghost use Rattle.hf_pool.specs.Multiples.{LieWithin};
     ghost use Rattle.hf_pool.specs.Joins.{FrontJoined, BackJoined, GivesBack};
     ghost use Rattle.hf_pool.specs.Trims.{Trimmed};
     ghost use Rattle.hf_block.specs.Rows.{StandInRow, IsListed};
@@ -50,6 +51,14 @@ impl Pool {
         self.unit
     }
 
+    /// The size of the free block at a place, if one begins there.
+    pub fn free_at(&self, place: u64) -> Option<u64>
+        ensures size { result ≡ frees self.now place }
+        ensures within { LieWithin self.now.size (frees self.now) }
+    {
+        self.index.at(place)
+    }
+
     /// Whether a block there meets no free block.
     pub fn meets_none(&self, at: u64, size: u64) -> bool
         requires some { 0 < size }
@@ -65,6 +74,7 @@ impl Pool {
         requires some { 0 < size }
         requires aligned { size % self.old.unit ≡ 0 }
         ensures ok { OnOk result (TakesFree self.old self.new size place found) }
+        ensures unit { self.new.unit ≡ self.old.unit }
     {
         self.index.remove(place, found);
         if found > size {
@@ -84,13 +94,13 @@ impl Pool {
         requires fits { self.old.size + size < 2 ^ 64 }
         requires held { S.tells → LieInside (frees self.old) (length (S.now space.old file)) }
         ensures taken { IfOk result (λ place. ((found : ℕ) × TakesFree self.old self.new size place found) ⊎ Grows self.old self.new size place) }
-        ensures aligned { IfOk result (λ place. place % self.old.unit ≡ 0) }
+        ensures aligned { (self.new.unit ≡ self.old.unit) × IfOk result (λ place. place % self.old.unit ≡ 0) }
         ensures bytes { IfOk result (λ place. S.tells → IsTaken (frees self.old) size place (S.now space.old file) (S.now space.new file)) }
         ensures lends { IfOk result (λ place. S.tells → Lends self.old.unit self.old.size (frees self.old) (frees self.new) size place (S.now space.old file) (S.now space.new file)) }
         ensures others { OnOk result (Others S.Space (λ g. g ≡ file) space.old space.new) }
         ensures outcome { Outcome S.sound S.flag result space.new }
         ensures writes { OnlyWrites S.Space space.old space.new }
-        ensures full { IsErrOf result RecErr.Full → (place : ℕ) × (found : ℕ) × IsBest (frees self.old) size place found × Passes (S.limit space.old file) (S.log_full space.new) (place + size) 5 }
+        ensures full { IsErrOf result RecErr.Full → (place : ℕ) × (found : ℕ) × IsBest (frees self.old) size place found × (size < found) × Passes (S.limit space.old file) (S.log_full space.new) (place + size) 5 }
         ensures cause { IsErrOf result RecErr.Fault → Rose (S.faults space.old) (S.faults space.new) }
     {
         let Some((place, found)) = self.index.best(size) else {

@@ -13,7 +13,7 @@ pub returns-in_default-clause-lends : goal.returns-in_default-clause-lends
 returns-in_default-clause-lends g c = λ t. lends_behind c.args.self.now.unit c.args.self.now.size (frees c.args.self.now) _ c.args.size (g.S.Space.now c.args.space.now c.args.file) c.in_default.ensures.none (λ q. refl)
 
 pub returns-in_default-mark-clause-aligned : goal.returns-in_default-mark-clause-aligned
-returns-in_default-mark-clause-aligned g c = (c.args.self.now.multiples c.in-Some.place c.in-Some.found c.in-Some.ensures.some.there).0
+returns-in_default-mark-clause-aligned g c = (c.part_in_memory.ensures.unit, (c.args.self.now.multiples c.in-Some.place c.in-Some.found c.in-Some.ensures.some.there).0)
 
 pub returns-in_default-mark-clause-lends : goal.returns-in_default-mark-clause-lends
 returns-in_default-mark-clause-lends g c = λ t.

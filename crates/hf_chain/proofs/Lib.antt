@@ -1,0 +1,17 @@
+pub mod Pieces
+pub mod Fronts
+pub mod Descents
+pub mod Paying
+pub mod Differing
+pub mod Filling
+pub mod Settings
+pub mod Lists
+pub mod FactRows
+pub mod Viewing
+pub mod Ending
+pub mod Halving
+pub mod Keyed
+pub mod Named
+pub mod Followed
+pub mod Steps
+pub mod Judged

@@ -1,0 +1,21 @@
+use Rattle.std.proofs.Common.{◌≡◌, ◌∙◌, ◌+◌, ◌*◌, arith, ap}
+use Rattle.tc_base.specs.Hashes.{second}
+use Rattle.hf_tree.specs.Keys.{bucket_of}
+use Rattle.hf_chain.specs.declared.heads.RecHead.{RecHead}
+use Rattle.hf_chain.specs.Heads.{capped, head_size}
+use Rattle.hf_chain.proofs.facts.fact_in.Goals as goal
+
+pub returns : goal.returns
+unfolding bucket_of
+returns c = λ r head key room.
+    let start : c.saturating_add.result ≡ c.args.place + head_size r = (let e = ap (λ (x : RecHead). x.head) head in omega (arith, e, room, c.saturating_add.ensures)) in
+    λ i. record {
+      place = c.args.place;
+      left = (c.place_named.ensures ∙ (λ j. capped (c.unit-unit.ensures j * (head j).left))) i;
+      right = (c.place_named-2.ensures ∙ (λ j. capped (c.unit-unit.ensures j * (head j).right))) i;
+      bucket = (c.bucket_of.ensures.value ∙ ap (bucket_of c.args.head.now.buckets) key) i;
+      second = (c.second_hash.ensures ∙ ap second key) i;
+      hash = (head i).hash;
+      start = start i;
+      long = (head i).key;
+    }

@@ -1,0 +1,78 @@
+-- The records of a file as a list of facts, one for each, in ascending place.
+use Rattle.std.specs.Prelude.{◌≡◌, ◌⊎◌, ℕ, zero, suc, ◌+◌, ◌*◌, ◌<◌, ◌≤◌, List, [], ◌∷◌, length, Option, Some, None, slice_get}
+use Rattle.tc_base.specs.Hashes.{second}
+use Rattle.hf_head.specs.declared.head.Head.{Head}
+use Rattle.hf_head.specs.Heads.{unit}
+use Rattle.hf_block.specs.Pieces.{Record, Piece, held, free, size_of}
+use Rattle.hf_tree.specs.Keys.{bucket_of}
+use Rattle.hf_tree.specs.Links.{HasBlocks, entry_at, width}
+use Rattle.hf_chain.specs.declared.facts.Fact.{Fact}
+use Rattle.hf_chain.specs.declared.naming.Ends.{Ends}
+use Rattle.hf_chain.specs.Heads.{head_size, capped, HasRecord}
+
+-- what the rules ask of a record at a place
+abbrev pub fact_of : Head → ℕ → Record → Fact
+fact_of h p r = record { place = p; left = capped (unit h * r.left); right = capped (unit h * r.right); bucket = bucket_of h.buckets r.key; second = second r.key; hash = r.hash; start = p + head_size r; long = length r.key }
+
+-- those of the records among blocks
+abbrev pub facts_of : Head → ℕ → List Piece → List Fact
+facts_of h at [] = []
+facts_of h at (held r ∷ ps) = fact_of h at r ∷ facts_of h (at + size_of (held r)) ps
+facts_of h at (free size tail ∷ ps) = facts_of h (at + size_of (free size tail)) ps
+
+-- the facts are those of a file with these blocks
+pub record AreFacts (h : Head) (ps : List Piece) (bytes : List ℕ) (facts : List Fact) : Type 0 where
+  pub has : HasBlocks h h.size ps bytes
+  pub is : facts ≡ facts_of h h.first ps
+
+pub record HasFacts (h : Head) (bytes : List ℕ) (facts : List Fact) : Type 0 where
+  pub pieces : List Piece
+  pub is : AreFacts h pieces bytes facts
+
+-- a record stands there, and this is its fact
+pub record IsFactOf (h : Head) (x : Fact) (bytes : List ℕ) : Type 0 where
+  pub r : Record
+  pub has : HasRecord h r x.place bytes
+  pub is : x ≡ fact_of h x.place r
+
+abbrev pub Ascend : List Fact → Type 0
+Ascend facts = (i j : ℕ) (x y : Fact) → slice_get facts i ≡ Some x → slice_get facts j ≡ Some y → i < j → x.place < y.place
+
+-- a record stands there
+abbrev pub IsListedAt : List Fact → ℕ → Type 0
+IsListedAt facts p = (i : ℕ) × (x : Fact) × (slice_get facts i ≡ Some x) × (x.place ≡ p)
+
+-- a link names none, or a record
+abbrev pub Names : List Fact → ℕ → Type 0
+Names facts p = (p ≡ 0) ⊎ IsListedAt facts p
+
+-- the place that a bucket's entry names
+abbrev pub entry_place : Head → ℕ → List ℕ → ℕ
+entry_place h b bytes = capped (unit h * entry_at (width h) b bytes)
+
+-- records by number, counted from 1; 0 is none
+abbrev pub place_in : Option Fact → ℕ
+place_in None = 0
+place_in (Some x) = x.place
+
+abbrev pub spot : List Fact → ℕ → ℕ
+spot facts zero = 0
+spot facts (suc i) = place_in (slice_get facts i)
+
+-- the numbers of the records that both chains name
+pub record IsEnds (facts : List Fact) (x : Fact) (e : Ends) : Type 0 where
+  pub left : spot facts e.left ≡ x.left
+  pub right : spot facts e.right ≡ x.right
+
+abbrev pub AreLowEnds : ℕ → List Ends → Type 0
+AreLowEnds n ends = (i : ℕ) (e : Ends) → slice_get ends i ≡ Some e → (e.left ≤ n) × (e.right ≤ n)
+
+-- those of the first records
+pub record AreEnds (facts : List Fact) (count : ℕ) (ends : List Ends) : Type 0 where
+  pub long : length ends ≡ count
+  pub each : (i : ℕ) (x : Fact) (e : Ends) → slice_get facts i ≡ Some x → slice_get ends i ≡ Some e → IsEnds facts x e
+  pub low : AreLowEnds (length facts) ends
+
+-- a record of which a chain names what is no record
+abbrev pub HasBadChain : List Fact → Type 0
+HasBadChain facts = (i : ℕ) × (x : Fact) × (slice_get facts i ≡ Some x) × (Names facts x.left × Names facts x.right → ⊥)

@@ -1,0 +1,10 @@
+pub mod Chains
+pub mod Costs
+pub mod Differs
+pub mod Errors
+pub mod Facts
+pub mod Heads
+pub mod Limits
+pub mod Listing
+pub mod Orders
+pub mod Reaching

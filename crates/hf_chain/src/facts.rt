@@ -1,0 +1,139 @@
+//! What the rules ask of each record of a file, read once.
+ghost use Rattle.std.specs.Prelude.{◌≡◌, ℕ, ◌+◌, ◌^◌, ◌<◌, ◌≤◌, List, length, IfOk, OnOk, IsErrOf};
+ghost use Rattle.tc_io.specs.Causes.{Rose};
+ghost use Rattle.tc_space.specs.Ranges.{IsDataFile};
+ghost use Rattle.tc_space.specs.Frames.{OnlyReads};
+ghost use Rattle.hf_head.specs.Heads.{IsValid};
+ghost use Rattle.hf_block.specs.Pieces.{Record, Piece};
+ghost use Rattle.hf_chain.specs.Heads.{head_of, head_size, HasRecord, IsRecordAt};
+ghost use Rattle.tc_window.specs.Windows.{Shows};
+ghost use Rattle.hf_chain.specs.Listing.{AreListed, WereListed};
+ghost use Rattle.hf_chain.specs.Facts.{fact_of, facts_of};
+
+use crate::heads::{RecHead, head_in, place_named};
+use hf_block::Blocks;
+use hf_head::Head;
+use std::alloc::Global;
+use tc_base::{Seq, bucket_of, second_hash};
+use tc_space::Space;
+use tc_window::{ReadErr, Window};
+
+/// What the rules ask of a record.
+#[derive(Clone, Copy, Debug, Drop, PartialEq, Eq)]
+pub struct Fact {
+    /// Its place.
+    pub place: u64,
+    /// The place that its left chain names, or the greatest number where that is past all places.
+    pub left: u64,
+    /// The same of its right chain.
+    pub right: u64,
+    /// Its key's bucket.
+    pub bucket: u64,
+    /// Its key's second hash.
+    pub second: u8,
+    /// The second hash that its head has.
+    pub hash: u8,
+    /// The place of its key.
+    pub start: u64,
+    /// The bytes of its key.
+    pub long: u64,
+}
+
+/// The facts of a file's records, in ascending place.
+pub type Facts = Seq<Fact>;
+
+// The fact of a record with this head and key.
+fn fact_in(head: &Head, place: u64, rec: &RecHead, key: &[u8]) -> Fact
+    requires { IsValid head.now }
+    ensures { (r : Record) → rec.now ≡ head_of r → key.now ≡ r.key → place + head_size r < 2 ^ 64 → result ≡ fact_of head.now place r }
+{
+    let unit = head.unit();
+    Fact {
+        place,
+        left: place_named(unit, rec.left),
+        right: place_named(unit, rec.right),
+        bucket: bucket_of(key, head.buckets),
+        second: second_hash(key),
+        hash: rec.hash,
+        start: place.saturating_add(rec.head),
+        long: rec.key,
+    }
+}
+
+/// The head of the record at a place, through a window.
+pub fn head_at<S: Space>(
+    space: &mut S,
+    file: u32,
+    head: &Head,
+    place: u64,
+    window: &mut Window,
+) -> Result<RecHead, ReadErr>
+    requires sound { S.sound space.old }
+    requires file { IsDataFile file }
+    requires inside { S.tells → place ≤ length (S.now space.old file) }
+    requires shows { S.tells → Shows window.old (S.now space.old file) }
+    ensures head { IfOk result (λ x. S.tells → (r : Record) → HasRecord head.now r place (S.now space.old file) → x ≡ head_of r) }
+    ensures shows { OnOk result (S.tells → Shows window.new (S.now space.old file)) }
+    ensures long { S.tells → length (S.now space.old file) < 2 ^ 64 }
+    ensures reads { OnlyReads S.Space space.old space.new }
+    ensures cause { IsErrOf result ReadErr.Fault → Rose (S.faults space.old) (S.faults space.new) }
+{
+    let ahead = space.len(file).saturating_sub(place).min(40) as usize;
+    window.fill(space, file, place, ahead)?;
+    Ok(head_in(window.get(place, ahead), head.is_large()))
+}
+
+// The fact of the record at a place.
+fn fact_at<S: Space>(
+    space: &mut S,
+    file: u32,
+    head: &Head,
+    place: u64,
+    window: &mut Window,
+) -> Result<Fact, ReadErr>
+    requires sound { S.sound space.old }
+    requires file { IsDataFile file }
+    requires head { IsValid head.now }
+    requires there { S.tells → IsRecordAt head.now place (S.now space.old file) }
+    requires shows { S.tells → Shows window.old (S.now space.old file) }
+    ensures fact { IfOk result (λ x. S.tells → (r : Record) → HasRecord head.now r place (S.now space.old file) → x ≡ fact_of head.now place r) }
+    ensures shows { OnOk result (S.tells → Shows window.new (S.now space.old file)) }
+    ensures reads { OnlyReads S.Space space.old space.new }
+    ensures cause { IsErrOf result ReadErr.Fault → Rose (S.faults space.old) (S.faults space.new) }
+{
+    let rec = head_at(space, file, head, place, window)?;
+    let start = place.saturating_add(rec.head);
+    window.fill(space, file, start, rec.key as usize)?;
+    Ok(fact_in(head, place, &rec, window.get(start, rec.key as usize)))
+}
+
+/// The facts of the records of a list of blocks. Each record's head and key are read once, many at a time.
+pub fn read_facts<S: Space>(
+    alloc: Global,
+    space: &mut S,
+    file: u32,
+    head: &Head,
+    blocks: &Blocks,
+    window: &mut Window,
+) -> Result<Facts, ReadErr>
+    requires sound { S.sound space.old }
+    requires file { IsDataFile file }
+    requires head { IsValid head.now }
+    requires listed { S.tells → WereListed head.now (S.now space.old file) blocks.now }
+    requires shows { S.tells → Shows window.old (S.now space.old file) }
+    ensures facts { IfOk result (λ facts. S.tells → (ps : List Piece) → AreListed head.now ps (S.now space.old file) blocks.now → facts ≡ facts_of head.now head.now.first ps) }
+    ensures shows { OnOk result (S.tells → Shows window.new (S.now space.old file)) }
+    ensures reads { OnlyReads S.Space space.old space.new }
+    ensures cause { IsErrOf result ReadErr.Fault → Rose (S.faults space.old) (S.faults space.new) }
+{
+    let mut facts = Facts::new(alloc);
+    for i in 0..blocks.len() {
+        let block = *blocks.at(i);
+        if block.free {
+            continue;
+        }
+        let fact = fact_at(space, file, head, block.place, window)?;
+        facts.push(fact)?;
+    }
+    Ok(facts)
+}

@@ -1,0 +1,146 @@
+//! The rule that each link names a record or none.
+ghost use Rattle.std.specs.Prelude.{◌≡◌, ℕ, ◌+◌, ◌^◌, ◌<◌, ◌≤◌, IfOk, IfSome, IfNone, OnOk, IsErrOf, Some, true, false, slice_get, length};
+ghost use Rattle.tc_io.specs.Causes.{Rose};
+ghost use Rattle.tc_space.specs.Ranges.{IsDataFile};
+ghost use Rattle.tc_space.specs.Frames.{OnlyReads};
+ghost use Rattle.hf_head.specs.Heads.{IsValid};
+ghost use Rattle.hf_chain.specs.declared.facts.Fact.{Fact};
+ghost use Rattle.tc_window.specs.Windows.{Shows};
+ghost use Rattle.hf_chain.specs.Facts.{Ascend, IsListedAt, Names, HasBadChain, IsEnds, AreEnds, entry_place, spot};
+
+use crate::facts::{Fact, Facts};
+use crate::heads::place_named;
+use hf_head::Head;
+use std::alloc::{AllocError, Global};
+use tc_base::{Seq, get_le};
+use tc_space::Space;
+use tc_window::{ReadErr, Window};
+
+/// The records that both chains of a record name, by number from 1; 0 is none.
+#[derive(Clone, Copy, Debug, Drop, PartialEq, Eq)]
+pub struct Ends {
+    pub left: u64,
+    pub right: u64,
+}
+
+// Which record stands at a place, if one does.
+fn position(facts: &Facts, place: u64) -> Option<usize>
+    ensures found { IfSome result (λ i. (x : Fact) × (slice_get facts.now i ≡ Some x) × (x.place ≡ place)) }
+    ensures low { IfSome result (λ i. i + 1 < 2 ^ 64) }
+    ensures none { IfNone result (Ascend facts.now → IsListedAt facts.now place → ⊥) }
+{
+    let mut low = 0;
+    let mut high = facts.len();
+    while low < high {
+        let mid = low + (high - low) / 2;
+        let at = facts.at(mid).place;
+        if at == place {
+            return Some(mid);
+        }
+        if at < place {
+            low = mid + 1;
+        } else {
+            high = mid;
+        }
+    }
+    None
+}
+
+/// The number of the record that a link names with a place, 0 for none; or nothing where that is no record.
+pub fn resolve(facts: &Facts, place: u64) -> Option<u64>
+    ensures some { IfSome result (λ n. (n ≤ length facts.now) × (spot facts.now n ≡ place)) }
+    ensures none { IfNone result (Ascend facts.now → Names facts.now place → ⊥) }
+{
+    if place == 0 {
+        return Some(0);
+    }
+    match position(facts, place) {
+        Some(i) => Some(i as u64 + 1),
+        None => None,
+    }
+}
+
+// The numbers of the records that both chains of a record name.
+fn ends_of(facts: &Facts, fact: &Fact) -> Option<Ends>
+    ensures some { IfSome result (λ e. IsEnds facts.now fact.now e × (e.left ≤ length facts.now) × (e.right ≤ length facts.now)) }
+    ensures none { IfNone result (Ascend facts.now → Names facts.now fact.now.left × Names facts.now fact.now.right → ⊥) }
+{
+    match resolve(facts, fact.left) {
+        Some(left) => match resolve(facts, fact.right) {
+            Some(right) => Some(Ends { left, right }),
+            None => None,
+        },
+        None => None,
+    }
+}
+
+/// The numbers of the records that all chains name; or nothing where one names what is no record.
+pub fn chains_named(alloc: Global, facts: &Facts) -> Result<Option<Seq<Ends>>, AllocError>
+    ensures some { IfOk result (λ found. IfSome found (λ ends. AreEnds facts.now (length facts.now) ends)) }
+    ensures none { IfOk result (λ found. IfNone found (Ascend facts.now → HasBadChain facts.now)) }
+{
+    let mut ends: Seq<Ends> = Seq::new(alloc);
+    for i in 0..facts.len() {
+        let fact = *facts.at(i);
+        match ends_of(facts, &fact) {
+            Some(both) => ends.push(both)?,
+            None => return Ok(None),
+        }
+    }
+    Ok(Some(ends))
+}
+
+/// The place that a bucket's entry names. Entries are read many at a time.
+pub fn entry<S: Space>(
+    space: &mut S,
+    file: u32,
+    head: &Head,
+    bucket: u64,
+    window: &mut Window,
+) -> Result<u64, ReadErr>
+    requires sound { S.sound space.old }
+    requires file { IsDataFile file }
+    requires head { IsValid head.now }
+    requires low { bucket < head.now.buckets }
+    requires inside { S.tells → head.now.first ≤ length (S.now space.old file) }
+    requires shows { S.tells → Shows window.old (S.now space.old file) }
+    ensures place { IfOk result (λ p. S.tells → p ≡ entry_place head.now bucket (S.now space.old file)) }
+    ensures shows { OnOk result (S.tells → Shows window.new (S.now space.old file)) }
+    ensures reads { OnlyReads S.Space space.old space.new }
+    ensures cause { IsErrOf result ReadErr.Fault → Rose (S.faults space.old) (S.faults space.new) }
+{
+    let width = head.width();
+    let at = 256 + width * bucket;
+    window.fill(space, file, at, width as usize)?;
+    let n = get_le(window.get(at, width as usize), 0, width as usize);
+    Ok(place_named(head.unit(), n))
+}
+
+/// Whether each bucket's entry names a record or none.
+pub fn entries_named<S: Space>(
+    space: &mut S,
+    file: u32,
+    head: &Head,
+    facts: &Facts,
+    window: &mut Window,
+) -> Result<bool, ReadErr>
+    requires sound { S.sound space.old }
+    requires file { IsDataFile file }
+    requires head { IsValid head.now }
+    requires inside { S.tells → head.now.first ≤ length (S.now space.old file) }
+    requires shows { S.tells → Shows window.old (S.now space.old file) }
+    ensures yes { IfOk result (λ is. is ≡ true → S.tells → (b : ℕ) → b < head.now.buckets → Names facts.now (entry_place head.now b (S.now space.old file))) }
+    ensures no { IfOk result (λ is. is ≡ false → S.tells → Ascend facts.now → (b : ℕ) × (b < head.now.buckets) × (Names facts.now (entry_place head.now b (S.now space.old file)) → ⊥)) }
+    ensures shows { OnOk result (S.tells → Shows window.new (S.now space.old file)) }
+    ensures reads { OnlyReads S.Space space.old space.new }
+    ensures cause { IsErrOf result ReadErr.Fault → Rose (S.faults space.old) (S.faults space.new) }
+{
+    for bucket in 0..head.buckets {
+        let place = entry(space, file, head, bucket, window)?;
+        match resolve(facts, place) {
+            Some(_) => {}
+            None => return Ok(false),
+        }
+    }
+    Ok(true)
+}

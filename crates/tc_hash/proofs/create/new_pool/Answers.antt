@@ -1,0 +1,24 @@
+use Rattle.std.proofs.Common.{ℕ, ◌^◌, ◌≤◌, List, [], sym, subst, arith, lit<}
+use Rattle.std.proofs.Math.Nat.{pow-le-pow_right}
+use Rattle.hf_block.specs.declared.block.BlockAt.{BlockAt}
+use Rattle.hf_block.specs.Rows.{StandInRow}
+use Rattle.hf_layout.specs.Layout.{LaidOut}
+use Rattle.hf_layout.specs.Frees.{none}
+use Rattle.hf_pool.specs.Pools.{frees}
+use Rattle.tc_hash.proofs.Created.{no_blocks_between, none_listed}
+use Rattle.tc_hash.proofs.create.new_pool.Goals as goal
+
+pub build-requires-clause-unit : goal.build-requires-clause-unit
+build-requires-clause-unit c =
+    let p : 2 ^ 4 ≤ 2 ^ c.args.head.now.apow = pow-le-pow_right (lit< tt) c.requires.valid.powers.0 in
+    omega (arith, p, c.unit.ensures)
+
+pub build-requires-clause-blocks : goal.build-requires-clause-blocks
+build-requires-clause-blocks c = subst (λ (b : List BlockAt). StandInRow c.unit.result c.args.head.now.first c.args.head.now.size b) (sym c.new-blocks.ensures) (sym c.requires.size)
+
+pub returns-in-Ok-clause-none : goal.returns-in-Ok-clause-none
+returns-in-Ok-clause-none c = none_listed (frees c.in-Ok.pool) c.new-blocks.result c.new-blocks.ensures c.in-Ok.ensures.free
+
+pub returns-in-Ok-clause-laid : goal.returns-in-Ok-clause-laid
+returns-in-Ok-clause-laid c = λ bytes within. subst (λ (n : ℕ). LaidOut n c.args.head.now.first c.args.head.now.size [] (frees c.in-Ok.pool) none bytes) c.unit.ensures
+    (c.in-Ok.ensures.laid [] bytes within (no_blocks_between c.unit.result c.args.head.now.first c.args.head.now.size bytes c.requires.size) c.new-blocks.ensures)

@@ -1,0 +1,12 @@
+pub mod Costs
+pub mod Filling
+pub mod Moves
+pub mod Fields
+pub mod Holding
+pub mod Keeping
+pub mod Listed
+pub mod Opening
+pub mod Sections
+pub mod Creating
+pub mod Settling
+pub mod Standing

@@ -1,0 +1,15 @@
+-- What a file stands for once it is settled.
+use Rattle.std.specs.Prelude.{◌≡◌, ℕ, List}
+use Rattle.std.specs.FinMap.{get}
+use Rattle.tc_base.specs.Maps.{Map}
+use Rattle.hf_tree.specs.Standing.{StandsFor}
+
+-- the bytes are a file of that kind which stands for the map, with this region
+pub record StandsWith (kind : ℕ) (bytes : List ℕ) (m : Map) (region : List ℕ) : Type 0 where
+  pub is : StandsFor kind bytes (get m)
+  pub region_is : is.head.opaque ≡ region
+
+-- a file of some kind does
+pub record Stands (bytes : List ℕ) (m : Map) (region : List ℕ) : Type 0 where
+  pub kind : ℕ
+  pub is : StandsWith kind bytes m region

@@ -1,0 +1,302 @@
+//! A file opened: its rules, checked one after the other.
+ghost use Rattle.std.specs.Prelude.{◌≡◌, ℕ, ◌≤◌, ◌^◌, List, length, take, IfOk, IfErr, IfSome, IfNone, OnOk, OnErr, IsErrOf, Err, true, false};
+ghost use Rattle.std.specs.FinMap.{get};
+ghost use Rattle.tc_base.specs.Maps.{Map};
+ghost use Rattle.tc_io.specs.Causes.{Rose};
+ghost use Rattle.tc_space.specs.Frames.{OnlyReads};
+ghost use Rattle.tc_space.specs.Ranges.{IsDataFile};
+ghost use Rattle.hf_head.specs.Heads.{IsValid, Spells, unit};
+ghost use Rattle.hf_block.specs.Pieces.{Piece, placed};
+ghost use Rattle.hf_block.specs.Rows.{StandInRow};
+ghost use Rattle.hf_layout.specs.Frees.{none};
+ghost use Rattle.hf_layout.specs.Layout.{LaidOut, frees_of};
+ghost use Rattle.hf_pool.specs.Pools.{frees};
+ghost use Rattle.hf_tree.specs.Standing.{StandsFor};
+ghost use Rattle.hf_chain.specs.Listing.{AllHold, AreListed};
+ghost use Rattle.tc_hash.specs.Holding.{Holds};
+ghost use Rattle.tc_hash.specs.Sections.{IsListOf, section_of};
+ghost use Rattle.tc_hash.specs.Settling.{section_len};
+ghost use Rattle.tc_hash.specs.Standing.{StandsWith};
+ghost use Rattle.tc_hash.specs.Opening.{Breaks, HasHead, FillsUp, HasListed, IsNoList, WasRead, broken_at, open_of};
+
+use crate::hash::Hash;
+use crate::section::{is_list, read_section, section_size};
+use hf_block::{Blocks, WalkErr, walk};
+use hf_chain::check;
+use hf_head::Head;
+use hf_pool::Pool;
+use std::alloc::Global;
+use std::marker::PhantomData;
+use tc_base::{Fault, Rule};
+use tc_space::{OpenErr, Space};
+
+// A rule of this layout that doesn't hold.
+fn broken(file: u32, number: u8) -> OpenErr
+    ensures { result ≡ broken_at file number }
+{
+    OpenErr::Broken {
+        file,
+        rule: Rule {
+            letter: b'L',
+            number,
+        },
+    }
+}
+
+// The same refusal, with the file.
+fn refusal(file: u32, e: WalkErr) -> OpenErr
+    ensures { result ≡ open_of file e }
+{
+    match e {
+        WalkErr::Broken(rule) => OpenErr::Broken { file, rule },
+        WalkErr::Fault => OpenErr::Fault,
+        WalkErr::Memory => OpenErr::Memory,
+    }
+}
+
+// The head that the bytes at the front are, if it is one of that type.
+fn head_of(bytes: &[u8; 256], kind: u8) -> Option<Head>
+    ensures some { IfSome result (λ h. IsValid h × Spells h bytes.now × (h.kind ≡ kind)) }
+    ensures none { IfNone result ((h : Head) → IsValid h → Spells h bytes.now → h.kind ≡ kind → ⊥) }
+{
+    let Ok(head) = Head::read(bytes) else {
+        return None;
+    };
+    if head.kind != kind {
+        return None;
+    }
+    Some(head)
+}
+
+// Fills `into` with the first bytes of the file.
+fn read_front<S: Space>(space: &mut S, file: u32, into: &mut [u8; 256]) -> Result<(), Fault>
+    requires sound { S.sound space.old }
+    requires file { IsDataFile file }
+    requires long { S.tells → 256 ≤ length (S.now space.old file) }
+    ensures bytes { OnOk result (S.tells → into.new ≡ take 256 (S.now space.old file)) }
+    ensures reads { OnlyReads S.Space space.old space.new }
+    ensures cause { OnErr result (Rose (S.faults space.old) (S.faults space.new)) }
+{
+    match space.read(file, 0, into) {
+        Ok(()) => Ok(()),
+        Err(e) => Err(e),
+    }
+}
+
+// The head of the file: the first rule.
+fn load_head<S: Space>(space: &mut S, file: u32, kind: u8) -> Result<Head, OpenErr>
+    requires sound { S.sound space.old }
+    requires file { IsDataFile file }
+    ensures valid { IfOk result (λ h. IsValid h × (h.kind ≡ kind)) }
+    ensures head { IfOk result (λ h. S.tells → HasHead kind (S.now space.old file) h) }
+    ensures broken { IfErr result (λ e. Breaks S.tells kind file (S.now space.old file) e) }
+    ensures reads { OnlyReads S.Space space.old space.new }
+    ensures cause { IsErrOf result OpenErr.Fault → Rose (S.faults space.old) (S.faults space.new) }
+{
+    let len = space.len(file);
+    if len < 256 {
+        return Err(broken(file, 1));
+    }
+    let mut bytes = [0; 256];
+    let Ok(()) = read_front(space, file, &mut bytes) else {
+        return Err(OpenErr::Fault);
+    };
+    match head_of(&bytes, kind) {
+        Some(head) => Ok(head),
+        None => Err(broken(file, 1)),
+    }
+}
+
+// The blocks of the file: the second and the third rule.
+fn read_blocks<S: Space>(
+    alloc: Global,
+    space: &mut S,
+    file: u32,
+    head: &Head,
+) -> Result<Blocks, OpenErr>
+    requires sound { S.sound space.old }
+    requires file { IsDataFile file }
+    requires head { IsValid head.now }
+    requires is { S.tells → HasHead head.now.kind (S.now space.old file) head.now }
+    ensures row { IfOk result (λ blocks. StandInRow (unit head.now) head.now.first head.now.size blocks) }
+    ensures listed { IfOk result (λ blocks. S.tells → HasListed head.now (S.now space.old file) blocks) }
+    ensures broken { IfErr result (λ e. Breaks S.tells head.now.kind file (S.now space.old file) e) }
+    ensures reads { OnlyReads S.Space space.old space.new }
+    ensures cause { IsErrOf result OpenErr.Fault → Rose (S.faults space.old) (S.faults space.new) }
+{
+    let len = space.len(file);
+    let size = head.size;
+    if len < size {
+        return Err(broken(file, 2));
+    }
+    match walk(alloc, space, file, head) {
+        Ok(blocks) => Ok(blocks),
+        Err(e) => Err(refusal(file, e)),
+    }
+}
+
+// The pool section, read into `section`, which is as long, lists free blocks of the pool: the last rule.
+fn judge_section<S: Space>(
+    space: &mut S,
+    file: u32,
+    head: &Head,
+    pool: &Pool,
+    section: &mut [u8],
+) -> Result<(), OpenErr>
+    requires sound { S.sound space.old }
+    requires file { IsDataFile file }
+    requires head { IsValid head.now }
+    requires long { S.tells → head.now.first ≤ length (S.now space.old file) }
+    requires size { pool.now.size ≤ 2 ^ 40 }
+    requires unit { pool.now.unit ≡ unit head.now }
+    requires section { length section.old ≡ section_len head.now }
+    ensures list { OnOk result (S.tells → IsListOf (unit head.now) (frees pool.now) (section_of head.now (S.now space.old file))) }
+    ensures other { IfErr result (λ e. IsNoList S.tells file (unit head.now) (frees pool.now) (section_of head.now (S.now space.old file)) e) }
+    ensures reads { OnlyReads S.Space space.old space.new }
+    ensures cause { IsErrOf result OpenErr.Fault → Rose (S.faults space.old) (S.faults space.new) }
+{
+    let Ok(()) = read_section(space, file, head, section) else {
+        return Err(OpenErr::Fault);
+    };
+    if !is_list(section, pool) {
+        return Err(broken(file, 9));
+    }
+    Ok(())
+}
+
+// The same, with the memory for it.
+fn check_section<S: Space>(
+    alloc: Global,
+    space: &mut S,
+    file: u32,
+    head: &Head,
+    pool: &Pool,
+) -> Result<(), OpenErr>
+    requires sound { S.sound space.old }
+    requires file { IsDataFile file }
+    requires head { IsValid head.now }
+    requires long { S.tells → head.now.first ≤ length (S.now space.old file) }
+    requires size { pool.now.size ≤ 2 ^ 40 }
+    requires unit { pool.now.unit ≡ unit head.now }
+    ensures list { OnOk result (S.tells → IsListOf (unit head.now) (frees pool.now) (section_of head.now (S.now space.old file))) }
+    ensures other { IfErr result (λ e. IsNoList S.tells file (unit head.now) (frees pool.now) (section_of head.now (S.now space.old file)) e) }
+    ensures reads { OnlyReads S.Space space.old space.new }
+    ensures cause { IsErrOf result OpenErr.Fault → Rose (S.faults space.old) (S.faults space.new) }
+{
+    let Ok(mut section) = vec![in alloc; 0; section_size(head)] else {
+        return Err(OpenErr::Memory);
+    };
+    match judge_section(space, file, head, pool, &mut section) {
+        Ok(()) => Ok(()),
+        Err(e) => Err(e),
+    }
+}
+
+// The head, the blocks and the free blocks, read from the file where all rules hold.
+struct Parts {
+    head: Head,
+    pool: Pool,
+}
+
+// The free blocks of the file, once the blocks are listed: the other rules.
+fn read_pool<S: Space>(
+    alloc: Global,
+    space: &mut S,
+    file: u32,
+    head: &Head,
+    blocks: &Blocks,
+) -> Result<Pool, OpenErr>
+    requires sound { S.sound space.old }
+    requires file { IsDataFile file }
+    requires head { IsValid head.now }
+    requires is { S.tells → HasHead head.now.kind (S.now space.old file) head.now }
+    requires row { StandInRow (unit head.now) head.now.first head.now.size blocks.now }
+    requires listed { S.tells → HasListed head.now (S.now space.old file) blocks.now }
+    ensures unit { IfOk result (λ pool. pool.unit ≡ unit head.now) }
+    ensures size { IfOk result (λ pool. pool.size ≡ head.now.size) }
+    ensures read { IfOk result (λ pool. S.tells → WasRead head.now.kind (S.now space.old file) head.now (frees pool)) }
+    ensures broken { IfErr result (λ e. Breaks S.tells head.now.kind file (S.now space.old file) e) }
+    ensures reads { OnlyReads S.Space space.old space.new }
+    ensures cause { IsErrOf result OpenErr.Fault → Rose (S.faults space.old) (S.faults space.new) }
+{
+    match check(alloc, space, file, head, blocks) {
+        Ok(()) => {}
+        Err(e) => return Err(refusal(file, e)),
+    }
+    let Ok(pool) = Pool::build(alloc, blocks, head.unit(), head.first, head.size) else {
+        return Err(OpenErr::Memory);
+    };
+    match check_section(alloc, space, file, head, &pool) {
+        Ok(()) => Ok(pool),
+        Err(e) => Err(e),
+    }
+}
+
+// Head, blocks and free blocks, one rule after the other.
+fn read_parts<S: Space>(alloc: Global, space: &mut S, file: u32, kind: u8) -> Result<Parts, OpenErr>
+    requires sound { S.sound space.old }
+    requires file { IsDataFile file }
+    ensures valid { IfOk result (λ p. IsValid p.head × (p.head.kind ≡ kind)) }
+    ensures unit { IfOk result (λ p. p.pool.unit ≡ unit p.head) }
+    ensures size { IfOk result (λ p. p.pool.size ≡ p.head.size) }
+    ensures read { IfOk result (λ p. S.tells → WasRead kind (S.now space.old file) p.head (frees p.pool)) }
+    ensures broken { IfErr result (λ e. Breaks S.tells kind file (S.now space.old file) e) }
+    ensures reads { OnlyReads S.Space space.old space.new }
+    ensures cause { IsErrOf result OpenErr.Fault → Rose (S.faults space.old) (S.faults space.new) }
+{
+    let head = match load_head(space, file, kind) {
+        Ok(head) => head,
+        Err(e) => return Err(e),
+    };
+    let blocks = match read_blocks(alloc, space, file, &head) {
+        Ok(blocks) => blocks,
+        Err(e) => return Err(e),
+    };
+    match read_pool(alloc, space, file, &head, &blocks) {
+        Ok(pool) => Ok(Parts { head, pool }),
+        Err(e) => Err(e),
+    }
+}
+
+/// A file held open, with its head and its free blocks.
+pub fn held_open<S: Space>(alloc: Global, file: u32, head: Head, pool: Pool) -> Hash<S>
+    requires file { IsDataFile file }
+    requires head { IsValid head }
+    requires unit { pool.unit ≡ unit head }
+    ensures { (result.file ≡ file) × (result.head ≡ head) × (result.pool ≡ pool) × (result.records ≡ head.records) × (result.region ≡ head.opaque) }
+{
+    let records = head.records;
+    let region = head.opaque;
+    Hash {
+        alloc,
+        file,
+        head,
+        pool,
+        records,
+        region,
+        gets: 0,
+        of: PhantomData,
+    }
+}
+
+impl<S: Space> Hash<S> {
+    /// Opens a file of a type: 0 for a hash file, 1 for the file of a tree, 3 for the rows of a table. Nothing is written.
+    ///
+    /// `Broken` comes exactly where a rule of the layout fails, and names the first: the head (1), the length (2), whole blocks (3), what links
+    /// name (4), how often records are reached (5), their buckets and hashes (6), their order (7) and count (8), and the list of free blocks (9).
+    pub fn open(alloc: Global, space: &mut S, file: u32, kind: u8) -> Result<Hash<S>, OpenErr>
+        requires sound { S.sound space.old }
+        requires file { IsDataFile file }
+        ensures file { IfOk result (λ h. (h.file ≡ file) × (h.head.kind ≡ kind)) }
+        ensures stands { IfOk result (λ h. S.tells → (m : Map) × StandsWith kind (S.now space.old file) m h.region) }
+        ensures holds { IfOk result (λ h. S.tells → (m : Map) → StandsFor kind (S.now space.old file) (get m) → Holds h.head h.pool.size (frees h.pool) h.records m (S.now space.new file)) }
+        ensures broken { IfErr result (λ e. Breaks S.tells kind file (S.now space.old file) e) }
+        ensures reads { OnlyReads S.Space space.old space.new }
+        ensures cause { IsErrOf result OpenErr.Fault → Rose (S.faults space.old) (S.faults space.new) }
+    {
+        match read_parts(alloc, space, file, kind) {
+            Ok(Parts { head, pool }) => Ok(held_open(alloc, file, head, pool)),
+            Err(e) => Err(e),
+        }
+    }
+}

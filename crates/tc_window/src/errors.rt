@@ -1,0 +1,35 @@
+//! Why a pass over a file can't go on.
+ghost use Rattle.std.specs.Prelude.{◌≡◌};
+
+use std::alloc::AllocError;
+use tc_base::Fault;
+use thiserror::Error;
+
+/// Why a pass over a file can't go on.
+#[derive(Clone, Copy, Debug, PartialEq, Eq, Error)]
+pub enum ReadErr {
+    #[error("a call of the volume failed")]
+    Fault,
+    #[error("out of memory")]
+    Memory,
+}
+
+impl From<Fault> for ReadErr {
+    ghost use Rattle.tc_window.specs.declared.errors.ReadErr.TheVariants.{Fault as is_fault};
+
+    ghost from_gives = { λ _ e. e ≡ is_fault };
+
+    fn from(_: Fault) -> Self {
+        ReadErr::Fault
+    }
+}
+
+impl From<AllocError> for ReadErr {
+    ghost use Rattle.tc_window.specs.declared.errors.ReadErr.TheVariants.{Memory as is_memory};
+
+    ghost from_gives = { λ _ e. e ≡ is_memory };
+
+    fn from(_: AllocError) -> Self {
+        ReadErr::Memory
+    }
+}

@@ -1,0 +1,7 @@
+//! The calls on records of a hash file, over a file in memory.
+#![tactic(auto)]
+
+#[cfg(test)]
+mod records;
+#[cfg(test)]
+mod scratch;
