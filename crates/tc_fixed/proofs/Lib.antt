@@ -1,0 +1,12 @@
+pub mod Entries
+pub mod Celled
+pub mod Grown
+pub mod Held
+pub mod Filled
+pub mod Ended
+pub mod Listed
+pub mod Changed
+pub mod Opened
+pub mod Ready
+pub mod Counted
+pub mod Tallied

@@ -1,0 +1,23 @@
+use Rattle.std.proofs.Common.{◌∙◌, ap, length, subst, sym}
+use Rattle.hf_head.specs.declared.fixed.FixedHead.{FixedHead}
+use Rattle.hf_head.specs.FixedHeads.{fixed_spelled, SpellsFixed}
+use Rattle.tc_fixed.proofs.Changed.{create_holds, create_stands}
+use Rattle.tc_fixed.proofs.fixed.Fixed.create.Goals as goal
+
+pub returns-in-Ok-clause-created : goal.returns-in-Ok-clause-created
+returns-in-Ok-clause-created g c = (
+  c.in-Ok.ensures.outcome.ok,
+  record { same = λ t n other. (c.in-Ok.ensures.wrote t).others n other },
+  λ t. (
+    t,
+    create_holds c.args.width c.args.limit c.none-tally.result c.spelling.result (g.S.Space.now c.args.space.now 0) (g.S.Space.now c.write_at.new.space 0)
+        (c.requires.width.0, c.requires.width.1, c.requires.limit.0, c.requires.limit.1) c.none-tally.ensures.greatest c.none-tally.ensures.counts (c.requires.empty t) (c.in-Ok.ensures.wrote t).here
+        (c.spelling.ensures.bytes ∙ ap (λ (h : FixedHead). fixed_spelled h) c.head_now-head.ensures) (ap (λ (h : FixedHead). length (fixed_spelled h)) (sym c.head_now-head.ensures) ∙ c.spelling.ensures.long),
+  ),
+)
+
+pub returns-in-Ok-clause-stands : goal.returns-in-Ok-clause-stands
+returns-in-Ok-clause-stands g c = λ t. create_stands c.args.width c.args.limit c.none-tally.result c.spelling.result (g.S.Space.now c.args.space.now 0) (g.S.Space.now c.write_at.new.space 0)
+    (c.requires.width.0, c.requires.width.1, c.requires.limit.0, c.requires.limit.1) c.none-tally.ensures.greatest c.none-tally.ensures.counts (c.requires.empty t) (c.in-Ok.ensures.wrote t).here
+    (c.spelling.ensures.bytes ∙ ap (λ (h : FixedHead). fixed_spelled h) c.head_now-head.ensures) (ap (λ (h : FixedHead). length (fixed_spelled h)) (sym c.head_now-head.ensures) ∙ c.spelling.ensures.long)
+    (subst (λ (h : FixedHead). SpellsFixed h (fixed_spelled h)) c.head_now-head.ensures c.spelling.ensures.spells)

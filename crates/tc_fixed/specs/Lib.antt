@@ -1,0 +1,11 @@
+pub mod Cells
+pub mod Errors
+pub mod Ends
+pub mod Looks
+pub mod Shapes
+pub mod Tallies
+pub mod Holding
+pub mod Standing
+pub mod Opening
+pub mod Listing
+pub mod Settling

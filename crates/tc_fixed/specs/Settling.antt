@@ -1,0 +1,8 @@
+-- The head of the file as it is to be.
+use Rattle.std.specs.Prelude.{ℕ}
+use Rattle.hf_head.specs.declared.fixed.FixedHead.{FixedHead}
+use Rattle.tc_fixed.specs.declared.tally.Tally.{Tally}
+use Rattle.tc_fixed.specs.Cells.{end_of}
+
+abbrev pub head_of : ℕ → ℕ → Tally → FixedHead
+head_of width limit t = record { records = t.records; size = end_of width t.greatest; width = width; limit = limit; least = t.least; greatest = t.greatest }

@@ -1,0 +1,83 @@
+//! Cells looked at.
+ghost use Rattle.std.specs.Prelude.{◌≡◌, ◌+◌, ◌^◌, ◌≤◌, length, IfOk, OnOk, IsErrOf};
+ghost use Rattle.tc_io.specs.Causes.{Rose, HasCause};
+ghost use Rattle.tc_space.specs.Frames.{OnlyReads};
+ghost use Rattle.tc_window.specs.Windows.{Shows};
+ghost use Rattle.tc_fixed.specs.Cells.{cell_at, end_of, size_len};
+ghost use Rattle.tc_fixed.specs.Looks.{Sees};
+
+use crate::cells::{Look, cell_len, look_in, place, size_len};
+use crate::spaces::{FILE, read_at};
+use tc_base::Fault;
+use tc_space::Space;
+use tc_window::{ReadErr, Window};
+
+// How many bytes a window reads at once.
+const PIECE: u64 = 4096;
+
+// What the front of the cell of an id tells, read into bytes that are as many.
+fn read_look<S: Space>(space: &mut S, width: u32, id: u64, into: &mut [u8]) -> Result<Look, Fault>
+    requires sound { S.sound space.old }
+    requires width { (1 ≤ width) × (width ≤ 1048576) }
+    requires id { (1 ≤ id) × (id ≤ 2 ^ 40) }
+    requires inside { S.tells → end_of width id ≤ length (S.now space.old 0) }
+    requires front { length into.old ≡ size_len width + 1 }
+    ensures sees { IfOk result (λ look. S.tells → Sees width look (cell_at width id (S.now space.old 0))) }
+    ensures reads { OnlyReads S.Space space.old space.new }
+    ensures cause { HasCause (S.faults space.old) (S.faults space.new) result }
+{
+    match read_at(space, place(width, id), into) {
+        Ok(()) => Ok(look_in(width, into)),
+        Err(e) => Err(e),
+    }
+}
+
+/// What the front of the cell of an id tells, by one small read.
+pub fn look_at<S: Space>(space: &mut S, width: u32, id: u64) -> Result<Look, Fault>
+    requires sound { S.sound space.old }
+    requires width { (1 ≤ width) × (width ≤ 1048576) }
+    requires id { (1 ≤ id) × (id ≤ 2 ^ 40) }
+    requires inside { S.tells → end_of width id ≤ length (S.now space.old 0) }
+    ensures sees { IfOk result (λ look. S.tells → Sees width look (cell_at width id (S.now space.old 0))) }
+    ensures reads { OnlyReads S.Space space.old space.new }
+    ensures cause { HasCause (S.faults space.old) (S.faults space.new) result }
+{
+    let mut front = [0; 5];
+    read_look(space, width, id, &mut front[..size_len(width) + 1])
+}
+
+// The first of the cells that are read with that of an id: as many as fit into a piece are read at once, always the same ones.
+fn first_beside(width: u32, id: u64) -> u64
+    requires id { 1 ≤ id }
+    ensures some { 1 ≤ result }
+    ensures low { result ≤ id }
+{
+    let together = (PIECE / cell_len(width)).max(1);
+    id - (id - 1) % together
+}
+
+/// What the front of the cell of an id tells, through a window that reads cells a piece at a time.
+pub fn look<S: Space>(
+    window: &mut Window,
+    space: &mut S,
+    width: u32,
+    id: u64,
+) -> Result<Look, ReadErr>
+    requires sound { S.sound space.old }
+    requires width { (1 ≤ width) × (width ≤ 1048576) }
+    requires id { (1 ≤ id) × (id ≤ 2 ^ 40) }
+    requires inside { S.tells → end_of width id ≤ length (S.now space.old 0) }
+    requires shows { S.tells → Shows window.old (S.now space.old 0) }
+    ensures sees { IfOk result (λ look. S.tells → Sees width look (cell_at width id (S.now space.old 0))) }
+    ensures shows { OnOk result (S.tells → Shows window.new (S.now space.old 0)) }
+    ensures reads { OnlyReads S.Space space.old space.new }
+    ensures cause { IsErrOf result ReadErr.Fault → Rose (S.faults space.old) (S.faults space.new) }
+{
+    let len = size_len(width) + 1;
+    let at = place(width, id);
+    let from = place(width, first_beside(width, id));
+    match window.fill(space, FILE, from, (at - from) as usize + len) {
+        Ok(()) => Ok(look_in(width, window.get(at, len))),
+        Err(e) => Err(e),
+    }
+}

@@ -1,0 +1,95 @@
+//! Values read.
+ghost use Rattle.std.specs.Prelude.{◌≡◌, ◌+◌, ◌^◌, ◌≤◌, length, IfOk, IfSome, OnOk, IsErrOf, option_map};
+ghost use Rattle.std.specs.FinMap.{get};
+ghost use Rattle.tc_io.specs.Causes.{Rose, HasCause};
+ghost use Rattle.tc_model.specs.Arrays.{Array};
+ghost use Rattle.tc_space.specs.Frames.{Keeps, OnlyReads, Reads};
+ghost use Rattle.tc_space.specs.Stores.{IsReady};
+ghost use Rattle.hf_head.specs.FixedHeads.{cell};
+ghost use Rattle.tc_fixed.specs.Cells.{cell_at, end_of};
+ghost use Rattle.tc_fixed.specs.Holding.{Means, SameShape};
+
+use crate::cells::{Look, cell_len, place, value_of};
+use crate::fixed::Fixed;
+use crate::looking::look_at;
+use crate::spaces::read_at;
+use tc_base::{Blob, Fault};
+use tc_space::{RecErr, Space};
+
+// Makes bytes those of the cell of an id.
+fn read_cell<S: Space>(space: &mut S, width: u32, id: u64, into: &mut Vec<u8>) -> Result<(), RecErr>
+    requires sound { S.sound space.old }
+    requires width { (1 ≤ width) × (width ≤ 1048576) }
+    requires id { (1 ≤ id) × (id ≤ 2 ^ 40) }
+    requires inside { S.tells → end_of width id ≤ length (S.now space.old 0) }
+    ensures long { OnOk result (length into.new.items ≡ cell width) }
+    ensures bytes { OnOk result (S.tells → into.new.items ≡ cell_at width id (S.now space.old 0)) }
+    ensures reads { OnlyReads S.Space space.old space.new }
+    ensures cause { (IsErrOf result RecErr.Fault → Rose (S.faults space.old) (S.faults space.new)) × (IsErrOf result RecErr.Full → ⊥) }
+{
+    into.clear();
+    let Ok(()) = into.resize(cell_len(width) as usize, 0) else {
+        return Err(RecErr::Memory);
+    };
+    match read_at(space, place(width, id), into) {
+        Ok(()) => Ok(()),
+        Err(e) => Err(RecErr::from(e)),
+    }
+}
+
+impl<S: Space> Fixed<S> {
+    // How many bytes the value of an id has; none is read where no id as this one is held.
+    pub(crate) fn held_at(&self, space: &mut S, id: u64) -> Result<Option<u64>, Fault>
+        requires ready { IsReady S.Space (Means S.Space) self.now space.old }
+        ensures held { IfOk result (λ found. (m : Array) → Means S.Space self.now space.old m → found ≡ option_map length (get m id)) }
+        ensures inside { IfOk result (λ found. IfSome found (λ long. (1 ≤ id) × (id ≤ self.now.tally.greatest))) }
+        ensures reads { OnlyReads S.Space space.old space.new }
+        ensures cause { HasCause (S.faults space.old) (S.faults space.new) result }
+    {
+        if self.is_outside(id) {
+            return Ok(None);
+        }
+        match look_at(space, self.width, id) {
+            Ok(Look::Value(long)) => Ok(Some(long)),
+            Ok(_) => Ok(None),
+            Err(e) => Err(e),
+        }
+    }
+
+    /// How many bytes the value of an id has, by one small read. Nothing changes, whatever it answers.
+    pub fn value_len(&mut self, space: &mut S, id: u64) -> Result<Option<u64>, RecErr>
+        requires ready { IsReady S.Space (Means S.Space) self.old space.old }
+        ensures value { IfOk result (λ found. (m : Array) → Means S.Space self.old space.old m → found ≡ option_map length (get m id)) }
+        ensures reads { Reads S.Space (Means S.Space) self.old self.new space.old space.new }
+        ensures keeps { Keeps S.Space space.old space.new }
+        ensures shape { SameShape self.old self.new }
+        ensures cause { (IsErrOf result RecErr.Fault → Rose (S.faults space.old) (S.faults space.new)) × (IsErrOf result RecErr.Full → ⊥) }
+    {
+        match self.held_at(space, id) {
+            Ok(found) => Ok(found),
+            Err(e) => Err(RecErr::from(e)),
+        }
+    }
+
+    /// The value of an id, by one read of its cell. Nothing changes, whatever it answers.
+    pub fn get(&mut self, space: &mut S, id: u64) -> Result<Option<Blob>, RecErr>
+        requires ready { IsReady S.Space (Means S.Space) self.old space.old }
+        ensures value { IfOk result (λ found. (m : Array) → Means S.Space self.old space.old m → found ≡ get m id) }
+        ensures reads { Reads S.Space (Means S.Space) self.old self.new space.old space.new }
+        ensures keeps { Keeps S.Space space.old space.new }
+        ensures shape { SameShape self.old self.new }
+        ensures cause { (IsErrOf result RecErr.Fault → Rose (S.faults space.old) (S.faults space.new)) × (IsErrOf result RecErr.Full → ⊥) }
+    {
+        if self.is_outside(id) {
+            return Ok(None);
+        }
+        match read_cell(space, self.width, id, &mut self.buffer) {
+            Ok(()) => {}
+            Err(e) => return Err(e),
+        }
+        match value_of(self.alloc, self.width, &self.buffer) {
+            Ok(found) => Ok(found),
+            Err(_) => Err(RecErr::Memory),
+        }
+    }
+}

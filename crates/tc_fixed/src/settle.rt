@@ -1,0 +1,87 @@
+//! What is held in memory, brought to the file.
+ghost use Rattle.std.specs.Prelude.{◌≡◌, ◌⊎◌, ◌+◌, ◌*◌, ◌≤◌, ◌^◌, length, take, OnOk, OnErr, IsErrOf, false};
+ghost use Rattle.tc_base.specs.Files.{wrote};
+ghost use Rattle.tc_io.specs.Causes.{Rose};
+ghost use Rattle.hf_head.specs.FixedHeads.{cell, fixed_spelled, SpellsFixed};
+ghost use Rattle.tc_model.specs.Arrays.{Array};
+ghost use Rattle.tc_space.specs.Changes.{same};
+ghost use Rattle.tc_space.specs.Effects.{Changes, Outcome};
+ghost use Rattle.tc_space.specs.Frames.{Keeps, Refuses, Writes};
+ghost use Rattle.tc_space.specs.Stores.{IsReady, Only};
+ghost use Rattle.tc_fixed.specs.Cells.{end_of};
+ghost use Rattle.tc_fixed.specs.Holding.{Means, SameShape, max_id_of};
+ghost use Rattle.tc_fixed.specs.Settling.{head_of};
+ghost use Rattle.tc_fixed.specs.Standing.{Stands};
+
+use crate::cells::cell_len;
+use crate::fixed::Fixed;
+use crate::spaces::{cut_to, write_over};
+use crate::tally::Tally;
+use hf_head::FixedHead;
+use tc_space::{RecErr, Space};
+
+/// The bytes of a head.
+pub fn spelling(head: &FixedHead) -> [u8; 256]
+    ensures bytes { result ≡ fixed_spelled head.now }
+    ensures spells { SpellsFixed head.now (fixed_spelled head.now) }
+    ensures long { length (fixed_spelled head.now) ≡ 256 }
+{
+    head.write()
+}
+
+// Writes a head, and cuts the file to the head's file size. After a refusal the space isn't sound.
+fn write_head<S: Space>(space: &mut S, head: &FixedHead) -> Result<(), RecErr>
+    requires sound { S.sound space.old }
+    requires inside { S.tells → 256 ≤ length (S.now space.old 0) }
+    ensures wrote { OnOk result (S.tells → Changes S.now 0 (take head.now.size (wrote 0 (fixed_spelled head.now) (S.now space.old 0))) space.old space.new) }
+    ensures outcome { Outcome S.sound S.flag result space.new }
+    ensures keeps { Keeps S.Space space.old space.new }
+    ensures full { IsErrOf result RecErr.Full → S.tells → S.log_full space.new }
+    ensures spells { SpellsFixed head.now (fixed_spelled head.now) × (length (fixed_spelled head.now) ≡ 256) }
+    ensures cause { IsErrOf result RecErr.Fault → Rose (S.faults space.old) (S.faults space.new) }
+{
+    match write_over(space, 0, &spelling(head)) {
+        Ok(()) => {}
+        Err(e) => return Err(e),
+    }
+    match cut_to(space, head.size) {
+        Ok(()) => Ok(()),
+        Err(e) => Err(e),
+    }
+}
+
+/// The head of a file with these numbers.
+pub fn head_now(width: u32, limit: u64, tally: &Tally) -> FixedHead
+    requires width { width ≤ 1048576 }
+    requires greatest { tally.now.greatest ≤ 2 ^ 40 }
+    ensures { result ≡ head_of width limit tally.now }
+{
+    FixedHead {
+        records: tally.records,
+        size: 256 + cell_len(width) * tally.greatest,
+        width,
+        limit,
+        least: tally.least,
+        greatest: tally.greatest,
+    }
+}
+
+impl<S: Space> Fixed<S> {
+    /// Brings what is held in memory to the file: its head is written, and it is cut to its size. Then it stands for the map. After a refusal the
+    /// space isn't sound.
+    pub fn settle(&mut self, space: &mut S) -> Result<(), RecErr>
+        requires ready { IsReady S.Space (Means S.Space) self.old space.old }
+        ensures settled { OnOk result (Writes S.Space (Only 0) (Means S.Space) same self.old self.new space.old space.new) }
+        ensures stands { OnOk result ((m : Array) → Means S.Space self.old space.old m → Stands (S.now space.new 0) self.old.width (max_id_of self.old) m) }
+        ensures refused { OnErr result (Refuses S.Space (Means S.Space) self.old self.new space.old space.new) }
+        ensures full { IsErrOf result RecErr.Full → (S.flag space.new ≡ false) × (S.tells → S.log_full space.new) }
+        ensures keeps { Keeps S.Space space.old space.new }
+        ensures shape { SameShape self.old self.new }
+        ensures cause { IsErrOf result RecErr.Fault → Rose (S.faults space.old) (S.faults space.new) }
+    {
+        match write_head(space, &head_now(self.width, self.limit, &self.tally)) {
+            Ok(()) => Ok(()),
+            Err(e) => Err(e),
+        }
+    }
+}

@@ -1,0 +1,7 @@
+//! A fixed-length file in memory: its bytes, its rules and each of its calls.
+#![tactic(auto)]
+
+#[cfg(test)]
+mod arrays;
+#[cfg(test)]
+mod scratch;
