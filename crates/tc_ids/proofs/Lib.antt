@@ -1,0 +1,11 @@
+mod Asked
+mod Beginning
+mod Ends
+mod Lines
+mod Listed
+mod Made
+mod Settled
+mod Several
+mod Stored
+mod Told
+mod Whole

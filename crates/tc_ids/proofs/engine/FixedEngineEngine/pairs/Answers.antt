@@ -1,0 +1,10 @@
+use Rattle.std.proofs.Common.{List, ℕ, refl, subst}
+use Rattle.tc_engine.specs.Rows.{Adds, adds_nothing}
+use Rattle.tc_ids.proofs.Asked.{items_none, items_of}
+use Rattle.tc_ids.proofs.engine.FixedEngineEngine.pairs.Goals as goal
+
+pub returns-in-Ok-None-clause-rows : goal.returns-in-Ok-None-clause-rows
+returns-in-Ok-None-clause-rows g c = λ k h. subst (λ (rows : List (List ℕ)). Adds c.args.into.now c.args.into.now rows) (items_none g.S.Space c.args.self.now c.args.space.now k c.args.key.now c.as_slice.result.now c.in-Ok-None.field-0 c.as_slice.ensures c.in-Ok-None.field-0-is h (c.in-Ok-None.ensures.found k h)) (adds_nothing c.args.into.now)
+
+pub returns-clause-rows : goal.returns-clause-rows
+returns-clause-rows g c = λ k h. subst (λ (rows : List (List ℕ)). Adds c.args.into.now c.add_items.new.rows rows) (items_of g.S.Space c.args.self.now c.args.space.now k c.args.key.now c.as_slice.result.now c.in-Ok-Some.found.0 c.in-Ok-Some.found.1 c.as_slice-2.result.now c.in-Ok-Some.field-0 c.as_slice.ensures c.as_slice-2.ensures c.in-Ok-Some.field-0-is h (c.in-Ok-Some.ensures.found k h)) c.in-Ok.ensures.rows

@@ -1,0 +1,6 @@
+pub mod Changing
+pub mod Holding
+pub mod Laws
+pub mod Lifting
+pub mod Naming
+pub mod Unbroken

@@ -1,0 +1,56 @@
+//! What an inspection tells of the file.
+ghost use Rattle.std.specs.Prelude.{◌≡◌, ◌≤◌, ◌++◌, List, ℕ, length, take, IfOk, OnOk, OnErr, IsErrOf};
+ghost use Rattle.tc_io.specs.Causes.{Rose};
+ghost use Rattle.hf_head.specs.FixedHeads.{fixed_in};
+ghost use Rattle.tc_space.specs.Frames.{Keeps, OnlyReads};
+ghost use Rattle.tc_fixed.specs.Standing.{HasHead};
+ghost use Rattle.ty_wire.specs.Prefixes.{IsPrefix};
+ghost use Rattle.tc_ids.specs.Holding.{line, lines_of};
+
+use hf_head::FixedHead;
+use itoa::Buffer;
+use std::alloc::AllocError;
+use tc_base::Blob;
+use tc_space::{RecErr, Space};
+
+// Adds a line of a name and a number.
+fn add_line(name: &[u8], n: u64, into: &mut Blob) -> Result<(), AllocError>
+    ensures added { OnOk result (into.new ≡ into.old ++ line name.now n) }
+    ensures front { IsPrefix into.old into.new }
+{
+    let mut buffer = Buffer::new();
+    into.append(name)?;
+    into.append(buffer.format(n).as_bytes())?;
+    into.push(b'\n')?;
+    Ok(())
+}
+
+/// Adds the width, the greatest id held and the file size, a line each.
+pub(crate) fn add_lines(head: &FixedHead, into: &mut Blob) -> Result<(), AllocError>
+    ensures added { OnOk result (into.new ≡ into.old ++ lines_of head.now) }
+    ensures front { IsPrefix into.old into.new }
+{
+    add_line(b"width: ", u64::from(head.width), into)?;
+    add_line(b"greatest id: ", head.greatest, into)?;
+    add_line(b"file size: ", head.size, into)?;
+    Ok(())
+}
+
+/// The head of the file, which must have one.
+pub(crate) fn read_head<S: Space>(space: &mut S) -> Result<Option<FixedHead>, RecErr>
+    requires sound { S.sound space.old }
+    requires head { S.tells → (h : FixedHead) × HasHead (S.now space.old 0) h }
+    ensures head { IfOk result (λ found. S.tells → (h : FixedHead) × (found ≡ Some h) × (fixed_in (take 256 (S.now space.old 0)) ≡ h)) }
+    ensures reads { OnlyReads S.Space space.old space.new }
+    ensures cause { (IsErrOf result RecErr.Fault → Rose (S.faults space.old) (S.faults space.new)) × (IsErrOf result RecErr.Full → ⊥) }
+{
+    let mut bytes = [0; 256];
+    match space.read(0, 0, &mut bytes) {
+        Ok(()) => {}
+        Err(e) => return Err(RecErr::from(e)),
+    }
+    match FixedHead::read(&bytes) {
+        Ok(head) => Ok(Some(head)),
+        Err(_) => Ok(None),
+    }
+}

@@ -1,0 +1,15 @@
+//! The engine of fixed-length databases.
+#![tactic(auto)]
+
+mod engine;
+mod holding;
+mod informing;
+mod many;
+mod naming;
+mod numbers;
+mod opening;
+mod reading;
+mod storing;
+mod texts;
+
+pub use holding::FixedEngine;

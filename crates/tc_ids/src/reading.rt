@@ -1,0 +1,153 @@
+//! What is read of a fixed-length database.
+#![tactic(auto, using(tc_space::specs::Frames::keeps_refl, tc_space::specs::Frames::reads_refl, crate::specs::Lifting::ready_down, crate::specs::Lifting::reads_up))]
+
+ghost use Rattle.std.specs.Prelude.{◌≡◌, ◌≤◌, ◌++◌, ◌↔◌, List, map, filter, nat_eq, IfOk, OnOk, IsErrOf, IsTrue};
+ghost use Rattle.std.specs.Fmt.{decimal};
+ghost use Rattle.std.specs.List.{starts_with};
+ghost use Rattle.tc_io.specs.Causes.{Rose};
+ghost use Rattle.tc_space.specs.Frames.{Keeps, Reads};
+ghost use Rattle.tc_model.specs.Arrays.{Array};
+ghost use Rattle.tc_model.specs.Apply.{keys_from};
+ghost use Rattle.tc_model.specs.Contents.{Contents};
+ghost use Rattle.tc_model.specs.Stores.{all_keys};
+ghost use Rattle.tc_fixed.specs.Listing.{HasRoom};
+ghost use Rattle.ty_base.specs.Holding.{Held, IsReady};
+ghost use Rattle.tc_engine.specs.Changes.{first_of};
+ghost use Rattle.tc_engine.specs.Rows.{Adds, Extends, item_row};
+ghost use Rattle.tc_ids.specs.Holding.{HoldsIds, IsFound};
+
+use crate::holding::FixedEngine;
+use crate::texts::{add_id, begins, id_key};
+use std::alloc::{AllocError, Global};
+use tc_base::{Blob, Keys};
+use tc_engine::Rows;
+use tc_space::{RecErr, Space};
+
+// Ids as keys.
+fn id_keys(alloc: Global, ids: &[u64]) -> Result<Keys, AllocError>
+    ensures { IfOk result (λ keys. keys ≡ map (λ id. decimal id) ids.now) }
+{
+    let mut keys = Keys::new(alloc);
+    for id in ids {
+        keys.push(id_key(alloc, *id)?)?;
+    }
+    Ok(keys)
+}
+
+/// Adds ids as rows.
+pub(crate) fn add_ids(ids: &[u64], rows: &mut Rows) -> Result<(), AllocError>
+    ensures rows { OnOk result (Adds rows.old rows.new (map item_row (map (λ id. decimal id) ids.now))) }
+    ensures front { Extends rows.old rows.new }
+{
+    for id in ids {
+        add_id(*id, rows)?;
+    }
+    Ok(())
+}
+
+// Whether fewer than so many were found.
+fn has_room(most: Option<u64>, count: usize) -> bool
+    ensures { IsTrue result ↔ HasRoom most count }
+{
+    match most {
+        Some(most) => (count as u64) < most,
+        None => true,
+    }
+}
+
+// Those of some ids whose texts begin with a prefix, at most so many.
+fn beginning(
+    alloc: Global,
+    ids: &[u64],
+    prefix: &[u8],
+    most: Option<u64>,
+) -> Result<Vec<u64>, AllocError>
+    ensures { IfOk result (λ found. found.items ≡ first_of most (filter (λ id. starts_with nat_eq (decimal id) prefix.now) ids.now)) }
+{
+    let mut found = Vec::new(alloc);
+    for id in ids {
+        if !has_room(most, found.as_slice().len()) {
+            return Ok(found);
+        }
+        if begins(*id, prefix) {
+            found.push(*id)?;
+        }
+    }
+    Ok(found)
+}
+
+impl<S: Space> FixedEngine<S> {
+    /// The id that a key names and its value, where it is held.
+    pub(crate) fn find(&mut self, space: &mut S, key: &[u8]) -> Result<Option<(u64, Blob)>, RecErr>
+        requires { IsReady S.Space HoldsIds self.old space.old }
+        ensures found { IfOk result (λ found. (c : Contents) → Held S.Space HoldsIds self.old space.old c → IsFound c key.now found) }
+        ensures reads { Reads S.Space (Held S.Space HoldsIds) self.old self.new space.old space.new }
+        ensures keeps { Keeps S.Space space.old space.new }
+        ensures cause { (IsErrOf result RecErr.Fault → Rose (S.faults space.old) (S.faults space.new)) × (IsErrOf result RecErr.Full → ⊥) }
+    {
+        let Some(id) = self.id_of(key) else {
+            return Ok(None);
+        };
+        match self.fixed.get(space, id) {
+            Ok(Some(value)) => Ok(Some((id, value))),
+            Ok(None) => Ok(None),
+            Err(e) => Err(e),
+        }
+    }
+
+    // The ids held, in order.
+    fn ids(&mut self, space: &mut S) -> Result<Vec<u64>, RecErr>
+        requires { IsReady S.Space HoldsIds self.old space.old }
+        ensures value { IfOk result (λ found. (c : Contents) → Held S.Space HoldsIds self.old space.old c → map (λ id. decimal id) found.items ≡ all_keys c) }
+        ensures reads { Reads S.Space (Held S.Space HoldsIds) self.old self.new space.old space.new }
+        ensures keeps { Keeps S.Space space.old space.new }
+        ensures cause { (IsErrOf result RecErr.Fault → Rose (S.faults space.old) (S.faults space.new)) × (IsErrOf result RecErr.Full → ⊥) }
+    {
+        let mut ids = Vec::new(self.alloc);
+        match self.fixed.ids_in(space, 0, u64::MAX, None, &mut ids) {
+            Ok(()) => Ok(ids),
+            Err(e) => Err(e),
+        }
+    }
+
+    /// The ids held as keys, in order.
+    pub(crate) fn id_texts(&mut self, space: &mut S) -> Result<Keys, RecErr>
+        requires { IsReady S.Space HoldsIds self.old space.old }
+        ensures value { IfOk result (λ keys. (c : Contents) → Held S.Space HoldsIds self.old space.old c → keys ≡ all_keys c) }
+        ensures reads { Reads S.Space (Held S.Space HoldsIds) self.old self.new space.old space.new }
+        ensures keeps { Keeps S.Space space.old space.new }
+        ensures cause { (IsErrOf result RecErr.Fault → Rose (S.faults space.old) (S.faults space.new)) × (IsErrOf result RecErr.Full → ⊥) }
+    {
+        let ids = match self.ids(space) {
+            Ok(ids) => ids,
+            Err(e) => return Err(e),
+        };
+        let Ok(keys) = id_keys(self.alloc, &ids) else {
+            return Err(RecErr::Memory);
+        };
+        Ok(keys)
+    }
+
+    /// The ids whose texts begin with a prefix, in order, at most so many.
+    pub(crate) fn list_from(
+        &mut self,
+        space: &mut S,
+        prefix: &[u8],
+        most: Option<u64>,
+    ) -> Result<Vec<u64>, RecErr>
+        requires { IsReady S.Space HoldsIds self.old space.old }
+        ensures value { IfOk result (λ found. (c : Contents) → Held S.Space HoldsIds self.old space.old c → map (λ id. decimal id) found.items ≡ first_of most (keys_from c prefix.now)) }
+        ensures reads { Reads S.Space (Held S.Space HoldsIds) self.old self.new space.old space.new }
+        ensures keeps { Keeps S.Space space.old space.new }
+        ensures cause { (IsErrOf result RecErr.Fault → Rose (S.faults space.old) (S.faults space.new)) × (IsErrOf result RecErr.Full → ⊥) }
+    {
+        let all = match self.ids(space) {
+            Ok(all) => all,
+            Err(e) => return Err(e),
+        };
+        let Ok(found) = beginning(self.alloc, &all, prefix, most) else {
+            return Err(RecErr::Memory);
+        };
+        Ok(found)
+    }
+}
