@@ -10,7 +10,7 @@ _tokyo_served="pipe serve"
 #   of a kind: create inform put out get list optimize restore; of a table: setindex search
 
 # What may be named: a star is quoted, as the shell would read it as files.
-_tokyo_names="'*'"
+_tokyo_names=("'*'" +)
 
 _tokyo() {
     local word=${COMP_WORDS[COMP_CWORD]}
@@ -18,9 +18,10 @@ _tokyo() {
     if [ "$COMP_CWORD" -eq 1 ]; then
         mapfile -t COMPREPLY < <(compgen -W "$_tokyo_served" -- "$word")
     elif [ "${COMP_WORDS[1]}" = serve ] && [[ $word == -* ]]; then
-        mapfile -t COMPREPLY < <(compgen -W "-host -port -turns" -- "$word")
-    elif [ -z "$word" ] && { [ "${COMP_WORDS[1]}" = serve ] || [ "$COMP_CWORD" -eq 2 ] && [ "${COMP_WORDS[1]}" = pipe ]; }; then
-        COMPREPLY=("$_tokyo_names")
+        mapfile -t COMPREPLY < <(compgen -W "-host -port -lim -turns" -- "$word")
+    elif [ "${COMP_WORDS[1]}" = serve ] || { [ "$COMP_CWORD" -eq 2 ] && [ "${COMP_WORDS[1]}" = pipe ]; }; then
+        mapfile -t COMPREPLY < <(compgen -f -X '!*.tcf' -- "$word")
+        [ -n "$word" ] || COMPREPLY+=("${_tokyo_names[@]}")
     fi
 }
 

@@ -2,6 +2,7 @@
 use Rattle.std.specs.Prelude.{ℕ, List, [], ◌∷◌, ◌++◌, codes, map}
 use Rattle.tc_io.specs.declared.wire.Entry.{Entry}
 use Rattle.ty_world.specs.World.{Client, World, world_after}
+use Rattle.tk_top.specs.declared.words.Memory.TheVariants.{Map}
 use Rattle.tk_top.specs.Top.{before}
 
 -- `one` is set to `first`, and asked for
@@ -24,13 +25,13 @@ get_a = 0xC8 ∷ 0x30 ∷ 0 ∷ 0 ∷ 0 ∷ 1 ∷ codes "a"
 abbrev pub each_owed : List Client → List (List ℕ)
 each_owed ks = map (λ k. k.owed) ks
 
--- what the open connections are owed
+-- what the open connections of a map are owed
 abbrev pub owed : List Entry → List (List ℕ)
-owed es = each_owed (world_after es before).there
+owed es = each_owed (world_after es (before Map)).there
 
 -- and those that were closed
 abbrev pub owed_past : List Entry → List (List ℕ)
-owed_past es = each_owed (world_after es before).past
+owed_past es = each_owed (world_after es (before Map)).past
 
 abbrev pub put_two : List ℕ
 put_two = 0xC8 ∷ 0x10 ∷ 0 ∷ 0 ∷ 0 ∷ 1 ∷ 0 ∷ 0 ∷ 0 ∷ 1 ∷ codes "a2"

@@ -2,10 +2,18 @@
 #![tactic(auto)]
 
 #[cfg(test)]
+mod cases;
+#[cfg(test)]
 mod connections;
+#[cfg(test)]
+mod databases;
+#[cfg(test)]
+mod fixed;
 #[cfg(test)]
 mod played;
 #[cfg(test)]
 mod requests;
 #[cfg(test)]
 mod rows;
+#[cfg(test)]
+mod stops;

@@ -26,6 +26,7 @@ pub enum Step {
 #[derive(Drop)]
 pub struct Ended {
     pub status: u8,
+    pub vol: MemVolume,
     pub wire: MemWire,
     pub line: MemSink,
 }
@@ -97,17 +98,24 @@ pub fn crowded(alloc: Global, count: u32) -> Result<MemWire, AllocError>
     Ok(wire)
 }
 
-pub fn ran(alloc: Global, words: &Vec<String>, mut wire: MemWire) -> Result<Ended, AllocError>
+// A run over these files.
+pub fn ran_over(alloc: Global, words: &Vec<String>, vol: MemVolume, mut wire: MemWire) -> Ended
     requires { wire.opened ≡ false }
 {
     let mut out = MemSink::new(alloc);
     let mut err = MemSink::new(alloc);
     let mut clock = StepClock::new(7, 0);
-    let vol = MemVolume::new(alloc)?;
     let ran = run(alloc, words, vol, &mut wire, &mut out, &mut err, &mut clock);
-    Ok(Ended {
+    Ended {
         status: ran.status,
+        vol: ran.vol,
         wire,
         line: err,
-    })
+    }
+}
+
+pub fn ran(alloc: Global, words: &Vec<String>, wire: MemWire) -> Result<Ended, AllocError>
+    requires { wire.opened ≡ false }
+{
+    Ok(ran_over(alloc, words, MemVolume::new(alloc)?, wire))
 }

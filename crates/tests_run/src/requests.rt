@@ -1,14 +1,8 @@
 //! Requests of one connection, in whatever pieces they come.
+use crate::cases::{Case, first_wrong};
 use crate::played::{FOUND, GET, PUT, alone, joined, ran, words};
 use std::test::Fail;
 use tc_io::{At, Entry, MemWire};
-
-#[derive(Drop)]
-struct Case {
-    name: &'static str,
-    input: &'static [&'static [u8]],
-    sent: &'static [&'static [u8]],
-}
 
 const FIRST: &[Case] = &[
     Case {
@@ -85,73 +79,34 @@ const VALUES: &[Case] = &[
     },
 ];
 
-const KEYS: &[Case] = &[
-    Case {
-        name: "keys are walked and listed",
-        input: &[
-            b"\xC8\x51",
-            b"\xC8\x10\0\0\0\x01\0\0\0\x01a1",
-            b"\xC8\x10\0\0\0\x01\0\0\0\x01b2",
-            b"\xC8\x10\0\0\0\x01\0\0\0\x01c3",
-            b"\xC8\x50\xC8\x20\0\0\0\x01a",
-            b"\xC8\x10\0\0\0\x01\0\0\0\x01d4",
-            b"\xC8\x51\xC8\x51\xC8\x51\xC8\x51",
-            b"\xC8\x58\0\0\0\0\xFF\xFF\xFF\xFF",
-            b"\xC8\x58\0\0\0\0\0\0\0\0",
-        ],
-        sent: &[
-            b"\x01\0\0\0\0\0\0",
-            b"\0\0\0\0\x01b\0\0\0\0\x01c\x01\x01",
-            b"\0\0\0\0\x03\0\0\0\x01b\0\0\0\x01c\0\0\0\x01d",
-            b"\0\0\0\0\0",
-        ],
-    },
-    Case {
-        name: "contents are counted",
-        input: &[b"\xC8\x10\0\0\0\x01\0\0\0\x01a1", b"\xC8\x88"],
-        sent: &[
-            b"\0",
-            b"\0\0\0\0\x22type\ton-memory hash\nrnum\t1\nsize\t2\n",
-        ],
-    },
-    Case {
-        name: "calls are refused",
-        input: &[
-            PUT,
-            b"\xC8\x90\0\0\0\x03\0\0\0\x01\0\0\0\x01out\0\0\0\x03one",
-            b"\xC8\x90\0\0\0\x06\0\0\0\0\0\0\0\0nosuch",
-            b"\xC8\x90\0\0\0\x08\0\0\0\0\0\0\0\x02setindex\0\0\0\x01n\0\0\0\x011",
-            b"\xC8\x61\0\0\0\x03\0\0\0\0\0\0\0\x01\0\0\0\0\0\0\0\x02one",
-            b"\xC8\x68\0\0\0\x01\0\0\0\0\0\0\0\x03\0\0\0\x01foneg",
-            b"\xC8\xA0\0\0\0\0\0\0\0\0\0\0\0\x09",
-            GET,
-        ],
-        sent: &[
-            b"\0",
-            b"\x01\0\0\0\0\x01\0\0\0\0\x01\0\0\0\0",
-            b"\x01\x01\x01",
-            FOUND,
-        ],
-    },
-];
+const KEYS: &[Case] = &[Case {
+    name: "keys are walked and listed",
+    input: &[
+        b"\xC8\x51",
+        b"\xC8\x10\0\0\0\x01\0\0\0\x01a1",
+        b"\xC8\x10\0\0\0\x01\0\0\0\x01b2",
+        b"\xC8\x10\0\0\0\x01\0\0\0\x01c3",
+        b"\xC8\x50\xC8\x20\0\0\0\x01a",
+        b"\xC8\x10\0\0\0\x01\0\0\0\x01d4",
+        b"\xC8\x51\xC8\x51\xC8\x51\xC8\x51",
+        b"\xC8\x58\0\0\0\0\xFF\xFF\xFF\xFF",
+        b"\xC8\x58\0\0\0\0\0\0\0\0",
+    ],
+    sent: &[
+        b"\x01\0\0\0\0\0\0",
+        b"\0\0\0\0\x01b\0\0\0\0\x01c\x01\x01",
+        b"\0\0\0\0\x03\0\0\0\x01b\0\0\0\x01c\0\0\0\x01d",
+        b"\0\0\0\0\0",
+    ],
+}];
 
 // Each whole request is answered, and nothing else is.
 #[test]
 fn requests_are_answered_in_any_pieces(rt: HostRuntime) -> Result<(), Fail> {
     let alloc = rt.alloc();
-    let order = words(alloc, &["pipe", "*"])?;
-    for cases in [FIRST, VALUES, KEYS] {
-        for case in cases.iter() {
-            let input = joined(alloc, case.input)?;
-            let sent = joined(alloc, case.sent)?;
-            for piece in [4096, 7, 1] {
-                let end = ran(alloc, &order, alone(alloc, &input, piece)?)?;
-                assert_eq!(rt; end.status, 0, "{}", case.name);
-                assert_eq!(rt; end.wire.sent(0), sent.as_slice(), "{}", case.name);
-                assert_eq!(rt; end.line.bytes().len(), 0, "{}", case.name);
-                assert!(rt; end.wire.is_closed(0), "{}", case.name);
-                assert_eq!(rt; end.wire.starved(), 0, "{}", case.name);
-            }
+    for database in ["*", "+"] {
+        for cases in [FIRST, VALUES, KEYS] {
+            assert_eq!(rt; first_wrong(alloc, database, cases)?, None, "{}", database);
         }
     }
     Ok(())
@@ -180,7 +135,7 @@ fn the_longest_key_is_looked_for(rt: HostRuntime) -> Result<(), Fail> {
 #[test]
 fn other_words_are_refused(rt: HostRuntime) -> Result<(), Fail> {
     let alloc = rt.alloc();
-    let lists: [&[&str]; 9] = [
+    let lists: [&[&str]; 10] = [
         &[],
         &["pipe"],
         &["pipe", "x"],
@@ -189,7 +144,8 @@ fn other_words_are_refused(rt: HostRuntime) -> Result<(), Fail> {
         &["serve", "x"],
         &["serve", "a.tch"],
         &["serve", "-port", "0", "*"],
-        &["pipe", "+"],
+        &["pipe", "++"],
+        &["serve", "-ulog", "+"],
     ];
     for list in lists {
         let order = words(alloc, list)?;
@@ -217,8 +173,9 @@ fn is_opened(wire: &MemWire, name: &[u8], number: u16) -> bool {
 #[test]
 fn serve_opens_its_address(rt: HostRuntime) -> Result<(), Fail> {
     let alloc = rt.alloc();
-    let lists: [(&[&str], &[u8], u16); 3] = [
+    let lists: [(&[&str], &[u8], u16); 4] = [
         (&["serve", "*"], b"127.0.0.1", 1978),
+        (&["serve", "+"], b"127.0.0.1", 1978),
         (&["serve", "-port", "2000", "*"], b"127.0.0.1", 2000),
         (
             &["serve", "-host", "example.org", "-port", "1", "*"],
@@ -247,21 +204,24 @@ fn turns_are_spent(rt: HostRuntime) -> Result<(), Fail> {
     Ok(())
 }
 
-// A value of 16,777,216 bytes is asked for three times at once: a reply of 50,331,680 bytes behind that of the put.
+// A value of 16,777,216 bytes is asked for three times at once: a reply of 50,331,680 bytes behind that of the put. A fourth time is too
+// much, and so is one more byte of the value.
 #[test]
-fn a_long_reply_is_sent_whole(rt: HostRuntime) -> Result<(), Fail> {
+fn the_longest_value_is_given_three_times(rt: HostRuntime) -> Result<(), Fail> {
     let alloc = rt.alloc();
     let order = words(alloc, &["pipe", "*"])?;
-    let mut input = joined(alloc, &[b"\xC8\x10\0\0\0\x01\x01\0\0\0k"])?;
+    let mut input = joined(alloc, &[b"\xC8\x10\0\0\0\x01\x01\0\0\0a"])?;
     for _ in 0..4096 {
         input.extend_from_slice(&[b'v'; 4096])?;
     }
-    input.extend_from_slice(b"\xC8\x31\0\0\0\x03\0\0\0\x01k\0\0\0\x01k\0\0\0\x01k")?;
+    input.extend_from_slice(b"\xC8\x31\0\0\0\x03\0\0\0\x01a\0\0\0\x01a\0\0\0\x01a")?;
+    input.extend_from_slice(b"\xC8\x31\0\0\0\x04\0\0\0\x01a\0\0\0\x01a\0\0\0\x01a\0\0\0\x01a")?;
+    input.extend_from_slice(b"\xC8\x12\0\0\0\x01\0\0\0\x01ax")?;
     let end = ran(alloc, &order, alone(alloc, &input, 4096)?)?;
     let sent = end.wire.sent(0);
     assert_eq!(rt; end.status, 0);
-    assert_eq!(rt; sent.len(), 50_331_681);
-    assert!(rt; sent.starts_with(b"\0\0\0\0\0\x03\0\0\0\x01\x01\0\0\0kvv"));
-    assert!(rt; sent.ends_with(b"vv"));
+    assert_eq!(rt; sent.len(), 1 + 50_331_680 + 2);
+    assert!(rt; sent.starts_with(b"\0\0\0\0\0\x03\0\0\0\x01\x01\0\0\0avv"));
+    assert!(rt; sent.ends_with(b"vv\x01\x01"));
     Ok(())
 }

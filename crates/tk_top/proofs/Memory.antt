@@ -1,15 +1,12 @@
 -- A run that serves a database in memory.
-use Rattle.std.proofs.Common.{◌≡◌, ◌<◌, ◌-◌, ◌^◌, inl, inr, ℕ, [], refl, sym, ap, subst, ◌∙◌, arith}
-use Rattle.std.specs.Prelude.{Option, Some, None, Result, Ok, Err, OnOk}
-use Rattle.std.specs.FinMap.{empty}
+use Rattle.std.proofs.Common.{◌≡◌, ◌<◌, ◌-◌, ◌^◌, inr, ℕ, [], refl, subst, arith}
+use Rattle.std.specs.Prelude.{Result, Ok, Err, OnOk}
 use Rattle.tc_base.specs.Files.{Files}
 use Rattle.tc_base.specs.declared.fault.Fault.{Fault}
-use Rattle.tc_base.specs.declared.kind.Kind.{Kind}
-use Rattle.tc_base.specs.declared.kind.Kind.TheVariants.{MemHash}
 use Rattle.tc_io.specs.Causes.{HasCause, Rose}
+use Rattle.tc_io.specs.declared.wire.At.{At}
 use Rattle.tc_io.specs.declared.wire.Wire as wire
 use Rattle.tc_space.specs.declared.space.Space as space
-use Rattle.tc_model.specs.Maps.{Map}
 use Rattle.tc_model.specs.Contents.{Contents}
 use Rattle.ty_world.specs.World.{Mark}
 use Rattle.ty_rounds.proofs.Telling.{Adds-none}
@@ -18,13 +15,9 @@ use Rattle.tk_top.specs.declared.ends.End.TheVariants.{Done, Words, Refused, Vol
 use Rattle.tk_top.specs.Causes.{Caused}
 use Rattle.tk_top.specs.Ends.{IsEnd}
 use Rattle.tk_top.specs.Serving.{RunsOver}
-use Rattle.tk_top.specs.Top.{no_keys, IsServing, MemoryRun, RunsAsked}
-use Rattle.tk_top.specs.declared.words.Asked.{Asked}
+use Rattle.tk_top.specs.Top.{no_keys, IsServing, MemoryRun}
+use Rattle.tk_top.specs.declared.words.Memory.{Memory}
 use Rattle.tk_top.proofs.Over.{unserved, not_played}
-
--- the base of a map in memory with no key
-pub empty_is : (c : Contents) → c.kind ≡ MemHash → c.map ≡ empty → c ≡ no_keys.contents
-empty_is c kind map = ap (λ (k : Kind). record { kind = k; map = c.map }) kind ∙ ap (λ (m : Map). record { kind = MemHash; map = m }) map
 
 -- a database in memory has neither faults of a volume nor limits
 pub serving_is : (end : End) → IsEnd end → (end ≡ VolumeFault → ⊥) → (end ≡ Full → ⊥) → IsServing end
@@ -44,37 +37,31 @@ no_volume end w w' c is = let r : Rose 0 0 = subst (λ (e : End). Caused e 0 0 w
 pub wire_fault : (end : End) (v v' w w' : ℕ) → Caused end v v' w w' → end ≡ WireFault → Rose w w'
 wire_fault end v v' w w' c is = subst (λ (e : End). Caused e v v' w w') is c
 
+-- and a fault is one of the wire
+pub serving_caused : (end : End) (v v' w w' : ℕ) → IsServing end → (end ≡ WireFault → Rose w w') → Caused end v v' w w'
+serving_caused Done v v' w w' is rose = tt
+serving_caused Words v v' w w' is rose = tt
+serving_caused Refused v v' w w' is rose = tt
+serving_caused VolumeFault v v' w w' is rose = absurd is
+serving_caused (Broken file rule) v v' w w' is rose = tt
+serving_caused NoMemory v v' w w' is rose = tt
+serving_caused Full v v' w w' is rose = tt
+serving_caused WireFault v v' w w' is rose = rose refl
+serving_caused TurnsSpent v v' w w' is rose = tt
+
 module _ {W : Type 0} (g : wire.Ghosts W) where
-  pub memory_run : {S : Type 0} (s : space.Ghosts S) (reopens : Files → Contents → Type 0) (end : End) (asked : Asked) (old new : S) (x y : W) (start : Mark → Type 0) → RunsOver s g reopens end asked.turns asked.at old new x y start → IsServing end → start no_keys → MemoryRun g end asked x y
-  memory_run s reopens end asked old new x y start run is h = let r = run.ends no_keys h in record { ends = is; entries = run.entries; told = run.told; asks = r.asked; serves = r.serves; plays = run.plays no_keys h }
+  pub memory_run : {S : Type 0} (s : space.Ghosts S) (reopens : Files → Contents → Type 0) (end : End) (memory : Memory) (at : At) (turns : ℕ) (old new : S) (x y : W) (start : Mark → Type 0) → RunsOver s g reopens end turns at old new x y start → IsServing end → start (no_keys memory) → MemoryRun g end memory at turns x y
+  memory_run s reopens end memory at turns old new x y start run is h = let r = run.ends (no_keys memory) h in record { ends = is; entries = run.entries; told = run.told; asks = r.asked; serves = r.serves; plays = run.plays (no_keys memory) h }
 
   -- there was no memory before any call
-  memory_none : (asked : Asked) (x : W) → MemoryRun g NoMemory asked x x
-  memory_none asked x = record {
+  pub memory_none : (memory : Memory) (at : At) (turns : ℕ) (x : W) → MemoryRun g NoMemory memory at turns x x
+  memory_none memory at turns x = record {
     ends = tt;
     entries = [];
     told = Adds-none (g.transcript x);
     asks = tt;
-    serves = unserved NoMemory asked.turns asked.at [] no_keys [] refl (inr refl) (λ e. absurd cc) (λ e. absurd cc);
-    plays = λ acts given p. not_played asked.turns (g.plays x) NoMemory acts given (λ e. absurd cc) (λ e. absurd cc);
-  }
-
-  some_asked : (a b : Asked) → Some a ≡ Some b → a ≡ b
-  some_asked a b e = cc
-
-  pub asked_memory : (o : Option Asked) (x : W) → RunsAsked g o NoMemory x x
-  asked_memory o x = record { served = λ asked is. memory_none asked x; words = λ e. absurd cc; refused = λ n. inr refl; unserved = λ n. refl; fault = λ e. absurd cc }
-
-  pub asked_none : (o : Option Asked) (x : W) → o ≡ None → RunsAsked g o Words x x
-  asked_none o x is = record { served = λ asked some. absurd (let f = sym is ∙ some in cc); words = λ e. is; refused = λ n. inl refl; unserved = λ n. refl; fault = λ e. absurd cc }
-
-  pub asked_some : (o : Option Asked) (end : End) (asked : Asked) (x y : W) → o ≡ Some asked → MemoryRun g end asked x y → (end ≡ WireFault → Rose (g.faults x) (g.faults y)) → RunsAsked g o end x y
-  asked_some o end asked x y is run fault = record {
-    served = λ a some. subst (λ (b : Asked). MemoryRun g end b x y) (some_asked asked a (sym is ∙ some)) run;
-    words = λ e. absurd (subst IsServing e run.ends);
-    refused = λ n. absurd (let f = sym is ∙ n in cc);
-    unserved = λ n. absurd (let f = sym is ∙ n in cc);
-    fault = fault;
+    serves = unserved NoMemory turns at [] (no_keys memory) [] refl (inr refl) (λ e. absurd cc) (λ e. absurd cc);
+    plays = λ acts given p. not_played turns (g.plays x) NoMemory acts given (λ e. absurd cc) (λ e. absurd cc);
   }
 
 -- a sink that was never refused took what was put

@@ -1,22 +1,28 @@
 //! The top call.
-ghost use Rattle.std.specs.Prelude.{◌≡◌, Some, false};
-ghost use Rattle.tc_io.specs.Causes.{Rose};
-ghost use Rattle.tk_top.specs.declared.ends.End.{End};
-ghost use Rattle.tk_top.specs.declared.ends.End.TheVariants.{WireFault};
-ghost use Rattle.tk_top.specs.Ends.{status_of};
-ghost use Rattle.tk_top.specs.Top.{MemoryRun, Runs, RunsAsked};
-ghost use Rattle.tk_top.specs.Words.{asked_in, asked_of};
+ghost use Rattle.std.specs.Prelude.{◌≡◌, ◌≤◌, ◌^◌, ℕ, Some, false};
+ghost use Rattle.tc_mem.specs.Engines.{contents_in};
+ghost use Rattle.ty_answers.specs.Engines.{engine_of};
 ghost use Rattle.tk_words.specs.Words.{texts};
+ghost use Rattle.tk_top.specs.declared.ends.End.{End};
+ghost use Rattle.tk_top.specs.Causes.{Caused};
+ghost use Rattle.tk_top.specs.Ends.{status_of};
+ghost use Rattle.tk_top.specs.Top.{FileRun, MemoryRun, Runs, RunsAsked, SourceRun, no_keys};
+ghost use Rattle.tk_top.specs.Words.{asked_in, asked_of};
 
 use crate::base::serve_base;
 use crate::ends::End;
+use crate::files::{Stopped, run_files};
 use crate::lines::put_line;
-use crate::words::{Asked, what_is_asked};
+use crate::words::{Asked, MOST, Memory, Source, Stored, what_is_asked};
 use std::alloc::Global;
-use tc_io::{Clock, Sink, Volume, Wire};
-use tc_mem::MemBase;
+use tc_base::Kind;
+use tc_ids::FixedEngine;
+use tc_io::{At, Clock, Sink, Volume, Wire};
+use tc_mem::MemEngine;
 use tc_space::NoSpace;
+use tc_undo::Undo;
 use tk_words::{Order, parse};
+use ty_answers::Database;
 
 /// The status, and the volume.
 #[derive(Drop)]
@@ -25,57 +31,161 @@ pub struct Ran<V> {
     pub vol: V,
 }
 
-// The map in memory, served as it is asked to.
-fn serve_memory<W: Wire, K: Clock>(alloc: Global, asked: &Asked, wire: &mut W, clock: &mut K) -> End
+// A database in memory with no key.
+fn database(alloc: Global, memory: Memory) -> Database<MemEngine>
+    ensures { contents_in (engine_of result) ≡ (no_keys memory).contents }
+{
+    let engine = match memory {
+        Memory::Map => MemEngine::map(alloc),
+        Memory::Tree => MemEngine::tree(alloc),
+    };
+    Database::new(alloc, engine)
+}
+
+// A database in memory, served at an address.
+fn serve_memory<W: Wire, K: Clock>(
+    alloc: Global,
+    memory: Memory,
+    at: &At,
+    wire: &mut W,
+    clock: &mut K,
+    turns: u64,
+) -> End
     requires opened { W.opened wire.old ≡ false }
-    ensures served { MemoryRun W.Wire result asked.now wire.old wire.new }
-    ensures fault { result ≡ WireFault → Rose (W.faults wire.old) (W.faults wire.new) }
+    ensures served { MemoryRun W.Wire result memory at.now turns wire.old wire.new }
+    ensures caused { (count count' : ℕ) → Caused result count count' (W.faults wire.old) (W.faults wire.new) }
 {
     let mut space = NoSpace::new();
     serve_base(
         alloc,
-        MemBase::new(alloc),
+        database(alloc, memory),
         &mut space,
-        &asked.at,
+        at,
         wire,
         clock,
-        asked.turns,
+        turns,
     )
 }
 
-// What an order asks for.
-fn serve_order<W: Wire, K: Clock>(alloc: Global, order: Order, wire: &mut W, clock: &mut K) -> End
+// The database that the files of a name keep, served at an address.
+fn serve_stored<V: Volume, W: Wire, K: Clock>(
+    alloc: Global,
+    name: &str,
+    stored: Stored,
+    vol: V,
+    limit: u64,
+    at: &At,
+    wire: &mut W,
+    clock: &mut K,
+    turns: u64,
+) -> Stopped<V>
     requires opened { W.opened wire.old ≡ false }
-    ensures { RunsAsked W.Wire (asked_in (Some order)) result wire.old wire.new }
+    requires limit { limit ≤ 2 ^ 40 }
+    ensures { FileRun V.Volume W.Wire result.end name.now stored limit at.now turns vol result.vol wire.old wire.new }
+{
+    match stored {
+        Stored::Fixed => run_files::<Undo<V>, Database<FixedEngine<Undo<V>>>, W, K>(
+            alloc,
+            name,
+            Kind::Fixed,
+            vol,
+            limit,
+            at,
+            wire,
+            clock,
+            turns,
+        ),
+    }
+}
+
+// What is asked for, served.
+fn serve_asked<V: Volume, W: Wire, K: Clock>(
+    alloc: Global,
+    asked: &Asked,
+    vol: V,
+    wire: &mut W,
+    clock: &mut K,
+) -> Stopped<V>
+    requires opened { W.opened wire.old ≡ false }
+    ensures served { SourceRun V.Volume W.Wire result.end asked.now.source asked.now.at asked.now.turns vol result.vol wire.old wire.new }
+    ensures caused { Caused result.end (V.faults vol) (V.faults result.vol) (W.faults wire.old) (W.faults wire.new) }
+{
+    match &asked.source {
+        Source::Memory(memory) => Stopped {
+            end: serve_memory(alloc, *memory, &asked.at, wire, clock, asked.turns),
+            vol,
+        },
+        Source::File {
+            name,
+            stored,
+            limit,
+        } => serve_stored(
+            alloc,
+            name.as_str(),
+            *stored,
+            vol,
+            (*limit).min(MOST),
+            &asked.at,
+            wire,
+            clock,
+            asked.turns,
+        ),
+    }
+}
+
+// What an order asks for.
+fn serve_order<V: Volume, W: Wire, K: Clock>(
+    alloc: Global,
+    order: Order,
+    vol: V,
+    wire: &mut W,
+    clock: &mut K,
+) -> Stopped<V>
+    requires opened { W.opened wire.old ≡ false }
+    ensures { RunsAsked V.Volume W.Wire (asked_in (Some order)) result.end vol result.vol wire.old wire.new }
 {
     match what_is_asked(order) {
-        Some(asked) => serve_memory(alloc, &asked, wire, clock),
-        None => End::Words,
+        Some(asked) => serve_asked(alloc, &asked, vol, wire, clock),
+        None => Stopped {
+            end: End::Words,
+            vol,
+        },
     }
 }
 
 // What the words ask for.
-fn serve_words<W: Wire, K: Clock>(
+fn serve_words<V: Volume, W: Wire, K: Clock>(
     alloc: Global,
     words: &Vec<String>,
+    vol: V,
     wire: &mut W,
     clock: &mut K,
-) -> End
+) -> Stopped<V>
     requires opened { W.opened wire.old ≡ false }
-    ensures { RunsAsked W.Wire (asked_of (texts words.now.items)) result wire.old wire.new }
+    ensures { RunsAsked V.Volume W.Wire (asked_of (texts words.now.items)) result.end vol result.vol wire.old wire.new }
 {
     let read = match parse(alloc, words) {
         Ok(read) => read,
-        Err(_) => return End::NoMemory,
+        Err(_) => {
+            return Stopped {
+                end: End::NoMemory,
+                vol,
+            };
+        }
     };
     match read {
-        Some(order) => serve_order(alloc, order, wire, clock),
-        None => End::Words,
+        Some(order) => serve_order(alloc, order, vol, wire, clock),
+        None => Stopped {
+            end: End::Words,
+            vol,
+        },
     }
 }
 
-/// What the program does with the words behind its name. Today it serves a map in memory: `pipe *` over the standard streams, and
-/// `serve *` with its options at an address; their limit has no effect on it. All other words are answered with status 1.
+/// What the program does with the words behind its name. Today it serves a database in memory or a fixed-length database in files: `pipe NAME`
+/// over the standard streams, `serve NAME` with its options but `-ulog` at an address. The name `*` is a map and `+` a tree in the order of bytes,
+/// both in memory, where a limit has no effect; a name that ends in `.tcf` is that of files, which are made where there are none. All other words
+/// are answered with status 1.
 pub fn run<V: Volume, W: Wire, O: Sink, E: Sink, K: Clock>(
     alloc: Global,
     words: &Vec<String>,
@@ -86,16 +196,15 @@ pub fn run<V: Volume, W: Wire, O: Sink, E: Sink, K: Clock>(
     clock: &mut K,
 ) -> Ran<V>
     requires opened { W.opened wire.old ≡ false }
-    ensures runs { (end : End) × (result.status ≡ status_of end) × Runs W.Wire E.Sink (texts words.now.items) end wire.old wire.new err.old err.new }
-    // The volume is handed back untouched, and nothing is written to `out`.
-    ensures volume { result.vol ≡ vol }
+    ensures runs { (end : End) × (result.status ≡ status_of end) × Runs V.Volume W.Wire E.Sink (texts words.now.items) end vol result.vol wire.old wire.new err.old err.new }
+    // Nothing is written to `out`.
     ensures out { out.new ≡ out.old }
 {
     let _ = out;
-    let end = serve_words(alloc, words, wire, clock);
-    let _ = put_line(end, err);
+    let stopped = serve_words(alloc, words, vol, wire, clock);
+    let _ = put_line(stopped.end, err);
     Ran {
-        status: end.status(),
-        vol,
+        status: stopped.end.status(),
+        vol: stopped.vol,
     }
 }

@@ -1,6 +1,8 @@
 //! What the program may be told to do.
 ghost use Rattle.std.specs.Prelude.{◌≡◌, List, ℕ, string_bytes, IfOk};
+ghost use Rattle.tk_words.specs.Names.{is_name};
 
+use crate::names::names;
 use std::alloc::{AllocError, Global};
 use std::marker::Model;
 use tc_base::{Blob, Blobs, Kind, Pair};
@@ -24,6 +26,13 @@ impl DbName {
         Ok(DbName {
             text: String::from_str(alloc, text)?,
         })
+    }
+
+    /// Whether it names a database of a kind.
+    pub fn names(&self, kind: Kind) -> bool
+        ensures { result ≡ is_name kind self.now }
+    {
+        names(kind, &self.text)
     }
 
     /// The name as it was given.

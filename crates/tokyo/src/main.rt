@@ -1,4 +1,4 @@
-//! The program: a database served over the standard streams or over sockets.
+//! The program: a database in memory or in the files of a folder, served over the standard streams or over sockets.
 #![tactic(auto)]
 
 mod host;
@@ -10,7 +10,8 @@ use std::fs::{File, Files};
 use std::io::ErrorKind;
 use std::os::fd::AsRawFd;
 use std::process::ExitCode;
-use tc_io::{MemVolume, Sink};
+use tc_io::Sink;
+use tc_realfs::FolderVolume;
 use tk_top::{End, put_line, run};
 use ty_net::{NetWire, StdSink};
 
@@ -52,9 +53,7 @@ fn main(rt: HostRuntime) -> ExitCode {
     let Ok(words) = args.skip(1).collect::<Vec<String>>(alloc) else {
         return give_up(&mut err, End::NoMemory);
     };
-    let Ok(vol) = MemVolume::new(alloc) else {
-        return give_up(&mut err, End::NoMemory);
-    };
+    let vol = FolderVolume::new(&rt, alloc);
     let Ok(mut wire) = NetWire::new(alloc, &rt, rt.stdin(), rt.stdout()) else {
         return give_up(&mut err, End::NoMemory);
     };

@@ -4,14 +4,14 @@ use Rattle.tk_words.specs.Words.{texts}
 use Rattle.tk_words.specs.declared.order.Order.{Order}
 use Rattle.tk_top.specs.Top.{RunsAsked}
 use Rattle.tk_top.specs.Words.{asked_in, asked_of}
-use Rattle.tk_top.proofs.Memory.{asked_memory, asked_none}
+use Rattle.tk_top.proofs.Asking.{asked_memory, asked_none}
 use Rattle.tk_top.proofs.top.serve_words.Goals as goal
 
 pub returns-in-Err : goal.returns-in-Err
-returns-in-Err g c = asked_memory g.W.Wire (asked_of (texts c.args.words.now.items)) c.args.wire.now
+returns-in-Err g c = asked_memory g.V.Volume g.W.Wire (asked_of (texts c.args.words.now.items)) c.args.vol c.args.wire.now
 
 pub returns-in-Some : goal.returns-in-Some
-returns-in-Some g c = subst (λ (o : Option Order). RunsAsked g.W.Wire (asked_in o) c.serve_order.result c.args.wire.now c.serve_order.new.wire) (sym c.in-Some.is ∙ c.in-Ok.ensures) c.serve_order.ensures
+returns-in-Some g c = subst (λ (o : Option Order). RunsAsked g.V.Volume g.W.Wire (asked_in o) c.serve_order.result.end c.args.vol c.serve_order.result.vol c.args.wire.now c.serve_order.new.wire) (sym c.in-Some.is ∙ c.in-Ok.ensures) c.serve_order.ensures
 
 pub returns-in-None : goal.returns-in-None
-returns-in-None g c = asked_none g.W.Wire (asked_of (texts c.args.words.now.items)) c.args.wire.now (ap (λ (o : Option Order). asked_in o) (sym c.in-Ok.ensures ∙ c.in-None.is))
+returns-in-None g c = asked_none g.V.Volume g.W.Wire (asked_of (texts c.args.words.now.items)) c.args.vol c.args.wire.now (ap (λ (o : Option Order). asked_in o) (sym c.in-Ok.ensures ∙ c.in-None.is))

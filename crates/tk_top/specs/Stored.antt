@@ -1,0 +1,26 @@
+-- The kinds of database in files that are served today.
+use Rattle.std.specs.Prelude.{ℕ}
+use Rattle.tc_base.specs.Files.{Files}
+use Rattle.tc_base.specs.declared.kind.Kind.{Kind}
+use Rattle.tc_base.specs.declared.kind.Kind.TheVariants as kind
+use Rattle.tc_base.specs.declared.kind.Rule.{Rule}
+use Rattle.tc_model.specs.Contents.{Contents}
+use Rattle.tc_fixed.specs.Holding.{HasNoRoom}
+use Rattle.tc_ids.specs.Holding as fixed
+use Rattle.tk_top.specs.declared.words.Stored.{Stored}
+use Rattle.tk_top.specs.declared.words.Stored.TheVariants.{Fixed}
+
+abbrev pub kind_in : Stored → Kind
+kind_in Fixed = kind.Fixed
+
+-- files, read with an empty undo log, stand for contents
+abbrev pub reopens_of : Stored → Files → Contents → Type 0
+reopens_of Fixed = fixed.Reopens
+
+-- the first rule that files break, and the file that breaks it
+abbrev pub breaks_of : Stored → Files → ℕ → Rule → Type 0
+breaks_of Fixed = fixed.BreaksAs kind.Fixed
+
+-- a limit is reached between contents and those that a request makes of them: of the length of files, or of the undo log
+abbrev pub fills_of : Stored → (ℕ → ℕ) → Type 0 → Contents → Contents → Type 0
+fills_of Fixed limits log_is_full before after = HasNoRoom (limits 0) log_is_full (fixed.length_with after)
