@@ -21,3 +21,6 @@ pub mod Records
 pub mod Ordered
 pub mod Stored
 pub mod KeysRead
+pub mod BytesRead
+pub mod Cleared
+pub mod Unbroken

@@ -1,12 +1,12 @@
 -- Values given to keys, made of steps.
-use Rattle.std.proofs.Common.{◌≡◌, ◌∙◌, inl, inr, ℕ, ◌+◌, ◌≤◌, List, [], ◌++◌, refl, sym, ap, subst, arith, Option, None}
+use Rattle.std.proofs.Common.{◌≡◌, ◌∙◌, inl, inr, ℕ, ◌+◌, ◌≤◌, List, [], ◌++◌, length, refl, sym, ap, subst, arith, Option, None}
 use Rattle.std.specs.FinMap.{get, insert, remove}
 use Rattle.tc_base.specs.Maps.{Map}
 use Rattle.tc_base.specs.declared.kind.Mode.{Mode}
 use Rattle.tc_base.specs.declared.kind.Mode.TheVariants.{Over, Keep, Cat}
 use Rattle.tc_space.specs.Changes.{put_in, put_value, value_in}
 use Rattle.tc_space.specs.Frames.{In, OnlyReads, Keeps, reads_then, reads_writes, Others, others_then}
-use Rattle.tc_space.specs.Stores.{Exists, FullBy, Only, Puts, StaysMap}
+use Rattle.tc_space.specs.Stores.{Exists, FullBy, Only, Puts}
 use Rattle.tc_space.specs.declared.space.Space.{Ghosts}
 use Rattle.hf_head.specs.declared.head.Head.{Head}
 use Rattle.hf_head.specs.Heads.{IsValid, unit}
@@ -23,7 +23,7 @@ use Rattle.tc_hash.proofs.Finding.{here_record}
 use Rattle.std.specs.Prelude.{unwrap_or}
 use Rattle.tc_hash.specs.declared.hash.Hash.{Hash}
 use Rattle.tc_hash.specs.Costs.{Edits}
-use Rattle.tc_hash.specs.Keeping.{file_of, fills, holds, size_in, GivesValue, LacksBlock, LacksRoom, TakesRecord, WantsBlock}
+use Rattle.tc_hash.specs.Keeping.{file_of, fills, holds, size_in, GivesValue, LacksBlock, LacksRoom, StaysOpen, TakesRecord, WantsBlock}
 use Rattle.tc_hash.specs.Moves.{IsRefusedFor}
 use Rattle.tc_hash.proofs.Differ.{edits_after, edits_more, edits_then}
 use Rattle.tc_hash.proofs.Maps.{insert_again, insert_here}
@@ -72,12 +72,12 @@ module _ {S : Type 0} (s : Ghosts S) where
   pub lacks_room : (key value : List ℕ) (v : Hash S) (a b : S) → (s.tells → LacksRoom s v b (size_in v key value)) → LacksBlock s Over key value v a b
   lacks_room key value v a b l = record { wants = λ m w. record { pool = v.pool; since = inl refl; refused = l w.0 } }
 
-  pub room_at : (v : Hash S) (a b : S) (size : ℕ) → Keeps s a b → IsRefusedFor v.head v.pool.size (frees v.pool) (s.limit a v.file) (s.log_full b) size → LacksRoom s v b size
-  room_at v a b size k r = subst (λ (limit : ℕ → ℕ). IsRefusedFor v.head v.pool.size (frees v.pool) (limit v.file) (s.log_full b) size) (sym k.same_limit) r
+  pub room_at : (v : Hash S) (a b : S) (size : ℕ) → Keeps s a b → IsRefusedFor v.head v.pool.size (frees v.pool) (s.limit a v.file) (length (s.now b v.file)) (s.log_full b) size → LacksRoom s v b size
+  room_at v a b size k r = subst (λ (limit : ℕ → ℕ). IsRefusedFor v.head v.pool.size (frees v.pool) (limit v.file) (length (s.now b v.file)) (s.log_full b) size) (sym k.same_limit) r
 
   -- the log is full
   pub lacks_log : (mode : Mode) (key value : List ℕ) (v : Hash S) (a b : S) → (s.tells → s.log_full b) → LacksBlock s mode key value v a b
-  lacks_log mode key value v a b full = record { wants = λ m w. record { pool = v.pool; since = inl refl; refused = inr (inr (inr (full w.0))) } }
+  lacks_log mode key value v a b full = record { wants = λ m w. record { pool = v.pool; since = inl refl; refused = inr (inr (full w.0)) } }
 
   pub full_by : (mode : Mode) (key value : List ℕ) (v : Hash S) (a b : S) → LacksBlock s mode key value v a b → FullBy (In s file_of holds) (fills s) (put_in mode key value) v a b
   full_by mode key value v a b l = record {
@@ -130,13 +130,16 @@ module _ {S : Type 0} (s : Ghosts S) where
       pool = w.pool;
       since = inr t.gives;
       refused =
-          subst (λ (x : Head). IsRefusedFor x w.pool.size (frees w.pool) (s.limit c v.file) (s.log_full c) (block_len (width x) key value (unit x))) t.head
-          (subst (λ (f : ℕ). IsRefusedFor w.head w.pool.size (frees w.pool) (s.limit c f) (s.log_full c) (size_in w key value)) same (l h.0));
+          subst (λ (x : Head). IsRefusedFor x w.pool.size (frees w.pool) (s.limit c v.file) (length (s.now c v.file)) (s.log_full c) (block_len (width x) key value (unit x))) t.head
+          (subst (λ (f : ℕ). IsRefusedFor w.head w.pool.size (frees w.pool) (s.limit c f) (length (s.now c f)) (s.log_full c) (size_in w key value)) same (l h.0));
     };
   }
 
-pub stays_then : {V : Type 0} (file_of : V → ℕ) (region : V → List ℕ) (gets : V → ℕ) (u v w : V) → StaysMap file_of region gets u v → StaysMap file_of region gets v w → StaysMap file_of region gets u w
-stays_then file_of region gets u v w first second = record { file = second.file ∙ first.file; region_same = second.region_same ∙ first.region_same; gets_same = second.gets_same ∙ first.gets_same }
+pub stays_then : {S : Type 0} (u v w : Hash S) → StaysOpen u v → StaysOpen v w → StaysOpen u w
+stays_then u v w first second = record {
+  map = record { file = second.map.file ∙ first.map.file; region_same = second.map.region_same ∙ first.map.region_same; gets_same = second.map.gets_same ∙ first.map.gets_same };
+  head = second.head ∙ first.head;
+}
 
 -- a value joined behind the one that a key has
 pub joined_is : (h : Head) (end : ℕ) (free : Frees) (m : Map) (bytes : List ℕ) (key value longer : List ℕ) → IsValid h → HasMap h end free m bytes → (at : ℕ) (from : Parent) → IsSearched h key (Here at from) bytes → ((r : Record) → HasRecord h r at bytes → longer ≡ r.value ++ value) → longer ≡ put_value Cat (get m key) value

@@ -108,6 +108,17 @@ taken_inside u first old new place size ps before middle l (inl (found, t)) cut 
     (w.0, omega (arith, fits, p.1, ap length (cut.parts found t.best)))
 taken_inside u first old new place size ps before middle l (inr g) cut = (omega (arith, g.at, l.on), omega (arith, g.at, l.within, ap length (cut.same g.none)))
 
+-- and the blocks end in the file as before
+pub taken_long : (u first : ℕ) (old new : Pool) (place size : ℕ) (ps : List Piece) (before middle : List ℕ) → LaidOut u first old.size ps (frees old) none before → Taken old new size place → IsTaken (frees old) size place before middle → old.size ≤ length middle
+taken_long u first old new place size ps before middle l (inl (found, t)) cut =
+    let k = known u first old.size ps (frees old) none before place found l t.best.there in
+    let w = ends_within u first ps k.piece place k.at in
+    let last = ends u first old.size ps (frees old) none before l in
+    let fits : place + found ≤ length before = omega (arith, w.1, k.size, last, l.within) in
+    let p = parted_front_same first place size found before w.0 t.best.enough fits in
+    omega (arith, l.within, p.1, ap length (cut.parts found t.best))
+taken_long u first old new place size ps before middle l (inr g) cut = omega (arith, l.within, ap length (cut.same g.none))
+
 pub added_taken : (u first : ℕ) (old new : Pool) (place size : ℕ) (ps : List Piece) (before middle : List ℕ) (r : Record) → LaidOut u first old.size ps (frees old) none before → IsWhole u (held r) → size_of (held r) ≡ size → Taken old new size place → IsTaken (frees old) size place before middle → Lends u old.size (frees old) (frees new) size place before middle
     → Added u first new.size ps (frees new) place r before (wrote place (spell (held r)) middle)
 added_taken u first old new place size ps before middle r l whole sized (inl (found, t)) cut lends =
@@ -172,17 +183,17 @@ part_inside u first old place size found ps before same l best less aligned =
     omega (arith, inside, five, less)
 
 -- the place can't be named, or the file is too long
-pub no_room : (h : Head) (old new : Pool) (place size limit : ℕ) (log : Type 0) → old.size ≤ 2 ^ 40 → Taken old new size place → (2 ^ 40 < new.size) ⊎ ((is_large h ≡ false) × (2 ^ 32 ≤ place / unit h)) → HasNoRoom h old.size (frees old) limit log size
-no_room h old new place size limit log low (inl (found, t)) (inl long) = absurd (omega (arith, long, t.end, low))
-no_room h old new place size limit log low (inl (found, t)) (inr far) = inl (record { small = far.0; place = place; is = inl (found, t.best); far = past h place far.1 })
-no_room h old new place size limit log low (inr g) (inl long) = inr (inl (record { none = g.none; past = inr (omega (arith, long, g.end)) }))
-no_room h old new place size limit log low (inr g) (inr far) = inl (record { small = far.0; place = place; is = inr (g.none, g.at); far = past h place far.1 })
+pub no_room : (h : Head) (old new : Pool) (place size limit long : ℕ) (log : Type 0) → old.size ≤ 2 ^ 40 → old.size ≤ long → Taken old new size place → (2 ^ 40 < new.size) ⊎ ((is_large h ≡ false) × (2 ^ 32 ≤ place / unit h)) → HasNoRoom h old.size (frees old) limit long log size
+no_room h old new place size limit long log low on (inl (found, t)) (inl past) = absurd (omega (arith, past, t.end, low))
+no_room h old new place size limit long log low on (inl (found, t)) (inr far) = inl (on, inl (record { small = far.0; place = place; is = inl (found, t.best); far = past h place far.1 }))
+no_room h old new place size limit long log low on (inr g) (inl past) = inl (on, inr (record { none = g.none; past = inr (omega (arith, past, g.end)) }))
+no_room h old new place size limit long log low on (inr g) (inr far) = inl (on, inl (record { small = far.0; place = place; is = inr (g.none, g.at); far = past h place far.1 }))
 
 -- the file grows past its limit
-pub too_long : (h : Head) (u first : ℕ) (old new : Pool) (place size limit : ℕ) (log : Type 0) (ps : List Piece) (before : List ℕ) → LaidOut u first old.size ps (frees old) none before → Taken old new size place → length before ≤ limit → Passes limit log place size → HasNoRoom h old.size (frees old) limit log size
-too_long h u first old new place size limit log ps before l taken within (inr full) = inr (inr full)
-too_long h u first old new place size limit log ps before l (inl (found, t)) within (inl past) = absurd (let inside = pool_lies_inside u first old.size ps (frees old) none before l place found t.best.there in omega (arith, inside, t.best.enough, within, past))
-too_long h u first old new place size limit log ps before l (inr g) within (inl past) = inr (inl (record { none = g.none; past = inl (omega (arith, past, g.at)) }))
+pub too_long : (h : Head) (u first : ℕ) (old new : Pool) (place size limit long : ℕ) (log : Type 0) (ps : List Piece) (before : List ℕ) → LaidOut u first old.size ps (frees old) none before → Taken old new size place → length before ≤ limit → old.size ≤ long → Passes limit log place size → HasNoRoom h old.size (frees old) limit long log size
+too_long h u first old new place size limit long log ps before l taken within on (inr full) = inr full
+too_long h u first old new place size limit long log ps before l (inl (found, t)) within on (inl past) = absurd (let inside = pool_lies_inside u first old.size ps (frees old) none before l place found t.best.there in omega (arith, inside, t.best.enough, within, past))
+too_long h u first old new place size limit long log ps before l (inr g) within on (inl past) = inl (on, inr (record { none = g.none; past = inl (omega (arith, past, g.at)) }))
 
 -- ---- over the block of a record
 

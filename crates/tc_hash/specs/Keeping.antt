@@ -1,11 +1,11 @@
 -- What a hash file that is held open keeps, and what calls on its records do.
-use Rattle.std.specs.Prelude.{◌≡◌, ◌⊎◌, ℕ, ◌+◌, List, Some}
+use Rattle.std.specs.Prelude.{◌≡◌, ◌⊎◌, ℕ, ◌+◌, List, length, Some}
 use Rattle.std.specs.FinMap.{get}
 use Rattle.tc_base.specs.Maps.{Map}
 use Rattle.tc_base.specs.declared.kind.Mode.{Mode}
 use Rattle.tc_space.specs.Changes.{out_of, put_in, put_value}
 use Rattle.tc_space.specs.Frames.{In, Writes}
-use Rattle.tc_space.specs.Stores.{Only}
+use Rattle.tc_space.specs.Stores.{CountsGet, Only, StaysMap}
 use Rattle.tc_space.specs.declared.space.Space.{Ghosts}
 use Rattle.hf_head.specs.Heads.{unit}
 use Rattle.hf_block.specs.Written.{block_len}
@@ -27,6 +27,24 @@ region_of h = h.region
 abbrev pub gets_of : {S : Type 0} → Hash S → ℕ
 gets_of h = h.gets
 
+-- the file, the region, the count of gets and the head as the file has it stay
+pub record StaysOpen {S : Type 0} (old new : Hash S) : Type 0 where
+  pub map : StaysMap file_of region_of gets_of old new
+  pub head : new.head ≡ old.head
+
+-- a get is counted, and the rest of them stays
+pub record CountsOne {S : Type 0} (old new : Hash S) : Type 0 where
+  pub map : CountsGet file_of region_of gets_of old new
+  pub head : new.head ≡ old.head
+
+-- the numbers of its file and their form stay
+pub record SameShape {S : Type 0} (old new : Hash S) : Type 0 where
+  pub kind : new.head.kind ≡ old.head.kind
+  pub apow : new.head.apow ≡ old.head.apow
+  pub fpow : new.head.fpow ≡ old.head.fpow
+  pub buckets : new.head.buckets ≡ old.head.buckets
+  pub options : new.head.options ≡ old.head.options
+
 -- with these bytes in its file it holds this map
 abbrev pub holds : {S : Type 0} → Hash S → List ℕ → Map → Type 0
 holds h bytes m = Holds h.head h.pool.size (frees h.pool) h.records m bytes
@@ -37,13 +55,13 @@ size_in h key value = block_len (width h.head) key value (unit h.head)
 
 -- no block of so many bytes is to be had
 abbrev pub LacksRoom : {S : Type 0} → Ghosts S → Hash S → S → ℕ → Type 0
-LacksRoom s h space size = IsRefusedFor h.head h.pool.size (frees h.pool) (s.limit space h.file) (s.log_full space) size
+LacksRoom s h space size = IsRefusedFor h.head h.pool.size (frees h.pool) (s.limit space h.file) (length (s.now space h.file)) (s.log_full space) size
 
 -- no block of so many bytes was to be had from the free blocks, or from those and one that was given back before; or the undo log is full
 pub record WantsBlock {S : Type 0} (s : Ghosts S) (h : Hash S) (space : S) (size : ℕ) : Type 0 where
   pub pool : Pool
   pub since : (pool ≡ h.pool) ⊎ Gives h.pool pool
-  pub refused : IsRefusedFor h.head pool.size (frees pool) (s.limit space h.file) (s.log_full space) size
+  pub refused : IsRefusedFor h.head pool.size (frees pool) (s.limit space h.file) (length (s.now space h.file)) (s.log_full space) size
 
 -- the block was that of a record of this map
 pub record WantsRoom {S : Type 0} (s : Ghosts S) (h : Hash S) (space : S) (m : Map) : Type 0 where

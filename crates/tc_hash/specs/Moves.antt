@@ -67,10 +67,11 @@ pub record IsHeadOf (h : Head) (rec : RecHead) (at : ℕ) (bytes : List ℕ) : T
 pub record IsBlockAt (h : Head) (at size : ℕ) (bytes : List ℕ) : Type 0 where
   pub is : (r : Record) → HasRecord h r at bytes → size ≡ size_of (held r)
 
--- no block of so many bytes is to be had: the place for it is too far, or the file grows too long by it, or the undo log is full
-abbrev pub HasNoRoom : Head → ℕ → Frees → ℕ → Type 0 → ℕ → Type 0
-HasNoRoom h end free limit log_is_full b = IsTooFar h end b free ⊎ (IsTooLong limit end b free ⊎ log_is_full)
+-- no block of so many bytes is to be had: the blocks end within the file, which has so many bytes, and the place for it is too far, or the file grows too
+-- long by it; or the undo log is full
+abbrev pub HasNoRoom : Head → ℕ → Frees → ℕ → ℕ → Type 0 → ℕ → Type 0
+HasNoRoom h end free limit long log_is_full b = ((end ≤ long) × (IsTooFar h end b free ⊎ IsTooLong limit end b free)) ⊎ log_is_full
 
 -- or it is larger than a block may be
-abbrev pub IsRefusedFor : Head → ℕ → Frees → ℕ → Type 0 → ℕ → Type 0
-IsRefusedFor h end free limit log_is_full b = (2 ^ 30 < b) ⊎ HasNoRoom h end free limit log_is_full b
+abbrev pub IsRefusedFor : Head → ℕ → Frees → ℕ → ℕ → Type 0 → ℕ → Type 0
+IsRefusedFor h end free limit long log_is_full b = (2 ^ 30 < b) ⊎ HasNoRoom h end free limit long log_is_full b

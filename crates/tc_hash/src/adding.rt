@@ -82,7 +82,7 @@ pub fn add_record<S: Space>(
     ensures unit { pool.new.unit ≡ pool.old.unit }
     ensures outcome { Outcome S.sound S.flag result space.new }
     ensures writes { OnlyWrites S.Space space.old space.new }
-    ensures full { IsErrOf result RecErr.Full → S.tells → HasNoRoom head.now pool.old.size (frees pool.old) (S.limit space.old file) (S.log_full space.new) (length bytes.now) }
+    ensures full { IsErrOf result RecErr.Full → S.tells → HasNoRoom head.now pool.old.size (frees pool.old) (S.limit space.old file) (length (S.now space.new file)) (S.log_full space.new) (length bytes.now) }
     ensures cause { IsErrOf result RecErr.Fault → Rose (S.faults space.old) (S.faults space.new) }
 {
     // no file whose bytes are told has more

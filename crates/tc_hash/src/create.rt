@@ -25,8 +25,8 @@ use hf_pool::Pool;
 use std::alloc::{AllocError, Global};
 use tc_space::{RecErr, Space};
 
-// The greatest number of zeros in one write.
-const PIECE: usize = 65_536;
+/// The greatest number of zeros in one write.
+pub(crate) const PIECE: usize = 65_536;
 
 // The least multiple of a unit that isn't below a number.
 fn least_multiple(n: u64, unit: u64) -> u64
@@ -51,8 +51,8 @@ fn options_of(large: bool) -> u8
     if large { 1 } else { 0 }
 }
 
-// The head of a file without blocks.
-fn new_head(kind: u8, apow: u8, fpow: u8, buckets: u64, large: bool) -> Head
+/// The head of a file without blocks.
+pub(crate) fn new_head(kind: u8, apow: u8, fpow: u8, buckets: u64, large: bool) -> Head
     requires { MayBe kind apow fpow buckets }
     ensures new { IsNew kind apow fpow buckets large result }
     ensures most { result.first < 2 ^ 42 }
@@ -123,8 +123,13 @@ fn append_zeros<S: Space>(
     Ok(())
 }
 
-// Writes a head and zeros behind it into an empty file.
-fn write_new<S: Space>(space: &mut S, file: u32, head: &Head, zeros: &[u8]) -> Result<(), RecErr>
+/// Writes a head and zeros behind it into an empty file.
+pub(crate) fn write_new<S: Space>(
+    space: &mut S,
+    file: u32,
+    head: &Head,
+    zeros: &[u8],
+) -> Result<(), RecErr>
     requires sound { S.sound space.old }
     requires file { IsDataFile file }
     requires empty { S.tells → S.now space.old file ≡ [] }
@@ -142,8 +147,8 @@ fn write_new<S: Space>(space: &mut S, file: u32, head: &Head, zeros: &[u8]) -> R
     append_zeros(space, file, 256, head.first, zeros)
 }
 
-// The free blocks of a file without blocks.
-fn new_pool(alloc: Global, head: &Head) -> Result<Pool, AllocError>
+/// The free blocks of a file without blocks.
+pub(crate) fn new_pool(alloc: Global, head: &Head) -> Result<Pool, AllocError>
     requires valid { HasFields head.now }
     requires size { head.now.size ≡ head.now.first }
     ensures unit { IfOk result (λ pool. pool.unit ≡ unit head.now) }

@@ -5,13 +5,13 @@ ghost use Rattle.tc_base.specs.Maps.{Map};
 ghost use Rattle.tc_io.specs.Causes.{Rose, HasCause};
 ghost use Rattle.tc_space.specs.Ranges.{IsDataFile};
 ghost use Rattle.tc_space.specs.Frames.{In, Keeps, OnlyReads, Reads};
-ghost use Rattle.tc_space.specs.Stores.{CountsGet, IsReady};
+ghost use Rattle.tc_space.specs.Stores.{IsReady};
 ghost use Rattle.hf_head.specs.Heads.{IsValid};
 ghost use Rattle.hf_layout.specs.Frees.{Frees};
 ghost use Rattle.hf_tree.specs.Keys.{bucket_of};
 ghost use Rattle.tc_hash.specs.Costs.{in_bucket};
 ghost use Rattle.tc_hash.specs.Holding.{HasMap, IsReadable};
-ghost use Rattle.tc_hash.specs.Keeping.{file_of, gets_of, holds, region_of};
+ghost use Rattle.tc_hash.specs.Keeping.{file_of, holds, CountsOne};
 
 use crate::hash::Hash;
 use crate::searching::{search, value_at};
@@ -87,7 +87,7 @@ impl<S: Space> Hash<S> {
         ensures value { IfOk result (λ found. (m : Map) → In S.Space file_of holds self.old space.old m → found ≡ get m key.now) }
         ensures reads { Reads S.Space (In S.Space file_of holds) self.old self.new space.old space.new }
         ensures keeps { Keeps S.Space space.old space.new }
-        ensures counts { CountsGet file_of region_of gets_of self.old self.new }
+        ensures counts { CountsOne self.old self.new }
         ensures steps { steps.old ≤ steps.new }
         ensures within { (m : Map) → In S.Space file_of holds self.old space.old m → steps.new ≤ steps.old + (1 + in_bucket self.old.head.buckets (bucket_of self.old.head.buckets key.now) m) }
         ensures cause { (IsErrOf result RecErr.Fault → Rose (S.faults space.old) (S.faults space.new)) × (IsErrOf result RecErr.Full → ⊥) }

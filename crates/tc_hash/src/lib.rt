@@ -2,6 +2,7 @@
 #![tactic(auto, using(tc_space::specs::Frames::keeps_refl, tc_space::specs::Frames::keeps_then, tc_space::specs::Frames::only_reads_refl, tc_space::specs::Frames::only_reads_then, tc_space::specs::Frames::only_writes_refl, tc_space::specs::Frames::only_writes_then))]
 
 mod adding;
+mod clearing;
 mod create;
 mod getting;
 mod giving;
@@ -18,5 +19,7 @@ mod spaces;
 pub mod steps;
 mod storing;
 mod taking;
+mod totals;
+mod walking;
 
 pub use hash::Hash;

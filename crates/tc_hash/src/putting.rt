@@ -49,7 +49,7 @@ pub fn put_new<S: Space>(
     ensures unit { pool.new.unit ≡ pool.old.unit }
     ensures outcome { Outcome S.sound S.flag result space.new }
     ensures writes { OnlyWrites S.Space space.old space.new }
-    ensures full { IsErrOf result RecErr.Full → S.tells → IsRefusedFor head.now pool.old.size (frees pool.old) (S.limit space.old file) (S.log_full space.new) (block_len (width head.now) key.now value.now (unit head.now)) }
+    ensures full { IsErrOf result RecErr.Full → S.tells → IsRefusedFor head.now pool.old.size (frees pool.old) (S.limit space.old file) (length (S.now space.new file)) (S.log_full space.new) (block_len (width head.now) key.now value.now (unit head.now)) }
     ensures cause { IsErrOf result RecErr.Fault → Rose (S.faults space.old) (S.faults space.new) }
 {
     let Some(size) = wanted(head, key, value) else {

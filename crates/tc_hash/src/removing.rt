@@ -3,10 +3,10 @@ ghost use Rattle.std.specs.Prelude.{◌≡◌, ◌≤◌, IfOk, OnOk, OnErr, IsE
 ghost use Rattle.tc_io.specs.Causes.{Rose};
 ghost use Rattle.tc_space.specs.Changes.{is_in, out_of};
 ghost use Rattle.tc_space.specs.Frames.{In, Keeps, Refuses, Writes};
-ghost use Rattle.tc_space.specs.Stores.{FullBy, IsReady, Only, StaysMap, TakesOut};
+ghost use Rattle.tc_space.specs.Stores.{FullBy, IsReady, Only, TakesOut};
 ghost use Rattle.hf_tree.specs.declared.parent.Found.TheVariants.{Here};
 ghost use Rattle.tc_hash.specs.Holding.{IsSearched};
-ghost use Rattle.tc_hash.specs.Keeping.{file_of, fills, gets_of, holds, region_of, TakesRecord};
+ghost use Rattle.tc_hash.specs.Keeping.{file_of, fills, holds, StaysOpen, TakesRecord};
 ghost use Rattle.tc_hash.specs.Moves.{IsBlockAt};
 
 use crate::hash::Hash;
@@ -33,7 +33,7 @@ impl<S: Space> Hash<S> {
         ensures refused { OnErr result (Refuses S.Space (In S.Space file_of holds) self.old self.new space.old space.new) }
         ensures full { IsErrOf result RecErr.Full → S.tells → S.log_full space.new }
         ensures keeps { Keeps S.Space space.old space.new }
-        ensures stays { StaysMap file_of region_of gets_of self.old self.new }
+        ensures stays { StaysOpen self.old self.new }
         ensures steps { steps.old ≤ steps.new }
         ensures cause { IsErrOf result RecErr.Fault → Rose (S.faults space.old) (S.faults space.new) }
     {
@@ -71,7 +71,7 @@ impl<S: Space> Hash<S> {
         ensures refused { OnErr result (Refuses S.Space (In S.Space file_of holds) self.old self.new space.old space.new) }
         ensures full { IsErrOf result RecErr.Full → S.tells → S.log_full space.new }
         ensures keeps { Keeps S.Space space.old space.new }
-        ensures stays { StaysMap file_of region_of gets_of self.old self.new }
+        ensures stays { StaysOpen self.old self.new }
         ensures steps { steps.old ≤ steps.new }
         ensures cause { IsErrOf result RecErr.Fault → Rose (S.faults space.old) (S.faults space.new) }
     {
@@ -97,7 +97,7 @@ impl<S: Space> Hash<S> {
         ensures refused { OnErr result (Refuses S.Space (In S.Space file_of holds) self.old self.new space.old space.new) }
         ensures full { IsErrOf result RecErr.Full → FullBy (In S.Space file_of holds) (fills S.Space) (out_of key.now) self.old space.old space.new }
         ensures keeps { Keeps S.Space space.old space.new }
-        ensures stays { StaysMap file_of region_of gets_of self.old self.new }
+        ensures stays { StaysOpen self.old self.new }
         ensures steps { steps.old ≤ steps.new }
         ensures cause { IsErrOf result RecErr.Fault → Rose (S.faults space.old) (S.faults space.new) }
     {

@@ -11,6 +11,7 @@ ghost use Rattle.hf_head.specs.Heads.{IsValid, Spells, sections, spelled};
 ghost use Rattle.hf_pool.specs.Pools.{frees};
 ghost use Rattle.hf_pool.specs.Trims.{Trimmed};
 ghost use Rattle.tc_hash.specs.Holding.{Holds};
+ghost use Rattle.tc_hash.specs.Keeping.{StaysOpen};
 ghost use Rattle.tc_hash.specs.Sections.{section_of};
 ghost use Rattle.tc_hash.specs.Settling.{Brought, ChangesFront, IsSectionOf, head_now, patched, section_at, section_len, settled};
 
@@ -39,8 +40,8 @@ fn write_over<S: Space>(space: &mut S, file: u32, at: u64, bytes: &[u8]) -> Resu
     }
 }
 
-// Cuts a file to a length, if it is longer.
-fn cut_to<S: Space>(space: &mut S, file: u32, len: u64) -> Result<(), RecErr>
+/// Cuts a file to a length, if it is longer.
+pub(crate) fn cut_to<S: Space>(space: &mut S, file: u32, len: u64) -> Result<(), RecErr>
     requires sound { S.sound space.old }
     requires file { IsDataFile file }
     ensures cut { OnOk result (S.tells → Changes S.now file (take len (S.now space.old file)) space.old space.new) }
@@ -173,7 +174,7 @@ impl<S: Space> Hash<S> {
         requires held { S.tells → (m : Map) × Holds self.old.head self.old.pool.size (frees self.old.pool) self.old.records m (S.now space.old self.old.file) }
         ensures brought { OnOk result (S.tells → (m : Map) → Holds self.old.head self.old.pool.size (frees self.old.pool) self.old.records m (S.now space.old self.old.file) → Brought self.new.head self.new.pool.size (frees self.new.pool) self.new.records self.new.region m (S.now space.new self.old.file)) }
         ensures trimmed { (m : Map) (bytes : List ℕ) → Holds self.old.head self.old.pool.size (frees self.old.pool) self.old.records m bytes → Holds self.new.head self.new.pool.size (frees self.new.pool) self.new.records m bytes }
-        ensures stays { (self.new.file ≡ self.old.file) × (self.new.head ≡ self.old.head) × (self.new.region ≡ self.old.region) }
+        ensures stays { StaysOpen self.old self.new }
         ensures dropped { Trimmed (frees self.old.pool) (frees self.new.pool) self.old.pool.size self.new.pool.size }
         ensures settled { OnOk result (S.sound space.new × Others S.Space (Only self.old.file) space.old space.new × (S.tells → ChangesFront self.old.head self.new.pool.size (S.now space.old self.old.file) (S.now space.new self.old.file))) }
         ensures refused { OnErr result ((S.flag space.new ≡ false) ⊎ OnlyReads S.Space space.old space.new) }

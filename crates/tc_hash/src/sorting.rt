@@ -8,35 +8,25 @@ ghost use Rattle.tc_base.specs.Maps.{Map};
 ghost use Rattle.tc_io.specs.Causes.{Rose};
 ghost use Rattle.tc_space.specs.Frames.{In, Keeps, OnlyReads, Reads};
 ghost use Rattle.tc_space.specs.Ranges.{IsDataFile};
-ghost use Rattle.tc_space.specs.Stores.{IsReady, StaysMap};
+ghost use Rattle.tc_space.specs.Stores.{IsReady};
 ghost use Rattle.hf_head.specs.Heads.{IsValid};
 ghost use Rattle.hf_block.specs.Pieces.{Record, Piece};
 ghost use Rattle.hf_tree.specs.Links.{HasBlocks};
 ghost use Rattle.hf_chain.specs.Heads.{HasRecord, IsRecordAt};
 ghost use Rattle.hf_chain.specs.Listing.{AreListed, WereListed};
 ghost use Rattle.tc_window.specs.Windows.{Shows};
-ghost use Rattle.tc_hash.specs.Keeping.{file_of, gets_of, holds, region_of};
+ghost use Rattle.tc_hash.specs.Keeping.{file_of, holds, StaysOpen};
 ghost use Rattle.tc_hash.specs.Listed.{keys_of};
 
 use crate::hash::Hash;
-use hf_block::{Blocks, WalkErr, walk};
+use crate::walking::{list_blocks, read_refusal};
+use hf_block::Blocks;
 use hf_chain::head_at;
 use hf_head::Head;
 use std::alloc::Global;
 use tc_base::{Blob, Blobs, Steps};
 use tc_space::{RecErr, Space};
-use tc_window::{ReadErr, Window};
-
-// The same cause.
-fn read_refusal(e: ReadErr) -> RecErr
-    ensures fault { result ≡ RecErr.Fault → e ≡ ReadErr.Fault }
-    ensures full { result ≡ RecErr.Full → ⊥ }
-{
-    match e {
-        ReadErr::Fault => RecErr::Fault,
-        ReadErr::Memory => RecErr::Memory,
-    }
-}
+use tc_window::Window;
 
 // Adds the key of the record at a place.
 fn add_key<S: Space>(
@@ -137,11 +127,9 @@ fn list_keys<S: Space>(
     ensures reads { OnlyReads S.Space space.old space.new }
     ensures cause { (IsErrOf result RecErr.Fault → Rose (S.faults space.old) (S.faults space.new)) × (IsErrOf result RecErr.Full → ⊥) }
 {
-    let listed = match walk(alloc, space, file, head) {
+    let listed = match list_blocks(alloc, space, file, head) {
         Ok(listed) => listed,
-        Err(WalkErr::Fault) => return Err(RecErr::Fault),
-        // of a file whose bytes are told no rule is broken
-        Err(_) => return Err(RecErr::Memory),
+        Err(e) => return Err(e),
     };
     match read_keys(alloc, space, file, head, &listed) {
         Ok(keys) => Ok(sorted(keys)),
@@ -156,7 +144,7 @@ impl<S: Space> Hash<S> {
         ensures value { IfOk result (λ all. (m : Map) → In S.Space file_of holds self.old space.old m → all ≡ keys m) }
         ensures reads { Reads S.Space (In S.Space file_of holds) self.old self.new space.old space.new }
         ensures keeps { Keeps S.Space space.old space.new }
-        ensures stays { StaysMap file_of region_of gets_of self.old self.new }
+        ensures stays { StaysOpen self.old self.new }
         ensures steps { steps.old ≤ steps.new }
         ensures cause { (IsErrOf result RecErr.Fault → Rose (S.faults space.old) (S.faults space.new)) × (IsErrOf result RecErr.Full → ⊥) }
     {

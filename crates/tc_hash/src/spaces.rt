@@ -1,5 +1,5 @@
 //! Writes to a space, and a space given up.
-ghost use Rattle.std.specs.Prelude.{◌≡◌, ◌≤◌, length, false, OnOk, IsErrOf};
+ghost use Rattle.std.specs.Prelude.{◌≡◌, ℕ, ◌≤◌, length, false, OnOk, IsErrOf};
 ghost use Rattle.tc_base.specs.Files.{wrote};
 ghost use Rattle.tc_io.specs.Causes.{Rose};
 ghost use Rattle.tc_space.specs.Effects.{Changes, Outcome};
@@ -8,7 +8,7 @@ ghost use Rattle.tc_space.specs.Ranges.{IsDataFile, Passes};
 
 use tc_space::{RecErr, Space};
 
-/// Writes bytes over a file. After a refusal the space isn't sound.
+/// Writes bytes over a file. After a refusal the space isn't sound; where it was for want of room nothing was written.
 pub(crate) fn write_at<S: Space>(
     space: &mut S,
     file: u32,
@@ -22,6 +22,7 @@ pub(crate) fn write_at<S: Space>(
     ensures outcome { Outcome S.sound S.flag result space.new }
     ensures writes { OnlyWrites S.Space space.old space.new }
     ensures full { IsErrOf result RecErr.Full → Passes (S.limit space.old file) (S.log_full space.new) at (length bytes.now) }
+    ensures same { IsErrOf result RecErr.Full → S.tells → (g : ℕ) → S.now space.new g ≡ S.now space.old g }
     ensures cause { IsErrOf result RecErr.Fault → Rose (S.faults space.old) (S.faults space.new) }
 {
     match space.write(file, at, bytes) {
@@ -33,6 +34,7 @@ pub(crate) fn write_at<S: Space>(
 /// Gives the space up: it isn't sound any more.
 pub(crate) fn give_up<S: Space>(space: &mut S)
     ensures spoiled { S.flag space.new ≡ false }
+    ensures same { S.tells → (g : ℕ) → S.now space.new g ≡ S.now space.old g }
     ensures writes { OnlyWrites S.Space space.old space.new }
     ensures faults { S.faults space.new ≡ S.faults space.old }
 {

@@ -8,7 +8,7 @@ ghost use Rattle.tc_space.specs.Changes.{put_in, put_value, value_in};
 ghost use Rattle.tc_space.specs.Effects.{Outcome};
 ghost use Rattle.tc_space.specs.Frames.{In, Keeps, OnlyReads, Refuses};
 ghost use Rattle.tc_space.specs.Ranges.{IsDataFile};
-ghost use Rattle.tc_space.specs.Stores.{Exists, FullBy, IsReady, Only, Puts, StaysMap};
+ghost use Rattle.tc_space.specs.Stores.{Exists, FullBy, IsReady, Only, Puts};
 ghost use Rattle.hf_block.specs.Pieces.{Record};
 ghost use Rattle.hf_head.specs.declared.head.Head.{Head};
 ghost use Rattle.hf_tree.specs.declared.parent.Parent.{Parent};
@@ -17,7 +17,7 @@ ghost use Rattle.hf_tree.specs.Links.{width};
 ghost use Rattle.hf_chain.specs.Heads.{head_of, HasRecord, IsHeadAt};
 ghost use Rattle.tc_hash.specs.Costs.{Edits};
 ghost use Rattle.tc_hash.specs.Holding.{IsSearched};
-ghost use Rattle.tc_hash.specs.Keeping.{file_of, fills, gets_of, holds, region_of, size_in, GivesValue, LacksBlock, LacksRoom};
+ghost use Rattle.tc_hash.specs.Keeping.{file_of, fills, holds, size_in, GivesValue, LacksBlock, LacksRoom, StaysOpen};
 ghost use Rattle.tc_hash.specs.Moves.{IsBlockAt, IsHeadOf};
 
 use crate::adding::wanted;
@@ -72,7 +72,7 @@ impl<S: Space> Hash<S> {
         ensures outcome { Outcome S.sound S.flag result space.new }
         ensures full { IsErrOf result RecErr.Full → S.tells → LacksRoom S.Space self.old space.new (size_in self.old key.now value.now) }
         ensures keeps { Keeps S.Space space.old space.new }
-        ensures stays { StaysMap file_of region_of gets_of self.old self.new }
+        ensures stays { StaysOpen self.old self.new }
         ensures cause { IsErrOf result RecErr.Fault → Rose (S.faults space.old) (S.faults space.new) }
     {
         // no file has so many records
@@ -111,7 +111,7 @@ impl<S: Space> Hash<S> {
         ensures outcome { Outcome S.sound S.flag result space.new }
         ensures full { IsErrOf result RecErr.Full → S.tells → LacksRoom S.Space self.old space.new (size_in self.old key.now value.now) }
         ensures keeps { Keeps S.Space space.old space.new }
-        ensures stays { StaysMap file_of region_of gets_of self.old self.new }
+        ensures stays { StaysOpen self.old self.new }
         ensures steps { steps.old ≤ steps.new }
         ensures cause { IsErrOf result RecErr.Fault → Rose (S.faults space.old) (S.faults space.new) }
     {
@@ -150,7 +150,7 @@ impl<S: Space> Hash<S> {
         ensures refused { OnErr result (Refuses S.Space (In S.Space file_of holds) self.old self.new space.old space.new) }
         ensures full { IsErrOf result RecErr.Full → LacksBlock S.Space Over key.now value.now self.old space.old space.new }
         ensures keeps { Keeps S.Space space.old space.new }
-        ensures stays { StaysMap file_of region_of gets_of self.old self.new }
+        ensures stays { StaysOpen self.old self.new }
         ensures steps { steps.old ≤ steps.new }
         ensures cause { IsErrOf result RecErr.Fault → Rose (S.faults space.old) (S.faults space.new) }
     {
@@ -180,7 +180,7 @@ impl<S: Space> Hash<S> {
         ensures outcome { Outcome S.sound S.flag result space.new }
         ensures full { IsErrOf result RecErr.Full → S.tells → S.log_full space.new }
         ensures keeps { Keeps S.Space space.old space.new }
-        ensures stays { StaysMap file_of region_of gets_of self.old self.new }
+        ensures stays { StaysOpen self.old self.new }
         ensures cause { IsErrOf result RecErr.Fault → Rose (S.faults space.old) (S.faults space.new) }
     {
         match put_over(
@@ -218,7 +218,7 @@ impl<S: Space> Hash<S> {
         ensures refused { OnErr result (Refuses S.Space (In S.Space file_of holds) self.old self.new space.old space.new) }
         ensures full { IsErrOf result RecErr.Full → LacksBlock S.Space Over key.now value.now self.old space.old space.new }
         ensures keeps { Keeps S.Space space.old space.new }
-        ensures stays { StaysMap file_of region_of gets_of self.old self.new }
+        ensures stays { StaysOpen self.old self.new }
         ensures steps { steps.old ≤ steps.new }
         ensures cause { IsErrOf result RecErr.Fault → Rose (S.faults space.old) (S.faults space.new) }
     {
@@ -253,7 +253,7 @@ impl<S: Space> Hash<S> {
         ensures refused { OnErr result (Refuses S.Space (In S.Space file_of holds) self.old self.new space.old space.new) }
         ensures full { IsErrOf result RecErr.Full → LacksBlock S.Space Over key.now value.now self.old space.old space.new }
         ensures keeps { Keeps S.Space space.old space.new }
-        ensures stays { StaysMap file_of region_of gets_of self.old self.new }
+        ensures stays { StaysOpen self.old self.new }
         ensures steps { steps.old ≤ steps.new }
         ensures cause { IsErrOf result RecErr.Fault → Rose (S.faults space.old) (S.faults space.new) }
     {
@@ -283,7 +283,7 @@ impl<S: Space> Hash<S> {
         ensures refused { OnErr result (Refuses S.Space (In S.Space file_of holds) self.old self.new space.old space.new) }
         ensures full { IsErrOf result RecErr.Full → LacksBlock S.Space Cat key.now value.now self.old space.old space.new }
         ensures keeps { Keeps S.Space space.old space.new }
-        ensures stays { StaysMap file_of region_of gets_of self.old self.new }
+        ensures stays { StaysOpen self.old self.new }
         ensures steps { steps.old ≤ steps.new }
         ensures cause { IsErrOf result RecErr.Fault → Rose (S.faults space.old) (S.faults space.new) }
     {
@@ -318,7 +318,7 @@ impl<S: Space> Hash<S> {
         ensures refused { OnErr result (Refuses S.Space (In S.Space file_of holds) self.old self.new space.old space.new) }
         ensures full { IsErrOf result PutErr.Full → FullBy (In S.Space file_of holds) (fills S.Space) (put_in mode key.now value.now) self.old space.old space.new }
         ensures keeps { Keeps S.Space space.old space.new }
-        ensures stays { StaysMap file_of region_of gets_of self.old self.new }
+        ensures stays { StaysOpen self.old self.new }
         ensures steps { steps.old ≤ steps.new }
         ensures cause { IsErrOf result PutErr.Fault → Rose (S.faults space.old) (S.faults space.new) }
     {
@@ -352,7 +352,7 @@ impl<S: Space> Hash<S> {
         ensures refused { OnErr result (Refuses S.Space (In S.Space file_of holds) self.old self.new space.old space.new) }
         ensures full { IsErrOf result PutErr.Full → FullBy (In S.Space file_of holds) (fills S.Space) (put_in mode key.now value.now) self.old space.old space.new }
         ensures keeps { Keeps S.Space space.old space.new }
-        ensures stays { StaysMap file_of region_of gets_of self.old self.new }
+        ensures stays { StaysOpen self.old self.new }
         ensures steps { steps.old ≤ steps.new }
         ensures cause { IsErrOf result PutErr.Fault → Rose (S.faults space.old) (S.faults space.new) }
     {

@@ -6,18 +6,23 @@ use Rattle.hf_pool.specs.Pools.{frees, Lends}
 use Rattle.tc_hash.specs.Moves.{Added}
 use Rattle.tc_hash.proofs.Differ.{edits_then, edits_wrote}
 use Rattle.tc_hash.proofs.Room.{err_as, not_past}
-use Rattle.tc_hash.proofs.Writing.{taken_inside, added_taken, few_taken, part_inside, no_room, too_long}
+use Rattle.tc_hash.proofs.Writing.{taken_inside, added_taken, few_taken, part_inside, no_room, taken_long, too_long}
 use Rattle.tc_hash.proofs.adding.add_record.Goals as goal
 
 pub returns-in-Err-clause-full : goal.returns-in-Err-clause-full
 returns-in-Err-clause-full g c = λ full t.
     let p = c.in-Err.ensures.full full in
     let m = c.requires.held t in
-    inr (inr (not_past g.S.Space g.met.S.Space.within c.args.file (p.0 + length c.args.bytes.now) 5 c.args.space.now c.take.new.space t c.requires.always.0 c.requires.always.1
-    (part_inside (unit c.args.head.now) c.args.head.now.first c.args.pool.now p.0 (length c.args.bytes.now) p.1 m.1.pieces (g.S.Space.now c.args.space.now c.args.file) c.requires.always.3 m.1.is.laid p.2 p.3 c.requires.sized.2) p.4))
+    inr (not_past g.S.Space g.met.S.Space.within c.args.file (p.0 + length c.args.bytes.now) 5 c.args.space.now c.take.new.space t c.requires.always.0 c.requires.always.1
+    (part_inside (unit c.args.head.now) c.args.head.now.first c.args.pool.now p.0 (length c.args.bytes.now) p.1 m.1.pieces (g.S.Space.now c.args.space.now c.args.file) c.requires.always.3 m.1.is.laid p.2 p.3 c.requires.sized.2) p.4)
 
 pub returns-then-not-has_room-clause-full : goal.returns-then-not-has_room-clause-full
-returns-then-not-has_room-clause-full g c = λ full t. no_room c.args.head.now c.args.pool.now c.take.new.self c.in-Ok.place (length c.args.bytes.now) (g.S.Space.limit c.args.space.now c.args.file) _ (omega (arith, c.if-size.false)) c.in-Ok.ensures.taken (subst (λ (e : ℕ). (2 ^ 40 < e) ⊎ ((is_large c.args.head.now ≡ false) × (2 ^ 32 ≤ c.in-Ok.place / unit c.args.head.now))) c.size-end.ensures (c.has_room.ensures.none c.if-not-has_room.true))
+returns-then-not-has_room-clause-full g c = λ full t.
+    let h = c.args.head.now in
+    let m = c.requires.held t in
+    let on = taken_long (unit h) h.first c.args.pool.now c.take.new.self c.in-Ok.place (length c.args.bytes.now) m.1.pieces (g.S.Space.now c.args.space.now c.args.file) (g.S.Space.now c.take.new.space c.args.file) m.1.is.laid c.in-Ok.ensures.taken (c.in-Ok.ensures.bytes t) in
+    no_room h c.args.pool.now c.take.new.self c.in-Ok.place (length c.args.bytes.now) (g.S.Space.limit c.args.space.now c.args.file) _ _ (omega (arith, c.if-size.false)) (omega (arith, on, ap length (c.give_up-then-not-has_room.ensures.same t c.args.file))) c.in-Ok.ensures.taken
+    (subst (λ (e : ℕ). (2 ^ 40 < e) ⊎ ((is_large h ≡ false) × (2 ^ 32 ≤ c.in-Ok.place / unit h))) c.size-end.ensures (c.has_room.ensures.none c.if-not-has_room.true))
 
 pub write_at-requires-clause-inside : goal.write_at-requires-clause-inside
 write_at-requires-clause-inside g c = λ t.
@@ -48,8 +53,10 @@ returns-in-Ok-write_at-clause-edits g c =
 
 pub returns-in-Err-write_at-clause-full : goal.returns-in-Err-write_at-clause-full
 returns-in-Err-write_at-clause-full g c = λ full t.
+    let h = c.args.head.now in
     let m = c.requires.held t in
-    let same = c.in-Ok.ensures.writes.keeps.same_limit in
-    too_long c.args.head.now (unit c.args.head.now) c.args.head.now.first c.args.pool.now c.take.new.self c.in-Ok.place (length c.args.bytes.now) (g.S.Space.limit c.args.space.now c.args.file) (g.S.Space.log_full c.write_at.new.space) m.1.pieces (g.S.Space.now c.args.space.now c.args.file) m.1.is.laid c.in-Ok.ensures.taken
-    (g.met.S.Space.within c.args.space.now c.args.file t c.requires.always.0 c.requires.always.1)
-    (subst (λ (l : ℕ → ℕ). Passes (l c.args.file) (g.S.Space.log_full c.write_at.new.space) c.in-Ok.place (length c.args.bytes.now)) same (c.in-Err-write_at.ensures.full (err_as c.in-Err-write_at.e _ full)))
+    let is = err_as c.in-Err-write_at.e _ full in
+    let on = taken_long (unit h) h.first c.args.pool.now c.take.new.self c.in-Ok.place (length c.args.bytes.now) m.1.pieces (g.S.Space.now c.args.space.now c.args.file) (g.S.Space.now c.take.new.space c.args.file) m.1.is.laid c.in-Ok.ensures.taken (c.in-Ok.ensures.bytes t) in
+    too_long h (unit h) h.first c.args.pool.now c.take.new.self c.in-Ok.place (length c.args.bytes.now) (g.S.Space.limit c.args.space.now c.args.file) _ (g.S.Space.log_full c.write_at.new.space) m.1.pieces (g.S.Space.now c.args.space.now c.args.file) m.1.is.laid c.in-Ok.ensures.taken
+    (g.met.S.Space.within c.args.space.now c.args.file t c.requires.always.0 c.requires.always.1) (omega (arith, on, ap length (c.in-Err-write_at.ensures.same is t c.args.file)))
+    (subst (λ (l : ℕ → ℕ). Passes (l c.args.file) (g.S.Space.log_full c.write_at.new.space) c.in-Ok.place (length c.args.bytes.now)) c.in-Ok.ensures.writes.keeps.same_limit (c.in-Err-write_at.ensures.full is))

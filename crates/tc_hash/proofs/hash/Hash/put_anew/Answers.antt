@@ -3,7 +3,7 @@ use Rattle.tc_space.specs.Changes.{out_of}
 use Rattle.tc_space.specs.Frames.{In}
 use Rattle.tc_space.specs.Stores.{Only, ready_writes}
 use Rattle.tc_base.specs.declared.kind.Mode.TheVariants.{Over}
-use Rattle.tc_hash.specs.Keeping.{file_of, gets_of, holds, region_of}
+use Rattle.tc_hash.specs.Keeping.{file_of, holds}
 use Rattle.tc_hash.proofs.Stored.{gives_again, lacks_again, lacks_log, stays_then}
 use Rattle.tc_hash.proofs.hash.Hash.put_anew.Goals as goal
 
@@ -11,19 +11,19 @@ pub put_again-requires : goal.put_again-requires
 put_again-requires g c = record { ready = ready_writes g.S.Space (In g.S.Space file_of holds) (Only (file_of c.args.self.now)) (out_of c.args.key.now) c.args.self.now c.take_record.new.self c.args.space.now c.take_record.new.space c.in-Ok.ensures.taken.writes c.requires.ready }
 
 pub returns-in-Ok-put_again-clause-put : goal.returns-in-Ok-put_again-clause-put
-returns-in-Ok-put_again-clause-put g c = gives_again g.S.Space c.args.key.now c.args.value.now c.args.self.now c.take_record.new.self c.put_again.new.self c.args.space.now c.take_record.new.space c.put_again.new.space c.take_record.ensures.stays.file c.in-Ok.ensures.taken c.in-Ok-put_again.ensures.put
+returns-in-Ok-put_again-clause-put g c = gives_again g.S.Space c.args.key.now c.args.value.now c.args.self.now c.take_record.new.self c.put_again.new.self c.args.space.now c.take_record.new.space c.put_again.new.space c.take_record.ensures.stays.map.file c.in-Ok.ensures.taken c.in-Ok-put_again.ensures.put
 
 pub returns-in-Ok-put_again-clause-stays : goal.returns-in-Ok-put_again-clause-stays
-returns-in-Ok-put_again-clause-stays g c = stays_then file_of region_of gets_of c.args.self.now c.take_record.new.self c.put_again.new.self c.take_record.ensures.stays c.put_again.ensures.stays
+returns-in-Ok-put_again-clause-stays g c = stays_then c.args.self.now c.take_record.new.self c.put_again.new.self c.take_record.ensures.stays c.put_again.ensures.stays
 
 pub returns-in-Err-put_again-clause-refused : goal.returns-in-Err-put_again-clause-refused
 returns-in-Err-put_again-clause-refused g c = inl c.in-Err-put_again.ensures.outcome.err
 
 pub returns-in-Err-put_again-clause-full : goal.returns-in-Err-put_again-clause-full
-returns-in-Err-put_again-clause-full g c = λ full. lacks_again g.S.Space c.args.key.now c.args.value.now c.args.self.now c.take_record.new.self c.args.space.now c.take_record.new.space c.put_again.new.space c.take_record.ensures.stays.file c.in-Ok.ensures.taken (c.in-Err-put_again.ensures.full full)
+returns-in-Err-put_again-clause-full g c = λ full. lacks_again g.S.Space c.args.key.now c.args.value.now c.args.self.now c.take_record.new.self c.args.space.now c.take_record.new.space c.put_again.new.space c.take_record.ensures.stays.map.file c.in-Ok.ensures.taken (c.in-Err-put_again.ensures.full full)
 
 pub returns-in-Err-put_again-clause-stays : goal.returns-in-Err-put_again-clause-stays
-returns-in-Err-put_again-clause-stays g c = stays_then file_of region_of gets_of c.args.self.now c.take_record.new.self c.put_again.new.self c.take_record.ensures.stays c.put_again.ensures.stays
+returns-in-Err-put_again-clause-stays g c = stays_then c.args.self.now c.take_record.new.self c.put_again.new.self c.take_record.ensures.stays c.put_again.ensures.stays
 
 pub returns-in-Err-clause-full : goal.returns-in-Err-clause-full
 returns-in-Err-clause-full g c = λ full. lacks_log g.S.Space Over c.args.key.now c.args.value.now c.args.self.now c.args.space.now c.take_record.new.space (c.in-Err.ensures.full full)

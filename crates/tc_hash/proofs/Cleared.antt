@@ -1,0 +1,74 @@
+-- A file made anew with the numbers and in the form that it has.
+use Rattle.std.proofs.Common.{◌≡◌, ◌∙◌, inl, inr, ℕ, zero, suc, ◌+◌, ◌-◌, ◌*◌, ◌%◌, ◌^◌, ◌<◌, ◌≤◌, true, false, List, [], length, replicate, refl, sym, ap, subst, arith, None}
+use Rattle.std.specs.Prelude.{◌==◌}
+use Rattle.std.specs.FinMap.{empty}
+use Rattle.std.proofs.lemmas.Bool.{cases_lt}
+use Rattle.std.proofs.lemmas.List.{length-replicate}
+use Rattle.std.proofs.Math.Nat.{mod-eq_of_lt}
+use Rattle.hf_head.specs.declared.head.Head.{Head}
+use Rattle.hf_head.specs.Heads.{Spells, is_large, sections, spelled, unit, wide}
+use Rattle.hf_layout.specs.Frees.{none}
+use Rattle.hf_layout.specs.Layout.{LaidOut}
+use Rattle.hf_layout.proofs.Segments.{rest_aligned}
+use Rattle.hf_pool.specs.declared.pool.Pool.{Pool}
+use Rattle.hf_pool.specs.Pools.{frees as frees_in}
+use Rattle.tc_base.specs.Files.{Files}
+use Rattle.tc_space.specs.Effects.{Changes}
+use Rattle.tc_hash.specs.Creating.{IsNew, MayBe}
+use Rattle.tc_hash.specs.Fields.{HasFields}
+use Rattle.tc_hash.specs.Holding.{Holds}
+use Rattle.tc_hash.proofs.Created.{create_brought, new_bytes, new_fields, zeros_are}
+
+pub may_be : (h : Head) → HasFields h → MayBe h.kind h.apow h.fpow h.buckets
+may_be h f = record {
+  kind_most = f.kind_most;
+  kind_known = f.kind_known;
+  apow_least = f.powers.0;
+  apow_most = f.powers.1;
+  fpow_most = f.powers.2;
+  some_buckets = f.numbers.some_buckets;
+  few_buckets = f.numbers.few_buckets;
+}
+
+-- a multiple less than one unit above another isn't above it
+multiple_low : (u a b : ℕ) → a % u ≡ 0 → b % u ≡ 0 → a < b + u → a ≤ b
+multiple_low u a b even aligned less = elim (cases_lt b a) [
+  | inl past ↦ absurd (
+      let rest : (a - b) % u ≡ 0 = rest_aligned u b a past aligned even in
+      let small : a - b < u = omega (arith, less, past) in
+      let e = mod-eq_of_lt small in
+      omega (arith, e, rest, past))
+  | inr le ↦ omega (arith, le)
+]
+
+-- a file made anew begins its blocks no later
+pub new_first : (h new : Head) → HasFields h → IsNew h.kind h.apow h.fpow h.buckets (is_large h) new → new.first ≤ h.first
+new_first h new f is =
+    let units : unit new ≡ unit h = ap (λ (n : ℕ). 2 ^ n) is.apow_is in
+    let behind : sections new ≡ sections h = λ i. 256 + wide (is.form i) * is.buckets_is i + (64 + 4 * 2 ^ is.fpow_is i) in
+    multiple_low (unit h) new.first h.first (ap (λ (u : ℕ). new.first % u) (sym units) ∙ is.aligned) f.numbers.first_aligned (omega (arith, is.least, units, behind, f.numbers.first_behind))
+
+pub anew_fields : (h new : Head) → HasFields h → IsNew h.kind h.apow h.fpow h.buckets (is_large h) new → HasFields new
+anew_fields h new f is = new_fields h.kind h.apow h.fpow h.buckets (is_large h) new (may_be h f) is (omega (arith, is.size, new_first h new f is, f.numbers.size_least, f.numbers.size_most))
+
+pub same_options : (a b : ℕ) → a ≤ 1 → b ≤ 1 → (a == 1) ≡ (b == 1) → a ≡ b
+same_options zero zero p q e = refl
+same_options zero (suc zero) p q e = absurd (let f : false ≡ true = e in cc)
+same_options (suc zero) zero p q e = absurd (let f : true ≡ false = e in cc)
+same_options (suc zero) (suc zero) p q e = refl
+same_options (suc (suc a)) b p q e = absurd (omega (arith, p))
+same_options zero (suc (suc b)) p q e = absurd (omega (arith, q))
+same_options (suc zero) (suc (suc b)) p q e = absurd (omega (arith, q))
+
+pub some_zeros : (z : List ℕ) (n : ℕ) → 0 < n → z ≡ replicate n 0 → (0 < length z) × (z ≡ replicate (length z) 0)
+some_zeros z n some e = let long = ap length e in let all = length-replicate {A = ℕ} n 0 in (omega (arith, some, long, all), zeros_are z n e)
+
+pub changes_twice : {S : Type 0} (now : S → Files) (file : ℕ) (x y : List ℕ) (a b c : S) → Changes now file x a b → Changes now file y b c → Changes now file y a c
+changes_twice now file x y a b c first second = record { here = second.here; others = λ g ne. second.others g ne ∙ first.others g ne }
+
+-- nothing is held in it
+pub cleared : (h new : Head) (p : Pool) (bytes : List ℕ) → HasFields h → IsNew h.kind h.apow h.fpow h.buckets (is_large h) new → p.unit ≡ unit new → p.size ≡ new.size → ((q : ℕ) → frees_in p q ≡ None)
+    → ((bs : List ℕ) → new.size ≤ length bs → LaidOut (unit new) new.first new.size [] (frees_in p) none bs) → Spells new (spelled new) → length (spelled new) ≡ 256 → bytes ≡ new_bytes new → Holds new p.size (frees_in p) 0 empty bytes
+cleared h new p bytes f is same sized nothing laid spells long e =
+    let b = create_brought h.kind h.apow h.fpow h.buckets (is_large h) new p bytes (may_be h f) is (anew_fields h new f is).numbers.size_most same sized nothing laid spells long e in
+    subst (λ (n : ℕ). Holds new p.size (frees_in p) n empty bytes) is.records b.holds
