@@ -2,13 +2,13 @@
 ghost use Rattle.std.specs.Prelude.{◌≡◌, true, OnOk};
 ghost use Rattle.hf_head.specs.Heads.{IsValid};
 
-use crate::memory::Memory;
 use anyhow::{Error, anyhow};
 use hf_block::{walk, write_rec};
 use hf_head::Head;
 use hf_pool::Pool;
 use std::alloc::{AllocError, Global};
 use tc_base::Blob;
+use tc_stores::OneFile;
 
 const FIRST: usize = 336;
 
@@ -51,7 +51,7 @@ fn head(size: u64) -> Head {
 }
 
 /// The pool of a space's free blocks, from the list of all its blocks.
-pub fn pool(alloc: Global, space: &mut Memory, size: u64) -> Result<Pool, Error>
+pub fn pool(alloc: Global, space: &mut OneFile, size: u64) -> Result<Pool, Error>
     requires { space.old.sound ≡ true }
     ensures { OnOk result (space.new.sound ≡ true) }
 {

@@ -3,14 +3,13 @@
 #![tactic(auto)]
 
 mod blocks;
-mod memory;
 mod turns;
 
 use anyhow::{Error, anyhow};
 use blocks::{file, pool};
-use memory::Memory;
 use std::alloc::Global;
 use std::env;
+use tc_stores::OneFile;
 use turns::turn;
 
 // The number at a place among the words, 0 where there is none.
@@ -31,7 +30,7 @@ fn made(alloc: Global, words: &[String]) -> Result<(u64, u64), Error> {
     if what.as_str() == "make" {
         return Ok((size, 0));
     }
-    let mut space = Memory::new(bytes.into_vec());
+    let mut space = OneFile::of(bytes.into_vec());
     let mut pool = pool(alloc, &mut space, size)?;
     turn(alloc, &mut pool, &mut space, number(words, 2))?;
     Ok((size, pool.size()))

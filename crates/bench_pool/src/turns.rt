@@ -1,10 +1,10 @@
 //! Blocks of a pool taken and given back.
 ghost use Rattle.std.specs.Prelude.{◌≡◌, true, OnOk};
 
-use crate::memory::Memory;
 use hf_pool::Pool;
 use std::alloc::{AllocError, Global};
 use tc_space::RecErr;
+use tc_stores::OneFile;
 
 // How many blocks are out at a time.
 const OUT: u64 = 1000;
@@ -17,7 +17,7 @@ struct Out {
 }
 
 // Takes a block of that size.
-fn take(pool: &mut Pool, space: &mut Memory, size: u64) -> Result<u64, RecErr>
+fn take(pool: &mut Pool, space: &mut OneFile, size: u64) -> Result<u64, RecErr>
     requires { space.old.sound ≡ true }
     ensures { OnOk result (space.new.sound ≡ true) }
 {
@@ -28,7 +28,7 @@ fn take(pool: &mut Pool, space: &mut Memory, size: u64) -> Result<u64, RecErr>
 }
 
 // Gives a block back, if it is one.
-fn give(pool: &mut Pool, space: &mut Memory, out: Out) -> Result<(), RecErr>
+fn give(pool: &mut Pool, space: &mut OneFile, out: Out) -> Result<(), RecErr>
     requires { space.old.sound ≡ true }
     ensures { OnOk result (space.new.sound ≡ true) }
 {
@@ -55,7 +55,7 @@ fn none_out(alloc: Global) -> Result<Vec<Out>, AllocError> {
 }
 
 /// So many times a block is taken, and one that was taken 1,000 times before is given back.
-pub fn turn(alloc: Global, pool: &mut Pool, space: &mut Memory, times: u64) -> Result<(), RecErr>
+pub fn turn(alloc: Global, pool: &mut Pool, space: &mut OneFile, times: u64) -> Result<(), RecErr>
     requires { space.old.sound ≡ true }
 {
     let mut outs = none_out(alloc)?;

@@ -27,7 +27,6 @@ fn read_cell<S: Space>(space: &mut S, width: u32, id: u64, into: &mut Vec<u8>) -
     ensures reads { OnlyReads S.Space space.old space.new }
     ensures cause { (IsErrOf result RecErr.Fault → Rose (S.faults space.old) (S.faults space.new)) × (IsErrOf result RecErr.Full → ⊥) }
 {
-    into.clear();
     let Ok(()) = into.resize(cell_len(width) as usize, 0) else {
         return Err(RecErr::Memory);
     };

@@ -1,57 +1,63 @@
--- Those of some ids that pass a test, at most so many.
-use Rattle.std.proofs.Common.{◌≡◌, ◌∙◌, ℕ, zero, suc, ◌+◌, ◌≤◌, ◌<◌, Bool, true, false, cond, List, [], ◌∷◌, ◌++◌, map, filter, length, take, drop, refl, sym, ap, inl, inr, arith}
-use Rattle.std.specs.Prelude.{Option, Some, None, IsTrue, ◌↔◌, nat_eq}
+-- The ids whose texts begin with that of a number, found a range after the other.
+use Rattle.std.proofs.Common.{◌≡◌, ◌∙◌, ℕ, ◌-◌, ◌*◌, ◌/◌, ◌^◌, ◌≤◌, ◌<◌, Bool, true, ◌&&◌, List, [], ◌++◌, filter, ap, arith}
+use Rattle.std.specs.Prelude.{nat_eq, nat_le, nat_lt}
 use Rattle.std.specs.Fmt.{decimal}
 use Rattle.std.specs.List.{starts_with}
-use Rattle.std.proofs.lemmas.Bool.{cases_lt}
-use Rattle.tc_engine.specs.Changes.{first_of}
-use Rattle.tc_fixed.specs.Listing.{HasRoom}
+use Rattle.std.specs.FinMap.{keys, contains_key-keys}
+use Rattle.std.proofs.lemmas.Bool.{and_parts, leb-true, ltb-true}
+use Rattle.std.proofs.lemmas.List.{append-nil}
+use Rattle.std.proofs.lemmas.List.Elements.{filter-append}
+use Rattle.std.proofs.Math.Nat.{div-le_self}
+use Rattle.hf_head.specs.FixedHeads.{cell}
+use Rattle.tc_model.specs.Arrays.{Array, greatest}
+use Rattle.tc_fixed.specs.declared.fixed.Fixed.{Fixed}
+use Rattle.tc_fixed.specs.Holding.{max_id_of}
+use Rattle.tc_fixed.specs.Listing.{ids_in}
+use Rattle.tc_fixed.proofs.Listed.{ids_parted}
+use Rattle.tc_fixed.proofs.Tallied.{greatest_high}
+use Rattle.tc_ids.proofs.Fronts.{IsRange, range_wide, in_range, past_range, below_range}
+use Rattle.tc_ids.proofs.Joining.{all_pass, kept_all, kept_none, le_is, lt_is}
 
--- not more than may be
-abbrev pub Fits : Option ℕ → ℕ → Type 0
-Fits None n = Unit {0}
-Fits (Some most) n = n ≤ most
+-- those before an id
+abbrev pub begun : ℕ → Array → ℕ → List ℕ
+begun n m below = filter (λ id. starts_with nat_eq (decimal id) (decimal n)) (ids_in m 0 below)
 
-filter_parts : (p : ℕ → Bool) (i : ℕ) (xs : List ℕ) → filter p xs ≡ filter p (take i xs) ++ filter p (drop i xs)
-filter_parts p zero xs = refl
-filter_parts p (suc i) [] = refl
-filter_parts p (suc i) (x ∷ xs) = elim (p x) as (λ b. cond b (x ∷ filter p xs) (filter p xs) ≡ cond b (x ∷ filter p (take i xs)) (filter p (take i xs)) ++ filter p (drop i xs)) [
-  | true ↦ ap (λ l. x ∷ l) (filter_parts p i xs)
-  | false ↦ filter_parts p i xs
-]
+low_of : (from to id : ℕ) → (nat_le from id && nat_lt id to) ≡ true → from ≤ id
+low_of from to id test = leb-true from id (and_parts (nat_le from id) (nat_lt id to) test).0
 
-front_is : (n : ℕ) (xs ys : List ℕ) → length xs ≡ n → take n (xs ++ ys) ≡ xs
-front_is zero [] ys e = refl
-front_is zero (x ∷ xs) ys e = absurd (omega (arith, e))
-front_is (suc n) [] ys e = absurd (omega (arith, e))
-front_is (suc n) (x ∷ xs) ys e = ap (λ l. x ∷ l) (front_is n xs ys (omega (arith, e)))
+high_of : (from to id : ℕ) → (nat_le from id && nat_lt id to) ≡ true → id < to
+high_of from to id test = ltb-true id to (and_parts (nat_le from id) (nat_lt id to) test).1
 
--- as many as may be are found
-pub stops : (p : ℕ → Bool) (xs : List ℕ) (i : ℕ) (most : Option ℕ) (found : List ℕ) (n : ℕ) (b : Bool) → found ≡ filter p (take i xs) → Fits most (length found) → n ≡ length found → (IsTrue b ↔ HasRoom most n) → b ≡ false → found ≡ first_of most (filter p xs)
-stops p xs i None found n b is fits count room no_more = let yes : IsTrue b = room.1 tt in absurd (let never = yes in cc)
-stops p xs i (Some k) found n b is fits count room no_more =
-    let less : n < k → ⊥ = λ lt. let yes : IsTrue b = room.1 lt in let never = yes in absurd cc in
-    let full : length found ≡ k = elim (cases_lt n k) [ inl lt ↦ absurd (less lt) | inr le ↦ omega (arith, le, count, fits) ] in
-    sym (ap (take k) (filter_parts p i xs ∙ ap (λ l. l ++ filter p (drop i xs)) (sym is)) ∙ front_is k found (filter p (drop i xs)) full)
+pub begun_none : (n : ℕ) (m : Array) → 1 ≤ n → n ≤ 2 ^ 40 → begun n m n ≡ []
+begun_none n m one small = kept_none (λ id. nat_le 0 id && nat_lt id n) (λ id. starts_with nat_eq (decimal id) (decimal n)) (keys m) (λ id test.
+    let high = high_of 0 n id test in
+    below_range n one id (omega (arith, high, small)) (omega (arith, small)) high)
 
-map_take : (f : ℕ → List ℕ) (n : ℕ) (xs : List ℕ) → map f (take n xs) ≡ take n (map f xs)
-map_take f zero xs = refl
-map_take f (suc n) [] = refl
-map_take f (suc n) (x ∷ xs) = ap (λ l. f x ∷ l) (map_take f n xs)
+pub begun_more : (n : ℕ) (m : Array) (from to : ℕ) → 1 ≤ n → IsRange n from to → from ≤ 2 ^ 40 → begun n m (from * 10) ≡ begun n m from ++ ids_in m from to
+begun_more n m from to one range small =
+    let begins : ℕ → Bool = λ id. starts_with nat_eq (decimal id) (decimal n) in
+    let wide = range_wide n from to one range in
+    let parts : ids_in m 0 (from * 10) ≡ ids_in m 0 from ++ (ids_in m from to ++ ids_in m to (from * 10)) =
+    ids_parted m 0 from (from * 10) (omega arith) (omega arith) ∙ ap (λ (l : List ℕ). ids_in m 0 from ++ l) (ids_parted m from to (from * 10) wide.rises (omega (arith, wide.most, wide.some))) in
+    let all : filter begins (ids_in m from to) ≡ ids_in m from to = kept_all (λ id. nat_le from id && nat_lt id to) begins (keys m) (λ id test.
+    let low = low_of from to id test in
+    let high = high_of from to id test in
+    in_range n one id (omega (arith, high, wide.most, small)) from to range low high) in
+    let none : filter begins (ids_in m to (from * 10)) ≡ [] = kept_none (λ id. nat_le to id && nat_lt id (from * 10)) begins (keys m) (λ id test.
+    let low = low_of to (from * 10) id test in
+    let high = high_of to (from * 10) id test in
+    past_range n one id (omega (arith, high, small)) from to range low high) in
+    ap (filter begins) parts
+    ∙ (filter-append begins (ids_in m 0 from) (ids_in m from to ++ ids_in m to (from * 10))
+    ∙ ap (λ (l : List ℕ). begun n m from ++ l) (filter-append begins (ids_in m from to) (ids_in m to (from * 10)) ∙ ((λ i. all i ++ none i) ∙ append-nil (ids_in m from to))))
 
-map_first : (f : ℕ → List ℕ) (most : Option ℕ) (xs : List ℕ) → map f (first_of most xs) ≡ first_of most (map f xs)
-map_first f None xs = refl
-map_first f (Some n) xs = map_take f n xs
+pub begun_all : (n : ℕ) (m : Array) (below : ℕ) → greatest m < below → begun n m below ≡ filter (λ id. starts_with nat_eq (decimal id) (decimal n)) (keys m)
+begun_all n m below past = ap (filter (λ id. starts_with nat_eq (decimal id) (decimal n))) (all_pass (λ id. nat_le 0 id && nat_lt id below) (keys m) (λ q any.
+    let high = greatest_high m q (contains_key-keys m q ∙ any) in
+    ap (λ b. nat_le 0 q && b) (lt_is q below (omega (arith, high, past))) ∙ ap (λ b. b && true) (le_is 0 q (omega arith))))
 
-map_filter : (f : ℕ → List ℕ) (p : List ℕ → Bool) (xs : List ℕ) → map f (filter (λ x. p (f x)) xs) ≡ filter p (map f xs)
-map_filter f p [] = refl
-map_filter f p (x ∷ xs) = elim (p (f x)) as (λ b. map f (cond b (x ∷ filter (λ y. p (f y)) xs) (filter (λ y. p (f y)) xs)) ≡ cond b (f x ∷ filter p (map f xs)) (filter p (map f xs))) [
-  | true ↦ ap (λ l. f x ∷ l) (map_filter f p xs)
-  | false ↦ map_filter f p xs
-]
-
-pub texts_found : (most : Option ℕ) (prefix : List ℕ) (all found : List ℕ) (texts : List (List ℕ)) → map (λ id. decimal id) all ≡ texts → found ≡ first_of most (filter (λ id. starts_with nat_eq (decimal id) prefix) all) → map (λ id. decimal id) found ≡ first_of most (filter (λ t. starts_with nat_eq t prefix) texts)
-texts_found most prefix all found texts every is =
-    ap (map (λ id. decimal id)) is
-    ∙ (map_first (λ id. decimal id) most (filter (λ id. starts_with nat_eq (decimal id) prefix) all)
-    ∙ ap (first_of most) (map_filter (λ id. decimal id) (λ t. starts_with nat_eq t prefix) all ∙ ap (filter (λ t. starts_with nat_eq t prefix)) every))
+-- no id that a file may hold is greater
+pub greatest_small : {S : Type 0} (f : Fixed S) → max_id_of f ≤ 2 ^ 40
+greatest_small f =
+    let less : (f.limit - 256) / cell f.width ≤ f.limit - 256 = div-le_self (f.limit - 256) (cell f.width) in
+    omega (arith, less, f.shape.limit_most)

@@ -1,11 +1,14 @@
 mod Asked
 mod Beginning
 mod Ends
+mod Fronts
+mod Joining
 mod Lines
 mod Listed
 mod Made
 mod Settled
 mod Several
+mod Spelled
 mod Stored
 mod Told
 mod Whole

@@ -8,6 +8,7 @@ mod many;
 mod naming;
 mod numbers;
 mod opening;
+mod prefixes;
 mod reading;
 mod storing;
 mod texts;

@@ -1,8 +1,11 @@
 //! Numbers of up to twenty digits.
-ghost use Rattle.std.specs.Prelude.{◌≡◌, ◌<◌, ◌≤◌, ◌^◌, MatchOption, length, true, false};
+ghost use Rattle.std.specs.Prelude.{◌≡◌, ◌<◌, ◌≤◌, ◌^◌, ℕ, MatchOption, length, true, false};
+ghost use Rattle.std.specs.Fmt.{decimal};
 ghost use Rattle.std.specs.List.{list_all};
 ghost use Rattle.tc_base.specs.Decimal.{is_digit};
 ghost use Rattle.tc_model.specs.Texts.{is_number, number};
+
+use crate::texts::is_text_of;
 
 fn are_digits(text: &[u8]) -> bool
     ensures { result ≡ list_all is_digit text.now }
@@ -37,4 +40,21 @@ pub fn number_of(text: &[u8]) -> Option<u128>
         return None;
     }
     Some(number(text))
+}
+
+/// The number of at most 2^40 whose decimal text this is, if it is 1 or more.
+pub fn id_spelled(text: &[u8]) -> Option<u64>
+    ensures { MatchOption result ((n : ℕ) → 1 ≤ n → n ≤ 2 ^ 40 → text.now ≡ decimal n → ⊥) (λ n. (1 ≤ n) × (n ≤ 2 ^ 40) × (text.now ≡ decimal n)) }
+{
+    let Some(n) = number_of(text) else {
+        return None;
+    };
+    if n == 0 {
+        return None;
+    }
+    if n > 1 << 40 {
+        return None;
+    }
+    let id = n as u64;
+    if is_text_of(id, text) { Some(id) } else { None }
 }

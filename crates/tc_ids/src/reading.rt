@@ -1,23 +1,23 @@
 //! What is read of a fixed-length database.
 #![tactic(auto, using(tc_space::specs::Frames::keeps_refl, tc_space::specs::Frames::reads_refl, crate::specs::Lifting::ready_down, crate::specs::Lifting::reads_up))]
 
-ghost use Rattle.std.specs.Prelude.{◌≡◌, ◌≤◌, ◌++◌, ◌↔◌, List, map, filter, nat_eq, IfOk, OnOk, IsErrOf, IsTrue};
+ghost use Rattle.std.specs.Prelude.{◌≡◌, map, IfOk, OnOk, IsErrOf};
 ghost use Rattle.std.specs.Fmt.{decimal};
-ghost use Rattle.std.specs.List.{starts_with};
 ghost use Rattle.tc_io.specs.Causes.{Rose};
 ghost use Rattle.tc_space.specs.Frames.{Keeps, Reads};
 ghost use Rattle.tc_model.specs.Arrays.{Array};
 ghost use Rattle.tc_model.specs.Apply.{keys_from};
 ghost use Rattle.tc_model.specs.Contents.{Contents};
 ghost use Rattle.tc_model.specs.Stores.{all_keys};
-ghost use Rattle.tc_fixed.specs.Listing.{HasRoom};
 ghost use Rattle.ty_base.specs.Holding.{Held, IsReady};
 ghost use Rattle.tc_engine.specs.Changes.{first_of};
 ghost use Rattle.tc_engine.specs.Rows.{Adds, Extends, item_row};
 ghost use Rattle.tc_ids.specs.Holding.{HoldsIds, IsFound};
 
 use crate::holding::FixedEngine;
-use crate::texts::{add_id, begins, id_key};
+use crate::numbers::id_spelled;
+use crate::prefixes::ids_beginning;
+use crate::texts::{add_id, id_key};
 use std::alloc::{AllocError, Global};
 use tc_base::{Blob, Keys};
 use tc_engine::Rows;
@@ -45,37 +45,6 @@ pub(crate) fn add_ids(ids: &[u64], rows: &mut Rows) -> Result<(), AllocError>
     Ok(())
 }
 
-// Whether fewer than so many were found.
-fn has_room(most: Option<u64>, count: usize) -> bool
-    ensures { IsTrue result ↔ HasRoom most count }
-{
-    match most {
-        Some(most) => (count as u64) < most,
-        None => true,
-    }
-}
-
-// Those of some ids whose texts begin with a prefix, at most so many.
-fn beginning(
-    alloc: Global,
-    ids: &[u64],
-    prefix: &[u8],
-    most: Option<u64>,
-) -> Result<Vec<u64>, AllocError>
-    ensures { IfOk result (λ found. found.items ≡ first_of most (filter (λ id. starts_with nat_eq (decimal id) prefix.now) ids.now)) }
-{
-    let mut found = Vec::new(alloc);
-    for id in ids {
-        if !has_room(most, found.as_slice().len()) {
-            return Ok(found);
-        }
-        if begins(*id, prefix) {
-            found.push(*id)?;
-        }
-    }
-    Ok(found)
-}
-
 impl<S: Space> FixedEngine<S> {
     /// The id that a key names and its value, where it is held.
     pub(crate) fn find(&mut self, space: &mut S, key: &[u8]) -> Result<Option<(u64, Blob)>, RecErr>
@@ -95,16 +64,16 @@ impl<S: Space> FixedEngine<S> {
         }
     }
 
-    // The ids held, in order.
-    fn ids(&mut self, space: &mut S) -> Result<Vec<u64>, RecErr>
+    // The ids held, in order, at most so many.
+    fn ids(&mut self, space: &mut S, most: Option<u64>) -> Result<Vec<u64>, RecErr>
         requires { IsReady S.Space HoldsIds self.old space.old }
-        ensures value { IfOk result (λ found. (c : Contents) → Held S.Space HoldsIds self.old space.old c → map (λ id. decimal id) found.items ≡ all_keys c) }
+        ensures value { IfOk result (λ found. (c : Contents) → Held S.Space HoldsIds self.old space.old c → map (λ id. decimal id) found.items ≡ first_of most (all_keys c)) }
         ensures reads { Reads S.Space (Held S.Space HoldsIds) self.old self.new space.old space.new }
         ensures keeps { Keeps S.Space space.old space.new }
         ensures cause { (IsErrOf result RecErr.Fault → Rose (S.faults space.old) (S.faults space.new)) × (IsErrOf result RecErr.Full → ⊥) }
     {
         let mut ids = Vec::new(self.alloc);
-        match self.fixed.ids_in(space, 0, u64::MAX, None, &mut ids) {
+        match self.fixed.ids_in(space, 0, u64::MAX, most, &mut ids) {
             Ok(()) => Ok(ids),
             Err(e) => Err(e),
         }
@@ -118,7 +87,7 @@ impl<S: Space> FixedEngine<S> {
         ensures keeps { Keeps S.Space space.old space.new }
         ensures cause { (IsErrOf result RecErr.Fault → Rose (S.faults space.old) (S.faults space.new)) × (IsErrOf result RecErr.Full → ⊥) }
     {
-        let ids = match self.ids(space) {
+        let ids = match self.ids(space, None) {
             Ok(ids) => ids,
             Err(e) => return Err(e),
         };
@@ -128,7 +97,7 @@ impl<S: Space> FixedEngine<S> {
         Ok(keys)
     }
 
-    /// The ids whose texts begin with a prefix, in order, at most so many.
+    /// The ids whose texts begin with a prefix, in order, at most so many. Only cells of such ids are read.
     pub(crate) fn list_from(
         &mut self,
         space: &mut S,
@@ -141,13 +110,12 @@ impl<S: Space> FixedEngine<S> {
         ensures keeps { Keeps S.Space space.old space.new }
         ensures cause { (IsErrOf result RecErr.Fault → Rose (S.faults space.old) (S.faults space.new)) × (IsErrOf result RecErr.Full → ⊥) }
     {
-        let all = match self.ids(space) {
-            Ok(all) => all,
-            Err(e) => return Err(e),
-        };
-        let Ok(found) = beginning(self.alloc, &all, prefix, most) else {
-            return Err(RecErr::Memory);
-        };
-        Ok(found)
+        if prefix.is_empty() {
+            return self.ids(space, most);
+        }
+        match id_spelled(prefix) {
+            Some(n) => ids_beginning(self.alloc, &mut self.fixed, space, n, most),
+            None => Ok(Vec::new(self.alloc)),
+        }
     }
 }

@@ -1,10 +1,8 @@
 //! Ids in decimal.
 #![tactic(auto, using(tc_engine::specs::Rows::extends_then))]
 
-ghost use Rattle.std.specs.Prelude.{◌≡◌, ◌∷◌, [], IfOk, OnOk};
+ghost use Rattle.std.specs.Prelude.{◌≡◌, ◌∷◌, ◌↔◌, [], IfOk, IsTrue, OnOk};
 ghost use Rattle.std.specs.Fmt.{decimal};
-ghost use Rattle.std.specs.List.{starts_with};
-ghost use Rattle.std.specs.Prelude.{nat_eq};
 ghost use Rattle.tc_engine.specs.Rows.{Adds, Extends, item_row, pair_row};
 
 use itoa::Buffer;
@@ -47,10 +45,10 @@ pub fn add_items(id: u64, value: &[u8], rows: &mut Rows) -> Result<(), AllocErro
     rows.item(value)
 }
 
-/// Whether the text of an id begins with a prefix.
-pub fn begins(id: u64, prefix: &[u8]) -> bool
-    ensures { result ≡ starts_with nat_eq (decimal id) prefix.now }
+/// Whether a text is that of a number.
+pub fn is_text_of(n: u64, text: &[u8]) -> bool
+    ensures { IsTrue result ↔ (text.now ≡ decimal n) }
 {
     let mut buffer = Buffer::new();
-    buffer.format(id).as_bytes().starts_with(prefix)
+    buffer.format(n).as_bytes() == text
 }

@@ -1,21 +1,21 @@
 //! A map in memory.
 ghost use Rattle.std.specs.Prelude.{◌≡◌, IsSome, None, OnErr, IfOk, true, false};
-ghost use Rattle.std.specs.FinMap.{empty, get};
+ghost use Rattle.std.specs.FinMap.{empty, get, keys};
 ghost use Rattle.tc_base.specs.declared.kind.Mode.TheVariants.{Keep};
 ghost use Rattle.tc_space.specs.Changes.{is_in, out_of, put_in};
 
-use crate::map::ByteMap;
 use crate::values::given;
 use std::alloc::{AllocError, Global};
 use std::marker::PhantomData;
 use tc_base::{Blob, Blobs, Form, Key, Mode, Steps};
+use tc_maps::Bytemap;
 use tc_space::{PutErr, RecErr, Records, Space};
 
 /// A map in memory that leaves the file it is given alone.
 #[derive(Drop)]
 pub struct MemRecords<S> {
     alloc: Global,
-    map: ByteMap,
+    map: Bytemap,
     file: u32,
     region: [u8; 128],
     gets: u64,
@@ -31,7 +31,7 @@ impl<S> MemRecords<S> {
     {
         MemRecords {
             alloc,
-            map: ByteMap::new(alloc),
+            map: Bytemap::new(alloc),
             file,
             region: [0; 128],
             gets: 0,
@@ -41,7 +41,7 @@ impl<S> MemRecords<S> {
 }
 
 // A copy of the value of a key.
-fn value_of(alloc: Global, map: &ByteMap, key: &[u8]) -> Result<Option<Blob>, AllocError>
+fn value_of(alloc: Global, map: &Bytemap, key: &[u8]) -> Result<Option<Blob>, AllocError>
     ensures { IfOk result (λ o. o ≡ get map.now key.now) }
 {
     let key = Key::from_slice(alloc, key)?;
@@ -51,10 +51,29 @@ fn value_of(alloc: Global, map: &ByteMap, key: &[u8]) -> Result<Option<Blob>, Al
     }
 }
 
+// Copies of keys.
+fn copies_of(alloc: Global, keys: &[Key]) -> Result<Blobs, AllocError>
+    ensures { IfOk result (λ copies. copies ≡ keys.now) }
+{
+    let mut copies = Blobs::new(alloc);
+    for key in keys {
+        copies.push(Blob::from_slice(alloc, key.as_slice())?)?;
+    }
+    Ok(copies)
+}
+
+// A map's keys, in order.
+fn keys_of(alloc: Global, map: &Bytemap) -> Result<Blobs, AllocError>
+    ensures { IfOk result (λ found. found ≡ keys map.now) }
+{
+    let found = map.keys(alloc)?;
+    copies_of(alloc, found.as_slice())
+}
+
 // Gives a key a value. False where it is held and is to be kept. An `Err` changes nothing.
 fn store(
     alloc: Global,
-    map: &mut ByteMap,
+    map: &mut Bytemap,
     key: &[u8],
     value: &[u8],
     mode: Mode,
@@ -70,12 +89,12 @@ fn store(
         return Ok(false);
     }
     let value = given(alloc, old, value, mode)?;
-    map.set(key, value)?;
+    let _ = map.set(key, value)?;
     Ok(true)
 }
 
 // Takes a key out, where it is held.
-fn take_out(alloc: Global, map: &mut ByteMap, key: &[u8]) -> Result<bool, AllocError>
+fn take_out(alloc: Global, map: &mut Bytemap, key: &[u8]) -> Result<bool, AllocError>
     ensures held { IfOk result (λ b. b ≡ is_in key.now map.old) }
     ensures out { IfOk result (λ b. b ≡ true → map.new ≡ out_of key.now map.old) }
     ensures none { IfOk result (λ b. b ≡ false → map.new ≡ map.old) }
@@ -85,7 +104,7 @@ fn take_out(alloc: Global, map: &mut ByteMap, key: &[u8]) -> Result<bool, AllocE
     if map.get(&key).is_none() {
         return Ok(false);
     }
-    map.remove(&key);
+    let _ = map.remove(&key);
     Ok(true)
 }
 
@@ -111,7 +130,7 @@ impl<S: Space> Records for MemRecords<S> {
     }
 
     fn count(&self) -> u64 {
-        self.map.len() as u64
+        self.map.len()
     }
 
     fn opaque(&self) -> [u8; 128] {
@@ -156,7 +175,7 @@ impl<S: Space> Records for MemRecords<S> {
     }
 
     fn keys<L>(&mut self, space: &mut S, steps: &mut Steps<L>) -> Result<Blobs, RecErr> {
-        let Ok(keys) = self.map.keys(self.alloc) else {
+        let Ok(keys) = keys_of(self.alloc, &self.map) else {
             return Err(RecErr::Memory);
         };
         Ok(keys)

@@ -1,14 +1,14 @@
 ghost use Rattle.std.specs.Prelude.{◌≡◌, true, IfOk, OnOk};
 
-use crate::scratch::Scratch;
 use std::alloc::{AllocError, Global};
 use std::test::Fail;
 use tc_base::{Blob, Rule};
 use tc_fixed::Fixed;
 use tc_space::{OpenErr, RecErr, Space};
+use tc_stores::OneFile;
 
 // A value put where it may be.
-fn put(fixed: &mut Fixed<Scratch>, space: &mut Scratch, id: u64, value: &[u8]) -> Result<(), RecErr>
+fn put(fixed: &mut Fixed<OneFile>, space: &mut OneFile, id: u64, value: &[u8]) -> Result<(), RecErr>
     requires { space.old.sound ≡ true }
     ensures { OnOk result (space.new.sound ≡ true) }
 {
@@ -19,7 +19,7 @@ fn put(fixed: &mut Fixed<Scratch>, space: &mut Scratch, id: u64, value: &[u8]) -
 }
 
 // Two cells of three bytes, the second with the value of no bytes.
-fn two(alloc: Global, space: &mut Scratch) -> Result<Fixed<Scratch>, RecErr>
+fn two(alloc: Global, space: &mut OneFile) -> Result<Fixed<OneFile>, RecErr>
     requires { space.old.sound ≡ true }
     ensures { OnOk result (space.new.sound ≡ true) }
 {
@@ -37,7 +37,7 @@ fn behind(bytes: &[u8], at: usize) -> &[u8] {
 
 // Why a file of these bytes isn't opened.
 fn refusal(alloc: Global, bytes: &[u8]) -> Result<Option<OpenErr>, AllocError> {
-    let mut space = Scratch::new(alloc, bytes)?;
+    let mut space = OneFile::new(alloc, bytes)?;
     match Fixed::open(alloc, &mut space) {
         Ok(_) => Ok(None),
         Err(e) => Ok(Some(e)),
@@ -70,7 +70,7 @@ fn broken(number: u8) -> Option<OpenErr> {
 
 #[test]
 fn cells_have_their_bytes(rt: HostRuntime) -> Result<(), Fail> {
-    let mut space = Scratch::new(rt.alloc(), b"")?;
+    let mut space = OneFile::new(rt.alloc(), b"")?;
     let made = two(rt.alloc(), &mut space);
     assert!(&rt; made.is_ok());
     assert_eq!(&rt; space.bytes().len(), 264);
@@ -90,7 +90,7 @@ fn cells_have_their_bytes(rt: HostRuntime) -> Result<(), Fail> {
 
 #[test]
 fn cells_passed_over_are_cleared(rt: HostRuntime) -> Result<(), Fail> {
-    let mut space = Scratch::new(rt.alloc(), b"")?;
+    let mut space = OneFile::new(rt.alloc(), b"")?;
     if let Ok(mut fixed) = two(rt.alloc(), &mut space) {
         let done = put(&mut fixed, &mut space, 5, b"z");
         assert_eq!(&rt; done, Ok(()));
@@ -106,7 +106,7 @@ fn cells_passed_over_are_cleared(rt: HostRuntime) -> Result<(), Fail> {
 
 #[test]
 fn each_rule_has_its_file(rt: HostRuntime) -> Result<(), Fail> {
-    let mut space = Scratch::new(rt.alloc(), b"")?;
+    let mut space = OneFile::new(rt.alloc(), b"")?;
     let made = two(rt.alloc(), &mut space);
     assert!(&rt; made.is_ok());
     let bytes = Vec::from_slice(rt.alloc(), space.bytes())?;
@@ -127,21 +127,21 @@ fn each_rule_has_its_file(rt: HostRuntime) -> Result<(), Fail> {
 }
 
 // A value, as a list of bytes.
-fn value(fixed: &mut Fixed<Scratch>, space: &mut Scratch, id: u64) -> Result<Option<Blob>, RecErr>
+fn value(fixed: &mut Fixed<OneFile>, space: &mut OneFile, id: u64) -> Result<Option<Blob>, RecErr>
     requires { space.old.sound ≡ true }
     ensures { space.new.sound ≡ true }
 {
     fixed.get(space, id)
 }
 
-fn long(fixed: &mut Fixed<Scratch>, space: &mut Scratch, id: u64) -> Result<Option<u64>, RecErr>
+fn long(fixed: &mut Fixed<OneFile>, space: &mut OneFile, id: u64) -> Result<Option<u64>, RecErr>
     requires { space.old.sound ≡ true }
     ensures { space.new.sound ≡ true }
 {
     fixed.value_len(space, id)
 }
 
-fn out(fixed: &mut Fixed<Scratch>, space: &mut Scratch, id: u64) -> Result<bool, RecErr>
+fn out(fixed: &mut Fixed<OneFile>, space: &mut OneFile, id: u64) -> Result<bool, RecErr>
     requires { space.old.sound ≡ true }
     ensures { OnOk result (space.new.sound ≡ true) }
 {
@@ -154,7 +154,7 @@ fn out(fixed: &mut Fixed<Scratch>, space: &mut Scratch, id: u64) -> Result<bool,
 
 #[test]
 fn ids_are_read_and_taken_out(rt: HostRuntime) -> Result<(), Fail> {
-    let mut space = Scratch::new(rt.alloc(), b"")?;
+    let mut space = OneFile::new(rt.alloc(), b"")?;
     let Ok(mut fixed) = two(rt.alloc(), &mut space) else {
         assert!(&rt; false);
         return Ok(());

@@ -3,5 +3,3 @@
 
 #[cfg(test)]
 mod arrays;
-#[cfg(test)]
-mod scratch;

@@ -3,5 +3,3 @@
 
 #[cfg(test)]
 mod records;
-#[cfg(test)]
-mod scratch;

@@ -1,14 +1,14 @@
 ghost use Rattle.std.specs.Prelude.{◌≡◌, true, IfOk, OnOk};
 
-use crate::scratch::Scratch;
 use std::alloc::Global;
 use std::test::Fail;
 use tc_base::{Blob, Blobs, Mode, Steps};
 use tc_hash::Hash;
 use tc_space::{PutErr, RecErr};
+use tc_stores::OneFile;
 
 // An empty file with three buckets and a unit of 16.
-fn created(alloc: Global, space: &mut Scratch) -> Result<Hash<Scratch>, RecErr>
+fn created(alloc: Global, space: &mut OneFile) -> Result<Hash<OneFile>, RecErr>
     requires { space.old.sound ≡ true }
     ensures { OnOk result (space.new.sound ≡ true) }
 {
@@ -16,8 +16,8 @@ fn created(alloc: Global, space: &mut Scratch) -> Result<Hash<Scratch>, RecErr>
 }
 
 fn put(
-    hash: &mut Hash<Scratch>,
-    space: &mut Scratch,
+    hash: &mut Hash<OneFile>,
+    space: &mut OneFile,
     key: &[u8],
     value: &[u8],
     mode: Mode,
@@ -32,7 +32,7 @@ fn put(
     }
 }
 
-fn out(hash: &mut Hash<Scratch>, space: &mut Scratch, key: &[u8]) -> Result<bool, RecErr>
+fn out(hash: &mut Hash<OneFile>, space: &mut OneFile, key: &[u8]) -> Result<bool, RecErr>
     requires { space.old.sound ≡ true }
     ensures { OnOk result (space.new.sound ≡ true) }
 {
@@ -46,8 +46,8 @@ fn out(hash: &mut Hash<Scratch>, space: &mut Scratch, key: &[u8]) -> Result<bool
 
 // The value of a key, and the steps to it.
 fn get(
-    hash: &mut Hash<Scratch>,
-    space: &mut Scratch,
+    hash: &mut Hash<OneFile>,
+    space: &mut OneFile,
     key: &[u8],
 ) -> Result<(Option<Blob>, u64), RecErr>
     requires { space.old.sound ≡ true }
@@ -60,7 +60,7 @@ fn get(
     }
 }
 
-fn len(hash: &mut Hash<Scratch>, space: &mut Scratch, key: &[u8]) -> Result<Option<u64>, RecErr>
+fn len(hash: &mut Hash<OneFile>, space: &mut OneFile, key: &[u8]) -> Result<Option<u64>, RecErr>
     requires { space.old.sound ≡ true }
     ensures { OnOk result (space.new.sound ≡ true) }
 {
@@ -71,7 +71,7 @@ fn len(hash: &mut Hash<Scratch>, space: &mut Scratch, key: &[u8]) -> Result<Opti
     }
 }
 
-fn keys(hash: &mut Hash<Scratch>, space: &mut Scratch) -> Result<Blobs, RecErr>
+fn keys(hash: &mut Hash<OneFile>, space: &mut OneFile) -> Result<Blobs, RecErr>
     requires { space.old.sound ≡ true }
     ensures { OnOk result (space.new.sound ≡ true) }
 {
@@ -82,7 +82,7 @@ fn keys(hash: &mut Hash<Scratch>, space: &mut Scratch) -> Result<Blobs, RecErr>
     }
 }
 
-fn settle(hash: &mut Hash<Scratch>, space: &mut Scratch) -> Result<(), RecErr>
+fn settle(hash: &mut Hash<OneFile>, space: &mut OneFile) -> Result<(), RecErr>
     requires { space.old.sound ≡ true }
     ensures { OnOk result (space.new.sound ≡ true) }
 {
@@ -93,7 +93,7 @@ fn settle(hash: &mut Hash<Scratch>, space: &mut Scratch) -> Result<(), RecErr>
 }
 
 // So many bytes of the file from a place on; fewer where it ends.
-fn bytes_at(space: &Scratch, at: usize, count: usize) -> &[u8] {
+fn bytes_at(space: &OneFile, at: usize, count: usize) -> &[u8] {
     let all = space.bytes();
     let from = at.min(all.len());
     let to = from.saturating_add(count).min(all.len());
@@ -109,7 +109,7 @@ fn is(found: &Option<Blob>, value: &[u8]) -> bool {
 
 #[test]
 fn a_record_stands_in_its_bucket(rt: HostRuntime) -> Result<(), Fail> {
-    let mut space = Scratch::new(rt.alloc(), &[])?;
+    let mut space = OneFile::new(rt.alloc(), &[])?;
     let mut hash = created(rt.alloc(), &mut space)?;
     put(&mut hash, &mut space, b"a", b"1", Mode::Over)?;
     settle(&mut hash, &mut space)?;
@@ -129,7 +129,7 @@ fn a_record_stands_in_its_bucket(rt: HostRuntime) -> Result<(), Fail> {
 
 #[test]
 fn a_key_hangs_below_another(rt: HostRuntime) -> Result<(), Fail> {
-    let mut space = Scratch::new(rt.alloc(), &[])?;
+    let mut space = OneFile::new(rt.alloc(), &[])?;
     let mut hash = created(rt.alloc(), &mut space)?;
     put(&mut hash, &mut space, b"a", b"1", Mode::Over)?;
     put(&mut hash, &mut space, b"d", b"4", Mode::Over)?;
@@ -154,7 +154,7 @@ fn a_key_hangs_below_another(rt: HostRuntime) -> Result<(), Fail> {
 
 #[test]
 fn a_block_is_given_back_and_taken_again(rt: HostRuntime) -> Result<(), Fail> {
-    let mut space = Scratch::new(rt.alloc(), &[])?;
+    let mut space = OneFile::new(rt.alloc(), &[])?;
     let mut hash = created(rt.alloc(), &mut space)?;
     put(&mut hash, &mut space, b"a", b"1", Mode::Over)?;
     put(&mut hash, &mut space, b"b", b"2", Mode::Over)?;
@@ -178,7 +178,7 @@ fn a_block_is_given_back_and_taken_again(rt: HostRuntime) -> Result<(), Fail> {
 
 #[test]
 fn a_value_is_kept_joined_or_replaced(rt: HostRuntime) -> Result<(), Fail> {
-    let mut space = Scratch::new(rt.alloc(), &[])?;
+    let mut space = OneFile::new(rt.alloc(), &[])?;
     let mut hash = created(rt.alloc(), &mut space)?;
     put(&mut hash, &mut space, b"a", b"one", Mode::Keep)?;
     put(&mut hash, &mut space, b"a", b", two", Mode::Cat)?;
@@ -212,7 +212,7 @@ fn a_value_is_kept_joined_or_replaced(rt: HostRuntime) -> Result<(), Fail> {
 
 #[test]
 fn keys_come_in_order(rt: HostRuntime) -> Result<(), Fail> {
-    let mut space = Scratch::new(rt.alloc(), &[])?;
+    let mut space = OneFile::new(rt.alloc(), &[])?;
     let mut hash = created(rt.alloc(), &mut space)?;
     put(&mut hash, &mut space, b"pear", b"1", Mode::Over)?;
     put(&mut hash, &mut space, b"apple", b"2", Mode::Over)?;

@@ -6,6 +6,4 @@ mod pools;
 #[cfg(test)]
 mod rounds;
 #[cfg(test)]
-mod scratch;
-#[cfg(test)]
 mod walks;

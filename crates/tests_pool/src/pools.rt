@@ -1,13 +1,13 @@
 ghost use Rattle.std.specs.Prelude.{◌≡◌, true, IfOk, OnOk};
 ghost use Rattle.hf_block.specs.Rows.{StandInRow};
 
-use crate::scratch::Scratch;
 use hf_block::{BlockAt, Blocks};
 use hf_pool::Pool;
 use std::alloc::{AllocError, Global};
 use std::test::Fail;
 use tc_base::Blob;
 use tc_space::{RecErr, Space};
+use tc_stores::OneFile;
 
 fn block(place: u64, size: u64, free: bool) -> BlockAt
     ensures { result ≡ record { place = place; size = size; free = free } }
@@ -28,7 +28,7 @@ fn four(alloc: Global) -> Result<Blocks, AllocError>
 }
 
 // A block of that size, where the sum still fits.
-fn take(pool: &mut Pool, space: &mut Scratch, size: u64) -> Result<u64, RecErr>
+fn take(pool: &mut Pool, space: &mut OneFile, size: u64) -> Result<u64, RecErr>
     requires { space.old.sound ≡ true }
     ensures { OnOk result (space.new.sound ≡ true) }
 {
@@ -39,7 +39,7 @@ fn take(pool: &mut Pool, space: &mut Scratch, size: u64) -> Result<u64, RecErr>
 }
 
 // A block given back, where it meets no free one.
-fn give(pool: &mut Pool, space: &mut Scratch, at: u64, size: u64) -> Result<(), RecErr>
+fn give(pool: &mut Pool, space: &mut OneFile, at: u64, size: u64) -> Result<(), RecErr>
     requires { space.old.sound ≡ true }
     ensures { OnOk result (space.new.sound ≡ true) }
 {
@@ -70,7 +70,7 @@ fn zeros(bytes: &[u8]) -> bool {
 fn blocks_are_taken_and_given(rt: HostRuntime) -> Result<(), Fail> {
     let blocks = four(rt.alloc())?;
     let mut pool = Pool::build(rt.alloc(), &blocks, 16, 336, 432)?;
-    let mut space = Scratch::new(rt.alloc(), &[1; 432])?;
+    let mut space = OneFile::new(rt.alloc(), &[1; 432])?;
     let bytes = section(rt.alloc(), &pool)?;
     let (front, rest) = bytes.as_slice().split_at(4.min(bytes.len()));
     assert_eq!(&rt; front, b"\x15\x02\x04\x01".as_slice());
@@ -116,7 +116,7 @@ fn blocks_are_taken_and_given(rt: HostRuntime) -> Result<(), Fail> {
 fn free_blocks_at_the_end_are_dropped(rt: HostRuntime) -> Result<(), Fail> {
     let blocks = four(rt.alloc())?;
     let mut pool = Pool::build(rt.alloc(), &blocks, 16, 336, 432)?;
-    let mut space = Scratch::new(rt.alloc(), &[1; 432])?;
+    let mut space = OneFile::new(rt.alloc(), &[1; 432])?;
     pool.trim();
     assert_eq!(&rt; pool.size(), 432);
     let given = give(&mut pool, &mut space, 416, 16);

@@ -1,7 +1,6 @@
 //! A pool is what a walk over its file finds, after each record that is written and each block that is given back.
 ghost use Rattle.std.specs.Prelude.{◌≡◌, true, IfOk, OnOk};
 
-use crate::scratch::Scratch;
 use hf_block::{WalkErr, walk, write_rec};
 use hf_head::Head;
 use hf_pool::Pool;
@@ -9,6 +8,7 @@ use std::alloc::{AllocError, Global};
 use std::test::Fail;
 use tc_base::Blob;
 use tc_space::{RecErr, Space};
+use tc_stores::OneFile;
 
 // A hash file of three buckets whose blocks end at a size.
 fn head(size: u64) -> Head {
@@ -27,7 +27,7 @@ fn head(size: u64) -> Head {
 
 // The pool that a walk up to a size finds.
 fn found(alloc: Global, bytes: &[u8], size: u64) -> Result<Pool, WalkErr> {
-    let mut space = Scratch::new(alloc, bytes)?;
+    let mut space = OneFile::new(alloc, bytes)?;
     let Ok(head) = Head::read(&head(size).write()) else {
         return Err(WalkErr::Fault);
     };
@@ -65,7 +65,7 @@ fn record(alloc: Global, size: usize) -> Result<Blob, AllocError> {
 fn put(
     alloc: Global,
     pool: &mut Pool,
-    space: &mut Scratch,
+    space: &mut OneFile,
     size: u64,
     place: u64,
 ) -> Result<bool, RecErr>
@@ -82,7 +82,7 @@ fn put(
 }
 
 // A block given back.
-fn give(pool: &mut Pool, space: &mut Scratch, at: u64, size: u64) -> Result<bool, RecErr>
+fn give(pool: &mut Pool, space: &mut OneFile, at: u64, size: u64) -> Result<bool, RecErr>
     requires { space.old.sound ≡ true }
     ensures { IfOk result (λ done. done ≡ true → space.new.sound ≡ true) }
 {
@@ -119,7 +119,7 @@ fn a_walk_finds_the_pool_again(rt: HostRuntime) -> Result<(), Fail> {
     let alloc = rt.alloc();
     let bytes = file(alloc)?;
     let mut pool = found(alloc, bytes.as_slice(), 512)?;
-    let mut space = Scratch::new(alloc, bytes.as_slice())?;
+    let mut space = OneFile::new(alloc, bytes.as_slice())?;
     let puts = [(32, 464), (64, 336), (48, 512), (16, 432)];
     let gives = [(400, 32), (448, 16), (464, 32), (336, 64), (512, 48)];
     for (size, place) in puts {

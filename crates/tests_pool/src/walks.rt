@@ -1,11 +1,11 @@
 ghost use Rattle.std.specs.Prelude.{◌≡◌, true};
 
-use crate::scratch::Scratch;
 use hf_block::{BlockAt, Blocks, WHOLE_BLOCKS, WalkErr, walk, write_rec};
 use hf_head::Head;
 use std::alloc::{AllocError, Global};
 use std::test::Fail;
 use tc_base::Blob;
+use tc_stores::OneFile;
 
 // A hash file of three buckets whose blocks end at a size.
 fn head(size: u64) -> Head {
@@ -27,7 +27,7 @@ fn listed(alloc: Global, blocks: &[u8]) -> Result<Blocks, WalkErr> {
     let mut bytes = Blob::new(alloc);
     bytes.append(&[0; 336])?;
     bytes.append(blocks)?;
-    let mut space = Scratch::new(alloc, bytes.as_slice())?;
+    let mut space = OneFile::new(alloc, bytes.as_slice())?;
     match Head::read(&head(bytes.len() as u64).write()) {
         Ok(head) => walk(alloc, &mut space, 0, &head),
         Err(_) => Err(WalkErr::Fault),

@@ -1,13 +1,15 @@
-//! A space of one file in memory, which tells nothing.
+//! A space of one file in memory, written in place, which tells nothing.
+ghost use Rattle.std.specs.Prelude.{◌≡◌, true, IfOk};
+
 use std::alloc::{AllocError, Global};
 use tc_base::Fault;
 use tc_space::{Space, SpaceErr};
 
-const MOST: u64 = 1 << 32;
+const MOST: u64 = 1 << 40;
 
-/// One file, read and written in place.
+/// File 0; every other file is that one too.
 #[derive(Drop)]
-pub struct Scratch {
+pub struct OneFile {
     bytes: Vec<u8>,
     sound: bool,
     touched: bool,
@@ -15,20 +17,33 @@ pub struct Scratch {
     faults: u64,
 }
 
-impl Scratch {
-    pub fn new(alloc: Global, bytes: &[u8]) -> Result<Scratch, AllocError>
-        ensures { IfOk result (λ s. s.sound ≡ true) }
+impl OneFile {
+    /// A sound space of these bytes, made without taking memory.
+    pub fn of(bytes: Vec<u8>) -> OneFile
+        ensures sound { result.sound ≡ true }
+        ensures bytes { result.bytes ≡ bytes }
     {
-        Ok(Scratch {
-            bytes: Vec::from_slice(alloc, bytes)?,
+        OneFile {
+            bytes,
             sound: true,
             touched: false,
             read: 0,
             faults: 0,
-        })
+        }
     }
 
-    pub fn bytes(&self) -> &[u8] {
+    /// A sound space of a copy of these bytes.
+    pub fn new(alloc: Global, bytes: &[u8]) -> Result<OneFile, AllocError>
+        ensures sound { IfOk result (λ space. space.sound ≡ true) }
+        ensures bytes { IfOk result (λ space. space.bytes.items ≡ bytes.now) }
+    {
+        Ok(OneFile::of(Vec::from_slice(alloc, bytes)?))
+    }
+
+    /// The bytes of the file now.
+    pub fn bytes(&self) -> &[u8]
+        ensures { result.now ≡ self.now.bytes.items }
+    {
         self.bytes.as_slice()
     }
 }
@@ -47,9 +62,7 @@ fn put(file: &mut Vec<u8>, at: u64, bytes: &[u8]) -> Result<(), AllocError> {
     Ok(())
 }
 
-ghost use Rattle.std.specs.Prelude.{◌≡◌, true, IfOk};
-
-impl Space for Scratch {
+impl Space for OneFile {
     ghost use Rattle.std.specs.Prelude.{[], Some, None, ℕ, List, Option, true};
     ghost use Rattle.std.proofs.Common.{refl};
     ghost use Rattle.tc_base.specs.Files.{Files};
@@ -71,7 +84,7 @@ impl Space for Scratch {
 
     ghost touched = { λ s. s.touched };
 
-    ghost limit = { λ _ f. 4294967296 };
+    ghost limit = { λ _ f. 1099511627776 };
 
     ghost names = { λ _. None };
 
@@ -107,11 +120,9 @@ impl Space for Scratch {
     fn read(&mut self, file: u32, at: u64, into: &mut [u8]) -> Result<(), Fault> {
         let _ = file;
         self.read = self.read.saturating_add(into.len() as u64);
-        for (i, b) in into.iter_mut().enumerate() {
-            if let Some(there) = self.bytes.get((at as usize).wrapping_add(i)) {
-                *b = *there;
-            }
-        }
+        let from = (at as usize).min(self.bytes.len());
+        let n = into.len().min(self.bytes.len() - from);
+        into[..n].copy_from_slice(&self.bytes[from..from + n]);
         Ok(())
     }
 
@@ -127,7 +138,6 @@ impl Space for Scratch {
             self.faults = self.faults.saturating_add(1);
             return Err(SpaceErr::Fault);
         }
-        self.touched = true;
         Ok(())
     }
 
