@@ -1,0 +1,12 @@
+pub mod Asked
+pub mod Counted
+pub mod Dropped
+pub mod Filled
+pub mod Kept
+pub mod Listed
+pub mod Made
+pub mod Setting
+pub mod Settled
+pub mod Several
+pub mod Stored
+pub mod Told

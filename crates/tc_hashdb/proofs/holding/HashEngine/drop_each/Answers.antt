@@ -1,0 +1,19 @@
+use Rattle.tc_space.specs.Frames.{keeps_then}
+use Rattle.tc_space.specs.Stores.{Only, ready_writes}
+use Rattle.tc_space.specs.declared.errors.RecErr.TheVariants.{Full}
+use Rattle.tc_hashdb.specs.Holding.{Means}
+use Rattle.tc_hashdb.proofs.Dropped.{fills_dropped, out_more}
+use Rattle.tc_hashdb.proofs.Stored.{same_refusal}
+use Rattle.tc_hashdb.proofs.holding.HashEngine.drop_each.Goals as goal
+
+pub drop_key-requires : goal.drop_key-requires
+drop_key-requires g c = record { ready = ready_writes g.S.Space (Means g.S.Space) (Only 0) _ _ _ _ _ c.loop-key.invariant.writes c.requires.ready }
+
+pub loop-key-preserved : goal.loop-key-preserved
+loop-key-preserved g c = record {
+  writes = out_more g.S.Space _ _ _ _ _ _ c.args.keys.now c.loop-key.key-index c.key-item.result c.as_slice.result.now c.loop-key-test.true c.key-item.is c.as_slice.ensures c.loop-key.invariant.writes c.in-Ok.ensures.out;
+  keeps = keeps_then g.S.Space _ _ _ c.loop-key.invariant.keeps c.drop_key.ensures.keeps;
+}
+
+pub returns-in-Err-clause-full : goal.returns-in-Err-clause-full
+returns-in-Err-clause-full g c = λ full. fills_dropped g.S.Space _ _ _ _ _ c.args.keys.now c.loop-key.key-index c.key-item.result c.as_slice.result.now c.as_slice.ensures c.loop-key.invariant.writes (c.in-Err.ensures.full (same_refusal c.in-Err.e Full full))

@@ -1,0 +1,68 @@
+-- Calls on the map, as the trait of engines says them.
+use Rattle.std.specs.Prelude.{◌≡◌, Bool, false, Option, Some, None, option_map, unwrap_or}
+use Rattle.std.proofs.Common.{◌∙◌, refl, sym, ap, subst, inl, inr, ⊎_elim, arith}
+use Rattle.tc_base.specs.Maps.{Map}
+use Rattle.tc_space.specs.Frames.{Others, Reads, Refuses}
+use Rattle.tc_space.specs.Stores.{Only}
+use Rattle.tc_space.specs.Stores as stores
+use Rattle.tc_space.specs.declared.space.Space.{Ghosts}
+use Rattle.tc_model.specs.Contents.{Contents, hash}
+use Rattle.ty_base.specs.Holding.{Held, IsReady, Stays}
+use Rattle.tc_engine.specs.Changes.{Change, wanted}
+use Rattle.tc_engine.specs.Effects.{IsFull, Makes}
+use Rattle.tc_hashdb.specs.declared.holding.HashEngine.{HashEngine}
+use Rattle.tc_hashdb.specs.Changing.{LacksRoomFor, Step, Takes, after}
+use Rattle.tc_hashdb.specs.Filling.{Fills}
+use Rattle.tc_hashdb.specs.Holding.{HoldsKeys, Means}
+
+-- a change of contents is a step of the map
+pub record IsStep (change : Change) (step : Step) (m : Map) : Type 0 where
+  pub is : change (hash false m) ≡ option_map (hash false) (step m)
+
+module _ {S : Type 0} (s : Ghosts S) where
+  -- the map that is held
+  pub means_of : (e : HashEngine S) (a : S) (c : Contents) (h : Held s HoldsKeys e a c) → Means s e a (h.1.map)
+  means_of e a c h = (h.0, h.1.holds_map)
+
+  pub held_again : (e : HashEngine S) (a : S) (m : Map) → Means s e a m → Held s HoldsKeys e a (hash false m)
+  held_again e a m means = (means.0, record { map = m; is = refl; holds_map = means.1 })
+
+  pub ready_down : (e : HashEngine S) (a : S) → IsReady s HoldsKeys e a → stores.IsReady s (Means s) e a
+  ready_down e a ready = record { sound = ready.sound; held = λ t. let h = ready.held t in (h.1.map, (t, h.1.holds_map)) }
+
+  pub reads_up : (e e' : HashEngine S) (a b : S) → Reads s (Means s) e e' a b → Reads s (Held s HoldsKeys) e e' a b
+  reads_up e e' a b reads = record {
+    now = reads.now;
+    touched = reads.touched;
+    sound = reads.sound;
+    means = λ c h. subst (λ d. Held s HoldsKeys e' b d) (sym h.1.is) (held_again e' b h.1.map (reads.means h.1.map (means_of e a c h)));
+  }
+
+  pub refuses_up : (e e' : HashEngine S) (a b : S) → Refuses s (Means s) e e' a b → Refuses s (Held s HoldsKeys) e e' a b
+  refuses_up e e' a b refuses = ⊎_elim (λ spoiled. inl spoiled) (λ reads. inr (reads_up e e' a b reads)) refuses
+
+  pub log_stays : (a b : S) → Others s (Only 0) a b → Stays s 2 a b
+  log_stays a b others = record { same = λ t. others.same t 2 (λ e. absurd (omega (arith, e))) }
+
+  pub made_up : (change : Change) (step : Step) (done : Bool) (e e' : HashEngine S) (a b : S) → Takes s step done e e' a b → ((m : Map) → IsStep change step m) → Makes s HoldsKeys change done e e' a b
+  made_up change step done e e' a b takes is_step = record {
+    sound = takes.sound;
+    log = log_stays a b takes.others;
+    made = λ yes c h.
+        let made = takes.made yes h.1.map (means_of e a c h) in
+        (hash false made.0, ap change h.1.is ∙ (is_step h.1.map).is ∙ ap (option_map (hash false)) made.1, held_again e' b made.0 made.2);
+    fails = λ not c h. ap change h.1.is ∙ (is_step h.1.map).is ∙ ap (option_map (hash false)) (takes.fails not h.1.map (means_of e a c h));
+    same = λ not. reads_up e e' a b (takes.same not);
+  }
+
+  wanted_is : (m : Map) (o : Option Map) → unwrap_or (option_map (hash false) o) (hash false m) ≡ hash false (unwrap_or o m)
+  wanted_is m None = refl
+  wanted_is m (Some n) = refl
+
+  pub full_up : (change : Change) (step : Step) (e : HashEngine S) (a b : S) → LacksRoomFor s step e a b → ((m : Map) → IsStep change step m) → IsFull s HoldsKeys (Fills s) change e a b
+  full_up change step e a b lacks is_step = record {
+    by = λ c h.
+        let m : Map = h.1.map in
+        let is : wanted change c ≡ hash false (after step m) = ap (wanted change) h.1.is ∙ (ap (λ o. unwrap_or o (hash false m)) (is_step m).is ∙ wanted_is m (step m)) in
+        subst (λ d. Fills s b c d) (sym is) (subst (λ d. Fills s b d (hash false (after step m))) (sym h.1.is) (inl (lacks.by m (means_of e a c h))));
+  }

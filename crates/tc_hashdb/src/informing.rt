@@ -1,0 +1,72 @@
+//! What an inspection tells of the file.
+ghost use Rattle.std.specs.Prelude.{◌≡◌, ◌≤◌, ◌++◌, ◌^◌, List, ℕ, length, take, IfOk, OnOk, OnErr, IsErrOf};
+ghost use Rattle.tc_io.specs.Causes.{Rose};
+ghost use Rattle.hf_head.specs.Heads.{IsValid, head_in};
+ghost use Rattle.tc_space.specs.Frames.{Keeps, OnlyReads};
+ghost use Rattle.tc_hash.specs.Opening.{HasHead};
+ghost use Rattle.ty_wire.specs.Prefixes.{IsPrefix};
+ghost use Rattle.tc_hashdb.specs.Informing.{form_line, line, lines_of};
+
+use hf_head::Head;
+use itoa::Buffer;
+use std::alloc::AllocError;
+use tc_base::Blob;
+use tc_space::{RecErr, Space};
+
+// Adds a line of a name and a number.
+fn add_line(name: &[u8], n: u64, into: &mut Blob) -> Result<(), AllocError>
+    ensures added { OnOk result (into.new ≡ into.old ++ line name.now n) }
+    ensures front { IsPrefix into.old into.new }
+{
+    let mut buffer = Buffer::new();
+    into.append(name)?;
+    into.append(buffer.format(n).as_bytes())?;
+    into.push(b'\n')?;
+    Ok(())
+}
+
+// Adds a line for the large form.
+fn add_form(large: bool, into: &mut Blob) -> Result<(), AllocError>
+    ensures added { OnOk result (into.new ≡ into.old ++ form_line large) }
+    ensures front { IsPrefix into.old into.new }
+{
+    if large {
+        into.append(b"option: large\n")?;
+    }
+    Ok(())
+}
+
+/// Adds the number of buckets, the unit, the power of the free block pool, the file size and the place of the first block, a line each; and one more for the
+/// large form.
+pub(crate) fn add_lines(head: &Head, into: &mut Blob) -> Result<(), AllocError>
+    requires { head.now.apow ≤ 16 }
+    ensures added { OnOk result (into.new ≡ into.old ++ lines_of head.now) }
+    ensures front { IsPrefix into.old into.new }
+{
+    add_line(b"bucket number: ", head.buckets, into)?;
+    add_line(b"alignment: ", head.unit(), into)?;
+    add_line(b"free pool power: ", u64::from(head.fpow), into)?;
+    add_line(b"file size: ", head.size, into)?;
+    add_line(b"first record: ", head.first, into)?;
+    add_form(head.is_large(), into)
+}
+
+/// The head of the file, which must have one.
+pub(crate) fn read_head<S: Space>(space: &mut S) -> Result<Option<Head>, RecErr>
+    requires sound { S.sound space.old }
+    requires head { S.tells → (h : Head) × HasHead 0 (S.now space.old 0) h }
+    ensures head { IfOk result (λ found. S.tells → (h : Head) × (found ≡ Some h) × (head_in (take 256 (S.now space.old 0)) ≡ h)) }
+    ensures valid { IfOk result (λ found. (h : Head) → found ≡ Some h → IsValid h) }
+    ensures reads { OnlyReads S.Space space.old space.new }
+    ensures cause { (IsErrOf result RecErr.Fault → Rose (S.faults space.old) (S.faults space.new)) × (IsErrOf result RecErr.Full → ⊥) }
+{
+    let mut bytes = [0; 256];
+    match space.read(0, 0, &mut bytes) {
+        Ok(()) => {}
+        Err(e) => return Err(RecErr::from(e)),
+    }
+    match Head::read(&bytes) {
+        Ok(head) => Ok(Some(head)),
+        Err(_) => Ok(None),
+    }
+}

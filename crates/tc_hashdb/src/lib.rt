@@ -1,0 +1,14 @@
+//! The engine of hash databases.
+#![tactic(auto)]
+
+mod counting;
+mod engine;
+mod holding;
+mod informing;
+mod listing;
+mod many;
+mod opening;
+mod reading;
+mod storing;
+
+pub use holding::HashEngine;

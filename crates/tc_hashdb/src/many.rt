@@ -1,0 +1,153 @@
+//! Changes of many keys.
+#![tactic(auto, using(tc_space::specs::Frames::keeps_refl, tc_space::specs::Frames::keeps_then))]
+
+ghost use Rattle.std.specs.Prelude.{◌≡◌, false, OnOk, OnErr, IfOk, IsErrOf};
+ghost use Rattle.std.specs.List.{list_all};
+ghost use Rattle.std.specs.FinMap.{empty, entries};
+ghost use Rattle.tc_base.specs.Maps.{Map};
+ghost use Rattle.tc_io.specs.Causes.{Rose};
+ghost use Rattle.tc_space.specs.Frames.{Keeps, Refuses, Writes};
+ghost use Rattle.tc_space.specs.Stores.{IsReady, Only};
+ghost use Rattle.tc_hashdb.specs.Changing.{after, all_out, all_set, is_short, last_values, out_one, set_entries, set_one};
+ghost use Rattle.tc_hashdb.specs.Filling.{FillsMap};
+ghost use Rattle.tc_hashdb.specs.Holding.{Means};
+
+use crate::holding::HashEngine;
+use std::alloc::{AllocError, Global};
+use tc_base::{Blob, Key, Mode, Pair, Pairs, VALUE_MOST};
+use tc_maps::Bytemap;
+use tc_space::{RecErr, Space};
+
+/// Whether no value is too long.
+pub(crate) fn are_short(pairs: &[Pair]) -> bool
+    ensures { result ≡ list_all is_short pairs.now }
+{
+    for pair in pairs {
+        if pair.value.len() > VALUE_MOST {
+            return false;
+        }
+    }
+    true
+}
+
+// The last value that pairs give each of their keys.
+fn last_of_each(alloc: Global, pairs: Pairs) -> Result<Bytemap, AllocError>
+    ensures { IfOk result (λ m. m ≡ last_values pairs) }
+{
+    let mut last = Bytemap::new(alloc);
+    for pair in pairs.into_vec() {
+        last.set(Key::new(pair.key), pair.value)?;
+    }
+    Ok(last)
+}
+
+// Why a call was refused behind others that wrote: the space isn't sound then.
+fn given_up<S: Space>(space: &mut S, cause: RecErr) -> RecErr
+    ensures spoiled { S.flag space.new ≡ false }
+    ensures keeps { Keeps S.Space space.old space.new }
+    ensures faults { S.faults space.new ≡ S.faults space.old }
+    ensures full { result ≡ RecErr.Full → (cause ≡ RecErr.Full) × (space.new ≡ space.old) }
+    ensures fault { result ≡ RecErr.Fault → cause ≡ RecErr.Fault }
+{
+    if !space.is_sound() {
+        return cause;
+    }
+    space.spoil();
+    // a space that met a limit isn't sound
+    if cause == RecErr::Full {
+        return RecErr::Memory;
+    }
+    cause
+}
+
+impl<S: Space> HashEngine<S> {
+    // Gives a key a value, whatever its length. After a refusal the space isn't sound.
+    fn set_value(&mut self, space: &mut S, key: &[u8], value: &[u8]) -> Result<(), RecErr>
+        requires ready { IsReady S.Space (Means S.Space) self.old space.old }
+        ensures set { OnOk result (Writes S.Space (Only 0) (Means S.Space) (λ m. set_one m key.now value.now) self.old self.new space.old space.new) }
+        ensures refused { OnErr result (S.flag space.new ≡ false) }
+        ensures full { IsErrOf result RecErr.Full → (m : Map) → Means S.Space self.old space.old m → FillsMap S.Space space.new m (set_one m key.now value.now) }
+        ensures keeps { Keeps S.Space space.old space.new }
+        ensures cause { IsErrOf result RecErr.Fault → Rose (S.faults space.old) (S.faults space.new) }
+    {
+        let old = match self.find_len(space, key) {
+            Ok(old) => old,
+            Err(e) => return Err(given_up(space, e)),
+        };
+        match self.put_value(space, Mode::Over, key, value, old, value.len() as u64) {
+            Ok(()) => Ok(()),
+            Err(e) => Err(given_up(space, e)),
+        }
+    }
+
+    // Gives each key of a map its value. After a refusal the space isn't sound.
+    fn set_entries(&mut self, space: &mut S, values: &Bytemap) -> Result<(), RecErr>
+        requires ready { IsReady S.Space (Means S.Space) self.old space.old }
+        ensures set { OnOk result (Writes S.Space (Only 0) (Means S.Space) (λ m. set_entries m (entries values.now)) self.old self.new space.old space.new) }
+        ensures refused { OnErr result (S.flag space.new ≡ false) }
+        ensures full { IsErrOf result RecErr.Full → (m : Map) → Means S.Space self.old space.old m → FillsMap S.Space space.new m (set_entries m (entries values.now)) }
+        ensures keeps { Keeps S.Space space.old space.new }
+        ensures cause { IsErrOf result RecErr.Fault → Rose (S.faults space.old) (S.faults space.new) }
+    {
+        let least = Key::new(Blob::new(self.alloc));
+        for (key, value) in values.entries_from(&least) {
+            match self.set_value(space, key.as_slice(), value.as_slice()) {
+                Ok(()) => {}
+                Err(e) => return Err(e),
+            }
+        }
+        Ok(())
+    }
+
+    /// Gives each key its value, one pair after the other; of several values of a key only the last is written. After a refusal the space isn't sound, or
+    /// nothing has changed.
+    pub(crate) fn set_all(&mut self, space: &mut S, pairs: Pairs) -> Result<(), RecErr>
+        requires ready { IsReady S.Space (Means S.Space) self.old space.old }
+        ensures set { OnOk result (Writes S.Space (Only 0) (Means S.Space) (all_set pairs) self.old self.new space.old space.new) }
+        ensures refused { OnErr result (Refuses S.Space (Means S.Space) self.old self.new space.old space.new) }
+        ensures full { IsErrOf result RecErr.Full → (m : Map) → Means S.Space self.old space.old m → FillsMap S.Space space.new m (all_set pairs m) }
+        ensures keeps { Keeps S.Space space.old space.new }
+        ensures cause { IsErrOf result RecErr.Fault → Rose (S.faults space.old) (S.faults space.new) }
+    {
+        let Ok(values) = last_of_each(self.alloc, pairs) else {
+            return Err(RecErr::Memory);
+        };
+        match self.set_entries(space, &values) {
+            Ok(()) => Ok(()),
+            Err(e) => Err(e),
+        }
+    }
+
+    // Takes a key out, if it is held. After a refusal the space isn't sound.
+    fn drop_key(&mut self, space: &mut S, key: &[u8]) -> Result<(), RecErr>
+        requires ready { IsReady S.Space (Means S.Space) self.old space.old }
+        ensures out { OnOk result (Writes S.Space (Only 0) (Means S.Space) (λ m. out_one m key.now) self.old self.new space.old space.new) }
+        ensures refused { OnErr result (S.flag space.new ≡ false) }
+        ensures full { IsErrOf result RecErr.Full → (m : Map) → Means S.Space self.old space.old m → FillsMap S.Space space.new m (out_one m key.now) }
+        ensures keeps { Keeps S.Space space.old space.new }
+        ensures cause { IsErrOf result RecErr.Fault → Rose (S.faults space.old) (S.faults space.new) }
+    {
+        match self.out_at(space, key) {
+            Ok(_) => Ok(()),
+            Err(e) => Err(given_up(space, e)),
+        }
+    }
+
+    /// Takes each key out that is held. After a refusal the space isn't sound.
+    pub(crate) fn drop_each(&mut self, space: &mut S, keys: &[Blob]) -> Result<(), RecErr>
+        requires ready { IsReady S.Space (Means S.Space) self.old space.old }
+        ensures out { OnOk result (Writes S.Space (Only 0) (Means S.Space) (all_out keys.now) self.old self.new space.old space.new) }
+        ensures refused { OnErr result (S.flag space.new ≡ false) }
+        ensures full { IsErrOf result RecErr.Full → (m : Map) → Means S.Space self.old space.old m → FillsMap S.Space space.new m (all_out keys.now m) }
+        ensures keeps { Keeps S.Space space.old space.new }
+        ensures cause { IsErrOf result RecErr.Fault → Rose (S.faults space.old) (S.faults space.new) }
+    {
+        for key in keys {
+            match self.drop_key(space, key.as_slice()) {
+                Ok(()) => {}
+                Err(e) => return Err(e),
+            }
+        }
+        Ok(())
+    }
+}
