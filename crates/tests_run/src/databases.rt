@@ -79,15 +79,23 @@ const BY_NAME: &[Case] = &[
     },
 ];
 
-const MAPS: &[Case] = &[
-    Case {
-        name: "contents are counted",
-        input: &[b"\xC8\x10\0\0\0\x01\0\0\0\x01a1", b"\xC8\x88"],
-        sent: &[
-            b"\0",
-            b"\0\0\0\0\x22type\ton-memory hash\nrnum\t1\nsize\t2\n",
-        ],
-    },
+const MAPS: &[Case] = &[Case {
+    name: "contents are counted",
+    input: &[b"\xC8\x10\0\0\0\x01\0\0\0\x01a1", b"\xC8\x88"],
+    sent: &[
+        b"\0",
+        b"\0\0\0\0\x22type\ton-memory hash\nrnum\t1\nsize\t2\n",
+    ],
+}];
+
+const STORED: &[Case] = &[Case {
+    name: "contents are counted",
+    input: &[b"\xC8\x10\0\0\0\x01\0\0\0\x01a1", b"\xC8\x88"],
+    sent: &[b"\0", b"\0\0\0\0\x18type\thash\nrnum\t1\nsize\t2\n"],
+}];
+
+// Asked of maps, in memory and in files.
+const ANY_MAP: &[Case] = &[
     Case {
         name: "a later value of a list takes the place of an earlier one",
         input: &[
@@ -195,7 +203,7 @@ const TREES: &[Case] = &[
 #[test]
 fn requests_by_name_are_answered(rt: HostRuntime) -> Result<(), Fail> {
     let alloc = rt.alloc();
-    for database in ["*", "+"] {
+    for database in ["*", "+", "h.tch"] {
         assert_eq!(rt;
             first_wrong(alloc, database, BY_NAME)?,
             None,
@@ -210,6 +218,9 @@ fn requests_by_name_are_answered(rt: HostRuntime) -> Result<(), Fail> {
 fn each_kind_has_its_way(rt: HostRuntime) -> Result<(), Fail> {
     let alloc = rt.alloc();
     assert_eq!(rt; first_wrong(alloc, "*", MAPS)?, None);
+    assert_eq!(rt; first_wrong(alloc, "h.tch", STORED)?, None);
+    assert_eq!(rt; first_wrong(alloc, "*", ANY_MAP)?, None);
+    assert_eq!(rt; first_wrong(alloc, "h.tch", ANY_MAP)?, None);
     assert_eq!(rt; first_wrong(alloc, "+", TREES)?, None);
     Ok(())
 }

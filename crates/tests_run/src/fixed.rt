@@ -1,8 +1,8 @@
 //! A fixed-length database in files: its bytes, what it answers, and the rules that files break.
-use crate::played::{Ended, alone, joined, ran_over, words};
+use crate::damages::{Damage, is_named};
+use crate::played::{joined, piped, volume_of};
 use std::alloc::{AllocError, Global};
 use std::test::Fail;
-use tc_io::MemVolume;
 
 // A file of values of up to three bytes, with a limit of 2^28 bytes: so many records, its size, and the least and the greatest id.
 pub fn head(records: u8, size: [u8; 2], least: u8, greatest: u8) -> [u8; 256] {
@@ -33,14 +33,6 @@ fn file_of(alloc: Global, head: &[u8; 256], cells: &[u8]) -> Result<Vec<u8>, All
 // The file of these two.
 pub fn two(alloc: Global) -> Result<Vec<u8>, AllocError> {
     file_of(alloc, &head(2, [8, 1], 1, 2), CELLS)
-}
-
-// What `pipe` makes of a file with this input.
-pub fn piped(alloc: Global, file: &[u8], input: &[u8]) -> Result<Ended, AllocError> {
-    let mut vol = MemVolume::new(alloc)?;
-    vol.load(0, file)?;
-    let order = words(alloc, &["pipe", "f.tcf"])?;
-    Ok(ran_over(alloc, &order, vol, alone(alloc, input, 4096)?))
 }
 
 // A file, what is asked of it, what is answered, and what stands in the file then.
@@ -162,7 +154,8 @@ fn is_row(alloc: Global, row: &Row) -> Result<bool, AllocError> {
     let file = file_of(alloc, &row.head, row.cells)?;
     let left = file_of(alloc, &row.left_head, row.left_cells)?;
     let sent = joined(alloc, row.sent)?;
-    let end = piped(alloc, &file, &joined(alloc, row.input)?)?;
+    let vol = volume_of(alloc, &file)?;
+    let end = piped(alloc, "f.tcf", vol, &joined(alloc, row.input)?)?;
     Ok(
         end.status == 0
             && end.wire.sent(0) == sent.as_slice()
@@ -180,74 +173,86 @@ fn a_file_has_its_bytes(rt: HostRuntime) -> Result<(), Fail> {
     Ok(())
 }
 
-// A byte of the file of two values changed, or the file cut to a length, and the rule that it then breaks first.
-#[derive(Drop)]
-struct Damage {
-    place: usize,
-    byte: u8,
-    length: usize,
-    line: &'static [u8],
-}
-
-fn changed(place: usize, byte: u8, line: &'static [u8]) -> Damage {
-    Damage {
-        place,
-        byte,
-        length: 264,
-        line,
-    }
-}
-
-fn damages() -> [Damage; 10] {
+fn damages() -> [Damage; 11] {
     [
-        changed(0, 0, b"tokyo: broken: file 0 rule F1\n"),
-        changed(32, 0, b"tokyo: broken: file 0 rule F1\n"),
-        changed(36, 2, b"tokyo: broken: file 0 rule F1\n"),
-        changed(88, 3, b"tokyo: broken: file 0 rule F1\n"),
         Damage {
-            place: 33,
-            byte: 0,
+            name: "another magic",
+            edits: &[(0, 0)],
+            length: 264,
+            line: b"tokyo: broken: file 0 rule F1\n",
+        },
+        Damage {
+            name: "the type of a hash file",
+            edits: &[(32, 0)],
+            length: 264,
+            line: b"tokyo: broken: file 0 rule F1\n",
+        },
+        Damage {
+            name: "an option",
+            edits: &[(36, 2)],
+            length: 264,
+            line: b"tokyo: broken: file 0 rule F1\n",
+        },
+        Damage {
+            name: "the large form, which it doesn't have",
+            edits: &[(36, 1)],
+            length: 264,
+            line: b"tokyo: broken: file 0 rule F1\n",
+        },
+        Damage {
+            name: "a greatest id that the size isn't that of",
+            edits: &[(88, 3)],
+            length: 264,
+            line: b"tokyo: broken: file 0 rule F1\n",
+        },
+        Damage {
+            name: "a byte less than a head",
+            edits: &[],
             length: 255,
             line: b"tokyo: broken: file 0 rule F1\n",
         },
         Damage {
-            place: 33,
-            byte: 0,
+            name: "a byte less than its size",
+            edits: &[],
             length: 263,
             line: b"tokyo: broken: file 0 rule F2\n",
         },
-        changed(256, 4, b"tokyo: broken: file 0 rule F3\n"),
-        changed(261, 2, b"tokyo: broken: file 0 rule F3\n"),
-        changed(48, 3, b"tokyo: broken: file 0 rule F4\n"),
-        changed(80, 2, b"tokyo: broken: file 0 rule F5\n"),
+        Damage {
+            name: "a value longer than the width",
+            edits: &[(256, 4)],
+            length: 264,
+            line: b"tokyo: broken: file 0 rule F3\n",
+        },
+        Damage {
+            name: "a value of no bytes marked otherwise",
+            edits: &[(261, 2)],
+            length: 264,
+            line: b"tokyo: broken: file 0 rule F3\n",
+        },
+        Damage {
+            name: "a wrong count",
+            edits: &[(48, 3)],
+            length: 264,
+            line: b"tokyo: broken: file 0 rule F4\n",
+        },
+        Damage {
+            name: "a wrong least id",
+            edits: &[(80, 2)],
+            length: 264,
+            line: b"tokyo: broken: file 0 rule F5\n",
+        },
     ]
-}
-
-// Whether the run names the rule, and leaves the file as it was.
-fn is_named(alloc: Global, damage: &Damage) -> Result<bool, AllocError> {
-    let mut file = two(alloc)?;
-    let Some(byte) = file.get_mut(damage.place) else {
-        return Ok(false);
-    };
-    *byte = damage.byte;
-    file.truncate(damage.length);
-    let end = piped(alloc, &file, b"\xC8\x10\0\0\0\x01\0\0\0\x011x")?;
-    Ok(
-        end.status == 4
-            && end.line.bytes() == damage.line
-            && end.wire.sent(0).is_empty()
-            && end.vol.bytes(0) == file.as_slice(),
-    )
 }
 
 #[test]
 fn the_first_broken_rule_is_named(rt: HostRuntime) -> Result<(), Fail> {
+    let put = b"\xC8\x10\0\0\0\x01\0\0\0\x011x";
     for damage in damages().iter() {
+        let file = two(rt.alloc())?;
         assert!(&rt;
-            is_named(rt.alloc(), damage)?,
-            "byte {}, length {}",
-            damage.place,
-            damage.length
+            is_named(rt.alloc(), "f.tcf", &file, damage, put)?,
+            "{}",
+            damage.name
         );
     }
     Ok(())

@@ -6,9 +6,15 @@ mod cases;
 #[cfg(test)]
 mod connections;
 #[cfg(test)]
+mod damages;
+#[cfg(test)]
 mod databases;
 #[cfg(test)]
 mod fixed;
+#[cfg(test)]
+mod hashed;
+#[cfg(test)]
+mod logs;
 #[cfg(test)]
 mod played;
 #[cfg(test)]

@@ -114,6 +114,19 @@ pub fn ran_over(alloc: Global, words: &Vec<String>, vol: MemVolume, mut wire: Me
     }
 }
 
+// What `pipe` makes of a volume with this input.
+pub fn piped(alloc: Global, name: &str, vol: MemVolume, input: &[u8]) -> Result<Ended, AllocError> {
+    let order = words(alloc, &["pipe", name])?;
+    Ok(ran_over(alloc, &order, vol, alone(alloc, input, 4096)?))
+}
+
+// A volume whose main file is this one.
+pub fn volume_of(alloc: Global, file: &[u8]) -> Result<MemVolume, AllocError> {
+    let mut vol = MemVolume::new(alloc)?;
+    vol.load(0, file)?;
+    Ok(vol)
+}
+
 pub fn ran(alloc: Global, words: &Vec<String>, wire: MemWire) -> Result<Ended, AllocError>
     requires { wire.opened ≡ false }
 {

@@ -104,7 +104,7 @@ const KEYS: &[Case] = &[Case {
 #[test]
 fn requests_are_answered_in_any_pieces(rt: HostRuntime) -> Result<(), Fail> {
     let alloc = rt.alloc();
-    for database in ["*", "+"] {
+    for database in ["*", "+", "h.tch"] {
         for cases in [FIRST, VALUES, KEYS] {
             assert_eq!(rt; first_wrong(alloc, database, cases)?, None, "{}", database);
         }
@@ -142,7 +142,7 @@ fn other_words_are_refused(rt: HostRuntime) -> Result<(), Fail> {
         &["pipe", "*", "*"],
         &["*", "pipe"],
         &["serve", "x"],
-        &["serve", "a.tch"],
+        &["serve", "a.tcb"],
         &["serve", "-port", "0", "*"],
         &["pipe", "++"],
         &["serve", "-ulog", "+"],

@@ -1,18 +1,41 @@
-//! A put into a file, stopped or failed at each call of the volume, and the run that opens what is left, stopped or failed at each of its calls.
+//! A put into a file of each kind, stopped or failed at each call of the volume, and the run that opens what is left, stopped or failed at each of its calls.
 use crate::fixed::two;
-use crate::played::{Ended, alone, ran_over, words};
+use crate::hashed::created;
+use crate::played::{Ended, alone, piped, ran_over, volume_of, words};
 use std::alloc::{AllocError, Global};
 use std::test::Fail;
 use tc_io::{Choice, MemVolume};
 
+/// A run that puts a value, what a get answers before and after, and how many calls of the volume it may make.
+#[derive(Drop)]
+struct Trial {
+    order: [&'static str; 2],
+    put: &'static [u8],
+    get: &'static [u8],
+    old: &'static [u8],
+    new: &'static [u8],
+    calls: u64,
+}
+
 // The value of the id 1 becomes `z`.
-const PUT: &[u8] = b"\xC8\x10\0\0\0\x01\0\0\0\x011z";
+const FIXED: Trial = Trial {
+    order: ["pipe", "f.tcf"],
+    put: b"\xC8\x10\0\0\0\x01\0\0\0\x011z",
+    get: b"\xC8\x30\0\0\0\x011",
+    old: b"\0\0\0\0\x03abc",
+    new: b"\0\0\0\0\x01z",
+    calls: 200,
+};
 
-const GET: &[u8] = b"\xC8\x30\0\0\0\x011";
-
-const OLD: &[u8] = b"\0\0\0\0\x03abc";
-
-const NEW: &[u8] = b"\0\0\0\0\x01z";
+// The key `a` gets the value `1`.
+const HASHED: Trial = Trial {
+    order: ["serve", "h.tch"],
+    put: b"\xC8\x10\0\0\0\x01\0\0\0\x01a1",
+    get: b"\xC8\x30\0\0\0\x01a",
+    old: b"\x01",
+    new: b"\0\0\0\0\x011",
+    calls: 4096,
+};
 
 // A call that goes wrong, counted from 1, and whether all behind it do, as at a stop.
 #[derive(Clone, Copy)]
@@ -21,50 +44,26 @@ struct Trouble {
     stops: bool,
 }
 
-// What is left of the last write or cut to a file that wasn't synced.
+// What is left of the last write or cut to a file that wasn't synced: each of four numbers of bytes kept, either filling, and cut or not.
 // The first two are those of a second stop.
-const CHOICES: [Choice; 8] = [
-    Choice {
+fn choices() -> [Choice; 16] {
+    let mut all = [Choice {
         keep: 1,
         fill: 0xFF,
         cut: true,
-    },
-    Choice {
-        keep: 1,
-        fill: 0xFF,
-        cut: false,
-    },
-    Choice {
-        keep: 0,
-        fill: 0,
-        cut: true,
-    },
-    Choice {
-        keep: 100,
-        fill: 0,
-        cut: true,
-    },
-    Choice {
-        keep: u64::MAX,
-        fill: 0,
-        cut: true,
-    },
-    Choice {
-        keep: 0,
-        fill: 0xFF,
-        cut: false,
-    },
-    Choice {
-        keep: 100,
-        fill: 0xFF,
-        cut: false,
-    },
-    Choice {
-        keep: u64::MAX,
-        fill: 0xFF,
-        cut: false,
-    },
-];
+    }; 16];
+    for (number, choice) in all.iter_mut().enumerate() {
+        choice.keep = match number / 4 {
+            0 => 1,
+            1 => 0,
+            2 => 100,
+            _ => u64::MAX,
+        };
+        choice.fill = if number % 4 < 2 { 0xFF } else { 0 };
+        choice.cut = number % 2 == 0;
+    }
+    all
+}
 
 fn meet(alloc: Global, vol: &mut MemVolume, trouble: Trouble) -> Result<(), AllocError> {
     if trouble.stops {
@@ -77,27 +76,29 @@ fn meet(alloc: Global, vol: &mut MemVolume, trouble: Trouble) -> Result<(), Allo
     Ok(())
 }
 
-fn piped(alloc: Global, vol: MemVolume, input: &[u8]) -> Result<Ended, AllocError> {
-    let order = words(alloc, &["pipe", "f.tcf"])?;
-    Ok(ran_over(alloc, &order, vol, alone(alloc, input, 4096)?))
+// The trial's run over a volume.
+fn put(alloc: Global, trial: &Trial, vol: MemVolume) -> Result<Ended, AllocError> {
+    let order = words(alloc, &trial.order)?;
+    Ok(ran_over(alloc, &order, vol, alone(alloc, trial.put, 4096)?))
 }
 
 // Whether a volume, opened again, gives the old value or the new one; where the put was answered, the new one.
-fn holds(alloc: Global, vol: MemVolume, answered: bool) -> Result<bool, AllocError> {
-    let end = piped(alloc, vol, GET)?;
+fn holds(alloc: Global, trial: &Trial, vol: MemVolume, answered: bool) -> Result<bool, AllocError> {
+    let end = piped(alloc, trial.order[1], vol, trial.get)?;
     let found = end.wire.sent(0);
-    Ok(end.status == 0 && (found == NEW || (!answered && found == OLD)))
+    Ok(end.status == 0 && (found == trial.new || (!answered && found == trial.old)))
 }
 
 // Whether each of these images of a volume does.
 fn reopens(
     alloc: Global,
+    trial: &Trial,
     vol: &MemVolume,
     choices: &[Choice],
     answered: bool,
 ) -> Result<bool, AllocError> {
     for choice in choices.iter() {
-        if !holds(alloc, vol.image(choice)?, answered)? {
+        if !holds(alloc, trial, vol.image(choice)?, answered)? {
             return Ok(false);
         }
     }
@@ -107,6 +108,7 @@ fn reopens(
 // The same where the run that opens an image meets trouble itself, at each of its calls.
 fn reopens_twice(
     alloc: Global,
+    trial: &Trial,
     vol: &MemVolume,
     choice: &Choice,
     stops: bool,
@@ -115,8 +117,8 @@ fn reopens_twice(
     for call in 1..100u64 {
         let mut image = vol.image(choice)?;
         meet(alloc, &mut image, Trouble { call, stops })?;
-        let end = piped(alloc, image, GET)?;
-        if !reopens(alloc, &end.vol, &CHOICES[..2], answered)? {
+        let end = piped(alloc, trial.order[1], image, trial.get)?;
+        if !reopens(alloc, trial, &end.vol, &choices()[..2], answered)? {
             return Ok(false);
         }
         if end.vol.calls() < call {
@@ -126,22 +128,35 @@ fn reopens_twice(
     Ok(false)
 }
 
-// Each call goes wrong in turn, until none does.
-fn all(alloc: Global, stops: bool) -> Result<bool, AllocError> {
-    let file = two(alloc)?;
-    for call in 1..200u64 {
-        let mut vol = MemVolume::new(alloc)?;
-        vol.load(0, &file)?;
-        meet(alloc, &mut vol, Trouble { call, stops })?;
-        let end = piped(alloc, vol, PUT)?;
-        let answered = end.wire.sent(0) == b"\0".as_slice();
-        if !reopens(alloc, &end.vol, &CHOICES, answered)? {
+// Whether a volume that a run left does so, also where the run that opens it meets such trouble.
+fn survives(
+    alloc: Global,
+    trial: &Trial,
+    vol: &MemVolume,
+    stops: bool,
+    answered: bool,
+) -> Result<bool, AllocError> {
+    if !reopens(alloc, trial, vol, &choices(), answered)? {
+        return Ok(false);
+    }
+    for choice in choices()[..2].iter() {
+        if !reopens_twice(alloc, trial, vol, choice, stops, answered)? {
             return Ok(false);
         }
-        for choice in CHOICES[..2].iter() {
-            if !reopens_twice(alloc, &end.vol, choice, stops, answered)? {
-                return Ok(false);
-            }
+    }
+    Ok(true)
+}
+
+// Each call goes wrong in turn, until none does; where one did, nothing is sent.
+fn all(alloc: Global, trial: &Trial, file: &[u8], stops: bool) -> Result<bool, AllocError> {
+    for call in 1..trial.calls {
+        let mut vol = volume_of(alloc, file)?;
+        meet(alloc, &mut vol, Trouble { call, stops })?;
+        let end = put(alloc, trial, vol)?;
+        let sent = end.wire.sent(0);
+        let answered = sent == b"\0".as_slice();
+        if !survives(alloc, trial, &end.vol, stops, answered)? {
+            return Ok(false);
         }
         if end.status == 0 {
             // it met no trouble
@@ -152,7 +167,7 @@ fn all(alloc: Global, stops: bool) -> Result<bool, AllocError> {
             };
             return Ok(answered && unmet);
         }
-        if end.status != 3 {
+        if end.status != 3 || !sent.is_empty() {
             return Ok(false);
         }
     }
@@ -160,13 +175,29 @@ fn all(alloc: Global, stops: bool) -> Result<bool, AllocError> {
 }
 
 #[test]
-fn a_put_is_stopped_at_each_call(rt: HostRuntime) -> Result<(), Fail> {
-    assert!(&rt; all(rt.alloc(), true)?);
+fn a_put_by_id_is_stopped_at_each_call(rt: HostRuntime) -> Result<(), Fail> {
+    let file = two(rt.alloc())?;
+    assert!(&rt; all(rt.alloc(), &FIXED, &file, true)?);
     Ok(())
 }
 
 #[test]
-fn a_put_fails_at_each_call(rt: HostRuntime) -> Result<(), Fail> {
-    assert!(&rt; all(rt.alloc(), false)?);
+fn a_put_by_id_fails_at_each_call(rt: HostRuntime) -> Result<(), Fail> {
+    let file = two(rt.alloc())?;
+    assert!(&rt; all(rt.alloc(), &FIXED, &file, false)?);
+    Ok(())
+}
+
+#[test]
+fn a_put_by_key_is_stopped_at_each_call(rt: HostRuntime) -> Result<(), Fail> {
+    let file = created(rt.alloc())?;
+    assert!(&rt; all(rt.alloc(), &HASHED, &file, true)?);
+    Ok(())
+}
+
+#[test]
+fn a_put_by_key_fails_at_each_call(rt: HostRuntime) -> Result<(), Fail> {
+    let file = created(rt.alloc())?;
+    assert!(&rt; all(rt.alloc(), &HASHED, &file, false)?);
     Ok(())
 }

@@ -6,21 +6,27 @@ use Rattle.tc_base.specs.declared.kind.Kind.TheVariants as kind
 use Rattle.tc_base.specs.declared.kind.Rule.{Rule}
 use Rattle.tc_model.specs.Contents.{Contents}
 use Rattle.tc_fixed.specs.Holding.{HasNoRoom}
+use Rattle.tc_hashdb.specs.Filling.{FillsWith}
+use Rattle.tc_hashdb.specs.Holding as hash
 use Rattle.tc_ids.specs.Holding as fixed
 use Rattle.tk_top.specs.declared.words.Stored.{Stored}
-use Rattle.tk_top.specs.declared.words.Stored.TheVariants.{Fixed}
+use Rattle.tk_top.specs.declared.words.Stored.TheVariants.{Fixed, Hash}
 
 abbrev pub kind_in : Stored → Kind
+kind_in Hash = kind.Hash
 kind_in Fixed = kind.Fixed
 
 -- files, read with an empty undo log, stand for contents
 abbrev pub reopens_of : Stored → Files → Contents → Type 0
+reopens_of Hash = hash.Reopens
 reopens_of Fixed = fixed.Reopens
 
 -- the first rule that files break, and the file that breaks it
 abbrev pub breaks_of : Stored → Files → ℕ → Rule → Type 0
+breaks_of Hash = hash.BreaksAs kind.Hash
 breaks_of Fixed = fixed.BreaksAs kind.Fixed
 
--- a limit is reached between contents and those that a request makes of them: of the length of files, or of the undo log
-abbrev pub fills_of : Stored → (ℕ → ℕ) → Type 0 → Contents → Contents → Type 0
-fills_of Fixed limits log_is_full before after = HasNoRoom (limits 0) log_is_full (fixed.length_with after)
+-- a limit is reached between contents and those that a request makes of them: of the length of files, which have these now, or of the undo log
+abbrev pub fills_of : Stored → (ℕ → ℕ) → (ℕ → ℕ) → Type 0 → Contents → Contents → Type 0
+fills_of Hash limits lengths log_is_full before after = FillsWith (limits 0) (lengths 0) log_is_full before after
+fills_of Fixed limits lengths log_is_full before after = HasNoRoom (limits 0) log_is_full (fixed.length_with after)

@@ -70,11 +70,11 @@ abbrev pub Opens : Stored → Files → Contents → Type 0
 Opens stored = OpensTo (kind_in stored) (reopens_of stored)
 
 -- a limit was reached where the files were opened, or in the round of the last event: each data file may have so many bytes, or as many as it
--- had where that is more; of the undo log it is said where it has half of what it may have
+-- had where that is more, and has as many as the volume that is handed back; of the undo log it is said where it has half of what it may have
 pub record IsFull {V : Type 0} (v : volume.Ghosts V) (stored : Stored) (most : ℕ) (vol vol' : V) (a b : Told) : Type 0 where
   pub limits : ℕ → ℕ
   pub limits_are : v.tells → (files : Files) → recovered (now (v.calls vol)) ≡ Some files → (f : ℕ) → is_data f ≡ true → limits f ≡ max most (length (files f))
-  pub full : FullFiles v.tells (fills_of stored limits (v.tells → 2 ^ 61 ≤ length (now (v.calls vol') 1))) (Recover (Opens stored) (recovered (now (v.calls vol)))) (BeginsAt v.tells (Opens stored) (v.calls vol)) a b
+  pub full : FullFiles v.tells (fills_of stored limits (λ f. length (now (v.calls vol') f)) (v.tells → 2 ^ 61 ≤ length (now (v.calls vol') 1))) (Recover (Opens stored) (recovered (now (v.calls vol)))) (BeginsAt v.tells (Opens stored) (v.calls vol)) a b
 
 -- a run that serves the database that the files of a name keep, at an address
 pub record FileRun {V W : Type 0} (v : volume.Ghosts V) (g : wire.Ghosts W) (end : End) (name : List ℕ) (stored : Stored) (limit : ℕ) (at : At) (turns : ℕ) (vol vol' : V) (x y : W) : Type 0 where

@@ -16,6 +16,7 @@ use crate::lines::put_line;
 use crate::words::{Asked, MOST, Memory, Source, Stored, what_is_asked};
 use std::alloc::Global;
 use tc_base::Kind;
+use tc_hashdb::HashEngine;
 use tc_ids::FixedEngine;
 use tc_io::{At, Clock, Sink, Volume, Wire};
 use tc_mem::MemEngine;
@@ -84,6 +85,17 @@ fn serve_stored<V: Volume, W: Wire, K: Clock>(
     ensures { FileRun V.Volume W.Wire result.end name.now stored limit at.now turns vol result.vol wire.old wire.new }
 {
     match stored {
+        Stored::Hash => run_files::<Undo<V>, Database<HashEngine<Undo<V>>>, W, K>(
+            alloc,
+            name,
+            Kind::Hash,
+            vol,
+            limit,
+            at,
+            wire,
+            clock,
+            turns,
+        ),
         Stored::Fixed => run_files::<Undo<V>, Database<FixedEngine<Undo<V>>>, W, K>(
             alloc,
             name,
@@ -182,10 +194,10 @@ fn serve_words<V: Volume, W: Wire, K: Clock>(
     }
 }
 
-/// What the program does with the words behind its name. Today it serves a database in memory or a fixed-length database in files: `pipe NAME`
+/// What the program does with the words behind its name. Today it serves a database in memory, or a hash or a fixed-length database in files: `pipe NAME`
 /// over the standard streams, `serve NAME` with its options but `-ulog` at an address. The name `*` is a map and `+` a tree in the order of bytes,
-/// both in memory, where a limit has no effect; a name that ends in `.tcf` is that of files, which are made where there are none. All other words
-/// are answered with status 1.
+/// both in memory, where a limit has no effect; a name that ends in `.tch` or `.tcf` is that of files, which are made where there are none. All other
+/// words are answered with status 1.
 pub fn run<V: Volume, W: Wire, O: Sink, E: Sink, K: Clock>(
     alloc: Global,
     words: &Vec<String>,
