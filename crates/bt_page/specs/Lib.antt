@@ -1,0 +1,5 @@
+pub mod Fronts
+pub mod Keys
+pub mod Limits
+pub mod Pages
+pub mod Spelled

@@ -1,0 +1,5 @@
+pub mod Betweens
+pub mod Building
+pub mod Held
+pub mod Ordered
+pub mod Standing

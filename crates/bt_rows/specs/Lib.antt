@@ -1,0 +1,9 @@
+pub mod Between
+pub mod Heads
+pub mod Laws
+pub mod Levels
+pub mod Orders
+pub mod Pages
+pub mod Rows
+pub mod Rules
+pub mod Standing
