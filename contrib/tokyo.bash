@@ -2,7 +2,7 @@
 # the folder of bash-completion as `tokyo`.
 
 # Served by this version.
-_tokyo_served="pipe serve"
+_tokyo_served="pipe serve --help --version"
 
 # Words to come: this version answers them with status 1, so they aren't offered. A word goes to the line above, and a name to
 # _tokyo_names, once the program serves it.
@@ -20,7 +20,7 @@ _tokyo() {
     elif [ "${COMP_WORDS[1]}" = serve ] && [[ $word == -* ]]; then
         mapfile -t COMPREPLY < <(compgen -W "-host -port -lim -turns" -- "$word")
     elif [ "${COMP_WORDS[1]}" = serve ] || { [ "$COMP_CWORD" -eq 2 ] && [ "${COMP_WORDS[1]}" = pipe ]; }; then
-        mapfile -t COMPREPLY < <(compgen -f -X '!*.tcf' -- "$word")
+        mapfile -t COMPREPLY < <(compgen -f -X '!*.tc[fh]' -- "$word")
         [ -n "$word" ] || COMPREPLY+=("${_tokyo_names[@]}")
     fi
 }

@@ -1,6 +1,7 @@
 //! The program: a database in memory or in the files of a folder, served over the standard streams or over sockets.
 #![tactic(auto)]
 
+mod help;
 mod host;
 
 use host::HostClock;
@@ -19,6 +20,14 @@ use ty_net::{NetWire, StdSink};
 fn give_up(err: &mut impl Sink, end: End) -> ExitCode {
     let _ = put_line(end, err);
     ExitCode::from(end.status())
+}
+
+// Writes a text that the words asked for; where it can't, that is a fault of a standard stream.
+fn say(out: &mut impl Sink, err: &mut impl Sink, text: &[u8]) -> ExitCode {
+    match out.put(text) {
+        Ok(()) => ExitCode::SUCCESS,
+        Err(_) => give_up(err, End::WireFault),
+    }
 }
 
 // Takes the descriptors of standard streams that are closed, since a file or a socket would get them otherwise and be taken for a
@@ -53,6 +62,9 @@ fn main(rt: HostRuntime) -> ExitCode {
     let Ok(words) = args.skip(1).collect::<Vec<String>>(alloc) else {
         return give_up(&mut err, End::NoMemory);
     };
+    if let Some(text) = help::text_of(&words) {
+        return say(&mut out, &mut err, text);
+    }
     let vol = FolderVolume::new(&rt, alloc);
     let Ok(mut wire) = NetWire::new(alloc, &rt, rt.stdin(), rt.stdout()) else {
         return give_up(&mut err, End::NoMemory);

@@ -1,0 +1,184 @@
+//! What the program says of itself, where its words ask for nothing else.
+
+// The version; nothing else says it.
+const VERSION: &[u8] = b"tokyo 0.1\n";
+
+const PROGRAM: &[u8] = b"tokyo serves a database in the binary protocol of Tokyo Tyrant.
+
+tokyo serve [-host h] [-port p] [-sid n] [-lim n] [-turns n] name    over sockets
+tokyo pipe name                        over the standard streams
+tokyo hash|tree|fixed|table --help     commands on files of a kind
+tokyo --help
+tokyo --version
+
+A name is
+  '*'      a hash in memory: a value to each key (quoted for the shell)
+  +        a tree in memory: one value or several to each key
+  x.tch    a hash database in files: a value to each key
+  x.tcf    a fixed-length database in files: values by number
+Files that aren't there are made.
+
+  -host    the address, 127.0.0.1 where it is left out; who reaches it may
+           read and erase everything: there is no authentication
+  -port    1 to 65535; 1978
+  -sid     0 to 65535; 0; without effect yet
+  -lim     the most bytes of a file, 256 to 1099511627776; the latter
+  -turns   it ends behind so many turns, 1 to 18446744073709551615; the latter
+
+Words that are not served yet: -ulog, -mhost h and -mport p of serve;
+drill seed n name; names of trees and tables in files, x.tcb and x.tct; and all
+commands on files of a kind.
+
+A status other than 0 writes its line to the standard error:
+  0  the input ended, and all was answered
+  1  tokyo: words           these words are in no command, or not served yet
+  3  tokyo: volume fault    a call of the system on a file failed
+  4  tokyo: broken: ..      a file breaks a rule of its layout
+  5  tokyo: no memory
+  6  tokyo: full            a file would grow past its limit
+  7  tokyo: wire fault      a stream failed, or it can't listen there
+  8  tokyo: turns spent
+";
+
+const HASH: &[u8] = b"tokyo hash: commands on a hash database, whose name ends in .tch.
+None of them is served yet: they end with status 1. Its files are served by
+tokyo serve and tokyo pipe, which make them where there are none.
+
+tokyo hash create [-tl] name [bnum [apow [fpow]]]
+tokyo hash inform name
+tokyo hash put [-dk|-dc] name key value
+tokyo hash out name key
+tokyo hash get name key
+tokyo hash list [-m n] [-pv] name
+tokyo hash optimize [-tl] name
+tokyo hash restore [-ts n] name
+
+  bnum     buckets, 1 to 16777216; 131071
+  apow     the power of 2 that records are aligned to, 4 to 16; 4
+  fpow     the power of 2 of the free block pool, 0 to 20; 10
+  -tl      the large form
+  -dk      only where the key isn't held
+  -dc      joins the value behind that of the key
+  -m       so many keys at most, 0 to 2147483647
+  -pv      with values
+  -ts      up to this time, in microseconds since 1970
+";
+
+const TREE: &[u8] = b"tokyo tree: commands on a tree in files, whose name ends in .tcb.
+None of them is served yet, nor are such files: they end with status 1. A tree
+in memory is served by tokyo serve + and tokyo pipe +.
+
+tokyo tree create [-cd] [-tl] name [lmemb [nmemb [bnum [apow [fpow]]]]]
+tokyo tree inform name
+tokyo tree put [-dk|-dc|-dd] name key value
+tokyo tree out name key
+tokyo tree get name key
+tokyo tree list [-m n] [-pv] name
+tokyo tree optimize [-tl] name
+tokyo tree restore [-ts n] name
+
+  lmemb    records of a leaf, 4 to 256; 128
+  nmemb    children of a node, 4 to 256; 256
+  bnum     buckets, 1 to 16777216; 32749
+  apow     the power of 2 that records are aligned to, 4 to 16; 8
+  fpow     the power of 2 of the free block pool, 0 to 20; 10
+  -cd      keys in the order of their numbers
+  -tl      the large form
+  -dk      only where the key isn't held
+  -dc      joins the value behind the key's first
+  -dd      adds the value behind those of the key
+  -m       so many at most, 0 to 2147483647
+  -pv      with values
+  -ts      up to this time, in microseconds since 1970
+";
+
+const FIXED: &[u8] = b"tokyo fixed: commands on a fixed-length database, whose name ends in .tcf.
+None of them is served yet: they end with status 1. Its files are served by
+tokyo serve and tokyo pipe, which make them where there are none.
+
+tokyo fixed create name [width [limsiz]]
+tokyo fixed inform name
+tokyo fixed put [-dk|-dc] name key value
+tokyo fixed out name key
+tokyo fixed get name key
+tokyo fixed list [-m n] [-pv] name
+tokyo fixed optimize name
+tokyo fixed restore [-ts n] name
+
+  width    the most bytes of a value, 1 to 1048576; 255
+  limsiz   the most bytes of the file, 512 to 1099511627776; 268435456
+  -dk      only where the id isn't held
+  -dc      joins the value behind that of the id
+  -m       so many ids at most, 0 to 2147483647
+  -pv      with values
+  -ts      up to this time, in microseconds since 1970
+A key is a number, or min, max, prev or next.
+";
+
+const TABLE: &[u8] = b"tokyo table: commands on a table, whose name ends in .tct.
+None of them is served yet, nor are such files: they end with status 1.
+
+tokyo table create [-tl] name [bnum [apow [fpow]]]
+tokyo table inform name
+tokyo table put [-dk|-dc] name key [column value ..]
+tokyo table out name key
+tokyo table get name key
+tokyo table list [-m n] [-pv] name
+tokyo table optimize [-tl] name
+tokyo table restore [-ts n] name
+tokyo table setindex [-it t] name column
+tokyo table search [-ord column n] [-m n] [-sk n] [-pv|-rm] name
+                   [column operator expression ..]
+
+  bnum     buckets, 1 to 16777216; 131071
+  apow     the power of 2 that records are aligned to, 4 to 16; 4
+  fpow     the power of 2 of the free block pool, 0 to 20; 10
+  -tl      the large form
+  -dk      only where the key isn't held
+  -dc      adds the columns that the row lacks
+  -it      lexical, decimal, token or void (takes it out); lexical
+  -ord     in the order of a column: 0 its bytes ascending, 1 descending,
+           2 its numbers ascending, 3 descending
+  -m       so many rows at most, 0 to 2147483647
+  -sk      leaves out so many before, 0 to 2147483647; 0
+  -pv      with columns
+  -rm      takes the rows out
+  -ts      up to this time, in microseconds since 1970
+";
+
+// What is said where the only word is this.
+fn of_program(word: &str) -> Option<&'static [u8]> {
+    if word == "--help" {
+        Some(PROGRAM)
+    } else if word == "--version" {
+        Some(VERSION)
+    } else {
+        None
+    }
+}
+
+// The help of a kind of database.
+fn of_kind(kind: &str) -> Option<&'static [u8]> {
+    if kind == "hash" {
+        Some(HASH)
+    } else if kind == "tree" {
+        Some(TREE)
+    } else if kind == "fixed" {
+        Some(FIXED)
+    } else if kind == "table" {
+        Some(TABLE)
+    } else {
+        None
+    }
+}
+
+/// The text that words ask for: `--help`, `--version`, or a kind and `--help`. None for all other words.
+pub fn text_of(words: &[String]) -> Option<&'static [u8]> {
+    if words.len() == 1 {
+        of_program(words[0].as_str())
+    } else if words.len() == 2 && words[1].as_str() == "--help" {
+        of_kind(words[0].as_str())
+    } else {
+        None
+    }
+}
