@@ -182,12 +182,20 @@ part_inside u first old place size found ps before same l best less aligned =
     let five = atleast old.unit (found - size) old.some (omega (arith, less)) rest in
     omega (arith, inside, five, less)
 
+-- a free block ends where the blocks do, or before
+free_inside : (u first end : ℕ) (ps : List Piece) (free : Frees) (before : List ℕ) → LaidOut u first end ps free none before → (place size : ℕ) → free place ≡ Some size → place + size ≤ end
+free_inside u first end ps free before l place size there =
+    let k = known u first end ps free none before place size l there in
+    omega (arith, (ends_within u first ps k.piece place k.at).1, k.size, ends u first end ps free none before l)
+
 -- the place can't be named, or the file is too long
-pub no_room : (h : Head) (old new : Pool) (place size limit long : ℕ) (log : Type 0) → old.size ≤ 2 ^ 40 → old.size ≤ long → Taken old new size place → (2 ^ 40 < new.size) ⊎ ((is_large h ≡ false) × (2 ^ 32 ≤ place / unit h)) → HasNoRoom h old.size (frees old) limit long log size
-no_room h old new place size limit long log low on (inl (found, t)) (inl past) = absurd (omega (arith, past, t.end, low))
-no_room h old new place size limit long log low on (inl (found, t)) (inr far) = inl (on, inl (record { small = far.0; place = place; is = inl (found, t.best); far = past h place far.1 }))
-no_room h old new place size limit long log low on (inr g) (inl past) = inl (on, inr (record { none = g.none; past = inr (omega (arith, past, g.end)) }))
-no_room h old new place size limit long log low on (inr g) (inr far) = inl (on, inl (record { small = far.0; place = place; is = inr (g.none, g.at); far = past h place far.1 }))
+pub no_room : (h : Head) (u first : ℕ) (old new : Pool) (place size limit long : ℕ) (log : Type 0) (ps : List Piece) (before : List ℕ) → LaidOut u first old.size ps (frees old) none before → old.size ≤ 2 ^ 40 → old.size ≤ long → Taken old new size place → (2 ^ 40 < new.size) ⊎ ((is_large h ≡ false) × (2 ^ 32 ≤ place / unit h)) → HasNoRoom h old.size (frees old) limit long log size
+no_room h u first old new place size limit long log ps before l low on (inl (found, t)) (inl past) = absurd (omega (arith, past, t.end, low))
+no_room h u first old new place size limit long log ps before l low on (inl (found, t)) (inr far) =
+    let inside = free_inside u first old.size ps (frees old) before l place found t.best.there in
+    inl (on, inl (record { small = far.0; place = place; is = inl (found, t.best); within = omega (arith, inside); far = past h place far.1 }))
+no_room h u first old new place size limit long log ps before l low on (inr g) (inl past) = inl (on, inr (record { none = g.none; past = inr (omega (arith, past, g.end)) }))
+no_room h u first old new place size limit long log ps before l low on (inr g) (inr far) = inl (on, inl (record { small = far.0; place = place; is = inr (g.none, g.at); within = omega (arith, g.at); far = past h place far.1 }))
 
 -- the file grows past its limit
 pub too_long : (h : Head) (u first : ℕ) (old new : Pool) (place size limit long : ℕ) (log : Type 0) (ps : List Piece) (before : List ℕ) → LaidOut u first old.size ps (frees old) none before → Taken old new size place → length before ≤ limit → old.size ≤ long → Passes limit log place size → HasNoRoom h old.size (frees old) limit long log size

@@ -13,9 +13,10 @@ pub record IsTooLong (limit end b : ℕ) (free : Frees) : Type 0 where
   pub none : HasNone free b
   pub past : (limit < end + b) ⊎ (2 ^ 40 < end + b)
 
--- no chain of the small form can name the place
+-- no chain of the small form can name the place, which isn't behind the end of the blocks
 pub record IsTooFar (h : Head) (end b : ℕ) (free : Frees) : Type 0 where
   pub small : is_large h ≡ false
   pub place : ℕ
   pub is : IsPlaceFor free end b place
+  pub within : place ≤ end
   pub far : 2 ^ (32 + h.apow) ≤ place

@@ -21,7 +21,7 @@ returns-then-not-has_room-clause-full g c = λ full t.
     let h = c.args.head.now in
     let m = c.requires.held t in
     let on = taken_long (unit h) h.first c.args.pool.now c.take.new.self c.in-Ok.place (length c.args.bytes.now) m.1.pieces (g.S.Space.now c.args.space.now c.args.file) (g.S.Space.now c.take.new.space c.args.file) m.1.is.laid c.in-Ok.ensures.taken (c.in-Ok.ensures.bytes t) in
-    no_room h c.args.pool.now c.take.new.self c.in-Ok.place (length c.args.bytes.now) (g.S.Space.limit c.args.space.now c.args.file) _ _ (omega (arith, c.if-size.false)) (omega (arith, on, ap length (c.give_up-then-not-has_room.ensures.same t c.args.file))) c.in-Ok.ensures.taken
+    no_room h (unit h) h.first c.args.pool.now c.take.new.self c.in-Ok.place (length c.args.bytes.now) (g.S.Space.limit c.args.space.now c.args.file) _ _ m.1.pieces (g.S.Space.now c.args.space.now c.args.file) m.1.is.laid (omega (arith, c.if-size.false)) (omega (arith, on, ap length (c.give_up-then-not-has_room.ensures.same t c.args.file))) c.in-Ok.ensures.taken
     (subst (λ (e : ℕ). (2 ^ 40 < e) ⊎ ((is_large h ≡ false) × (2 ^ 32 ≤ c.in-Ok.place / unit h))) c.size-end.ensures (c.has_room.ensures.none c.if-not-has_room.true))
 
 pub write_at-requires-clause-inside : goal.write_at-requires-clause-inside
