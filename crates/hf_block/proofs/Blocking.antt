@@ -1,11 +1,11 @@
 -- Reading a block's head is exact.
-use Rattle.std.proofs.Common.{◌≡◌, ◌∙◌, ◌↔◌, ℕ, ◌+◌, ◌*◌, Bool, true, false, ◌^◌, ◌<◌, ◌≤◌, List, [], ◌∷◌, ◌++◌, length, Result, Ok, Err, refl, sym, ap, subst, arith, inl, inr}
+use Rattle.std.proofs.Common.{◌≡◌, ◌∙◌, ◌↔◌, ℕ, Bool, true, false, ◌^◌, ◌<◌, ◌≤◌, List, [], ◌∷◌, ◌++◌, length, Result, Ok, Err, refl, sym, ap, subst, arith, inl, inr}
 use Rattle.tc_base.specs.declared.fields.NotWhole.TheVariants.{Part, Bad}
 use Rattle.tc_base.specs.Reading.{Front, ◌>>=◌, both}
 use Rattle.tc_base.specs.Endian.{le_bytes, le_front}
 use Rattle.tc_base.specs.Vnum.{vnum, vnum_front}
 use Rattle.tc_base.proofs.Vnums.{reads}
-use Rattle.tc_base.proofs.Exact.{IsBytes, IsExact, Cases, Tagged, exact_as, exact_none, exact_case, exact_tagged, same_whole, bind_ok, bind_err}
+use Rattle.tc_base.proofs.Exact.{IsBytes, IsExact, Cases, Tagged, exact_as, exact_none, exact_case, exact_tagged, same_whole, bind_ok}
 use Rattle.tc_base.proofs.ExactNumbers.{exact_vnum, exact_le}
 use Rattle.tc_base.proofs.ExactPairs.{Is, exact_both, exact_mapped}
 use Rattle.hf_head.specs.Heads.{wide}

@@ -1,5 +1,5 @@
 -- A free block's size, which isn't 0.
-use Rattle.std.proofs.Common.{◌≡◌, ◌∙◌, ℕ, zero, suc, ◌+◌, ◌*◌, ◌^◌, ◌<◌, ◌≤◌, ◌==◌, Bool, true, false, List, [], ◌∷◌, ◌++◌, length, take, drop, replicate, Ok, Err, refl, sym, ap, subst, arith, inl, inr}
+use Rattle.std.proofs.Common.{◌≡◌, ◌∙◌, ℕ, zero, suc, ◌^◌, ◌<◌, ◌≤◌, List, [], ◌∷◌, ◌++◌, length, take, drop, replicate, Ok, Err, refl, sym, ap, subst, arith, inl, inr}
 use Rattle.std.proofs.lemmas.List.{length-replicate}
 use Rattle.std.proofs.lemmas.Bool.{cases_eq, cases_lt}
 use Rattle.std.proofs.lemmas.Bool.Decides.{nat_tests}
@@ -8,7 +8,7 @@ use Rattle.tc_base.specs.declared.fields.NotWhole.TheVariants.{Part, Bad}
 use Rattle.tc_base.specs.Reading.{Front, ◌>>=◌}
 use Rattle.tc_base.specs.Endian.{le_number, le_bytes, le_front}
 use Rattle.tc_base.proofs.Exact.{IsBytes, bind_err, same_whole}
-use Rattle.tc_base.proofs.ExactNumbers.{exact_le, le_number_fits, le_bytes-le_number}
+use Rattle.tc_base.proofs.ExactNumbers.{le_number_fits, le_bytes-le_number}
 use Rattle.tc_base.proofs.Endians.{le-cons}
 use Rattle.hf_block.specs.declared.block.Block.{Block}
 use Rattle.hf_block.specs.declared.block.Block.TheVariants.{Free}

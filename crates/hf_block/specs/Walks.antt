@@ -1,9 +1,31 @@
 -- What a walk over blocks has listed.
-use Rattle.std.specs.Prelude.{◌≡◌, ℕ, ◌+◌, ◌-◌, ◌≤◌, Bool, true, false, List, ◌++◌, length, take, drop}
+use Rattle.std.specs.Prelude.{◌≡◌, ◌⊎◌, ℕ, ◌+◌, ◌-◌, ◌<◌, ◌≤◌, Bool, true, false, List, ◌++◌, length, take, drop}
+use Rattle.tc_base.specs.declared.kind.Rule.{Rule}
+use Rattle.tc_space.specs.Ranges.{IsDataFile}
+use Rattle.tc_space.specs.declared.space.Space.{Ghosts}
 use Rattle.hf_block.specs.declared.block.Block.{Block}
 use Rattle.hf_block.specs.declared.block.Block.TheVariants.{Rec, Free}
 use Rattle.hf_block.specs.declared.block.BlockAt.{BlockAt}
+use Rattle.hf_block.specs.Rows.{StandInRow}
 use Rattle.hf_block.specs.Pieces.{Piece, IsWhole, AllWhole, HasWidth, AllHaveWidth, IsFilled, spell, size_of, is_free, spell_all, placed}
+
+-- the space may be used, and a data file has at least so many bytes where they are told
+pub record HoldsUpTo {S : Type 0} (s : Ghosts S) (space : S) (file end : ℕ) : Type 0 where
+  pub sound : s.sound space
+  pub data_file : IsDataFile file
+  pub inside : s.tells → end ≤ length (s.now space file)
+
+-- so many bytes from a place on lie in front of an end, and either reach it or have room for the head of a block
+pub record IsChunk (at len end : ℕ) : Type 0 where
+  pub some : 0 < len
+  pub within : at + len ≤ end
+  pub enough : (at + len ≡ end) ⊎ (40 ≤ len)
+
+-- blocks that stand in a row were added to a list, from one place to a next one in front of an end
+pub record GoesOn (unit at next end : ℕ) (old new : List BlockAt) : Type 0 where
+  pub on : at < next
+  pub within : next ≤ end
+  pub row : (first : ℕ) → StandInRow unit first at old → StandInRow unit first next new
 
 -- from one place to the next the bytes are whole blocks, which were listed; and if whole blocks fill all the bytes from the
 -- first place on, they do so from the next
@@ -16,6 +38,11 @@ pub record Walked (wide unit at next : ℕ) (bytes : List ℕ) (old new : List B
   pub on : at ≤ next
   pub within : next - at ≤ length bytes
   pub rest : (ps : List Piece) → IsFilled wide unit bytes ps → (qs : List Piece) × IsFilled wide unit (drop (next - at) bytes) qs
+
+-- the rule of whole blocks is named, since none fill the bytes, where they are told
+pub record NoneFill (tells : Type 0) (wide unit : ℕ) (bytes : List ℕ) (rule : Rule) : Type 0 where
+  pub rule_is : rule ≡ record { letter = 76; number = 3 }
+  pub none : tells → (ps : List Piece) → IsFilled wide unit bytes ps → ⊥
 
 -- the bytes from one place up to another
 abbrev pub between : ℕ → ℕ → List ℕ → List ℕ

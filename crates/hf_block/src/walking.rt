@@ -7,7 +7,7 @@ ghost use Rattle.hf_head.specs.Heads.{IsValid, is_large, wide, unit as head_unit
 ghost use Rattle.hf_block.specs.Heads.{Fits};
 ghost use Rattle.hf_block.specs.Pieces.{Piece, IsFilled, IsSize, placed};
 ghost use Rattle.hf_block.specs.Rows.{StandInRow};
-ghost use Rattle.hf_block.specs.Walks.{Walked, IsNext, between, total, is_free_block};
+ghost use Rattle.hf_block.specs.Walks.{GoesOn, HoldsUpTo, IsChunk, IsNext, NoneFill, Walked, between, is_free_block, total};
 ghost use Rattle.tc_space.specs.Frames.{OnlyReads};
 
 use crate::block::{Block, BlockAt, Blocks};
@@ -116,12 +116,9 @@ fn walk_chunk(
     large: bool,
     list: &mut Blocks,
 ) -> Result<u64, WalkErr>
-    requires some { 0 < length chunk.now }
-    requires within { at + length chunk.now ≤ end }
-    requires enough { (at + length chunk.now ≡ end) ⊎ (40 ≤ length chunk.now) }
+    requires chunk { IsChunk at (length chunk.now) end }
     requires unit { 5 ≤ unit }
-    ensures on { IfOk result (λ next. (at < next) × (next ≤ end)) }
-    ensures row { IfOk result (λ next. (first : ℕ) → StandInRow unit first at list.old → StandInRow unit first next list.new) }
+    ensures on { IfOk result (λ next. GoesOn unit at next end list.old list.new) }
     ensures walked { IfOk result (λ next. (bytes : List ℕ) → chunk.now ≡ take (length chunk.now) bytes → at + length bytes ≡ end → Walked (wide large) unit at next bytes list.old list.new) }
     ensures rule { (rule : Rule) → result ≡ Err (WalkErr.Broken rule) → rule ≡ WHOLE_BLOCKS }
     ensures broken { (rule : Rule) → result ≡ Err (WalkErr.Broken rule) → (bytes : List ℕ) → chunk.now ≡ take (length chunk.now) bytes → at + length bytes ≡ end → (ps : List Piece) → IsFilled (wide large) unit bytes ps → ⊥ }
@@ -155,18 +152,12 @@ fn walk_piece<S: Space>(
     chunk: &mut [u8],
     blocks: &mut Blocks,
 ) -> Result<u64, WalkErr>
-    requires sound { S.sound space.old }
-    requires file { IsDataFile file }
-    requires inside { S.tells → end ≤ length (S.now space.old file) }
-    requires some { 0 < length chunk.old }
-    requires within { at + length chunk.old ≤ end }
-    requires enough { (at + length chunk.old ≡ end) ⊎ (40 ≤ length chunk.old) }
+    requires holds { HoldsUpTo S.Space space.old file end }
+    requires chunk { IsChunk at (length chunk.old) end }
     requires unit { 5 ≤ unit }
-    ensures on { IfOk result (λ next. (at < next) × (next ≤ end)) }
-    ensures row { IfOk result (λ next. (first : ℕ) → StandInRow unit first at blocks.old → StandInRow unit first next blocks.new) }
+    ensures on { IfOk result (λ next. GoesOn unit at next end blocks.old blocks.new) }
     ensures walked { IfOk result (λ next. S.tells → Walked (wide large) unit at next (between at end (S.now space.old file)) blocks.old blocks.new) }
-    ensures rule { (rule : Rule) → result ≡ Err (WalkErr.Broken rule) → rule ≡ WHOLE_BLOCKS }
-    ensures broken { (rule : Rule) → result ≡ Err (WalkErr.Broken rule) → S.tells → (ps : List Piece) → IsFilled (wide large) unit (between at end (S.now space.old file)) ps → ⊥ }
+    ensures broken { (rule : Rule) → result ≡ Err (WalkErr.Broken rule) → NoneFill S.tells (wide large) unit (between at end (S.now space.old file)) rule }
     ensures reads { OnlyReads S.Space space.old space.new }
     ensures cause { IsErrOf result WalkErr.Fault → Rose (S.faults space.old) (S.faults space.new) }
 {
@@ -188,8 +179,7 @@ pub fn walk<S: Space>(
     requires inside { S.tells → head.now.size ≤ length (S.now space.old file) }
     ensures row { IfOk result (λ blocks. StandInRow (head_unit head.now) head.now.first head.now.size blocks) }
     ensures listed { IfOk result (λ blocks. S.tells → (ps : List Piece) × IsFilled (wide (is_large head.now)) (head_unit head.now) (between head.now.first head.now.size (S.now space.old file)) ps × (blocks ≡ placed head.now.first ps)) }
-    ensures rule { (rule : Rule) → result ≡ Err (WalkErr.Broken rule) → rule ≡ WHOLE_BLOCKS }
-    ensures broken { (rule : Rule) → result ≡ Err (WalkErr.Broken rule) → S.tells → (ps : List Piece) → IsFilled (wide (is_large head.now)) (head_unit head.now) (between head.now.first head.now.size (S.now space.old file)) ps → ⊥ }
+    ensures broken { (rule : Rule) → result ≡ Err (WalkErr.Broken rule) → NoneFill S.tells (wide (is_large head.now)) (head_unit head.now) (between head.now.first head.now.size (S.now space.old file)) rule }
     ensures reads { OnlyReads S.Space space.old space.new }
     ensures cause { IsErrOf result WalkErr.Fault → Rose (S.faults space.old) (S.faults space.new) }
 {

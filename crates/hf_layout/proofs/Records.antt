@@ -6,7 +6,7 @@ use Rattle.std.proofs.lemmas.List.{append-nil, places, same_lists}
 use Rattle.tc_base.specs.Files.{wrote}
 use Rattle.hf_block.specs.Heads.{free_head}
 use Rattle.hf_block.specs.Walks.{between}
-use Rattle.hf_block.specs.Pieces.{Record, Piece, held, free, spell, size_of, AllWhole, spell_all, AreBlocks}
+use Rattle.hf_block.specs.Pieces.{Record, Piece, held, free, spell, size_of, IsWhole, AllWhole, spell_all, AreBlocks}
 use Rattle.hf_block.proofs.Listing.{spell-append, whole-append}
 use Rattle.hf_layout.specs.Frees.{Frees, with_block, without}
 use Rattle.hf_layout.specs.Layout.{piece_at, record_of, free_of, record_at, frees_of, IsShared, LaidOut, HasBlock, Writes}
@@ -103,7 +103,8 @@ stands unit first end place size ps frees lent bytes h block =
       filled = subst (λ (l : List Piece). AreBlocks unit (between first end bytes) l) s.is h.filled;
     }
 
-pub fills : FillsBlock
+pub fills : (unit first end place : ℕ) (ps : List Piece) (frees lent : Frees) (bytes : List ℕ) (r : Record) → LaidOut unit first end ps frees lent bytes → IsWhole unit (held r) → HasBlock first ps place (size_of (held r)) → frees place ≡ None
+    → Writes unit first end ps frees (without lent place) place r (wrote place (spell (held r)) bytes)
 fills unit first end place ps frees lent bytes r h whole block unpooled =
     let s = stands unit first end place (size_of (held r)) ps frees lent bytes h block in
     let n : place - first ≡ long s.xs = omega (arith, s.place_is) in
@@ -118,10 +119,14 @@ fills unit first end place ps frees lent bytes r h whole block unpooled =
     (λ q low high. without_off lent place q (λ e. omega (arith, low, e)) ∙ (inside_none unit first end ps frees lent bytes s.piece place q h s.at low (omega (arith, high, s.size_is))).1)
     (λ q. refl)
 
+pub fills_block : FillsBlock
+fills_block unit first end place ps frees lent bytes r h may = fills unit first end place ps frees lent bytes r h may.whole may.block may.unpooled
+
 seam : (a b c d : List ℕ) → a ++ ((b ++ c) ++ d) ≡ (a ++ b) ++ (c ++ d)
 seam a b c d = simp append_assoc
 
-pub fills_front : FillsFront
+pub fills_front : (unit first end place size : ℕ) (ps : List Piece) (frees lent : Frees) (bytes : List ℕ) (r : Record) → LaidOut unit first end ps frees lent bytes → IsWhole unit (held r) → HasBlock first ps place size → frees place ≡ None → size_of (held r) < size
+    → Writes unit first end ps frees (with_block (without lent place) (place + size_of (held r)) (size - size_of (held r))) place r (wrote (place + size_of (held r)) (free_head (size - size_of (held r))) (wrote place (spell (held r)) bytes))
 fills_front unit first end place size ps frees lent bytes r h whole block unpooled less =
     put_row unit first end place size ps more s.xs s.ys s.piece frees lent lent' bytes after r h s.is s.place_is s.at s.size_is unpooled (whole, one) row_long within filled
     (λ q out. with_off (without lent place) (place + n) rest q (elim out [ inl low ↦ (λ e. omega (arith, low, e)) | inr high ↦ (λ e. omega (arith, high, e, less)) ]) ∙ without_off lent place q (elim out [ inl low ↦ (λ e. omega (arith, low, e)) | inr high ↦ (λ e. omega (arith, high, e, less)) ]))
@@ -220,6 +225,9 @@ fills_front unit first end place size ps frees lent bytes r h whole block unpool
         subst (λ (l : List Piece). AreBlocks unit (between first end after) l) (append_assoc s.xs (held r ∷ []) (more ++ s.ys))
         (subst (λ (b : List ℕ). AreBlocks unit b (front ++ (more ++ s.ys))) (sym after_range)
         (fused unit rest front s.ys mid (between first end one_written) h.room (whole-append unit s.xs (held r ∷ []) w.0 (whole, tt)) w.2 mid_long some multiple few first_range))
+
+pub fills_part : FillsFront
+fills_part unit first end place size ps frees lent bytes r h may less = fills_front unit first end place size ps frees lent bytes r h may.whole may.block may.unpooled less
 
 -- the bytes up to behind what was written at an end
 range_more : (first end : ℕ) (new bytes : List ℕ) → first ≤ end → end ≤ length bytes → between first (end + length new) (wrote end new bytes) ≡ between first end bytes ++ new

@@ -7,16 +7,22 @@ use Rattle.hf_block.specs.Pieces.{Record, Piece, held, spell, size_of, IsWhole, 
 use Rattle.hf_layout.specs.Frees.{Frees, IsThere, LieInside, with_block, without}
 use Rattle.hf_layout.specs.Layout.{LaidOut, HasBlock, HaveWidth, Stands, Writes, record_at}
 
--- a record over a whole block of its size that isn't the pool's: a block lent out, or a record before
+-- a record may be written over a block of that size, or its front: the record is whole, and the block isn't the pool's, but lent out or a record before
+pub record MayStand (unit first : ℕ) (pieces : List Piece) (frees : Frees) (place size : ℕ) (r : Record) : Type 0 where
+  pub whole : IsWhole unit (held r)
+  pub block : HasBlock first pieces place size
+  pub unpooled : frees place ≡ None
+
+-- a record over a whole block of its size
 abbrev pub FillsBlock : Type 0
 FillsBlock =
-    (unit first end place : ℕ) (pieces : List Piece) (frees lent : Frees) (bytes : List ℕ) (r : Record) → LaidOut unit first end pieces frees lent bytes → IsWhole unit (held r) → HasBlock first pieces place (size_of (held r)) → frees place ≡ None
+    (unit first end place : ℕ) (pieces : List Piece) (frees lent : Frees) (bytes : List ℕ) (r : Record) → LaidOut unit first end pieces frees lent bytes → MayStand unit first pieces frees place (size_of (held r)) r
     → Writes unit first end pieces frees (without lent place) place r (wrote place (spell (held r)) bytes)
 
 -- a record over the front of a larger one: the rest, once it has its head, is a free block lent out
 abbrev pub FillsFront : Type 0
 FillsFront =
-    (unit first end place size : ℕ) (pieces : List Piece) (frees lent : Frees) (bytes : List ℕ) (r : Record) → LaidOut unit first end pieces frees lent bytes → IsWhole unit (held r) → HasBlock first pieces place size → frees place ≡ None → size_of (held r) < size
+    (unit first end place size : ℕ) (pieces : List Piece) (frees lent : Frees) (bytes : List ℕ) (r : Record) → LaidOut unit first end pieces frees lent bytes → MayStand unit first pieces frees place size r → size_of (held r) < size
     → Writes unit first end pieces frees (with_block (without lent place) (place + size_of (held r)) (size - size_of (held r))) place r (wrote (place + size_of (held r)) (free_head (size - size_of (held r))) (wrote place (spell (held r)) bytes))
 
 -- a record behind all blocks

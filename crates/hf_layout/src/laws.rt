@@ -1,20 +1,5 @@
-//! Laws on the definitions, as functions whose contracts they are.
-ghost use Rattle.hf_layout.specs.Laws.{FillsBlock, FillsFront, StandsBehind, LentIsBlock, BlockStands, RecordIsBlock, PoolLiesInside, RecordHasBytes, SetsLeft, SetsRight, FreeIsBlock, PlacesAreAligned, FrontStays, ListedHaveWidth};
-
-/// A record of exactly a block's size is written over a block that was lent out, or over a record.
-pub fn record_fills_a_block()
-    ensures { FillsBlock }
-{}
-
-/// A record is written over the front of a larger block; what is left over is lent out.
-pub fn record_fills_a_front()
-    ensures { FillsFront }
-{}
-
-/// A record is written where the blocks end.
-pub fn record_stands_behind()
-    ensures { StandsBehind }
-{}
+//! Laws on the blocks of a file, as functions whose contracts they are.
+ghost use Rattle.hf_layout.specs.Laws.{LentIsBlock, BlockStands, RecordIsBlock, PoolLiesInside, RecordHasBytes, FreeIsBlock, PlacesAreAligned, ListedHaveWidth};
 
 /// A block that is lent out stands in the file.
 pub fn lent_is_a_block()
@@ -41,12 +26,6 @@ pub fn record_has_bytes()
     ensures { RecordHasBytes }
 {}
 
-/// A chain is set by writing its bytes alone.
-pub fn chains_are_set()
-    ensures left { SetsLeft }
-    ensures right { SetsRight }
-{}
-
 /// A free block of the pool is a block of the file.
 pub fn free_is_a_block()
     ensures { FreeIsBlock }
@@ -55,11 +34,6 @@ pub fn free_is_a_block()
 /// The places of blocks are multiples of the unit.
 pub fn places_are_aligned()
     ensures { PlacesAreAligned }
-{}
-
-/// What is written from the first block on leaves the bytes before it.
-pub fn front_stays()
-    ensures { FrontStays }
 {}
 
 /// Where blocks of one form were listed, each record has its chains.

@@ -4,9 +4,12 @@
 #![tactic(auto)]
 
 mod laws;
+mod writes;
 
 pub use laws::{
-    block_stands, chains_are_set, free_is_a_block, front_stays, lent_is_a_block, listed_have_width,
-    places_are_aligned, pool_lies_inside, record_fills_a_block, record_fills_a_front,
-    record_has_bytes, record_is_a_block, record_stands_behind,
+    block_stands, free_is_a_block, lent_is_a_block, listed_have_width, places_are_aligned,
+    pool_lies_inside, record_has_bytes, record_is_a_block,
+};
+pub use writes::{
+    chains_are_set, front_stays, record_fills_a_block, record_fills_a_front, record_stands_behind,
 };

@@ -1,5 +1,5 @@
 -- What calls of a pool keep at multiples of the unit.
-use Rattle.std.proofs.Common.{◌≡◌, ◌≢◌, ◌∙◌, ℕ, ◌+◌, ◌-◌, ◌%◌, ◌^◌, ◌<◌, ◌≤◌, Bool, cond, Option, Some, None, Result, Ok, Err, OnOk, OnErr, sym, ap, subst, inl, inr, arith}
+use Rattle.std.proofs.Common.{◌≡◌, ◌∙◌, ℕ, ◌+◌, ◌%◌, ◌^◌, ◌<◌, ◌≤◌, Bool, cond, Some, None, Result, Ok, Err, OnOk, OnErr, sym, ap, subst, inl, inr, arith}
 use Rattle.std.proofs.lemmas.Bool.{cases_eq, cases_lt, eq-eqb, ne_eqb}
 use Rattle.hf_layout.specs.Frees.{Frees, IsThere, AreApart, with_block, without}
 use Rattle.hf_pool.specs.Joins.{FrontJoined, BackJoined}

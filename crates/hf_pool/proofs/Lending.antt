@@ -1,11 +1,11 @@
 -- A block that is taken, by where it was found.
-use Rattle.std.proofs.Common.{◌≡◌, ◌∙◌, ℕ, ◌+◌, ◌%◌, ◌<◌, ◌≤◌, Option, List, length, sym, ap, arith, refl, subst, inl, inr}
-use Rattle.hf_layout.specs.Frees.{Frees, IsBest, HasNone, IsThere, with_block, without}
-use Rattle.hf_layout.specs.Layout.{LaidOut, IsShared, frees_of}
+use Rattle.std.proofs.Common.{◌≡◌, ℕ, ◌%◌, ◌<◌, Option, List, sym, arith, subst}
+use Rattle.hf_layout.specs.Frees.{Frees, IsBest, HasNone, IsThere}
+use Rattle.hf_layout.specs.Layout.{IsShared, frees_of}
 use Rattle.hf_layout.proofs.Gathers.{meets_no_record, beyond_no_record}
-use Rattle.hf_pool.specs.Marks.{marked, parted}
+use Rattle.hf_pool.specs.Marks.{parted}
 use Rattle.hf_pool.specs.Pools.{Lends}
-use Rattle.hf_pool.proofs.Laying.{Left, taken, parted_front, parted_whole}
+use Rattle.hf_pool.proofs.Laying.{Left, taken}
 
 -- there is one best block
 same_best : (frees : Frees) (size p q s t : ℕ) → IsBest frees size p s → IsBest frees size q t → (p ≡ q) × (s ≡ t)

@@ -21,15 +21,15 @@ pub struct Pool {
 impl Pool {
     ghost use Rattle.std.specs.Prelude.{◌≡◌, ◌≢◌, ℕ, ◌+◌, ◌-◌, ◌%◌, ◌<◌, ◌≤◌, ◌^◌, ◌⊎◌, ◌↔◌, ◌++◌, List, length, replicate, IfOk, OnOk, OnErr, IsErrOf, IsTrue, true, false};
     ghost use Rattle.tc_io.specs.Causes.{Rose};
-    ghost use Rattle.tc_space.specs.Ranges.{IsDataFile, Passes};
-    ghost use Rattle.hf_block.specs.Pieces.{Piece, IsSize, AreBlocks, placed};
-    ghost use Rattle.hf_block.specs.Walks.{between};
-    ghost use Rattle.hf_layout.specs.Frees.{Frees, IsThere, IsBest, HasNone, MeetsNone, LieInside, with_block, none};
+    ghost use Rattle.tc_space.specs.Ranges.{Passes};
+    ghost use Rattle.hf_block.specs.Pieces.{Piece, AreBlocks, placed};
+    ghost use Rattle.hf_block.specs.Walks.{HoldsUpTo, between};
+    ghost use Rattle.hf_layout.specs.Frees.{Frees, IsThere, IsBest, MeetsNone, none};
     ghost use Rattle.hf_layout.specs.Layout.{LaidOut, Keeps};
-    ghost use Rattle.hf_pool.specs.Pools.{frees, TakesFree, Grows, IsTaken, Lends, GoesBack};
+    ghost use Rattle.hf_pool.specs.Pools.{frees, GoesBack, Grows, HoldsFrees, MayGive, MayTake, TakesFree, TakesIn};
     ghost use Rattle.hf_pool.specs.Marks.{marked};
     ghost use Rattle.tc_space.specs.Effects.{Changes, Outcome};
-    ghost use Rattle.tc_space.specs.Frames.{Others, OnlyWrites};
+    ghost use Rattle.tc_space.specs.Frames.{OnlyWrites};
     ghost use Rattle.hf_pool.specs.Multiples.{LieWithin};
     ghost use Rattle.hf_pool.specs.Joins.{FrontJoined, BackJoined, GivesBack};
     ghost use Rattle.hf_pool.specs.Trims.{Trimmed};
@@ -87,17 +87,11 @@ impl Pool {
     /// which what is left over stays free; else one at the end. It answers the block's place, a multiple of the unit. Only the head of what is left
     /// over is written. After a refusal the space isn't sound.
     pub fn take<S: Space>(&mut self, space: &mut S, file: u32, size: u64) -> Result<u64, RecErr>
-        requires sound { S.sound space.old }
-        requires file { IsDataFile file }
-        requires some { 0 < size }
-        requires aligned { size % self.old.unit ≡ 0 }
-        requires fits { self.old.size + size < 2 ^ 64 }
-        requires held { S.tells → LieInside (frees self.old) (length (S.now space.old file)) }
+        requires holds { HoldsFrees S.Space space.old file (frees self.old) }
+        requires may { MayTake self.old size }
         ensures taken { IfOk result (λ place. ((found : ℕ) × TakesFree self.old self.new size place found) ⊎ Grows self.old self.new size place) }
-        ensures aligned { (self.new.unit ≡ self.old.unit) × IfOk result (λ place. place % self.old.unit ≡ 0) }
-        ensures bytes { IfOk result (λ place. S.tells → IsTaken (frees self.old) size place (S.now space.old file) (S.now space.new file)) }
-        ensures lends { IfOk result (λ place. S.tells → Lends self.old.unit self.old.size (frees self.old) (frees self.new) size place (S.now space.old file) (S.now space.new file)) }
-        ensures others { OnOk result (Others S.Space (λ g. g ≡ file) space.old space.new) }
+        ensures file { IfOk result (λ place. TakesIn S.Space file self.old self.new size place space.old space.new) }
+        ensures unit { self.new.unit ≡ self.old.unit }
         ensures outcome { Outcome S.sound S.flag result space.new }
         ensures writes { OnlyWrites S.Space space.old space.new }
         ensures full { IsErrOf result RecErr.Full → (place : ℕ) × (found : ℕ) × IsBest (frees self.old) size place found × (size < found) × Passes (S.limit space.old file) (S.log_full space.new) (place + size) 5 }
@@ -158,11 +152,7 @@ impl Pool {
 
     // A block given back in memory: its joined place and size. An `Err` may have lost its neighbours.
     fn give_in_memory(&mut self, at: u64, size: u64) -> Result<(u64, u64), AllocError>
-        requires some { 0 < size }
-        requires size { size < 2 ^ 32 }
-        requires within { at + size ≤ self.old.size }
-        requires aligned { (at % self.old.unit ≡ 0) × (size % self.old.unit ≡ 0) }
-        requires apart { MeetsNone (frees self.old) at size }
+        requires { MayGive self.old at size }
         ensures ok { IfOk result (λ b. GivesBack (frees self.old) (frees self.new) at size b.0 b.1) }
         ensures end { OnOk result (self.new.size ≡ self.old.size) }
         ensures place { IfOk result (λ b. (b.0 ≤ at) × (b.1 < 2 ^ 32)) }
@@ -183,18 +173,11 @@ impl Pool {
         at: u64,
         size: u64,
     ) -> Result<(), RecErr>
-        requires sound { S.sound space.old }
-        requires file { IsDataFile file }
-        requires some { 0 < size }
-        requires size { size < 2 ^ 32 }
-        requires within { at + size ≤ self.old.size }
-        requires aligned { (at % self.old.unit ≡ 0) × (size % self.old.unit ≡ 0) }
-        requires apart { MeetsNone (frees self.old) at size }
-        requires inside { S.tells → at + size ≤ length (S.now space.old file) }
+        requires holds { HoldsUpTo S.Space space.old file (at + size) }
+        requires may { MayGive self.old at size }
         ensures given { OnOk result ((start : ℕ) × (total : ℕ) × GivesBack (frees self.old) (frees self.new) at size start total × (S.tells → Changes S.now file (marked start total (S.now space.old file)) space.old space.new)) }
         ensures back { OnOk result (S.tells → GoesBack self.old.unit (frees self.old) (frees self.new) at size (S.now space.old file) (S.now space.new file)) }
-        ensures end { OnOk result (self.new.size ≡ self.old.size) }
-        ensures unit { self.new.unit ≡ self.old.unit }
+        ensures stays { (self.new.unit ≡ self.old.unit) × OnOk result (self.new.size ≡ self.old.size) }
         ensures outcome { Outcome S.sound S.flag result space.new }
         ensures writes { OnlyWrites S.Space space.old space.new }
         ensures full { IsErrOf result RecErr.Full → (start : ℕ) × (total : ℕ) × GivesBack (frees self.old) (frees self.new) at size start total × Passes (S.limit space.old file) (S.log_full space.new) start 5 }

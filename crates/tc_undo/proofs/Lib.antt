@@ -4,3 +4,5 @@ pub mod Needs
 pub mod Steadiness
 pub mod Marked
 pub mod Settling
+pub mod Changing
+pub mod Volumes

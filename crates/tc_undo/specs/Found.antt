@@ -1,18 +1,24 @@
 -- What recovery finds in the log before it changes a file.
-use Rattle.std.specs.Prelude.{◌≡◌, ℕ, ◌+◌, ◌≤◌, List, Bool, true, false, Option, Some, None}
-use Rattle.ud_log.specs.Scan.{Scanned, ScannedAll}
+use Rattle.std.specs.Prelude.{◌≡◌, ℕ, ◌+◌, ◌≤◌, List, ◌∷◌, ◌++◌, length, Bool, true, false, Option, Some, None}
 use Rattle.tc_base.specs.Files.{Files}
-use Rattle.ud_log.specs.Log.{entries}
-use Rattle.ud_log.specs.Undo.{all_inside, log_of, nothing, undoes}
-use Rattle.ud_state.specs.State.{AreLens}
-use Rattle.tc_undo.specs.declared.scan.Seen.{Seen}
-use Rattle.tc_undo.specs.declared.put_back.Back.{Back}
-use Rattle.std.specs.Prelude.{◌∷◌, ◌++◌, length}
 use Rattle.tc_io.specs.Images.{Calls, now, written, IsLost}
 use Rattle.ud_log.specs.Entries.{Entry}
-use Rattle.ud_log.specs.Log.{entry_bytes}
-use Rattle.ud_log.specs.Undo.{is_formed}
 use Rattle.ud_log.specs.Grammar.{Fits}
+use Rattle.ud_log.specs.Log.{entries, entry_bytes, lengths, magic}
+use Rattle.ud_log.specs.Scan.{Scanned, ScannedAll}
+use Rattle.ud_log.specs.Undo.{agrees, all_inside, all_short, is_data, is_formed, log_of, nothing, undoes}
+use Rattle.ud_state.specs.State.{AreLens, Durable}
+use Rattle.tc_undo.specs.declared.scan.Found.{Found}
+use Rattle.tc_undo.specs.declared.scan.Seen.{Seen}
+use Rattle.tc_undo.specs.declared.put_back.Back.{Back}
+
+-- a log of so many bytes has its whole header, which records these lengths, none above the greatest
+pub record HasHeader (tells : Type 0) (log : List ℕ) (len : ℕ) (lens : List ℕ) : Type 0 where
+  pub len_is : tells → len ≡ length log
+  pub long : 152 ≤ len
+  pub begins : tells → agrees magic log ≡ true
+  pub records : tells → lens ≡ lengths log
+  pub short : all_short lens ≡ true
 
 -- the scan goes on behind an entry, or there is none
 abbrev pub AfterScan : List ℕ → List ℕ → ℕ → Bool → Option Seen → Type 0
@@ -39,6 +45,20 @@ pub record FindsNothing (files : Files) (lens : List ℕ) : Type 0 where
 abbrev pub Finds : Bool → Files → List ℕ → ℕ → Type 0
 Finds true files lens end = FindsUndo files lens end
 Finds false files lens end = FindsNothing files lens
+
+-- so the log of these files was found, with lengths none of which is above the greatest
+pub record IsFound (tells : Type 0) (files : Files) (found : Found) : Type 0 where
+  pub finds : tells → Finds found.undoes files found.lens found.end
+  pub short : all_short found.lens ≡ true
+
+-- each data file is on the disk as it reads
+abbrev pub FilesOnDisk : Calls → Type 0
+FilesOnDisk cs = (f : ℕ) → is_data f ≡ true → Durable cs f
+
+-- so are the log and the data files
+pub record OnDisk (cs : Calls) : Type 0 where
+  pub log : Durable cs 1
+  pub files : FilesOnDisk cs
 
 -- ---- an entry of the log that ends at a place
 
@@ -69,3 +89,10 @@ pub record IsBack (e : Entry) (front : List ℕ) (b : Back) : Type 0 where
   pub at : b.at ≡ e.at
   pub size : b.size ≡ length e.bytes
   pub start : b.start ≡ length front
+
+-- the numbers of the entry that ends at a place, read from its end
+pub record FindsBack (tells : Type 0) (cs : Calls) (end : ℕ) (b : Back) : Type 0 where
+  pub data_file : is_data b.file ≡ true
+  pub few : b.size ≤ 4096
+  pub start : b.start + 20 + b.size ≡ end
+  pub back : tells → (e : Entry) (front rest : List ℕ) → IsEntryAt cs end e front rest → IsBack e front b

@@ -11,11 +11,11 @@ abbrev pub log_end : Bool → ℕ → ℕ
 log_end true end = end
 log_end false end = 152
 
--- the recorded length of a file, or the one that will be recorded
-abbrev pub recorded_of : Bool → List ℕ → List ℕ → ℕ → ℕ
-recorded_of true recorded lens f = length_of recorded f
-recorded_of false recorded lens f = length_of lens f
+-- the recorded lengths, or those that will be recorded
+abbrev pub recorded_of : Bool → List ℕ → List ℕ → List ℕ
+recorded_of true recorded lens = recorded
+recorded_of false recorded lens = lens
 
 -- where the bytes of a file that need entries end, of those up to a place
 abbrev pub stop_of : Bool → List ℕ → List ℕ → ℕ → ℕ → ℕ
-stop_of active recorded lens f all = min (min all (recorded_of active recorded lens f)) (length_of lens f)
+stop_of active recorded lens f all = min (min all (length_of (recorded_of active recorded lens) f)) (length_of lens f)

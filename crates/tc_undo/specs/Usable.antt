@@ -6,19 +6,19 @@ use Rattle.tc_base.specs.Files.{Files}
 use Rattle.tc_io.specs.Images.{Calls, now}
 use Rattle.tc_space.specs.Ranges.{IsDataFile}
 use Rattle.ud_log.specs.Undo.{all_short, data_of, is_data, length_of, recovered}
-use Rattle.ud_state.specs.State.{AreLens, IsValid}
+use Rattle.ud_state.specs.State.{IsValid}
 use Rattle.ud_state.proofs.Valid.{data_at, valid_idle, valid_some}
+use Rattle.tc_undo.specs.Changes.{KnowsLens}
 use Rattle.tc_undo.specs.declared.room.Log.{Log}
 
 pub record IsUsable (tells : Type 0) (cs : Calls) (touched : Bool) (log : Log) (lens limits : List ℕ) : Type 0 where
-  pub short : all_short lens ≡ true
+  pub knows : KnowsLens tells (now cs) lens
   pub limits_short : all_short limits ≡ true
   pub inside : (f : ℕ) → is_data f ≡ true → length_of lens f ≤ length_of limits f
   pub low : log.end ≤ 2 ^ 62
   -- no transaction is open where nothing was written
   pub untouched : touched ≡ false → log.active ≡ false
   pub valid : tells → IsValid log.active cs log.end log.recorded log.changed
-  pub are : tells → AreLens lens (now cs)
 
 is_there : (w : Option Files) (files : Files) → w ≡ Some files → is_some w ≡ true
 is_there w files is = ap is_some is
@@ -38,4 +38,4 @@ module _ (tells : Type 0) (cs : Calls) (touched : Bool) (log : Log) (lens limits
     pub usable_within : length (data_of (now cs) file) ≤ length_of limits file
     usable_within =
         let isd = data_file file is in
-        subst (λ k. k ≤ length_of limits file) ((usable.are told).at file isd ∙ sym (ap length (data_at (now cs) file isd))) (usable.inside file isd)
+        subst (λ k. k ≤ length_of limits file) ((usable.knows.are told).at file isd ∙ sym (ap length (data_at (now cs) file isd))) (usable.inside file isd)

@@ -1,10 +1,11 @@
 //! A commit brings the changed data files to the disk, and then cuts the log.
-ghost use Rattle.std.specs.Prelude.{◌≡◌, ◌+◌, ◌≤◌, ◌<◌, ℕ, true, false, length, OnOk, OnErr};
+ghost use Rattle.std.specs.Prelude.{◌≡◌, true, OnOk};
 ghost use Rattle.tc_io.specs.Causes.{HasCause};
 ghost use Rattle.tc_io.specs.Images.{now};
-ghost use Rattle.ud_log.specs.Undo.{is_data, data_of};
+ghost use Rattle.ud_log.specs.Undo.{data_of};
 ghost use Rattle.ud_state.specs.Since.{AllLeft, Since};
 ghost use Rattle.ud_state.specs.State.{EitherOf, Idle, IsOpen};
+ghost use Rattle.tc_undo.specs.Volumes.{StaysBound};
 
 use crate::room::Log;
 use crate::syncs::sync_marked;
@@ -17,8 +18,7 @@ pub fn finish<V: Volume>(vol: &mut V, log: &Log) -> Result<(), Fault>
     requires open { V.tells → IsOpen (V.calls vol.old) log.now.end log.now.recorded log.now.changed }
     ensures moments { V.tells → Since (AllLeft (EitherOf (V.calls vol.old))) (V.calls vol.old) (V.calls vol.new) }
     ensures idle { OnOk result (V.tells → Idle (V.calls vol.new) (data_of (now (V.calls vol.old)))) }
-    ensures bound { V.bound vol.new ≡ true }
-    ensures names { V.names vol.new ≡ V.names vol.old }
+    ensures stays { StaysBound V.Volume vol.old vol.new }
     ensures cause { HasCause (V.faults vol.old) (V.faults vol.new) result }
 {
     sync_marked(vol, &log.changed)?;

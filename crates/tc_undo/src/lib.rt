@@ -4,7 +4,7 @@
 //! old byte is overwritten or cut away, an entry with that byte; it is brought to the disk before the data file changes. A commit
 //! brings the changed data files to the disk, cuts the log to nothing, and brings that to the disk. Recovery undoes what an
 //! unfinished transaction did.
-#![tactic(auto)]
+#![tactic(auto, using(crate::proofs::Volumes::stays_then, crate::proofs::Volumes::reads_then, crate::proofs::Volumes::stays_quiet_then))]
 
 mod changes;
 mod errors;

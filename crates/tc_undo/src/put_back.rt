@@ -1,16 +1,15 @@
 //! Recovery puts the old bytes back, from the last entry to the first.
-ghost use Rattle.std.specs.Prelude.{◌≡◌, ◌+◌, ◌-◌, ◌^◌, ◌≤◌, ◌<◌, ◌++◌, ◌∷◌, ℕ, List, true, length, take, drop, OnOk, OnErr, IfOk, IfErr, IsErrOf};
-ghost use Rattle.ud_state.specs.Recovery.{CanPutBack, Restored};
-ghost use Rattle.tc_io.specs.Causes.{Rose};
-ghost use Rattle.tc_io.specs.Images.{now, written, IsLost};
-ghost use Rattle.ud_log.specs.Entries.{Entry};
-ghost use Rattle.ud_log.specs.Undo.{is_data};
-ghost use Rattle.tc_undo.specs.Errors.{OnBroken};
-ghost use Rattle.tc_undo.specs.Found.{EndsAt, IsBack, IsEntryAt, PutBack, PutBackLost};
+ghost use Rattle.std.specs.Prelude.{◌≡◌, ◌+◌, ◌≤◌, ℕ, List, true, OnOk, OnErr, IfOk, IfErr, IsErrOf};
 ghost use Rattle.tc_base.specs.Files.{Files};
+ghost use Rattle.tc_io.specs.Causes.{Rose};
+ghost use Rattle.tc_io.specs.Images.{now};
 ghost use Rattle.ud_log.specs.Log.{entries};
+ghost use Rattle.ud_state.specs.Recovery.{CanPutBack, Restored};
 ghost use Rattle.ud_state.specs.Since.{Quiet};
 ghost use Rattle.ud_state.specs.State.{Replay};
+ghost use Rattle.tc_undo.specs.Errors.{OnBroken};
+ghost use Rattle.tc_undo.specs.Found.{EndsAt, FindsBack, PutBack, PutBackLost};
+ghost use Rattle.tc_undo.specs.Volumes.{OnlyReads, StaysBound};
 
 use crate::errors::{RecoverErr, rule};
 use tc_io::Volume;
@@ -29,15 +28,9 @@ pub struct Back {
 fn find_back<V: Volume>(vol: &mut V, end: u64) -> Result<Back, RecoverErr>
     requires bound { V.bound vol.old ≡ true }
     requires ends { V.tells → EndsAt (V.calls vol.old) end }
-    ensures back { IfOk result (λ b. V.tells → (e : Entry) (front rest : List ℕ) → IsEntryAt (V.calls vol.old) end e front rest → IsBack e front b) }
-    ensures formed { IfOk result (λ b. is_data b.file ≡ true) }
-    ensures few { IfOk result (λ b. b.size ≤ 4096) }
-    ensures start { IfOk result (λ b. b.start + 20 + b.size ≡ end) }
-    ensures calls { V.tells → V.calls vol.new ≡ V.calls vol.old }
-    ensures bound { V.bound vol.new ≡ true }
-    ensures names { V.names vol.new ≡ V.names vol.old }
+    ensures finds { IfOk result (λ b. FindsBack V.tells (V.calls vol.old) end b) }
+    ensures reads { OnlyReads V.Volume vol.old vol.new }
     ensures whole { IfErr result (λ e. OnBroken e (λ r. V.tells → ⊥)) }
-    ensures later { V.faults vol.old ≤ V.faults vol.new }
     ensures cause { IsErrOf result RecoverErr.Fault → Rose (V.faults vol.old) (V.faults vol.new) }
 {
     if end < 20 {
@@ -71,10 +64,8 @@ pub fn put_back_one<V: Volume>(vol: &mut V, end: u64) -> Result<u64, RecoverErr>
     ensures put { IfOk result (λ start. V.tells → PutBack (V.calls vol.old) (V.calls vol.new) end start) }
     ensures lost { OnErr result (V.tells → PutBackLost (V.calls vol.old) (V.calls vol.new) end) }
     ensures order { IfOk result (λ start. start + 20 ≤ end) }
-    ensures bound { V.bound vol.new ≡ true }
-    ensures names { V.names vol.new ≡ V.names vol.old }
+    ensures stays { StaysBound V.Volume vol.old vol.new }
     ensures whole { IfErr result (λ e. OnBroken e (λ r. V.tells → ⊥)) }
-    ensures later { V.faults vol.old ≤ V.faults vol.new }
     ensures cause { IsErrOf result RecoverErr.Fault → Rose (V.faults vol.old) (V.faults vol.new) }
 {
     let found = match find_back(vol, end) {
@@ -94,10 +85,8 @@ pub fn put_back_all<V: Volume>(vol: &mut V, end: u64) -> Result<(), RecoverErr>
     requires can { V.tells → CanPutBack (V.calls vol.old) end }
     ensures quiet { V.tells → (files : Files) (lens : List ℕ) → Replay (V.calls vol.old) files lens (entries (now (V.calls vol.old) 1)) → Quiet (V.calls vol.old) (V.calls vol.new) }
     ensures restored { OnOk result (V.tells → Restored (V.calls vol.old) (V.calls vol.new) (entries (now (V.calls vol.old) 1))) }
-    ensures bound { V.bound vol.new ≡ true }
-    ensures names { V.names vol.new ≡ V.names vol.old }
+    ensures stays { StaysBound V.Volume vol.old vol.new }
     ensures whole { IfErr result (λ e. OnBroken e (λ r. V.tells → ⊥)) }
-    ensures later { V.faults vol.old ≤ V.faults vol.new }
     ensures cause { IsErrOf result RecoverErr.Fault → Rose (V.faults vol.old) (V.faults vol.new) }
 {
     let mut at = end;

@@ -1,15 +1,17 @@
 //! Recovery: what an unfinished transaction did is undone.
-ghost use Rattle.std.specs.Prelude.{◌≡◌, ◌+◌, ◌-◌, ◌^◌, ◌≤◌, ◌<◌, ◌∷◌, ℕ, List, true, false, length, OnOk, OnErr, IfOk, IfErr, IsErrOf, Ok, Err};
-ghost use Rattle.ud_state.specs.Recovery.{Ready, Recovers};
+ghost use Rattle.std.specs.Prelude.{◌≡◌, ◌≤◌, ◌∷◌, true, length, OnOk, IfErr, IfOk, IsErrOf, Ok, Err};
 ghost use Rattle.tc_base.specs.Files.{Files};
 ghost use Rattle.tc_io.specs.Causes.{Rose, HasCause};
 ghost use Rattle.tc_io.specs.Images.{now, of, synced};
 ghost use Rattle.ud_log.specs.Log.{entries};
-ghost use Rattle.ud_log.specs.Undo.{is_data, all_short, data_of, undo, undone_all};
+ghost use Rattle.ud_log.specs.Undo.{all_short, data_of, undo, undone_all};
+ghost use Rattle.ud_state.specs.Recovery.{Ready, Recovers};
 ghost use Rattle.ud_state.specs.Since.{Calm, Quiet};
-ghost use Rattle.ud_state.specs.State.{AreLens, Durable, Idle, IsSettled};
+ghost use Rattle.ud_state.specs.State.{Durable, Idle, IsSettled};
+ghost use Rattle.tc_undo.specs.Changes.{KnowsLens};
 ghost use Rattle.tc_undo.specs.Errors.{OnBroken};
-ghost use Rattle.tc_undo.specs.Found.{FindsUndo, Finds};
+ghost use Rattle.tc_undo.specs.Found.{FindsUndo, IsFound, OnDisk};
+ghost use Rattle.tc_undo.specs.Volumes.{StaysBound, StaysQuiet};
 
 use crate::errors::RecoverErr;
 use crate::put_back::put_back_all;
@@ -24,16 +26,11 @@ fn redo<V: Volume>(vol: &mut V, found: &Found) -> Result<(), RecoverErr>
     requires bound { V.bound vol.old ≡ true }
     requires finds { V.tells → FindsUndo (now (V.calls vol.old)) found.now.lens found.now.end }
     requires short { all_short found.now.lens ≡ true }
-    requires long { V.tells → 152 ≤ length (now (V.calls vol.old) 1) }
-    requires log { V.tells → Durable (V.calls vol.old) 1 }
-    requires there { V.tells → (f : ℕ) → is_data f ≡ true → Durable (V.calls vol.old) f }
-    ensures quiet { V.tells → Quiet (V.calls vol.old) (V.calls vol.new) }
+    requires disk { V.tells → OnDisk (V.calls vol.old) }
+    ensures quiet { StaysQuiet V.Volume vol.old vol.new }
     ensures ready { OnOk result (V.tells → Ready (V.calls vol.new) (undone_all found.now.lens (entries (now (V.calls vol.old) 1)) (now (V.calls vol.old)))) }
     ensures same { OnOk result (V.tells → of 1 (V.calls vol.new) ≡ of 1 (V.calls vol.old)) }
     ensures whole { IfErr result (λ e. OnBroken e (λ r. V.tells → ⊥)) }
-    ensures bound { V.bound vol.new ≡ true }
-    ensures names { V.names vol.new ≡ V.names vol.old }
-    ensures later { V.faults vol.old ≤ V.faults vol.new }
     ensures cause { IsErrOf result RecoverErr.Fault → Rose (V.faults vol.old) (V.faults vol.new) }
 {
     set_lengths(vol, &found.lens)?;
@@ -51,8 +48,7 @@ fn drop_log<V: Volume>(vol: &mut V, len: u64) -> Result<(), Fault>
     requires len { V.tells → len ≡ length (now (V.calls vol.old) 1) }
     ensures quiet { V.tells → (files : Files) → Ready (V.calls vol.old) files → Quiet (V.calls vol.old) (V.calls vol.new) }
     ensures idle { OnOk result (V.tells → (files : Files) → Ready (V.calls vol.old) files → Idle (V.calls vol.new) files) }
-    ensures bound { V.bound vol.new ≡ true }
-    ensures names { V.names vol.new ≡ V.names vol.old }
+    ensures stays { StaysBound V.Volume vol.old vol.new }
     ensures cause { HasCause (V.faults vol.old) (V.faults vol.new) result }
 {
     if len == 0 {
@@ -66,16 +62,13 @@ fn drop_log<V: Volume>(vol: &mut V, len: u64) -> Result<(), Fault>
 /// Brings the data files to the disk, and undoes what the log found says. 18 syncs, and 18 more where it undoes something.
 fn settle<V: Volume>(vol: &mut V, found: &Found) -> Result<(), RecoverErr>
     requires bound { V.bound vol.old ≡ true }
-    requires finds { V.tells → Finds found.now.undoes (now (V.calls vol.old)) found.now.lens found.now.end }
-    requires short { all_short found.now.lens ≡ true }
+    requires found { IsFound V.tells (now (V.calls vol.old)) found.now }
     requires log { V.tells → Durable (V.calls vol.old) 1 }
     ensures quiet { V.tells → Calm (V.calls vol.old) → Quiet (V.calls vol.old) (V.calls vol.new) }
     ensures ready { OnOk result (V.tells → (files : Files) → undo (now (V.calls vol.old) 1) (now (V.calls vol.old)) ≡ Ok files → Ready (V.calls vol.new) files) }
     ensures same { OnOk result (V.tells → of 1 (V.calls vol.new) ≡ of 1 (V.calls vol.old)) }
     ensures whole { IfErr result (λ e. OnBroken e (λ r. V.tells → ⊥)) }
-    ensures bound { V.bound vol.new ≡ true }
-    ensures names { V.names vol.new ≡ V.names vol.old }
-    ensures later { V.faults vol.old ≤ V.faults vol.new }
+    ensures stays { StaysBound V.Volume vol.old vol.new }
     ensures cause { IsErrOf result RecoverErr.Fault → Rose (V.faults vol.old) (V.faults vol.new) }
 {
     sync_marked(vol, &[true; 18])?; // before a data file is written
@@ -94,12 +87,9 @@ pub fn restore<V: Volume>(vol: &mut V) -> Result<[u64; 18], RecoverErr>
     ensures recovers { V.tells → IsSettled (V.calls vol.old) → Recovers (V.calls vol.old) (V.calls vol.new) }
     ensures idle { OnOk result (V.tells → Idle (V.calls vol.new) (data_of (now (V.calls vol.new)))) }
     ensures undone { OnOk result (V.tells → undo (now (V.calls vol.old) 1) (now (V.calls vol.old)) ≡ Ok (data_of (now (V.calls vol.new)))) }
-    ensures lens { IfOk result (λ lens. V.tells → AreLens lens (now (V.calls vol.new))) }
-    ensures short { IfOk result (λ lens. all_short lens ≡ true) }
+    ensures lens { IfOk result (λ lens. KnowsLens V.tells (now (V.calls vol.new)) lens) }
     ensures broken { IfErr result (λ e. OnBroken e (λ r. V.tells → (undo (now (V.calls vol.old) 1) (now (V.calls vol.old)) ≡ Err r) × (V.calls vol.new ≡ (1, synced) ∷ V.calls vol.old))) }
-    ensures bound { V.bound vol.new ≡ true }
-    ensures names { V.names vol.new ≡ V.names vol.old }
-    ensures later { V.faults vol.old ≤ V.faults vol.new }
+    ensures stays { StaysBound V.Volume vol.old vol.new }
     ensures cause { IsErrOf result RecoverErr.Fault → Rose (V.faults vol.old) (V.faults vol.new) }
 {
     vol.sync(1)?; // first of all

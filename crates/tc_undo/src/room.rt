@@ -1,6 +1,6 @@
 //! The state of the log in memory, and whether it has room.
-ghost use Rattle.std.specs.Prelude.{◌≡◌, ◌+◌, ◌*◌, ◌/◌, ◌-◌, ◌^◌, ◌≤◌, ◌<◌, true, false, ℕ, min, max, get_or, MatchOption};
-ghost use Rattle.ud_log.specs.Undo.{is_data, place_of, length_of, all_short};
+ghost use Rattle.std.specs.Prelude.{◌≡◌, ◌+◌, ◌-◌, ◌^◌, ◌≤◌, ◌<◌, true, ℕ, max, IfSome, IfNone};
+ghost use Rattle.ud_log.specs.Undo.{is_data, length_of, all_short};
 ghost use Rattle.tc_undo.specs.Room.{needs, log_end, stop_of};
 
 use ud_log::place;
@@ -23,7 +23,9 @@ pub fn stop_at(log: &Log, lens: &[u64; 18], file: u32, at: u64, all: u64) -> Opt
     requires is_data { is_data file ≡ true }
     requires small { all ≤ 2 ^ 40 }
     requires end { log.now.end ≤ 2 ^ 62 }
-    ensures { MatchOption result (2 ^ 62 < log_end log.now.active log.now.end + needs (stop_of log.now.active log.now.recorded lens.now file all - at)) (λ stop. (stop ≡ stop_of log.now.active log.now.recorded lens.now file all) × (log_end log.now.active log.now.end + needs (stop - at) ≤ 2 ^ 62)) }
+    ensures stop { IfSome result (λ stop. stop ≡ stop_of log.now.active log.now.recorded lens.now file all) }
+    ensures room { IfSome result (λ stop. log_end log.now.active log.now.end + needs (stop - at) ≤ 2 ^ 62) }
+    ensures none { IfNone result (2 ^ 62 < log_end log.now.active log.now.end + needs (stop_of log.now.active log.now.recorded lens.now file all - at)) }
 {
     let i = place(file);
     let recorded = if log.active { log.recorded[i] } else { lens[i] };

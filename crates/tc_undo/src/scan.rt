@@ -1,13 +1,15 @@
 //! The log is read and checked, and nothing is changed.
-ghost use Rattle.std.specs.Prelude.{◌≡◌, ◌+◌, ◌-◌, ◌^◌, ◌≤◌, ◌<◌, ℕ, true, false, length, take, drop, OnOk, OnErr, IfOk, IsErrOf, IfErr, Err, nat_le};
-ghost use Rattle.ud_log.specs.Scan.{Scanned, ScannedAll};
+ghost use Rattle.std.specs.Prelude.{◌≡◌, ◌+◌, ◌≤◌, true, false, length, take, OnOk, IfOk, IsErrOf, IfErr, Err, nat_le};
 ghost use Rattle.tc_io.specs.Causes.{Rose, HasCause};
 ghost use Rattle.tc_io.specs.Images.{now};
-ghost use Rattle.ud_log.specs.Log.{lengths, magic};
-ghost use Rattle.ud_log.specs.Undo.{agrees, all_short, broken, nothing, log_of, rule as rule_of, undo};
+ghost use Rattle.ud_log.specs.Log.{entries, magic};
+ghost use Rattle.ud_log.specs.Scan.{Scanned, ScannedAll};
+ghost use Rattle.ud_log.specs.Undo.{agrees, all_formed, broken, nothing, log_of, rule as rule_of, undo};
 ghost use Rattle.ud_state.specs.State.{AreLens};
+ghost use Rattle.tc_undo.specs.Changes.{KnowsLens};
 ghost use Rattle.tc_undo.specs.Errors.{OnBroken};
-ghost use Rattle.tc_undo.specs.Found.{AfterScan, GoesOn, Finds};
+ghost use Rattle.tc_undo.specs.Found.{AfterScan, GoesOn, HasHeader, IsFound};
+ghost use Rattle.tc_undo.specs.Volumes.{OnlyReads};
 
 use crate::errors::{RecoverErr, rule};
 use tc_base::Fault;
@@ -52,10 +54,7 @@ fn scan_entry<V: Volume>(
     ensures seen { IfOk result (λ s. V.tells → AfterScan (now (V.calls vol.old) 1) lens.now at fine s) }
     ensures broken { IfErr result (λ e. OnBroken e (λ r. V.tells → (r ≡ rule_of 3) × (all_formed (entries (now (V.calls vol.old) 1)) ≡ false))) }
     ensures next { IfOk result (λ s. GoesOn at len s) }
-    ensures calls { V.tells → V.calls vol.new ≡ V.calls vol.old }
-    ensures bound { V.bound vol.new ≡ true }
-    ensures names { V.names vol.new ≡ V.names vol.old }
-    ensures later { V.faults vol.old ≤ V.faults vol.new }
+    ensures reads { OnlyReads V.Volume vol.old vol.new }
     ensures cause { IsErrOf result RecoverErr.Fault → Rose (V.faults vol.old) (V.faults vol.new) }
 {
     let left = len - at;
@@ -81,24 +80,14 @@ fn scan_entry<V: Volume>(
     }))
 }
 
-ghost use Rattle.ud_log.specs.Log.{entries};
-ghost use Rattle.ud_log.specs.Undo.{all_formed};
-
 /// Goes over all entries from front to back. Answers where the last whole one ends.
 fn scan<V: Volume>(vol: &mut V, lens: &[u64; 18], len: u64) -> Result<u64, RecoverErr>
     requires bound { V.bound vol.old ≡ true }
-    requires len { V.tells → len ≡ length (now (V.calls vol.old) 1) }
-    requires long { 152 ≤ len }
-    requires front { V.tells → agrees magic (now (V.calls vol.old) 1) ≡ true }
-    requires lens { V.tells → lens.now ≡ lengths (now (V.calls vol.old) 1) }
-    requires short { all_short lens.now ≡ true }
+    requires header { HasHeader V.tells (now (V.calls vol.old) 1) len lens.now }
     ensures end { IfOk result (λ end. V.tells → ScannedAll (now (V.calls vol.old) 1) lens.now end true) }
     ensures broken { IfErr result (λ e. OnBroken e (λ r. V.tells → log_of (now (V.calls vol.old) 1) ≡ broken r)) }
     ensures order { IfOk result (λ end. end ≤ len) }
-    ensures calls { V.tells → V.calls vol.new ≡ V.calls vol.old }
-    ensures bound { V.bound vol.new ≡ true }
-    ensures names { V.names vol.new ≡ V.names vol.old }
-    ensures later { V.faults vol.old ≤ V.faults vol.new }
+    ensures reads { OnlyReads V.Volume vol.old vol.new }
     ensures cause { IsErrOf result RecoverErr.Fault → Rose (V.faults vol.old) (V.faults vol.new) }
 {
     let mut at = 152;
@@ -123,9 +112,7 @@ fn scan<V: Volume>(vol: &mut V, lens: &[u64; 18], len: u64) -> Result<u64, Recov
 fn lens_of_data<V: Volume>(vol: &mut V) -> Result<[u64; 18], Fault>
     requires { V.bound vol.old ≡ true }
     ensures lens { IfOk result (λ lens. V.tells → AreLens lens (now (V.calls vol.old))) }
-    ensures calls { V.tells → V.calls vol.new ≡ V.calls vol.old }
-    ensures bound { V.bound vol.new ≡ true }
-    ensures names { V.names vol.new ≡ V.names vol.old }
+    ensures reads { OnlyReads V.Volume vol.old vol.new }
     ensures cause { HasCause (V.faults vol.old) (V.faults vol.new) result }
 {
     let mut lens = [0u64; 18];
@@ -143,10 +130,7 @@ fn front_of<V: Volume>(vol: &mut V, len: u64) -> Result<[u8; 152], RecoverErr>
     ensures front { IfOk result (λ head. V.tells → 152 ≤ len → head ≡ take 152 (now (V.calls vol.old) 1)) }
     ensures magic { OnOk result (V.tells → agrees magic (now (V.calls vol.old) 1) ≡ true) }
     ensures broken { IfErr result (λ e. OnBroken e (λ r. V.tells → log_of (now (V.calls vol.old) 1) ≡ broken r)) }
-    ensures calls { V.tells → V.calls vol.new ≡ V.calls vol.old }
-    ensures bound { V.bound vol.new ≡ true }
-    ensures names { V.names vol.new ≡ V.names vol.old }
-    ensures later { V.faults vol.old ≤ V.faults vol.new }
+    ensures reads { OnlyReads V.Volume vol.old vol.new }
     ensures cause { IsErrOf result RecoverErr.Fault → Rose (V.faults vol.old) (V.faults vol.new) }
 {
     let mut head = [0u8; 152];
@@ -162,13 +146,9 @@ fn front_of<V: Volume>(vol: &mut V, len: u64) -> Result<[u8; 152], RecoverErr>
 fn as_they_are<V: Volume>(vol: &mut V) -> Result<[u64; 18], RecoverErr>
     requires bound { V.bound vol.old ≡ true }
     requires log { V.tells → log_of (now (V.calls vol.old) 1) ≡ nothing }
-    ensures lens { IfOk result (λ lens. V.tells → AreLens lens (now (V.calls vol.old))) }
-    ensures short { IfOk result (λ lens. all_short lens ≡ true) }
+    ensures lens { IfOk result (λ lens. KnowsLens V.tells (now (V.calls vol.old)) lens) }
     ensures broken { IfErr result (λ e. OnBroken e (λ r. V.tells → undo (now (V.calls vol.old) 1) (now (V.calls vol.old)) ≡ Err r)) }
-    ensures calls { V.tells → V.calls vol.new ≡ V.calls vol.old }
-    ensures bound { V.bound vol.new ≡ true }
-    ensures names { V.names vol.new ≡ V.names vol.old }
-    ensures later { V.faults vol.old ≤ V.faults vol.new }
+    ensures reads { OnlyReads V.Volume vol.old vol.new }
     ensures cause { IsErrOf result RecoverErr.Fault → Rose (V.faults vol.old) (V.faults vol.new) }
 {
     let lens = lens_of_data(vol)?;
@@ -182,14 +162,10 @@ fn as_they_are<V: Volume>(vol: &mut V) -> Result<[u64; 18], RecoverErr>
 pub fn look<V: Volume>(vol: &mut V, len: u64) -> Result<Found, RecoverErr>
     requires bound { V.bound vol.old ≡ true }
     requires len { V.tells → len ≡ length (now (V.calls vol.old) 1) }
-    ensures found { IfOk result (λ f. V.tells → Finds f.undoes (now (V.calls vol.old)) f.lens f.end) }
-    ensures short { IfOk result (λ f. all_short f.lens ≡ true) }
+    ensures found { IfOk result (λ f. IsFound V.tells (now (V.calls vol.old)) f) }
     ensures order { IfOk result (λ f. f.end ≤ len) }
     ensures broken { IfErr result (λ e. OnBroken e (λ r. V.tells → undo (now (V.calls vol.old) 1) (now (V.calls vol.old)) ≡ Err r)) }
-    ensures calls { V.tells → V.calls vol.new ≡ V.calls vol.old }
-    ensures bound { V.bound vol.new ≡ true }
-    ensures names { V.names vol.new ≡ V.names vol.old }
-    ensures later { V.faults vol.old ≤ V.faults vol.new }
+    ensures reads { OnlyReads V.Volume vol.old vol.new }
     ensures cause { IsErrOf result RecoverErr.Fault → Rose (V.faults vol.old) (V.faults vol.new) }
 {
     let head = match front_of(vol, len) {

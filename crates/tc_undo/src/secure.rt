@@ -1,11 +1,12 @@
 //! The old bytes of a range are brought to the disk, with one sync for all of them and for the header.
-ghost use Rattle.std.specs.Prelude.{◌≡◌, ◌+◌, ◌-◌, ◌^◌, ◌≤◌, ◌<◌, ℕ, true, false, length, OnOk, OnErr, IfOk};
+ghost use Rattle.std.specs.Prelude.{◌≡◌, true, OnOk};
 ghost use Rattle.tc_io.specs.Causes.{HasCause};
 ghost use Rattle.tc_io.specs.Images.{now};
-ghost use Rattle.ud_log.specs.Undo.{is_data, length_of, data_of};
-ghost use Rattle.ud_state.specs.Since.{Quiet};
-ghost use Rattle.ud_state.specs.State.{AreLens, Idle, IsOpen, IsValid, LogOnly, Secured, Unchanged};
-ghost use Rattle.tc_undo.specs.Room.{needs, log_end, recorded_of};
+ghost use Rattle.ud_log.specs.Undo.{data_of};
+ghost use Rattle.ud_state.specs.State.{AreLens, Idle, IsOpen, IsValid};
+ghost use Rattle.tc_undo.specs.Changes.{MayLog, Secures};
+ghost use Rattle.tc_undo.specs.Room.{log_end, recorded_of};
+ghost use Rattle.tc_undo.specs.Volumes.{StaysQuiet};
 
 use crate::changes::{begin, log_range};
 use crate::room::Log;
@@ -24,21 +25,10 @@ fn secure_first<V: Volume>(
     requires bound { V.bound vol.old ≡ true }
     requires idle { V.tells → Idle (V.calls vol.old) (data_of (now (V.calls vol.old))) }
     requires lens { V.tells → AreLens lens.now (now (V.calls vol.old)) }
-    requires file { file ≤ 18 }
-    requires is_data { is_data file ≡ true }
-    requires inside { stop ≤ length_of lens.now file }
-    requires within { V.tells → stop ≤ length (now (V.calls vol.old) file) }
-    requires room { 152 + needs (stop - at) ≤ 2 ^ 62 }
-    ensures quiet { V.tells → Quiet (V.calls vol.old) (V.calls vol.new) }
-    ensures secured { OnOk result (V.tells → Secured (V.calls vol.new) log.new.recorded file at stop) }
-    ensures end { OnOk result (V.tells → log.new.end ≡ length (now (V.calls vol.new) 1)) }
-    ensures low { OnOk result (log.new.end ≤ 2 ^ 62) }
+    requires may { MayLog V.tells (V.calls vol.old) lens.now 152 file at stop }
+    ensures quiet { StaysQuiet V.Volume vol.old vol.new }
+    ensures secures { OnOk result (Secures V.tells (V.calls vol.old) (V.calls vol.new) lens.now log.new file at stop) }
     ensures active { OnOk result (log.new.active ≡ true) }
-    ensures recorded { OnOk result (log.new.recorded ≡ lens.now) }
-    ensures unchanged { OnOk result (V.tells → Unchanged (V.calls vol.new) log.new.changed) }
-    ensures only { OnOk result (V.tells → LogOnly (V.calls vol.old) (V.calls vol.new)) }
-    ensures bound { V.bound vol.new ≡ true }
-    ensures names { V.names vol.new ≡ V.names vol.old }
     ensures cause { HasCause (V.faults vol.old) (V.faults vol.new) result }
 {
     begin(vol, lens)?;
@@ -63,21 +53,11 @@ fn secure_more<V: Volume>(
 ) -> Result<(), Fault>
     requires bound { V.bound vol.old ≡ true }
     requires open { V.tells → IsOpen (V.calls vol.old) log.old.end log.old.recorded log.old.changed }
-    requires file { file ≤ 18 }
-    requires is_data { is_data file ≡ true }
-    requires inside { stop ≤ length_of log.old.recorded file }
-    requires within { V.tells → stop ≤ length (now (V.calls vol.old) file) }
-    requires room { log.old.end + needs (stop - at) ≤ 2 ^ 62 }
-    ensures quiet { V.tells → Quiet (V.calls vol.old) (V.calls vol.new) }
-    ensures secured { OnOk result (V.tells → Secured (V.calls vol.new) log.new.recorded file at stop) }
-    ensures end { OnOk result (V.tells → log.new.end ≡ length (now (V.calls vol.new) 1)) }
-    ensures low { OnOk result (log.new.end ≤ 2 ^ 62) }
+    requires may { MayLog V.tells (V.calls vol.old) log.old.recorded log.old.end file at stop }
+    ensures quiet { StaysQuiet V.Volume vol.old vol.new }
+    ensures secures { OnOk result (Secures V.tells (V.calls vol.old) (V.calls vol.new) log.old.recorded log.new file at stop) }
     ensures active { log.new.active ≡ log.old.active }
     ensures recorded { log.new.recorded ≡ log.old.recorded }
-    ensures unchanged { OnOk result (V.tells → Unchanged (V.calls vol.new) log.new.changed) }
-    ensures only { OnOk result (V.tells → LogOnly (V.calls vol.old) (V.calls vol.new)) }
-    ensures bound { V.bound vol.new ≡ true }
-    ensures names { V.names vol.new ≡ V.names vol.old }
     ensures cause { HasCause (V.faults vol.old) (V.faults vol.new) result }
 {
     if stop <= at {
@@ -101,21 +81,10 @@ pub fn secure<V: Volume>(
     requires bound { V.bound vol.old ≡ true }
     requires valid { V.tells → IsValid log.old.active (V.calls vol.old) log.old.end log.old.recorded log.old.changed }
     requires lens { V.tells → AreLens lens.now (now (V.calls vol.old)) }
-    requires file { file ≤ 18 }
-    requires is_data { is_data file ≡ true }
-    requires inside { stop ≤ recorded_of log.old.active log.old.recorded lens.now file }
-    requires within { V.tells → stop ≤ length (now (V.calls vol.old) file) }
-    requires room { log_end log.old.active log.old.end + needs (stop - at) ≤ 2 ^ 62 }
-    ensures quiet { V.tells → Quiet (V.calls vol.old) (V.calls vol.new) }
-    ensures secured { OnOk result (V.tells → Secured (V.calls vol.new) log.new.recorded file at stop) }
-    ensures end { OnOk result (V.tells → log.new.end ≡ length (now (V.calls vol.new) 1)) }
-    ensures low { OnOk result (log.new.end ≤ 2 ^ 62) }
+    requires may { MayLog V.tells (V.calls vol.old) (recorded_of log.old.active log.old.recorded lens.now) (log_end log.old.active log.old.end) file at stop }
+    ensures quiet { StaysQuiet V.Volume vol.old vol.new }
+    ensures secures { OnOk result (Secures V.tells (V.calls vol.old) (V.calls vol.new) (recorded_of log.old.active log.old.recorded lens.now) log.new file at stop) }
     ensures active { OnOk result (log.new.active ≡ true) }
-    ensures recorded { OnOk result (length_of log.new.recorded file ≡ recorded_of log.old.active log.old.recorded lens.now file) }
-    ensures unchanged { OnOk result (V.tells → Unchanged (V.calls vol.new) log.new.changed) }
-    ensures only { OnOk result (V.tells → LogOnly (V.calls vol.old) (V.calls vol.new)) }
-    ensures bound { V.bound vol.new ≡ true }
-    ensures names { V.names vol.new ≡ V.names vol.old }
     ensures cause { HasCause (V.faults vol.old) (V.faults vol.new) result }
 {
     if log.active {

@@ -1,9 +1,10 @@
 //! Data files are brought to the disk.
-ghost use Rattle.std.specs.Prelude.{◌≡◌, ◌+◌, ◌≤◌, ◌<◌, ℕ, true, false, get_or, OnOk, OnErr};
+ghost use Rattle.std.specs.Prelude.{◌≡◌, ℕ, true, false, get_or, OnOk};
 ghost use Rattle.tc_io.specs.Causes.{HasCause};
 ghost use Rattle.ud_log.specs.Undo.{is_data, place_of};
 ghost use Rattle.ud_state.specs.Since.{Calm, Quiet};
 ghost use Rattle.ud_state.specs.State.{Durable, SyncOnly};
+ghost use Rattle.tc_undo.specs.Volumes.{StaysBound};
 
 use tc_base::Fault;
 use tc_io::Volume;
@@ -12,13 +13,11 @@ use ud_log::file_at;
 /// Brings a data file to the disk, if it is marked.
 fn sync_if<V: Volume>(vol: &mut V, file: u32, marked: bool) -> Result<(), Fault>
     requires bound { V.bound vol.old ≡ true }
-    requires file { file ≤ 18 }
     requires is_data { is_data file ≡ true }
     ensures quiet { V.tells → Calm (V.calls vol.old) → Quiet (V.calls vol.old) (V.calls vol.new) }
     ensures synced { OnOk result (V.tells → SyncOnly (V.calls vol.old) (V.calls vol.new)) }
     ensures there { OnOk result (V.tells → (marked ≡ false → Durable (V.calls vol.old) file) → Durable (V.calls vol.new) file) }
-    ensures bound { V.bound vol.new ≡ true }
-    ensures names { V.names vol.new ≡ V.names vol.old }
+    ensures stays { StaysBound V.Volume vol.old vol.new }
     ensures cause { HasCause (V.faults vol.old) (V.faults vol.new) result }
 {
     if !marked {
@@ -34,8 +33,7 @@ pub fn sync_marked<V: Volume>(vol: &mut V, marked: &[bool; 18]) -> Result<(), Fa
     ensures quiet { V.tells → Calm (V.calls vol.old) → Quiet (V.calls vol.old) (V.calls vol.new) }
     ensures synced { OnOk result (V.tells → SyncOnly (V.calls vol.old) (V.calls vol.new)) }
     ensures there { OnOk result (V.tells → (f : ℕ) → is_data f ≡ true → (get_or marked.now (place_of f) false ≡ false → Durable (V.calls vol.old) f) → Durable (V.calls vol.new) f) }
-    ensures bound { V.bound vol.new ≡ true }
-    ensures names { V.names vol.new ≡ V.names vol.old }
+    ensures stays { StaysBound V.Volume vol.old vol.new }
     ensures cause { HasCause (V.faults vol.old) (V.faults vol.new) result }
 {
     for i in 0..18 {

@@ -1,12 +1,12 @@
 //! A write or a cut, its old bytes first.
-ghost use Rattle.std.specs.Prelude.{◌≡◌, ◌+◌, ◌-◌, ◌^◌, ◌≤◌, ◌<◌, ℕ, true, false, length, take, set, min, max, OnOk, OnErr, IfOk};
+ghost use Rattle.std.specs.Prelude.{◌≡◌, ◌+◌, ◌^◌, ◌≤◌, true, length, take, min, max, OnOk};
 ghost use Rattle.tc_base.specs.Files.{wrote};
 ghost use Rattle.tc_io.specs.Causes.{HasCause};
-ghost use Rattle.tc_io.specs.Images.{now, of};
-ghost use Rattle.ud_log.specs.Undo.{is_data, place_of, length_of, all_short, data_of};
-ghost use Rattle.ud_state.specs.Since.{Quiet};
-ghost use Rattle.ud_state.specs.State.{AreLens, IsOpen, IsValid};
-ghost use Rattle.tc_undo.specs.Room.{needs, log_end, stop_of};
+ghost use Rattle.tc_io.specs.Images.{now};
+ghost use Rattle.ud_log.specs.Undo.{length_of};
+ghost use Rattle.ud_state.specs.State.{IsValid};
+ghost use Rattle.tc_undo.specs.Changes.{Changes, KnowsLens, MayChange};
+ghost use Rattle.tc_undo.specs.Volumes.{StaysQuiet};
 
 use crate::room::Log;
 use crate::secure::secure;
@@ -26,25 +26,11 @@ pub fn write_through<V: Volume>(
 ) -> Result<(), Fault>
     requires bound { V.bound vol.old ≡ true }
     requires valid { V.tells → IsValid log.old.active (V.calls vol.old) log.old.end log.old.recorded log.old.changed }
-    requires lens { V.tells → AreLens lens.old (now (V.calls vol.old)) }
-    requires short { all_short lens.old ≡ true }
-    requires file { file ≤ 18 }
-    requires is_data { is_data file ≡ true }
-    requires within { V.tells → at ≤ length (now (V.calls vol.old) file) }
+    requires lens { KnowsLens V.tells (now (V.calls vol.old)) lens.old }
+    requires may { MayChange V.tells (V.calls vol.old) log.old lens.old file at (at + length bytes.now) stop }
     requires small { at + length bytes.now ≤ 2 ^ 40 }
-    requires stop { stop ≡ stop_of log.old.active log.old.recorded lens.old file (at + length bytes.now) }
-    requires room { log_end log.old.active log.old.end + needs (stop - at) ≤ 2 ^ 62 }
-    ensures quiet { V.tells → Quiet (V.calls vol.old) (V.calls vol.new) }
-    ensures open { OnOk result (V.tells → IsOpen (V.calls vol.new) log.new.end log.new.recorded log.new.changed) }
-    ensures active { OnOk result (log.new.active ≡ true) }
-    ensures low { OnOk result (log.new.end ≤ 2 ^ 62) }
-    ensures lens { OnOk result (V.tells → AreLens lens.new (now (V.calls vol.new))) }
-    ensures short { OnOk result (all_short lens.new ≡ true) }
-    ensures grown { OnOk result (lens.new ≡ set lens.old (place_of file) (max (length_of lens.old file) (at + length bytes.now))) }
-    ensures wrote { OnOk result (V.tells → now (V.calls vol.new) file ≡ wrote at bytes.now (now (V.calls vol.old) file)) }
-    ensures others { OnOk result (V.tells → (f : ℕ) → is_data f ≡ true → (file ≡ f → ⊥) → now (V.calls vol.new) f ≡ now (V.calls vol.old) f) }
-    ensures bound { V.bound vol.new ≡ true }
-    ensures names { V.names vol.new ≡ V.names vol.old }
+    ensures quiet { StaysQuiet V.Volume vol.old vol.new }
+    ensures changes { OnOk result (Changes V.tells (V.calls vol.old) (V.calls vol.new) log.new lens.old lens.new file (λ n. max n (at + length bytes.now)) (wrote at bytes.now)) }
     ensures cause { HasCause (V.faults vol.old) (V.faults vol.new) result }
 {
     secure(vol, log, lens, file, at, stop)?;
@@ -66,24 +52,10 @@ pub fn cut_through<V: Volume>(
 ) -> Result<(), Fault>
     requires bound { V.bound vol.old ≡ true }
     requires valid { V.tells → IsValid log.old.active (V.calls vol.old) log.old.end log.old.recorded log.old.changed }
-    requires lens { V.tells → AreLens lens.old (now (V.calls vol.old)) }
-    requires short { all_short lens.old ≡ true }
-    requires file { file ≤ 18 }
-    requires is_data { is_data file ≡ true }
-    requires within { V.tells → len ≤ length (now (V.calls vol.old) file) }
-    requires stop { stop ≡ stop_of log.old.active log.old.recorded lens.old file (length_of lens.old file) }
-    requires room { log_end log.old.active log.old.end + needs (stop - len) ≤ 2 ^ 62 }
-    ensures quiet { V.tells → Quiet (V.calls vol.old) (V.calls vol.new) }
-    ensures open { OnOk result (V.tells → IsOpen (V.calls vol.new) log.new.end log.new.recorded log.new.changed) }
-    ensures active { OnOk result (log.new.active ≡ true) }
-    ensures low { OnOk result (log.new.end ≤ 2 ^ 62) }
-    ensures lens { OnOk result (V.tells → AreLens lens.new (now (V.calls vol.new))) }
-    ensures short { OnOk result (all_short lens.new ≡ true) }
-    ensures shorter { OnOk result (lens.new ≡ set lens.old (place_of file) (min (length_of lens.old file) len)) }
-    ensures cut { OnOk result (V.tells → now (V.calls vol.new) file ≡ take len (now (V.calls vol.old) file)) }
-    ensures others { OnOk result (V.tells → (f : ℕ) → is_data f ≡ true → (file ≡ f → ⊥) → now (V.calls vol.new) f ≡ now (V.calls vol.old) f) }
-    ensures bound { V.bound vol.new ≡ true }
-    ensures names { V.names vol.new ≡ V.names vol.old }
+    requires lens { KnowsLens V.tells (now (V.calls vol.old)) lens.old }
+    requires may { MayChange V.tells (V.calls vol.old) log.old lens.old file len (length_of lens.old file) stop }
+    ensures quiet { StaysQuiet V.Volume vol.old vol.new }
+    ensures changes { OnOk result (Changes V.tells (V.calls vol.old) (V.calls vol.new) log.new lens.old lens.new file (λ n. min n len) (take len)) }
     ensures cause { HasCause (V.faults vol.old) (V.faults vol.new) result }
 {
     secure(vol, log, lens, file, len, stop)?;

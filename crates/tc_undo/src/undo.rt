@@ -147,14 +147,11 @@ impl<V: Volume> Space for Undo<V> {
             self.sound = false;
             return Err(SpaceErr::Full);
         }
-        let stop = match stop_at(&self.log, &self.lens, file, at, at + size) {
-            Some(stop) => stop,
-            None => {
-                self.sound = false;
-                return Err(SpaceErr::Full);
-            }
+        let Some(stop) = stop_at(&self.log, &self.lens, file, at, at + size) else {
+            self.sound = false;
+            return Err(SpaceErr::Full);
         };
-        match write_through(
+        let Ok(()) = write_through(
             &mut self.vol,
             &mut self.log,
             &mut self.lens,
@@ -162,40 +159,33 @@ impl<V: Volume> Space for Undo<V> {
             at,
             bytes,
             stop,
-        ) {
-            Ok(()) => Ok(()),
-            Err(_) => {
-                self.sound = false;
-                Err(SpaceErr::Fault)
-            }
-        }
+        ) else {
+            self.sound = false;
+            return Err(SpaceErr::Fault);
+        };
+        Ok(())
     }
 
     /// One sync where it opens a transaction or removes bytes below the recorded length, else none.
     fn cut(&mut self, file: u32, len: u64) -> Result<(), SpaceErr> {
         self.touched = true;
         let all = self.lens[place(file)];
-        let stop = match stop_at(&self.log, &self.lens, file, len, all) {
-            Some(stop) => stop,
-            None => {
-                self.sound = false;
-                return Err(SpaceErr::Full);
-            }
+        let Some(stop) = stop_at(&self.log, &self.lens, file, len, all) else {
+            self.sound = false;
+            return Err(SpaceErr::Full);
         };
-        match cut_through(
+        let Ok(()) = cut_through(
             &mut self.vol,
             &mut self.log,
             &mut self.lens,
             file,
             len,
             stop,
-        ) {
-            Ok(()) => Ok(()),
-            Err(_) => {
-                self.sound = false;
-                Err(SpaceErr::Fault)
-            }
-        }
+        ) else {
+            self.sound = false;
+            return Err(SpaceErr::Fault);
+        };
+        Ok(())
     }
 
     /// As many syncs as data files changed since the last commit, and one; where nothing was written it calls nothing.

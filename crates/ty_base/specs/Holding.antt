@@ -1,9 +1,10 @@
 -- What a database holds over the files of its space.
 use Rattle.std.specs.Prelude.{◌≡◌, ◌≢◌, ◌⊎◌, ℕ, false, List}
-use Rattle.std.proofs.Common.{◌∙◌, refl}
+use Rattle.std.proofs.Common.{◌∙◌, arith, refl, sym}
 use Rattle.tc_base.specs.Files.{Files}
 use Rattle.tc_base.specs.declared.request.Request.{Request}
-use Rattle.tc_space.specs.Frames.{OnlyReads, Reads, only_reads_refl}
+use Rattle.tc_space.specs.Frames.{OnlyReads, Others, Reads, only_reads_refl}
+use Rattle.tc_space.specs.Stores.{Only}
 use Rattle.tc_space.specs.declared.space.Space.{Ghosts}
 use Rattle.tc_model.specs.Contents.{Contents, Walk}
 use Rattle.tc_model.specs.Apply.{Step}
@@ -29,6 +30,11 @@ pub record IsReady {S B : Type 0} (s : Ghosts S) (holds : B → Files → Conten
 pub record Stays {S : Type 0} (s : Ghosts S) (file : ℕ) (old new : S) : Type 0 where
   pub same : s.tells → s.now new file ≡ s.now old file
 
+-- the space may be used, and file 2 stays
+pub record StaysUsable {S : Type 0} (s : Ghosts S) (old new : S) : Type 0 where
+  pub sound : s.sound new
+  pub log : Stays s 2 old new
+
 -- the space may be used, file 2 stays, and nothing is written where it is idle
 pub record Leaves {S : Type 0} (s : Ghosts S) (idle : Type 0) (old new : S) : Type 0 where
   pub sound : s.sound new
@@ -46,6 +52,9 @@ module _ {S : Type 0} (s : Ghosts S) where
   pub stays_then : (file : ℕ) (a b c : S) → Stays s file a b → Stays s file b c → Stays s file a c
   stays_then file a b c first second = record { same = λ t. second.same t ∙ first.same t }
 
+  pub log_stays : (a b : S) → Others s (Only 0) a b → Stays s 2 a b
+  log_stays a b others = record { same = λ t. others.same t 2 (λ e. absurd (omega (arith, e))) }
+
   pub leaves_nothing : (idle : Type 0) (a : S) → s.sound a → Leaves s idle a a
   leaves_nothing idle a is = record { sound = is; log = stays_refl 2 a; reads = λ i. only_reads_refl s a is }
 
@@ -55,3 +64,6 @@ module _ {S : Type 0} (s : Ghosts S) where
 -- files that differ in file 2 alone
 abbrev pub AreApart : Files → Files → Type 0
 AreApart f g = (n : ℕ) → n ≢ 2 → g n ≡ f n
+
+pub main_apart : (f g : Files) → AreApart f g → f 0 ≡ g 0
+main_apart f g apart = sym (apart 0 (λ e. absurd (omega (arith, e))))

@@ -3,7 +3,7 @@ ghost use Rattle.std.specs.Prelude.{◌≡◌};
 
 use std::alloc::AllocError;
 use tc_base::Rule;
-use tc_space::RecErr;
+use tc_space::{OpenErr, RecErr};
 use thiserror::Error;
 
 /// Why the files of a space weren't opened as a database.
@@ -30,6 +30,20 @@ impl From<RecErr> for AnyErr {
             RecErr::Full => AnyErr::Full,
             RecErr::Fault => AnyErr::Fault,
             RecErr::Memory => AnyErr::Memory,
+        }
+    }
+}
+
+impl From<OpenErr> for AnyErr {
+    ghost use Rattle.ty_base.specs.Opening.{any_of_open};
+
+    ghost from_gives = { λ r e. e ≡ any_of_open r };
+
+    fn from(e: OpenErr) -> Self {
+        match e {
+            OpenErr::Broken { file, rule } => AnyErr::Broken { file, rule },
+            OpenErr::Fault => AnyErr::Fault,
+            OpenErr::Memory => AnyErr::Memory,
         }
     }
 }

@@ -2,6 +2,7 @@
 #![tactic(auto, using(tc_space::specs::Frames::keeps_then, tc_space::specs::Frames::keeps_refl, tc_space::specs::Effects::follows_then, tc_space::specs::Effects::follows_refl))]
 
 mod closing;
+mod committing;
 mod listening;
 mod outcome;
 mod peer;
@@ -9,6 +10,7 @@ mod rounds;
 mod sends;
 mod turning;
 
+pub use committing::keep;
 pub use outcome::{Outcome, TurnErr};
 pub use peer::Peer;
 pub use turning::{Server, turn};

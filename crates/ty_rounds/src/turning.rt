@@ -1,22 +1,22 @@
 //! One event, and all that it brings.
-ghost use Rattle.std.specs.Prelude.{◌≡◌, ◌≤◌, [], true, false, List, None, OnOk, IfOk, IfErr, IsErrOf, IsTrue, ◌↔◌};
+ghost use Rattle.std.specs.Prelude.{◌≡◌, ◌≤◌, [], true, List, None, OnOk, IfOk, IfErr, IsErrOf, IsTrue, ◌↔◌};
 ghost use Rattle.tc_io.specs.Causes.{HasCause, Rose};
 ghost use Rattle.tc_io.specs.declared.wire.Ev.TheVariants.{Shut};
 ghost use Rattle.tc_space.specs.Effects.{Follows};
-ghost use Rattle.tc_space.specs.Frames.{Keeps, OnlyReads};
+ghost use Rattle.tc_space.specs.Frames.{Keeps};
 ghost use Rattle.tc_model.specs.Contents.{Contents};
 ghost use Rattle.ty_base.specs.Holding as holding;
 ghost use Rattle.ty_base.specs.Holding.{Held};
 ghost use Rattle.ty_world.specs.World.{Client, Mark};
 ghost use Rattle.ty_rounds.specs.declared.outcome.TurnErr.TheVariants.{Wire as wire_err};
 ghost use Rattle.ty_rounds.specs.Holding.{AllHold, Wired};
-ghost use Rattle.ty_rounds.specs.Kept.{HasMark, HoldsMark, MovesTo};
-ghost use Rattle.ty_rounds.specs.Keeping.{IsKept};
+ghost use Rattle.ty_rounds.specs.Kept.{HoldsMark};
 ghost use Rattle.ty_rounds.specs.Ready.{Each, IsCalm, IsReady};
 ghost use Rattle.ty_rounds.specs.Serving.{FillsAt, Rounds};
 ghost use Rattle.ty_rounds.specs.Turns.{Turns, FullTurn, Finishes};
 
 use crate::closing::close_over;
+use crate::committing::keep;
 use crate::listening::{Buffers, listen};
 use crate::outcome::{Outcome, TurnErr};
 use crate::peer::Peer;
@@ -71,28 +71,6 @@ fn round<B: Base>(
     ensures cause { IsErrOf result TurnErr.Volume → Rose (B.S.faults space.old) (B.S.faults space.new) }
 {
     Ok(round_of_all(peers, base, space, walk)?)
-}
-
-// Settles and commits, where there is anything to commit.
-fn keep<B: Base>(base: &mut B, space: &mut B::S, commits: bool) -> Result<(), TurnErr>
-    requires ready { holding.IsReady B.S.Space B.holds base.old space.old }
-    requires untouched { commits ≡ false → B.S.touched space.old ≡ false }
-    ensures kept { OnOk result (IsKept B.S.Space B.holds B.reopens commits base.old base.new space.old space.new) }
-    ensures moments { (m : Mark) → HasMark B.S.Space B.holds base.old space.old m → MovesTo B.S.Space B.reopens space.old space.new m }
-    ensures idle { commits ≡ false → OnlyReads B.S.Space space.old space.new }
-    ensures not_wire { IfErr result (λ e. e ≡ wire_err → ⊥) }
-    ensures full { IsErrOf result TurnErr.Full → (c : Contents) → Held B.S.Space B.holds base.old space.old c → B.fills space.new c c }
-    ensures follows { Follows B.S.faults B.S.limit B.S.names space.old space.new }
-    ensures cause { IsErrOf result TurnErr.Volume → Rose (B.S.faults space.old) (B.S.faults space.new) }
-{
-    if !commits {
-        return Ok(());
-    }
-    base.settle(space)?;
-    match space.commit() {
-        Ok(()) => Ok(()), // it is kept
-        Err(_) => Err(TurnErr::Volume),
-    }
 }
 
 // Sends what waits, and closes what is over.

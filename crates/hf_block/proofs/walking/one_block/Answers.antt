@@ -1,4 +1,4 @@
-use Rattle.std.proofs.Common.{◌≡◌, ◌∙◌, ◌⊎◌, ℕ, ◌≤◌, Bool, true, false, inl, inr, sym, subst, ap, arith}
+use Rattle.std.proofs.Common.{◌≡◌, ◌∙◌, ◌⊎◌, ℕ, ◌≤◌, Bool, inl, inr, sym, subst, ap, arith}
 use Rattle.hf_block.specs.declared.block.Block.{Block}
 use Rattle.hf_head.specs.Heads.{wide}
 use Rattle.hf_block.specs.Pieces.{IsSize}

@@ -36,10 +36,10 @@ loop-at-preserved g c =
     let sized : length c.walk_piece.new.chunk ≡ n = omega (arith, c.walk_piece.auto.chunk, length-take n c.loop-at.chunk, v.long, c.min-len.ensures) in
     record {
       reads = only_reads_then g.S.Space c.args.space.now c.loop-at.space c.walk_piece.new.space v.reads c.in-Ok.ensures.reads;
-      low = omega (arith, v.low, c.in-Ok.ensures.on);
-      high = c.in-Ok.ensures.on.1;
+      low = omega (arith, v.low, c.in-Ok.ensures.on.on);
+      high = c.in-Ok.ensures.on.within;
       long = omega (arith, sized, v.long, length-append c.walk_piece.new.chunk (drop n c.loop-at.chunk), length-drop n c.loop-at.chunk, c.min-len.ensures);
-      row = c.in-Ok.ensures.row c.args.head.now.first v.row;
+      row = c.in-Ok.ensures.on.row c.args.head.now.first v.row;
       walked = λ t.
           let f : List ℕ = g.S.Space.now c.args.space.now c.args.file in
           let rest = ap (λ (l : List ℕ). between c.loop-at.at c.args.head.now.size l) (v.reads.files t c.args.file) ∙ between_on c.args.head.now.first c.loop-at.at c.args.head.now.size f v.low v.high in
@@ -48,9 +48,14 @@ loop-at-preserved g c =
     }
 
 pub returns-in-Err-clause-broken : goal.returns-in-Err-clause-broken
-returns-in-Err-clause-broken g c = λ rule e t ps filled.
+returns-in-Err-clause-broken g c = λ rule e.
     let v = c.loop-at.invariant in
-    let f : List ℕ = g.S.Space.now c.args.space.now c.args.file in
-    let rest = ap (λ (l : List ℕ). between c.loop-at.at c.args.head.now.size l) (v.reads.files t c.args.file) ∙ between_on c.args.head.now.first c.loop-at.at c.args.head.now.size f v.low v.high in
-    let q = (v.walked t).rest ps (subst (λ (u : ℕ). IsFilled (wide c.is_large-large.result) u (between c.args.head.now.first c.args.head.now.size f) ps) (sym c.unit-unit.ensures) (subst (λ (b : Bool). IsFilled (wide b) (unit c.args.head.now) (between c.args.head.now.first c.args.head.now.size f) ps) (sym c.is_large-large.ensures) filled)) in
-    c.in-Err.ensures.broken rule (same_error c.in-Err.e (Broken rule) e) t q.0 (subst (λ (l : List ℕ). IsFilled (wide c.is_large-large.result) c.unit-unit.result l q.0) (sym rest) q.1)
+    let b = c.in-Err.ensures.broken rule (same_error c.in-Err.e (Broken rule) e) in
+    record {
+      rule_is = b.rule_is;
+      none = λ t ps filled.
+          let f : List ℕ = g.S.Space.now c.args.space.now c.args.file in
+          let rest = ap (λ (l : List ℕ). between c.loop-at.at c.args.head.now.size l) (v.reads.files t c.args.file) ∙ between_on c.args.head.now.first c.loop-at.at c.args.head.now.size f v.low v.high in
+          let q = (v.walked t).rest ps (subst (λ (u : ℕ). IsFilled (wide c.is_large-large.result) u (between c.args.head.now.first c.args.head.now.size f) ps) (sym c.unit-unit.ensures) (subst (λ (b : Bool). IsFilled (wide b) (unit c.args.head.now) (between c.args.head.now.first c.args.head.now.size f) ps) (sym c.is_large-large.ensures) filled)) in
+          b.none t q.0 (subst (λ (l : List ℕ). IsFilled (wide c.is_large-large.result) c.unit-unit.result l q.0) (sym rest) q.1);
+    }

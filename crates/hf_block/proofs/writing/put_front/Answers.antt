@@ -1,5 +1,5 @@
-use Rattle.std.proofs.Common.{◌∙◌, ℕ, List, ◌++◌, ap, arith}
-use Rattle.std.proofs.lemmas.Result.{on_ok_weaker, on_err_weaker}
+use Rattle.std.proofs.Common.{◌∙◌, ℕ, ◌++◌, ap, arith}
+use Rattle.std.proofs.lemmas.Result.{on_ok_weaker}
 use Rattle.tc_base.specs.Endian.{le_bytes}
 use Rattle.hf_head.specs.Heads.{wide}
 use Rattle.hf_block.proofs.Padding.{front_is}

@@ -1,9 +1,10 @@
-use Rattle.std.proofs.Common.{◌<◌, ◌∙◌, ℕ, arith, refl, sym, subst}
+use Rattle.std.proofs.Common.{◌<◌, ℕ, arith, sym, subst}
 use Rattle.ud_state.specs.Recovery.{CanPutBack}
 use Rattle.tc_io.specs.Images.{Calls}
 use Rattle.ud_state.specs.Since.{quiet_refl, quiet_then}
 use Rattle.ud_state.proofs.PuttingBack.{Restores, restores_start, restores_end, here, here_can, front, rest, log_parts, ends_there, inside_now, back_made, back_quiet, back_lost}
 use Rattle.tc_undo.specs.Found.{IsEntryAt}
+use Rattle.tc_undo.proofs.Volumes.{stays_refl, stays_then}
 use Rattle.tc_undo.proofs.put_back.put_back_all.Goals as goal
 
 entry_at : (start cs : Calls) (at end : ℕ) (can : CanPutBack start end) (r : Restores start cs at) (more : 152 < at) → IsEntryAt cs at (here start cs at end can r more).last (front start cs at end can r more) (rest start cs at end can r more)
@@ -16,7 +17,7 @@ entry_at start cs at end can r more = record {
 }
 
 pub loop-at-init : goal.loop-at-init
-loop-at-init g c = record { quiet = λ t files lens r. quiet_refl _; restores = λ t. restores_start _ _ (c.requires.can t); bound = c.requires.bound; names = refl; later = omega arith }
+loop-at-init g c = record { quiet = λ t files lens r. quiet_refl _; restores = λ t. restores_start _ _ (c.requires.can t); stays = stays_refl g.V.Volume c.args.vol.now c.requires.bound }
 
 pub put_back_one-requires-clause-ends : goal.put_back_one-requires-clause-ends
 put_back_one-requires-clause-ends g c = λ t. record { e = _; front = _; rest = _; is = entry_at _ _ _ c.args.end (c.requires.can t) (c.loop-at.invariant.restores t) c.loop-at-test.true }
@@ -46,9 +47,7 @@ loop-at-preserved g c = record {
       let r = c.loop-at.invariant.restores t in
       let put = (c.in-Ok.ensures.put t).made _ _ _ (entry_at old cs c.loop-at.at c.args.end (c.requires.can t) r c.loop-at-test.true) in
       subst (λ k. Restores old new k) (sym put.1) (back_made old cs c.loop-at.at c.args.end (c.requires.can t) r c.loop-at-test.true new put.0);
-  bound = c.in-Ok.ensures.bound;
-  names = c.in-Ok.ensures.names ∙ c.loop-at.invariant.names;
-  later = omega (arith, c.loop-at.invariant.later, c.put_back_one.ensures.later);
+  stays = stays_then g.V.Volume c.args.vol.now c.loop-at.vol c.put_back_one.new.vol c.loop-at.invariant.stays c.put_back_one.ensures.stays;
 }
 
 pub returns-clause-restored : goal.returns-clause-restored

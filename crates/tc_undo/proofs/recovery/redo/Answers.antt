@@ -1,4 +1,4 @@
-use Rattle.std.proofs.Common.{◌≡◌, ◌∙◌, List, ap, sym, subst, cond, []}
+use Rattle.std.proofs.Common.{◌≡◌, ◌∙◌, List, ap, sym, subst, rules, cond, []}
 use Rattle.tc_base.specs.Files.{Files, resized}
 use Rattle.tc_io.specs.Images.{now, reads}
 use Rattle.ud_log.specs.Entries.{Entry, put_back}
@@ -10,66 +10,79 @@ use Rattle.ud_state.proofs.Taken.{calm_undo}
 use Rattle.ud_state.proofs.Replaying.{replay_start, replay_undo}
 use Rattle.ud_state.proofs.Recovery.{can_put_back, ready_replay}
 use Rattle.tc_undo.proofs.Marked.{all_marked}
+use Rattle.tc_undo.proofs.Settling.{undo_long}
 use Rattle.tc_undo.proofs.recovery.redo.Goals as goal
 
 pub put_back_all-requires-clause-can : goal.put_back_all-requires-clause-can
 put_back_all-requires-clause-can g c = λ t.
     let f = c.requires.finds t in
-    can_put_back (g.V.Volume.calls c.args.vol.now) (g.V.Volume.calls c.set_lengths.new.vol) c.args.found.now.lens c.args.found.now.end f.scanned c.requires.short (c.requires.long t) (c.in_ok-set_lengths.ensures.log t) (c.in_ok-set_lengths.ensures.reads t)
+    can_put_back (g.V.Volume.calls c.args.vol.now) (g.V.Volume.calls c.set_lengths.new.vol) c.args.found.now.lens c.args.found.now.end f.scanned c.requires.short (undo_long _ _ _ f) (c.in_ok-set_lengths.ensures.log t) (c.in_ok-set_lengths.ensures.reads t)
 
 pub returns-in_err-set_lengths-clause-quiet : goal.returns-in_err-set_lengths-clause-quiet
-returns-in_err-set_lengths-clause-quiet g c = λ t.
-    let old = g.V.Volume.calls c.args.vol.now in
-    let lens = c.args.found.now.lens in
-    let es = entries (now old 1) in
-    let f = c.requires.finds t in
-    let rep : Replay old (undone_all lens es (now old)) lens es = replay_start old lens es f.log c.requires.short f.inside (c.requires.log t) (c.requires.there t) in
-    c.set_lengths.ensures.quiet t (undone_all lens es (now old)) es rep (c.requires.there t)
+returns-in_err-set_lengths-clause-quiet g c = record {
+  stays = search rules;
+  quiet = λ t.
+      let old = g.V.Volume.calls c.args.vol.now in
+      let lens = c.args.found.now.lens in
+      let es = entries (now old 1) in
+      let f = c.requires.finds t in
+      let rep : Replay old (undone_all lens es (now old)) lens es = replay_start old lens es f.log c.requires.short f.inside (c.requires.disk t).log (c.requires.disk t).files in
+      c.set_lengths.ensures.quiet t (undone_all lens es (now old)) es rep (c.requires.disk t).files;
+}
 
 pub returns-in-Err-clause-quiet : goal.returns-in-Err-clause-quiet
-returns-in-Err-clause-quiet g c = λ t.
-    let old = g.V.Volume.calls c.args.vol.now in
-    let mid = g.V.Volume.calls c.set_lengths.new.vol in
-    let lens = c.args.found.now.lens in
-    let es = entries (now old 1) in
-    let f = c.requires.finds t in
-    let files : Files = undone_all lens es (now old) in
-    let rep : Replay old files lens es = replay_start old lens es f.log c.requires.short f.inside (c.requires.log t) (c.requires.there t) in
-    let rep1 : Replay mid files lens es = c.in_ok-set_lengths.ensures.replay t files es rep (c.requires.there t) in
-    let same : entries (now old 1) ≡ entries (now mid 1) = ap (λ s. entries (reads s)) (sym (c.in_ok-set_lengths.ensures.log t)) in
-    quiet_then old mid (g.V.Volume.calls c.put_back_all.new.vol) (c.set_lengths.ensures.quiet t files es rep (c.requires.there t)) (c.put_back_all.ensures.quiet t files lens (subst (λ (l : List Entry). Replay mid files lens l) same rep1))
+returns-in-Err-clause-quiet g c = record {
+  stays = search rules;
+  quiet = λ t.
+      let old = g.V.Volume.calls c.args.vol.now in
+      let mid = g.V.Volume.calls c.set_lengths.new.vol in
+      let lens = c.args.found.now.lens in
+      let es = entries (now old 1) in
+      let f = c.requires.finds t in
+      let files : Files = undone_all lens es (now old) in
+      let rep : Replay old files lens es = replay_start old lens es f.log c.requires.short f.inside (c.requires.disk t).log (c.requires.disk t).files in
+      let rep1 : Replay mid files lens es = c.in_ok-set_lengths.ensures.replay t files es rep (c.requires.disk t).files in
+      let same : entries (now old 1) ≡ entries (now mid 1) = ap (λ s. entries (reads s)) (sym (c.in_ok-set_lengths.ensures.log t)) in
+      quiet_then old mid (g.V.Volume.calls c.put_back_all.new.vol) (c.set_lengths.ensures.quiet t files es rep (c.requires.disk t).files) (c.put_back_all.ensures.quiet t files lens (subst (λ (l : List Entry). Replay mid files lens l) same rep1));
+}
 
 pub returns-in_err-sync_marked-clause-quiet : goal.returns-in_err-sync_marked-clause-quiet
-returns-in_err-sync_marked-clause-quiet g c = λ t.
-    let old = g.V.Volume.calls c.args.vol.now in
-    let mid = g.V.Volume.calls c.set_lengths.new.vol in
-    let put = g.V.Volume.calls c.put_back_all.new.vol in
-    let lens = c.args.found.now.lens in
-    let es = entries (now old 1) in
-    let f = c.requires.finds t in
-    let files : Files = undone_all lens es (now old) in
-    let rep : Replay old files lens es = replay_start old lens es f.log c.requires.short f.inside (c.requires.log t) (c.requires.there t) in
-    let rep1 : Replay mid files lens es = c.in_ok-set_lengths.ensures.replay t files es rep (c.requires.there t) in
-    let same : entries (now old 1) ≡ entries (now mid 1) = ap (λ s. entries (reads s)) (sym (c.in_ok-set_lengths.ensures.log t)) in
-    let rep2 : Replay put files lens es = subst (λ (l : List Entry). Replay put files lens l) (sym same) ((c.in-Ok.ensures.restored t).replay files lens (subst (λ (l : List Entry). Replay mid files lens l) same rep1)) in
-    let so_far = quiet_then old mid put (c.set_lengths.ensures.quiet t files es rep (c.requires.there t)) (c.put_back_all.ensures.quiet t files lens (subst (λ (l : List Entry). Replay mid files lens l) same rep1)) in
-    quiet_then old put (g.V.Volume.calls c.sync_marked.new.vol) so_far (c.sync_marked.ensures.quiet t (calm_undo put files (replay_undo put files lens es rep2) (g.met.V.Volume.now_is_image c.put_back_all.new.vol t)))
+returns-in_err-sync_marked-clause-quiet g c = record {
+  stays = search rules;
+  quiet = λ t.
+      let old = g.V.Volume.calls c.args.vol.now in
+      let mid = g.V.Volume.calls c.set_lengths.new.vol in
+      let put = g.V.Volume.calls c.put_back_all.new.vol in
+      let lens = c.args.found.now.lens in
+      let es = entries (now old 1) in
+      let f = c.requires.finds t in
+      let files : Files = undone_all lens es (now old) in
+      let rep : Replay old files lens es = replay_start old lens es f.log c.requires.short f.inside (c.requires.disk t).log (c.requires.disk t).files in
+      let rep1 : Replay mid files lens es = c.in_ok-set_lengths.ensures.replay t files es rep (c.requires.disk t).files in
+      let same : entries (now old 1) ≡ entries (now mid 1) = ap (λ s. entries (reads s)) (sym (c.in_ok-set_lengths.ensures.log t)) in
+      let rep2 : Replay put files lens es = subst (λ (l : List Entry). Replay put files lens l) (sym same) ((c.in-Ok.ensures.restored t).replay files lens (subst (λ (l : List Entry). Replay mid files lens l) same rep1)) in
+      let so_far = quiet_then old mid put (c.set_lengths.ensures.quiet t files es rep (c.requires.disk t).files) (c.put_back_all.ensures.quiet t files lens (subst (λ (l : List Entry). Replay mid files lens l) same rep1)) in
+      quiet_then old put (g.V.Volume.calls c.sync_marked.new.vol) so_far (c.sync_marked.ensures.quiet t (calm_undo put files (replay_undo put files lens es rep2) (g.met.V.Volume.now_is_image c.put_back_all.new.vol t)));
+}
 
 pub returns-clause-quiet : goal.returns-clause-quiet
-returns-clause-quiet g c = λ t.
-    let old = g.V.Volume.calls c.args.vol.now in
-    let mid = g.V.Volume.calls c.set_lengths.new.vol in
-    let put = g.V.Volume.calls c.put_back_all.new.vol in
-    let lens = c.args.found.now.lens in
-    let es = entries (now old 1) in
-    let f = c.requires.finds t in
-    let files : Files = undone_all lens es (now old) in
-    let rep : Replay old files lens es = replay_start old lens es f.log c.requires.short f.inside (c.requires.log t) (c.requires.there t) in
-    let rep1 : Replay mid files lens es = c.in_ok-set_lengths.ensures.replay t files es rep (c.requires.there t) in
-    let same : entries (now old 1) ≡ entries (now mid 1) = ap (λ s. entries (reads s)) (sym (c.in_ok-set_lengths.ensures.log t)) in
-    let rep2 : Replay put files lens es = subst (λ (l : List Entry). Replay put files lens l) (sym same) ((c.in-Ok.ensures.restored t).replay files lens (subst (λ (l : List Entry). Replay mid files lens l) same rep1)) in
-    let so_far = quiet_then old mid put (c.set_lengths.ensures.quiet t files es rep (c.requires.there t)) (c.put_back_all.ensures.quiet t files lens (subst (λ (l : List Entry). Replay mid files lens l) same rep1)) in
-    quiet_then old put (g.V.Volume.calls c.sync_marked.new.vol) so_far (c.sync_marked.ensures.quiet t (calm_undo put files (replay_undo put files lens es rep2) (g.met.V.Volume.now_is_image c.put_back_all.new.vol t)))
+returns-clause-quiet g c = record {
+  stays = search rules;
+  quiet = λ t.
+      let old = g.V.Volume.calls c.args.vol.now in
+      let mid = g.V.Volume.calls c.set_lengths.new.vol in
+      let put = g.V.Volume.calls c.put_back_all.new.vol in
+      let lens = c.args.found.now.lens in
+      let es = entries (now old 1) in
+      let f = c.requires.finds t in
+      let files : Files = undone_all lens es (now old) in
+      let rep : Replay old files lens es = replay_start old lens es f.log c.requires.short f.inside (c.requires.disk t).log (c.requires.disk t).files in
+      let rep1 : Replay mid files lens es = c.in_ok-set_lengths.ensures.replay t files es rep (c.requires.disk t).files in
+      let same : entries (now old 1) ≡ entries (now mid 1) = ap (λ s. entries (reads s)) (sym (c.in_ok-set_lengths.ensures.log t)) in
+      let rep2 : Replay put files lens es = subst (λ (l : List Entry). Replay put files lens l) (sym same) ((c.in-Ok.ensures.restored t).replay files lens (subst (λ (l : List Entry). Replay mid files lens l) same rep1)) in
+      let so_far = quiet_then old mid put (c.set_lengths.ensures.quiet t files es rep (c.requires.disk t).files) (c.put_back_all.ensures.quiet t files lens (subst (λ (l : List Entry). Replay mid files lens l) same rep1)) in
+      quiet_then old put (g.V.Volume.calls c.sync_marked.new.vol) so_far (c.sync_marked.ensures.quiet t (calm_undo put files (replay_undo put files lens es rep2) (g.met.V.Volume.now_is_image c.put_back_all.new.vol t)));
+}
 
 pub returns-clause-ready : goal.returns-clause-ready
 returns-clause-ready g c = λ t.
@@ -80,8 +93,8 @@ returns-clause-ready g c = λ t.
     let es = entries (now old 1) in
     let f = c.requires.finds t in
     let files : Files = undone_all lens es (now old) in
-    let rep : Replay old files lens es = replay_start old lens es f.log c.requires.short f.inside (c.requires.log t) (c.requires.there t) in
-    let rep1 : Replay mid files lens es = c.in_ok-set_lengths.ensures.replay t files es rep (c.requires.there t) in
+    let rep : Replay old files lens es = replay_start old lens es f.log c.requires.short f.inside (c.requires.disk t).log (c.requires.disk t).files in
+    let rep1 : Replay mid files lens es = c.in_ok-set_lengths.ensures.replay t files es rep (c.requires.disk t).files in
     let same : entries (now old 1) ≡ entries (now mid 1) = ap (λ s. entries (reads s)) (sym (c.in_ok-set_lengths.ensures.log t)) in
     let rep2 : Replay put files lens es = subst (λ (l : List Entry). Replay put files lens l) (sym same) ((c.in-Ok.ensures.restored t).replay files lens (subst (λ (l : List Entry). Replay mid files lens l) same rep1)) in
     let new = g.V.Volume.calls c.sync_marked.new.vol in

@@ -21,7 +21,7 @@ pub returns-in-Err-clause-recovers : goal.returns-in-Err-clause-recovers
 returns-in-Err-clause-recovers g c = λ t settled.
     let old = g.V.Volume.calls c.args.vol.now in
     let cs = g.V.Volume.calls c.look.new.vol in
-    let after : cs ≡ (1, synced) ∷ old = c.look.ensures.calls t ∙ c.len.ensures.calls t ∙ c.in_ok-sync.ensures.made t in
+    let after : cs ≡ (1, synced) ∷ old = c.look.ensures.reads.calls t ∙ c.len.ensures.calls t ∙ c.in_ok-sync.ensures.made t in
     let image = g.met.V.Volume.now_is_image c.args.vol.now t in
     recovers_since old cs settled image (quiet_same _ _ after)
 
@@ -29,7 +29,7 @@ pub returns-in-Err-settle-clause-recovers : goal.returns-in-Err-settle-clause-re
 returns-in-Err-settle-clause-recovers g c = λ t settled.
     let old = g.V.Volume.calls c.args.vol.now in
     let cs = g.V.Volume.calls c.look.new.vol in
-    let after : cs ≡ (1, synced) ∷ old = c.look.ensures.calls t ∙ c.len.ensures.calls t ∙ c.in_ok-sync.ensures.made t in
+    let after : cs ≡ (1, synced) ∷ old = c.look.ensures.reads.calls t ∙ c.len.ensures.calls t ∙ c.in_ok-sync.ensures.made t in
     let image = g.met.V.Volume.now_is_image c.args.vol.now t in
     let calm : Calm cs = subst Calm (sym after) (sync_log_calm old settled image) in
     recovers_since old (g.V.Volume.calls c.settle.new.vol) settled image (subst (λ (d : Calls). Quiet d (g.V.Volume.calls c.settle.new.vol)) after (c.settle.ensures.quiet t calm))
@@ -38,11 +38,11 @@ pub returns-in_err-drop_log-clause-recovers : goal.returns-in_err-drop_log-claus
 returns-in_err-drop_log-clause-recovers g c = λ t settled.
     let old = g.V.Volume.calls c.args.vol.now in
     let cs = g.V.Volume.calls c.look.new.vol in
-    let after : cs ≡ (1, synced) ∷ old = c.look.ensures.calls t ∙ c.len.ensures.calls t ∙ c.in_ok-sync.ensures.made t in
+    let after : cs ≡ (1, synced) ∷ old = c.look.ensures.reads.calls t ∙ c.len.ensures.calls t ∙ c.in_ok-sync.ensures.made t in
     let image = g.met.V.Volume.now_is_image c.args.vol.now t in
     let calm : Calm cs = subst Calm (sym after) (sync_log_calm old settled image) in
-    let fin : Finds c.in-Ok.found.undoes (now cs) c.in-Ok.found.lens c.in-Ok.found.end = subst (λ (d : Calls). Finds c.in-Ok.found.undoes (now d) c.in-Ok.found.lens c.in-Ok.found.end) (sym (c.look.ensures.calls t)) (c.in-Ok.ensures.found t) in
-    let fs = finds_files c.in-Ok.found.undoes (now cs) c.in-Ok.found.lens c.in-Ok.found.end c.in-Ok.ensures.short fin in
+    let fin : Finds c.in-Ok.found.undoes (now cs) c.in-Ok.found.lens c.in-Ok.found.end = subst (λ (d : Calls). Finds c.in-Ok.found.undoes (now d) c.in-Ok.found.lens c.in-Ok.found.end) (sym (c.look.ensures.reads.calls t)) (c.in-Ok.ensures.found.finds t) in
+    let fs = finds_files c.in-Ok.found.undoes (now cs) c.in-Ok.found.lens c.in-Ok.found.end c.in-Ok.ensures.found.short fin in
     let ready = c.in-Ok-settle.ensures.ready t fs.0 fs.1 in
     recovers_since old (g.V.Volume.calls c.drop_log.new.vol) settled image (subst (λ (d : Calls). Quiet d (g.V.Volume.calls c.drop_log.new.vol)) after (quiet_then cs (g.V.Volume.calls c.settle.new.vol) (g.V.Volume.calls c.drop_log.new.vol) (c.settle.ensures.quiet t calm) (c.drop_log.ensures.quiet t fs.0 ready)))
 
@@ -50,11 +50,11 @@ pub returns-clause-recovers : goal.returns-clause-recovers
 returns-clause-recovers g c = λ t settled.
     let old = g.V.Volume.calls c.args.vol.now in
     let cs = g.V.Volume.calls c.look.new.vol in
-    let after : cs ≡ (1, synced) ∷ old = c.look.ensures.calls t ∙ c.len.ensures.calls t ∙ c.in_ok-sync.ensures.made t in
+    let after : cs ≡ (1, synced) ∷ old = c.look.ensures.reads.calls t ∙ c.len.ensures.calls t ∙ c.in_ok-sync.ensures.made t in
     let image = g.met.V.Volume.now_is_image c.args.vol.now t in
     let calm : Calm cs = subst Calm (sym after) (sync_log_calm old settled image) in
-    let fin : Finds c.in-Ok.found.undoes (now cs) c.in-Ok.found.lens c.in-Ok.found.end = subst (λ (d : Calls). Finds c.in-Ok.found.undoes (now d) c.in-Ok.found.lens c.in-Ok.found.end) (sym (c.look.ensures.calls t)) (c.in-Ok.ensures.found t) in
-    let fs = finds_files c.in-Ok.found.undoes (now cs) c.in-Ok.found.lens c.in-Ok.found.end c.in-Ok.ensures.short fin in
+    let fin : Finds c.in-Ok.found.undoes (now cs) c.in-Ok.found.lens c.in-Ok.found.end = subst (λ (d : Calls). Finds c.in-Ok.found.undoes (now d) c.in-Ok.found.lens c.in-Ok.found.end) (sym (c.look.ensures.reads.calls t)) (c.in-Ok.ensures.found.finds t) in
+    let fs = finds_files c.in-Ok.found.undoes (now cs) c.in-Ok.found.lens c.in-Ok.found.end c.in-Ok.ensures.found.short fin in
     let ready = c.in-Ok-settle.ensures.ready t fs.0 fs.1 in
     recovers_since old (g.V.Volume.calls c.drop_log.new.vol) settled image (subst (λ (d : Calls). Quiet d (g.V.Volume.calls c.drop_log.new.vol)) after (quiet_then cs (g.V.Volume.calls c.settle.new.vol) (g.V.Volume.calls c.drop_log.new.vol) (c.settle.ensures.quiet t calm) (c.drop_log.ensures.quiet t fs.0 ready)))
 
@@ -62,10 +62,10 @@ pub returns-clause-idle : goal.returns-clause-idle
 returns-clause-idle g c = λ t.
     let old = g.V.Volume.calls c.args.vol.now in
     let cs = g.V.Volume.calls c.look.new.vol in
-    let after : cs ≡ (1, synced) ∷ old = c.look.ensures.calls t ∙ c.len.ensures.calls t ∙ c.in_ok-sync.ensures.made t in
+    let after : cs ≡ (1, synced) ∷ old = c.look.ensures.reads.calls t ∙ c.len.ensures.calls t ∙ c.in_ok-sync.ensures.made t in
     let image = g.met.V.Volume.now_is_image c.args.vol.now t in
-    let fin : Finds c.in-Ok.found.undoes (now cs) c.in-Ok.found.lens c.in-Ok.found.end = subst (λ (d : Calls). Finds c.in-Ok.found.undoes (now d) c.in-Ok.found.lens c.in-Ok.found.end) (sym (c.look.ensures.calls t)) (c.in-Ok.ensures.found t) in
-    let fs = finds_files c.in-Ok.found.undoes (now cs) c.in-Ok.found.lens c.in-Ok.found.end c.in-Ok.ensures.short fin in
+    let fin : Finds c.in-Ok.found.undoes (now cs) c.in-Ok.found.lens c.in-Ok.found.end = subst (λ (d : Calls). Finds c.in-Ok.found.undoes (now d) c.in-Ok.found.lens c.in-Ok.found.end) (sym (c.look.ensures.reads.calls t)) (c.in-Ok.ensures.found.finds t) in
+    let fs = finds_files c.in-Ok.found.undoes (now cs) c.in-Ok.found.lens c.in-Ok.found.end c.in-Ok.ensures.found.short fin in
     let ready = c.in-Ok-settle.ensures.ready t fs.0 fs.1 in
     let idle : Idle (g.V.Volume.calls c.drop_log.new.vol) fs.0 = c.in_ok-drop_log.ensures.idle t fs.0 ready in
     let same : data_of (now (g.V.Volume.calls c.drop_log.new.vol)) ≡ fs.0 = idle_files _ fs.0 idle in
@@ -75,10 +75,10 @@ pub returns-clause-undone : goal.returns-clause-undone
 returns-clause-undone g c = λ t.
     let old = g.V.Volume.calls c.args.vol.now in
     let cs = g.V.Volume.calls c.look.new.vol in
-    let after : cs ≡ (1, synced) ∷ old = c.look.ensures.calls t ∙ c.len.ensures.calls t ∙ c.in_ok-sync.ensures.made t in
+    let after : cs ≡ (1, synced) ∷ old = c.look.ensures.reads.calls t ∙ c.len.ensures.calls t ∙ c.in_ok-sync.ensures.made t in
     let image = g.met.V.Volume.now_is_image c.args.vol.now t in
-    let fin : Finds c.in-Ok.found.undoes (now cs) c.in-Ok.found.lens c.in-Ok.found.end = subst (λ (d : Calls). Finds c.in-Ok.found.undoes (now d) c.in-Ok.found.lens c.in-Ok.found.end) (sym (c.look.ensures.calls t)) (c.in-Ok.ensures.found t) in
-    let fs = finds_files c.in-Ok.found.undoes (now cs) c.in-Ok.found.lens c.in-Ok.found.end c.in-Ok.ensures.short fin in
+    let fin : Finds c.in-Ok.found.undoes (now cs) c.in-Ok.found.lens c.in-Ok.found.end = subst (λ (d : Calls). Finds c.in-Ok.found.undoes (now d) c.in-Ok.found.lens c.in-Ok.found.end) (sym (c.look.ensures.reads.calls t)) (c.in-Ok.ensures.found.finds t) in
+    let fs = finds_files c.in-Ok.found.undoes (now cs) c.in-Ok.found.lens c.in-Ok.found.end c.in-Ok.ensures.found.short fin in
     let ready = c.in-Ok-settle.ensures.ready t fs.0 fs.1 in
     let idle : Idle (g.V.Volume.calls c.drop_log.new.vol) fs.0 = c.in_ok-drop_log.ensures.idle t fs.0 ready in
     let same : data_of (now (g.V.Volume.calls c.drop_log.new.vol)) ≡ fs.0 = idle_files _ fs.0 idle in
@@ -86,14 +86,17 @@ returns-clause-undone g c = λ t.
     ap (λ (x : Files). undo (x 1) x) here ∙ fs.1 ∙ ap Ok (sym same)
 
 pub returns-clause-lens : goal.returns-clause-lens
-returns-clause-lens g c = λ t.
-    let old = g.V.Volume.calls c.args.vol.now in
-    let cs = g.V.Volume.calls c.look.new.vol in
-    let after : cs ≡ (1, synced) ∷ old = c.look.ensures.calls t ∙ c.len.ensures.calls t ∙ c.in_ok-sync.ensures.made t in
-    let image = g.met.V.Volume.now_is_image c.args.vol.now t in
-    let fin : Finds c.in-Ok.found.undoes (now cs) c.in-Ok.found.lens c.in-Ok.found.end = subst (λ (d : Calls). Finds c.in-Ok.found.undoes (now d) c.in-Ok.found.lens c.in-Ok.found.end) (sym (c.look.ensures.calls t)) (c.in-Ok.ensures.found t) in
-    let fs = finds_files c.in-Ok.found.undoes (now cs) c.in-Ok.found.lens c.in-Ok.found.end c.in-Ok.ensures.short fin in
-    let ready = c.in-Ok-settle.ensures.ready t fs.0 fs.1 in
-    let idle : Idle (g.V.Volume.calls c.drop_log.new.vol) fs.0 = c.in_ok-drop_log.ensures.idle t fs.0 ready in
-    let same : data_of (now (g.V.Volume.calls c.drop_log.new.vol)) ≡ fs.0 = idle_files _ fs.0 idle in
-    lens_now c.in-Ok.found.lens _ (lens_same c.in-Ok.found.lens fs.0 _ (sym same) (finds_lens c.in-Ok.found.undoes (now cs) c.in-Ok.found.lens c.in-Ok.found.end c.in-Ok.ensures.short fin fs.0 fs.1))
+returns-clause-lens g c = record {
+  short = c.in-Ok.ensures.found.short;
+  are = λ t.
+      let old = g.V.Volume.calls c.args.vol.now in
+      let cs = g.V.Volume.calls c.look.new.vol in
+      let after : cs ≡ (1, synced) ∷ old = c.look.ensures.reads.calls t ∙ c.len.ensures.calls t ∙ c.in_ok-sync.ensures.made t in
+      let image = g.met.V.Volume.now_is_image c.args.vol.now t in
+      let fin : Finds c.in-Ok.found.undoes (now cs) c.in-Ok.found.lens c.in-Ok.found.end = subst (λ (d : Calls). Finds c.in-Ok.found.undoes (now d) c.in-Ok.found.lens c.in-Ok.found.end) (sym (c.look.ensures.reads.calls t)) (c.in-Ok.ensures.found.finds t) in
+      let fs = finds_files c.in-Ok.found.undoes (now cs) c.in-Ok.found.lens c.in-Ok.found.end c.in-Ok.ensures.found.short fin in
+      let ready = c.in-Ok-settle.ensures.ready t fs.0 fs.1 in
+      let idle : Idle (g.V.Volume.calls c.drop_log.new.vol) fs.0 = c.in_ok-drop_log.ensures.idle t fs.0 ready in
+      let same : data_of (now (g.V.Volume.calls c.drop_log.new.vol)) ≡ fs.0 = idle_files _ fs.0 idle in
+      lens_now c.in-Ok.found.lens _ (lens_same c.in-Ok.found.lens fs.0 _ (sym same) (finds_lens c.in-Ok.found.undoes (now cs) c.in-Ok.found.lens c.in-Ok.found.end c.in-Ok.ensures.found.short fin fs.0 fs.1));
+}

@@ -7,7 +7,7 @@ use Rattle.ud_log.specs.Undo.{undone_all}
 use Rattle.ud_state.specs.Since.{quiet_then}
 use Rattle.ud_state.proofs.Runs.{durable_of}
 use Rattle.tc_undo.proofs.Marked.{all_marked}
-use Rattle.tc_undo.proofs.Settling.{finds_as, undo_of, nothing_of, undo_long, ready_undo, ready_none}
+use Rattle.tc_undo.proofs.Settling.{finds_as, undo_of, nothing_of, ready_undo, ready_none}
 use Rattle.tc_undo.proofs.recovery.settle.Goals as goal
 
 pub returns-then-not-found-clause-ready : goal.returns-then-not-found-clause-ready
@@ -15,29 +15,26 @@ returns-then-not-found-clause-ready g c = λ t.
     let old = g.V.Volume.calls c.args.vol.now in
     let new = g.V.Volume.calls c.sync_marked.new.vol in
     let only = c.in_ok-sync_marked.ensures.synced t in
-    let none = nothing_of c.args.found.now.undoes (now old) c.args.found.now.lens c.args.found.now.end c.if-not-found.true (c.requires.finds t) in
-    ready_none new (now old) c.args.found.now.lens c.requires.short none only.reads (durable_of old new 1 only.log (c.requires.log t)) (λ h ish. c.in_ok-sync_marked.ensures.there t h ish (λ not. absurd (all_marked h ish not)))
+    let none = nothing_of c.args.found.now.undoes (now old) c.args.found.now.lens c.args.found.now.end c.if-not-found.true (c.requires.found.finds t) in
+    ready_none new (now old) c.args.found.now.lens c.requires.found.short none only.reads (durable_of old new 1 only.log (c.requires.log t)) (λ h ish. c.in_ok-sync_marked.ensures.there t h ish (λ not. absurd (all_marked h ish not)))
 
 pub redo-requires-clause-finds : goal.redo-requires-clause-finds
 redo-requires-clause-finds g c = λ t.
     let old = g.V.Volume.calls c.args.vol.now in
     let only = c.in_ok-sync_marked.ensures.synced t in
-    undo_of c.args.found.now.undoes _ c.args.found.now.lens c.args.found.now.end c.if-not-found.false (finds_as c.args.found.now.undoes (now old) (now (g.V.Volume.calls c.sync_marked.new.vol)) c.args.found.now.lens c.args.found.now.end only.reads (c.requires.finds t))
+    undo_of c.args.found.now.undoes _ c.args.found.now.lens c.args.found.now.end c.if-not-found.false (finds_as c.args.found.now.undoes (now old) (now (g.V.Volume.calls c.sync_marked.new.vol)) c.args.found.now.lens c.args.found.now.end only.reads (c.requires.found.finds t))
 
-pub redo-requires-clause-long : goal.redo-requires-clause-long
-redo-requires-clause-long g c = λ t. undo_long (now (g.V.Volume.calls c.sync_marked.new.vol)) c.args.found.now.lens c.args.found.now.end (redo-requires-clause-finds g c t)
-
-pub redo-requires-clause-log : goal.redo-requires-clause-log
-redo-requires-clause-log g c = λ t. durable_of (g.V.Volume.calls c.args.vol.now) (g.V.Volume.calls c.sync_marked.new.vol) 1 (c.in_ok-sync_marked.ensures.synced t).log (c.requires.log t)
-
-pub redo-requires-clause-there : goal.redo-requires-clause-there
-redo-requires-clause-there g c = λ t h ish. c.in_ok-sync_marked.ensures.there t h ish (λ not. absurd (all_marked h ish not))
+pub redo-requires-clause-disk : goal.redo-requires-clause-disk
+redo-requires-clause-disk g c = λ t. record {
+  log = durable_of (g.V.Volume.calls c.args.vol.now) (g.V.Volume.calls c.sync_marked.new.vol) 1 (c.in_ok-sync_marked.ensures.synced t).log (c.requires.log t);
+  files = λ h ish. c.in_ok-sync_marked.ensures.there t h ish (λ not. absurd (all_marked h ish not));
+}
 
 pub returns-in-Ok-clause-quiet : goal.returns-in-Ok-clause-quiet
-returns-in-Ok-clause-quiet g c = λ t calm. quiet_then _ (g.V.Volume.calls c.sync_marked.new.vol) (g.V.Volume.calls c.redo.new.vol) (c.sync_marked.ensures.quiet t calm) (c.redo.ensures.quiet t)
+returns-in-Ok-clause-quiet g c = λ t calm. quiet_then _ (g.V.Volume.calls c.sync_marked.new.vol) (g.V.Volume.calls c.redo.new.vol) (c.sync_marked.ensures.quiet t calm) (c.redo.ensures.quiet.quiet t)
 
 pub returns-in-Err-clause-quiet : goal.returns-in-Err-clause-quiet
-returns-in-Err-clause-quiet g c = λ t calm. quiet_then _ (g.V.Volume.calls c.sync_marked.new.vol) (g.V.Volume.calls c.redo.new.vol) (c.sync_marked.ensures.quiet t calm) (c.redo.ensures.quiet t)
+returns-in-Err-clause-quiet g c = λ t calm. quiet_then _ (g.V.Volume.calls c.sync_marked.new.vol) (g.V.Volume.calls c.redo.new.vol) (c.sync_marked.ensures.quiet t calm) (c.redo.ensures.quiet.quiet t)
 
 pub returns-in-Ok-clause-ready : goal.returns-in-Ok-clause-ready
 returns-in-Ok-clause-ready g c = λ t.
@@ -45,6 +42,6 @@ returns-in-Ok-clause-ready g c = λ t.
     let mid = g.V.Volume.calls c.sync_marked.new.vol in
     let only = c.in_ok-sync_marked.ensures.synced t in
     let here : now mid ≡ now old = λ i h. only.reads h i in
-    let found = undo_of c.args.found.now.undoes (now old) c.args.found.now.lens c.args.found.now.end c.if-not-found.false (c.requires.finds t) in
+    let found = undo_of c.args.found.now.undoes (now old) c.args.found.now.lens c.args.found.now.end c.if-not-found.false (c.requires.found.finds t) in
     let ready = subst (λ (fs : Files). Ready (g.V.Volume.calls c.redo.new.vol) (undone_all c.args.found.now.lens (entries (fs 1)) fs)) here (c.in-Ok.ensures.ready t) in
     ready_undo (g.V.Volume.calls c.redo.new.vol) (now old) c.args.found.now.lens c.args.found.now.end found ready

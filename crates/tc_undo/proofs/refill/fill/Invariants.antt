@@ -1,6 +1,7 @@
-use Rattle.std.proofs.Common.{◌≡◌, ◌≤◌, ◌-◌, true, length}
+use Rattle.std.proofs.Common.{◌≡◌, ◌≤◌, ◌-◌, length}
 use Rattle.tc_io.specs.Images.{now}
 use Rattle.ud_state.specs.State.{Filled, FillsQuietly}
+use Rattle.tc_undo.specs.Volumes.{StaysBound}
 use Rattle.tc_undo.proofs.refill.fill.Given as goal
 
 abbrev pub invariant-loop-place : goal.invariant-loop-place
@@ -10,9 +11,7 @@ invariant-loop-place g l = record {
   quiet : g.V.Volume.tells → FillsQuietly (g.V.Volume.calls l.initial.vol) (g.V.Volume.calls l.vol) l.file l.from;
   filled : g.V.Volume.tells → Filled (g.V.Volume.calls l.initial.vol) (g.V.Volume.calls l.vol) l.file l.from l.place;
   end : g.V.Volume.tells → length (now (g.V.Volume.calls l.vol) l.file) ≡ l.place;
-  bound : g.V.Volume.bound l.vol ≡ true;
-  names : g.V.Volume.names l.vol ≡ g.V.Volume.names l.initial.vol;
-  later : g.V.Volume.faults l.initial.vol ≤ g.V.Volume.faults l.vol;
+  stays : StaysBound g.V.Volume l.initial.vol l.vol;
 }
 
 abbrev pub decreases-loop-place : goal.decreases-loop-place

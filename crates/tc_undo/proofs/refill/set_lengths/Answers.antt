@@ -6,10 +6,11 @@ use Rattle.ud_log.specs.Undo.{place_of}
 use Rattle.ud_log.proofs.Logs.{place_one, place_low}
 use Rattle.ud_state.specs.Since.{quiet_refl, quiet_then}
 use Rattle.ud_state.proofs.Runs.{durable_of, not_log}
+use Rattle.tc_undo.proofs.Volumes.{stays_refl, stays_then}
 use Rattle.tc_undo.proofs.refill.set_lengths.Goals as goal
 
 pub loop-i-init : goal.loop-i-init
-loop-i-init g c = record { quiet = λ t files es r d. quiet_refl _; replay = λ t files es r d. r; reads = λ t f isd low. absurd (omega (arith, low)); others = λ t f isd le. refl; log = λ t. refl; bound = c.requires; names = refl; later = omega arith }
+loop-i-init g c = record { quiet = λ t files es r d. quiet_refl _; replay = λ t files es r d. r; reads = λ t f isd low. absurd (omega (arith, low)); others = λ t f isd le. refl; log = λ t. refl; stays = stays_refl g.V.Volume c.args.vol.now c.requires }
 
 pub returns-in_err-set_length-clause-quiet : goal.returns-in_err-set_length-clause-quiet
 returns-in_err-set_length-clause-quiet g c = λ t files es r d.
@@ -50,9 +51,7 @@ loop-i-preserved g c = record {
       let apart : c.file_at.result ≡ f → ⊥ = λ same. absurd (omega (arith, le, c.file_at.ensures.place, ap place_of same)) in
       (c.in_ok-set_length.ensures.resized t).others f apart ∙ c.loop-i.invariant.others t f isd (omega (arith, le));
   log = λ t. (c.in_ok-set_length.ensures.resized t).others 1 (not_log c.file_at.result c.file_at.ensures.is_data) ∙ c.loop-i.invariant.log t;
-  bound = c.in_ok-set_length.ensures.bound;
-  names = c.in_ok-set_length.ensures.names ∙ c.loop-i.invariant.names;
-  later = omega (arith, c.loop-i.invariant.later, c.set_length.ensures.cause.later);
+  stays = stays_then g.V.Volume c.args.vol.now c.loop-i.vol c.set_length.new.vol c.loop-i.invariant.stays c.set_length.ensures.stays;
 }
 
 pub returns-clause-reads : goal.returns-clause-reads

@@ -1,4 +1,4 @@
-use Rattle.std.proofs.Common.{◌≡◌, ℕ, false, ◌∙◌, sym, ap, arith, refl, subst, List, Option}
+use Rattle.std.proofs.Common.{◌≡◌, ℕ, false, ◌∙◌, sym, ap, arith, subst, List, Option}
 use Rattle.ud_log.specs.Scan.{ScannedAll}
 use Rattle.tc_io.specs.Images.{now, Calls}
 use Rattle.ud_log.specs.Log.{lengths, entries}
@@ -7,22 +7,25 @@ use Rattle.ud_log.proofs.Scanning.{scan_start, broken_three, broken_four}
 use Rattle.tc_undo.specs.declared.scan.Seen.{Seen}
 use Rattle.tc_undo.specs.Found.{AfterScan}
 use Rattle.tc_undo.specs.Errors.{on_broken}
+use Rattle.tc_undo.proofs.Volumes.{reads_refl}
 use Rattle.tc_undo.proofs.scan.scan.Goals as goal
 
 pub entries-init : goal.entries-init
-entries-init g c = record { calls = λ t. refl; scanned = λ t. scan_start _ _; order = c.requires.long; bound = c.requires.bound; names = refl; later = omega arith }
+entries-init g c = record { reads = reads_refl g.V.Volume c.args.vol.now c.requires.bound; scanned = λ t. scan_start _ _; order = c.requires.header.long }
 
 pub returns-in-Err-clause-broken : goal.returns-in-Err-clause-broken
 returns-in-Err-clause-broken g c = on_broken c.in-Err.e _ _ (λ r what t.
+    let h = c.requires.header in
     let log = now (g.V.Volume.calls c.args.vol.now) 1 in
-    let same = ap (λ (cs : Calls). now cs 1) (c.entries.invariant.calls t) in
+    let same = ap (λ (cs : Calls). now cs 1) (c.entries.invariant.reads.calls t) in
     let bad : all_formed (entries log) ≡ false = ap (λ (l : List ℕ). all_formed (entries l)) (sym same) ∙ (what t).1 in
-    broken_three log (c.requires.front t) (omega (arith, c.requires.long, c.requires.len t)) (ap all_short (sym (c.requires.lens t)) ∙ c.requires.short) bad ∙ ap broken (sym (what t).0)) c.in-Err.ensures.broken
+    broken_three log (h.begins t) (omega (arith, h.long, h.len_is t)) (ap all_short (sym (h.records t)) ∙ h.short) bad ∙ ap broken (sym (what t).0)) c.in-Err.ensures.broken
 
 pub returns-then-not-fine-clause-broken : goal.returns-then-not-fine-clause-broken
 returns-then-not-fine-clause-broken g c = λ t.
+    let h = c.requires.header in
     let log = now (g.V.Volume.calls c.args.vol.now) 1 in
-    let same = ap (λ (cs : Calls). now cs 1) (c.entries.invariant.calls t) in
+    let same = ap (λ (cs : Calls). now cs 1) (c.entries.invariant.reads.calls t) in
     let all : ScannedAll log c.args.lens.now c.entries.at c.entries.fine = subst (λ (l : List ℕ). ScannedAll l c.args.lens.now c.entries.at c.entries.fine) same (subst (λ (o : Option Seen). AfterScan (now (g.V.Volume.calls c.entries.vol) 1) c.args.lens.now c.entries.at c.entries.fine o) c.in-Ok-None.field-0-is (c.in-Ok-None.ensures.seen t)) in
-    let bad : all_inside (lengths log) (entries log) ≡ false = ap (λ (l : List ℕ). all_inside l (entries log)) (sym (c.requires.lens t)) ∙ all.inside ∙ c.if-not-fine.true in
-    broken_four log (c.requires.front t) (omega (arith, c.requires.long, c.requires.len t)) (ap all_short (sym (c.requires.lens t)) ∙ c.requires.short) all.formed bad ∙ ap broken (sym c.rule.ensures)
+    let bad : all_inside (lengths log) (entries log) ≡ false = ap (λ (l : List ℕ). all_inside l (entries log)) (sym (h.records t)) ∙ all.inside ∙ c.if-not-fine.true in
+    broken_four log (h.begins t) (omega (arith, h.long, h.len_is t)) (ap all_short (sym (h.records t)) ∙ h.short) all.formed bad ∙ ap broken (sym c.rule.ensures)

@@ -1,14 +1,15 @@
-use Rattle.std.proofs.Common.{◌≡◌, ◌<◌, ◌∙◌, ap, sym, subst, refl, arith, ⊎_elim, false, get_or}
+use Rattle.std.proofs.Common.{◌≡◌, ◌<◌, ◌∙◌, ap, sym, subst, arith, ⊎_elim, false, get_or}
 use Rattle.std.proofs.lemmas.Bool.{cases_lt}
 use Rattle.ud_log.specs.Undo.{place_of}
 use Rattle.ud_log.proofs.Logs.{place_one, place_low}
 use Rattle.ud_state.specs.State.{Durable}
 use Rattle.ud_state.specs.Since.{quiet_refl, quiet_then, quiet_calm}
 use Rattle.ud_state.proofs.Runs.{sync_only_refl, sync_only_then}
+use Rattle.tc_undo.proofs.Volumes.{stays_refl, stays_then}
 use Rattle.tc_undo.proofs.syncs.sync_marked.Goals as goal
 
 pub loop-i-init : goal.loop-i-init
-loop-i-init g c = record { quiet = λ t calm. quiet_refl _; synced = λ t. sync_only_refl _; there = λ t f isd low. absurd (omega (arith, low)); bound = c.requires; names = refl; later = omega arith }
+loop-i-init g c = record { quiet = λ t calm. quiet_refl _; synced = λ t. sync_only_refl _; there = λ t f isd low. absurd (omega (arith, low)); stays = stays_refl g.V.Volume c.args.vol.now c.requires }
 
 pub returns-in_err-sync_if-clause-quiet : goal.returns-in_err-sync_if-clause-quiet
 returns-in_err-sync_if-clause-quiet g c = λ t calm.
@@ -31,9 +32,7 @@ loop-i-preserved g c =
           subst (λ h. Durable (g.V.Volume.calls c.sync_if.new.vol) h) same
           (c.in_ok-sync_if.ensures.there t (λ not. subst (λ h. Durable (g.V.Volume.calls c.loop-i.vol) h) (sym same) ((c.loop-i.invariant.synced t).durable f isd (unmarked (ap (λ k. get_or c.args.marked.now k false) at ∙ not))))))
           (cases_lt (place_of f) c.loop-i.i);
-      bound = c.in_ok-sync_if.ensures.bound;
-      names = c.in_ok-sync_if.ensures.names ∙ c.loop-i.invariant.names;
-      later = omega (arith, c.loop-i.invariant.later, c.sync_if.ensures.cause.later);
+      stays = stays_then g.V.Volume c.args.vol.now c.loop-i.vol c.sync_if.new.vol c.loop-i.invariant.stays c.sync_if.ensures.stays;
     }
 
 pub returns-clause-there : goal.returns-clause-there

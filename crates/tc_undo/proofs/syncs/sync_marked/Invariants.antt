@@ -1,7 +1,8 @@
-use Rattle.std.proofs.Common.{◌≡◌, ◌≤◌, ◌<◌, ℕ, true, false, get_or}
+use Rattle.std.proofs.Common.{◌≡◌, ◌<◌, ℕ, true, false, get_or}
 use Rattle.ud_log.specs.Undo.{is_data, place_of}
 use Rattle.ud_state.specs.Since.{Calm, Quiet}
 use Rattle.ud_state.specs.State.{Durable, SyncOnly}
+use Rattle.tc_undo.specs.Volumes.{StaysBound}
 use Rattle.tc_undo.proofs.syncs.sync_marked.Given as goal
 
 abbrev pub invariant-loop-i : goal.invariant-loop-i
@@ -9,7 +10,5 @@ invariant-loop-i g l = record {
   quiet : g.V.Volume.tells → Calm (g.V.Volume.calls l.initial.vol) → Quiet (g.V.Volume.calls l.initial.vol) (g.V.Volume.calls l.vol);
   synced : g.V.Volume.tells → SyncOnly (g.V.Volume.calls l.initial.vol) (g.V.Volume.calls l.vol);
   there : g.V.Volume.tells → (f : ℕ) → is_data f ≡ true → place_of f < l.i → (get_or l.marked (place_of f) false ≡ false → Durable (g.V.Volume.calls l.initial.vol) f) → Durable (g.V.Volume.calls l.vol) f;
-  bound : g.V.Volume.bound l.vol ≡ true;
-  names : g.V.Volume.names l.vol ≡ g.V.Volume.names l.initial.vol;
-  later : g.V.Volume.faults l.initial.vol ≤ g.V.Volume.faults l.vol;
+  stays : StaysBound g.V.Volume l.initial.vol l.vol;
 }

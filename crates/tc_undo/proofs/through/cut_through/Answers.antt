@@ -1,101 +1,56 @@
-use Rattle.std.proofs.Common.{◌≡◌, ◌≤◌, ◌∙◌, ap, sym, subst, length, arith, take, true, set, get_or, min}
-use Rattle.tc_io.specs.Images.{now, reads}
+use Rattle.std.proofs.Common.{◌≡◌, refl, ap, subst, take, arith, rules, get_or, min}
+use Rattle.tc_io.specs.Images.{cut_to}
+use Rattle.ud_log.specs.Undo.{length_of}
 use Rattle.ud_state.specs.Since.{quiet_then}
-use Rattle.ud_state.specs.State.{Secured, AreLens, Unchanged}
-use Rattle.ud_state.proofs.Writing.{widen, lens_log, open_of, cut_done, cut_quiet, cut_lost}
-use Rattle.ud_state.proofs.Changing.{step_reads, step_others, step_log, mark_unchanged, set_lens, length_cut}
+use Rattle.ud_state.specs.State.{Secured}
+use Rattle.ud_state.proofs.Changing.{length_cut}
 use Rattle.ud_state.proofs.Replaying.{short_at}
-use Rattle.ud_log.specs.Undo.{place_of, length_of}
-use Rattle.tc_undo.proofs.Needs.{short_set, same_set}
+use Rattle.ud_state.proofs.Writing.{cut_done, cut_lost, cut_quiet}
+use Rattle.tc_undo.proofs.Changing.{all_secured, begins_inside, changes, lens_stay, may_log}
 use Rattle.tc_undo.proofs.through.cut_through.Goals as goal
 
+pub secure-requires-clause-may : goal.secure-requires-clause-may
+secure-requires-clause-may g c = may_log c.requires.may c.requires.lens
+
 pub returns-in_err-cut-clause-quiet : goal.returns-in_err-cut-clause-quiet
-returns-in_err-cut-clause-quiet g c = λ t.
-    let old = g.V.Volume.calls c.args.vol.now in
-    let mid = g.V.Volume.calls c.secure.new.vol in
-    let new = g.V.Volume.calls c.cut.new.self in
-    let f = c.args.file in
-    let isd = c.requires.is_data in
-    let recorded = c.secure.new.log.recorded in
-    let lens : AreLens c.args.lens.now (now mid) = lens_log old mid c.args.lens.now (c.in_ok-secure.ensures.only t) (c.requires.lens t) in
-    let here : length (now mid f) ≡ length (now old f) = ap (λ s. length (reads s)) ((c.in_ok-secure.ensures.only t).same f isd) in
-    let all : Secured mid recorded f c.args.len (length (now mid f)) = widen mid recorded f c.args.len c.args.stop (length (now mid f)) isd (c.in_ok-secure.ensures.secured t) (omega (arith, c.requires.stop, c.in_ok-secure.ensures.recorded, lens.at f isd, here)) in
-    let within : c.args.len ≤ length (now mid f) = omega (arith, c.requires.within t, here) in
-    quiet_then old mid new (c.secure.ensures.quiet t) (cut_lost mid new recorded f c.args.len all isd within (g.met.V.Volume.now_is_image c.secure.new.vol t) (g.met.V.Volume.now_is_image c.cut.new.self t) (c.in_err-cut.ensures.lost t))
+returns-in_err-cut-clause-quiet g c = record {
+  stays = search rules;
+  quiet = λ t.
+      let mid = g.V.Volume.calls c.secure.new.vol in
+      let new = g.V.Volume.calls c.cut.new.self in
+      let f = c.args.file in
+      let here = (lens_stay c.requires.may c.requires.lens c.in_ok-secure.ensures.secures t).at f c.requires.may.data_file in
+      let all = all_secured c.requires.may c.requires.lens c.in_ok-secure.ensures.secures t in
+      let low = begins_inside c.requires.may c.requires.lens c.in_ok-secure.ensures.secures t in
+      quiet_then _ mid new (c.secure.ensures.quiet.quiet t) (cut_lost mid new _ f c.args.len (subst (λ k. Secured mid c.secure.new.log.recorded f c.args.len k) here all) c.requires.may.data_file low (g.met.V.Volume.now_is_image c.secure.new.vol t) (g.met.V.Volume.now_is_image c.cut.new.self t) (c.in_err-cut.ensures.lost t));
+}
 
 pub returns-clause-quiet : goal.returns-clause-quiet
-returns-clause-quiet g c = λ t.
-    let old = g.V.Volume.calls c.args.vol.now in
+returns-clause-quiet g c = record {
+  stays = search rules;
+  quiet = λ t.
+      let mid = g.V.Volume.calls c.secure.new.vol in
+      let new = g.V.Volume.calls c.cut.new.self in
+      let f = c.args.file in
+      let here = (lens_stay c.requires.may c.requires.lens c.in_ok-secure.ensures.secures t).at f c.requires.may.data_file in
+      let all = all_secured c.requires.may c.requires.lens c.in_ok-secure.ensures.secures t in
+      let low = begins_inside c.requires.may c.requires.lens c.in_ok-secure.ensures.secures t in
+      quiet_then _ mid new (c.secure.ensures.quiet.quiet t) (cut_quiet mid new _ f c.args.len (subst (λ k. Secured mid c.secure.new.log.recorded f c.args.len k) here all) c.requires.may.data_file low (g.met.V.Volume.now_is_image c.secure.new.vol t) (g.met.V.Volume.now_is_image c.cut.new.self t) (c.in_ok-cut.ensures.made t));
+}
+
+pub returns-clause-changes : goal.returns-clause-changes
+returns-clause-changes g c =
     let mid = g.V.Volume.calls c.secure.new.vol in
     let new = g.V.Volume.calls c.cut.new.self in
+    let lens = c.args.lens.now in
     let f = c.args.file in
-    let isd = c.requires.is_data in
-    let recorded = c.secure.new.log.recorded in
-    let lens : AreLens c.args.lens.now (now mid) = lens_log old mid c.args.lens.now (c.in_ok-secure.ensures.only t) (c.requires.lens t) in
-    let here : length (now mid f) ≡ length (now old f) = ap (λ s. length (reads s)) ((c.in_ok-secure.ensures.only t).same f isd) in
-    let all : Secured mid recorded f c.args.len (length (now mid f)) = widen mid recorded f c.args.len c.args.stop (length (now mid f)) isd (c.in_ok-secure.ensures.secured t) (omega (arith, c.requires.stop, c.in_ok-secure.ensures.recorded, lens.at f isd, here)) in
-    let within : c.args.len ≤ length (now mid f) = omega (arith, c.requires.within t, here) in
-    quiet_then old mid new (c.secure.ensures.quiet t) (cut_quiet mid new recorded f c.args.len all isd within (g.met.V.Volume.now_is_image c.secure.new.vol t) (g.met.V.Volume.now_is_image c.cut.new.self t) (c.in_ok-cut.ensures.made t))
-
-pub returns-clause-open : goal.returns-clause-open
-returns-clause-open g c = λ t.
-    let old = g.V.Volume.calls c.args.vol.now in
-    let mid = g.V.Volume.calls c.secure.new.vol in
-    let new = g.V.Volume.calls c.cut.new.self in
-    let f = c.args.file in
-    let isd = c.requires.is_data in
-    let recorded = c.secure.new.log.recorded in
-    let lens : AreLens c.args.lens.now (now mid) = lens_log old mid c.args.lens.now (c.in_ok-secure.ensures.only t) (c.requires.lens t) in
-    let here : length (now mid f) ≡ length (now old f) = ap (λ s. length (reads s)) ((c.in_ok-secure.ensures.only t).same f isd) in
-    let all : Secured mid recorded f c.args.len (length (now mid f)) = widen mid recorded f c.args.len c.args.stop (length (now mid f)) isd (c.in_ok-secure.ensures.secured t) (omega (arith, c.requires.stop, c.in_ok-secure.ensures.recorded, lens.at f isd, here)) in
-    let within : c.args.len ≤ length (now mid f) = omega (arith, c.requires.within t, here) in
-    let done = cut_done mid new recorded f c.args.len all isd within (c.in_ok-cut.ensures.made t) in
-    let end = c.in_ok-secure.ensures.end t ∙ ap length (sym (step_log mid new f _ (c.in_ok-cut.ensures.made t) isd)) in
-    let marked = mark_unchanged mid new f _ (c.in_ok-cut.ensures.made t) isd c.secure.new.log.changed (c.in_ok-secure.ensures.unchanged t) in
-    open_of new c.secure.new.log.end recorded _ f c.args.len c.args.len done end (subst (λ k. Unchanged new (set c.secure.new.log.changed k true)) (sym c.place-i.ensures.place) marked)
-
-pub returns-clause-lens : goal.returns-clause-lens
-returns-clause-lens g c = λ t.
-    let old = g.V.Volume.calls c.args.vol.now in
-    let mid = g.V.Volume.calls c.secure.new.vol in
-    let new = g.V.Volume.calls c.cut.new.self in
-    let f = c.args.file in
-    let isd = c.requires.is_data in
-    let recorded = c.secure.new.log.recorded in
-    let lens : AreLens c.args.lens.now (now mid) = lens_log old mid c.args.lens.now (c.in_ok-secure.ensures.only t) (c.requires.lens t) in
-    let here : length (now mid f) ≡ length (now old f) = ap (λ s. length (reads s)) ((c.in_ok-secure.ensures.only t).same f isd) in
-    let all : Secured mid recorded f c.args.len (length (now mid f)) = widen mid recorded f c.args.len c.args.stop (length (now mid f)) isd (c.in_ok-secure.ensures.secured t) (omega (arith, c.requires.stop, c.in_ok-secure.ensures.recorded, lens.at f isd, here)) in
-    let within : c.args.len ≤ length (now mid f) = omega (arith, c.requires.within t, here) in
-    let long = ap length (step_reads mid new f _ (c.in_ok-cut.ensures.made t) isd) ∙ length_cut c.args.len (now mid f) in
-    let item : get_or c.args.lens.now c.place-i.result 0 ≡ length (now mid f) = ap (λ k. get_or c.args.lens.now k 0) c.place-i.ensures.place ∙ lens.at f isd in
-    let n : c.min.result ≡ length (now new f) = omega (arith, c.min.ensures, item, long) in
-    subst (λ k. AreLens (set c.args.lens.now k c.min.result) (now new)) (sym c.place-i.ensures.place) (set_lens mid new f _ (c.in_ok-cut.ensures.made t) isd c.args.lens.now _ lens n)
-
-pub returns-clause-short : goal.returns-clause-short
-returns-clause-short g c = short_set c.args.lens.now c.place-i.result c.min.result c.requires.short (omega (arith, short_at c.args.lens.now c.place-i.result c.requires.short, c.min.ensures))
-
-pub returns-clause-cut : goal.returns-clause-cut
-returns-clause-cut g c = λ t.
-    let old = g.V.Volume.calls c.args.vol.now in
-    let mid = g.V.Volume.calls c.secure.new.vol in
-    let new = g.V.Volume.calls c.cut.new.self in
-    let f = c.args.file in
-    let isd = c.requires.is_data in
-    let recorded = c.secure.new.log.recorded in
-    let lens : AreLens c.args.lens.now (now mid) = lens_log old mid c.args.lens.now (c.in_ok-secure.ensures.only t) (c.requires.lens t) in
-    let here : length (now mid f) ≡ length (now old f) = ap (λ s. length (reads s)) ((c.in_ok-secure.ensures.only t).same f isd) in
-    let all : Secured mid recorded f c.args.len (length (now mid f)) = widen mid recorded f c.args.len c.args.stop (length (now mid f)) isd (c.in_ok-secure.ensures.secured t) (omega (arith, c.requires.stop, c.in_ok-secure.ensures.recorded, lens.at f isd, here)) in
-    let within : c.args.len ≤ length (now mid f) = omega (arith, c.requires.within t, here) in
-    step_reads mid new f _ (c.in_ok-cut.ensures.made t) isd ∙ ap (λ s. take c.args.len (reads s)) ((c.in_ok-secure.ensures.only t).same f isd)
-
-pub returns-clause-others : goal.returns-clause-others
-returns-clause-others g c = λ t h ish other.
-    let mid = g.V.Volume.calls c.secure.new.vol in
-    let new = g.V.Volume.calls c.cut.new.self in
-    step_others mid new c.args.file _ (c.in_ok-cut.ensures.made t) c.requires.is_data h other ∙ ap (λ s. reads s) ((c.in_ok-secure.ensures.only t).same h ish)
-
-pub returns-clause-shorter : goal.returns-clause-shorter
-returns-clause-shorter g c =
-    let f = c.args.file in
-    let item : get_or c.args.lens.now c.place-i.result 0 ≡ length_of c.args.lens.now f = ap (λ k. get_or c.args.lens.now k 0) c.place-i.ensures.place in
-    same_set c.args.lens.now c.place-i.result (place_of f) c.min.result (min (length_of c.args.lens.now f) c.args.len) c.place-i.ensures.place (omega (arith, c.min.ensures, item))
+    let secures = c.in_ok-secure.ensures.secures in
+    let item : get_or lens c.place-i.result 0 ≡ length_of lens f = ap (λ k. get_or lens k 0) c.place-i.ensures.place in
+    let is : c.min.result ≡ min (length_of lens f) c.args.len = omega (arith, c.min.ensures, item) in
+    changes c.requires.may c.requires.lens secures new (cut_to c.args.len) c.in_ok-cut.ensures.made (take c.args.len) (λ l. refl) (λ k. min k c.args.len) (λ l le. length_cut c.args.len l)
+    c.place-i.result c.min.result c.place-i.ensures.place is c.in_ok-secure.ensures.active (omega (arith, short_at lens c.place-i.result c.requires.lens.short, c.min.ensures))
+    (λ t.
+    let here = (lens_stay c.requires.may c.requires.lens secures t).at f c.requires.may.data_file in
+    let all = all_secured c.requires.may c.requires.lens secures t in
+    let low = begins_inside c.requires.may c.requires.lens secures t in
+    cut_done mid new _ f c.args.len (subst (λ k. Secured mid c.secure.new.log.recorded f c.args.len k) here all) c.requires.may.data_file low (c.in_ok-cut.ensures.made t))

@@ -7,22 +7,22 @@ use Rattle.tc_undo.specs.Usable.{data_file}
 use Rattle.tc_undo.proofs.Steadiness.{steady_of}
 use Rattle.tc_undo.proofs.undo.UndoSpace.cut.Goals as goal
 
-pub returns-in-Ok-clause-steady : goal.returns-in-Ok-clause-steady
-returns-in-Ok-clause-steady g c = λ t. steady_of (λ s. g.V.Volume.calls s.vol) c.args.self.now _ (c.cut_through.ensures.quiet t)
+pub returns-clause-steady : goal.returns-clause-steady
+returns-clause-steady g c = λ t. steady_of (λ s. g.V.Volume.calls s.vol) c.args.self.now _ (c.cut_through.ensures.quiet.quiet t)
 
-pub returns-in-Err-clause-steady : goal.returns-in-Err-clause-steady
-returns-in-Err-clause-steady g c = λ t. steady_of (λ s. g.V.Volume.calls s.vol) c.args.self.now _ (c.cut_through.ensures.quiet t)
+pub returns-in_default-cut_through-clause-steady : goal.returns-in_default-cut_through-clause-steady
+returns-in_default-cut_through-clause-steady g c = λ t. steady_of (λ s. g.V.Volume.calls s.vol) c.args.self.now _ (c.cut_through.ensures.quiet.quiet t)
 
 pub stop_at-requires-clause-small : goal.stop_at-requires-clause-small
-stop_at-requires-clause-small g c = short_at c.args.self.now.lens c.place.result c.requires.sound.1.short
+stop_at-requires-clause-small g c = short_at c.args.self.now.lens c.place.result c.requires.sound.1.knows.short
 
-pub returns-in-Ok-clause-cut : goal.returns-in-Ok-clause-cut
-returns-in-Ok-clause-cut g c = λ t.
+pub returns-clause-cut : goal.returns-clause-cut
+returns-clause-cut g c = λ t.
     let old : Files = reads_now (g.V.Volume.calls c.args.self.now.vol) in
     let new : Files = reads_now (g.V.Volume.calls c.cut_through.new.vol) in
     let f = c.args.file in
     let isd = data_file f c.requires.file in
     record {
-      here = data_at new f isd ∙ c.in-Ok.ensures.cut t ∙ ap (take c.args.len) (sym (data_at old f isd));
-      others = data_others old new f (c.in-Ok.ensures.others t);
+      here = data_at new f isd ∙ c.in-Ok.ensures.changes.here t ∙ ap (take c.args.len) (sym (data_at old f isd));
+      others = data_others old new f (c.in-Ok.ensures.changes.others t);
     }

@@ -6,11 +6,11 @@ use Rattle.tc_undo.proofs.Needs.{grown_inside}
 use Rattle.tc_undo.proofs.Steadiness.{steady_of}
 use Rattle.tc_undo.proofs.undo.UndoSpace.write.Goals as goal
 
-pub returns-in-Ok-clause-steady : goal.returns-in-Ok-clause-steady
-returns-in-Ok-clause-steady g c = λ t. steady_of (λ s. g.V.Volume.calls s.vol) c.args.self.now _ (c.write_through.ensures.quiet t)
+pub returns-clause-steady : goal.returns-clause-steady
+returns-clause-steady g c = λ t. steady_of (λ s. g.V.Volume.calls s.vol) c.args.self.now _ (c.write_through.ensures.quiet.quiet t)
 
-pub returns-in-Err-clause-steady : goal.returns-in-Err-clause-steady
-returns-in-Err-clause-steady g c = λ t. steady_of (λ s. g.V.Volume.calls s.vol) c.args.self.now _ (c.write_through.ensures.quiet t)
+pub returns-in_default-write_through-clause-steady : goal.returns-in_default-write_through-clause-steady
+returns-in_default-write_through-clause-steady g c = λ t. steady_of (λ s. g.V.Volume.calls s.vol) c.args.self.now _ (c.write_through.ensures.quiet.quiet t)
 
 pub stop_at-requires-clause-small : goal.stop_at-requires-clause-small
 stop_at-requires-clause-small g c = omega (arith, short_at c.args.self.now.limits c.place.result c.requires.sound.1.limits_short, c.if-size-limit.false, c.if-at-limit.false)
@@ -18,24 +18,23 @@ stop_at-requires-clause-small g c = omega (arith, short_at c.args.self.now.limit
 pub write_through-requires-clause-small : goal.write_through-requires-clause-small
 write_through-requires-clause-small g c = omega (arith, short_at c.args.self.now.limits c.place.result c.requires.sound.1.limits_short, c.if-size-limit.false, c.if-at-limit.false)
 
-pub returns-in-Ok-clause-outcome : goal.returns-in-Ok-clause-outcome
-returns-in-Ok-clause-outcome g c =
+pub returns-clause-outcome : goal.returns-clause-outcome
+returns-clause-outcome g c =
     let s = c.args.self.now in
     let was = c.requires.sound.1 in
-    let e = c.in-Ok.ensures in
+    let e = c.in-Ok.ensures.changes in
     let f = c.args.file in
     let end = c.args.at + length c.args.bytes.now in
     record {
       ok = (
         c.requires.sound.0,
         record {
-          short = e.short;
+          knows = e.lens;
           limits_short = was.limits_short;
-          inside = grown_inside s.lens s.limits c.write_through.new.lens was.inside f end (data_file f c.requires.file) e.grown (omega (arith, c.if-at-limit.false, c.if-size-limit.false, ap (λ k. get_or s.limits k 0) c.place.ensures.place));
+          inside = grown_inside s.lens s.limits c.write_through.new.lens was.inside f end (data_file f c.requires.file) e.sized (omega (arith, c.if-at-limit.false, c.if-size-limit.false, ap (λ k. get_or s.limits k 0) c.place.ensures.place));
           low = e.low;
           untouched = λ is. absurd cc;
-          valid = λ t. valid_open c.write_through.new.log.active _ _ _ _ e.active (e.open t);
-          are = e.lens;
+          valid = λ t. valid_open c.write_through.new.log.active _ _ _ _ e.active (e.is_open t);
         },
       );
       err = tt;

@@ -1,7 +1,7 @@
 use Rattle.std.proofs.Common.{rules}
 use Rattle.tc_space.specs.Frames.{only_reads_refl}
 use Rattle.ty_rounds.proofs.Keeping.{nothing_kept, is_kept, none_moved, settled_moves, committed_moves}
-use Rattle.ty_rounds.proofs.turning.keep.Goals as goal
+use Rattle.ty_rounds.proofs.committing.keep.Goals as goal
 
 pub returns-then-not-commits-clause-kept : goal.returns-then-not-commits-clause-kept
 returns-then-not-commits-clause-kept g c = nothing_kept g.B.S.Space g.B.Base.holds g.B.Base.reopens _ _ _ c.requires.ready (c.requires.untouched (search rules)) (search rules)

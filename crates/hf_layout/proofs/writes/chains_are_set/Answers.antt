@@ -1,5 +1,5 @@
 use Rattle.hf_layout.proofs.Chains.{sets_left, sets_right}
-use Rattle.hf_layout.proofs.laws.chains_are_set.Goals as goal
+use Rattle.hf_layout.proofs.writes.chains_are_set.Goals as goal
 
 pub returns-clause-left : goal.returns-clause-left
 returns-clause-left c = sets_left
