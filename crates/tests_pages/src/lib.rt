@@ -1,6 +1,8 @@
-//! Pages of trees, their keys and the head of a tree against bytes worked out by hand.
+//! Pages of trees, their keys and the head of a tree against bytes worked out by hand; the cache of pages.
 #![tactic(auto)]
 
+#[cfg(test)]
+mod cached;
 #[cfg(test)]
 mod heads;
 #[cfg(test)]

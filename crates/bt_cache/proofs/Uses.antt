@@ -1,0 +1,121 @@
+-- What uses of pages leave of a cache and its store.
+use Rattle.std.proofs.Common.{◌≡◌, ℕ, ◌+◌, ◌-◌, ◌^◌, List, [], ◌∷◌, Option, Some, None, Bool, true, false, nat_eq, refl, sym, ap, subst, ◌∙◌, inl, inr, ⊎_elim}
+use Rattle.std.specs.Prelude.{is_some, min, slice_get}
+use Rattle.std.specs.Map.{lookup, lookup_entry}
+use Rattle.lru.specs.LruCache.{lru_cache, IsValid, promoted, put_entries}
+use Rattle.tc_base.specs.Maps.{Map}
+use Rattle.tc_space.specs.Frames.{In, Reads}
+use Rattle.tc_space.specs.Stores.{IsReady}
+use Rattle.tc_space.specs.declared.space.Space.{Ghosts}
+use Rattle.bt_rows.specs.declared.page.Page.{Page}
+use Rattle.bt_cache.specs.declared.shared.SharedPage.{SharedPage}
+use Rattle.bt_cache.specs.Shared.{page_of, IsAny}
+use Rattle.bt_cache.specs.Ids.{has, used}
+use Rattle.bt_cache.specs.Held.{Pages, ids, HasPage, AreSame, Beside, IsThere}
+use Rattle.bt_cache.specs.Effects.{AsksOnce, CountsPage, unless}
+use Rattle.bt_cache.proofs.Entries.{Fronts, Promotes, promotes, put_front, has_found, found_is}
+use Rattle.bt_cache.proofs.Kept.{one_page}
+
+fronts_same : (m : Map) (c : Pages) (id : ℕ) (x : SharedPage) (es : List (ℕ × SharedPage)) → Fronts c id x es → HasPage m id (page_of x) → AreSame m c.entries → AreSame m es
+fronts_same m c id x es f h a = subst (AreSame m) (sym f.is) (h, f.all (λ e. HasPage m e.0 (page_of e.1)) a)
+
+fronts_first : (c : Pages) (id : ℕ) (x : SharedPage) (es : List (ℕ × SharedPage)) (c' : Pages) → c' ≡ lru_cache es c.cap → Fronts c id x es → (rest : List ℕ) × (ids c' ≡ id ∷ rest)
+fronts_first c id x es c' e f = (ids (lru_cache f.rest c.cap), ap ids e ∙ ap (λ (l : List (ℕ × SharedPage)). ids (lru_cache l c.cap)) f.is)
+
+-- ---- a page that is held
+
+module _ (c c' : Pages) (id : ℕ) (held : Bool) (valid : IsValid nat_eq c) (tested : held ≡ is_some (lookup (nat_eq id) c.entries)) (new : c' ≡ lru_cache (promoted (nat_eq id) c.entries) c.cap) where
+  pub held_has : has id (ids c) ≡ held
+  held_has = sym (has_found id c.entries) ∙ sym tested
+
+  is_promoted : held ≡ true → Promotes c id (promoted (nat_eq id) c.entries)
+  is_promoted t = promotes c id valid (sym tested ∙ t)
+
+  pub hit_list : held ≡ true → ids c' ≡ used c.cap id (ids c)
+  hit_list t = ap ids new ∙ (is_promoted t).fronts.keys
+
+  pub hit_first : held ≡ true → (rest : List ℕ) × (ids c' ≡ id ∷ rest)
+  hit_first t = let p = is_promoted t in fronts_first c id p.value (promoted (nat_eq id) c.entries) c' new p.fronts
+
+  pub hit_reads : {S V : Type 0} (s : Ghosts S) (file_of : V → ℕ) (holds : V → List ℕ → Map → Type 0) (v : V) (a : S) → held ≡ true → s.sound a → Reads s (Beside s file_of holds) (c, v) (c', v) a a
+  hit_reads s file_of holds v a t sound = let p = is_promoted t in record {
+    now = λ _ g. refl;
+    touched = refl;
+    sound = sound;
+    means = λ m b. (b.0, subst (λ (k : Pages). AreSame m k.entries) (sym new) (fronts_same m c id p.value (promoted (nat_eq id) c.entries) p.fronts (p.kept (λ e. HasPage m e.0 (page_of e.1)) b.1) b.1));
+  }
+
+  pub not_promoted : held ≡ false → c' ≡ c
+  not_promoted f = new ∙ ap (λ (l : List (ℕ × SharedPage)). lru_cache l c.cap) (go (lookup_entry (nat_eq id) c.entries) refl)
+    where
+      go : (o : Option (ℕ × SharedPage)) → lookup_entry (nat_eq id) c.entries ≡ o → promoted (nat_eq id) c.entries ≡ c.entries
+      go None e = rw e refl
+      go (Some f') e = absurd (let g = found_is id c.entries f' e in let bad = sym f ∙ tested ∙ ap is_some g.3 in cc)
+
+-- ---- one that is read
+
+module _ {S V : Type 0} (s : Ghosts S) (file_of : V → ℕ) (holds : V → List ℕ → Map → Type 0) where
+  pub ready_store : (c : Pages) (v : V) (a : S) → IsReady s (Beside s file_of holds) (c, v) a → IsReady s (In s file_of holds) v a
+  ready_store c v a r = record { sound = r.sound; held = λ t. let h = r.held t in (h.0, h.1.0) }
+
+  pub same_reads : (c c' : Pages) (v v' : V) (a b : S) → c' ≡ c → Reads s (In s file_of holds) v v' a b → Reads s (Beside s file_of holds) (c, v) (c', v') a b
+  same_reads c c' v v' a b e r = record { now = r.now; touched = r.touched; sound = r.sound; means = λ m h. (r.means m h.0, subst (λ (k : Pages). AreSame m k.entries) (sym e) h.1) }
+
+  pub miss_reads : (c k c' : Pages) (id : ℕ) (x : SharedPage) (v v' : V) (a b : S) → k ≡ c → IsValid nat_eq c → c' ≡ lru_cache (put_entries nat_eq k id x) k.cap → Reads s (In s file_of holds) v v' a b
+      → ((m n : Map) (p : Page) → In s file_of holds v a m → In s file_of holds v a n → HasPage m id p → (page_of x ≡ p) × HasPage n id p) → IsThere s (Beside s file_of holds) IsAny id (c, v) a → Reads s (Beside s file_of holds) (c, v) (c', v') a b
+  miss_reads c k c' id x v v' a b same valid new r found there = record {
+    now = r.now;
+    touched = r.touched;
+    sound = r.sound;
+    means = λ m h.
+        let t = there h.0.0 in
+        let f = found t.0 m t.1 t.2.0 h.0 t.3 in
+        let is : c' ≡ lru_cache (put_entries nat_eq c id x) c.cap = new ∙ ap (λ (j : Pages). lru_cache (put_entries nat_eq j id x) j.cap) same in
+        (r.means m h.0, subst (λ (j : Pages). AreSame m j.entries) (sym is) (fronts_same m c id x (put_entries nat_eq c id x) (put_front c id x valid) (subst (HasPage m id) (sym f.0) f.1) h.1));
+  }
+
+pub miss_list : (c k c' : Pages) (id : ℕ) (x : SharedPage) → k ≡ c → IsValid nat_eq c → c' ≡ lru_cache (put_entries nat_eq k id x) k.cap → ids c' ≡ used c.cap id (ids c)
+miss_list c k c' id x same valid new = ap ids new ∙ ap (λ (j : Pages). ids (lru_cache (put_entries nat_eq j id x) j.cap)) same ∙ (put_front c id x valid).keys
+
+pub miss_first : (c k c' : Pages) (id : ℕ) (x : SharedPage) → k ≡ c → IsValid nat_eq c → c' ≡ lru_cache (put_entries nat_eq k id x) k.cap → (rest : List ℕ) × (ids c' ≡ id ∷ rest)
+miss_first c k c' id x same valid new = fronts_first c id x (put_entries nat_eq c id x) c' (new ∙ ap (λ (j : Pages). lru_cache (put_entries nat_eq j id x) j.cap) same) (put_front c id x valid)
+
+-- ---- counts
+
+module _ {V : Type 0} (file_of : V → ℕ) (region : V → List ℕ) (gets : V → ℕ) where
+  pub counts_hit : (b : Bool) (v : V) (n : ℕ) → b ≡ true → CountsPage file_of region gets b v v n n
+  counts_hit b v n t = record { file = refl; region_same = refl; counted = sym (ap (λ (d : Bool). unless d n) t); asked = inl refl }
+
+  pub counts_miss : (b : Bool) (v v' : V) (n n' : ℕ) → b ≡ false → AsksOnce file_of region gets v v' → n' ≡ min (n + 1) (2 ^ 64 - 1) → CountsPage file_of region gets b v v' n n'
+  counts_miss b v v' n n' f a e = record {
+    file = a.file;
+    region_same = a.region_same;
+    counted = e ∙ sym (ap (λ (d : Bool). unless d n) f);
+    asked = ⊎_elim (λ same. inl same) (λ more. inr (more ∙ sym (ap (λ (d : Bool). unless d (gets v)) f))) a.asked;
+  }
+
+pub asked_hit : (b : Bool) (n : ℕ) → b ≡ true → n ≡ unless b n
+asked_hit b n t = sym (ap (λ (d : Bool). unless d n) t)
+
+pub asked_miss : (b : Bool) (n n' : ℕ) → b ≡ false → n' ≡ min (n + 1) (2 ^ 64 - 1) → n' ≡ unless b n
+asked_miss b n n' f e = e ∙ sym (ap (λ (d : Bool). unless d n) f)
+
+-- ---- the page in front
+
+front_is : (m : Map) (es : List (ℕ × SharedPage)) (id k : ℕ) (x : SharedPage) (rest : List ℕ) (p : Page) → Some (k, x) ≡ slice_get es 0 → ids (lru_cache es 1) ≡ id ∷ rest → AreSame m es → HasPage m id p → page_of x ≡ p
+front_is m [] id k x rest p e l a h = absurd cc
+front_is m (f ∷ es) id k x rest p e l a h =
+    let first : (k, x) ≡ f = cc in
+    let is : f.0 ≡ id = cc in
+    let there : HasPage m id (page_of x) = subst (λ (y : SharedPage). HasPage m id (page_of y)) (sym (ap (λ (q : ℕ × SharedPage). q.1) first)) (subst (λ (j : ℕ). HasPage m j (page_of f.1)) is a.0) in
+    one_page m id (page_of x) p there h
+
+pub front_page : (m : Map) (c : Pages) (id k : ℕ) (x : SharedPage) (p : Page) → Some (k, x) ≡ slice_get c.entries 0 → (rest : List ℕ) × (ids c ≡ id ∷ rest) → AreSame m c.entries → HasPage m id p → page_of x ≡ p
+front_page m c id k x p e l a h = front_is m c.entries id k x l.0 p e l.1 a h
+
+front_none : (es : List (ℕ × SharedPage)) (id : ℕ) (rest : List ℕ) → None ≡ slice_get es 0 → ids (lru_cache es 1) ≡ id ∷ rest → ⊥
+front_none [] id rest e l = cc
+front_none (f ∷ es) id rest e l = cc
+
+pub no_front : (c : Pages) (id : ℕ) → None ≡ slice_get c.entries 0 → (rest : List ℕ) × (ids c ≡ id ∷ rest) → ⊥
+no_front c id e l = front_none c.entries id l.0 e l.1

@@ -1,0 +1,4 @@
+pub mod Effects
+pub mod Held
+pub mod Ids
+pub mod Shared

@@ -1,0 +1,10 @@
+//! The pages of a tree by their ids, over any map of records: those used last are held in memory.
+#![tactic(auto, using(tc_space::specs::Frames::keeps_refl))]
+
+mod cache;
+mod reading;
+mod shared;
+mod writing;
+
+pub use cache::Cache;
+pub use shared::SharedPage;

@@ -1,0 +1,80 @@
+//! The page of an id, read from a store.
+ghost use Rattle.std.specs.Prelude.{◌≡◌, ◌+◌, ◌-◌, ◌<◌, ◌≤◌, ◌^◌, min, IfOk, OnOk, IsErrOf};
+ghost use Rattle.tc_io.specs.Causes.{Rose};
+ghost use Rattle.tc_base.specs.Maps.{Map};
+ghost use Rattle.tc_space.specs.Frames.{In, Keeps, Reads};
+ghost use Rattle.tc_space.specs.Stores.{IsReady};
+ghost use Rattle.bt_rows.specs.declared.page.Page.{Page};
+ghost use Rattle.bt_rows.specs.Pages.{IsPage};
+ghost use Rattle.bt_cache.specs.Effects.{AsksOnce};
+ghost use Rattle.bt_cache.specs.Held.{HasPage};
+ghost use Rattle.bt_cache.specs.Shared.{page_of};
+
+use crate::shared::{SharedPage, empty_page};
+use bt_page::{PageErr, page_key, read_leaf, read_node};
+use std::alloc::{AllocError, Global};
+use std::rc::Rc;
+use tc_base::{Blob, PAGE_END, Steps};
+use tc_space::{RecErr, Records};
+
+// The leaf that bytes are, an empty one where they are none's.
+fn parse_leaf(alloc: Global, id: u64, bytes: &[u8]) -> Result<SharedPage, AllocError>
+    requires { id < 2 ^ 48 }
+    ensures { IfOk result (λ s. (p : Page) → IsPage id bytes.now p → page_of s ≡ p) }
+{
+    match read_leaf(alloc, bytes) {
+        Ok(leaf) => Ok(SharedPage::Leaf(Rc::new(alloc, leaf)?)),
+        Err(PageErr::Bad) => empty_page(alloc, true),
+        Err(PageErr::Memory) => Err(AllocError),
+    }
+}
+
+// The node that bytes are, an empty one where they are none's.
+fn parse_node(alloc: Global, id: u64, bytes: &[u8]) -> Result<SharedPage, AllocError>
+    requires { 2 ^ 48 ≤ id }
+    ensures { IfOk result (λ s. (p : Page) → IsPage id bytes.now p → page_of s ≡ p) }
+{
+    match read_node(alloc, bytes) {
+        Ok(node) => Ok(SharedPage::Node(Rc::new(alloc, node)?)),
+        Err(PageErr::Bad) => empty_page(alloc, false),
+        Err(PageErr::Memory) => Err(AllocError),
+    }
+}
+
+fn parse(alloc: Global, id: u64, bytes: &[u8]) -> Result<SharedPage, AllocError>
+    ensures { IfOk result (λ s. (p : Page) → IsPage id bytes.now p → page_of s ≡ p) }
+{
+    if id < PAGE_END {
+        parse_leaf(alloc, id, bytes)
+    } else {
+        parse_node(alloc, id, bytes)
+    }
+}
+
+/// The page that a store has under an id, an empty one where it has none. `Full` doesn't come.
+pub(crate) fn read_page<R: Records>(
+    alloc: Global,
+    store: &mut R,
+    space: &mut R::S,
+    id: u64,
+) -> Result<SharedPage, RecErr>
+    requires { IsReady R.S.Space (In R.S.Space R.file_of R.holds) store.old space.old }
+    ensures page { IfOk result (λ s. (m n : Map) (p : Page) → In R.S.Space R.file_of R.holds store.old space.old m → In R.S.Space R.file_of R.holds store.old space.old n → HasPage m id p → (page_of s ≡ p) × HasPage n id p) }
+    ensures reads { Reads R.S.Space (In R.S.Space R.file_of R.holds) store.old store.new space.old space.new }
+    ensures keeps { Keeps R.S.Space space.old space.new }
+    ensures asks { AsksOnce R.file_of R.region R.gets store.old store.new }
+    ensures asked { OnOk result (R.gets store.new ≡ min (R.gets store.old + 1) (2 ^ 64 - 1)) }
+    ensures cause { (IsErrOf result RecErr.Fault → Rose (R.S.faults space.old) (R.S.faults space.new)) × (IsErrOf result RecErr.Full → ⊥) }
+{
+    let mut key = Blob::new(alloc);
+    page_key(id, &mut key)?;
+    let mut steps: Steps<R> = Steps::new();
+    let found = match store.get(space, key.as_slice(), &mut steps) {
+        Ok(found) => found,
+        Err(e) => return Err(e),
+    };
+    let Some(bytes) = found else {
+        return Ok(empty_page(alloc, id < PAGE_END)?);
+    };
+    Ok(parse(alloc, id, bytes.as_slice())?)
+}

@@ -1,0 +1,7 @@
+pub mod Collected
+pub mod Keys
+pub mod Leaves
+pub mod Looks
+pub mod ReadPages
+pub mod Verdicts
+pub mod Walks

@@ -1,0 +1,179 @@
+//! The leaves of the bottom row, from first to last.
+ghost use Rattle.std.specs.Prelude.{◌≡◌, ◌↔◌, ◌++◌, ◌<◌, ◌≤◌, ◌+◌, ◌∷◌, [], ℕ, List, IfOk, IfSome, IfNone, IsErrOf, IsTrue, length, option_to_list};
+ghost use Rattle.std.specs.FinMap.{get};
+ghost use Rattle.tc_base.specs.Maps.{Map as stored};
+ghost use Rattle.tc_io.specs.Causes.{Rose};
+ghost use Rattle.tc_space.specs.Frames.{In};
+ghost use Rattle.tc_space.specs.Stores.{IsReady};
+ghost use Rattle.std.specs.List.{flat_map};
+ghost use Rattle.bt_rows.specs.declared.head.TreeHead.{TreeHead as the_head};
+ghost use Rattle.bt_rows.specs.declared.page.LeafAt.{LeafAt as the_leaf_at};
+ghost use Rattle.bt_rows.specs.Orders.{Before, before_by};
+ghost use Rattle.bt_rows.specs.Pages.{PageMap, AreHeld};
+ghost use Rattle.bt_rows.specs.Rows.{leaf_at, leaves_among, times, held};
+ghost use Rattle.bt_rows.specs.Rules.{item_pairs};
+ghost use Rattle.bt_check.specs.Looks.{Looks};
+ghost use Rattle.bt_check.specs.Leaves.{IsBehind, IsTied, IsClosed, IsSeen, less};
+ghost use Rattle.bt_check.specs.Walks.{leaf_count};
+ghost use Rattle.bt_check.specs.Verdicts.{LeavesHold, LeavesBreak, rule_b};
+
+use crate::ordering::{in_leaf, is_below};
+use crate::pages::read_page;
+use crate::walking::copy_bound;
+use bt_page::Item;
+use bt_rows::{LeafAt, Page, Slot, TreeHead};
+use std::alloc::Global;
+use tc_base::{Order, PAGE_END, Seq};
+use tc_space::{RecErr, Records};
+
+/// What was seen of leaves.
+#[derive(Drop)]
+pub(crate) struct Seen {
+    pub last: Option<LeafAt>,
+    pub ordered: bool,
+    pub linked: bool,
+    /// How many pairs are still to come, None where there are too many.
+    pub left: Option<u64>,
+}
+
+fn less(left: Option<u64>, n: u64) -> Option<u64>
+    ensures { result ≡ less left n }
+{
+    let Some(k) = left else {
+        return None;
+    };
+    if n <= k { Some(k - n) } else { None }
+}
+
+// What is left behind the values of items.
+fn count_off(left: Option<u64>, items: &[Item]) -> Option<u64>
+    ensures { result ≡ less left (length (flat_map item_pairs items.now)) }
+{
+    let mut rest = left;
+    for item in items {
+        rest = less(rest, item.values.len() as u64);
+    }
+    rest
+}
+
+fn is_behind<O: Order>(last: &Option<LeafAt>, m: &LeafAt) -> bool
+    ensures { IsTrue result ↔ IsBehind (before_by O.cmp) last.now m.now }
+{
+    match last {
+        None => in_leaf::<O>(m),
+        Some(l) => in_leaf::<O>(m) && is_below::<O>(l, m),
+    }
+}
+
+fn is_tied(head: &TreeHead, last: &Option<LeafAt>, m: &LeafAt) -> bool
+    ensures { IsTrue result ↔ IsTied head.now last.now m.now }
+{
+    match last {
+        None => m.leaf.prev == 0 && head.first == m.slot.id,
+        Some(l) => m.leaf.prev == l.slot.id && l.leaf.next == m.slot.id,
+    }
+}
+
+fn is_closed(head: &TreeHead, last: &Option<LeafAt>) -> bool
+    ensures { IsTrue result ↔ IsClosed head.now last.now }
+{
+    match last {
+        None => head.first == 0 && head.last == 0,
+        Some(l) => l.leaf.next == 0 && head.last == l.slot.id,
+    }
+}
+
+impl Seen {
+    // Takes a leaf behind those that were seen, if there is one.
+    fn see<O: Order>(&mut self, head: &TreeHead, there: Option<LeafAt>)
+        ensures { (ls : List the_leaf_at) → IsSeen (before_by O.cmp) head.now ls self.old.last self.old.ordered self.old.linked self.old.left → IsSeen (before_by O.cmp) head.now (ls ++ option_to_list there) self.new.last self.new.ordered self.new.linked self.new.left }
+    {
+        let Some(m) = there else {
+            return;
+        };
+        self.ordered = self.ordered & is_behind::<O>(&self.last, &m);
+        self.linked = self.linked & is_tied(head, &self.last, &m);
+        self.left = count_off(self.left, m.leaf.items.as_slice());
+        self.last = Some(m);
+    }
+}
+
+// The leaf in a place, if one stands there.
+fn leaf_in<R: Records>(
+    alloc: Global,
+    store: &mut R,
+    space: &mut R::S,
+    slot: &Slot,
+) -> Result<Option<LeafAt>, RecErr>
+    requires ready { IsReady R.S.Space (In R.S.Space R.file_of R.holds) store.old space.old }
+    ensures leaf { IfOk result (λ o. (m : stored) → In R.S.Space R.file_of R.holds store.old space.old m → (h : the_head) (pages : PageMap) → AreHeld h (get m) pages → held pages slot.now.id ≡ 1 → option_to_list o ≡ leaf_at slot.now (pages slot.now.id)) }
+    ensures looks { Looks R.S.Space R.file_of R.holds R.region store.old store.new space.old space.new }
+    ensures asks { R.gets store.new ≤ R.gets store.old + leaf_count (slot.now ∷ []) }
+    ensures cause { IsErrOf result RecErr.Fault → Rose (R.S.faults space.old) (R.S.faults space.new) }
+{
+    if slot.id >= PAGE_END {
+        return Ok(None);
+    }
+    let page = match read_page(alloc, store, space, slot.id) {
+        Ok(page) => page,
+        Err(e) => return Err(e),
+    };
+    let Some(Page::Leaf(leaf)) = page else {
+        return Ok(None);
+    };
+    let slot = Slot {
+        bound: copy_bound(alloc, &slot.bound)?,
+        id: slot.id,
+    };
+    Ok(Some(LeafAt { slot, leaf }))
+}
+
+/// Sees all leaves of a row, one at a time.
+pub(crate) fn see_all<R: Records, O: Order>(
+    alloc: Global,
+    store: &mut R,
+    space: &mut R::S,
+    head: &TreeHead,
+    row: &Seq<Slot>,
+) -> Result<Seen, RecErr>
+    requires ready { IsReady R.S.Space (In R.S.Space R.file_of R.holds) store.old space.old }
+    ensures seen { IfOk result (λ s. (m : stored) → In R.S.Space R.file_of R.holds store.old space.old m → (h : the_head) (pages : PageMap) → AreHeld h (get m) pages → ((id : ℕ) → 0 < times id row.now → held pages id ≡ 1) → IsSeen (before_by O.cmp) head.now (leaves_among pages row.now) s.last s.ordered s.linked s.left) }
+    ensures looks { Looks R.S.Space R.file_of R.holds R.region store.old store.new space.old space.new }
+    ensures asks { R.gets store.new ≤ R.gets store.old + leaf_count row.now }
+    ensures cause { IsErrOf result RecErr.Fault → Rose (R.S.faults space.old) (R.S.faults space.new) }
+{
+    let mut seen = Seen {
+        last: None,
+        ordered: true,
+        linked: true,
+        left: Some(head.pairs),
+    };
+    for slot in row.as_slice() {
+        let there = match leaf_in(alloc, store, space, slot) {
+            Ok(there) => there,
+            Err(e) => return Err(e),
+        };
+        seen.see::<O>(head, there);
+    }
+    Ok(seen)
+}
+
+/// The number of the first rule of leaves that doesn't hold of those that were seen.
+pub(crate) fn broken_rule(head: &TreeHead, seen: &Seen) -> Option<u8>
+    ensures none { IfNone result ((before : Before) (ls : List the_leaf_at) → IsSeen before head.now ls seen.now.last seen.now.ordered seen.now.linked seen.now.left → LeavesHold before head.now ls) }
+    ensures some { IfSome result (λ n. (before : Before) (ls : List the_leaf_at) → IsSeen before head.now ls seen.now.last seen.now.ordered seen.now.linked seen.now.left → LeavesBreak before head.now ls (rule_b n)) }
+{
+    if !seen.ordered {
+        return Some(6);
+    }
+    if !seen.linked {
+        return Some(7);
+    }
+    if !is_closed(head, &seen.last) {
+        return Some(7);
+    }
+    if seen.left != Some(0) {
+        return Some(8);
+    }
+    None
+}
