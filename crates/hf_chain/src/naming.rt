@@ -23,6 +23,23 @@ pub struct Ends {
     pub right: u64,
 }
 
+// Where a place is looked for next among the records from one number to before another: in the middle, or where its share of what lies between
+// their places points, which is near where records have much the same size.
+fn probe(facts: &Facts, low: usize, high: usize, place: u64, halves: bool) -> usize
+    requires some { low < high }
+    requires inside { high ≤ length facts.now }
+    ensures { (low ≤ result) × (result < high) }
+{
+    let most = high - low - 1;
+    if halves {
+        return low + most / 2;
+    }
+    let first = facts.at(low).place;
+    let span = facts.at(high - 1).place.saturating_sub(first).max(1);
+    let share = place.saturating_sub(first).saturating_mul(most as u64) / span;
+    low + (share as usize).min(most)
+}
+
 // Which record stands at a place, if one does.
 fn position(facts: &Facts, place: u64) -> Option<usize>
     ensures found { IfSome result (λ i. (x : Fact) × (slice_get facts.now i ≡ Some x) × (x.place ≡ place)) }
@@ -31,8 +48,10 @@ fn position(facts: &Facts, place: u64) -> Option<usize>
 {
     let mut low = 0;
     let mut high = facts.len();
+    let mut halves = false;
     while low < high {
-        let mid = low + (high - low) / 2;
+        let mid = probe(facts, low, high, place, halves);
+        halves = !halves;
         let at = facts.at(mid).place;
         if at == place {
             return Some(mid);

@@ -1,5 +1,5 @@
 -- A file made anew with the numbers and in the form that it has.
-use Rattle.std.proofs.Common.{◌≡◌, ◌∙◌, inl, inr, ℕ, zero, suc, ◌+◌, ◌-◌, ◌*◌, ◌%◌, ◌^◌, ◌<◌, ◌≤◌, true, false, List, [], length, replicate, refl, sym, ap, subst, arith, None}
+use Rattle.std.proofs.Common.{◌≡◌, ◌∙◌, ◌⊎◌, inl, inr, ℕ, zero, suc, ◌+◌, ◌-◌, ◌*◌, ◌%◌, ◌^◌, ◌<◌, ◌≤◌, true, false, List, [], length, replicate, refl, sym, ap, subst, arith, None}
 use Rattle.std.specs.Prelude.{◌==◌}
 use Rattle.std.specs.FinMap.{empty}
 use Rattle.std.proofs.lemmas.Bool.{cases_lt}
@@ -14,6 +14,8 @@ use Rattle.hf_pool.specs.declared.pool.Pool.{Pool}
 use Rattle.hf_pool.specs.Pools.{frees as frees_in}
 use Rattle.tc_base.specs.Files.{Files}
 use Rattle.tc_space.specs.Effects.{Changes}
+use Rattle.tc_space.specs.Ranges.{IsDataFile}
+use Rattle.tc_space.specs.declared.space.Space.{Ghosts}
 use Rattle.tc_hash.specs.Creating.{IsNew, MayBe}
 use Rattle.tc_hash.specs.Fields.{HasFields}
 use Rattle.tc_hash.specs.Holding.{Holds}
@@ -72,3 +74,8 @@ pub cleared : (h new : Head) (p : Pool) (bytes : List ℕ) → HasFields h → I
 cleared h new p bytes f is same sized nothing laid spells long e =
     let b = create_brought h.kind h.apow h.fpow h.buckets (is_large h) new p bytes (may_be h f) is (anew_fields h new f is).numbers.size_most same sized nothing laid spells long e in
     subst (λ (n : ℕ). Holds new p.size (frees_in p) n empty bytes) is.records b.holds
+
+-- bytes that the file had pass no limit
+pub within_log : {S : Type 0} (s : Ghosts S) → ((a : S) (file : ℕ) → s.tells → s.sound a → IsDataFile file → length (s.now a file) ≤ s.limit a file) → (file n : ℕ) (a : S) {L : Type 0} → s.tells → s.sound a → IsDataFile file → n ≤ length (s.now a file) → (s.limit a file < n) ⊎ L → L
+within_log s within file n a t sound numbered inside (inl past) = absurd (omega (arith, within a file t sound numbered, past, inside))
+within_log s within file n a t sound numbered inside (inr full) = full

@@ -9,7 +9,7 @@ use Rattle.tc_base.specs.Files.{Files, wrote}
 use Rattle.tc_space.specs.Effects.{Changes}
 use Rattle.tc_base.specs.Endian.{le_number}
 use Rattle.hf_head.specs.declared.head.Head.{Head}
-use Rattle.hf_head.specs.Heads.{Spells, spelled, unit, sections}
+use Rattle.hf_head.specs.Heads.{Spells, head_in, spelled, unit, sections}
 use Rattle.hf_block.specs.Walks.{between}
 use Rattle.hf_layout.specs.Frees.{Frees, none}
 use Rattle.hf_layout.specs.Layout.{LaidOut}
@@ -156,6 +156,10 @@ create_brought kind apow fpow buckets large h p bytes may is short same sized no
     subst (λ (l : List ℕ). Brought h p.size (frees_in p) h.records h.opaque empty l) (sym e)
     (subst (λ (n : ℕ). Brought h n (frees_in p) h.records h.opaque empty (new_bytes h)) (sym sized)
     (new_stands h (unit h) (frees_in p) f is.records is.size refl (subst (λ (n : ℕ). AreMultiples n (frees_in p)) same p.multiples) nothing long spells (laid (new_bytes h) all)))
+
+-- its head at the front
+pub create_head : (h now : Head) (bytes : List ℕ) → now ≡ h → Spells h (spelled h) → length (spelled h) ≡ 256 → bytes ≡ new_bytes h → head_in (take 256 bytes) ≡ now
+create_head h now bytes same spells long e = ap (λ (l : List ℕ). head_in (take 256 l)) e ∙ ap (λ (l : List ℕ). head_in l) (take_at (spelled h) (replicate (h.first - 256) 0) 256 long) ∙ spells.fields ∙ sym same
 
 -- zeros behind zeros
 pub zeros_then : {S : Type 0} (now : S → Files) (file : ℕ) (a b c : S) (start x : List ℕ) (m n k : ℕ) → Changes now file (start ++ replicate m 0) a b → Changes now file (now b file ++ x) b c → x ≡ replicate n 0 → k ≡ m + n → Changes now file (start ++ replicate k 0) a c

@@ -10,7 +10,7 @@ use Rattle.std.proofs.lemmas.List.{places, same_lists, length-take-le}
 use Rattle.tc_base.specs.Maps.{Map}
 use Rattle.tc_base.specs.Files.{wrote}
 use Rattle.hf_head.specs.declared.head.Head.{Head}
-use Rattle.hf_head.specs.Heads.{IsValid, Spells, spelled, unit, sections}
+use Rattle.hf_head.specs.Heads.{IsValid, Spells, head_in, spelled, unit, sections}
 use Rattle.hf_block.specs.Pieces.{Record, Piece, AreBlocks}
 use Rattle.hf_block.specs.Walks.{between}
 use Rattle.hf_layout.specs.Frees.{Frees, none}
@@ -40,7 +40,7 @@ links_same h ps qs a b records entries (Left p) = ap (λ (o : Option Record). un
 links_same h ps qs a b records entries (Right p) = ap (λ (o : Option Record). unit h * right_of o) (records p)
 
 -- a head with other numbers names the same
-links_head : (h : Head) (records size : ℕ) (region : List ℕ) (ps : List Piece) (bytes : List ℕ) (c : Parent) → links_of (head_now h records size region) ps bytes c ≡ links_of h ps bytes c
+pub links_head : (h : Head) (records size : ℕ) (region : List ℕ) (ps : List Piece) (bytes : List ℕ) (c : Parent) → links_of (head_now h records size region) ps bytes c ≡ links_of h ps bytes c
 unfolding links_of
 links_head h records size region ps bytes (Bucket n) = refl
 links_head h records size region ps bytes (Left p) = refl
@@ -226,6 +226,7 @@ brought h u end records frees m region o a b f same aligned multiples spells is 
         };
         region_is = refl;
       };
+      head = ap (λ (l : List ℕ). head_in l) s.head ∙ spells.fields;
     }
 
 -- ---- the file behind the writes

@@ -17,6 +17,7 @@ pub mod Reading
 pub mod Unique
 pub mod Bucketing
 pub mod Values
+pub mod Asking
 pub mod Records
 pub mod Ordered
 pub mod Stored
@@ -24,3 +25,5 @@ pub mod KeysRead
 pub mod BytesRead
 pub mod Cleared
 pub mod Unbroken
+pub mod Enlarged
+pub mod Packed

@@ -14,7 +14,7 @@ use Rattle.hf_tree.proofs.Orders.{slice_equal}
 same_test : (k : List ℕ) → eq_by_cmp (slice_cmp nat_cmp) k k ≡ true
 same_test k = rw (tied_itself nat_list_cmp_total k) refl
 
-other_test : (q k : List ℕ) → q ≢ k → eq_by_cmp (slice_cmp nat_cmp) q k ≡ false
+pub other_test : (q k : List ℕ) → q ≢ k → eq_by_cmp (slice_cmp nat_cmp) q k ≡ false
 other_test q k ne = go (slice_cmp nat_cmp q k) refl
   where
     go : (o : Ordering) → slice_cmp nat_cmp q k ≡ o → eq_by_cmp (slice_cmp nat_cmp) q k ≡ false
@@ -34,16 +34,17 @@ remove_here m k = get-remove nat_list_cmp_total m k k ∙ ap (λ (b : Bool). con
 pub remove_other : (m : Map) (k q : List ℕ) → q ≢ k → get (remove m k) q ≡ get m q
 remove_other m k q ne = get-remove nat_list_cmp_total m k q ∙ ap (λ (b : Bool). cond b None (get m q)) (other_test q k ne)
 
+-- two keys are the same or not
+pub same_or_not : (q k : List ℕ) → (q ≡ k) ⊎ (q ≢ k)
+same_or_not q k = go (eq_by_cmp (slice_cmp nat_cmp) q k) refl
+  where
+    go : (b : Bool) → eq_by_cmp (slice_cmp nat_cmp) q k ≡ b → (q ≡ k) ⊎ (q ≢ k)
+    go true e = inl (exact_bytes q k ((Equal-is (slice_cmp nat_cmp q k)).0 e))
+    go false e = inr (λ is. let f : true ≡ false = sym (same_test k) ∙ ap (λ (z : List ℕ). eq_by_cmp (slice_cmp nat_cmp) z k) (sym is) ∙ e in cc)
+
 -- a key taken out and put again
 pub insert_again : (m : Map) (k v : List ℕ) → insert (remove m k) k v ≡ insert m k v
-insert_again m k v = same_map nat_list_cmp_total exact_bytes (insert (remove m k) k v) (insert m k v) (λ q. elim (cases q) [
+insert_again m k v = same_map nat_list_cmp_total exact_bytes (insert (remove m k) k v) (insert m k v) (λ q. elim (same_or_not q k) [
   | inl is ↦ ap (get (insert (remove m k) k v)) is ∙ insert_here (remove m k) k v ∙ sym (ap (get (insert m k v)) is ∙ insert_here m k v)
   | inr ne ↦ insert_other (remove m k) k v q ne ∙ remove_other m k q ne ∙ sym (insert_other m k v q ne)
 ])
-  where
-    cases : (q : List ℕ) → (q ≡ k) ⊎ (q ≢ k)
-    cases q = go (eq_by_cmp (slice_cmp nat_cmp) q k) refl
-      where
-        go : (b : Bool) → eq_by_cmp (slice_cmp nat_cmp) q k ≡ b → (q ≡ k) ⊎ (q ≢ k)
-        go true e = inl (exact_bytes q k ((Equal-is (slice_cmp nat_cmp q k)).0 e))
-        go false e = inr (λ is. let f : true ≡ false = sym (same_test k) ∙ ap (λ (z : List ℕ). eq_by_cmp (slice_cmp nat_cmp) z k) (sym is) ∙ e in cc)

@@ -1,5 +1,5 @@
 -- Calls on the records of a hash file that is held open, made of steps.
-use Rattle.std.proofs.Common.{◌≡◌, ◌∙◌, ◌⊎◌, inl, inr, ⊎_elim, ℕ, ◌+◌, ◌-◌, List, length, refl, sym, ap, subst, Option, Some, None, Bool, true, false, cond, is_some, Err}
+use Rattle.std.proofs.Common.{◌≡◌, ◌∙◌, ◌⊎◌, inl, inr, ⊎_elim, ℕ, ◌+◌, ◌-◌, ◌≤◌, List, length, refl, sym, ap, subst, Option, Some, None, Bool, true, false, cond, is_some, Err}
 use Rattle.std.specs.Prelude.{IsErrOf, IsSome, option_map}
 use Rattle.std.specs.Cmp.Lexicographic.{nat_list_cmp_total}
 use Rattle.std.specs.FinMap.{get, insert, remove, len, len-insert, len-remove}
@@ -25,6 +25,7 @@ use Rattle.hf_tree.specs.declared.parent.Found.{Found}
 use Rattle.hf_tree.specs.declared.parent.Found.TheVariants.{Here, Gap}
 use Rattle.hf_tree.specs.Keys.{Key}
 use Rattle.tc_hash.specs.declared.hash.Hash.{Hash}
+use Rattle.tc_hash.specs.Asking.{value_most}
 use Rattle.tc_hash.specs.Holding.{HasMap, Holds, IsReadable, IsSearched}
 use Rattle.tc_hash.specs.Keeping.{file_of, holds}
 use Rattle.tc_hash.proofs.Finding.{here_record, gap_none}
@@ -99,6 +100,12 @@ module _ (h : Head) (end : ℕ) (free : Frees) (m : Map) (bytes : List ℕ) (key
   value_there now x e same =
       let it = here_record h end g.pieces free g.places m bytes key v g.is at from s in
       it.value_is ∙ ap (λ (z : List ℕ). Some z) (sym (same it.r (subst (λ (l : List ℕ). HasRecord h it.r at l) (sym e) it.has)))
+
+  -- so many bytes were read for it
+  pub value_counted : (now : List ℕ) (before after : ℕ) → now ≡ bytes → ((r : Record) → HasRecord h r at now → after ≤ before + value_most (Some r.value)) → after ≤ before + value_most (get m key)
+  value_counted now before after e counted =
+      let it = here_record h end g.pieces free g.places m bytes key v g.is at from s in
+      subst (λ (o : Option (List ℕ)). after ≤ before + value_most o) (sym it.value_is) (counted it.r (subst (λ (l : List ℕ). HasRecord h it.r at l) (sym e) it.has))
 
   pub len_there : (now : List ℕ) (rec : RecHead) → now ≡ bytes → ((r : Record) → HasRecord h r at now → rec ≡ head_of r) → Some rec.value ≡ option_map length (get m key)
   len_there now rec e same =

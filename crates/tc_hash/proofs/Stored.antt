@@ -23,8 +23,9 @@ use Rattle.tc_hash.proofs.Finding.{here_record}
 use Rattle.std.specs.Prelude.{unwrap_or}
 use Rattle.tc_hash.specs.declared.hash.Hash.{Hash}
 use Rattle.tc_hash.specs.Costs.{Edits}
-use Rattle.tc_hash.specs.Keeping.{file_of, fills, holds, size_in, GivesValue, LacksBlock, LacksRoom, StaysOpen, TakesRecord, WantsBlock}
+use Rattle.tc_hash.specs.Keeping.{file_of, holds, size_in, GivesValue, LacksBlock, LacksRoom, StaysOpen, TakesRecord, WantsBlock}
 use Rattle.tc_hash.specs.Moves.{IsRefusedFor}
+use Rattle.tc_hash.specs.Packing.{fills_any}
 use Rattle.tc_hash.proofs.Differ.{edits_after, edits_more, edits_then}
 use Rattle.tc_hash.proofs.Maps.{insert_again, insert_here}
 use Rattle.tc_hash.proofs.Records.{reads_only, writes_after}
@@ -79,10 +80,14 @@ module _ {S : Type 0} (s : Ghosts S) where
   pub lacks_log : (mode : Mode) (key value : List ℕ) (v : Hash S) (a b : S) → (s.tells → s.log_full b) → LacksBlock s mode key value v a b
   lacks_log mode key value v a b full = record { wants = λ m w. record { pool = v.pool; since = inl refl; refused = inr (inr (full w.0)) } }
 
-  pub full_by : (mode : Mode) (key value : List ℕ) (v : Hash S) (a b : S) → LacksBlock s mode key value v a b → FullBy (In s file_of holds) (fills s) (put_in mode key value) v a b
+  -- as the trait has it
+  pub full_by : (mode : Mode) (key value : List ℕ) (v : Hash S) (a b : S) → LacksBlock s mode key value v a b → FullBy (In s file_of holds) (fills_any s) (put_in mode key value) v a b
   full_by mode key value v a b l = record {
-    by = λ m w. inr (record { key = key; value = put_value mode (get m key) value; there = insert_here m key (put_value mode (get m key) value); wants = l.wants m w });
+    by = λ m w. inl (inr (record { key = key; value = put_value mode (get m key) value; there = insert_here m key (put_value mode (get m key) value); wants = l.wants m w }));
   }
+
+  pub log_by : (f : Map → Map) (v : Hash S) (a b : S) → (s.tells → s.log_full b) → FullBy (In s file_of holds) (fills_any s) f v a b
+  log_by f v a b full = record { by = λ m w. inl (inl (full w.0)) }
 
   -- the same of calls behind what only reads
   pub puts_after : (mode : Mode) (key value : List ℕ) (v v' : Hash S) (a b c : S) → OnlyReads s a b → Puts s (Only (file_of v)) (In s file_of holds) mode (value_in key) (put_in mode key value) v v' b c → Puts s (Only (file_of v)) (In s file_of holds) mode (value_in key) (put_in mode key value) v v' a c
@@ -93,9 +98,6 @@ module _ {S : Type 0} (s : Ghosts S) where
       let first = reads_only s v v a b refl refl refl refl r in
       record { keep = x.keep; there = λ m w. x.there m (first.means m w); reads = reads_then s (In s file_of holds) v v v' a b c first x.reads }
 
-  pub full_after : (f : Map → Map) (v : Hash S) (a b c : S) → OnlyReads s a b → FullBy (In s file_of holds) (fills s) f v b c → FullBy (In s file_of holds) (fills s) f v a c
-  full_after f v a b c r l = record { by = λ m w. l.by m ((reads_only s v v a b refl refl refl refl r).means m w) }
-
   -- a key that wasn't held was given a value, in whatever mode
   pub puts_fresh : (mode : Mode) (key value : List ℕ) (v v' : Hash S) (a b c : S) → ((m : Map) → In s file_of holds v a m → get m key ≡ None) → OnlyReads s a b → GivesValue s Over key value 13 v v' b c
       → Puts s (Only (file_of v)) (In s file_of holds) mode (value_in key) (put_in mode key value) v v' a c × GivesValue s mode key value 512 v v' a c
@@ -103,8 +105,8 @@ module _ {S : Type 0} (s : Ghosts S) where
       let all = gives_as mode key value value 512 v v' a c (λ m w. put_fresh mode (get m key) value (none m w)) (gives_more Over key value 13 512 v v' a c (omega arith) (gives_after Over key value 13 v v' a b c r g)) in
       (record { writes = all.writes; absent = λ keep m w. none m w }, all)
 
-  pub full_fresh : (mode : Mode) (key value : List ℕ) (v : Hash S) (a c : S) → ((m : Map) → In s file_of holds v a m → get m key ≡ None) → (s.tells → LacksRoom s v c (size_in v key value)) → FullBy (In s file_of holds) (fills s) (put_in mode key value) v a c
-  full_fresh mode key value v a c none l = full_by mode key value v a c (lacks_as mode key value value v a c (λ m w. put_fresh mode (get m key) value (none m w)) (lacks_room key value v a c l))
+  pub lacks_fresh : (mode : Mode) (key value : List ℕ) (v : Hash S) (a c : S) → ((m : Map) → In s file_of holds v a m → get m key ≡ None) → (s.tells → LacksRoom s v c (size_in v key value)) → LacksBlock s mode key value v a c
+  lacks_fresh mode key value v a c none l = lacks_as mode key value value v a c (λ m w. put_fresh mode (get m key) value (none m w)) (lacks_room key value v a c l)
 
   -- ---- a record taken out, and the key put again
 

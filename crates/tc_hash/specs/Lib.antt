@@ -1,4 +1,5 @@
 pub mod Costs
+pub mod Asking
 pub mod Filling
 pub mod Moves
 pub mod Fields
@@ -6,6 +7,7 @@ pub mod Holding
 pub mod Keeping
 pub mod Listed
 pub mod Opening
+pub mod Packing
 pub mod Sections
 pub mod Creating
 pub mod Settling

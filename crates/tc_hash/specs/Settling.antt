@@ -2,7 +2,7 @@
 use Rattle.std.specs.Prelude.{◌≡◌, ℕ, ◌+◌, ◌*◌, ◌-◌, List, length, take, Option, Some, None}
 use Rattle.tc_base.specs.Files.{wrote}
 use Rattle.hf_head.specs.declared.head.Head.{Head}
-use Rattle.hf_head.specs.Heads.{sections, spelled}
+use Rattle.hf_head.specs.Heads.{head_in, sections, spelled}
 use Rattle.hf_layout.specs.Frees.{Frees}
 use Rattle.hf_pool.specs.Sections.{InOrder, section_bytes}
 use Rattle.hf_block.specs.Walks.{between}
@@ -35,10 +35,11 @@ settled h section bytes = take h.size (patched (section_at h) section (wrote 0 (
 abbrev pub head_now : Head → ℕ → ℕ → List ℕ → Head
 head_now h records size region = record h { records = records; size = size; opaque = region }
 
--- what was held is held, and the file stands for it
+-- what was held is held, and the file stands for it and has this head, with the numbers that are held
 pub record Brought (h : Head) (end : ℕ) (frees : Frees) (records : ℕ) (region : List ℕ) (m : Map) (bytes : List ℕ) : Type 0 where
   pub holds : Holds h end frees records m bytes
   pub stands : StandsWith h.kind bytes m region
+  pub head : head_in (take 256 bytes) ≡ head_now h records end region
 
 -- nothing was changed but the head, the section and the length
 pub record ChangesFront (h : Head) (size : ℕ) (old new : List ℕ) : Type 0 where

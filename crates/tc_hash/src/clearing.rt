@@ -33,15 +33,20 @@ fn head_anew(head: &Head) -> Head
     )
 }
 
-// Cuts a file, and writes a head and zeros behind it, which have no more bytes than the file had. After a refusal the space isn't sound.
-fn write_anew<S: Space>(space: &mut S, file: u32, head: &Head, zeros: &[u8]) -> Result<(), RecErr>
+/// Cuts a file, and writes a head and zeros behind it. After a refusal the space isn't sound.
+pub(crate) fn write_anew<S: Space>(
+    space: &mut S,
+    file: u32,
+    head: &Head,
+    zeros: &[u8],
+) -> Result<(), RecErr>
     requires always { (S.sound space.old) × IsDataFile file }
-    requires room { (256 ≤ head.now.first) × (S.tells → head.now.first ≤ length (S.now space.old file)) }
+    requires long { 256 ≤ head.now.first }
     requires zeros { (0 < length zeros.now) × (zeros.now ≡ replicate (length zeros.now) 0) }
     ensures wrote { OnOk result (S.tells → Changes S.now file (spelled head.now ++ replicate (head.now.first - 256) 0) space.old space.new) }
     ensures outcome { Outcome S.sound S.flag result space.new }
     ensures keeps { Keeps S.Space space.old space.new }
-    ensures full { IsErrOf result RecErr.Full → S.tells → S.log_full space.new }
+    ensures full { IsErrOf result RecErr.Full → S.tells → (S.limit space.old file < head.now.first) ⊎ S.log_full space.new }
     ensures spells { OnOk result (Spells head.now (spelled head.now) × (length (spelled head.now) ≡ 256)) }
     ensures cause { IsErrOf result RecErr.Fault → Rose (S.faults space.old) (S.faults space.new) }
 {

@@ -1,5 +1,5 @@
 //! A file made anew.
-ghost use Rattle.std.specs.Prelude.{◌≡◌, ◌⊎◌, ℕ, ◌+◌, ◌*◌, ◌-◌, ◌<◌, ◌≤◌, ◌^◌, ◌++◌, ◌%◌, ◌==◌, List, [], length, replicate, IfOk, OnOk, OnErr, IsErrOf, None, false};
+ghost use Rattle.std.specs.Prelude.{◌≡◌, ◌⊎◌, ℕ, ◌+◌, ◌*◌, ◌-◌, ◌<◌, ◌≤◌, ◌^◌, ◌++◌, ◌%◌, ◌==◌, List, [], length, replicate, take, IfOk, OnOk, OnErr, IsErrOf, None, false};
 ghost use Rattle.std.specs.FinMap.{empty};
 ghost use Rattle.tc_base.specs.Maps.{Map};
 ghost use Rattle.tc_io.specs.Causes.{Rose};
@@ -7,7 +7,7 @@ ghost use Rattle.tc_space.specs.Effects.{Changes, Outcome};
 ghost use Rattle.tc_space.specs.Frames.{Keeps, OnlyReads, Others};
 ghost use Rattle.tc_space.specs.Ranges.{IsDataFile};
 ghost use Rattle.tc_space.specs.Stores.{Only};
-ghost use Rattle.hf_head.specs.Heads.{Spells, is_large, sections, spelled, unit};
+ghost use Rattle.hf_head.specs.Heads.{Spells, head_in, is_large, sections, spelled, unit};
 ghost use Rattle.hf_layout.specs.Frees.{none};
 ghost use Rattle.hf_layout.specs.Layout.{LaidOut};
 ghost use Rattle.hf_pool.specs.Pools.{frees};
@@ -182,6 +182,7 @@ impl<S: Space> Hash<S> {
         requires numbers { MayBe kind apow fpow buckets }
         ensures file { IfOk result (λ h. (h.file ≡ file) × IsNew kind apow fpow buckets large h.head) }
         ensures brought { IfOk result (λ h. S.tells → Brought h.head h.pool.size (frees h.pool) h.records h.region empty (S.now space.new file)) }
+        ensures head { IfOk result (λ h. S.tells → head_in (take 256 (S.now space.new file)) ≡ h.head) }
         ensures created { OnOk result (S.sound space.new × Others S.Space (Only file) space.old space.new) }
         ensures refused { OnErr result ((S.flag space.new ≡ false) ⊎ OnlyReads S.Space space.old space.new) }
         ensures keeps { Keeps S.Space space.old space.new }

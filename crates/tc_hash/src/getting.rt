@@ -8,8 +8,8 @@ ghost use Rattle.tc_space.specs.Frames.{In, Keeps, OnlyReads, Reads};
 ghost use Rattle.tc_space.specs.Stores.{IsReady};
 ghost use Rattle.hf_head.specs.Heads.{IsValid};
 ghost use Rattle.hf_layout.specs.Frees.{Frees};
-ghost use Rattle.hf_tree.specs.Keys.{bucket_of};
-ghost use Rattle.tc_hash.specs.Costs.{in_bucket};
+ghost use Rattle.hf_chain.specs.Costs.{step_most, Paid};
+ghost use Rattle.tc_hash.specs.Asking.{value_most, Asked};
 ghost use Rattle.tc_hash.specs.Holding.{HasMap, IsReadable};
 ghost use Rattle.tc_hash.specs.Keeping.{file_of, holds, CountsOne};
 
@@ -21,8 +21,8 @@ use std::alloc::Global;
 use tc_base::{Blob, Fault, Steps};
 use tc_space::{RecErr, Space};
 
-// The value of a key.
-fn value_of<S: Space, L>(
+/// The value of a key. Besides what the search reads it reads at most 40 bytes more than the value has.
+pub(crate) fn value_of<S: Space, L>(
     alloc: Global,
     space: &mut S,
     file: u32,
@@ -33,7 +33,8 @@ fn value_of<S: Space, L>(
     requires always { (S.sound space.old) × IsDataFile file × IsValid head.now }
     requires held { S.tells → IsReadable head.now (S.now space.old file) }
     ensures value { IfOk result (λ found. S.tells → (end : ℕ) (free : Frees) (m : Map) → HasMap head.now end free m (S.now space.old file) → found ≡ get m key.now) }
-    ensures within { S.tells → (end : ℕ) (free : Frees) (m : Map) → HasMap head.now end free m (S.now space.old file) → steps.new ≤ steps.old + (1 + in_bucket head.now.buckets (bucket_of head.now.buckets key.now) m) }
+    ensures within { S.tells → (end : ℕ) (free : Frees) (m : Map) → HasMap head.now end free m (S.now space.old file) → Asked head.now.buckets key.now m (value_most (get m key.now)) steps.old steps.new (S.bytes_read space.old) (S.bytes_read space.new) }
+    ensures paid { IfOk result (λ found. Paid (step_most (length key.now)) steps.old steps.new (S.bytes_read space.old + value_most found) (S.bytes_read space.new)) }
     ensures rises { steps.old ≤ steps.new }
     ensures reads { OnlyReads S.Space space.old space.new }
     ensures cause { (IsErrOf result RecErr.Fault → Rose (S.faults space.old) (S.faults space.new)) × (IsErrOf result RecErr.Full → ⊥) }
@@ -59,7 +60,8 @@ fn len_of<S: Space, L>(
     requires always { (S.sound space.old) × IsDataFile file × IsValid head.now }
     requires held { S.tells → IsReadable head.now (S.now space.old file) }
     ensures len { IfOk result (λ found. S.tells → (end : ℕ) (free : Frees) (m : Map) → HasMap head.now end free m (S.now space.old file) → found ≡ option_map length (get m key.now)) }
-    ensures within { S.tells → (end : ℕ) (free : Frees) (m : Map) → HasMap head.now end free m (S.now space.old file) → steps.new ≤ steps.old + (1 + in_bucket head.now.buckets (bucket_of head.now.buckets key.now) m) }
+    ensures within { S.tells → (end : ℕ) (free : Frees) (m : Map) → HasMap head.now end free m (S.now space.old file) → Asked head.now.buckets key.now m 40 steps.old steps.new (S.bytes_read space.old) (S.bytes_read space.new) }
+    ensures paid { Paid (step_most (length key.now)) steps.old steps.new (S.bytes_read space.old + 40) (S.bytes_read space.new) }
     ensures rises { steps.old ≤ steps.new }
     ensures reads { OnlyReads S.Space space.old space.new }
     ensures cause { HasCause (S.faults space.old) (S.faults space.new) result }
@@ -75,8 +77,8 @@ fn len_of<S: Space, L>(
 }
 
 impl<S: Space> Hash<S> {
-    /// The value of a key. A step is the read of the bucket's entry or of one record: at most one more than there are keys in the bucket. It
-    /// changes nothing but the count of gets.
+    /// The value of a key. A step is the read of the bucket's entry or of one record: at most one more than there are keys in the bucket. Besides the
+    /// bytes of the steps it reads at most 40 more than the value has. It changes nothing but the count of gets.
     pub fn get<L>(
         &mut self,
         space: &mut S,
@@ -89,14 +91,16 @@ impl<S: Space> Hash<S> {
         ensures keeps { Keeps S.Space space.old space.new }
         ensures counts { CountsOne self.old self.new }
         ensures steps { steps.old ≤ steps.new }
-        ensures within { (m : Map) → In S.Space file_of holds self.old space.old m → steps.new ≤ steps.old + (1 + in_bucket self.old.head.buckets (bucket_of self.old.head.buckets key.now) m) }
+        ensures within { (m : Map) → In S.Space file_of holds self.old space.old m → Asked self.old.head.buckets key.now m (value_most (get m key.now)) steps.old steps.new (S.bytes_read space.old) (S.bytes_read space.new) }
+        ensures paid { IfOk result (λ found. Paid (step_most (length key.now)) steps.old steps.new (S.bytes_read space.old + value_most found) (S.bytes_read space.new)) }
         ensures cause { (IsErrOf result RecErr.Fault → Rose (S.faults space.old) (S.faults space.new)) × (IsErrOf result RecErr.Full → ⊥) }
     {
         self.gets = self.gets.saturating_add(1);
         value_of(self.alloc, space, self.file, &self.head, key, steps)
     }
 
-    /// How many bytes the value of a key has, in as many steps. It reads no value, takes no memory and changes nothing.
+    /// How many bytes the value of a key has, in as many steps. Besides their bytes it reads at most 40, and no value; it takes no memory and
+    /// changes nothing.
     pub fn get_len<L>(
         &mut self,
         space: &mut S,
@@ -109,7 +113,8 @@ impl<S: Space> Hash<S> {
         ensures keeps { Keeps S.Space space.old space.new }
         ensures same { self.new ≡ self.old }
         ensures steps { steps.old ≤ steps.new }
-        ensures within { (m : Map) → In S.Space file_of holds self.old space.old m → steps.new ≤ steps.old + (1 + in_bucket self.old.head.buckets (bucket_of self.old.head.buckets key.now) m) }
+        ensures within { (m : Map) → In S.Space file_of holds self.old space.old m → Asked self.old.head.buckets key.now m 40 steps.old steps.new (S.bytes_read space.old) (S.bytes_read space.new) }
+        ensures paid { Paid (step_most (length key.now)) steps.old steps.new (S.bytes_read space.old + 40) (S.bytes_read space.new) }
         ensures cause { IfErr result (λ e. (e ≡ RecErr.Fault) × Rose (S.faults space.old) (S.faults space.new)) }
     {
         match len_of(space, self.file, &self.head, key, steps) {

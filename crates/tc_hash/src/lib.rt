@@ -4,10 +4,13 @@
 mod adding;
 mod clearing;
 mod create;
+mod enlarging;
 mod getting;
 mod giving;
 mod hash;
+mod mapping;
 mod open;
+mod packing;
 mod putting;
 mod region;
 mod removing;

@@ -5,7 +5,7 @@ ghost use Rattle.tc_base.specs.Maps.{Map};
 ghost use Rattle.tc_io.specs.Causes.{Rose};
 ghost use Rattle.tc_space.specs.Frames.{OnlyReads};
 ghost use Rattle.tc_space.specs.Ranges.{IsDataFile};
-ghost use Rattle.hf_head.specs.Heads.{IsValid, Spells, unit};
+ghost use Rattle.hf_head.specs.Heads.{IsValid, Spells, head_in, unit};
 ghost use Rattle.hf_block.specs.Pieces.{Piece, placed};
 ghost use Rattle.hf_block.specs.Rows.{StandInRow};
 ghost use Rattle.hf_layout.specs.Frees.{none};
@@ -290,6 +290,7 @@ impl<S: Space> Hash<S> {
         ensures file { IfOk result (λ h. (h.file ≡ file) × (h.head.kind ≡ kind)) }
         ensures stands { IfOk result (λ h. S.tells → (m : Map) × StandsWith kind (S.now space.old file) m h.region) }
         ensures holds { IfOk result (λ h. S.tells → (m : Map) → StandsFor kind (S.now space.old file) (get m) → Holds h.head h.pool.size (frees h.pool) h.records m (S.now space.new file)) }
+        ensures head { IfOk result (λ h. S.tells → head_in (take 256 (S.now space.new file)) ≡ h.head) }
         ensures broken { IfErr result (λ e. Breaks S.tells kind file (S.now space.old file) e) }
         ensures reads { OnlyReads S.Space space.old space.new }
         ensures cause { IsErrOf result OpenErr.Fault → Rose (S.faults space.old) (S.faults space.new) }

@@ -17,6 +17,7 @@ ghost use Rattle.hf_tree.specs.declared.parent.Found.TheVariants.{Here, Gap};
 ghost use Rattle.hf_pool.specs.Pools.{frees};
 ghost use Rattle.tc_hash.specs.Costs.{Edits};
 ghost use Rattle.tc_hash.specs.Holding.{HasMap, HasSome, IsSearched};
+ghost use Rattle.tc_hash.specs.Packing.{Takes};
 ghost use Rattle.tc_hash.specs.Moves.{IsRefusedFor, IsHeadOf, IsBlockAt, MayReplace, Replaced};
 
 use crate::adding::{add_record, wanted};
@@ -46,7 +47,7 @@ pub fn put_new<S: Space>(
     requires gap { S.tells → IsSearched head.now key.now (Gap to.now) (S.now space.old file) }
     ensures put { OnOk result (S.tells → (m : Map) → HasMap head.now pool.old.size (frees pool.old) m (S.now space.old file) → HasMap head.now pool.new.size (frees pool.new) (insert m key.now value.now) (S.now space.new file)) }
     ensures edits { OnOk result (Edits S.Space file (block_len (width head.now) key.now value.now (unit head.now) + 13) space.old space.new) }
-    ensures unit { pool.new.unit ≡ pool.old.unit }
+    ensures pool { (pool.new.unit ≡ pool.old.unit) × OnOk result (Takes pool.old pool.new) }
     ensures outcome { Outcome S.sound S.flag result space.new }
     ensures writes { OnlyWrites S.Space space.old space.new }
     ensures full { IsErrOf result RecErr.Full → S.tells → IsRefusedFor head.now pool.old.size (frees pool.old) (S.limit space.old file) (length (S.now space.new file)) (S.log_full space.new) (block_len (width head.now) key.now value.now (unit head.now)) }

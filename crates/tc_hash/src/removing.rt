@@ -3,10 +3,10 @@ ghost use Rattle.std.specs.Prelude.{◌≡◌, ◌≤◌, IfOk, OnOk, OnErr, IsE
 ghost use Rattle.tc_io.specs.Causes.{Rose};
 ghost use Rattle.tc_space.specs.Changes.{is_in, out_of};
 ghost use Rattle.tc_space.specs.Frames.{In, Keeps, Refuses, Writes};
-ghost use Rattle.tc_space.specs.Stores.{FullBy, IsReady, Only, TakesOut};
+ghost use Rattle.tc_space.specs.Stores.{IsReady, Only, TakesOut};
 ghost use Rattle.hf_tree.specs.declared.parent.Found.TheVariants.{Here};
 ghost use Rattle.tc_hash.specs.Holding.{IsSearched};
-ghost use Rattle.tc_hash.specs.Keeping.{file_of, fills, holds, StaysOpen, TakesRecord};
+ghost use Rattle.tc_hash.specs.Keeping.{file_of, holds, StaysOpen, TakesRecord};
 ghost use Rattle.tc_hash.specs.Moves.{IsBlockAt};
 
 use crate::hash::Hash;
@@ -85,7 +85,8 @@ impl<S: Space> Hash<S> {
         }
     }
 
-    /// Takes a key out. False comes exactly where it isn't held. After a refusal the space isn't sound, or nothing has changed.
+    /// Takes a key out. False comes exactly where it isn't held. It is full only where the undo log is. After a refusal the space isn't sound, or
+    /// nothing has changed.
     pub fn out<L>(
         &mut self,
         space: &mut S,
@@ -95,7 +96,7 @@ impl<S: Space> Hash<S> {
         requires { IsReady S.Space (In S.Space file_of holds) self.old space.old }
         ensures out { IfOk result (λ taken. TakesOut S.Space (Only (file_of self.old)) (In S.Space file_of holds) (is_in key.now) (out_of key.now) taken self.old self.new space.old space.new) }
         ensures refused { OnErr result (Refuses S.Space (In S.Space file_of holds) self.old self.new space.old space.new) }
-        ensures full { IsErrOf result RecErr.Full → FullBy (In S.Space file_of holds) (fills S.Space) (out_of key.now) self.old space.old space.new }
+        ensures full { IsErrOf result RecErr.Full → S.tells → S.log_full space.new }
         ensures keeps { Keeps S.Space space.old space.new }
         ensures stays { StaysOpen self.old self.new }
         ensures steps { steps.old ≤ steps.new }

@@ -1,5 +1,5 @@
 //! The record of a key, searched, and its value.
-ghost use Rattle.std.specs.Prelude.{◌≡◌, ℕ, ◌+◌, ◌<◌, ◌≤◌, ◌^◌, List, length, take, drop, IfOk, OnOk, IsErrOf};
+ghost use Rattle.std.specs.Prelude.{◌≡◌, ℕ, ◌+◌, ◌<◌, ◌≤◌, ◌^◌, List, length, take, drop, Some, IfOk, OnOk, IsErrOf};
 ghost use Rattle.tc_base.specs.Maps.{Map};
 ghost use Rattle.tc_io.specs.Causes.{Rose, HasCause};
 ghost use Rattle.tc_space.specs.Ranges.{IsDataFile};
@@ -11,6 +11,7 @@ ghost use Rattle.hf_layout.specs.Frees.{Frees};
 ghost use Rattle.hf_tree.specs.Keys.{bucket_of};
 ghost use Rattle.hf_chain.specs.Costs.{step_most, Paid, Within};
 ghost use Rattle.hf_chain.specs.Heads.{head_of, HasRecord, IsHeadAt, IsRecordAt};
+ghost use Rattle.tc_hash.specs.Asking.{value_most};
 ghost use Rattle.tc_hash.specs.Costs.{in_bucket};
 ghost use Rattle.tc_hash.specs.Holding.{HasMap, IsReadable, IsSearched};
 ghost use Rattle.tc_hash.specs.Moves.{IsHeadOf, IsBlockAt};
@@ -57,13 +58,14 @@ fn read_into<S: Space>(space: &mut S, file: u32, at: u64, into: &mut [u8]) -> Re
     requires file { IsDataFile file }
     requires inside { S.tells → at + length into.old ≤ length (S.now space.old file) }
     ensures bytes { OnOk result (S.tells → into.new ≡ take (length into.old) (drop at (S.now space.old file))) }
+    ensures counted { S.bytes_read space.new ≤ S.bytes_read space.old + length into.old }
     ensures reads { OnlyReads S.Space space.old space.new }
     ensures cause { HasCause (S.faults space.old) (S.faults space.new) result }
 {
     space.read(file, at, into)
 }
 
-/// The value of the record at a place, whose head was read.
+/// The value of the record at a place, whose head was read. It reads no more bytes than the value has.
 pub fn read_value<S: Space>(
     alloc: Global,
     space: &mut S,
@@ -76,6 +78,8 @@ pub fn read_value<S: Space>(
     requires there { S.tells → (h : Head) × IsHeadAt h rec.now at (S.now space.old file) }
     requires long { S.tells → length (S.now space.old file) < 2 ^ 64 }
     ensures value { IfOk result (λ v. S.tells → (h : Head) (r : Record) → HasRecord h r at (S.now space.old file) → rec.now ≡ head_of r → v ≡ r.value) }
+    ensures size { IfOk result (λ v. length v ≡ rec.now.value) }
+    ensures counted { S.bytes_read space.new ≤ S.bytes_read space.old + rec.now.value }
     ensures reads { OnlyReads S.Space space.old space.new }
     ensures cause { (IsErrOf result RecErr.Fault → Rose (S.faults space.old) (S.faults space.new)) × (IsErrOf result RecErr.Full → ⊥) }
 {
@@ -85,7 +89,7 @@ pub fn read_value<S: Space>(
     Ok(Blob::from_vec(value))
 }
 
-/// The value of the record at a place.
+/// The value of the record at a place. It reads at most 40 bytes more than the value has.
 pub fn value_at<S: Space>(
     alloc: Global,
     space: &mut S,
@@ -97,6 +101,8 @@ pub fn value_at<S: Space>(
     requires file { IsDataFile file }
     requires there { S.tells → IsRecordAt head.now at (S.now space.old file) }
     ensures value { IfOk result (λ v. S.tells → (r : Record) → HasRecord head.now r at (S.now space.old file) → v ≡ r.value) }
+    ensures counted { S.tells → (r : Record) → HasRecord head.now r at (S.now space.old file) → S.bytes_read space.new ≤ S.bytes_read space.old + value_most (Some r.value) }
+    ensures paid { IfOk result (λ v. S.bytes_read space.new ≤ S.bytes_read space.old + value_most (Some v)) }
     ensures reads { OnlyReads S.Space space.old space.new }
     ensures cause { (IsErrOf result RecErr.Fault → Rose (S.faults space.old) (S.faults space.new)) × (IsErrOf result RecErr.Full → ⊥) }
 {

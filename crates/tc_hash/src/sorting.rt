@@ -145,6 +145,7 @@ impl<S: Space> Hash<S> {
         ensures reads { Reads S.Space (In S.Space file_of holds) self.old self.new space.old space.new }
         ensures keeps { Keeps S.Space space.old space.new }
         ensures stays { StaysOpen self.old self.new }
+        ensures same { self.new ≡ self.old }
         ensures steps { steps.old ≤ steps.new }
         ensures cause { (IsErrOf result RecErr.Fault → Rose (S.faults space.old) (S.faults space.new)) × (IsErrOf result RecErr.Full → ⊥) }
     {

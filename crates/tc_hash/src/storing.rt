@@ -8,7 +8,7 @@ ghost use Rattle.tc_space.specs.Changes.{put_in, put_value, value_in};
 ghost use Rattle.tc_space.specs.Effects.{Outcome};
 ghost use Rattle.tc_space.specs.Frames.{In, Keeps, OnlyReads, Refuses};
 ghost use Rattle.tc_space.specs.Ranges.{IsDataFile};
-ghost use Rattle.tc_space.specs.Stores.{Exists, FullBy, IsReady, Only, Puts};
+ghost use Rattle.tc_space.specs.Stores.{Exists, IsReady, Only, Puts};
 ghost use Rattle.hf_block.specs.Pieces.{Record};
 ghost use Rattle.hf_head.specs.declared.head.Head.{Head};
 ghost use Rattle.hf_tree.specs.declared.parent.Parent.{Parent};
@@ -17,7 +17,8 @@ ghost use Rattle.hf_tree.specs.Links.{width};
 ghost use Rattle.hf_chain.specs.Heads.{head_of, HasRecord, IsHeadAt};
 ghost use Rattle.tc_hash.specs.Costs.{Edits};
 ghost use Rattle.tc_hash.specs.Holding.{IsSearched};
-ghost use Rattle.tc_hash.specs.Keeping.{file_of, fills, holds, size_in, GivesValue, LacksBlock, LacksRoom, StaysOpen};
+ghost use Rattle.tc_hash.specs.Keeping.{file_of, holds, size_in, GivesValue, LacksBlock, LacksRoom, StaysOpen};
+ghost use Rattle.tc_hash.specs.Packing.{Takes};
 ghost use Rattle.tc_hash.specs.Moves.{IsBlockAt, IsHeadOf};
 
 use crate::adding::wanted;
@@ -69,6 +70,7 @@ impl<S: Space> Hash<S> {
         requires ready { IsReady S.Space (In S.Space file_of holds) self.old space.old }
         requires gap { S.tells → IsSearched self.old.head key.now (Gap to.now) (S.now space.old self.old.file) }
         ensures put { OnOk result (GivesValue S.Space Over key.now value.now 13 self.old self.new space.old space.new) }
+        ensures takes { OnOk result (Takes self.old.pool self.new.pool) }
         ensures outcome { Outcome S.sound S.flag result space.new }
         ensures full { IsErrOf result RecErr.Full → S.tells → LacksRoom S.Space self.old space.new (size_in self.old key.now value.now) }
         ensures keeps { Keeps S.Space space.old space.new }
@@ -98,8 +100,8 @@ impl<S: Space> Hash<S> {
         }
     }
 
-    // Gives a value to a key whose record was taken out just before. After a refusal the space isn't sound.
-    fn put_again<L>(
+    /// Gives a value to a key that isn't held, as is known. After a refusal the space isn't sound.
+    pub(crate) fn put_again<L>(
         &mut self,
         space: &mut S,
         key: &[u8],
@@ -108,6 +110,7 @@ impl<S: Space> Hash<S> {
     ) -> Result<(), RecErr>
         requires ready { IsReady S.Space (In S.Space file_of holds) self.old space.old }
         ensures put { OnOk result (GivesValue S.Space Over key.now value.now 13 self.old self.new space.old space.new) }
+        ensures takes { OnOk result (Takes self.old.pool self.new.pool) }
         ensures outcome { Outcome S.sound S.flag result space.new }
         ensures full { IsErrOf result RecErr.Full → S.tells → LacksRoom S.Space self.old space.new (size_in self.old key.now value.now) }
         ensures keeps { Keeps S.Space space.old space.new }
@@ -316,7 +319,7 @@ impl<S: Space> Hash<S> {
         ensures put { OnOk result (Puts S.Space (Only (file_of self.old)) (In S.Space file_of holds) mode (value_in key.now) (put_in mode key.now value.now) self.old self.new space.old space.new × GivesValue S.Space mode key.now value.now 512 self.old self.new space.old space.new) }
         ensures exists { IsErrOf result PutErr.Exists → Exists S.Space (In S.Space file_of holds) mode (value_in key.now) self.old self.new space.old space.new }
         ensures refused { OnErr result (Refuses S.Space (In S.Space file_of holds) self.old self.new space.old space.new) }
-        ensures full { IsErrOf result PutErr.Full → FullBy (In S.Space file_of holds) (fills S.Space) (put_in mode key.now value.now) self.old space.old space.new }
+        ensures full { IsErrOf result PutErr.Full → LacksBlock S.Space mode key.now value.now self.old space.old space.new }
         ensures keeps { Keeps S.Space space.old space.new }
         ensures stays { StaysOpen self.old self.new }
         ensures steps { steps.old ≤ steps.new }
@@ -336,8 +339,8 @@ impl<S: Space> Hash<S> {
     }
 
     /// Gives a key a value; `Exists` comes exactly with `Keep` on a held key, and changes nothing. A record is written over the old one where its
-    /// block is large enough; else that block is given back and a new one taken. Besides the block at most 512 bytes of the file differ. After a
-    /// refusal the space isn't sound, or nothing has changed.
+    /// block is large enough; else that block is given back and a new one taken. Besides the block at most 512 bytes of the file differ. It is full only
+    /// where no block was to be had for this record, or where the undo log is. After a refusal the space isn't sound, or nothing has changed.
     pub fn put<L>(
         &mut self,
         space: &mut S,
@@ -350,7 +353,7 @@ impl<S: Space> Hash<S> {
         ensures put { OnOk result (Puts S.Space (Only (file_of self.old)) (In S.Space file_of holds) mode (value_in key.now) (put_in mode key.now value.now) self.old self.new space.old space.new × GivesValue S.Space mode key.now value.now 512 self.old self.new space.old space.new) }
         ensures exists { IsErrOf result PutErr.Exists → Exists S.Space (In S.Space file_of holds) mode (value_in key.now) self.old self.new space.old space.new }
         ensures refused { OnErr result (Refuses S.Space (In S.Space file_of holds) self.old self.new space.old space.new) }
-        ensures full { IsErrOf result PutErr.Full → FullBy (In S.Space file_of holds) (fills S.Space) (put_in mode key.now value.now) self.old space.old space.new }
+        ensures full { IsErrOf result PutErr.Full → LacksBlock S.Space mode key.now value.now self.old space.old space.new }
         ensures keeps { Keeps S.Space space.old space.new }
         ensures stays { StaysOpen self.old self.new }
         ensures steps { steps.old ≤ steps.new }

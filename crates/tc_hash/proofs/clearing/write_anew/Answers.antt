@@ -1,4 +1,4 @@
-use Rattle.std.proofs.Common.{ℕ, ap, arith, ⊎_elim}
+use Rattle.std.proofs.Common.{ℕ, ap, arith, inl, inr, ⊎_elim}
 use Rattle.tc_hash.proofs.Cleared.{changes_twice}
 use Rattle.tc_hash.proofs.Room.{err_as}
 use Rattle.tc_hash.proofs.clearing.write_anew.Goals as goal
@@ -11,8 +11,6 @@ returns-in-Ok-write_new-clause-wrote g c = λ t. changes_twice g.S.Space.now c.a
 
 pub returns-in-Err-write_new-clause-full : goal.returns-in-Err-write_new-clause-full
 returns-in-Err-write_new-clause-full g c = λ full t. ⊎_elim
-    (λ past. absurd (
-    let w = g.met.S.Space.within c.args.space.now c.args.file t c.requires.always.0 c.requires.always.1 in
-    omega (arith, w, past, c.requires.room.1 t, ap (λ (l : ℕ → ℕ). l c.args.file) c.cut_to.ensures.keeps.same_limit)))
-    (λ log. log)
+    (λ past. inl (omega (arith, past, ap (λ (l : ℕ → ℕ). l c.args.file) c.cut_to.ensures.keeps.same_limit)))
+    (λ log. inr log)
     (c.in-Err-write_new.ensures.full (err_as c.in-Err-write_new.e _ full))

@@ -12,5 +12,5 @@ returns-in-Ok-clause-listed g c = λ t. let l = c.in-Ok.ensures.listed t in reco
 
 pub returns-in-Err-clause-broken : goal.returns-in-Err-clause-broken
 returns-in-Err-clause-broken g c = breaks_walk g.S.Space.tells c.args.head.now.kind c.args.file (g.S.Space.now c.args.space.now c.args.file) c.in-Err.e c.refusal.result c.refusal.ensures (λ rule named t.
-    subst (λ (r : Rule). IsBroken c.args.head.now.kind (g.S.Space.now c.args.space.now c.args.file) r) (sym (c.in-Err.ensures.rule rule (err_is c.in-Err.e rule named)))
-    (no_blocks c.args.head.now (c.requires.is t) (omega (arith, c.len-len.ensures t, c.if-len-size.false)) (c.in-Err.ensures.broken rule (err_is c.in-Err.e rule named) t)))
+    subst (λ (r : Rule). IsBroken c.args.head.now.kind (g.S.Space.now c.args.space.now c.args.file) r) (sym (c.in-Err.ensures.broken rule (err_is c.in-Err.e rule named)).rule_is)
+    (no_blocks c.args.head.now (c.requires.is t) (omega (arith, c.len-len.ensures t, c.if-len-size.false)) ((c.in-Err.ensures.broken rule (err_is c.in-Err.e rule named)).none t)))

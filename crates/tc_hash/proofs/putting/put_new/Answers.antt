@@ -95,3 +95,6 @@ returns-in-Ok-hang-clause-edits g c =
 
 pub returns-in-Ok-hang-clause-writes : goal.returns-in-Ok-hang-clause-writes
 returns-in-Ok-hang-clause-writes g c = only_writes_then g.S.Space c.args.space.now c.add_record.new.space c.hang.new.space c.in-Ok-add_record.ensures.writes c.in-Ok-hang.ensures.writes
+
+pub returns-in-Ok-hang-clause-pool : goal.returns-in-Ok-hang-clause-pool
+returns-in-Ok-hang-clause-pool g c = (c.add_record.ensures.unit, record { size = length c.as_slice.result.now; place = c.in-Ok-add_record.place; took = c.in-Ok-add_record.ensures.taken })

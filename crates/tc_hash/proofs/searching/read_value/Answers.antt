@@ -19,3 +19,12 @@ returns-clause-value g c = λ t h r has head.
     let long : length c.deref_mut.result.now ≡ length r.value = omega (arith, c.in_ok-value.ensures.len, c.deref_mut.ensures.len, ap (λ (x : RecHead). x.value) head) in
     let value : c.read_into.new.into ≡ r.value = c.in_ok-read_into.ensures.bytes t ∙ (λ i. take (long i) (drop (start i) bytes)) ∙ value_in_bytes (unit h) r c.args.at bytes has.is in
     c.from_vec.ensures ∙ take_at c.read_into.new.into _ _ (omega (arith, ap length value, c.in_ok-value.ensures.len, ap (λ (x : RecHead). x.value) head)) ∙ value
+
+pub returns-clause-size : goal.returns-clause-size
+returns-clause-size g c =
+    let same : length c.read_into.new.into ≡ length c.deref_mut.result.now = c.read_into.auto.into in
+    let e = c.from_vec.ensures ∙ take_at c.read_into.new.into _ _ (omega (arith, same, c.deref_mut.ensures.len, c.in_ok-value.ensures.len)) in
+    omega (arith, ap length e, same, c.deref_mut.ensures.len, c.in_ok-value.ensures.len)
+
+pub returns-clause-counted : goal.returns-clause-counted
+returns-clause-counted g c = omega (arith, c.read_into.ensures.counted, c.deref_mut.ensures.len, c.in_ok-value.ensures.len)

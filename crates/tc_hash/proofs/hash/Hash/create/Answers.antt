@@ -3,7 +3,7 @@ use Rattle.std.specs.FinMap.{empty}
 use Rattle.std.specs.Prelude.{Err, IsErrOf}
 use Rattle.tc_space.specs.declared.errors.RecErr.{RecErr}
 use Rattle.tc_space.specs.declared.errors.RecErr.TheVariants.{Full}
-use Rattle.tc_hash.proofs.Created.{brought_same, create_brought, new_fields, zeros_are}
+use Rattle.tc_hash.proofs.Created.{brought_same, create_brought, create_head, new_fields, zeros_are}
 use Rattle.tc_hash.proofs.Valid.{is_valid}
 use Rattle.tc_hash.proofs.hash.Hash.create.Goals as goal
 
@@ -26,6 +26,9 @@ returns-in-Ok-clause-brought g c = λ t.
     brought_same h r.head p r.pool h.records r.records h.opaque r.region empty (g.S.Space.now c.write_new.new.space c.args.file) e.1 e.2 e.3 e.4
     (create_brought c.args.kind c.args.apow c.args.fpow c.args.buckets c.args.large h p (g.S.Space.now c.write_new.new.space c.args.file) c.requires.numbers c.new_head-head.ensures.new (omega arith)
     c.in_ok-pool.ensures.unit c.in_ok-pool.ensures.size c.in_ok-pool.ensures.none c.in_ok-pool.ensures.laid c.in-Ok.ensures.spells.0 c.in-Ok.ensures.spells.1 (c.in-Ok.ensures.wrote t).here)
+
+pub returns-in-Ok-clause-head : goal.returns-in-Ok-clause-head
+returns-in-Ok-clause-head g c = λ t. create_head c.new_head-head.result c.held_open.result.head (g.S.Space.now c.write_new.new.space c.args.file) c.held_open.ensures.1 c.in-Ok.ensures.spells.0 c.in-Ok.ensures.spells.1 (c.in-Ok.ensures.wrote t).here
 
 pub returns-clause-full : goal.returns-clause-full
 returns-clause-full g c = λ full. (c.new_head-head.result, c.new_head-head.ensures.new, ⊎_elim (λ past. inl past) (λ log. inr (inr log)) (c.in-Err.ensures.full (other_refusal c.in-Err.e Full full)))

@@ -1,4 +1,4 @@
-use Rattle.std.proofs.Common.{List, ℕ, Option, inl, refl, sym, subst, ap, is_some}
+use Rattle.std.proofs.Common.{List, ℕ, Option, refl, sym, subst, ap, is_some}
 use Rattle.hf_pool.specs.Pools.{frees}
 use Rattle.hf_tree.specs.declared.parent.Found.TheVariants.{Here}
 use Rattle.tc_space.specs.Changes.{out_of}
@@ -33,7 +33,7 @@ pub returns-in-Err-take_found-clause-refused : goal.returns-in-Err-take_found-cl
 returns-in-Err-take_found-clause-refused g c = refuses_after g.S.Space c.args.self.now c.take_found.new.self c.args.space.now c.search.new.space c.take_found.new.space c.search.ensures.reads c.in-Err-take_found.ensures.refused
 
 pub returns-in-Err-take_found-clause-full : goal.returns-in-Err-take_found-clause-full
-returns-in-Err-take_found-clause-full g c = λ full. record { by = λ m w. inl (c.in-Err-take_found.ensures.full (err_as _ _ full) w.0) }
+returns-in-Err-take_found-clause-full g c = λ full t. c.in-Err-take_found.ensures.full (err_as _ _ full) t
 
 pub returns-in-Ok-Gap-clause-out : goal.returns-in-Ok-Gap-clause-out
 returns-in-Ok-Gap-clause-out g c =

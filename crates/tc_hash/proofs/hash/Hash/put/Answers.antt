@@ -1,14 +1,13 @@
 use Rattle.std.proofs.Common.{◌≡◌, List, ℕ, None, sym, subst}
 use Rattle.std.specs.FinMap.{get}
 use Rattle.tc_base.specs.Maps.{Map}
-use Rattle.tc_space.specs.Changes.{put_in}
 use Rattle.tc_space.specs.Frames.{In}
 use Rattle.hf_pool.specs.Pools.{frees}
 use Rattle.hf_tree.specs.declared.parent.Found.TheVariants.{Here, Gap}
 use Rattle.tc_hash.specs.Holding.{IsSearched}
 use Rattle.tc_hash.specs.Keeping.{file_of, holds}
 use Rattle.tc_hash.proofs.Records.{no_value, put_full, readable, refuses_after, searched_as, still_ready}
-use Rattle.tc_hash.proofs.Stored.{exists_after, full_after, full_fresh, gives_after, puts_after, puts_fresh}
+use Rattle.tc_hash.proofs.Stored.{exists_after, gives_after, lacks_after, lacks_fresh, puts_after, puts_fresh}
 use Rattle.tc_hash.proofs.Valid.{is_valid}
 use Rattle.tc_hash.proofs.hash.Hash.put.Goals as goal
 
@@ -47,7 +46,7 @@ returns-in-Err-put_absent-clause-full g c = λ full.
     let self = c.args.self.now in
     let none : (m : Map) → In g.S.Space file_of holds self c.args.space.now m → get m c.args.key.now ≡ None = λ m w.
     no_value self.head self.pool.size (frees self.pool) m (g.S.Space.now c.args.space.now self.file) c.args.key.now (is_valid self.head self.valid) w.1.has _ (searched_as self.head c.args.key.now (g.S.Space.now c.args.space.now self.file) c.in-Ok-Gap.field-0 _ c.in-Ok-Gap.field-0-is (c.in-Ok-Gap.ensures.ends w.0)) in
-    full_fresh g.S.Space c.args.mode c.args.key.now c.args.value.now self c.args.space.now c.put_absent.new.space none (c.in-Err-put_absent.ensures.full (put_full c.in-Err-put_absent.e c.from.result c.from.ensures full))
+    lacks_fresh g.S.Space c.args.mode c.args.key.now c.args.value.now self c.args.space.now c.put_absent.new.space none (c.in-Err-put_absent.ensures.full (put_full c.in-Err-put_absent.e c.from.result c.from.ensures full))
 
 pub returns-in-Ok-put_held-clause-put : goal.returns-in-Ok-put_held-clause-put
 returns-in-Ok-put_held-clause-put g c =
@@ -63,4 +62,4 @@ pub returns-in-Err-put_held-clause-refused : goal.returns-in-Err-put_held-clause
 returns-in-Err-put_held-clause-refused g c = refuses_after g.S.Space c.args.self.now c.put_held.new.self c.args.space.now c.search.new.space c.put_held.new.space c.search.ensures.reads c.in-Err-put_held.ensures.refused
 
 pub returns-in-Err-put_held-clause-full : goal.returns-in-Err-put_held-clause-full
-returns-in-Err-put_held-clause-full g c = λ full. full_after g.S.Space (put_in c.args.mode c.args.key.now c.args.value.now) c.args.self.now c.args.space.now c.search.new.space c.put_held.new.space c.search.ensures.reads (c.in-Err-put_held.ensures.full full)
+returns-in-Err-put_held-clause-full g c = λ full. lacks_after g.S.Space c.args.mode c.args.key.now c.args.value.now c.args.self.now c.args.space.now c.search.new.space c.put_held.new.space c.search.ensures.reads (c.in-Err-put_held.ensures.full full)

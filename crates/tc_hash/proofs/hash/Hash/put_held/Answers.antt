@@ -1,13 +1,9 @@
 use Rattle.std.proofs.Common.{refl, sym, subst}
 use Rattle.tc_base.specs.declared.kind.Mode.{Mode}
-use Rattle.tc_base.specs.declared.kind.Mode.TheVariants.{Over, Cat}
-use Rattle.tc_space.specs.Changes.{put_in}
-use Rattle.tc_space.specs.Frames.{In, only_reads_refl}
-use Rattle.tc_space.specs.Stores.{FullBy}
+use Rattle.tc_space.specs.Frames.{only_reads_refl}
 use Rattle.hf_pool.specs.Pools.{frees}
-use Rattle.tc_hash.specs.Keeping.{file_of, fills, holds}
+use Rattle.tc_hash.specs.Keeping.{LacksBlock}
 use Rattle.tc_hash.proofs.Records.{is_there, put_full, reads_only}
-use Rattle.tc_hash.proofs.Stored.{full_by}
 use Rattle.tc_hash.proofs.Valid.{is_valid}
 use Rattle.tc_hash.proofs.hash.Hash.put_held.Goals as goal
 
@@ -22,10 +18,10 @@ returns-in-Keep-clause-exists g c = λ e.
 
 pub returns-in-Err-clause-full : goal.returns-in-Err-clause-full
 returns-in-Err-clause-full g c = λ full.
-    subst (λ (x : Mode). FullBy (In g.S.Space file_of holds) (fills g.S.Space) (put_in x c.args.key.now c.args.value.now) c.args.self.now c.args.space.now c.put_over_found.new.space) (sym c.in-Over.is)
-    (full_by g.S.Space Over c.args.key.now c.args.value.now c.args.self.now c.args.space.now c.put_over_found.new.space (c.in-Err.ensures.full (put_full c.in-Err.e c.from.result c.from.ensures full)))
+    subst (λ (x : Mode). LacksBlock g.S.Space x c.args.key.now c.args.value.now c.args.self.now c.args.space.now c.put_over_found.new.space) (sym c.in-Over.is)
+    (c.in-Err.ensures.full (put_full c.in-Err.e c.from.result c.from.ensures full))
 
 pub returns-in-Err-join_found-clause-full : goal.returns-in-Err-join_found-clause-full
 returns-in-Err-join_found-clause-full g c = λ full.
-    subst (λ (x : Mode). FullBy (In g.S.Space file_of holds) (fills g.S.Space) (put_in x c.args.key.now c.args.value.now) c.args.self.now c.args.space.now c.join_found.new.space) (sym c.in-Cat.is)
-    (full_by g.S.Space Cat c.args.key.now c.args.value.now c.args.self.now c.args.space.now c.join_found.new.space (c.in-Err-join_found.ensures.full (put_full c.in-Err-join_found.e c.from-in-Err-join_found.result c.from-in-Err-join_found.ensures full)))
+    subst (λ (x : Mode). LacksBlock g.S.Space x c.args.key.now c.args.value.now c.args.self.now c.args.space.now c.join_found.new.space) (sym c.in-Cat.is)
+    (c.in-Err-join_found.ensures.full (put_full c.in-Err-join_found.e c.from-in-Err-join_found.result c.from-in-Err-join_found.ensures full))

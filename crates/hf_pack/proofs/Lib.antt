@@ -1,0 +1,5 @@
+pub mod Streaming
+pub mod Moved
+pub mod Renamed
+pub mod Records
+pub mod Numbers

@@ -1,0 +1,177 @@
+-- A file written anew in the large form with the pairs that it had.
+use Rattle.std.proofs.Common.{◌≡◌, ◌∙◌, ◌⊎◌, inl, inr, ⊎_elim, ℕ, zero, suc, ◌+◌, ◌^◌, ◌≤◌, true, List, [], ◌∷◌, ◌++◌, length, take, map, refl, sym, ap, subst, arith, Option, Some, None, Bool, add-one}
+use Rattle.std.specs.Prelude.{is_some, slice_get, ◌||◌}
+use Rattle.std.specs.FinMap.{empty, get, insert, keys, contains_key-keys, get-empty, same_map}
+use Rattle.std.specs.List.{list_any}
+use Rattle.std.specs.Ordering.{nat_cmp, eq_by_cmp}
+use Rattle.std.specs.Cmp.Lexicographic.{slice_cmp, nat_list_cmp_total}
+use Rattle.std.proofs.lemmas.Map.Lookups.{exact_bytes}
+use Rattle.std.proofs.lemmas.List.{map-append}
+use Rattle.tc_base.specs.Maps.{Map}
+use Rattle.tc_base.specs.declared.seq.Pair.{Pair}
+use Rattle.tc_base.specs.declared.kind.Mode.TheVariants.{Over}
+use Rattle.tc_space.specs.Changes.{put_in, same as same_map_of}
+use Rattle.tc_space.specs.Frames.{In, Reads, Writes, reads_writes, writes_then}
+use Rattle.tc_space.specs.Stores.{FullBy, Only}
+use Rattle.tc_space.specs.declared.space.Space.{Ghosts}
+use Rattle.hf_block.specs.Written.{block_len}
+use Rattle.hf_tree.specs.Links.{width}
+use Rattle.hf_layout.specs.Frees.{none}
+use Rattle.hf_layout.specs.Layout.{LaidOut}
+use Rattle.hf_head.specs.declared.head.Head.{Head}
+use Rattle.hf_head.specs.Heads.{Spells, spelled, unit}
+use Rattle.hf_pool.specs.declared.pool.Pool.{Pool}
+use Rattle.hf_pool.specs.Pools.{frees as frees_in, TakesFree, Grows}
+use Rattle.tc_hash.specs.Creating.{IsNew}
+use Rattle.tc_hash.specs.Fields.{HasFields}
+use Rattle.tc_hash.specs.Holding.{Holds}
+use Rattle.tc_hash.specs.declared.hash.Hash.{Hash}
+use Rattle.tc_hash.specs.Keeping.{file_of, holds, size_in, GivesValue, LacksRoom, StaysOpen}
+use Rattle.tc_hash.specs.Moves.{IsRefusedFor}
+use Rattle.tc_hash.specs.Packing.{AllIn, ArePairs, LacksEnd, LacksOne, Takes, fills_enlarging, with_pairs}
+use Rattle.tc_hash.proofs.Cleared.{may_be}
+use Rattle.tc_hash.proofs.Created.{create_brought, new_bytes, new_fields}
+use Rattle.tc_hash.proofs.Maps.{insert_here, insert_other, other_test, same_or_not}
+
+abbrev same : List ℕ → List ℕ → Bool
+same = eq_by_cmp (slice_cmp nat_cmp)
+
+abbrev key_of : Pair → List ℕ
+key_of p = p.key
+
+-- what pairs leave of a key that one of them has, or of one that had its value before
+pairs_get : (m n : Map) (ps : List Pair) (q : List ℕ) → AllIn m ps → (get n q ≡ get m q) ⊎ (list_any (same q) (map key_of ps) ≡ true) → get (with_pairs n ps) q ≡ get m q
+pairs_get m n [] q all (inl e) = e
+pairs_get m n [] q all (inr e) = absurd cc
+pairs_get m n (p ∷ ps) q all given = elim (same_or_not q p.key) [
+  | inl is ↦ pairs_get m (insert n p.key p.value) ps q all.1 (inl (ap (get (insert n p.key p.value)) is ∙ insert_here n p.key p.value ∙ sym all.0 ∙ ap (get m) (sym is)))
+  | inr ne ↦ pairs_get m (insert n p.key p.value) ps q all.1 (⊎_elim (λ e. inl (insert_other n p.key p.value q ne ∙ e)) (λ e. inr (skip p.key (map key_of ps) ne e)) given)
+]
+  where
+    skip : (k : List ℕ) (ks : List (List ℕ)) → (q ≡ k → ⊥) → (same q k || list_any (same q) ks) ≡ true → list_any (same q) ks ≡ true
+    skip k ks ne e = rw (other_test q k ne) at e
+
+-- all pairs of a map make it
+pub pairs_make : (m : Map) (ps : List Pair) → ArePairs m (keys m) ps → with_pairs empty ps ≡ m
+pairs_make m ps are = same_map nat_list_cmp_total exact_bytes (with_pairs empty ps) m (λ q. pairs_get m empty ps q are.each (which q (get m q) refl))
+  where
+    which : (q : List ℕ) (o : Option (List ℕ)) → get m q ≡ o → (get (empty {R = slice_cmp nat_cmp}) q ≡ get m q) ⊎ (list_any (same q) (map key_of ps) ≡ true)
+    which q None e = inl (get-empty (slice_cmp nat_cmp) q ∙ sym e)
+    which q (Some v) e = inr (ap (λ (ks : List (List ℕ)). list_any (same q) ks) are.keys_are ∙ sym (contains_key-keys m q) ∙ ap (λ (o : Option (List ℕ)). is_some o) e)
+
+-- ---- one pair more
+
+pub with_one : (m : Map) (ps : List Pair) (p : Pair) → with_pairs m (ps ++ p ∷ []) ≡ insert (with_pairs m ps) p.key p.value
+with_one m [] p = refl
+with_one m (q ∷ ps) p = with_one (insert m q.key q.value) ps p
+
+all_one : (m : Map) (ps : List Pair) (p : Pair) → AllIn m ps → get m p.key ≡ Some p.value → AllIn m (ps ++ p ∷ [])
+all_one m [] p all there = (there, tt)
+all_one m (q ∷ ps) p all there = (all.0, all_one m ps p all.1 there)
+
+pub no_pairs : (m : Map) (ps : List Pair) → ps ≡ [] → ArePairs m [] ps
+no_pairs m ps e = record { each = subst (AllIn m) (sym e) tt; keys_are = ap (map key_of) e }
+
+pub one_pair : (m : Map) (ks : List (List ℕ)) (ps qs : List Pair) (p : Pair) → ArePairs m ks ps → get m p.key ≡ Some p.value → qs ≡ ps ++ p ∷ [] → ArePairs m (ks ++ p.key ∷ []) qs
+one_pair m ks ps qs p are there e = record {
+  each = subst (AllIn m) (sym e) (all_one m ps p are.each there);
+  keys_are = ap (map key_of) e ∙ map-append key_of ps (p ∷ []) ∙ ap (λ (l : List (List ℕ)). l ++ p.key ∷ []) are.keys_are;
+}
+
+pub take_more : (i : ℕ) (ps : List Pair) (p : Pair) → slice_get ps i ≡ Some p → take (suc i) ps ≡ take i ps ++ p ∷ []
+take_more i [] p e = absurd (let f : None ≡ Some p = e in cc)
+take_more zero (q ∷ ps) p e = let f : Some q ≡ Some p = e in let g : q ≡ p = cc in ap (λ (x : Pair). x ∷ []) g
+take_more (suc i) (q ∷ ps) p e = ap (λ (l : List Pair). q ∷ l) (take_more i ps p e)
+
+pub mapped_same : (ks : List (List ℕ)) → map (λ (k : List ℕ). k) ks ≡ ks
+mapped_same [] = refl
+mapped_same (k ∷ ks) = ap (λ (l : List (List ℕ)). k ∷ l) (mapped_same ks)
+
+pub in_all : (m : Map) (ps : List Pair) (i : ℕ) (p : Pair) → slice_get ps i ≡ Some p → AllIn m ps → get m p.key ≡ Some p.value
+in_all m [] i p e all = absurd (let f : None ≡ Some p = e in cc)
+in_all m (q ∷ ps) zero p e all = let f : Some q ≡ Some p = e in let g : q ≡ p = cc in subst (λ (x : Pair). get m x.key ≡ Some x.value) g all.0
+in_all m (q ∷ ps) (suc i) p e all = in_all m ps i p e all.1
+
+-- ---- the pool
+
+-- a pool without free blocks stays so
+pub still_nothing : (old new : Pool) → Takes old new → ((q : ℕ) → frees_in old q ≡ None) → (q : ℕ) → frees_in new q ≡ None
+still_nothing old new takes nothing q = go takes.took
+  where
+    go : ((found : ℕ) × TakesFree old new takes.size takes.place found) ⊎ Grows old new takes.size takes.place → frees_in new q ≡ None
+    go (inl w) = absurd (let e : None ≡ Some w.0 = sym (nothing takes.place) ∙ w.1.best.there in cc)
+    go (inr g) = g.same q ∙ nothing q
+
+-- ---- the file made anew
+
+pub large_fields : (h new : Head) → HasFields h → IsNew h.kind h.apow h.fpow h.buckets true new → new.size ≤ 2 ^ 40 → HasFields new
+large_fields h new f is short = new_fields h.kind h.apow h.fpow h.buckets true new (may_be h f) is short
+
+-- nothing is held in it
+pub large_holds : (h new : Head) (p : Pool) (bytes : List ℕ) → HasFields h → IsNew h.kind h.apow h.fpow h.buckets true new → new.size ≤ 2 ^ 40 → p.unit ≡ unit new → p.size ≡ new.size → ((q : ℕ) → frees_in p q ≡ None)
+    → ((bs : List ℕ) → new.size ≤ length bs → LaidOut (unit new) new.first new.size [] (frees_in p) none bs) → Spells new (spelled new) → length (spelled new) ≡ 256 → bytes ≡ new_bytes new → Holds new p.size (frees_in p) 0 empty bytes
+large_holds h new p bytes f is short same sized nothing laid spells long e =
+    let b = create_brought h.kind h.apow h.fpow h.buckets true new p bytes (may_be h f) is short same sized nothing laid spells long e in
+    subst (λ (n : ℕ). Holds new p.size (frees_in p) n empty bytes) is.records b.holds
+
+pub form_one : (h : Head) → HasFields h → (h.options ≡ 1 → ⊥) → h.options ≡ 0
+form_one h f ne = omega (arith, f.options, ne)
+
+-- ---- one put after the other
+
+module _ {S : Type 0} (s : Ghosts S) where
+  pub lacks_end : (v w : Hash S) (b : S) (key key' value value' : List ℕ) → key' ≡ key → value' ≡ value → StaysOpen v w → ((q : ℕ) → frees_in w.pool q ≡ None) → LacksRoom s w b (size_in w key' value') → LacksEnd s v.head v.file b key value
+  lacks_end v w b key key' value value' ek ev stays nothing lacks = record {
+    end = w.pool.size;
+    free = frees_in w.pool;
+    nothing = nothing;
+    refused =
+        subst (λ (k : List ℕ). IsRefusedFor v.head w.pool.size (frees_in w.pool) (s.limit b v.file) (length (s.now b v.file)) (s.log_full b) (block_len (width v.head) k value (unit v.head))) ek
+        (subst (λ (x : List ℕ). IsRefusedFor v.head w.pool.size (frees_in w.pool) (s.limit b v.file) (length (s.now b v.file)) (s.log_full b) (block_len (width v.head) key' x (unit v.head))) ev
+        (subst (λ (h : Head). IsRefusedFor h w.pool.size (frees_in w.pool) (s.limit b v.file) (length (s.now b v.file)) (s.log_full b) (block_len (width h) key' value' (unit h))) stays.head
+        (subst (λ (f : ℕ). IsRefusedFor w.head w.pool.size (frees_in w.pool) (s.limit b f) (length (s.now b f)) (s.log_full b) (size_in w key' value')) stays.map.file lacks)));
+  }
+
+  pub put_more : (u v w : Hash S) (a b c : S) (ps : List Pair) (i : ℕ) (p : Pair) (key value : List ℕ) → key ≡ p.key → value ≡ p.value → slice_get ps i ≡ Some p → StaysOpen u v → Writes s (Only (file_of u)) (In s file_of holds) (λ m. with_pairs m (take i ps)) u v a b → GivesValue s Over key value 13 v w b c → Writes s (Only (file_of u)) (In s file_of holds) (λ m. with_pairs m (take (i + 1) ps)) u w a c
+  put_more u v w a b c ps i p key value ek ev at stays first second =
+      let own : Writes s (Only (file_of u)) (In s file_of holds) (put_in Over key value) v w b c = subst (λ (f : ℕ). Writes s (Only f) (In s file_of holds) (put_in Over key value) v w b c) stays.map.file second.writes in
+      let both = writes_then s (In s file_of holds) (Only (file_of u)) (λ m. with_pairs m (take i ps)) (put_in Over key value) u v w a b c first own in
+      record {
+        sound = both.sound;
+        means = λ m holding. subst (λ (x : Map). In s file_of holds w c x) (next m) (both.means m holding);
+        others = both.others;
+      }
+    where
+      next : (m : Map) → insert (with_pairs m (take i ps)) key value ≡ with_pairs m (take (i + 1) ps)
+      next m = (λ j. insert (with_pairs m (take i ps)) (ek j) (ev j)) ∙ sym (with_one m (take i ps) p) ∙ ap (with_pairs m) (sym (take_more i ps p at)) ∙ ap (λ (n : ℕ). with_pairs m (take n ps)) (sym (add-one i))
+
+  -- ---- the whole
+
+  -- what is held now was held before what only reads
+  pub in_before : (v v' : Hash S) (a b : S) (m : Map) → v' ≡ v → (s.tells → (g : ℕ) → s.now b g ≡ s.now a g) → In s file_of holds v' b m → In s file_of holds v a m
+  in_before v v' a b m e now w =
+      let x : In s file_of holds v b m = subst (λ (h : Hash S). In s file_of holds h b m) e w in
+      (x.0, subst (λ (l : List ℕ). holds v l m) (now x.0 v.file) x.1)
+
+  pub anew_packed : (u v w : Hash S) (a b c : S) (ps : List Pair) → v.file ≡ u.file → ((m : Map) → In s file_of holds u a m → AllIn m ps × (with_pairs empty ps ≡ m)) → Writes s (Only (file_of u)) (In s file_of holds) (λ m. empty) u v a b → Writes s (Only (file_of v)) (In s file_of holds) (λ m. with_pairs m ps) v w b c → Writes s (Only (file_of u)) (In s file_of holds) same_map_of u w a c
+  anew_packed u v w a b c ps same_file make first second =
+      let own : Writes s (Only (file_of u)) (In s file_of holds) (λ m. with_pairs m ps) v w b c = subst (λ (f : ℕ). Writes s (Only f) (In s file_of holds) (λ m. with_pairs m ps) v w b c) same_file second in
+      let both = writes_then s (In s file_of holds) (Only (file_of u)) (λ m. empty) (λ m. with_pairs m ps) u v w a b c first own in
+      record {
+        sound = both.sound;
+        means = λ m holding. subst (λ (x : Map). In s file_of holds w c x) (make m holding).1 (both.means m holding);
+        others = both.others;
+      }
+
+  pub lacks_record : (u v : Hash S) (a c : S) (ps : List Pair) → v.file ≡ u.file → IsNew u.head.kind u.head.apow u.head.fpow u.head.buckets true v.head → ((m : Map) → In s file_of holds u a m → AllIn m ps × (with_pairs empty ps ≡ m)) → (s.tells → LacksOne s v.head v.file c ps) → FullBy (In s file_of holds) (fills_enlarging s) same_map_of u a c
+  lacks_record u v a c ps same_file new make lacks = record {
+    by = λ m holding.
+        let l = lacks holding.0 in
+        inr (inr (record { head = v.head; is_new = new; key = l.pair.key; value = l.pair.value; there = l.there m (make m holding).0; lacks = subst (λ (f : ℕ). LacksEnd s v.head f c l.pair.key l.pair.value) same_file l.lacks }));
+  }
+
+  pub packed_after : (v v' w : Hash S) (a b c : S) → Reads s (In s file_of holds) v v' a b → v'.file ≡ v.file → Writes s (Only (file_of v')) (In s file_of holds) same_map_of v' w b c → Writes s (Only (file_of v)) (In s file_of holds) same_map_of v w a c
+  packed_after v v' w a b c reads same_file writes = reads_writes s (In s file_of holds) (Only (file_of v)) same_map_of v v' w a b c reads (subst (λ (f : ℕ). Writes s (Only f) (In s file_of holds) same_map_of v' w b c) same_file writes)
+
+  pub full_reads : (v v' : Hash S) (a b c : S) → Reads s (In s file_of holds) v v' a b → v' ≡ v → FullBy (In s file_of holds) (fills_enlarging s) same_map_of v' b c → FullBy (In s file_of holds) (fills_enlarging s) same_map_of v a c
+  full_reads v v' a b c reads e full = record { by = λ m holding. subst (λ (h : Hash S). fills_enlarging s h c m m) e (full.by m (reads.means m holding)) }

@@ -1,0 +1,86 @@
+-- A file whose records were moved to its front.
+use Rattle.std.proofs.Common.{◌≡◌, ◌∙◌, ◌⊎◌, inl, inr, false, ℕ, List, Option, None, refl, sym, ap, subst, arith}
+use Rattle.std.specs.FinMap.{get}
+use Rattle.tc_base.specs.Maps.{Map}
+use Rattle.tc_base.specs.declared.kind.Form.{Form}
+use Rattle.tc_base.specs.declared.kind.Form.TheVariants as form
+use Rattle.tc_space.specs.Changes.{same}
+use Rattle.tc_space.specs.Frames.{In, OnlyReads, Others, Refuses, Writes}
+use Rattle.tc_space.specs.Stores.{FullBy, Only}
+use Rattle.tc_space.specs.declared.space.Space.{Ghosts}
+use Rattle.hf_head.specs.declared.head.Head.{Head}
+use Rattle.hf_head.specs.Heads.{unit}
+use Rattle.hf_block.specs.Pieces.{AreBlocks, Piece}
+use Rattle.hf_block.specs.Walks.{between}
+use Rattle.hf_layout.specs.Layout.{record_at, frees_of}
+use Rattle.hf_layout.proofs.Shares.{shared_as}
+use Rattle.hf_pack.specs.Moving.{Repacked}
+use Rattle.hf_pool.specs.declared.pool.Pool.{Pool}
+use Rattle.hf_pool.specs.Pools.{frees as frees_in}
+use Rattle.hf_tree.specs.Keys.{Key}
+use Rattle.hf_tree.specs.Links.{HasBlocks, links_of}
+use Rattle.hf_tree.specs.Rules.{Links}
+use Rattle.hf_tree.specs.Standing.{AllHang}
+use Rattle.tc_hash.specs.declared.hash.Hash.{Hash}
+use Rattle.tc_hash.specs.Holding.{Holds}
+use Rattle.tc_hash.specs.Keeping.{file_of, holds}
+use Rattle.tc_hash.specs.Packing.{fills_any, fills_packing}
+use Rattle.tc_hash.specs.Settling.{Brought, head_now}
+use Rattle.tc_hash.proofs.Kept.{links_head}
+
+abbrev Packing : Head → ℕ → List ℕ → List ℕ → Type 0
+Packing x end old new = (ps : List Piece) (places : Key → Option ℕ) → HasBlocks x x.size ps old → AllHang (links_of x ps old) (record_at x.first ps) x.buckets places → Repacked x end ps new
+
+pub packed_holds : (h now : Head) (p p' : Pool) (records : ℕ) (region : List ℕ) (m : Map) (old new : List ℕ) (end : ℕ) → now ≡ head_now h records p.size region → Packing now end old new → p'.size ≡ end → ((q : ℕ) → frees_in p' q ≡ None) → Holds h p.size (frees_in p) records m old → Holds h p'.size (frees_in p') records m new
+packed_holds h now p p' records region m old new end is packing sized nothing held =
+    let w = held.has in
+    let x : Head = head_now h records p.size region in
+    let same_links : (ps : List Piece) (bytes : List ℕ) → ◌≡◌ {A = Links} (links_of x ps bytes) (links_of h ps bytes) = λ ps bytes i c. links_head h records p.size region ps bytes c i in
+    let repack : Packing x end old new = subst (λ (y : Head). Packing y end old new) is packing in
+    let blocks : HasBlocks x x.size w.pieces old = record { on = w.is.laid.on; within = w.is.laid.within; filled = w.is.laid.filled; widths = w.is.widths } in
+    let hang : AllHang (links_of x w.pieces old) (record_at x.first w.pieces) x.buckets w.places = subst (λ (l : Links). AllHang l (record_at h.first w.pieces) h.buckets w.places) (sym (same_links w.pieces old)) w.is.hang in
+    let r = repack w.pieces w.places blocks hang in
+    record {
+      has = record {
+        pieces = r.pieces;
+        places = r.places;
+        is = record {
+          laid = record {
+            room = r.is.room;
+            on = omega (arith, r.is.on, sized);
+            within = omega (arith, r.is.within, sized);
+            filled = subst (λ (n : ℕ). AreBlocks (unit h) (between h.first n new) r.pieces) (sym sized) r.is.filled;
+            shared = λ q. shared_as (frees_of h.first r.pieces q) (frees_of h.first r.pieces q) None (frees_in p' q) None None refl (nothing q) refl (r.is.shared q);
+          };
+          widths = r.widths;
+          hang = subst (λ (l : Links). AllHang l (record_at h.first r.pieces) h.buckets r.places) (same_links r.pieces new) r.hang;
+          map = r.map (get m) w.is.map;
+        };
+        short = omega (arith, r.short, w.short, sized);
+      };
+      count = held.count;
+    }
+
+module _ {S : Type 0} (s : Ghosts S) where
+  -- a limit of a packing is one of some call
+  pub full_any : (v : Hash S) (f : Form) (a b : S) → FullBy (In s file_of holds) (fills_packing f s) same v a b → FullBy (In s file_of holds) (fills_any s) same v a b
+  full_any v form.Keep a b full = record { by = λ m w. inl (inl (full.by m w)) }
+  full_any v form.Large a b full = record { by = λ m w. inr (full.by m w) }
+
+  -- what is held in memory was brought to the file
+  pub settled_same : (v v' : Hash S) (a b : S) → v'.file ≡ v.file → s.sound b × Others s (Only v.file) a b → (s.tells → (m : Map) → Holds v.head v.pool.size (frees_in v.pool) v.records m (s.now a v.file) → Brought v'.head v'.pool.size (frees_in v'.pool) v'.records v'.region m (s.now b v.file)) → Writes s (Only (file_of v)) (In s file_of holds) same v v' a b
+  settled_same v v' a b file done brought = record {
+    sound = done.0;
+    means = λ m w. (w.0, subst (λ (f : ℕ). holds v' (s.now b f) m) (sym file) (brought w.0 m w.1).holds);
+    others = done.1;
+  }
+
+  -- nothing was written, and free blocks at the end may have been dropped
+  pub trimmed_refuses : (v v' : Hash S) (a b : S) → v'.file ≡ v.file → ((m : Map) (bytes : List ℕ) → holds v bytes m → holds v' bytes m) → (s.flag b ≡ false) ⊎ OnlyReads s a b → Refuses s (In s file_of holds) v v' a b
+  trimmed_refuses v v' a b file trimmed (inl spoiled) = inl spoiled
+  trimmed_refuses v v' a b file trimmed (inr r) = inr (record {
+    now = r.files;
+    touched = r.untouched;
+    sound = r.is_sound;
+    means = λ m w. (w.0, subst (λ (l : List ℕ). holds v' l m) (sym (ap (s.now b) file ∙ r.files w.0 v.file)) (trimmed m (s.now a v.file) w.1));
+  })

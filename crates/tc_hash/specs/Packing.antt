@@ -1,0 +1,104 @@
+-- A file packed: written anew in the large form, or in the form that it has.
+use Rattle.std.specs.Prelude.{◌≡◌, ◌⊎◌, ℕ, true, List, [], ◌∷◌, length, map, Some, None}
+use Rattle.std.specs.FinMap.{get, insert}
+use Rattle.tc_base.specs.Maps.{Map}
+use Rattle.tc_base.specs.declared.kind.Form.{Form}
+use Rattle.tc_base.specs.declared.kind.Form.TheVariants as form
+use Rattle.tc_base.specs.declared.seq.Pair.{Pair}
+use Rattle.tc_space.specs.Stores.{StaysMap}
+use Rattle.tc_space.specs.declared.space.Space.{Ghosts}
+use Rattle.hf_head.specs.declared.head.Head.{Head}
+use Rattle.hf_head.specs.Heads.{unit}
+use Rattle.hf_block.specs.Written.{block_len}
+use Rattle.hf_layout.specs.Frees.{Frees}
+use Rattle.hf_pool.specs.declared.pool.Pool.{Pool}
+use Rattle.hf_pool.specs.Pools.{frees, TakesFree, Grows}
+use Rattle.hf_tree.specs.Links.{width}
+use Rattle.tc_hash.specs.declared.hash.Hash.{Hash}
+use Rattle.tc_hash.specs.Creating.{HasNoRoom, IsNew}
+use Rattle.tc_hash.specs.Keeping.{fills, file_of, gets_of, region_of}
+use Rattle.tc_hash.specs.Moves.{IsRefusedFor}
+
+-- no free block is left, and this is the form of the file
+pub record Packs {S : Type 0} (options : ℕ) (h : Hash S) : Type 0 where
+  pub nothing : (q : ℕ) → frees h.pool q ≡ None
+  pub options_is : h.head.options ≡ options
+
+-- the file, the region and the count of gets stay, and so do the numbers of the file
+pub record StaysNumbered {S : Type 0} (old new : Hash S) : Type 0 where
+  pub map : StaysMap file_of region_of gets_of old new
+  pub kind : new.head.kind ≡ old.head.kind
+  pub apow : new.head.apow ≡ old.head.apow
+  pub fpow : new.head.fpow ≡ old.head.fpow
+  pub buckets : new.head.buckets ≡ old.head.buckets
+
+-- the form that is asked for
+abbrev pub options_for : {S : Type 0} → Form → Hash S → ℕ
+options_for form.Keep h = h.head.options
+options_for form.Large h = 1
+
+-- ---- pairs
+
+-- each key has that value
+abbrev pub AllIn : Map → List Pair → Type 0
+AllIn m [] = Unit {0}
+AllIn m (p ∷ ps) = (get m p.key ≡ Some p.value) × AllIn m ps
+
+-- keys, each with the value that it has
+pub record ArePairs (m : Map) (keys : List (List ℕ)) (pairs : List Pair) : Type 0 where
+  pub each : AllIn m pairs
+  pub keys_are : map (λ p. p.key) pairs ≡ keys
+
+-- one key after the other is given its value
+abbrev pub with_pairs : Map → List Pair → Map
+with_pairs m [] = m
+with_pairs m (p ∷ ps) = with_pairs (insert m p.key p.value) ps
+
+-- ---- room
+
+-- a pool from which a block was taken
+pub record Takes (old new : Pool) : Type 0 where
+  pub size : ℕ
+  pub place : ℕ
+  pub took : ((found : ℕ) × TakesFree old new size place found) ⊎ Grows old new size place
+
+-- no block was to be had for a record in a file that has no free blocks
+pub record LacksEnd {S : Type 0} (s : Ghosts S) (h : Head) (file : ℕ) (space : S) (key value : List ℕ) : Type 0 where
+  pub end : ℕ
+  pub free : Frees
+  pub nothing : (q : ℕ) → free q ≡ None
+  pub refused : IsRefusedFor h end free (s.limit space file) (length (s.now space file)) (s.log_full space) (block_len (width h) key value (unit h))
+
+-- so it was for one of these pairs
+pub record LacksOne {S : Type 0} (s : Ghosts S) (h : Head) (file : ℕ) (space : S) (pairs : List Pair) : Type 0 where
+  pub pair : Pair
+  pub there : (m : Map) → AllIn m pairs → get m pair.key ≡ Some pair.value
+  pub lacks : LacksEnd s h file space pair.key pair.value
+
+-- the sections of a file made anew in the large form pass a limit
+pub record LacksSections {S : Type 0} (s : Ghosts S) (h : Hash S) (space : S) : Type 0 where
+  pub head : Head
+  pub is_new : IsNew h.head.kind h.head.apow h.head.fpow h.head.buckets true head
+  pub lacks : HasNoRoom (s.limit space h.file) (s.log_full space) head.first
+
+-- a file made anew in the large form had no room for the record of a key of the map
+pub record LacksRecord {S : Type 0} (s : Ghosts S) (h : Hash S) (space : S) (m : Map) : Type 0 where
+  pub head : Head
+  pub is_new : IsNew h.head.kind h.head.apow h.head.fpow h.head.buckets true head
+  pub key : List ℕ
+  pub value : List ℕ
+  pub there : get m key ≡ Some value
+  pub lacks : LacksEnd s head h.file space key value
+
+-- a limit is reached where a file is written anew in the large form
+abbrev pub fills_enlarging : {S : Type 0} → Ghosts S → Hash S → S → Map → Map → Type 0
+fills_enlarging s h space m new = s.log_full space ⊎ (LacksSections s h space ⊎ LacksRecord s h space new)
+
+-- a limit is reached in a packing; in the form that a file has this is the log's alone
+abbrev pub fills_packing : {S : Type 0} → Form → Ghosts S → Hash S → S → Map → Map → Type 0
+fills_packing form.Keep s h space m new = s.log_full space
+fills_packing form.Large s h space m new = fills_enlarging s h space m new
+
+-- a limit is reached in some call
+abbrev pub fills_any : {S : Type 0} → Ghosts S → Hash S → S → Map → Map → Type 0
+fills_any s h space m new = fills s h space m new ⊎ fills_enlarging s h space m new

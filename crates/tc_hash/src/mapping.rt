@@ -1,0 +1,89 @@
+//! A hash file as a map over one file.
+ghost use Rattle.std.specs.Prelude.{◌≡◌};
+ghost use Rattle.tc_hash.specs.Keeping.{file_of, gets_of, holds, region_of};
+ghost use Rattle.tc_hash.specs.Packing.{fills_any};
+ghost use Rattle.tc_hash.specs.Standing.{Stands};
+
+use crate::hash::Hash;
+use tc_base::{Blob, Blobs, Form, Mode, Steps};
+use tc_space::{PutErr, RecErr, Records, Space};
+
+impl<S: Space> Records for Hash<S> {
+    type S = S;
+
+    ghost file_of = { file_of };
+
+    ghost holds = { holds };
+
+    ghost stands = { Stands };
+
+    ghost region = { region_of };
+
+    ghost fills = { fills_any S.Space };
+
+    ghost gets = { gets_of };
+
+    fn file(&self) -> u32 {
+        self.file
+    }
+
+    fn count(&self) -> u64 {
+        self.records
+    }
+
+    fn opaque(&self) -> [u8; 128] {
+        self.region
+    }
+
+    fn get<L>(
+        &mut self,
+        space: &mut S,
+        key: &[u8],
+        steps: &mut Steps<L>,
+    ) -> Result<Option<Blob>, RecErr> {
+        Hash::get(self, space, key, steps)
+    }
+
+    fn put<L>(
+        &mut self,
+        space: &mut S,
+        key: &[u8],
+        value: &[u8],
+        mode: Mode,
+        steps: &mut Steps<L>,
+    ) -> Result<(), PutErr> {
+        match Hash::put(self, space, key, value, mode, steps) {
+            Ok(()) => Ok(()),
+            Err(e) => Err(e),
+        }
+    }
+
+    fn out<L>(&mut self, space: &mut S, key: &[u8], steps: &mut Steps<L>) -> Result<bool, RecErr> {
+        match Hash::out(self, space, key, steps) {
+            Ok(taken) => Ok(taken),
+            Err(e) => Err(e),
+        }
+    }
+
+    fn keys<L>(&mut self, space: &mut S, steps: &mut Steps<L>) -> Result<Blobs, RecErr> {
+        Hash::keys(self, space, steps)
+    }
+
+    fn set_opaque(&mut self, bytes: &[u8; 128]) {
+        self.region = *bytes;
+    }
+
+    fn settle(&mut self, space: &mut S) -> Result<(), RecErr> {
+        match Hash::settle(self, space) {
+            Ok(()) => Ok(()),
+            Err(e) => Err(e),
+        }
+    }
+
+    fn pack(&mut self, space: &mut S, form: Form) -> Result<(), RecErr> {
+        match Hash::pack(self, space, form) {
+            Ok(()) => Ok(()),
+            Err(e) => Err(e),
+        }
+    }
+}
