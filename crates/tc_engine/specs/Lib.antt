@@ -1,3 +1,4 @@
 pub mod Changes
 pub mod Effects
+pub mod Lines
 pub mod Rows

@@ -6,12 +6,12 @@ use Rattle.std.proofs.lemmas.Bool.{cases_lt}
 use Rattle.std.proofs.lemmas.List.{append-nil, length-take-le, take-take, take_all, take_at}
 use Rattle.std.proofs.Math.Nat.{div-le_self}
 use Rattle.tc_base.specs.Files.{wrote}
-use Rattle.hf_head.specs.FixedHeads.{SpellsFixed, HasFixedNumbers, cell, fixed_spelled}
+use Rattle.hf_head.specs.FixedHeads.{SpellsFixed, HasFixedNumbers, cell, fixed_in, fixed_spelled}
 use Rattle.tc_model.specs.Arrays.{Array, least, greatest}
 use Rattle.tc_fixed.specs.declared.tally.Tally.{Tally}
 use Rattle.tc_fixed.specs.Cells.{IsCell, Fills, blank, cell_at, end_of, place, spelled, with_cell}
 use Rattle.tc_fixed.specs.Holding.{Holds}
-use Rattle.tc_fixed.specs.Settling.{head_of}
+use Rattle.tc_fixed.specs.Settling.{head_of, new_head}
 use Rattle.tc_fixed.specs.Shapes.{HasShape, most_id}
 use Rattle.tc_fixed.specs.Standing.{Stands}
 use Rattle.tc_fixed.specs.Tallies.{Counts, IsSmall}
@@ -157,6 +157,9 @@ wrote_first : (x : List ℕ) → wrote 0 x [] ≡ x
 unfolding wrote
 wrote_first x = ap (λ (l : List ℕ). x ++ l) (drop_none (0 + length x)) ∙ append-nil x
 
+none_long : (width : ℕ) → end_of width 0 ≡ 256
+none_long width = omega arith
+
 wrote_empty : (x old : List ℕ) → old ≡ [] → wrote 0 x old ≡ x
 wrote_empty x old none = ap (λ (o : List ℕ). wrote 0 x o) none ∙ wrote_first x
 
@@ -173,5 +176,15 @@ module _ (width limit : ℕ) (t : Tally) (x old new : List ℕ) (shape : (1 ≤ 
         counts = counts;
       }
 
+  front_all : take 256 new ≡ fixed_spelled (head_of width limit t)
+  front_all = ap (λ (l : List ℕ). take 256 l) create_front ∙ take_all 256 (fixed_spelled (head_of width limit t)) (omega (arith, long))
+
   pub create_stands : SpellsFixed (head_of width limit t) (fixed_spelled (head_of width limit t)) → Stands new width (most_id width limit) empty
-  create_stands spells = stands_of width limit t empty new create_holds (ap (λ (l : List ℕ). take 256 l) create_front ∙ take_all 256 (fixed_spelled (head_of width limit t)) (omega (arith, long))) spells
+  create_stands spells = stands_of width limit t empty new create_holds front_all spells
+
+  head_none : t.records ≡ 0 → t.least ≡ 0 → head_of width limit t ≡ new_head width limit
+  head_none no_records no_least = let size : end_of width t.greatest ≡ 256 = ap (λ n. end_of width n) none ∙ none_long width in
+      λ i. record { records = no_records i; size = size i; width = width; limit = limit; least = no_least i; greatest = none i }
+
+  pub create_head : SpellsFixed (head_of width limit t) (fixed_spelled (head_of width limit t)) → t.records ≡ 0 → t.least ≡ 0 → fixed_in (take 256 new) ≡ new_head width limit
+  create_head spells no_records no_least = ap (λ (l : List ℕ). fixed_in l) front_all ∙ spells.fields ∙ head_none no_records no_least

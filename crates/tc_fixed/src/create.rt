@@ -1,10 +1,12 @@
 //! A file made anew.
-ghost use Rattle.std.specs.Prelude.{◌≡◌, ◌⊎◌, ◌≤◌, ◌^◌, List, [], IfOk, OnOk, OnErr, IsErrOf, false};
+ghost use Rattle.std.specs.Prelude.{◌≡◌, ◌⊎◌, ◌≤◌, ◌^◌, List, [], take, IfOk, OnOk, OnErr, IsErrOf, false};
 ghost use Rattle.std.specs.FinMap.{empty};
 ghost use Rattle.tc_io.specs.Causes.{Rose};
 ghost use Rattle.tc_space.specs.Frames.{Keeps, OnlyReads, Others};
 ghost use Rattle.tc_space.specs.Stores.{Only};
+ghost use Rattle.hf_head.specs.FixedHeads.{fixed_in};
 ghost use Rattle.tc_fixed.specs.Holding.{HasNoRoom, Means};
+ghost use Rattle.tc_fixed.specs.Settling.{new_head};
 ghost use Rattle.tc_fixed.specs.Shapes.{most_id};
 ghost use Rattle.tc_fixed.specs.Standing.{Stands};
 
@@ -27,6 +29,7 @@ impl<S: Space> Fixed<S> {
         ensures shape { IfOk result (λ f. (f.width ≡ width) × (f.limit ≡ limit)) }
         ensures created { IfOk result (λ f. S.sound space.new × Others S.Space (Only 0) space.old space.new × (S.tells → Means S.Space f space.new empty)) }
         ensures stands { OnOk result (S.tells → Stands (S.now space.new 0) width (most_id width limit) empty) }
+        ensures head { OnOk result (S.tells → fixed_in (take 256 (S.now space.new 0)) ≡ new_head width limit) }
         ensures refused { OnErr result (S.flag space.new ≡ false) }
         ensures full { IsErrOf result RecErr.Full → S.tells → HasNoRoom (S.limit space.new 0) (S.log_full space.new) 256 }
         ensures keeps { Keeps S.Space space.old space.new }

@@ -38,6 +38,7 @@ impl Tally {
     pub fn none() -> Tally
         ensures counts { Counts result empty }
         ensures greatest { result.greatest ≡ 0 }
+        ensures none { (result.records ≡ 0) × (result.least ≡ 0) }
     {
         Tally {
             records: 0,

@@ -1,11 +1,16 @@
 -- A limit of the hash file is one of the database.
 use Rattle.std.proofs.Common.{◌≡◌, ◌⊎◌, ℕ, List, length, subst, inl, inr, ⊎_elim}
+use Rattle.std.specs.FinMap.{get}
 use Rattle.tc_base.specs.Maps.{Map}
+use Rattle.tc_base.specs.declared.kind.Mode.{Mode}
+use Rattle.tc_space.specs.Changes.{put_in, put_value}
+use Rattle.tc_space.specs.Frames.{In}
 use Rattle.tc_space.specs.declared.space.Space.{Ghosts}
 use Rattle.hf_pool.specs.Pools.{frees}
 use Rattle.tc_hash.specs.declared.hash.Hash.{Hash}
-use Rattle.tc_hash.specs.Keeping.{WantsBlock as WantsIts, fills, size_in}
+use Rattle.tc_hash.specs.Keeping.{LacksBlock, WantsBlock as WantsIts, file_of, holds, size_in}
 use Rattle.tc_hash.specs.Moves.{IsRefusedFor}
+use Rattle.tc_hash.proofs.Maps.{insert_here}
 use Rattle.tc_hashdb.specs.Filling.{FillsMap, WantsBlock}
 
 module _ {S : Type 0} (s : Ghosts S) where
@@ -17,8 +22,8 @@ module _ {S : Type 0} (s : Ghosts S) where
       (λ room. ⊎_elim (λ none. inr (record { head = h.head; fields = h.valid; end = wants.pool.size; free = frees wants.pool; refused = inr none })) (λ log. inl log) room)
       at_main
 
-  pub fills_up : (h : Hash S) (b : S) (m n : Map) → h.file ≡ 0 → fills s h b m n → FillsMap s b m n
-  fills_up h b m n file full = ⊎_elim
-      (λ log. inl log)
-      (λ wants. ⊎_elim (λ log. inl log) (λ block. inr (record { key = wants.key; value = wants.value; there = inr wants.there; wants = block })) (wants_block h b wants.key wants.value file wants.wants))
-      full
+  -- no block was to be had for the record of a key that was put
+  pub fills_up : (mode : Mode) (key value : List ℕ) (h : Hash S) (a b : S) (m : Map) → h.file ≡ 0 → In s file_of holds h a m → LacksBlock s mode key value h a b → FillsMap s b m (put_in mode key value m)
+  fills_up mode key value h a b m file held lacks =
+      let v : List ℕ = put_value mode (get m key) value in
+      ⊎_elim (λ log. inl log) (λ block. inr (record { key = key; value = v; there = inr (insert_here m key v); wants = block })) (wants_block h b key v file (lacks.wants m held))

@@ -5,6 +5,7 @@ pub mod Filled
 pub mod Kept
 pub mod Listed
 pub mod Made
+pub mod Packed
 pub mod Setting
 pub mod Settled
 pub mod Several

@@ -1,6 +1,6 @@
 -- Puts and outs as steps of the map.
-use Rattle.std.proofs.Common.{rules, ◌≡◌, ◌≢◌, ◌∙◌, ℕ, ◌+◌, ◌≤◌, ◌<◌, Bool, true, false, cond, List, [], ◌++◌, length, refl, sym, ap, subst}
-use Rattle.std.specs.Prelude.{IfSome, Option, Some, None, option_map, is_some, unwrap_or, nat_le, IsErrOf, Err}
+use Rattle.std.proofs.Common.{rules, ◌≡◌, ◌≢◌, ◌∙◌, ℕ, ◌+◌, ◌≤◌, ◌<◌, Bool, true, false, cond, List, [], ◌++◌, length, refl, sym, ap, subst, inl}
+use Rattle.std.specs.Prelude.{IfSome, Option, Some, None, option_map, is_some, unwrap_or, nat_le}
 use Rattle.std.specs.FinMap.{empty, get, insert, remove}
 use Rattle.tc_base.specs.Maps.{Map}
 use Rattle.tc_maps.specs.Sizes.{size_gone}
@@ -9,16 +9,15 @@ use Rattle.tc_base.specs.declared.kind.Mode.{Mode}
 use Rattle.tc_base.specs.declared.kind.Mode.TheVariants.{Over, Keep, Cat}
 use Rattle.tc_space.specs.Changes.{is_in, out_of, put_in}
 use Rattle.tc_space.specs.Frames.{In, Reads, Writes, reads_then, reads_writes}
-use Rattle.tc_space.specs.Stores.{FullBy, IsReady, Only, StaysMap, TakesOut}
+use Rattle.tc_space.specs.Stores.{IsReady, Only, StaysMap, TakesOut}
 use Rattle.tc_space.specs.declared.space.Space.{Ghosts}
-use Rattle.tc_hash.specs.Keeping.{SameShape, StaysOpen, fills, file_of, gets_of, holds, region_of}
+use Rattle.tc_hash.specs.Keeping.{SameShape, StaysOpen, file_of, gets_of, holds, region_of}
 use Rattle.tc_model.specs.Maps.{with_value, without}
 use Rattle.tc_hashdb.specs.declared.holding.HashEngine.{HashEngine}
 use Rattle.tc_hashdb.specs.Changing.{LacksRoomFor, Step, Takes, after, len_after, put_as, stored_in}
 use Rattle.tc_hashdb.specs.Filling.{FillsMap}
 use Rattle.tc_hashdb.specs.Holding.{Means}
 use Rattle.tc_hashdb.proofs.Counted.{counts_out, len_is}
-use Rattle.tc_hashdb.proofs.Filled.{fills_up}
 use Rattle.tc_hashdb.proofs.Kept.{Counts, in_of, reads_again, writes_again}
 
 -- ---- values that may be stored
@@ -140,9 +139,9 @@ module _ {S : Type 0} (s : Ghosts S) where
   there : (key : List ℕ) (m : Map) (old : ℕ) → Some old ≡ option_map length (get m key) → without m key ≡ Some (remove m key)
   there key m old is = ap (λ b. cond b (Some (remove m key)) None) (sym (none_some (get m key)) ∙ ap is_some (sym is))
 
-  pub lacks_out : (key : List ℕ) (old : ℕ) (v : HashEngine S) (a b : S) → IsReady s (Means s) v a → ((m : Map) → Means s v a m → Some old ≡ option_map length (get m key)) → FullBy (In s file_of holds) (fills s) (out_of key) v.hash a b → LacksRoomFor s (λ m. without m key) v a b
+  pub lacks_out : (key : List ℕ) (old : ℕ) (v : HashEngine S) (a b : S) → IsReady s (Means s) v a → ((m : Map) → Means s v a m → Some old ≡ option_map length (get m key)) → (s.tells → s.log_full b) → LacksRoomFor s (λ m. without m key) v a b
   lacks_out key old v a b ready is_old full = record {
-    by = λ m means. subst (λ n. FillsMap s b m n) (sym (ap (λ o. unwrap_or o m) (there key m old (is_old m means)))) (fills_up s v.hash b m (out_of key m) means.1.file (full.by m (in_of s v a m means)));
+    by = λ m means. subst (λ n. FillsMap s b m n) (sym (ap (λ o. unwrap_or o m) (there key m old (is_old m means)))) (inl (full means.0));
   }
 
   pub lacks_after : (f : Step) (u v : HashEngine S) (a b c : S) → Reads s (Means s) u v a b → LacksRoomFor s f v b c → LacksRoomFor s f u a c
@@ -170,11 +169,3 @@ module _ {S : Type 0} (s : Ghosts S) where
     means = λ m means. subst (λ n. Means s v' b n) (sym (ap (λ o. unwrap_or o m) (takes.fails refl m means))) ((takes.same refl).means m means);
     others = takes.others;
   }
-
--- ---- refusals
-
-pub same_refusal : {T U E : Type 0} (e f : E) → IsErrOf {T = T} (Err e) f → IsErrOf {T = U} (Err e) f
-same_refusal e f is = search (rules, is)
-
-pub cause_is : {T E : Type 0} (e f : E) → IsErrOf {T = T} (Err e) f → e ≡ f
-cause_is e f is = search (rules, is)

@@ -13,7 +13,8 @@ use Rattle.tc_model.specs.Contents.{Contents}
 use Rattle.ty_base.specs.Holding.{Held}
 use Rattle.tc_hashdb.specs.declared.holding.HashEngine.{HashEngine}
 use Rattle.tc_hashdb.specs.Holding.{HoldsKeys, HoldsMap, Reopens}
-use Rattle.tc_hashdb.specs.Informing.{form_line, line, lines_of}
+use Rattle.tc_engine.specs.Lines.{line}
+use Rattle.tc_hashdb.specs.Informing.{form_line, lines_of}
 
 module _ {S : Type 0} (s : Ghosts S) where
   pub only_reads_up : (e : HashEngine S) (a b : S) → OnlyReads s a b → Reads s (Held s HoldsKeys) e e a b

@@ -1,5 +1,5 @@
 -- When a limit is reached.
-use Rattle.std.specs.Prelude.{◌≡◌, ◌⊎◌, ℕ, ◌^◌, ◌<◌, ◌≤◌, false, List, length, Some}
+use Rattle.std.specs.Prelude.{◌≡◌, ◌⊎◌, ℕ, ◌^◌, ◌<◌, ◌≤◌, List, length, Some}
 use Rattle.std.specs.FinMap.{empty, get}
 use Rattle.tc_base.specs.Maps.{Map}
 use Rattle.tc_space.specs.declared.space.Space.{Ghosts}
@@ -8,10 +8,10 @@ use Rattle.hf_head.specs.Heads.{unit}
 use Rattle.hf_block.specs.Written.{block_len}
 use Rattle.hf_layout.specs.Frees.{Frees}
 use Rattle.hf_tree.specs.Links.{width}
-use Rattle.tc_hash.specs.Creating.{HasNoRoom, IsNew}
 use Rattle.tc_hash.specs.Fields.{HasFields}
 use Rattle.tc_hash.specs.Filling.{IsTooFar, IsTooLong}
 use Rattle.tc_model.specs.Contents.{Contents, hash}
+use Rattle.tc_hashdb.specs.Shapes.{LacksSections, usual}
 
 -- in a file of so many bytes, where the blocks end, none was to be had for a record: it is larger than a block may be, or no free block is large enough
 -- and the file would pass its limit, or no chain can name the place
@@ -29,13 +29,6 @@ pub record WantsRecord (limit long : ℕ) (before after : Map) : Type 0 where
   pub there : (get before key ≡ Some value) ⊎ (get after key ≡ Some value)
   pub wants : WantsBlock limit long key value
 
--- the head, the buckets and the pool of a file made anew pass its limit
-pub record LacksSections (limit : ℕ) (log_is_full : Type 0) (m : Map) : Type 0 where
-  pub none : m ≡ empty
-  pub head : Head
-  pub new : IsNew 0 4 10 131071 false head
-  pub passes : HasNoRoom limit log_is_full head.first
-
 -- the undo log is full, or no block was to be had for a record
 abbrev pub FillsBy : ℕ → ℕ → Type 0 → Map → Map → Type 0
 FillsBy limit long log_is_full before after = log_is_full ⊎ WantsRecord limit long before after
@@ -44,9 +37,9 @@ FillsBy limit long log_is_full before after = log_is_full ⊎ WantsRecord limit 
 abbrev pub FillsMap : {S : Type 0} → Ghosts S → S → Map → Map → Type 0
 FillsMap s space before after = FillsBy (s.limit space 0) (length (s.now space 0)) (s.log_full space) before after
 
--- the same of contents; or a file was to be made anew
+-- the same of contents; or a file was to be made anew, and its sections have no room
 abbrev pub FillsWith : ℕ → ℕ → Type 0 → Contents → Contents → Type 0
-FillsWith limit long log_is_full (hash a before) (hash b after) = FillsBy limit long log_is_full before after ⊎ LacksSections limit log_is_full after
+FillsWith limit long log_is_full (hash a before) (hash b after) = FillsBy limit long log_is_full before after ⊎ ((after ≡ empty) × LacksSections limit log_is_full usual)
 FillsWith limit long log_is_full _ _ = ⊥
 
 abbrev pub Fills : {S : Type 0} → Ghosts S → S → Contents → Contents → Type 0

@@ -8,10 +8,6 @@ use Rattle.tc_base.specs.declared.kind.Kind.TheVariants as kind
 use Rattle.tc_base.specs.declared.kind.Rule.{Rule}
 use Rattle.tc_maps.specs.Sizes.{size_of}
 use Rattle.tc_space.specs.declared.space.Space.{Ghosts}
-use Rattle.tc_space.specs.declared.errors.OpenErr.{OpenErr}
-use Rattle.tc_space.specs.declared.errors.OpenErr.TheVariants as open_err
-use Rattle.ty_base.specs.declared.errors.AnyErr.{AnyErr}
-use Rattle.ty_base.specs.declared.errors.AnyErr.TheVariants as any
 use Rattle.hf_tree.specs.Rules.{rule_l}
 use Rattle.hf_tree.specs.Standing.{StandsFor}
 use Rattle.tc_hash.specs.Keeping.{holds}
@@ -58,9 +54,3 @@ pub record BreaksRule (files : Files) (file : ℕ) (rule : Rule) : Type 0 where
 abbrev pub BreaksAs : Kind → Files → ℕ → Rule → Type 0
 BreaksAs kind.Hash files file rule = BreaksRule files file rule
 BreaksAs _ files file rule = (file ≡ 0) × (rule ≡ rule_l 1)
-
--- the same cause
-abbrev pub any_of : OpenErr → AnyErr
-any_of (open_err.Broken file rule) = any.Broken file rule
-any_of open_err.Fault = any.Fault
-any_of open_err.Memory = any.Memory

@@ -1,12 +1,9 @@
 -- What an inspection tells of a hash file.
 use Rattle.std.specs.Prelude.{◌≡◌, ℕ, Bool, List, [], ◌++◌, ◌∷◌, codes, take, if◌then◌else◌}
-use Rattle.std.specs.Fmt.{decimal}
 use Rattle.tc_base.specs.Files.{Files}
 use Rattle.hf_head.specs.declared.head.Head.{Head}
 use Rattle.hf_head.specs.Heads.{head_in, is_large, unit}
-
-abbrev pub line : List ℕ → ℕ → List ℕ
-line name n = name ++ (decimal n ++ 10 ∷ [])
+use Rattle.tc_engine.specs.Lines.{line}
 
 -- the large form is told
 abbrev pub form_line : Bool → List ℕ

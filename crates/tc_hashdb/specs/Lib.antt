@@ -5,4 +5,5 @@ pub mod Informing
 pub mod Laws
 pub mod Lifting
 pub mod Listing
+pub mod Shapes
 pub mod Unbroken

@@ -1,13 +1,12 @@
 -- Calls on the map, as the trait of engines says them.
 use Rattle.std.specs.Prelude.{◌≡◌, Bool, false, Option, Some, None, option_map, unwrap_or}
-use Rattle.std.proofs.Common.{◌∙◌, refl, sym, ap, subst, inl, inr, ⊎_elim, arith}
+use Rattle.std.proofs.Common.{◌∙◌, refl, sym, ap, subst, inl, inr, ⊎_elim}
 use Rattle.tc_base.specs.Maps.{Map}
-use Rattle.tc_space.specs.Frames.{Others, Reads, Refuses}
-use Rattle.tc_space.specs.Stores.{Only}
+use Rattle.tc_space.specs.Frames.{Reads, Refuses}
 use Rattle.tc_space.specs.Stores as stores
 use Rattle.tc_space.specs.declared.space.Space.{Ghosts}
 use Rattle.tc_model.specs.Contents.{Contents, hash}
-use Rattle.ty_base.specs.Holding.{Held, IsReady, Stays}
+use Rattle.ty_base.specs.Holding.{Held, IsReady, log_stays}
 use Rattle.tc_engine.specs.Changes.{Change, wanted}
 use Rattle.tc_engine.specs.Effects.{IsFull, Makes}
 use Rattle.tc_hashdb.specs.declared.holding.HashEngine.{HashEngine}
@@ -41,13 +40,10 @@ module _ {S : Type 0} (s : Ghosts S) where
   pub refuses_up : (e e' : HashEngine S) (a b : S) → Refuses s (Means s) e e' a b → Refuses s (Held s HoldsKeys) e e' a b
   refuses_up e e' a b refuses = ⊎_elim (λ spoiled. inl spoiled) (λ reads. inr (reads_up e e' a b reads)) refuses
 
-  pub log_stays : (a b : S) → Others s (Only 0) a b → Stays s 2 a b
-  log_stays a b others = record { same = λ t. others.same t 2 (λ e. absurd (omega (arith, e))) }
-
   pub made_up : (change : Change) (step : Step) (done : Bool) (e e' : HashEngine S) (a b : S) → Takes s step done e e' a b → ((m : Map) → IsStep change step m) → Makes s HoldsKeys change done e e' a b
   made_up change step done e e' a b takes is_step = record {
     sound = takes.sound;
-    log = log_stays a b takes.others;
+    log = log_stays s a b takes.others;
     made = λ yes c h.
         let made = takes.made yes h.1.map (means_of e a c h) in
         (hash false made.0, ap change h.1.is ∙ (is_step h.1.map).is ∙ ap (option_map (hash false)) made.1, held_again e' b made.0 made.2);

@@ -206,11 +206,16 @@ impl<S: Space> Engine for HashEngine<S> {
         }
     }
 
-    // The file is left as it is.
     fn pack(&mut self, space: &mut S, form: Form) -> Result<(), RecErr> {
-        let _ = space;
-        let _ = form;
-        Ok(())
+        match self.hash.pack(space, form) {
+            Ok(()) => Ok(()),
+            // no record of the contents is at fault where the larger sections have no room
+            Err(RecErr::Full) => match form {
+                Form::Keep => Err(RecErr::Full),
+                Form::Large => Err(RecErr::Memory),
+            },
+            Err(e) => Err(e),
+        }
     }
 
     fn inform(&mut self, space: &mut S, into: &mut Blob) -> Result<(), RecErr> {

@@ -9,6 +9,8 @@ mod listing;
 mod many;
 mod opening;
 mod reading;
+mod shape;
 mod storing;
 
 pub use holding::HashEngine;
+pub use shape::HashShape;

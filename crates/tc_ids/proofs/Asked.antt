@@ -1,5 +1,5 @@
 -- Requests on keys as steps of the ids.
-use Rattle.std.proofs.Common.{rules, ◌≡◌, ◌∙◌, inl, inr, ⊎_elim, ℕ, ◌+◌, ◌≤◌, ◌<◌, Bool, true, false, cond, List, [], ◌∷◌, ◌++◌, length, map, take, refl, sym, ap, subst, arith}
+use Rattle.std.proofs.Common.{◌≡◌, ◌∙◌, ℕ, ◌≤◌, ◌<◌, Bool, true, false, cond, List, [], ◌∷◌, ◌++◌, length, map, refl, sym, ap, subst, arith}
 use Rattle.std.specs.Prelude.{Option, Some, None, option_map, option_and_then, option_to_list, is_some, unwrap_or, fold}
 use Rattle.std.specs.Fmt.{decimal}
 use Rattle.tc_base.specs.Lists.{pair}
@@ -7,25 +7,24 @@ use Rattle.std.specs.FinMap.{empty, get, remove}
 use Rattle.tc_base.specs.declared.seq.Pair.{Pair}
 use Rattle.tc_base.specs.declared.kind.Mode.{Mode}
 use Rattle.tc_base.specs.declared.kind.Mode.TheVariants.{Over, Keep, Cat}
-use Rattle.tc_space.specs.Frames.{Reads, Writes, reads_refl}
+use Rattle.tc_space.specs.Frames.{Writes, reads_refl}
 use Rattle.tc_space.specs.Stores.{Only}
 use Rattle.tc_space.specs.declared.space.Space.{Ghosts}
-use Rattle.tc_model.specs.Arrays.{Array, greatest, id_of, with_cell}
+use Rattle.tc_model.specs.Arrays.{Array, id_of, with_cell}
 use Rattle.tc_model.specs.Contents.{Contents, fixed}
 use Rattle.tc_model.specs.Maps.{without}
 use Rattle.tc_model.specs.Rows.{texts_of}
 use Rattle.tc_model.specs.Stores.{all_pairs, clear, first_pair, put_last, replied}
 use Rattle.ty_base.specs.Holding.{Held}
-use Rattle.tc_engine.specs.Changes.{all_cleared, all_gone, all_pushed, all_stored, pushed, stored, taken}
+use Rattle.tc_engine.specs.Changes.{all_cleared, all_gone, all_pushed, stored, taken}
 use Rattle.tc_engine.specs.Effects.{IsFull, Makes}
-use Rattle.tc_engine.specs.Rows.{Adds, item_row}
+use Rattle.tc_engine.specs.Rows.{item_row}
 use Rattle.tc_fixed.specs.declared.fixed.Fixed.{Fixed}
-use Rattle.tc_fixed.specs.Cells.{end_of}
-use Rattle.tc_fixed.specs.Holding.{HasNoRoom, Means, SameShape, max_id_of, width_of}
+use Rattle.tc_fixed.specs.Holding.{Means, SameShape, max_id_of, width_of}
 use Rattle.tc_ids.specs.declared.holding.FixedEngine.{FixedEngine}
-use Rattle.tc_ids.specs.Changing.{AllNamed, LacksRoomFor, Takes, all_out, all_set, out_at, out_named, stored_at}
+use Rattle.tc_ids.specs.Changing.{LacksRoomFor, Takes, all_out, out_at, out_named, stored_at}
 use Rattle.tc_ids.specs.Holding.{Fills, HoldsIds, IsFound, Names}
-use Rattle.tc_ids.specs.Lifting.{IsStep, as_contents, full_up, made_up, means_of}
+use Rattle.tc_ids.specs.Lifting.{IsStep, as_contents, full_up, made_up}
 
 -- a branch that fails fails also behind a change of its answer
 drawn_out : {A B : Type 0} (f : A → B) (b : Bool) (o : Option A) → cond b None (option_map f o) ≡ option_map f (cond b None o)

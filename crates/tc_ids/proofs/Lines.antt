@@ -2,7 +2,8 @@
 use Rattle.std.proofs.Common.{◌≡◌, ◌∙◌, ℕ, List, ◌++◌, ap, append_assoc}
 use Rattle.std.specs.Prelude.{codes}
 use Rattle.hf_head.specs.declared.fixed.FixedHead.{FixedHead}
-use Rattle.tc_ids.specs.Holding.{line, lines_of}
+use Rattle.tc_engine.specs.Lines.{line}
+use Rattle.tc_ids.specs.Holding.{lines_of}
 
 three_lines : (a b c d x y z : List ℕ) → b ≡ a ++ x → c ≡ b ++ y → d ≡ c ++ z → d ≡ a ++ (x ++ (y ++ z))
 three_lines a b c d x y z first second third = third ∙ (ap (λ t. t ++ z) (second ∙ ap (λ t. t ++ y) first) ∙ (append_assoc (a ++ x) y z ∙ append_assoc a x (y ++ z)))

@@ -1,5 +1,5 @@
 -- The file stands for the contents once they are settled.
-use Rattle.std.proofs.Common.{◌≡◌, ◌∙◌, inl, inr, ℕ, List, refl, sym, ap, subst}
+use Rattle.std.proofs.Common.{inr, sym, subst}
 use Rattle.tc_space.specs.Changes.{same}
 use Rattle.tc_space.specs.Frames.{Writes}
 use Rattle.tc_space.specs.Stores.{Only}
@@ -7,7 +7,6 @@ use Rattle.tc_space.specs.declared.space.Space.{Ghosts}
 use Rattle.tc_model.specs.Arrays.{Array}
 use Rattle.tc_model.specs.Contents.{Contents}
 use Rattle.ty_base.specs.Holding.{Held}
-use Rattle.tc_fixed.specs.declared.fixed.Fixed.{Fixed}
 use Rattle.tc_fixed.specs.Holding.{Means, SameShape, max_id_of, width_of}
 use Rattle.tc_fixed.specs.Standing.{Stands}
 use Rattle.tc_ids.specs.declared.holding.FixedEngine.{FixedEngine}

@@ -1,28 +1,20 @@
 -- Steps of the ids, by the calls on the array.
 use Rattle.std.proofs.lemmas.List.{length-take}
-use Rattle.std.proofs.Common.{rules, ◌≡◌, ◌∙◌, ◌⊎◌, inl, inr, ⊎_elim, ℕ, ◌+◌, ◌*◌, ◌≤◌, ◌<◌, Bool, true, false, cond, List, [], ◌++◌, length, take, refl, sym, ap, subst, arith}
-use Rattle.std.specs.Prelude.{Err, IsErrOf, Option, Some, None, option_map, is_some, unwrap_or, nat_le}
+use Rattle.std.proofs.Common.{rules, ◌≡◌, ◌∙◌, inl, inr, ⊎_elim, ℕ, ◌≤◌, Bool, true, false, cond, List, [], ◌++◌, length, take, refl, sym, ap, subst, arith}
+use Rattle.std.specs.Prelude.{Option, Some, None, option_map, is_some, unwrap_or, nat_le}
 use Rattle.std.specs.FinMap.{empty, get, insert, remove}
-use Rattle.tc_space.specs.Frames.{Reads, Writes, reads_writes}
+use Rattle.tc_space.specs.Frames.{Reads, Writes}
 use Rattle.tc_space.specs.Stores.{Only, TakesOut}
 use Rattle.tc_space.specs.declared.space.Space.{Ghosts}
 use Rattle.tc_base.specs.declared.kind.Mode.TheVariants.{Over, Keep, Cat}
 use Rattle.tc_model.specs.Arrays.{Array, greatest, id_of, with_cell}
 use Rattle.tc_model.specs.Maps.{without}
-use Rattle.tc_model.specs.Values.{allowed}
 use Rattle.tc_fixed.specs.declared.fixed.Fixed.{Fixed}
 use Rattle.tc_fixed.specs.Cells.{end_of}
 use Rattle.tc_fixed.specs.Holding.{HasNoRoom, Means, SameShape, max_id_of, width_of}
 use Rattle.tc_ids.specs.Changing.{LacksRoomFor, Takes, set_at, stored_at}
 use Rattle.tc_ids.specs.Holding.{Names}
 use Rattle.tc_ids.proofs.Ends.{greatest_with}
-
--- a refusal, whatever the answer would have been
-pub same_refusal : {T U E : Type 0} (e f : E) → IsErrOf {T = T} (Err e) f → IsErrOf {T = U} (Err e) f
-same_refusal e f is = search (rules, is)
-
-pub cause_is : {T E : Type 0} (e f : E) → IsErrOf {T = T} (Err e) f → e ≡ f
-cause_is e f is = search (rules, is)
 
 le_is : (m n : ℕ) → m ≤ n → nat_le m n ≡ true
 le_is m n le = search (rules, le)

@@ -1,5 +1,5 @@
 -- What an inspection reads, and what it tells.
-use Rattle.std.proofs.Common.{◌≡◌, ◌∙◌, inr, ℕ, List, ◌++◌, take, refl, sym, ap, subst}
+use Rattle.std.proofs.Common.{◌≡◌, ◌∙◌, inr, ℕ, List, ◌++◌, sym, ap, subst}
 use Rattle.std.specs.Prelude.{Option, Some, unwrap_or}
 use Rattle.tc_space.specs.Frames.{OnlyReads, Reads, Refuses}
 use Rattle.tc_space.specs.declared.space.Space.{Ghosts}

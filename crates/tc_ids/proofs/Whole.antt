@@ -1,10 +1,10 @@
 -- Pairs stored one after the other: all, or none.
-use Rattle.std.proofs.Common.{rules, ◌≡◌, ◌∙◌, ℕ, ◌≤◌, Bool, true, false, ◌&&◌, cond, List, [], ◌∷◌, take, refl, sym, ap, subst, arith}
+use Rattle.std.proofs.Common.{rules, ◌≡◌, ◌∙◌, ℕ, ◌≤◌, Bool, true, false, ◌&&◌, cond, List, [], ◌∷◌, take, refl, sym, ap, subst}
 use Rattle.std.specs.Prelude.{Option, Some, None, option_map, option_and_then, is_some, unwrap_or, max, nat_le, fold}
 use Rattle.std.specs.FinMap.{insert}
 use Rattle.tc_base.specs.declared.seq.Pair.{Pair}
 use Rattle.tc_base.specs.declared.kind.Mode.TheVariants.{Over}
-use Rattle.tc_space.specs.Frames.{Writes, reads_refl}
+use Rattle.tc_space.specs.Frames.{Writes}
 use Rattle.tc_space.specs.Stores.{Only}
 use Rattle.tc_space.specs.declared.space.Space.{Ghosts}
 use Rattle.tc_model.specs.Arrays.{Array, as_id, greatest, id_of, least, number_named, with_cell}
@@ -16,9 +16,9 @@ use Rattle.tc_fixed.specs.declared.fixed.Fixed.{Fixed}
 use Rattle.tc_fixed.specs.Cells.{end_of}
 use Rattle.tc_fixed.specs.Holding.{HasNoRoom, Means, SameShape, max_id_of, width_of}
 use Rattle.tc_ids.specs.declared.holding.FixedEngine.{FixedEngine}
-use Rattle.tc_ids.specs.Changing.{AllNamed, Takes, all_set, set_at, set_named}
+use Rattle.tc_ids.specs.Changing.{AllNamed, all_set, set_at}
 use Rattle.tc_ids.specs.Holding.{Fills, HoldsIds}
-use Rattle.tc_ids.specs.Lifting.{IsStep, as_contents, full_up, made_up}
+use Rattle.tc_ids.specs.Lifting.{as_contents, full_up, made_up}
 use Rattle.tc_ids.specs.Naming.{all_named, is_named, least_with}
 use Rattle.tc_ids.proofs.Asked.{fails, takes_writes}
 use Rattle.tc_ids.proofs.Ends.{Positive, greatest_with, least_inserted, positive_with}

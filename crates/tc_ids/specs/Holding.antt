@@ -1,16 +1,11 @@
 -- What the engine of a fixed-length database holds, and what its files stand for.
-use Rattle.std.specs.Prelude.{◌≡◌, ◌⊎◌, ℕ, List, [], ◌++◌, ◌∷◌, codes, take, option_map, Option, Some, IfSome}
-use Rattle.std.specs.FinMap.{empty}
+use Rattle.std.specs.Prelude.{◌≡◌, ◌⊎◌, ℕ, List, [], ◌++◌, codes, take, option_map, Option, IfSome}
 use Rattle.std.specs.Fmt.{decimal}
 use Rattle.tc_base.specs.Files.{Files}
 use Rattle.tc_base.specs.declared.kind.Kind.{Kind}
 use Rattle.tc_base.specs.declared.kind.Kind.TheVariants as kind
 use Rattle.tc_base.specs.declared.kind.Rule.{Rule}
 use Rattle.tc_space.specs.declared.space.Space.{Ghosts}
-use Rattle.tc_space.specs.declared.errors.OpenErr.{OpenErr}
-use Rattle.tc_space.specs.declared.errors.OpenErr.TheVariants as open_err
-use Rattle.ty_base.specs.declared.errors.AnyErr.{AnyErr}
-use Rattle.ty_base.specs.declared.errors.AnyErr.TheVariants as any
 use Rattle.hf_head.specs.declared.fixed.FixedHead.{FixedHead}
 use Rattle.hf_head.specs.FixedHeads.{fixed_in}
 use Rattle.tc_model.specs.Arrays.{Array, greatest, id_of}
@@ -20,9 +15,10 @@ use Rattle.tc_fixed.specs.declared.fixed.Fixed.{Fixed}
 use Rattle.tc_fixed.specs.Cells.{end_of}
 use Rattle.tc_fixed.specs.Holding.{HasNoRoom, holds, max_id_of, width_of}
 use Rattle.tc_fixed.specs.Opening.{IsBroken, rule_f}
-use Rattle.tc_fixed.specs.Shapes.{most_id}
 use Rattle.tc_fixed.specs.Standing.{Stands}
+use Rattle.tc_engine.specs.Lines.{line}
 use Rattle.tc_ids.specs.declared.holding.FixedEngine.{FixedEngine}
+use Rattle.tc_ids.specs.Shapes.{anew, usual}
 
 -- the contents are the ids that the array holds over file 0, with its width and the greatest id that it allows
 pub record HoldsIds {S : Type 0} (e : FixedEngine S) (files : Files) (c : Contents) : Type 0 where
@@ -38,13 +34,9 @@ pub record IsFileOf (files : Files) (c : Contents) : Type 0 where
   pub is : c ≡ fixed width most ids
   pub stands : Stands (files 0) width most ids
 
--- no data, in the shape that a file has which is made anew
-abbrev pub made_anew : Contents
-made_anew = fixed 255 (most_id 255 268435456) empty
-
--- an empty file stands for what is made anew
+-- an empty file stands for no data, in the shape of a file that an opening makes
 abbrev pub Reopens : Files → Contents → Type 0
-Reopens files c = ((files 0 ≡ []) × (c ≡ made_anew)) ⊎ IsFileOf files c
+Reopens files c = ((files 0 ≡ []) × (c ≡ anew usual)) ⊎ IsFileOf files c
 
 -- how long the file is that has these contents
 abbrev pub length_with : Contents → ℕ
@@ -56,9 +48,6 @@ abbrev pub Fills : {S : Type 0} → Ghosts S → S → Contents → Contents →
 Fills s space before after = HasNoRoom (s.limit space 0) (s.log_full space) (length_with after)
 
 -- ---- what an inspection tells
-
-abbrev pub line : List ℕ → ℕ → List ℕ
-line name n = name ++ (decimal n ++ 10 ∷ [])
 
 abbrev pub lines_of : FixedHead → List ℕ
 lines_of h = line (codes "width: ") h.width ++ (line (codes "greatest id: ") h.greatest ++ line (codes "file size: ") h.size)
@@ -79,12 +68,6 @@ pub record BreaksRule (files : Files) (file : ℕ) (rule : Rule) : Type 0 where
 abbrev pub BreaksAs : Kind → Files → ℕ → Rule → Type 0
 BreaksAs kind.Fixed files file rule = BreaksRule files file rule
 BreaksAs _ files file rule = (file ≡ 0) × (rule ≡ rule_f 1)
-
--- the same cause
-abbrev pub any_of : OpenErr → AnyErr
-any_of (open_err.Broken file rule) = any.Broken file rule
-any_of open_err.Fault = any.Fault
-any_of open_err.Memory = any.Memory
 
 -- ---- keys
 

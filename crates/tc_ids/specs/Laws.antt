@@ -1,17 +1,14 @@
 -- What holds of contents that an engine holds.
-use Rattle.std.specs.Prelude.{◌≡◌, ◌≢◌, ◌⊎◌, ℕ, false, List, []}
-use Rattle.std.proofs.Common.{◌∙◌, sym, ap, subst, inl, inr, ⊎_elim, arith}
+use Rattle.std.specs.Prelude.{◌≡◌, false}
+use Rattle.std.proofs.Common.{◌∙◌, sym, ap, subst, inl, inr, ⊎_elim}
 use Rattle.tc_base.specs.Files.{Files}
 use Rattle.tc_model.specs.Bodies.{is_table}
 use Rattle.tc_model.specs.Contents.{Contents}
-use Rattle.ty_base.specs.Holding.{AreApart}
+use Rattle.ty_base.specs.Holding.{AreApart, main_apart}
 use Rattle.tc_fixed.specs.Holding.{holds}
 use Rattle.tc_fixed.specs.Standing.{Stands}
 use Rattle.tc_ids.specs.declared.holding.FixedEngine.{FixedEngine}
 use Rattle.tc_ids.specs.Holding.{HoldsIds, Reopens}
-
-main_apart : (f g : Files) → AreApart f g → f 0 ≡ g 0
-main_apart f g apart = sym (apart 0 (λ e. absurd (omega (arith, e))))
 
 module _ {S : Type 0} where
   pub never_table : (e : FixedEngine S) (files : Files) (c : Contents) → HoldsIds e files c → is_table c ≡ false

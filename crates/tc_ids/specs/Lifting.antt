@@ -1,17 +1,15 @@
 -- Calls on the array, as the trait of engines says them.
-use Rattle.std.specs.Prelude.{◌≡◌, ℕ, Bool, true, false, cond, List, Option, Some, None, option_map, option_and_then, is_some, unwrap_or, nat_le, ◌&&◌}
-use Rattle.std.proofs.Common.{◌∙◌, refl, sym, ap, subst, inl, inr, ⊎_elim, arith}
+use Rattle.std.specs.Prelude.{◌≡◌, ℕ, Bool, true, false, cond, List, Some, None, option_map, option_and_then, is_some, unwrap_or, nat_le, ◌&&◌}
+use Rattle.std.proofs.Common.{◌∙◌, sym, ap, subst, inl, inr, ⊎_elim}
 use Rattle.std.specs.FinMap.{get}
 use Rattle.std.specs.Fmt.{decimal}
-use Rattle.tc_base.specs.Files.{Files}
-use Rattle.tc_space.specs.Frames.{Others, Reads, Refuses, Writes}
-use Rattle.tc_space.specs.Stores.{Only}
+use Rattle.tc_space.specs.Frames.{Reads, Refuses}
 use Rattle.tc_space.specs.Stores as stores
 use Rattle.tc_space.specs.declared.space.Space.{Ghosts}
 use Rattle.tc_model.specs.Arrays.{Array, id_of, named, number_named}
 use Rattle.tc_model.specs.Contents.{Contents, fixed}
-use Rattle.ty_base.specs.Holding.{Held, IsReady, Stays}
-use Rattle.tc_engine.specs.Changes.{Change, wanted}
+use Rattle.ty_base.specs.Holding.{Held, IsReady, log_stays}
+use Rattle.tc_engine.specs.Changes.{Change}
 use Rattle.tc_engine.specs.Effects.{IsFull, Makes}
 use Rattle.tc_fixed.specs.declared.fixed.Fixed.{Fixed}
 use Rattle.tc_fixed.specs.Holding.{Means, SameShape, max_id_of, width_of}
@@ -54,13 +52,10 @@ module _ {S : Type 0} (s : Ghosts S) where
   pub refuses_up : (e e' : FixedEngine S) (a b : S) → Refuses s (Means s) e.fixed e'.fixed a b → SameShape e.fixed e'.fixed → Refuses s (Held s HoldsIds) e e' a b
   refuses_up e e' a b refuses same = ⊎_elim (λ spoiled. inl spoiled) (λ reads. inr (reads_up e e' a b reads same)) refuses
 
-  pub log_stays : (a b : S) → Others s (Only 0) a b → Stays s 2 a b
-  log_stays a b others = record { same = λ t. others.same t 2 (λ e. absurd (omega (arith, e))) }
-
   pub made_up : (change : Change) (step : Step) (done : Bool) (e e' : FixedEngine S) (a b : S) → Takes s step done e.fixed e'.fixed a b → ((m : Array) → Means s e.fixed a m → IsStep e.fixed change step m) → Makes s HoldsIds change done e e' a b
   made_up change step done e e' a b takes is_step = record {
     sound = takes.sound;
-    log = log_stays a b takes.others;
+    log = log_stays s a b takes.others;
     made = λ yes c h.
         let made = takes.made yes h.1.ids (means_of e a c h) in
         (as_contents e.fixed made.0, ap change h.1.is ∙ (is_step h.1.ids (means_of e a c h)).is ∙ ap (option_map (λ n. as_contents e.fixed n)) made.1, held_again e e' b made.0 takes.shape made.2);

@@ -1,29 +1,17 @@
 //! What an inspection tells of the file.
-ghost use Rattle.std.specs.Prelude.{◌≡◌, ◌≤◌, ◌++◌, List, ℕ, length, take, IfOk, OnOk, OnErr, IsErrOf};
+ghost use Rattle.std.specs.Prelude.{◌≡◌, ◌++◌, take, IfOk, OnOk, IsErrOf};
 ghost use Rattle.tc_io.specs.Causes.{Rose};
 ghost use Rattle.hf_head.specs.FixedHeads.{fixed_in};
-ghost use Rattle.tc_space.specs.Frames.{Keeps, OnlyReads};
+ghost use Rattle.tc_space.specs.Frames.{OnlyReads};
 ghost use Rattle.tc_fixed.specs.Standing.{HasHead};
 ghost use Rattle.ty_wire.specs.Prefixes.{IsPrefix};
-ghost use Rattle.tc_ids.specs.Holding.{line, lines_of};
+ghost use Rattle.tc_ids.specs.Holding.{lines_of};
 
 use hf_head::FixedHead;
-use itoa::Buffer;
 use std::alloc::AllocError;
 use tc_base::Blob;
+use tc_engine::add_line;
 use tc_space::{RecErr, Space};
-
-// Adds a line of a name and a number.
-fn add_line(name: &[u8], n: u64, into: &mut Blob) -> Result<(), AllocError>
-    ensures added { OnOk result (into.new ≡ into.old ++ line name.now n) }
-    ensures front { IsPrefix into.old into.new }
-{
-    let mut buffer = Buffer::new();
-    into.append(name)?;
-    into.append(buffer.format(n).as_bytes())?;
-    into.push(b'\n')?;
-    Ok(())
-}
 
 /// Adds the width, the greatest id held and the file size, a line each.
 pub(crate) fn add_lines(head: &FixedHead, into: &mut Blob) -> Result<(), AllocError>

@@ -10,7 +10,9 @@ mod numbers;
 mod opening;
 mod prefixes;
 mod reading;
+mod shape;
 mod storing;
 mod texts;
 
 pub use holding::FixedEngine;
+pub use shape::FixedShape;

@@ -7,6 +7,7 @@ use Rattle.tc_space.specs.declared.space.Space.{Ghosts}
 use Rattle.tc_model.specs.Contents.{Contents, Walk}
 use Rattle.tc_model.specs.Apply.{apply, applied, updates}
 use Rattle.tc_model.specs.Applying.{Applies}
+use Rattle.tc_model.specs.Packing.{is_optimize}
 use Rattle.tc_model.specs.declared.applied.Applied.{Applied}
 use Rattle.ty_base.specs.Holding.{Held, Leaves, Serves}
 use Rattle.ty_answers.specs.Engines.{engine_of}
@@ -33,11 +34,11 @@ module _ {S E : Type 0} (s : Ghosts S) (holds : E → Files → Contents → Typ
         });
       }
 
-  pub leaves : (r : Request) (done updating : Bool) (idle : Type 0) (e e' : E) (x y : S) (w w' : Walk) (old new : List ℕ) → updating ≡ updates r → (idle → (done && updating) ≡ false) → Steps s holds r done e e' x y w w' old new → Leaves s idle x y
+  pub leaves : (r : Request) (done updating : Bool) (idle : Type 0) (e e' : E) (x y : S) (w w' : Walk) (old new : List ℕ) → updating ≡ updates r → (idle → ((done && updating) ≡ false) × (is_optimize r ≡ false)) → Steps s holds r done e e' x y w w' old new → Leaves s idle x y
   leaves r done updating idle e e' x y w w' old new up quiet n = record {
     sound = n.sound;
     log = n.log;
-    reads = λ i. n.idle (sym (ap (λ u. done && u) up) ∙ quiet i);
+    reads = λ i. n.idle (sym (ap (λ u. done && u) up) ∙ (quiet i).0) (quiet i).1;
   }
 
   pub full_applies : (fills : S → Contents → Contents → Type 0) (r : Request) (w : Walk) (e : E) (x y : S) → IsFullStep s holds fills r w e x y → (c : Contents) → Held s holds e x c → fills y c (apply false r c w).contents

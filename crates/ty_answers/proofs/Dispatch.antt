@@ -5,11 +5,13 @@ use Rattle.tc_base.specs.Files.{Files}
 use Rattle.tc_base.specs.declared.request.Request.{Request}
 use Rattle.tc_base.specs.declared.request.Request.TheVariants.{AddDouble, AddInt, Copy, Ext, FwmKeys, Get, IterInit, IterNext, MGet, Misc, Optimize, Out, Put, PutCat, PutKeep, PutNr, PutShl, Repl, Restore, Rnum, SetMst, Size, Stat, Sync, Vanish, Vsiz}
 use Rattle.tc_base.specs.declared.request.Reply.{Reply}
+use Rattle.tc_base.specs.declared.request.Reply.TheVariants as answer
 use Rattle.tc_space.specs.declared.space.Space.{Ghosts}
 use Rattle.ty_wire.specs.Spelling.{reply_bytes}
 use Rattle.tc_model.specs.Contents.{Contents, Walk}
 use Rattle.tc_model.specs.Apply.{Effect, Step, applied, effect, fits, refusal_of, refused, took, updates}
-use Rattle.ty_answers.specs.Answers.{Answered, Answers, IsFullBy, contents_of}
+use Rattle.ty_base.specs.Holding.{Held}
+use Rattle.ty_answers.specs.Answers.{Answered, Answers, IsFullBy, contents_of, told_by}
 use Rattle.ty_answers.specs.Answers as answers
 use Rattle.ty_answers.specs.Steps.{Ends, IsFullStep, Steps}
 
@@ -64,6 +66,10 @@ plain_applied IterInit c w plain = absurd cc
 plain_applied IterNext c w plain = absurd cc
 plain_applied (Repl timestamp server) c w plain = absurd cc
 
+same_contents : (b : Bool) (c : Contents) → cond b c c ≡ c
+same_contents true c = refl
+same_contents false c = refl
+
 cond_contents : (b : Bool) (p q : Step) → (cond b p q).contents ≡ cond b p.contents q.contents
 cond_contents true p q = refl
 cond_contents false p q = refl
@@ -79,10 +85,22 @@ module _ {S E : Type 0} (s : Ghosts S) (holds : E → Files → Contents → Typ
     sound = n.sound;
     log = n.log;
     applied_is = λ c h. let x = n.answered c h in (x.0, x.1, subst (λ q. Ends q done x.0 w old new) (sym (plain_applied shape c w plain)) (took_ends shape (effect shape c) done c x.0 w old new (subst (λ q. Answered (effect shape c) q done c x.0 old new) refuses (subst (λ q. Answered q refusal done c x.0 old new) (same c) x.2))));
-    idle = λ i. n.idle (ap (λ q. done && q) up ∙ i);
+    idle = λ i plain. n.idle (ap (λ q. done && q) up ∙ i);
+  })
+
+  -- a packing, which may have written
+  pub packing_arm : (r : Request) (text : List ℕ) (done : Bool) (e e' : E) (a b : S) (w : Walk) (old new : List ℕ) → r ≡ Optimize text → Answers s holds (told_by (λ c. Some answer.Done)) answer.Fail true done e e' a b old new → Steps s holds r done e e' a b w w old new
+  packing_arm r text done e e' a b w old new is n = subst (λ q. Steps s holds q done e e' a b w w old new) (sym is) (record {
+    sound = n.sound;
+    log = n.log;
+    applied_is = λ c h. let x = n.answered c h in (x.0, x.1, took_ends (Optimize text) (effect (Optimize text) c) done c x.0 w old new x.2);
+    idle = λ i packs. absurd (let f : true ≡ false = packs in cc);
   })
 
   pub full_arm : (fills : S → Contents → Contents → Type 0) (r shape : Request) (shown : answers.Request) (e : E) (a b : S) (w : Walk) → r ≡ shape → is_plain shape ≡ true → ((c : Contents) → shown c ≡ effect shape c) → IsFullBy s holds fills shown e a b → IsFullStep s holds fills r w e a b
   full_arm fills r shape shown e a b w is plain same full = subst (λ q. IsFullStep s holds fills q w e a b) (sym is) (record {
     by = λ c h. subst (λ d. fills b c d) (ap (λ q. contents_of q c) (same c) ∙ (took_contents shape (effect shape c) c w ∙ ap (λ q. q.contents) (sym (plain_applied shape c w plain)))) (full.by c h);
   })
+
+  pub full_packing : (fills : S → Contents → Contents → Type 0) (r : Request) (text : List ℕ) (e : E) (a b : S) (w : Walk) → r ≡ Optimize text → ((c : Contents) → Held s holds e a c → fills b c c) → IsFullStep s holds fills r w e a b
+  full_packing fills r text e a b w is full = full_arm fills r (Optimize text) (told_by (λ c. Some answer.Done)) e a b w is refl (λ c. refl) (record { by = λ c h. subst (λ d. fills b c d) (sym (same_contents (fits answer.Done) c)) (full c h) })

@@ -7,6 +7,7 @@ use Rattle.tc_space.specs.declared.space.Space.{Ghosts}
 use Rattle.ty_wire.specs.Spelling.{reply_bytes}
 use Rattle.tc_model.specs.Contents.{Contents, Walk}
 use Rattle.tc_model.specs.Apply.{Step, applied, updates}
+use Rattle.tc_model.specs.Packing.{is_optimize}
 use Rattle.ty_base.specs.Holding.{Held, Stays}
 
 -- contents, walk, success and reply are those of the step
@@ -16,12 +17,12 @@ pub record Ends (step : Step) (done : Bool) (c : Contents) (w : Walk) (old new :
   pub ok : done ≡ step.ok
   pub bytes : new ≡ old ++ reply_bytes step.reply
 
--- the request was applied; where nothing was updated, nothing was written
+-- the request was applied; where nothing was updated, nothing was written but for a packing
 pub record Steps {S E : Type 0} (s : Ghosts S) (holds : E → Files → Contents → Type 0) (r : Request) (done : Bool) (e e' : E) (a b : S) (w w' : Walk) (old new : List ℕ) : Type 0 where
   pub sound : s.sound b
   pub log : Stays s 2 a b
   pub applied_is : (c : Contents) → Held s holds e a c → (d : Contents) × Held s holds e' b d × Ends (applied r c w) done d w' old new
-  pub idle : (done && updates r) ≡ false → OnlyReads s a b
+  pub idle : (done && updates r) ≡ false → is_optimize r ≡ false → OnlyReads s a b
 
 -- a limit is reached, as the space stands, between the contents and those that the request was to leave
 pub record IsFullStep {S E : Type 0} (s : Ghosts S) (holds : E → Files → Contents → Type 0) (fills : S → Contents → Contents → Type 0) (r : Request) (w : Walk) (e : E) (a b : S) : Type 0 where

@@ -1,14 +1,17 @@
 //! Requests that change contents in one call of the engine.
-ghost use Rattle.std.specs.Prelude.{◌≡◌, ◌++◌, true, false, List, ℕ, OnOk, OnErr, IfOk, IsErrOf};
+ghost use Rattle.std.specs.Prelude.{◌≡◌, ◌++◌, true, false, List, ℕ, Some, OnOk, OnErr, IfOk, IsErrOf};
 ghost use Rattle.tc_io.specs.Causes.{Rose};
 ghost use Rattle.tc_space.specs.Frames.{Keeps, Refuses};
 ghost use Rattle.ty_base.specs.Holding.{Held, IsReady};
 ghost use Rattle.ty_wire.specs.Prefixes.{IsPrefix};
 ghost use Rattle.tc_engine.specs.Changes.{all_cleared, all_gone, all_pushed, all_stored, pushed, stored, taken};
-ghost use Rattle.ty_answers.specs.Answers.{Answers, IsFullBy, changed_by, done_reply, fail_reply};
+ghost use Rattle.tc_base.specs.declared.request.Reply.TheVariants as answer;
+ghost use Rattle.tc_model.specs.Contents.{Contents};
+ghost use Rattle.ty_answers.specs.Answers.{Answers, IsFullBy, changed_by, done_reply, fail_reply, told_by};
 
+use crate::reads::done;
 use crate::voice::Voice;
-use tc_base::{Blob, Blobs, Key, Mode, Pairs};
+use tc_base::{Blob, Blobs, Form, Key, Mode, Pairs};
 use tc_engine::Engine;
 use tc_space::RecErr;
 
@@ -173,4 +176,28 @@ pub fn clear<E: Engine>(
     let done = engine.clear(space)?;
     voice.close(begin, done, reply)?;
     Ok(done)
+}
+
+/// Packs the files in the form that they have; the contents stay.
+pub fn optimize<E: Engine>(
+    engine: &mut E,
+    space: &mut E::S,
+    reply: &mut Blob,
+) -> Result<bool, RecErr>
+    requires { IsReady E.S.Space E.holds engine.old space.old }
+    ensures answers { IfOk result (λ done. Answers E.S.Space E.holds (told_by (λ c. Some answer.Done)) answer.Fail true done engine.old engine.new space.old space.new reply.old reply.new) }
+    ensures refused { OnErr result (Refuses E.S.Space (Held E.S.Space E.holds) engine.old engine.new space.old space.new) }
+    ensures front { IsPrefix reply.old reply.new }
+    ensures full { IsErrOf result RecErr.Full → (c : Contents) → Held E.S.Space E.holds engine.old space.old c → E.fills space.new c c }
+    ensures keeps { Keeps E.S.Space space.old space.new }
+    ensures cause { IsErrOf result RecErr.Fault → Rose (E.S.faults space.old) (E.S.faults space.new) }
+{
+    match done(reply) {
+        Ok(_) => {}
+        Err(e) => return Err(e),
+    }
+    match engine.pack(space, Form::Keep) {
+        Ok(()) => Ok(true),
+        Err(e) => Err(e),
+    }
 }

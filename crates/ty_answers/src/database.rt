@@ -10,7 +10,7 @@ ghost use Rattle.tc_model.specs.Contents.{Contents};
 ghost use Rattle.ty_answers.specs.Engines.{engine_of};
 ghost use Rattle.ty_answers.specs.Steps.{IsFullStep, Steps};
 
-use crate::changes::{clear, out, store};
+use crate::changes::{clear, optimize, out, store};
 use crate::failing::fail;
 use crate::misc::call;
 use crate::numbers::{add, shift};
@@ -89,7 +89,7 @@ fn serve<E: Engine>(
         Request::AddDouble { .. } => fail(plain, reply),
         Request::Ext { .. } => fail(plain, reply),
         Request::Sync => done(reply),
-        Request::Optimize { .. } => done(reply),
+        Request::Optimize { .. } => optimize(engine, space, reply),
         Request::Vanish => clear(engine, space, plain, reply),
         Request::Copy { .. } => fail(plain, reply),
         Request::Restore { .. } => fail(plain, reply),
@@ -163,12 +163,27 @@ impl<E: Engine> Base for Database<E> {
 }
 
 impl<E: Opens> ty_base::Opens for Database<E> {
+    type Shape = E::Shape;
+
+    ghost may_be = { E.may_be };
+
+    ghost anew = { E.anew };
+
+    ghost shaped = { E.shaped };
+
+    ghost lacks = { E.lacks };
+
     ghost breaks = { E.breaks };
 
     ghost unbroken = { E.unbroken };
 
     fn open(alloc: Global, kind: Kind, space: &mut E::S) -> Result<Database<E>, AnyErr> {
         let engine = E::open(alloc, kind, space)?;
+        Ok(Database { alloc, engine })
+    }
+
+    fn create(alloc: Global, shape: &E::Shape, space: &mut E::S) -> Result<Database<E>, AnyErr> {
+        let engine = E::create(alloc, shape, space)?;
         Ok(Database { alloc, engine })
     }
 }

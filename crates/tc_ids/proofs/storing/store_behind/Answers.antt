@@ -2,7 +2,8 @@ use Rattle.std.proofs.Common.{◌∙◌}
 use Rattle.tc_space.specs.Stores.{ready_reads}
 use Rattle.tc_space.specs.declared.errors.RecErr.TheVariants.{Full}
 use Rattle.tc_fixed.specs.Holding.{Means}
-use Rattle.tc_ids.proofs.Stored.{same_refusal, behind_takes, behind_full}
+use Rattle.ty_base.proofs.Refusals.{same_refusal}
+use Rattle.tc_ids.proofs.Stored.{behind_takes, behind_full}
 use Rattle.tc_ids.proofs.storing.store_behind.Goals as goal
 
 pub put_cut-requires-clause-ready : goal.put_cut-requires-clause-ready

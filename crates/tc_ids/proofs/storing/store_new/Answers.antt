@@ -2,7 +2,8 @@ use Rattle.std.proofs.Common.{◌∙◌, sym}
 use Rattle.tc_space.specs.Stores.{ready_reads}
 use Rattle.tc_space.specs.declared.errors.RecErr.TheVariants.{Full}
 use Rattle.tc_fixed.specs.Holding.{Means}
-use Rattle.tc_ids.proofs.Stored.{same_refusal, new_takes, new_full}
+use Rattle.ty_base.proofs.Refusals.{same_refusal}
+use Rattle.tc_ids.proofs.Stored.{new_takes, new_full}
 use Rattle.tc_ids.proofs.storing.store_new.Goals as goal
 
 pub put_cut-requires-clause-ready : goal.put_cut-requires-clause-ready

@@ -1,7 +1,7 @@
 use Rattle.std.proofs.Common.{◌∙◌, ap, length, subst, sym}
 use Rattle.hf_head.specs.declared.fixed.FixedHead.{FixedHead}
 use Rattle.hf_head.specs.FixedHeads.{fixed_spelled, SpellsFixed}
-use Rattle.tc_fixed.proofs.Changed.{create_holds, create_stands}
+use Rattle.tc_fixed.proofs.Changed.{create_head, create_holds, create_stands}
 use Rattle.tc_fixed.proofs.fixed.Fixed.create.Goals as goal
 
 pub returns-in-Ok-clause-created : goal.returns-in-Ok-clause-created
@@ -21,3 +21,9 @@ returns-in-Ok-clause-stands g c = λ t. create_stands c.args.width c.args.limit 
     (c.requires.width.0, c.requires.width.1, c.requires.limit.0, c.requires.limit.1) c.none-tally.ensures.greatest c.none-tally.ensures.counts (c.requires.empty t) (c.in-Ok.ensures.wrote t).here
     (c.spelling.ensures.bytes ∙ ap (λ (h : FixedHead). fixed_spelled h) c.head_now-head.ensures) (ap (λ (h : FixedHead). length (fixed_spelled h)) (sym c.head_now-head.ensures) ∙ c.spelling.ensures.long)
     (subst (λ (h : FixedHead). SpellsFixed h (fixed_spelled h)) c.head_now-head.ensures c.spelling.ensures.spells)
+
+pub returns-in-Ok-clause-head : goal.returns-in-Ok-clause-head
+returns-in-Ok-clause-head g c = λ t. create_head c.args.width c.args.limit c.none-tally.result c.spelling.result (g.S.Space.now c.args.space.now 0) (g.S.Space.now c.write_at.new.space 0)
+    (c.requires.width.0, c.requires.width.1, c.requires.limit.0, c.requires.limit.1) c.none-tally.ensures.greatest c.none-tally.ensures.counts (c.requires.empty t) (c.in-Ok.ensures.wrote t).here
+    (c.spelling.ensures.bytes ∙ ap (λ (h : FixedHead). fixed_spelled h) c.head_now-head.ensures) (ap (λ (h : FixedHead). length (fixed_spelled h)) (sym c.head_now-head.ensures) ∙ c.spelling.ensures.long)
+    (subst (λ (h : FixedHead). SpellsFixed h (fixed_spelled h)) c.head_now-head.ensures c.spelling.ensures.spells) c.none-tally.ensures.none.0 c.none-tally.ensures.none.1

@@ -1,7 +1,7 @@
 use Rattle.tc_space.specs.declared.errors.RecErr.TheVariants.{Full}
 use Rattle.tc_hashdb.specs.Lifting.{ready_down}
 use Rattle.tc_hashdb.proofs.Asked.{clear_all_full, clears_all}
-use Rattle.tc_hashdb.proofs.Stored.{same_refusal}
+use Rattle.ty_base.proofs.Refusals.{same_refusal}
 use Rattle.tc_hashdb.proofs.engine.HashEngineEngine.clear_all.Goals as goal
 
 pub drop_each-requires : goal.drop_each-requires

@@ -1,7 +1,7 @@
 use Rattle.tc_space.specs.declared.errors.RecErr.TheVariants.{Full}
 use Rattle.tc_hashdb.specs.Lifting.{ready_down, refuses_up}
 use Rattle.tc_hashdb.proofs.Asked.{store_full, stores}
-use Rattle.tc_hashdb.proofs.Stored.{same_refusal}
+use Rattle.ty_base.proofs.Refusals.{same_refusal}
 use Rattle.tc_hashdb.proofs.engine.HashEngineEngine.store.Goals as goal
 
 pub store_at-requires : goal.store_at-requires

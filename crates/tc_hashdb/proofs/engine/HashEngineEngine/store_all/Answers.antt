@@ -1,7 +1,7 @@
 use Rattle.tc_space.specs.declared.errors.RecErr.TheVariants.{Full}
 use Rattle.tc_hashdb.specs.Lifting.{ready_down, refuses_up}
 use Rattle.tc_hashdb.proofs.Asked.{store_all_full, stores_all, stores_none}
-use Rattle.tc_hashdb.proofs.Stored.{same_refusal}
+use Rattle.ty_base.proofs.Refusals.{same_refusal}
 use Rattle.tc_hashdb.proofs.engine.HashEngineEngine.store_all.Goals as goal
 
 pub returns-then-not-are_short-clause-makes : goal.returns-then-not-are_short-clause-makes

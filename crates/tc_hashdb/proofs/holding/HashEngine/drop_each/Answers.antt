@@ -3,7 +3,7 @@ use Rattle.tc_space.specs.Stores.{Only, ready_writes}
 use Rattle.tc_space.specs.declared.errors.RecErr.TheVariants.{Full}
 use Rattle.tc_hashdb.specs.Holding.{Means}
 use Rattle.tc_hashdb.proofs.Dropped.{fills_dropped, out_more}
-use Rattle.tc_hashdb.proofs.Stored.{same_refusal}
+use Rattle.ty_base.proofs.Refusals.{same_refusal}
 use Rattle.tc_hashdb.proofs.holding.HashEngine.drop_each.Goals as goal
 
 pub drop_key-requires : goal.drop_key-requires

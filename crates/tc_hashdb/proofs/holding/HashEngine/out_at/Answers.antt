@@ -3,7 +3,8 @@ use Rattle.tc_space.specs.Stores.{ready_reads}
 use Rattle.tc_space.specs.declared.errors.RecErr.TheVariants.{Full}
 use Rattle.tc_model.specs.Maps.{without}
 use Rattle.tc_hashdb.specs.Holding.{Means}
-use Rattle.tc_hashdb.proofs.Stored.{lacks_after, same_refusal, takes_after}
+use Rattle.ty_base.proofs.Refusals.{same_refusal}
+use Rattle.tc_hashdb.proofs.Stored.{lacks_after, takes_after}
 use Rattle.tc_hashdb.proofs.holding.HashEngine.out_at.Goals as goal
 
 pub take_key-requires-clause-ready : goal.take_key-requires-clause-ready

@@ -1,7 +1,7 @@
 use Rattle.std.proofs.Common.{sym}
 use Rattle.tc_space.specs.declared.errors.RecErr.TheVariants.{Full}
 use Rattle.tc_hashdb.proofs.Setting.{full_last, rising_seen, writes_last}
-use Rattle.tc_hashdb.proofs.Stored.{same_refusal}
+use Rattle.ty_base.proofs.Refusals.{same_refusal}
 use Rattle.tc_hashdb.proofs.holding.HashEngine.set_all.Goals as goal
 
 pub returns-in-Ok-set_entries-clause-set : goal.returns-in-Ok-set_entries-clause-set

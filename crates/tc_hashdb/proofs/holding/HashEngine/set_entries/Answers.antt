@@ -5,7 +5,7 @@ use Rattle.tc_base.specs.Orders.{lexical}
 use Rattle.tc_maps.specs.Sizes.{entries_on}
 use Rattle.tc_space.specs.declared.errors.RecErr.TheVariants.{Full}
 use Rattle.tc_hashdb.proofs.Setting.{set_end, set_full, set_more, set_ready, set_start}
-use Rattle.tc_hashdb.proofs.Stored.{same_refusal}
+use Rattle.ty_base.proofs.Refusals.{same_refusal}
 use Rattle.tc_hashdb.proofs.holding.HashEngine.set_entries.Goals as goal
 
 pub set_value-requires : goal.set_value-requires

@@ -5,7 +5,8 @@ use Rattle.tc_space.specs.Frames.{refuses_then}
 use Rattle.tc_space.specs.Stores.{ready_reads}
 use Rattle.tc_space.specs.declared.errors.RecErr.TheVariants.{Full}
 use Rattle.tc_hashdb.specs.Holding.{Means}
-use Rattle.tc_hashdb.proofs.Stored.{lacks_stored, same_refusal, takes_stored}
+use Rattle.ty_base.proofs.Refusals.{same_refusal}
+use Rattle.tc_hashdb.proofs.Stored.{lacks_stored, takes_stored}
 use Rattle.tc_hashdb.proofs.holding.HashEngine.store_at.Goals.{else-eq-via-then-eq+else-is_some, else-eq-via-else-eq}
 use Rattle.tc_hashdb.proofs.holding.HashEngine.store_at.Goals as goal
 

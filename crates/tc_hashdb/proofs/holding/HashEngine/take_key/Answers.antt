@@ -1,7 +1,8 @@
 use Rattle.std.proofs.Common.{refl}
 use Rattle.tc_space.specs.declared.errors.RecErr.TheVariants.{Full}
 use Rattle.tc_hashdb.proofs.Kept.{ready_hash}
-use Rattle.tc_hashdb.proofs.Stored.{lacks_out, same_refusal, takes_out}
+use Rattle.ty_base.proofs.Refusals.{same_refusal}
+use Rattle.tc_hashdb.proofs.Stored.{lacks_out, takes_out}
 use Rattle.tc_hashdb.proofs.holding.HashEngine.take_key.Goals as goal
 
 pub out-requires : goal.out-requires

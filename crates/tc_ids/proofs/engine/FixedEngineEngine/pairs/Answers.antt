@@ -1,4 +1,4 @@
-use Rattle.std.proofs.Common.{List, ℕ, refl, subst}
+use Rattle.std.proofs.Common.{List, ℕ, subst}
 use Rattle.tc_engine.specs.Rows.{Adds, adds_nothing}
 use Rattle.tc_ids.proofs.Asked.{items_none, items_of}
 use Rattle.tc_ids.proofs.engine.FixedEngineEngine.pairs.Goals as goal

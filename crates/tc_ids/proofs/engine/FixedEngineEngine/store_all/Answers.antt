@@ -1,6 +1,6 @@
 use Rattle.tc_space.specs.declared.errors.RecErr.TheVariants.{Full}
 use Rattle.tc_ids.specs.Lifting.{ready_down}
-use Rattle.tc_ids.proofs.Stored.{same_refusal}
+use Rattle.ty_base.proofs.Refusals.{same_refusal}
 use Rattle.tc_ids.proofs.Whole.{store_all_full, stores_all, stores_none}
 use Rattle.tc_ids.proofs.engine.FixedEngineEngine.store_all.Goals as goal
 

@@ -1,8 +1,8 @@
 use Rattle.std.specs.Prelude.{take}
 use Rattle.tc_space.specs.Frames.{Keeps, Writes}
 use Rattle.tc_space.specs.Stores.{Only}
-use Rattle.tc_fixed.specs.Holding.{Means, SameShape, max_id_of, width_of}
-use Rattle.tc_ids.specs.Changing.{all_out, all_set}
+use Rattle.tc_fixed.specs.Holding.{Means, SameShape, max_id_of}
+use Rattle.tc_ids.specs.Changing.{all_out}
 use Rattle.tc_ids.proofs.holding.FixedEngine.out_each.Given as goal
 
 abbrev pub invariant-loop-key : goal.invariant-loop-key

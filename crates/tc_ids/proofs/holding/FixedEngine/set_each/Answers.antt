@@ -3,7 +3,8 @@ use Rattle.tc_space.specs.Stores.{Only, ready_writes}
 use Rattle.tc_space.specs.declared.errors.RecErr.TheVariants.{Full}
 use Rattle.tc_fixed.specs.Holding.{Means}
 use Rattle.tc_ids.proofs.Several.{set_full, set_more}
-use Rattle.tc_ids.proofs.Stored.{same_refusal, shapes}
+use Rattle.ty_base.proofs.Refusals.{same_refusal}
+use Rattle.tc_ids.proofs.Stored.{shapes}
 use Rattle.tc_ids.proofs.holding.FixedEngine.set_each.Goals as goal
 
 pub set_named-requires : goal.set_named-requires

@@ -2,7 +2,7 @@ use Rattle.std.specs.Prelude.{take}
 use Rattle.tc_space.specs.Frames.{Keeps, Writes}
 use Rattle.tc_space.specs.Stores.{Only}
 use Rattle.tc_fixed.specs.Holding.{Means, SameShape, max_id_of, width_of}
-use Rattle.tc_ids.specs.Changing.{all_out, all_set}
+use Rattle.tc_ids.specs.Changing.{all_set}
 use Rattle.tc_ids.proofs.holding.FixedEngine.set_each.Given as goal
 
 abbrev pub invariant-loop-pair : goal.invariant-loop-pair

@@ -4,7 +4,8 @@ use Rattle.tc_model.specs.Arrays.{greatest, id_of}
 use Rattle.tc_fixed.specs.Cells.{end_of}
 use Rattle.tc_fixed.specs.Holding.{HasNoRoom, max_id_of, width_of}
 use Rattle.tc_ids.specs.Changing.{set_at}
-use Rattle.tc_ids.proofs.Stored.{cause_is, named_full, same_refusal}
+use Rattle.ty_base.proofs.Refusals.{cause_is, same_refusal}
+use Rattle.tc_ids.proofs.Stored.{named_full}
 use Rattle.tc_ids.proofs.holding.FixedEngine.set_named.Goals as goal
 
 pub returns-in-Err-clause-full : goal.returns-in-Err-clause-full

@@ -1,22 +1,31 @@
-use Rattle.std.proofs.Common.{rules, ◌≡◌, ◌∙◌, sym, ap, arith}
-use Rattle.std.specs.Prelude.{Err}
+use Rattle.std.proofs.Common.{rules, ◌≡◌, ◌∙◌, sym, arith}
 use Rattle.tc_base.specs.declared.kind.Kind.TheVariants as kinds
-use Rattle.tc_ids.specs.Holding.{made_anew}
-use Rattle.tc_ids.proofs.Made.{full_of, made_full, made_opened, made_opens, main_opened, main_opens}
+use Rattle.ty_base.proofs.Refusals.{breaks_none, no_bytes}
+use Rattle.tc_ids.specs.Shapes.{anew, usual}
+use Rattle.tc_ids.proofs.Made.{made_full, made_opened, made_opens, main_opened, main_opens}
 use Rattle.tc_ids.proofs.opening.FixedEngineOpens.open.Goals as goal
 
 pub returns-in-Ok-clause-stands : goal.returns-in-Ok-clause-stands
 returns-in-Ok-clause-stands g c = λ t.
     let is : kinds.Fixed ≡ c.args.kind = search (rules, c.ne.ensures, c.if-ne.false) in
-    (made_anew, made_opens c.args.kind (g.S.Space.now c.args.space.now) is (sym (c.len.ensures t) ∙ c.if-len-eq0.true))
+    (anew usual, made_opens c.args.kind (g.S.Space.now c.args.space.now) is (sym (c.len.ensures t) ∙ c.if-len-eq0.true))
 
 pub returns-in-Ok-clause-opened : goal.returns-in-Ok-clause-opened
-returns-in-Ok-clause-opened g c = λ t. made_opened g.S.Space _ c.args.kind c.args.space.now c.create.new.space (sym (c.len.ensures t) ∙ c.if-len-eq0.true) c.in-Ok.ensures.shape.0 c.in-Ok.ensures.shape.1 (c.in-Ok.ensures.created.2 t) (c.in-Ok.ensures.stands t)
+returns-in-Ok-clause-opened g c = λ t. made_opened g.S.Space _ c.args.kind c.args.space.now c.create.new.space (sym (c.len.ensures t) ∙ c.if-len-eq0.true) (c.in-Ok.ensures.created t)
+
+pub returns-in-Ok-clause-reads : goal.returns-in-Ok-clause-reads
+returns-in-Ok-clause-reads g c = λ t some. absurd (some (no_bytes (g.S.Space.now c.args.space.now 0) (sym (c.len.ensures t) ∙ c.if-len-eq0.true)))
+
+pub returns-in-Err-clause-broken : goal.returns-in-Err-clause-broken
+returns-in-Err-clause-broken g c = breaks_none c.in-Err.e _ c.in-Err.ensures.unbroken
+
+pub returns-in-Err-clause-reads : goal.returns-in-Err-clause-reads
+returns-in-Err-clause-reads g c = λ t some. absurd (some (no_bytes (g.S.Space.now c.args.space.now 0) (sym (c.len.ensures t) ∙ c.if-len-eq0.true)))
 
 pub returns-in-Err-clause-full : goal.returns-in-Err-clause-full
 returns-in-Err-clause-full g c = λ full t.
     let is : kinds.Fixed ≡ c.args.kind = search (rules, c.ne.ensures, c.if-ne.false) in
-    (made_anew, made_opens c.args.kind (g.S.Space.now c.args.space.now) is (sym (c.len.ensures t) ∙ c.if-len-eq0.true), made_full g.S.Space c.create.new.space (c.in-Err.ensures.full (ap (λ e. Err e) (full_of c.in-Err.e c.from.result c.from.ensures full)) t))
+    (anew usual, made_opens c.args.kind (g.S.Space.now c.args.space.now) is (sym (c.len.ensures t) ∙ c.if-len-eq0.true), made_full g.S.Space c.create.new.space (c.in-Err.ensures.full full t))
 
 pub returns-in-Ok-open-clause-stands : goal.returns-in-Ok-open-clause-stands
 returns-in-Ok-open-clause-stands g c = λ t.

@@ -17,4 +17,4 @@ returns-clause-applied g c =
 pub returns-clause-leaves : goal.returns-clause-leaves
 returns-clause-leaves g c =
     leaves g.E.S.Space g.E.Engine.holds c.args.request c.in-Ok.ok c.is_updating-updating.result _ c.args.self.now.engine c.serve.new.engine c.args.space.now c.serve.new.space c.args.walk.now c.serve.new.walk c.args.reply.now c.serve.new.reply
-    (updates_is c.is_updating-updating.result c.args.request (λ t. c.is_updating-updating.ensures.0 t) (λ u. c.is_updating-updating.ensures.1 u)) (λ i. i.0) c.in-Ok.ensures.steps
+    (updates_is c.is_updating-updating.result c.args.request (λ t. c.is_updating-updating.ensures.0 t) (λ u. c.is_updating-updating.ensures.1 u)) (λ i. i) c.in-Ok.ensures.steps
