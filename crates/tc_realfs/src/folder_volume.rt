@@ -52,7 +52,7 @@ fn open_all<R: Files<File = File>>(rt: &R, alloc: Global, name: &str) -> io::Res
     let mut files = Vec::with_capacity(alloc, 19)?;
     for file in 0..19u32 {
         let path = path_of(alloc, name, file)?;
-        files.push(RealFile::open(rt, path, file <= 1)?)?;
+        files.push(RealFile::open(rt, alloc, path, file <= 1)?)?;
     }
     Ok(files)
 }

@@ -3,6 +3,8 @@
 
 mod folder_volume;
 mod names;
+mod paged;
+mod pages;
 mod real_file;
 
 pub use folder_volume::FolderVolume;

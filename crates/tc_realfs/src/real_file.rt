@@ -1,13 +1,12 @@
 //! One file of a folder, which may be absent.
 
+use crate::paged;
+use crate::pages::Pages;
+use std::alloc::Global;
 use std::fs::{File, OpenOptions};
 use std::io;
 use std::io::ErrorKind;
-use std::os::unix::fs::FileExt;
 use std::rt::Files;
-
-// So much is read by one call of the system where less is asked for.
-const AHEAD: usize = 512;
 
 /// A file that this process alone changes: an absent one is empty, and is made at its first write, where nobody else has made it by then.
 ///
@@ -23,10 +22,7 @@ pub struct RealFile {
     // whether its folder was synced since it was opened or made
     is_placed: bool,
     is_lost: bool,
-    // the bytes of the file from `from` to `until`
-    ahead: [u8; AHEAD],
-    from: u64,
-    until: u64,
+    pages: Pages,
 }
 
 fn outside() -> io::Error {
@@ -45,6 +41,7 @@ impl RealFile {
     /// Opens a file where it is there, with a lock on it where one is wanted.
     pub fn open<R: Files<File = File>>(
         rt: &R,
+        alloc: Global,
         path: String,
         is_locked: bool,
     ) -> io::Result<RealFile> {
@@ -69,9 +66,7 @@ impl RealFile {
             len,
             is_placed: false,
             is_lost: false,
-            ahead: [0; AHEAD],
-            from: 0,
-            until: 0,
+            pages: Pages::new(alloc),
         })
     }
 
@@ -79,7 +74,7 @@ impl RealFile {
         self.len
     }
 
-    /// Fills bytes from a place on, by one call of the system or none.
+    /// Fills bytes from a place on. Less than a page is read of the pages that it lies in.
     pub fn read(&mut self, at: u64, into: &mut [u8]) -> io::Result<()> {
         let Some(end) = at.checked_add(into.len() as u64) else {
             return Err(outside());
@@ -90,28 +85,7 @@ impl RealFile {
         let Some(file) = &self.handle else {
             return Ok(());
         };
-        if into.len() >= AHEAD {
-            return file.read_exact_at(into, at);
-        }
-        if at < self.from || end > self.until {
-            let more = (self.len - at).min(AHEAD as u64);
-            self.until = self.from;
-            let Some(room) = self.ahead.get_mut(..more as usize) else {
-                return Err(outside());
-            };
-            file.read_exact_at(room, at)?;
-            self.from = at;
-            self.until = at + more;
-        }
-        let skip = (at - self.from) as usize;
-        let Some(found) = self.ahead.get(skip..) else {
-            return Err(outside());
-        };
-        let Some(found) = found.get(..into.len()) else {
-            return Err(outside());
-        };
-        into.copy_from_slice(found);
-        Ok(())
+        paged::read(&mut self.pages, file, self.len, at, into)
     }
 
     // Makes it where it is absent.
@@ -138,13 +112,6 @@ impl RealFile {
         }
     }
 
-    // Forgets what was read ahead where a change from one place to another touches it.
-    fn forget(&mut self, from: u64, until: u64) {
-        if from < self.until && self.from < until {
-            self.until = self.from;
-        }
-    }
-
     /// Writes all the bytes from a place on.
     pub fn write<R: Files<File = File>>(
         &mut self,
@@ -162,11 +129,10 @@ impl RealFile {
             return Ok(());
         }
         self.make(rt)?;
-        self.forget(at, end);
         let Some(file) = &self.handle else {
             return Err(outside());
         };
-        match file.write_all_at(bytes, at) {
+        match paged::write(&mut self.pages, file, at, bytes) {
             Ok(()) => {
                 self.len = self.len.max(end);
                 Ok(())
@@ -186,14 +152,12 @@ impl RealFile {
         let Some(file) = &self.handle else {
             return Ok(());
         };
-        match file.set_len(len) {
+        match paged::cut(&mut self.pages, file, len, self.len) {
             Ok(()) => {
                 self.len = len;
-                self.forget(len, u64::MAX);
                 Ok(())
             }
             Err(e) => {
-                self.forget(len, u64::MAX);
                 self.ask();
                 Err(e)
             }

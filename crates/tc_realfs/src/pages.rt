@@ -1,0 +1,252 @@
+//! Pages of a file that were read, kept in memory.
+ghost use Rattle.std.specs.Prelude.{◌≡◌, ℕ, ◌+◌, ◌*◌, ◌%◌, ◌^◌, ◌<◌, ◌≤◌, List, [], length, take, drop, IfSome, IsTrue};
+ghost use Rattle.tc_base.specs.Files.{wrote};
+ghost use Rattle.tc_realfs.specs.Changes.{PutsOver, SameOutside};
+
+use std::alloc::{AllocError, Global};
+use std::mem::replace;
+
+/// How many bytes a page has.
+pub const PAGE: u64 = 4096;
+
+// A page stands in the slot of its number modulo this.
+const SLOTS: u64 = 16_384;
+
+// Where a place of the file lies: so many bytes behind the start of the page that is in this slot in this turn.
+#[derive(Clone, Copy)]
+struct Spot {
+    slot: usize,
+    turn: u64,
+    skip: usize,
+}
+
+impl Spot {
+    ghost use Rattle.tc_realfs.specs.Paging.{IsSpot};
+
+    fn of(at: u64) -> Spot
+        ensures { IsSpot result at }
+    {
+        let number = at / PAGE;
+        Spot {
+            slot: (number % SLOTS) as usize,
+            turn: number / SLOTS,
+            skip: (at % PAGE) as usize,
+        }
+    }
+}
+
+// The bytes of one of the pages that share a slot, as many of them as the file had when they were read. Without bytes it is absent.
+#[derive(Drop)]
+struct Page {
+    turn: u64,
+    bytes: Vec<u8>,
+    ghost short: { length bytes.items ≤ 4096 },
+}
+
+// Puts bytes over others from a place on.
+fn put_at(into: &mut [u8], at: usize, bytes: &[u8])
+    requires { at + length bytes.now ≤ length into.old }
+    ensures { into.new ≡ wrote at bytes.now into.old }
+{
+    into[at..at + bytes.len()].copy_from_slice(bytes);
+}
+
+// Puts bytes over others from a place on, and behind them. None are left where the two would not meet, or where memory is wanting.
+fn put_over(into: &mut Vec<u8>, at: usize, bytes: &[u8])
+    ensures { PutsOver at bytes.now into.old.items into.new.items }
+{
+    let len = into.len();
+    if len == 0 || len < at {
+        into.clear();
+        return;
+    }
+    let (over, more) = bytes.split_at(bytes.len().min(len - at));
+    let Ok(()) = into.extend_from_slice(more) else {
+        into.clear();
+        return;
+    };
+    put_at(into, at, over);
+}
+
+impl Page {
+    ghost use Rattle.tc_realfs.specs.Paging.{IsLeft, IsPut};
+
+    fn absent(alloc: Global) -> Page
+        ensures { result.bytes.items ≡ [] }
+    {
+        Page {
+            turn: 0,
+            bytes: Vec::new(alloc),
+        }
+    }
+
+    // Fills bytes with those from a place in the page on. Answers whether they are there.
+    fn copy(&self, skip: usize, into: &mut [u8]) -> bool
+        ensures inside { IsTrue result → skip + length into.old ≤ length self.now.bytes.items }
+        ensures bytes { IsTrue result → into.new ≡ take (length into.old) (drop skip self.now.bytes.items) }
+    {
+        let Some(found) = self.bytes.get(skip..) else {
+            return false;
+        };
+        let Some(found) = found.get(..into.len()) else {
+            return false;
+        };
+        into.copy_from_slice(found);
+        true
+    }
+
+    // Puts bytes over those from a place on, if it is the page of that turn.
+    fn put(&mut self, turn: u64, skip: usize, bytes: &[u8])
+        requires inside { skip + length bytes.now ≤ 4096 }
+        ensures { IsPut turn skip bytes.now self.old self.new }
+    {
+        if self.turn == turn {
+            put_over(&mut self.bytes, skip, bytes);
+        }
+    }
+
+    // Lets go of its bytes, if it is the page of that turn.
+    fn let_go(&mut self, turn: u64)
+        ensures left { IsLeft self.old self.new }
+        ensures gone { self.old.turn ≡ turn → self.new.bytes.items ≡ [] }
+    {
+        if self.turn == turn {
+            self.bytes.clear();
+        }
+    }
+
+    // Gives its bytes away.
+    fn take(&mut self, alloc: Global) -> Vec<u8>
+        ensures { IsLeft self.old self.new }
+    {
+        replace(&mut self.bytes, Vec::new(alloc))
+    }
+}
+
+/// Pages of a file that were read, at most 64 MiB of them. Each takes memory once it is read.
+#[derive(Drop)]
+pub struct Pages {
+    alloc: Global,
+    slots: Vec<Page>,
+    ghost few: { length slots.items ≤ 16384 },
+}
+
+impl Pages {
+    ghost use Rattle.tc_realfs.specs.Paging.{Lacks, Shows};
+
+    /// No pages, which takes no memory.
+    pub fn new(alloc: Global) -> Pages
+        ensures { (file : List ℕ) → Shows result file }
+    {
+        Pages {
+            alloc,
+            slots: Vec::new(alloc),
+        }
+    }
+
+    /// Fills bytes with those from a place on. Answers whether they are there, all in one page.
+    pub fn copy(&self, at: u64, into: &mut [u8]) -> bool
+        ensures { IsTrue result → (file : List ℕ) → Shows self.now file → into.new ≡ take (length into.old) (drop at file) }
+    {
+        let spot = Spot::of(at);
+        let Some(page) = self.slots.get(spot.slot) else {
+            return false;
+        };
+        page.turn == spot.turn && page.copy(spot.skip, into)
+    }
+
+    // Makes a slot where it isn't there.
+    fn make_slot(&mut self, slot: usize) -> Result<(), AllocError>
+        requires { slot < 16384 }
+        ensures { (file : List ℕ) → Shows self.old file → Shows self.new file }
+    {
+        while self.slots.len() <= slot {
+            self.slots.push(Page::absent(self.alloc))?;
+        }
+        Ok(())
+    }
+
+    /// So many bytes, whatever they are, to be filled with those of a page. None where memory is wanting.
+    pub fn room(&mut self, number: u64, count: usize) -> Option<Vec<u8>>
+        ensures long { IfSome result (λ room. length room.items ≡ count) }
+        ensures shows { (file : List ℕ) → Shows self.old file → Shows self.new file }
+    {
+        let slot = (number % SLOTS) as usize;
+        self.make_slot(slot).ok()?;
+        let page = self.slots.get_mut(slot)?;
+        let mut room = page.take(self.alloc);
+        // a page that grows later takes no more
+        let more = (PAGE as usize).saturating_sub(room.len());
+        room.reserve_exact(more).ok()?;
+        room.resize(count, 0).ok()?;
+        Some(room)
+    }
+
+    /// Keeps the bytes of a page.
+    pub fn fill(&mut self, number: u64, bytes: Vec<u8>)
+        requires short { length bytes.items ≤ 4096 }
+        ensures { (file : List ℕ) → bytes.items ≡ take (length bytes.items) (drop (number * 4096) file) → Shows self.old file → Shows self.new file }
+    {
+        let slot = (number % SLOTS) as usize;
+        let Some(page) = self.slots.get_mut(slot) else {
+            return;
+        };
+        *page = Page {
+            turn: number / SLOTS,
+            bytes,
+        };
+    }
+
+    // Brings in what was written from a place on in one page.
+    fn put_part(&mut self, at: u64, bytes: &[u8])
+        requires inside { at % 4096 + length bytes.now ≤ 4096 }
+        ensures { (file : List ℕ) → at ≤ length file → Shows self.old file → Shows self.new (wrote at bytes.now file) }
+    {
+        let spot = Spot::of(at);
+        let Some(page) = self.slots.get_mut(spot.slot) else {
+            return;
+        };
+        page.put(spot.turn, spot.skip, bytes);
+    }
+
+    /// Brings in what was written from a place on.
+    pub fn put(&mut self, at: u64, bytes: &[u8])
+        requires inside { at + length bytes.now < 2 ^ 64 }
+        ensures { (file : List ℕ) → at ≤ length file → Shows self.old file → Shows self.new (wrote at bytes.now file) }
+    {
+        let mut done = 0;
+        while done < bytes.len() {
+            let from = at + done as u64;
+            let here = (bytes.len() - done).min((PAGE - from % PAGE) as usize);
+            self.put_part(from, &bytes[done..done + here]);
+            done += here;
+        }
+    }
+
+    // Lets go of a page.
+    fn let_go(&mut self, number: u64)
+        ensures shows { (file : List ℕ) → Shows self.old file → Shows self.new file }
+        ensures gone { Lacks number self.new }
+        ensures still { (other : ℕ) → Lacks other self.old → Lacks other self.new }
+    {
+        let Some(page) = self.slots.get_mut((number % SLOTS) as usize) else {
+            return;
+        };
+        page.let_go(number / SLOTS);
+    }
+
+    /// Lets go of what lies from one place to another, and of all where that is longer than all.
+    pub fn forget(&mut self, from: u64, until: u64)
+        ensures { (old new : List ℕ) → SameOutside from until old new → Shows self.old old → Shows self.new new }
+    {
+        let first = from / PAGE;
+        let end = until.div_ceil(PAGE);
+        if end.saturating_sub(first) > self.slots.len() as u64 {
+            self.slots.clear();
+            return;
+        }
+        for number in first..end {
+            self.let_go(number);
+        }
+    }
+}
