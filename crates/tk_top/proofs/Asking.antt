@@ -1,29 +1,39 @@
 -- A run of what is asked for.
-use Rattle.std.proofs.Common.{◌≡◌, inl, inr, ℕ, List, refl, sym, subst, ◌∙◌}
+use Rattle.std.proofs.Common.{◌≡◌, inl, inr, ℕ, List, [], refl, sym, subst, ◌∙◌}
 use Rattle.std.specs.Prelude.{Option, Some, None}
+use Rattle.tc_io.specs.declared.sink.Sink as sink
 use Rattle.tc_io.specs.declared.volume.Volume as volume
 use Rattle.tc_io.specs.declared.wire.At.{At}
 use Rattle.tc_io.specs.declared.wire.Wire as wire
 use Rattle.ty_rounds.proofs.Telling.{Adds-none}
 use Rattle.tk_top.specs.declared.ends.End.{End}
 use Rattle.tk_top.specs.declared.ends.End.TheVariants.{Words, NoMemory}
-use Rattle.tk_top.specs.Causes.{Caused}
 use Rattle.tk_top.specs.Over.{BreaksAt, Judged, StandsFor}
-use Rattle.tk_top.specs.Stored.{breaks_of, reopens_of}
-use Rattle.tk_top.specs.Top.{FileRun, IsServing, Opens, RunsAsked, SourceRun}
+use Rattle.tk_top.specs.Making.{JudgedMaking, MainIsEmpty, MainIsThere}
+use Rattle.tk_top.specs.Stored.{anew_of, breaks_of, kind_in, lines_in, numbers_of, reopens_of, stored_as}
+use Rattle.tk_top.specs.Tasks.{JudgedTask, RefusedAt}
+use Rattle.tk_top.specs.Top.{AskedRun, CausedBy, DrillsMemory, FileRun, IsDrilled, IsServing, MakesFiles, Opens, RunsAsked, SourceRun, TaskOnFiles}
+use Rattle.tk_mgr.specs.declared.task.Task.{Task}
 use Rattle.tk_top.specs.declared.words.Asked.{Asked}
+use Rattle.tk_top.specs.declared.words.Asked.TheVariants as asked
+use Rattle.tk_top.specs.declared.words.Memory.{Memory}
+use Rattle.tk_top.specs.declared.words.Shape.{Shape}
 use Rattle.tk_top.specs.declared.words.Source.{Source}
 use Rattle.tk_top.specs.declared.words.Source.TheVariants as source
 use Rattle.tk_top.specs.declared.words.Stored.{Stored}
+use Rattle.tk_top.proofs.Made.{made_unopened}
+use Rattle.tk_top.proofs.Managed.{managed_unopened}
 use Rattle.tk_top.proofs.Memory.{memory_none}
-use Rattle.tk_top.proofs.Stopping.{files_unbound}
+use Rattle.tk_top.proofs.Named.{ends_unnamed}
+use Rattle.tk_top.proofs.Staying.{misplaced_unnamed}
+use Rattle.tk_top.proofs.Stopping.{files_unopened}
 
-module _ {V W : Type 0} (v : volume.Ghosts V) (g : wire.Ghosts W) where
+module _ {V W O : Type 0} (v : volume.Ghosts V) (g : wire.Ghosts W) (o : sink.Ghosts O) where
   -- there was no memory before any call
   file_none : (name : List ℕ) (stored : Stored) (limit : ℕ) (at : At) (turns : ℕ) (vol : V) (x : W) → FileRun v g NoMemory name stored limit at turns vol vol x x
   file_none name stored limit at turns vol x = record {
     names = inr (Adds-none (v.names vol));
-    told = files_unbound v.tells g (Opens stored) (reopens_of stored) (λ files c h. h.stand) turns at NoMemory (v.calls vol) (v.calls vol) x (λ e. absurd cc) (λ e. absurd cc) (λ t. refl);
+    told = files_unopened g (kind_in stored) (reopens_of stored) NoMemory turns at x (ends_unnamed v name vol);
     judged = tt;
     full = λ e. absurd cc;
     caused = tt;
@@ -33,24 +43,59 @@ module _ {V W : Type 0} (v : volume.Ghosts V) (g : wire.Ghosts W) where
   source_none (source.Memory memory) at turns vol x = (memory_none g memory at turns x, refl)
   source_none (source.File name stored limit) at turns vol x = file_none name stored _ at turns vol x
 
+  task_none : (name : List ℕ) (stored : Stored) (task : Task) (vol : V) (p : O) → TaskOnFiles v o NoMemory name stored task vol vol p p
+  task_none name stored task vol p = record {
+    names = inr (Adds-none (v.names vol));
+    told = managed_unopened o (reopens_of stored) (lines_in stored) task (kind_in stored) NoMemory p (ends_unnamed v name vol);
+    judged = tt;
+    misplaced = misplaced_unnamed (ends_unnamed v name vol) task;
+    full = λ e. absurd cc;
+    caused = tt;
+  }
+
+  make_none : (name : List ℕ) (shape : Shape) (vol : V) → MakesFiles v NoMemory name shape vol vol
+  make_none name shape vol = record {
+    names = inr (Adds-none (v.names vol));
+    made = made_unopened (reopens_of (stored_as shape)) (numbers_of shape) (anew_of shape) NoMemory (ends_unnamed v name vol);
+    judged = tt;
+    full = λ e. absurd cc;
+    caused = λ count count'. tt;
+  }
+
+  drill_none : (memory : Memory) (seed n : ℕ) (p : O) → DrillsMemory o NoMemory memory seed n p p
+  drill_none memory seed n p = record { ends = tt; taken = []; told = Adds-none (o.taken p); front = (_, refl); done = λ e. absurd cc; caused = λ count count'. tt }
+
+  run_none : (a : Asked) (vol : V) (x : W) (p : O) → AskedRun v g o NoMemory a vol vol x x p p
+  run_none (asked.Serve source at turns) vol x p = (source_none source at turns vol x, refl)
+  run_none (asked.Task name stored task) vol x p = (task_none name stored task vol p, refl)
+  run_none (asked.Create name shape) vol x p = (make_none name shape vol, (refl, refl))
+  run_none (asked.Drill memory seed n) vol x p = (drill_none memory seed n p, (refl, refl))
+
   -- what is served doesn't end for its words
-  not_words : (s : Source) (end : End) (at : At) (turns : ℕ) (vol vol' : V) (x y : W) → SourceRun v g end s at turns vol vol' x y → end ≡ Words → ⊥
-  not_words (source.Memory memory) end at turns vol vol' x y run is = subst IsServing is run.0.ends
-  not_words (source.File name stored limit) end at turns vol vol' x y run is = subst (λ (e : End). Judged e (v.tells → StandsFor (Opens stored) (v.calls vol)) (λ file rule. v.tells → BreaksAt (breaks_of stored) (v.calls vol) file rule)) is run.judged
+  served_words : (s : Source) (end : End) (at : At) (turns : ℕ) (vol vol' : V) (x y : W) → SourceRun v g end s at turns vol vol' x y → end ≡ Words → ⊥
+  served_words (source.Memory memory) end at turns vol vol' x y run is = subst IsServing is run.0.ends
+  served_words (source.File name stored limit) end at turns vol vol' x y run is = subst (λ (e : End). Judged e (v.tells → StandsFor (Opens stored) (v.calls vol)) (λ file rule. v.tells → BreaksAt (breaks_of stored) (v.calls vol) (v.calls vol') file rule)) is run.judged
+
+  -- nor does what is made or done
+  not_words : (a : Asked) (end : End) (vol vol' : V) (x y : W) (p q : O) → AskedRun v g o end a vol vol' x y p q → end ≡ Words → ⊥
+  not_words (asked.Serve source at turns) end vol vol' x y p q run is = served_words source end at turns vol vol' x y run.0 is
+  not_words (asked.Task name stored task) end vol vol' x y p q run is = subst (λ (e : End). JudgedTask e (v.tells → StandsFor (Opens stored) (v.calls vol)) (λ file rule. v.tells → BreaksAt (breaks_of stored) (v.calls vol) (v.calls vol') file rule) (v.tells → RefusedAt (Opens stored) task (v.calls vol))) is run.0.judged
+  not_words (asked.Create name shape) end vol vol' x y p q run is = subst (λ (e : End). JudgedMaking e (v.tells → MainIsEmpty (v.calls vol)) (λ file rule. v.tells → BreaksAt (λ files f r. ⊥) (v.calls vol) (v.calls vol') file rule) (v.tells → MainIsThere (v.calls vol) (v.calls vol'))) is run.0.judged
+  not_words (asked.Drill memory seed n) end vol vol' x y p q run is = subst IsDrilled is run.0.ends
 
   some_asked : (a b : Asked) → Some a ≡ Some b → a ≡ b
   some_asked a b e = cc
 
-  pub asked_memory : (o : Option Asked) (vol : V) (x : W) → RunsAsked v g o NoMemory vol vol x x
-  asked_memory o vol x = record { served = λ asked is. source_none asked.source asked.at asked.turns vol x; words = λ e. absurd cc; refused = λ n. inr refl; unserved = λ n. (refl, refl); caused = tt }
+  pub asked_memory : (want : Option Asked) (vol : V) (x : W) (p : O) → RunsAsked v g o want NoMemory vol vol x x p p
+  asked_memory want vol x p = record { served = λ a is. run_none a vol x p; words = λ e. absurd cc; refused = λ n. inr refl; unserved = λ n. (refl, (refl, refl)); caused = inl tt }
 
-  pub asked_none : (o : Option Asked) (vol : V) (x : W) → o ≡ None → RunsAsked v g o Words vol vol x x
-  asked_none o vol x is = record { served = λ asked some. absurd (let f = sym is ∙ some in cc); words = λ e. is; refused = λ n. inl refl; unserved = λ n. (refl, refl); caused = tt }
+  pub asked_none : (want : Option Asked) (vol : V) (x : W) (p : O) → want ≡ None → RunsAsked v g o want Words vol vol x x p p
+  asked_none want vol x p is = record { served = λ a some. absurd (let f = sym is ∙ some in cc); words = λ e. is; refused = λ n. inl refl; unserved = λ n. (refl, (refl, refl)); caused = inl tt }
 
-  pub asked_some : (o : Option Asked) (end : End) (asked : Asked) (vol vol' : V) (x y : W) → o ≡ Some asked → SourceRun v g end asked.source asked.at asked.turns vol vol' x y → Caused end (v.faults vol) (v.faults vol') (g.faults x) (g.faults y) → RunsAsked v g o end vol vol' x y
-  asked_some o end asked vol vol' x y is run caused = record {
-    served = λ a some. subst (λ (b : Asked). SourceRun v g end b.source b.at b.turns vol vol' x y) (some_asked asked a (sym is ∙ some)) run;
-    words = λ e. absurd (not_words asked.source end asked.at asked.turns vol vol' x y run e);
+  pub asked_some : (want : Option Asked) (end : End) (a : Asked) (vol vol' : V) (x y : W) (p q : O) → want ≡ Some a → AskedRun v g o end a vol vol' x y p q → CausedBy end (v.faults vol) (v.faults vol') (g.faults x) (g.faults y) (o.faults p) (o.faults q) → RunsAsked v g o want end vol vol' x y p q
+  asked_some want end a vol vol' x y p q is run caused = record {
+    served = λ b some. subst (λ (d : Asked). AskedRun v g o end d vol vol' x y p q) (some_asked a b (sym is ∙ some)) run;
+    words = λ e. absurd (not_words a end vol vol' x y p q run e);
     refused = λ n. absurd (let f = sym is ∙ n in cc);
     unserved = λ n. absurd (let f = sym is ∙ n in cc);
     caused = caused;

@@ -1,5 +1,5 @@
 -- A database in the files of a space: what its opening leaves, and the run behind it.
-use Rattle.std.proofs.Common.{◌≡◌, ◌⊎◌, ◌≢◌, ◌≤◌, inl, inr, ⊎_elim, ℕ, Bool, true, false, cond, List, [], ◌∷◌, refl, sym, subst, ◌∙◌, arith}
+use Rattle.std.proofs.Common.{◌≡◌, ◌⊎◌, ◌≢◌, inl, inr, ⊎_elim, ℕ, Bool, true, false, cond, List, [], ◌∷◌, refl, sym, subst, ◌∙◌, arith}
 use Rattle.std.specs.Prelude.{Option, Some}
 use Rattle.tc_base.specs.Files.{Files}
 use Rattle.tc_base.specs.declared.kind.Rule.{Rule}
@@ -20,11 +20,11 @@ use Rattle.ty_rounds.specs.Turns.{Told}
 use Rattle.ty_rounds.proofs.Telling.{Adds-none}
 use Rattle.tk_top.specs.declared.ends.End.{End}
 use Rattle.tk_top.specs.declared.ends.End.TheVariants.{Done, Words, Refused, VolumeFault, Broken, NoMemory, Full, WireFault, TurnsSpent}
-use Rattle.tk_top.specs.Ends.{IsEnd, end_of}
-use Rattle.tk_top.specs.Causes.{Caused}
+use Rattle.tk_top.specs.Ends.{end_of}
 use Rattle.tk_top.specs.Over.{Judged}
 use Rattle.tk_top.specs.Runs.{FullRun}
 use Rattle.tk_top.specs.Serving.{Begins, RunsOver}
+use Rattle.tk_top.proofs.Fresh.{Earlier, Fresh}
 use Rattle.tk_top.proofs.Over.{not_played, unserved}
 
 -- ---- marks stay
@@ -65,10 +65,6 @@ module _ {S : Type 0} (s : space.Ghosts S) (reopens : Files → Contents → Typ
   }
 
 module _ {S B : Type 0} (s : space.Ghosts S) (holds : B → Files → Contents → Type 0) (reopens opens : Files → Contents → Type 0) where
-  -- a database that was opened stands for the mark of its files
-  pub opened_stand : (b : B) (old mid : S) (m : Mark) → Begins s opens old m → Stays s 2 old mid → IsOpened holds reopens b (s.now mid) m.contents → StandFor reopens (s.now mid) m
-  opened_stand b old mid m h log o = record { contents = o.stand; log = log.same h.0 ∙ h.1.log }
-
   pub opened_holds : (b : B) (old mid new : S) (m : Mark) → Begins s opens old m → Stays s 2 old mid → IsOpened holds reopens b (s.now mid) m.contents → ((f : ℕ) → s.now new f ≡ s.now mid f) → HoldsMark s holds reopens b new m
   opened_holds b old mid new m h log o same =
       let there : s.now mid ≡ s.now new = λ i f. sym (same f) i in
@@ -79,8 +75,8 @@ module _ {S B : Type 0} (s : space.Ghosts S) (holds : B → Files → Contents �
 
 -- ---- the run behind an opening
 
-abbrev pub Fresh : {S : Type 0} → space.Ghosts S → S → Type 0
-Fresh s a = s.tells → ((o : Option Files) → s.left a (s.moment a) o → o ≡ s.kept a) × (s.kept a ≡ Some (s.now a))
+pub moved : {reopens : Files → Contents → Type 0} {first : Mark} {o p : Option Files} → Reopens reopens p first → o ≡ p → Reopens reopens o first
+moved k is = record { files = k.files; is = is ∙ k.is; stand = k.stand }
 
 pub ended_not : (e : AnyErr) → (end_of e ≢ Done) × (end_of e ≢ TurnsSpent)
 ended_not (any.Broken file rule) = (λ i. absurd cc, λ i. absurd cc)
@@ -88,22 +84,25 @@ ended_not any.Full = (λ i. absurd cc, λ i. absurd cc)
 ended_not any.Fault = (λ i. absurd cc, λ i. absurd cc)
 ended_not any.Memory = (λ i. absurd cc, λ i. absurd cc)
 
-module _ {S W : Type 0} (s : space.Ghosts S) (g : wire.Ghosts W) (reopens opens : Files → Contents → Type 0) (stand : (files : Files) (c : Contents) → opens files c → reopens files c) where
-  kept_stands : (a : S) (first : Mark) → Fresh s a → Begins s opens a first → Reopens reopens (s.kept a) first
+module _ {S : Type 0} (s : space.Ghosts S) (reopens opens : Files → Contents → Type 0) (stand : (files : Files) (c : Contents) → opens files c → reopens files c) where
+  pub kept_stands : (a : S) (first : Mark) → Fresh s a → Begins s opens a first → Reopens reopens (s.kept a) first
   kept_stands a first fresh h = record { files = s.now a; is = (fresh h.0).1; stand = record { contents = stand (s.now a) first.contents h.1.contents; log = h.1.log } }
 
-  moved : (a : S) (first : Mark) (o : Option Files) → Reopens reopens (s.kept a) first → o ≡ s.kept a → Reopens reopens o first
-  moved a first o k is = record { files = k.files; is = is ∙ k.is; stand = k.stand }
+  -- nothing was kept but what stands for the first mark
+  pub still_first : (a b : S) (first : Mark) → Fresh s a → Earlier s b → Begins s opens a first → MovesTo s reopens a b first → (o : Option Files) → s.left b (s.moment b) o → Reopens reopens o first
+  still_first a b first fresh earlier h moves o l =
+      let k = kept_stands a first fresh h in
+      ⊎_elim (λ was. moved k ((fresh h.0).0 o was)) (λ p. ⊎_elim (λ is. moved k is) (λ r. r) p) (moves.leaves.each (s.moment a) o (omega arith) (earlier (s.moment a) (s.moment b) o moves.leaves.later l))
 
-  opening_marks : (s0 s1 : S) (first : Mark) (ms : List Mark) → IsIn first ms → Reopens reopens (s.kept s0) first → MovesTo s reopens s0 s1 first → LeavesMarks s reopens s0 s1 ms
+  pub opening_marks : (s0 s1 : S) (first : Mark) (ms : List Mark) → IsIn first ms → Reopens reopens (s.kept s0) first → MovesTo s reopens s0 s1 first → LeavesMarks s reopens s0 s1 ms
   opening_marks s0 s1 first ms held k moves = record {
     leaves = record {
       later = moves.leaves.later;
-      each = λ t o le l. ⊎_elim (λ was. inl was) (λ p. inr (record { mark = first; listed = held; reopen = ⊎_elim (λ is. moved s0 first o k is) (λ r. r) p })) (moves.leaves.each t o le l);
+      each = λ t o le l. ⊎_elim (λ was. inl was) (λ p. inr (record { mark = first; listed = held; reopen = ⊎_elim (λ is. moved k is) (λ r. r) p })) (moves.leaves.each t o le l);
     };
   }
 
-  marks_then : (s0 s1 s2 : S) (ms : List Mark) → LeavesMarks s reopens s0 s1 ms → LeavesMarks s reopens s1 s2 ms → LeavesMarks s reopens s0 s2 ms
+  pub marks_then : (s0 s1 s2 : S) (ms : List Mark) → LeavesMarks s reopens s0 s1 ms → LeavesMarks s reopens s1 s2 ms → LeavesMarks s reopens s0 s2 ms
   marks_then s0 s1 s2 ms one two = record {
     leaves = record {
       later = omega (arith, one.leaves.later, two.leaves.later);
@@ -111,20 +110,19 @@ module _ {S W : Type 0} (s : space.Ghosts S) (g : wire.Ghosts W) (reopens opens 
     };
   }
 
+module _ {S W : Type 0} (s : space.Ghosts S) (g : wire.Ghosts W) (reopens opens : Files → Contents → Type 0) (stand : (files : Files) (c : Contents) → opens files c → reopens files c) where
   -- it was refused
-  pub over_refused : (e : AnyErr) (turns : ℕ) (at : At) (s0 s1 : S) (x : W) → Fresh s s0 → ((t u : ℕ) (o : Option Files) → t ≤ u → s.left s1 u o → s.left s1 t o) → ((m : Mark) → Begins s opens s0 m → MovesTo s reopens s0 s1 m) → RunsOver s g reopens (end_of e) turns at s0 s1 x x (Begins s opens s0)
+  pub over_refused : (e : AnyErr) (turns : ℕ) (at : At) (s0 s1 : S) (x : W) → Fresh s s0 → Earlier s s1 → ((m : Mark) → Begins s opens s0 m → MovesTo s reopens s0 s1 m) → RunsOver s g reopens (end_of e) turns at s0 s1 x x (Begins s opens s0)
   over_refused e turns at s0 s1 x fresh earlier moves = record {
     entries = [];
     told = Adds-none (g.transcript x);
-    ends = λ first h.
-        let k = kept_stands s0 first fresh h in
-        let mv = moves first h in
-        record {
-          asked = tt;
-          serves = unserved (end_of e) turns at [] first [] refl (inr refl) (ended_not e).0 (ended_not e).1;
-          exit = λ o l. inl (⊎_elim (λ was. moved s0 first o k ((fresh h.0).0 o was)) (λ p. ⊎_elim (λ is. moved s0 first o k is) (λ r. r) p) (mv.leaves.each (s.moment s0) o (omega arith) (earlier (s.moment s0) (s.moment s1) o mv.leaves.later l)));
-          moments = opening_marks s0 s1 first (first ∷ []) (inl refl) k mv;
-        };
+    opened = inl refl;
+    ends = λ first h. record {
+      asked = tt;
+      serves = unserved (end_of e) turns at [] first [] refl (inr refl) (ended_not e).0 (ended_not e).1;
+      exit = λ o l. inl (still_first s reopens opens stand s0 s1 first fresh earlier h (moves first h) o l);
+      moments = opening_marks s reopens opens stand s0 s1 first (first ∷ []) (inl refl) (kept_stands s reopens opens stand s0 first fresh h) (moves first h);
+    };
     plays = λ first h acts given p. not_played turns (g.plays x) (end_of e) acts given (ended_not e).0 (ended_not e).1;
   }
 
@@ -133,14 +131,15 @@ module _ {S W : Type 0} (s : space.Ghosts S) (g : wire.Ghosts W) (reopens opens 
   over_opened begun end turns at s0 s1 s2 x y fresh moves begins run = record {
     entries = run.entries;
     told = run.told;
+    opened = run.opened;
     ends = λ first h.
-        let k = kept_stands s0 first fresh h in
+        let k = kept_stands s reopens opens stand s0 first fresh h in
         let r = run.ends first (begins first h) in
         record {
           asked = r.asked;
           serves = r.serves;
           exit = r.exit;
-          moments = marks_then s0 s1 s2 _ (opening_marks s0 s1 first _ (first_in run.entries first) k (moves first h)) r.moments;
+          moments = marks_then s reopens opens stand s0 s1 s2 _ (opening_marks s reopens opens stand s0 s1 first _ (first_in run.entries first) k (moves first h)) r.moments;
         };
     plays = λ first h acts given p. run.plays first (begins first h) acts given p;
   }
@@ -155,17 +154,6 @@ judged_err (any.Broken file rule) stand breaks b full = b
 judged_err any.Full stand breaks b full = full refl
 judged_err any.Fault stand breaks b full = tt
 judged_err any.Memory stand breaks b full = tt
-
-pub judged_end : (end : End) (stand : Type 0) (breaks : ℕ → Rule → Type 0) → IsEnd end → stand → Judged end stand breaks
-judged_end Done stand breaks is h = h
-judged_end Words stand breaks is h = is
-judged_end Refused stand breaks is h = is
-judged_end VolumeFault stand breaks is h = tt
-judged_end (Broken file rule) stand breaks is h = absurd is
-judged_end NoMemory stand breaks is h = tt
-judged_end Full stand breaks is h = h
-judged_end WireFault stand breaks is h = h
-judged_end TurnsSpent stand breaks is h = h
 
 pub judged_as : (end : End) (P Q : Type 0) (R T : ℕ → Rule → Type 0) → (P → Q) → ((file : ℕ) (rule : Rule) → R file rule → T file rule) → Judged end P R → Judged end Q T
 judged_as Done P Q R T f k h = f h
@@ -183,9 +171,3 @@ full_err (any.Broken file rule) is = absurd cc
 full_err any.Full is = refl
 full_err any.Fault is = absurd cc
 full_err any.Memory is = absurd cc
-
-pub caused_err : (e : AnyErr) (v v' w w' : ℕ) → (e ≡ any.Fault → v ≡ v → Caused VolumeFault v v' w w') → Caused (end_of e) v v' w w'
-caused_err (any.Broken file rule) v v' w w' c = tt
-caused_err any.Full v v' w w' c = tt
-caused_err any.Fault v v' w w' c = c refl refl
-caused_err any.Memory v v' w w' c = tt

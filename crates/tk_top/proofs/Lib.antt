@@ -1,9 +1,17 @@
 pub mod Asking
 pub mod Causes
+pub mod Fresh
 pub mod Kept
+pub mod Limits
+pub mod Made
+pub mod Managed
 pub mod Memory
+pub mod Named
+pub mod Opened
 pub mod Over
 pub mod Pieces
 pub mod Running
 pub mod Starting
+pub mod Staying
 pub mod Stopping
+pub mod Stops

@@ -1,22 +1,32 @@
 -- A run that serves a database in memory.
-use Rattle.std.proofs.Common.{◌≡◌, ◌<◌, ◌-◌, ◌^◌, inr, ℕ, [], refl, subst, arith}
+use Rattle.std.proofs.Common.{◌≡◌, ◌<◌, ◌-◌, ◌^◌, ◌++◌, inr, ⊎_elim, ℕ, Bool, true, false, List, [], refl, sym, ap, subst, arith}
 use Rattle.std.specs.Prelude.{Result, Ok, Err, OnOk}
 use Rattle.tc_base.specs.Files.{Files}
 use Rattle.tc_base.specs.declared.fault.Fault.{Fault}
 use Rattle.tc_io.specs.Causes.{HasCause, Rose}
+use Rattle.tc_io.specs.declared.sink.Sink as sink
 use Rattle.tc_io.specs.declared.wire.At.{At}
 use Rattle.tc_io.specs.declared.wire.Wire as wire
 use Rattle.tc_space.specs.declared.space.Space as space
 use Rattle.tc_model.specs.Contents.{Contents}
 use Rattle.ty_world.specs.World.{Mark}
+use Rattle.ty_wire.specs.Prefixes.{IsPrefix}
+use Rattle.ty_rounds.specs.Kept.{HoldsMark}
 use Rattle.ty_rounds.proofs.Telling.{Adds-none}
+use Rattle.tk_mgr.specs.Managing.{Manages}
+use Rattle.tk_mgr.specs.Tasks.{text_of}
+use Rattle.tk_mgr.specs.declared.errors.MgrErr.{MgrErr}
+use Rattle.tk_mgr.specs.declared.errors.MgrErr.TheVariants as mgr
+use Rattle.tk_mgr.specs.declared.task.Task.TheVariants.{Drill}
 use Rattle.tk_top.specs.declared.ends.End.{End}
 use Rattle.tk_top.specs.declared.ends.End.TheVariants.{Done, Words, Refused, VolumeFault, Broken, NoMemory, Full, WireFault, TurnsSpent}
 use Rattle.tk_top.specs.Causes.{Caused}
 use Rattle.tk_top.specs.Ends.{IsEnd}
 use Rattle.tk_top.specs.Serving.{RunsOver}
-use Rattle.tk_top.specs.Top.{no_keys, IsServing, MemoryRun}
+use Rattle.tk_top.specs.Tasks.{end_of_task}
+use Rattle.tk_top.specs.Top.{no_keys, DrillsMemory, IsDrilled, IsServing, MemoryRun}
 use Rattle.tk_top.specs.declared.words.Memory.{Memory}
+use Rattle.tk_top.proofs.Managed.{done_is}
 use Rattle.tk_top.proofs.Over.{unserved, not_played}
 
 -- a database in memory has neither faults of a volume nor limits
@@ -68,3 +78,35 @@ module _ {W : Type 0} (g : wire.Ghosts W) where
 pub line_told : (r : Result (Unit {0}) Fault) (a b : ℕ) (P : Type 0) → OnOk r P → HasCause a b r → b ≡ a → a < 2 ^ 64 - 1 → P
 line_told (Ok u) a b P ok cause same lt = ok
 line_told (Err e) a b P ok cause same lt = absurd (let f = cause.failed in omega (arith, f, same, lt))
+
+-- ---- drills
+
+-- a space of no files has neither faults nor limits
+pub drilled_memory : {S B O : Type 0} (s : space.Ghosts S) (o : sink.Ghosts O) (holds : B → Files → Contents → Type 0) (reopens : Files → Contents → Type 0) (lines : Files → List ℕ → Type 0) (result : Result Bool MgrErr) (base : B) (old new : S) (p q : O) (memory : Memory) (seed n : ℕ)
+    → HoldsMark s holds reopens base old (no_keys memory) → (result ≡ Err mgr.Fault → ⊥) → (result ≡ Err mgr.Full → ⊥) → (result ≡ Err mgr.Sink → Rose (o.faults p) (o.faults q)) → Manages s o holds reopens lines (Drill seed n) result base old new p q → DrillsMemory o (end_of_task result) memory seed n p q
+drilled_memory s o holds reopens lines result base old new p q memory seed n h fault full sinks managed =
+    let m = managed.by (no_keys memory) h in
+    record {
+      ends = which result (λ is. let x = m.ok false is in cc) fault full;
+      taken = managed.taken;
+      told = managed.told;
+      front = ⊎_elim (λ nothing. (_, ap (λ (xs : List ℕ). xs ++ text_of (Drill seed n) (no_keys memory).contents) (sym nothing))) (λ f. subst (λ (t : List ℕ). IsPrefix managed.taken t) f.prints f.front) m.printed;
+      done = λ is. m.whole (done_is result is);
+      caused = λ count count'. cause result count count' fault sinks;
+    }
+  where
+    which : (r : Result Bool MgrErr) → (r ≡ Ok false → ⊥) → (r ≡ Err mgr.Fault → ⊥) → (r ≡ Err mgr.Full → ⊥) → IsDrilled (end_of_task r)
+    which (Ok true) failed fault full = tt
+    which (Ok false) failed fault full = failed refl
+    which (Err mgr.Full) failed fault full = full refl
+    which (Err mgr.Fault) failed fault full = fault refl
+    which (Err mgr.Sink) failed fault full = tt
+    which (Err mgr.Memory) failed fault full = tt
+
+    cause : (r : Result Bool MgrErr) (count count' : ℕ) → (r ≡ Err mgr.Fault → ⊥) → (r ≡ Err mgr.Sink → Rose (o.faults p) (o.faults q)) → Caused (end_of_task r) count count' (o.faults p) (o.faults q)
+    cause (Ok true) count count' fault sinks = tt
+    cause (Ok false) count count' fault sinks = tt
+    cause (Err mgr.Full) count count' fault sinks = tt
+    cause (Err mgr.Fault) count count' fault sinks = absurd (fault refl)
+    cause (Err mgr.Sink) count count' fault sinks = sinks refl
+    cause (Err mgr.Memory) count count' fault sinks = tt

@@ -27,7 +27,8 @@ use Rattle.tk_top.specs.declared.ends.End.{End}
 use Rattle.tk_top.specs.declared.ends.End.TheVariants.{Done, WireFault, TurnsSpent}
 use Rattle.tk_top.specs.Runs.{Ends, FullRun}
 use Rattle.tk_top.specs.Serving.{ServesAt, PlaysAll, RunsOver}
-use Rattle.tk_top.proofs.Running.{Known, Only, still_stands}
+use Rattle.tk_top.proofs.Fresh.{Fresh}
+use Rattle.tk_top.proofs.Running.{Known, still_stands}
 
 -- ---- what was sent is all that is owed
 
@@ -71,10 +72,11 @@ module _ {S B W : Type 0} (s : space.Ghosts S) (g : wire.Ghosts W) (holds : B �
   none_marks a ms = record { leaves = record { later = omega arith; each = λ t o le l. inl l } }
 
   -- the wire wasn't opened
-  pub over_unopened : (b : B) (turns : ℕ) (at : At) (a : S) (x y : W) → Only s g holds reopens a → Adds (g.transcript x) (g.transcript y) [] ⊎ Adds (g.transcript x) (g.transcript y) (Open at ∷ []) → RunsOver s g reopens WireFault turns at a a x y (Known s g holds reopens b a)
+  pub over_unopened : (b : B) (turns : ℕ) (at : At) (a : S) (x y : W) → Fresh s a → Adds (g.transcript x) (g.transcript y) [] ⊎ Adds (g.transcript x) (g.transcript y) (Open at ∷ []) → RunsOver s g reopens WireFault turns at a a x y (Known s g holds reopens b a)
   over_unopened b turns at a x y only (inl told) = record {
     entries = [];
     told = told;
+    opened = inl refl;
     ends = λ first h. record {
       asked = tt;
       serves = unserved WireFault turns at [] first [] refl (inr refl) (λ e. absurd cc) (λ e. absurd cc);
@@ -86,6 +88,7 @@ module _ {S B W : Type 0} (s : space.Ghosts S) (g : wire.Ghosts W) (holds : B �
   over_unopened b turns at a x y only (inr told) = record {
     entries = Open at ∷ [];
     told = told;
+    opened = inr ([], refl, tt);
     ends = λ first h. record {
       asked = (tt, tt);
       serves = unserved WireFault turns at (at ∷ []) first (Open at ∷ []) refl (inl refl) (λ e. absurd cc) (λ e. absurd cc);
@@ -100,6 +103,7 @@ module _ {S B W : Type 0} (s : space.Ghosts S) (g : wire.Ghosts W) (holds : B �
   over_served b end turns at old new x y z told opening ends = record {
     entries = Open at ∷ ends.entries;
     told = Adds-then (g.transcript x) (g.transcript y) (g.transcript z) (Open at ∷ []) ends.entries told ends.told;
+    opened = inr (ends.entries, refl, ends.served);
     ends = λ first h. let e = ends.ends first h (at ∷ []) in record {
       asked = (tt, e.asked);
       serves = record {

@@ -27,7 +27,9 @@ use Rattle.ty_rounds.proofs.Entries.{after_more, asked_more, came_more}
 use Rattle.tk_top.specs.declared.ends.End.{End}
 use Rattle.tk_top.specs.declared.ends.End.TheVariants.{Done, VolumeFault, NoMemory, Full, WireFault, TurnsSpent}
 use Rattle.tk_top.specs.Ends.{IsStopped, end_of_turn}
+use Rattle.tk_top.proofs.Opened.{served_then, turn_served}
 use Rattle.tk_top.specs.Runs.{IsAt, RunsTo, EndsTurn, RunEnds, Ends, FullRun, conns_of}
+use Rattle.tk_top.proofs.Fresh.{Fresh}
 
 -- ---- marks
 
@@ -53,11 +55,7 @@ module _ {S B W : Type 0} (s : space.Ghosts S) (g : wire.Ghosts W) (holds : B �
   abbrev pub Known : B → S → Mark → Type 0
   Known b a m = HoldsMark s holds reopens b a m
 
-  -- a stop leaves the kept files, and those are the files now
-  abbrev pub Only : S → Type 0
-  Only a = s.tells → ((o : Option Files) → s.left a (s.moment a) o → o ≡ s.kept a) × (s.kept a ≡ Some (s.now a))
-
-  pub still_stands : (b : B) (a : S) (m : Mark) → Only a → Known b a m → (o : Option Files) → s.left a (s.moment a) o → Reopens reopens o m
+  pub still_stands : (b : B) (a : S) (m : Mark) → Fresh s a → Known b a m → (o : Option Files) → s.left a (s.moment a) o → Reopens reopens o m
   still_stands b a m only h o l = let x = only h.has.held.0 in record { files = s.now a; is = x.0 o l ∙ x.1; stand = record { contents = h.stand; log = h.has.log } }
 
   moments_more : (s0 a t : S) (w v : World) (older : List Mark) → w.marks ≡ mark_of w ∷ older → MarksMore w v → LeavesMarks s reopens s0 a w.marks → LeavesTwo s reopens a t (mark_of w) (mark_of v) → LeavesMarks s reopens s0 t v.marks
@@ -75,6 +73,7 @@ module _ {S B W : Type 0} (s : space.Ghosts S) (g : wire.Ghosts W) (holds : B �
   run_start b a x k ps still none = subst (λ (z : List Peer). RunsTo s g holds reopens b b a a x x k z 0) (sym none) (record {
     entries = [];
     told = Adds-none (g.transcript x);
+    served = tt;
     plays = Plays-none (g.plays x);
     at = λ first h opens. record {
       asked = tt;
@@ -91,6 +90,7 @@ module _ {S B W : Type 0} (s : space.Ghosts S) (g : wire.Ghosts W) (holds : B �
   run_more b base base' s0 a t x y z k k' ps ps' n run turned = record {
     entries = run.entries ++ turned.entries;
     told = Adds-then (g.transcript x) (g.transcript y) (g.transcript z) run.entries turned.entries run.told turned.told;
+    served = served_then run.entries turned.entries run.served (turn_served (g.conns y) (Ok Went) turned.entries turned.calls);
     plays = Plays-then (g.plays x) (g.plays y) (g.plays z) run.entries turned.entries run.plays turned.plays;
     at = λ first h opens.
         let w = world_after run.entries (started opens first) in
@@ -118,6 +118,7 @@ module _ {S B W : Type 0} (s : space.Ghosts S) (g : wire.Ghosts W) (holds : B �
   run_ended b base base' s0 a t x y z k k' ps ps' n turns res end wired run turned plays calls exits done other = record {
     entries = run.entries ++ turned.entries;
     told = Adds-then (g.transcript x) (g.transcript y) (g.transcript z) run.entries turned.entries run.told turned.told;
+    served = served_then run.entries turned.entries run.served (turn_served (g.conns y) res turned.entries turned.calls);
     plays = λ e. Plays-then (g.plays x) (g.plays y) (g.plays z) run.entries turned.entries run.plays (plays e);
     ends = λ first h opens.
         let w = world_after run.entries (started opens first) in
@@ -146,7 +147,7 @@ module _ {S B W : Type 0} (s : space.Ghosts S) (g : wire.Ghosts W) (holds : B �
     enough = λ first h acts given p le. other;
   }
 
-  pub run_shut : (b base base' : B) (s0 a t : S) (x y z : W) (k k' : Walk) (ps ps' : List Peer) (n turns : ℕ) → Only t → Wired (g.conns y) ps → RunsTo s g holds reopens b base s0 a x y k ps n → Turns s g holds reopens (Ok Shut) base base' a t y z k k' ps ps' → Ends s g holds reopens Done turns b s0 t x z
+  pub run_shut : (b base base' : B) (s0 a t : S) (x y z : W) (k k' : Walk) (ps ps' : List Peer) (n turns : ℕ) → Fresh s t → Wired (g.conns y) ps → RunsTo s g holds reopens b base s0 a x y k ps n → Turns s g holds reopens (Ok Shut) base base' a t y z k k' ps ps' → Ends s g holds reopens Done turns b s0 t x z
   run_shut b base base' s0 a t x y z k k' ps ps' n turns only wired run turned =
       run_ended b base base' s0 a t x y z k k' ps ps' n turns (Ok Shut) Done wired run turned (λ i. turned.plays) (λ conns c. c)
       (λ w v e o l. inl (still_stands base' t (mark_of v) only e.0.mark o l))
@@ -167,10 +168,11 @@ module _ {S B W : Type 0} (s : space.Ghosts S) (g : wire.Ghosts W) (holds : B �
       run_ended b base base' s0 a t x y z k k' ps ps' n turns (Err turn.Memory) NoMemory wired run turned (λ i. absurd (⊎_elim (λ j. cc) (λ j. cc) i)) (λ conns c. c)
       (λ w v e o l. ⊎_elim (λ r. inl r) (λ r. inr (tt, r)) (e o l)) (λ w v e i. absurd cc) (λ i. absurd cc)
 
-  pub run_spent : (b base : B) (s0 a : S) (x y : W) (k : Walk) (ps : List Peer) (n turns : ℕ) → n ≡ turns → Only a → RunsTo s g holds reopens b base s0 a x y k ps n → Ends s g holds reopens TurnsSpent turns b s0 a x y
+  pub run_spent : (b base : B) (s0 a : S) (x y : W) (k : Walk) (ps : List Peer) (n turns : ℕ) → n ≡ turns → Fresh s a → RunsTo s g holds reopens b base s0 a x y k ps n → Ends s g holds reopens TurnsSpent turns b s0 a x y
   run_spent b base s0 a x y k ps n turns all only run = record {
     entries = run.entries;
     told = run.told;
+    served = run.served;
     plays = λ e. run.plays;
     ends = λ first h opens. let at = run.at first h opens in record {
       asked = at.asked;

@@ -20,8 +20,10 @@ use Rattle.ty_rounds.specs.Kept.{HoldsMark, Reopens, AtMark}
 use Rattle.ty_rounds.specs.Turns.{Told}
 use Rattle.tk_top.specs.declared.ends.End.{End}
 use Rattle.tk_top.specs.declared.ends.End.TheVariants.{Done, Words, Refused, VolumeFault, Broken, NoMemory, Full, WireFault, TurnsSpent}
+use Rattle.tk_top.specs.Opened.{OpensOnly}
 use Rattle.tk_top.specs.Runs.{AtExit, FullRun}
 use Rattle.tk_top.specs.Serving.{Begins, ServesAt, PlaysAll}
+use Rattle.tk_top.specs.Staying.{FilesStay}
 
 -- it is recovered to what an image of the opening volume is recovered to
 pub record AsOpening (opening : Calls) (o : Option Files) : Type 0 where
@@ -46,6 +48,8 @@ BeginsAt tells opens old first = tells × Reopens opens (recovered (now old)) fi
 pub record FilesRun {W : Type 0} (tells : Type 0) (g : wire.Ghosts W) (opens reopens : Files → Contents → Type 0) (end : End) (turns : ℕ) (at : At) (old new : Calls) (x y : W) : Type 0 where
   pub entries : List Entry
   pub told : Adds (g.transcript x) (g.transcript y) entries
+  -- whatever the volume tells
+  pub opened : OpensOnly at entries
   pub ends : IsSettled old → (first : Mark) → BeginsAt tells opens old first → VolumeRun reopens end turns at old new first entries (world_after entries (started [] first))
   pub plays : (first : Mark) → BeginsAt tells opens old first → (acts : List Act) (given : ℕ) → g.plays x ≡ Some (unplayed acts given) → PlaysAll turns (g.plays y) end acts given
 
@@ -53,9 +57,10 @@ pub record FilesRun {W : Type 0} (tells : Type 0) (g : wire.Ghosts W) (opens reo
 pub record FullFiles (tells : Type 0) (fills : Contents → Contents → Type 0) (opens : Contents → Type 0) (start : Mark → Type 0) (a b : Told) : Type 0 where
   pub which : (tells → (c : Contents) × opens c × fills c c) ⊎ FullRun fills start [] a b
 
--- a rule that is broken is one of the log; or it is one of the layout, of what the log makes of the files
-pub record BreaksAt (breaks : Files → ℕ → Rule → Type 0) (old : Calls) (file : ℕ) (rule : Rule) : Type 0 where
+-- a rule that is broken is one of the log; or it is one of the layout, of what the log makes of the files, and where the main file isn't empty they stay
+pub record BreaksAt (breaks : Files → ℕ → Rule → Type 0) (old new : Calls) (file : ℕ) (rule : Rule) : Type 0 where
   pub which : ((file ≡ 1) × (undo (now old 1) (now old) ≡ Err rule)) ⊎ ((files : Files) × (recovered (now old) ≡ Some files) × breaks files file rule)
+  pub stays : FilesStay (λ files. files 0 ≡ [] → ⊥) old new
 
 -- these are files, and they may be opened as the contents
 pub record Recover (opens : Files → Contents → Type 0) (o : Option Files) (c : Contents) : Type 0 where

@@ -17,6 +17,7 @@ use Rattle.ty_rounds.specs.Kept.{StandFor, LeavesMarks}
 use Rattle.ty_rounds.specs.Holding.{IsFine}
 use Rattle.tk_top.specs.declared.ends.End.{End}
 use Rattle.tk_top.specs.declared.ends.End.TheVariants.{Done, TurnsSpent}
+use Rattle.tk_top.specs.Opened.{OpensOnly}
 use Rattle.tk_top.specs.Runs.{IsLast, AtExit}
 
 -- what a run that ends so leaves of the world that its transcript makes
@@ -54,6 +55,7 @@ pub record SpaceRun {S : Type 0} (s : space.Ghosts S) (reopens : Files → Conte
 pub record RunsOver {S W : Type 0} (s : space.Ghosts S) (g : wire.Ghosts W) (reopens : Files → Contents → Type 0) (end : End) (turns : ℕ) (at : At) (old new : S) (x y : W) (start : Mark → Type 0) : Type 0 where
   pub entries : List Entry
   pub told : Adds (g.transcript x) (g.transcript y) entries
+  pub opened : OpensOnly at entries
   pub ends : (first : Mark) → start first → SpaceRun s reopens end turns at old new first entries (world_after entries (started [] first))
   pub plays : (first : Mark) → start first → (acts : List Act) (given : ℕ) → g.plays x ≡ Some (unplayed acts given) → PlaysAll turns (g.plays y) end acts given
 

@@ -1,5 +1,5 @@
--- The kinds of database in files that are served today.
-use Rattle.std.specs.Prelude.{ℕ}
+-- The kinds of database in files that stand today.
+use Rattle.std.specs.Prelude.{ℕ, List}
 use Rattle.tc_base.specs.Files.{Files}
 use Rattle.tc_base.specs.declared.kind.Kind.{Kind}
 use Rattle.tc_base.specs.declared.kind.Kind.TheVariants as kind
@@ -8,7 +8,12 @@ use Rattle.tc_model.specs.Contents.{Contents}
 use Rattle.tc_fixed.specs.Holding.{HasNoRoom}
 use Rattle.tc_hashdb.specs.Filling.{FillsWith}
 use Rattle.tc_hashdb.specs.Holding as hash
+use Rattle.tc_hashdb.specs.Informing as hash_lines
+use Rattle.tc_hashdb.specs.Shapes as hash_shape
 use Rattle.tc_ids.specs.Holding as fixed
+use Rattle.tc_ids.specs.Shapes as fixed_shape
+use Rattle.tk_top.specs.declared.words.Shape.{Shape}
+use Rattle.tk_top.specs.declared.words.Shape.TheVariants as shapes
 use Rattle.tk_top.specs.declared.words.Stored.{Stored}
 use Rattle.tk_top.specs.declared.words.Stored.TheVariants.{Fixed, Hash}
 
@@ -26,7 +31,33 @@ abbrev pub breaks_of : Stored → Files → ℕ → Rule → Type 0
 breaks_of Hash = hash.BreaksAs kind.Hash
 breaks_of Fixed = fixed.BreaksAs kind.Fixed
 
+-- what an inspection tells of files
+abbrev pub lines_in : Stored → Files → List ℕ → Type 0
+lines_in Hash = hash_lines.Lines
+lines_in Fixed = fixed.Lines
+
 -- a limit is reached between contents and those that a request makes of them: of the length of files, which have these now, or of the undo log
 abbrev pub fills_of : Stored → (ℕ → ℕ) → (ℕ → ℕ) → Type 0 → Contents → Contents → Type 0
 fills_of Hash limits lengths log_is_full before after = FillsWith (limits 0) (lengths 0) log_is_full before after
 fills_of Fixed limits lengths log_is_full before after = HasNoRoom (limits 0) log_is_full (fixed.length_with after)
+
+-- ---- files made anew
+
+abbrev pub stored_as : Shape → Stored
+stored_as (shapes.Hash shape) = Hash
+stored_as (shapes.Fixed shape) = Fixed
+
+-- no data, in that shape
+abbrev pub anew_of : Shape → Contents
+anew_of (shapes.Hash shape) = hash_shape.anew shape
+anew_of (shapes.Fixed shape) = fixed_shape.anew shape
+
+-- the head of the main file has these numbers
+abbrev pub numbers_of : Shape → Files → Type 0
+numbers_of (shapes.Hash shape) = hash_shape.Shaped shape
+numbers_of (shapes.Fixed shape) = fixed_shape.Shaped shape
+
+-- there is no room for such a file: of so many bytes of the main file, or of the undo log
+abbrev pub lacks_of : Shape → ℕ → Type 0 → Type 0
+lacks_of (shapes.Hash shape) limit log_is_full = hash_shape.LacksSections limit log_is_full shape
+lacks_of (shapes.Fixed shape) limit log_is_full = HasNoRoom limit log_is_full 256

@@ -17,16 +17,24 @@ use Rattle.ty_world.specs.World.{Mark, World, started, world_after, AllAsked}
 use Rattle.ty_world.specs.Playing.{unplayed}
 use Rattle.ty_rounds.specs.Turns.{Told}
 use Rattle.ty_base.specs.Opening.{OpensTo}
+use Rattle.ty_wire.specs.Prefixes.{IsPrefix}
+use Rattle.tk_mgr.specs.Tasks.{text_of}
+use Rattle.tk_mgr.specs.declared.task.Task.{Task}
+use Rattle.tk_mgr.specs.declared.task.Task.TheVariants as tasks
 use Rattle.tk_words.specs.Words.{Word}
 use Rattle.tk_top.specs.declared.ends.End.{End}
 use Rattle.tk_top.specs.declared.ends.End.TheVariants.{Done, Words, Refused, VolumeFault, Broken, NoMemory, Full, WireFault, TurnsSpent}
 use Rattle.tk_top.specs.Ends.{line_of}
 use Rattle.tk_top.specs.Causes.{Caused}
+use Rattle.tk_top.specs.Making.{FilesMade, JudgedMaking, MainIsEmpty, MainIsThere}
 use Rattle.tk_top.specs.Over.{BeginsAt, BreaksAt, FilesRun, FullFiles, Judged, Recover, StandsFor}
 use Rattle.tk_top.specs.Serving.{ServesAt, PlaysAll}
-use Rattle.tk_top.specs.Stored.{breaks_of, fills_of, kind_in, reopens_of}
+use Rattle.tk_top.specs.Stored.{anew_of, breaks_of, fills_of, kind_in, lacks_of, lines_in, numbers_of, reopens_of, stored_as}
+use Rattle.tk_top.specs.Tasks.{FilesManaged, FullTask, JudgedTask, Misplaces, RefusedAt}
 use Rattle.tk_top.specs.Words.{asked_of}
 use Rattle.tk_top.specs.declared.words.Asked.{Asked}
+use Rattle.tk_top.specs.declared.words.Asked.TheVariants as asked
+use Rattle.tk_top.specs.declared.words.Shape.{Shape}
 use Rattle.tk_top.specs.declared.words.Memory.{Memory}
 use Rattle.tk_top.specs.declared.words.Memory.TheVariants.{Map, Tree}
 use Rattle.tk_top.specs.declared.words.Source.{Source}
@@ -83,7 +91,7 @@ pub record FileRun {V W : Type 0} (v : volume.Ghosts V) (g : wire.Ghosts W) (end
   -- what came of the wire, and what any stop leaves of a volume that was settled and whose files stood for contents
   pub told : FilesRun v.tells g (Opens stored) (reopens_of stored) end turns at (v.calls vol) (v.calls vol') x y
   -- where it was served, the files stood for contents; and where a rule is named, it is the first that is broken
-  pub judged : Judged end (v.tells → StandsFor (Opens stored) (v.calls vol)) (λ file rule. v.tells → BreaksAt (breaks_of stored) (v.calls vol) file rule)
+  pub judged : Judged end (v.tells → StandsFor (Opens stored) (v.calls vol)) (λ file rule. v.tells → BreaksAt (breaks_of stored) (v.calls vol) (v.calls vol') file rule)
   pub full : end ≡ Full → IsFull v stored limit vol vol' (g.transcript x) (g.transcript y)
   pub caused : Caused end (v.faults vol) (v.faults vol') (g.faults x) (g.faults y)
 
@@ -92,20 +100,89 @@ abbrev pub SourceRun : {V W : Type 0} → volume.Ghosts V → wire.Ghosts W → 
 SourceRun v g end (source.Memory memory) at turns vol vol' x y = MemoryRun g end memory at turns x y × (vol' ≡ vol)
 SourceRun v g end (source.File name stored limit) at turns vol vol' x y = FileRun v g end name stored (min limit (2 ^ 40)) at turns vol vol' x y
 
+-- ---- commands
+
+-- a limit was reached along a task: each data file may have so many bytes, or as many as it had where that is more, and has as many as the volume that is
+-- handed back; of the undo log it is said where it has half of what it may have
+pub record IsFullTask {V : Type 0} (v : volume.Ghosts V) (stored : Stored) (task : Task) (vol vol' : V) : Type 0 where
+  pub limits : ℕ → ℕ
+  pub limits_are : v.tells → (files : Files) → recovered (now (v.calls vol)) ≡ Some files → (f : ℕ) → is_data f ≡ true → limits f ≡ max (2 ^ 40) (length (files f))
+  pub full : FullTask v.tells (fills_of stored limits (λ f. length (now (v.calls vol') f)) (v.tells → 2 ^ 61 ≤ length (now (v.calls vol') 1))) (Recover (Opens stored) (recovered (now (v.calls vol)))) (BeginsAt v.tells (Opens stored) (v.calls vol)) task
+
+-- a run that carries out a task on the files of a name
+pub record TaskOnFiles {V O : Type 0} (v : volume.Ghosts V) (o : sink.Ghosts O) (end : End) (name : List ℕ) (stored : Stored) (task : Task) (vol vol' : V) (p q : O) : Type 0 where
+  pub names : Adds (v.names vol) (v.names vol') (name ∷ []) ⊎ Adds (v.names vol) (v.names vol') []
+  -- what was printed, and what any stop leaves of a volume that was settled and whose files stood for contents
+  pub told : FilesManaged v.tells o (Opens stored) (reopens_of stored) (lines_in stored) task end (v.calls vol) (v.calls vol') p q
+  -- where it was carried out, the files stood for contents; where it was refused, for a reason; and where a rule is named, it is the first that is broken
+  pub judged : JudgedTask end (v.tells → StandsFor (Opens stored) (v.calls vol)) (λ file rule. v.tells → BreaksAt (breaks_of stored) (v.calls vol) (v.calls vol') file rule) (v.tells → RefusedAt (Opens stored) task (v.calls vol))
+  pub misplaced : v.tells → Misplaces task end (v.calls vol) (v.calls vol')
+  pub full : end ≡ Full → IsFullTask v stored task vol vol'
+  pub caused : Caused end (v.faults vol) (v.faults vol') (o.faults p) (o.faults q)
+
+-- there was no room for a file made anew
+pub record IsLacking {V : Type 0} (v : volume.Ghosts V) (shape : Shape) (vol vol' : V) : Type 0 where
+  pub limit : ℕ
+  pub limit_is : v.tells → (files : Files) → recovered (now (v.calls vol)) ≡ Some files → limit ≡ max (2 ^ 40) (length (files 0))
+  pub lack : v.tells → lacks_of shape limit (v.tells → 2 ^ 61 ≤ length (now (v.calls vol') 1))
+
+-- a run that makes the files of a name anew
+pub record MakesFiles {V : Type 0} (v : volume.Ghosts V) (end : End) (name : List ℕ) (shape : Shape) (vol vol' : V) : Type 0 where
+  pub names : Adds (v.names vol) (v.names vol') (name ∷ []) ⊎ Adds (v.names vol) (v.names vol') []
+  -- what any stop leaves of a volume that was settled and whose files stood for contents
+  pub made : FilesMade v.tells (reopens_of (stored_as shape)) (reopens_of (stored_as shape)) (numbers_of shape) (anew_of shape) end (v.calls vol) (v.calls vol')
+  -- where it was made, the main file was empty; where it was refused, it wasn't; and where a rule is named, it is one of the log
+  pub judged : JudgedMaking end (v.tells → MainIsEmpty (v.calls vol)) (λ file rule. v.tells → BreaksAt (λ files f r. ⊥) (v.calls vol) (v.calls vol') file rule) (v.tells → MainIsThere (v.calls vol) (v.calls vol'))
+  pub full : end ≡ Full → IsLacking v shape vol vol'
+  pub caused : (count count' : ℕ) → Caused end (v.faults vol) (v.faults vol') count count'
+
+-- an end of a drill in memory
+abbrev pub IsDrilled : End → Type 0
+IsDrilled Done = Unit {0}
+IsDrilled Words = ⊥
+IsDrilled Refused = ⊥
+IsDrilled VolumeFault = ⊥
+IsDrilled (Broken file rule) = ⊥
+IsDrilled NoMemory = Unit {0}
+IsDrilled Full = ⊥
+IsDrilled WireFault = Unit {0}
+IsDrilled TurnsSpent = ⊥
+
+-- a run that makes a drill's requests in memory: its text is printed, or a front of it
+pub record DrillsMemory {O : Type 0} (o : sink.Ghosts O) (end : End) (memory : Memory) (seed count : ℕ) (p q : O) : Type 0 where
+  pub ends : IsDrilled end
+  pub taken : List ℕ
+  pub told : Adds (o.taken p) (o.taken q) taken
+  pub front : IsPrefix taken (text_of (tasks.Drill seed count) (no_keys memory).contents)
+  pub done : end ≡ Done → taken ≡ text_of (tasks.Drill seed count) (no_keys memory).contents
+  pub caused : (count count' : ℕ) → Caused end count count' (o.faults p) (o.faults q)
+
+-- ---- what is asked for
+
+-- it is served, made or done, and all else is left alone
+abbrev pub AskedRun : {V W O : Type 0} → volume.Ghosts V → wire.Ghosts W → sink.Ghosts O → End → Asked → V → V → W → W → O → O → Type 0
+AskedRun v g o end (asked.Serve source at turns) vol vol' x y p q = SourceRun v g end source at turns vol vol' x y × (q ≡ p)
+AskedRun v g o end (asked.Task name stored task) vol vol' x y p q = TaskOnFiles v o end name stored task vol vol' p q × (y ≡ x)
+AskedRun v g o end (asked.Create name shape) vol vol' x y p q = MakesFiles v end name shape vol vol' × ((y ≡ x) × (q ≡ p))
+AskedRun v g o end (asked.Drill memory seed count) vol vol' x y p q = DrillsMemory o end memory seed count p q × ((y ≡ x) × (vol' ≡ vol))
+
+-- a fault comes only of the volume, of the wire, or of the sink that is printed to
+abbrev pub CausedBy : End → ℕ → ℕ → ℕ → ℕ → ℕ → ℕ → Type 0
+CausedBy end vol vol' wire wire' out out' = Caused end vol vol' wire wire' ⊎ Caused end vol vol' out out'
+
 -- a run where this is asked for, or nothing that is carried out
-pub record RunsAsked {V W : Type 0} (v : volume.Ghosts V) (g : wire.Ghosts W) (o : Option Asked) (end : End) (vol vol' : V) (x y : W) : Type 0 where
-  -- where it is, it is served; the words end the run only where it isn't, and then the run ends so, or finds no memory to read them
-  pub served : (asked : Asked) → o ≡ Some asked → SourceRun v g end asked.source asked.at asked.turns vol vol' x y
-  pub words : end ≡ Words → o ≡ None
-  pub refused : o ≡ None → (end ≡ Words) ⊎ (end ≡ NoMemory)
-  pub unserved : o ≡ None → (y ≡ x) × (vol' ≡ vol)
-  -- a fault comes only of the wire or of the volume
-  pub caused : Caused end (v.faults vol) (v.faults vol') (g.faults x) (g.faults y)
+pub record RunsAsked {V W O : Type 0} (v : volume.Ghosts V) (g : wire.Ghosts W) (o : sink.Ghosts O) (want : Option Asked) (end : End) (vol vol' : V) (x y : W) (p q : O) : Type 0 where
+  -- where it is, it is carried out; the words end the run only where it isn't, and then the run ends so, or finds no memory to read them
+  pub served : (a : Asked) → want ≡ Some a → AskedRun v g o end a vol vol' x y p q
+  pub words : end ≡ Words → want ≡ None
+  pub refused : want ≡ None → (end ≡ Words) ⊎ (end ≡ NoMemory)
+  pub unserved : want ≡ None → (y ≡ x) × ((vol' ≡ vol) × (q ≡ p))
+  pub caused : CausedBy end (v.faults vol) (v.faults vol') (g.faults x) (g.faults y) (o.faults p) (o.faults q)
 
 -- a run on these words
-pub record Runs {V W E : Type 0} (v : volume.Ghosts V) (g : wire.Ghosts W) (e : sink.Ghosts E) (ws : List Word) (end : End) (vol vol' : V) (x y : W) (p q : E) : Type 0 where
-  -- they alone decide whether it serves, what, and where
-  pub by_words : RunsAsked v g (asked_of ws) end vol vol' x y
-  -- where the sink was never refused, it has the end's line and nothing else
-  pub line : e.faults q ≡ e.faults p → e.faults p < 2 ^ 64 - 1 → Adds (e.taken p) (e.taken q) (line_of end)
-  pub silent : end ≡ Done → q ≡ p
+pub record Runs {V W O E : Type 0} (v : volume.Ghosts V) (g : wire.Ghosts W) (o : sink.Ghosts O) (e : sink.Ghosts E) (ws : List Word) (end : End) (vol vol' : V) (x y : W) (p q : O) (r s : E) : Type 0 where
+  -- they alone decide what is served, made or done, and where
+  pub by_words : RunsAsked v g o (asked_of ws) end vol vol' x y p q
+  -- where the sink of errors was never refused, it has the end's line and nothing else
+  pub line : e.faults s ≡ e.faults r → e.faults r < 2 ^ 64 - 1 → Adds (e.taken r) (e.taken s) (line_of end)
+  pub silent : end ≡ Done → s ≡ r

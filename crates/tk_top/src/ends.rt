@@ -93,3 +93,10 @@ impl From<UndoErr> for End {
         }
     }
 }
+
+/// How a run over a volume ended, and the volume as it stands.
+#[derive(Drop)]
+pub struct Stopped<V> {
+    pub end: End,
+    pub vol: V,
+}

@@ -6,15 +6,18 @@ ghost use Rattle.tk_words.specs.Words.{texts};
 ghost use Rattle.tk_top.specs.declared.ends.End.{End};
 ghost use Rattle.tk_top.specs.Causes.{Caused};
 ghost use Rattle.tk_top.specs.Ends.{status_of};
-ghost use Rattle.tk_top.specs.Top.{FileRun, MemoryRun, Runs, RunsAsked, SourceRun, no_keys};
-ghost use Rattle.tk_top.specs.Words.{asked_in, asked_of};
+ghost use Rattle.tk_top.specs.Top.{AskedRun, CausedBy, DrillsMemory, FileRun, MakesFiles, MemoryRun, Runs, RunsAsked, SourceRun, TaskOnFiles, no_keys};
+ghost use Rattle.tk_top.specs.Words.{Fits, MayBeMade, asked_in, asked_of};
 
 use crate::base::serve_base;
-use crate::ends::End;
-use crate::files::{Stopped, run_files};
+use crate::ends::{End, Stopped};
+use crate::files::run_files;
 use crate::lines::put_line;
-use crate::words::{Asked, MOST, Memory, Source, Stored, what_is_asked};
+use crate::making::make_files;
+use crate::managing::{end_of, manage_files};
+use crate::words::{Asked, MOST, Memory, Shape, Source, Stored, what_is_asked};
 use std::alloc::Global;
+use std::mem::ManuallyDrop;
 use tc_base::Kind;
 use tc_hashdb::HashEngine;
 use tc_ids::FixedEngine;
@@ -22,6 +25,7 @@ use tc_io::{At, Clock, Sink, Volume, Wire};
 use tc_mem::MemEngine;
 use tc_space::NoSpace;
 use tc_undo::Undo;
+use tk_mgr::{Task, manage};
 use tk_words::{Order, parse};
 use ty_answers::Database;
 
@@ -110,21 +114,23 @@ fn serve_stored<V: Volume, W: Wire, K: Clock>(
     }
 }
 
-// What is asked for, served.
-fn serve_asked<V: Volume, W: Wire, K: Clock>(
+// What is served.
+fn serve_source<V: Volume, W: Wire, K: Clock>(
     alloc: Global,
-    asked: &Asked,
+    source: &Source,
+    at: &At,
+    turns: u64,
     vol: V,
     wire: &mut W,
     clock: &mut K,
 ) -> Stopped<V>
     requires opened { W.opened wire.old ≡ false }
-    ensures served { SourceRun V.Volume W.Wire result.end asked.now.source asked.now.at asked.now.turns vol result.vol wire.old wire.new }
+    ensures served { SourceRun V.Volume W.Wire result.end source.now at.now turns vol result.vol wire.old wire.new }
     ensures caused { Caused result.end (V.faults vol) (V.faults result.vol) (W.faults wire.old) (W.faults wire.new) }
 {
-    match &asked.source {
+    match source {
         Source::Memory(memory) => Stopped {
-            end: serve_memory(alloc, *memory, &asked.at, wire, clock, asked.turns),
+            end: serve_memory(alloc, *memory, at, wire, clock, turns),
             vol,
         },
         Source::File {
@@ -137,27 +143,124 @@ fn serve_asked<V: Volume, W: Wire, K: Clock>(
             *stored,
             vol,
             (*limit).min(MOST),
-            &asked.at,
+            at,
             wire,
             clock,
-            asked.turns,
+            turns,
         ),
     }
 }
 
+// A task on the files of a name.
+fn manage_stored<V: Volume, O: Sink>(
+    alloc: Global,
+    name: &str,
+    stored: Stored,
+    task: Task,
+    vol: V,
+    out: &mut O,
+) -> Stopped<V>
+    ensures { TaskOnFiles V.Volume O.Sink result.end name.now stored task vol result.vol out.old out.new }
+{
+    match stored {
+        Stored::Hash => manage_files::<Undo<V>, Database<HashEngine<Undo<V>>>, O>(
+            alloc,
+            name,
+            Kind::Hash,
+            vol,
+            task,
+            out,
+        ),
+        Stored::Fixed => manage_files::<Undo<V>, Database<FixedEngine<Undo<V>>>, O>(
+            alloc,
+            name,
+            Kind::Fixed,
+            vol,
+            task,
+            out,
+        ),
+    }
+}
+
+// The files of a name made anew.
+fn make_stored<V: Volume>(alloc: Global, name: &str, shape: &Shape, vol: V) -> Stopped<V>
+    requires { MayBeMade shape.now }
+    ensures { MakesFiles V.Volume result.end name.now shape.now vol result.vol }
+{
+    match shape {
+        Shape::Hash(hash) => {
+            make_files::<Undo<V>, Database<HashEngine<Undo<V>>>>(alloc, name, vol, hash)
+        }
+        Shape::Fixed(fixed) => {
+            make_files::<Undo<V>, Database<FixedEngine<Undo<V>>>>(alloc, name, vol, fixed)
+        }
+    }
+}
+
+// A drill of a database in memory.
+fn drill_memory<O: Sink>(alloc: Global, memory: Memory, seed: u64, count: u32, out: &mut O) -> End
+    ensures { DrillsMemory O.Sink result memory seed count out.old out.new }
+{
+    let mut space = NoSpace::new();
+    let mut base = database(alloc, memory);
+    let end = end_of(manage(
+        alloc,
+        Task::Drill { seed, count },
+        &mut base,
+        &mut space,
+        out,
+    ));
+    let _ = ManuallyDrop::new(base);
+    end
+}
+
+// What is asked for, served, made or done.
+fn carry_out<V: Volume, W: Wire, O: Sink, K: Clock>(
+    alloc: Global,
+    asked: Asked,
+    vol: V,
+    wire: &mut W,
+    out: &mut O,
+    clock: &mut K,
+) -> Stopped<V>
+    requires opened { W.opened wire.old ≡ false }
+    requires fits { Fits asked }
+    ensures run { AskedRun V.Volume W.Wire O.Sink result.end asked vol result.vol wire.old wire.new out.old out.new }
+    ensures caused { CausedBy result.end (V.faults vol) (V.faults result.vol) (W.faults wire.old) (W.faults wire.new) (O.faults out.old) (O.faults out.new) }
+{
+    match asked {
+        Asked::Serve { source, at, turns } => {
+            serve_source(alloc, &source, &at, turns, vol, wire, clock)
+        }
+        Asked::Task { name, stored, task } => {
+            manage_stored(alloc, name.as_str(), stored, task, vol, out)
+        }
+        Asked::Create { name, shape } => make_stored(alloc, name.as_str(), &shape, vol),
+        Asked::Drill {
+            memory,
+            seed,
+            count,
+        } => Stopped {
+            end: drill_memory(alloc, memory, seed, count, out),
+            vol,
+        },
+    }
+}
+
 // What an order asks for.
-fn serve_order<V: Volume, W: Wire, K: Clock>(
+fn follow<V: Volume, W: Wire, O: Sink, K: Clock>(
     alloc: Global,
     order: Order,
     vol: V,
     wire: &mut W,
+    out: &mut O,
     clock: &mut K,
 ) -> Stopped<V>
     requires opened { W.opened wire.old ≡ false }
-    ensures { RunsAsked V.Volume W.Wire (asked_in (Some order)) result.end vol result.vol wire.old wire.new }
+    ensures { RunsAsked V.Volume W.Wire O.Sink (asked_in (Some order)) result.end vol result.vol wire.old wire.new out.old out.new }
 {
     match what_is_asked(order) {
-        Some(asked) => serve_asked(alloc, &asked, vol, wire, clock),
+        Some(asked) => carry_out(alloc, asked, vol, wire, out, clock),
         None => Stopped {
             end: End::Words,
             vol,
@@ -166,15 +269,16 @@ fn serve_order<V: Volume, W: Wire, K: Clock>(
 }
 
 // What the words ask for.
-fn serve_words<V: Volume, W: Wire, K: Clock>(
+fn follow_words<V: Volume, W: Wire, O: Sink, K: Clock>(
     alloc: Global,
     words: &Vec<String>,
     vol: V,
     wire: &mut W,
+    out: &mut O,
     clock: &mut K,
 ) -> Stopped<V>
     requires opened { W.opened wire.old ≡ false }
-    ensures { RunsAsked V.Volume W.Wire (asked_of (texts words.now.items)) result.end vol result.vol wire.old wire.new }
+    ensures { RunsAsked V.Volume W.Wire O.Sink (asked_of (texts words.now.items)) result.end vol result.vol wire.old wire.new out.old out.new }
 {
     let read = match parse(alloc, words) {
         Ok(read) => read,
@@ -186,7 +290,7 @@ fn serve_words<V: Volume, W: Wire, K: Clock>(
         }
     };
     match read {
-        Some(order) => serve_order(alloc, order, vol, wire, clock),
+        Some(order) => follow(alloc, order, vol, wire, out, clock),
         None => Stopped {
             end: End::Words,
             vol,
@@ -195,8 +299,9 @@ fn serve_words<V: Volume, W: Wire, K: Clock>(
 }
 
 /// What the program does with the words behind its name. Today it serves a database in memory, or a hash or a fixed-length database in files: `pipe NAME`
-/// over the standard streams, `serve NAME` with its options but `-ulog` at an address. The name `*` is a map and `+` a tree in the order of bytes,
-/// both in memory, where a limit has no effect; a name that ends in `.tch` or `.tcf` is that of files, which are made where there are none. All other
+/// over the standard streams, `serve NAME` with its options but `-ulog` at an address; it makes such files with `hash create NAME` and `fixed create NAME`, and
+/// carries out the commands `put`, `out`, `get`, `list`, `inform` and `optimize` of both kinds, and `drill`. The name `*` is a map and `+` a tree in the order of bytes,
+/// both in memory, where a limit has no effect; a name that ends in `.tch` or `.tcf` is that of files, which `pipe`, `serve` and `drill` make where there are none. All other
 /// words are answered with status 1.
 pub fn run<V: Volume, W: Wire, O: Sink, E: Sink, K: Clock>(
     alloc: Global,
@@ -208,12 +313,9 @@ pub fn run<V: Volume, W: Wire, O: Sink, E: Sink, K: Clock>(
     clock: &mut K,
 ) -> Ran<V>
     requires opened { W.opened wire.old ≡ false }
-    ensures runs { (end : End) × (result.status ≡ status_of end) × Runs V.Volume W.Wire E.Sink (texts words.now.items) end vol result.vol wire.old wire.new err.old err.new }
-    // Nothing is written to `out`.
-    ensures out { out.new ≡ out.old }
+    ensures runs { (end : End) × (result.status ≡ status_of end) × Runs V.Volume W.Wire O.Sink E.Sink (texts words.now.items) end vol result.vol wire.old wire.new out.old out.new err.old err.new }
 {
-    let _ = out;
-    let stopped = serve_words(alloc, words, vol, wire, clock);
+    let stopped = follow_words(alloc, words, vol, wire, out, clock);
     let _ = put_line(stopped.end, err);
     Ran {
         status: stopped.end.status(),

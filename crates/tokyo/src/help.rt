@@ -3,11 +3,14 @@
 // The version; nothing else says it.
 const VERSION: &[u8] = b"tokyo 0.1\n";
 
-const PROGRAM: &[u8] = b"tokyo serves a database in the binary protocol of Tokyo Tyrant.
+const PROGRAM: &[u8] =
+    b"tokyo serves a database in the binary protocol of Tokyo Tyrant, and carries out
+commands on databases in files.
 
 tokyo serve [-host h] [-port p] [-sid n] [-lim n] [-turns n] name    over sockets
 tokyo pipe name                        over the standard streams
 tokyo hash|tree|fixed|table --help     commands on files of a kind
+tokyo drill seed n name                makes n requests, and prints what came of them
 tokyo --help
 tokyo --version
 
@@ -16,7 +19,7 @@ A name is
   +        a tree in memory: one value or several to each key
   x.tch    a hash database in files: a value to each key
   x.tcf    a fixed-length database in files: values by number
-Files that aren't there are made.
+Files that aren't there are made by serve, pipe and drill.
 
   -host    the address, 127.0.0.1 where it is left out; who reaches it may
            read and erase everything: there is no authentication
@@ -24,14 +27,17 @@ Files that aren't there are made.
   -sid     0 to 65535; 0; without effect yet
   -lim     the most bytes of a file, 256 to 1099511627776; the latter
   -turns   it ends behind so many turns, 1 to 18446744073709551615; the latter
+  seed     determines the requests, 0 to 18446744073709551615
+  n        so many requests, 0 to 1000000
 
-Words that are not served yet: -ulog, -mhost h and -mport p of serve;
-drill seed n name; names of trees and tables in files, x.tcb and x.tct; and all
-commands on files of a kind.
+Words that are not carried out yet: -ulog, -mhost h and -mport p of serve; names of
+trees and tables in files, x.tcb and x.tct; all commands on these; and restore.
 
 A status other than 0 writes its line to the standard error:
-  0  the input ended, and all was answered
-  1  tokyo: words           these words are in no command, or not served yet
+  0  it is done; of serve and pipe: the input ended, and all was answered
+  1  tokyo: words           these words are in no command, or not carried out yet
+  2  tokyo: refused         what a command asks for failed; or create or drill meets a
+                            file that isn't empty, another command one that is
   3  tokyo: volume fault    a call of the system on a file failed
   4  tokyo: broken: ..      a file breaks a rule of its layout
   5  tokyo: no memory
@@ -41,32 +47,32 @@ A status other than 0 writes its line to the standard error:
 ";
 
 const HASH: &[u8] = b"tokyo hash: commands on a hash database, whose name ends in .tch.
-None of them is served yet: they end with status 1. Its files are served by
-tokyo serve and tokyo pipe, which make them where there are none.
 
-tokyo hash create [-tl] name [bnum [apow [fpow]]]
-tokyo hash inform name
-tokyo hash put [-dk|-dc] name key value
-tokyo hash out name key
-tokyo hash get name key
-tokyo hash list [-m n] [-pv] name
-tokyo hash optimize [-tl] name
-tokyo hash restore [-ts n] name
+tokyo hash create [-tl] name [bnum [apow [fpow]]]    makes its file
+tokyo hash inform name                               prints what it is
+tokyo hash put [-dk|-dc] name key value              gives a key a value
+tokyo hash out name key                              takes a key out
+tokyo hash get name key                              prints a value, and a newline
+tokyo hash list [-m n] [-pv] name                    prints the keys, a line each
+tokyo hash optimize [-tl] name                       packs the file
+tokyo hash restore [-ts n] name                      isn't carried out yet
 
   bnum     buckets, 1 to 16777216; 131071
   apow     the power of 2 that records are aligned to, 4 to 16; 4
   fpow     the power of 2 of the free block pool, 0 to 20; 10
-  -tl      the large form
-  -dk      only where the key isn't held
+  -tl      makes it large, or has it packed to a large one: its places have 8 bytes
+  -dk      refused where the key is held
   -dc      joins the value behind that of the key
   -m       so many keys at most, 0 to 2147483647
-  -pv      with values
-  -ts      up to this time, in microseconds since 1970
+  -pv      behind each key a tab and its value
+
+Refused, with status 2: get and out of a key that isn't held; create where the file
+isn't empty, and all others where it is or isn't there. The contents stay then.
 ";
 
 const TREE: &[u8] = b"tokyo tree: commands on a tree in files, whose name ends in .tcb.
-None of them is served yet, nor are such files: they end with status 1. A tree
-in memory is served by tokyo serve + and tokyo pipe +.
+None of them is carried out yet, nor are such files served: they end with status 1. A
+tree in memory is served by tokyo serve + and tokyo pipe +.
 
 tokyo tree create [-cd] [-tl] name [lmemb [nmemb [bnum [apow [fpow]]]]]
 tokyo tree inform name
@@ -93,30 +99,31 @@ tokyo tree restore [-ts n] name
 ";
 
 const FIXED: &[u8] = b"tokyo fixed: commands on a fixed-length database, whose name ends in .tcf.
-None of them is served yet: they end with status 1. Its files are served by
-tokyo serve and tokyo pipe, which make them where there are none.
 
-tokyo fixed create name [width [limsiz]]
-tokyo fixed inform name
-tokyo fixed put [-dk|-dc] name key value
-tokyo fixed out name key
-tokyo fixed get name key
-tokyo fixed list [-m n] [-pv] name
-tokyo fixed optimize name
-tokyo fixed restore [-ts n] name
+tokyo fixed create name [width [limsiz]]             makes its file
+tokyo fixed inform name                              prints what it is
+tokyo fixed put [-dk|-dc] name key value             gives an id a value
+tokyo fixed out name key                             takes an id out
+tokyo fixed get name key                             prints a value, and a newline
+tokyo fixed list [-m n] [-pv] name                   prints the ids, a line each
+tokyo fixed optimize name                            changes nothing
+tokyo fixed restore [-ts n] name                     isn't carried out yet
 
-  width    the most bytes of a value, 1 to 1048576; 255
+  width    the most bytes of a value, 1 to 1048576; 255; longer ones are cut to it
   limsiz   the most bytes of the file, 512 to 1099511627776; 268435456
-  -dk      only where the id isn't held
+  -dk      refused where the id is held
   -dc      joins the value behind that of the id
   -m       so many ids at most, 0 to 2147483647
-  -pv      with values
-  -ts      up to this time, in microseconds since 1970
+  -pv      behind each id a tab and its value
 A key is a number, or min, max, prev or next.
+
+Refused, with status 2: get and out of an id that isn't held; a key that is no id from
+1 to the greatest that limsiz allows; create where the file isn't empty, and all
+others where it is or isn't there. The contents stay then.
 ";
 
 const TABLE: &[u8] = b"tokyo table: commands on a table, whose name ends in .tct.
-None of them is served yet, nor are such files: they end with status 1.
+None of them is carried out yet, nor are such files served: they end with status 1.
 
 tokyo table create [-tl] name [bnum [apow [fpow]]]
 tokyo table inform name

@@ -7,6 +7,7 @@ use Rattle.tk_top.specs.Runs.{Ends, FullRun}
 use Rattle.tk_top.proofs.Causes.{caused_later}
 use Rattle.tk_top.proofs.Over.{full_open, over_served, over_unopened}
 use Rattle.tk_top.proofs.Starting.{ready_at}
+use Rattle.tk_top.proofs.Fresh.{fresh}
 use Rattle.tk_top.proofs.base.serve_base.Goals as goal
 
 pub serve-end-requires-clause-ready : goal.serve-end-requires-clause-ready
@@ -18,7 +19,7 @@ pub returns-in-Err-clause-told : goal.returns-in-Err-clause-told
 returns-in-Err-clause-told g c = let s = g.B.S.Space in let w = g.W.Wire in
     let told : Adds (w.transcript c.args.wire.now) (w.transcript c.open.new.self) [] ⊎ Adds (w.transcript c.args.wire.now) (w.transcript c.open.new.self) (Open c.args.at.now ∷ []) = search rules in
     over_unopened s w g.B.Base.holds g.B.Base.reopens c.args.base c.args.turns c.args.at.now c.args.space.now _ _
-    (λ t. (λ o l. g.met.B.S.Space.only_kept c.args.space.now o t c.requires.ready.sound l, g.met.B.S.Space.clean c.args.space.now t c.requires.ready.sound c.requires.untouched)) told
+    (fresh g.B.S.Space c.args.space.now g.met.B.S.Space.only_kept g.met.B.S.Space.clean c.requires.ready.sound c.requires.untouched) told
 
 pub returns-clause-told : goal.returns-clause-told
 returns-clause-told g c = let s = g.B.S.Space in let w = g.W.Wire in

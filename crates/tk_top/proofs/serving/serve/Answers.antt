@@ -7,6 +7,7 @@ use Rattle.tk_top.specs.Ends.{IsEnd}
 use Rattle.tk_top.specs.Runs.{Ends}
 use Rattle.tk_top.proofs.Causes.{caused_turn, full_turn, is_end_turn}
 use Rattle.tk_top.proofs.Running.{run_err, run_fills, run_more, run_shut, run_spent, run_start, turn_is}
+use Rattle.tk_top.proofs.Fresh.{fresh}
 use Rattle.tk_top.proofs.serving.serve.Goals as goal
 
 pub loop-done-init : goal.loop-done-init
@@ -28,7 +29,7 @@ loop-done-preserved g c = let s = g.B.S.Space in let w = g.W.Wire in record {
 pub returns-in-Shut-clause-told : goal.returns-in-Shut-clause-told
 returns-in-Shut-clause-told g c = let s = g.B.S.Space in let w = g.W.Wire in let ready = c.in-Ok.ensures.ready in
     run_shut s w g.B.Base.holds g.B.Base.reopens _ _ _ _ _ _ _ _ _ _ _ _ _ _ _
-    (λ t. (λ o l. g.met.B.S.Space.only_kept c.turn.new.space o t ready.base_is.sound l, g.met.B.S.Space.clean c.turn.new.space t ready.base_is.sound ready.untouched))
+    (fresh g.B.S.Space c.turn.new.space g.met.B.S.Space.only_kept g.met.B.S.Space.clean ready.base_is.sound ready.untouched)
     c.loop-done.invariant.ready.wired c.loop-done.invariant.told (turn_is s w g.B.Base.holds g.B.Base.reopens _ _ _ _ _ _ _ _ _ _ c.in-Ok.outcome Shut c.in-Shut.is c.in-Ok.ensures.told)
 
 pub returns-in-Err-clause-told : goal.returns-in-Err-clause-told
@@ -53,5 +54,5 @@ pub returns-clause-told : goal.returns-clause-told
 returns-clause-told g c = let s = g.B.S.Space in let w = g.W.Wire in let ready = c.loop-done.invariant.ready in
     let all : c.loop-done.done ≡ c.args.turns = search rules in
     run_spent s w g.B.Base.holds g.B.Base.reopens _ _ _ _ _ _ _ _ c.loop-done.done c.args.turns all
-    (λ t. (λ o l. g.met.B.S.Space.only_kept c.loop-done.space o t ready.base_is.sound l, g.met.B.S.Space.clean c.loop-done.space t ready.base_is.sound ready.untouched))
+    (fresh g.B.S.Space c.loop-done.space g.met.B.S.Space.only_kept g.met.B.S.Space.clean ready.base_is.sound ready.untouched)
     c.loop-done.invariant.told

@@ -1,0 +1,69 @@
+-- Requests of a drill that were kept.
+use Rattle.std.proofs.Common.{◌≡◌, ◌+◌, ℕ, true, refl, subst, ◌∙◌, inl, inr, ⊎_elim, arith}
+use Rattle.tc_base.specs.Files.{Files}
+use Rattle.tc_space.specs.Frames.{Keeps}
+use Rattle.tc_space.specs.declared.space.Space as space
+use Rattle.tc_model.specs.Contents.{Contents}
+use Rattle.ty_base.specs.Holding.{Held}
+use Rattle.ty_world.specs.World.{Mark}
+use Rattle.ty_rounds.specs.Keeping.{IsKept}
+use Rattle.ty_rounds.specs.Kept.{HasMark, MovesTo}
+use Rattle.ty_rounds.proofs.Keeping.{settled_moves}
+use Rattle.tk_mgr.specs.Drilling.{Holds, Makes, Secures, Stands, mark_behind}
+use Rattle.tk_mgr.specs.Drills.{drilled}
+use Rattle.tk_mgr.specs.Managing.{FillsTask, MayManage}
+use Rattle.tk_mgr.specs.declared.run.Run.{Run}
+use Rattle.tk_mgr.specs.declared.task.Task.TheVariants.{Drill}
+use Rattle.tk_mgr.proofs.Steps.{fills_still}
+
+module _ {S B : Type 0} (s : space.Ghosts S) (holds : B → Files → Contents → Type 0) (reopens : Files → Contents → Type 0) where
+  pub stands_hold : (seed : ℕ) (run : Run) (base : B) (a : S) (m : Mark) → Stands s holds reopens seed run base a m → Holds s holds seed run base a m
+  stands_hold seed run base a m st = record { counts = st.counts; has = st.stands.has }
+
+  -- ---- some requests, and a commit
+
+  module _ (more : ℕ) (run run' : Run) (base mid_base base' : B) (old mid new : S) (makes : Makes s holds more run run' base mid_base old mid) where
+    pub secured : IsKept s holds reopens true mid_base base' mid new → Secures s holds reopens more run run' base base' old new
+    secured kept = record {
+      made = makes.made;
+      may = record {
+        sound = kept.ready.sound;
+        untouched = kept.untouched;
+        stands = λ t. let h = makes.ready.held t in let is = kept.marks (record { contents = h.0; log = s.now mid 2 }) (record { held = (t, h.1); log = refl }) (λ e. absurd cc) in (h.0, is.has.held.1, is.stand);
+      };
+      each = λ seed m st. let h = makes.each seed m (stands_hold seed run base old m st) in record { counts = h.counts; stands = kept.marks (mark_behind run'.made seed m) h.has (λ e. absurd cc) };
+    }
+
+    -- what a stop leaves
+    pub secured_moves : Keeps s old mid → ((m : Mark) → HasMark s holds mid_base mid m → MovesTo s reopens mid new m) → (seed : ℕ) (m : Mark) → Stands s holds reopens seed run base old m → MovesTo s reopens old new (mark_behind (run.made + more) seed m)
+    secured_moves keeps moves seed m st =
+        let h = makes.each seed m (stands_hold seed run base old m st) in
+        let steady = keeps.steady st.stands.has.held.0 in
+        let mv = subst (λ (n : ℕ). MovesTo s reopens mid new (mark_behind n seed m)) makes.made (moves (mark_behind run'.made seed m) h.has) in
+        record {
+          leaves = record {
+            later = omega (arith, steady.leaves.later, mv.leaves.later);
+            each = λ t o le l. ⊎_elim
+                (λ there. ⊎_elim (λ was. inl was) (λ is. inr (inl is)) (steady.leaves.each t o le there))
+                (λ p. inr (⊎_elim (λ is. inl (is ∙ steady.same)) (λ r. inr r) p))
+                (mv.leaves.each t o (omega (arith, le, steady.leaves.later)) l);
+          };
+        }
+
+    -- a limit was reached as it was settled
+    pub secured_fills : (fills : Contents → Contents → Type 0) → ((c : Contents) → Held s holds mid_base mid c → fills c c) → (seed : ℕ) (m : Mark) → Stands s holds reopens seed run base old m → FillsTask fills (Drill seed (run.made + more)) m.contents
+    secured_fills fills full seed m st = let h = makes.each seed m (stands_hold seed run base old m st) in fills_still fills seed run'.made (run.made + more) m.contents (omega (arith, makes.made)) (full (drilled run'.made seed m.contents).contents h.has.held)
+
+  pub unmade_moves : (more : ℕ) (run : Run) (base : B) (old new : S) → Keeps s old new → (seed : ℕ) (m : Mark) → Stands s holds reopens seed run base old m → MovesTo s reopens old new (mark_behind (run.made + more) seed m)
+  unmade_moves more run base old new keeps seed m st = settled_moves s reopens old new (mark_behind (run.made + more) seed m) keeps st.stands.has.held.0
+
+  -- ---- one behind another
+
+  pub secures_none : (run : Run) (base : B) (a : S) → MayManage s holds reopens base a → Secures s holds reopens 0 run run base base a a
+  secures_none run base a may = record { made = omega arith; may = may; each = λ seed m st. st }
+
+  pub secures_then : (j k n : ℕ) (run run' run'' : Run) (base base' base'' : B) (a b d : S) → j + k ≡ n → Secures s holds reopens j run run' base base' a b → Secures s holds reopens k run' run'' base' base'' b d → Secures s holds reopens n run run'' base base'' a d
+  secures_then j k n run run' run'' base base' base'' a b d is first second = record { made = omega (arith, is, first.made, second.made); may = second.may; each = λ seed m st. second.each seed m (first.each seed m st) }
+
+  pub secures_as : (j k : ℕ) (run run' : Run) (base base' : B) (a b : S) → j ≡ k → Secures s holds reopens j run run' base base' a b → Secures s holds reopens k run run' base base' a b
+  secures_as j k run run' base base' a b is secures = subst (λ (n : ℕ). Secures s holds reopens n run run' base base' a b) is secures

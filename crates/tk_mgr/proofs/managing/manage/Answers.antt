@@ -1,0 +1,78 @@
+use Rattle.std.proofs.Common.{refl}
+use Rattle.std.specs.Prelude.{Some, None, []}
+use Rattle.tc_base.specs.declared.request.Request.TheVariants as request
+use Rattle.tk_mgr.specs.declared.task.Task.TheVariants as task
+use Rattle.tk_mgr.specs.Tasks.{maximum_of, put_request}
+use Rattle.tk_mgr.proofs.Ends.{carries_manages, shows_manages, manages_as, idle_stays, keeps_follows, fills_as, fills_asked, fills_before}
+use Rattle.tk_mgr.proofs.managing.manage.Goals as goal
+
+pub returns-in-Put-clause-managed : goal.returns-in-Put-clause-managed
+returns-in-Put-clause-managed g c =
+    manages_as g.B.S.Space g.B.Base.reopens g.O.Sink g.B.Base.holds g.B.Base.lines _ (task.Put c.in-Put.word c.in-Put.key c.in-Put.value) _ _ _ _ _ _ c.in-Put.is
+    (carries_manages g.B.S.Space g.B.Base.reopens g.O.Sink g.B.Base.holds g.B.Base.lines (task.Put c.in-Put.word c.in-Put.key c.in-Put.value) (Some (put_request c.in-Put.word c.in-Put.key c.in-Put.value)) _ _ _ _ _ (λ d. refl) (λ d. refl) (λ f d. refl) c.put.ensures.carries)
+
+pub returns-in-Out-clause-managed : goal.returns-in-Out-clause-managed
+returns-in-Out-clause-managed g c =
+    manages_as g.B.S.Space g.B.Base.reopens g.O.Sink g.B.Base.holds g.B.Base.lines _ (task.Out c.in-Out.key) _ _ _ _ _ _ c.in-Out.is
+    (carries_manages g.B.S.Space g.B.Base.reopens g.O.Sink g.B.Base.holds g.B.Base.lines (task.Out c.in-Out.key) (Some (request.Out c.in-Out.key)) _ _ _ _ _ (λ d. refl) (λ d. refl) (λ f d. refl) c.take_out.ensures.carries)
+
+pub returns-in-Optimize-clause-managed : goal.returns-in-Optimize-clause-managed
+returns-in-Optimize-clause-managed g c =
+    manages_as g.B.S.Space g.B.Base.reopens g.O.Sink g.B.Base.holds g.B.Base.lines _ (task.Optimize c.in-Optimize.large) _ _ _ _ _ _ c.in-Optimize.is
+    (carries_manages g.B.S.Space g.B.Base.reopens g.O.Sink g.B.Base.holds g.B.Base.lines (task.Optimize c.in-Optimize.large) None _ _ _ _ _ (λ d. refl) (λ d. refl) (λ f d. refl) c.optimize.ensures.carries)
+
+pub returns-in-Get-clause-managed : goal.returns-in-Get-clause-managed
+returns-in-Get-clause-managed g c =
+    manages_as g.B.S.Space g.B.Base.reopens g.O.Sink g.B.Base.holds g.B.Base.lines _ (task.Get c.in-Get.key) _ _ _ _ _ _ c.in-Get.is
+    (shows_manages g.B.S.Space g.B.Base.reopens g.O.Sink g.B.Base.holds g.B.Base.lines (task.Get c.in-Get.key) _ _ _ _ _ _ (λ d. idle_stays (request.Get c.in-Get.key) d (record { updates_none = refl; packs_none = refl }))
+    (record { sound = c.requires.may.sound; only = λ o t l. g.met.B.S.Space.only_kept c.args.space.now o t c.requires.may.sound l; clean = λ t. g.met.B.S.Space.clean c.args.space.now t c.requires.may.sound c.requires.may.untouched })
+    (λ t u o le l. g.met.B.S.Space.earlier c.get.new.space t u o le l) c.get.ensures.keeps c.get.ensures.shows)
+
+pub returns-in-List-clause-managed : goal.returns-in-List-clause-managed
+returns-in-List-clause-managed g c =
+    manages_as g.B.S.Space g.B.Base.reopens g.O.Sink g.B.Base.holds g.B.Base.lines _ (task.List c.in-List.maximum c.in-List.values) _ _ _ _ _ _ c.in-List.is
+    (shows_manages g.B.S.Space g.B.Base.reopens g.O.Sink g.B.Base.holds g.B.Base.lines (task.List c.in-List.maximum c.in-List.values) _ _ _ _ _ _ (λ d. idle_stays (request.FwmKeys [] (maximum_of c.in-List.maximum)) d (record { updates_none = refl; packs_none = refl }))
+    (record { sound = c.requires.may.sound; only = λ o t l. g.met.B.S.Space.only_kept c.args.space.now o t c.requires.may.sound l; clean = λ t. g.met.B.S.Space.clean c.args.space.now t c.requires.may.sound c.requires.may.untouched })
+    (λ t u o le l. g.met.B.S.Space.earlier c.list.new.space t u o le l) c.list.ensures.keeps c.list.ensures.shows)
+
+pub returns-in-Inform-clause-managed : goal.returns-in-Inform-clause-managed
+returns-in-Inform-clause-managed g c =
+    manages_as g.B.S.Space g.B.Base.reopens g.O.Sink g.B.Base.holds g.B.Base.lines _ task.Inform _ _ _ _ _ _ c.in-Inform.is
+    (shows_manages g.B.S.Space g.B.Base.reopens g.O.Sink g.B.Base.holds g.B.Base.lines task.Inform _ _ _ _ _ _ (λ d. refl)
+    (record { sound = c.requires.may.sound; only = λ o t l. g.met.B.S.Space.only_kept c.args.space.now o t c.requires.may.sound l; clean = λ t. g.met.B.S.Space.clean c.args.space.now t c.requires.may.sound c.requires.may.untouched })
+    (λ t u o le l. g.met.B.S.Space.earlier c.inform.new.space t u o le l) c.inform.ensures.keeps c.inform.ensures.shows)
+
+-- ---- limits
+
+pub returns-in-Put-clause-full : goal.returns-in-Put-clause-full
+returns-in-Put-clause-full g c = λ is m h. fills_as (g.B.Base.fills c.put.new.space) _ (task.Put c.in-Put.word c.in-Put.key c.in-Put.value) m.contents c.in-Put.is
+    (fills_asked (g.B.Base.fills c.put.new.space) (task.Put c.in-Put.word c.in-Put.key c.in-Put.value) (Some (put_request c.in-Put.word c.in-Put.key c.in-Put.value)) m.contents refl refl refl (c.put.ensures.full is m.contents h.has.held))
+
+pub returns-in-Out-clause-full : goal.returns-in-Out-clause-full
+returns-in-Out-clause-full g c = λ is m h. fills_as (g.B.Base.fills c.take_out.new.space) _ (task.Out c.in-Out.key) m.contents c.in-Out.is
+    (fills_asked (g.B.Base.fills c.take_out.new.space) (task.Out c.in-Out.key) (Some (request.Out c.in-Out.key)) m.contents refl refl refl (c.take_out.ensures.full is m.contents h.has.held))
+
+pub returns-in-Optimize-clause-full : goal.returns-in-Optimize-clause-full
+returns-in-Optimize-clause-full g c = λ is m h. fills_as (g.B.Base.fills c.optimize.new.space) _ (task.Optimize c.in-Optimize.large) m.contents c.in-Optimize.is
+    (fills_before (g.B.Base.fills c.optimize.new.space) (task.Optimize c.in-Optimize.large) m.contents refl (c.optimize.ensures.full is m.contents h.has.held))
+
+pub returns-in-Get-clause-full : goal.returns-in-Get-clause-full
+returns-in-Get-clause-full g c = λ is m h. fills_as (g.B.Base.fills c.get.new.space) _ (task.Get c.in-Get.key) m.contents c.in-Get.is (fills_before (g.B.Base.fills c.get.new.space) (task.Get c.in-Get.key) m.contents refl (c.get.ensures.full is m.contents h.has.held))
+
+pub returns-in-List-clause-full : goal.returns-in-List-clause-full
+returns-in-List-clause-full g c = λ is m h. fills_as (g.B.Base.fills c.list.new.space) _ (task.List c.in-List.maximum c.in-List.values) m.contents c.in-List.is
+    (fills_before (g.B.Base.fills c.list.new.space) (task.List c.in-List.maximum c.in-List.values) m.contents refl (c.list.ensures.full is m.contents h.has.held))
+
+pub returns-in-Inform-clause-full : goal.returns-in-Inform-clause-full
+returns-in-Inform-clause-full g c = λ is m h. fills_as (g.B.Base.fills c.inform.new.space) _ task.Inform m.contents c.in-Inform.is (fills_before (g.B.Base.fills c.inform.new.space) task.Inform m.contents refl (c.inform.ensures.full is m.contents h.has.held))
+
+-- ---- the space
+
+pub returns-in-Get-clause-follows : goal.returns-in-Get-clause-follows
+returns-in-Get-clause-follows g c = keeps_follows g.B.S.Space _ _ c.get.ensures.keeps
+
+pub returns-in-List-clause-follows : goal.returns-in-List-clause-follows
+returns-in-List-clause-follows g c = keeps_follows g.B.S.Space _ _ c.list.ensures.keeps
+
+pub returns-in-Inform-clause-follows : goal.returns-in-Inform-clause-follows
+returns-in-Inform-clause-follows g c = keeps_follows g.B.S.Space _ _ c.inform.ensures.keeps

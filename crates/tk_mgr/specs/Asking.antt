@@ -1,0 +1,64 @@
+-- What the requests of a task leave of a database and its space.
+use Rattle.std.specs.Prelude.{◌≡◌, ◌⊎◌, ℕ, Bool, false, List, Option, None, Result, Ok}
+use Rattle.tc_base.specs.Files.{Files}
+use Rattle.tc_base.specs.declared.request.Request.{Request}
+use Rattle.tc_space.specs.Frames.{Keeps, keeps_refl, keeps_then}
+use Rattle.tc_space.specs.declared.space.Space as space
+use Rattle.tc_model.specs.Contents.{Contents}
+use Rattle.tc_model.specs.Apply.{apply, updates, is_updated}
+use Rattle.tc_model.specs.Packing.{is_optimize}
+use Rattle.tc_model.specs.declared.applied.Applied.{Applied}
+use Rattle.ty_wire.specs.Spelling.{reply_bytes}
+use Rattle.ty_base.specs.Holding.{Held}
+use Rattle.ty_world.specs.World.{Mark}
+use Rattle.ty_rounds.specs.Kept.{LeavesTwo, Reopens}
+use Rattle.std.proofs.Common.{refl, ◌∙◌}
+use Rattle.tk_mgr.specs.declared.errors.MgrErr.{MgrErr}
+use Rattle.tk_mgr.specs.Tasks.{asked, answered}
+use Rattle.tk_mgr.specs.Managing.{IsThrough, with_contents}
+
+-- a request was made of contents: what it makes of them is held now, and its reply stands alone
+pub record Answers {S B : Type 0} (s : space.Ghosts S) (holds : B → Files → Contents → Type 0) (r : Request) (a : Applied) (c : Contents) (base : B) (new : S) (reply : List ℕ) : Type 0 where
+  pub held : Held s holds base new (apply false r c None).contents
+  pub bytes : reply ≡ reply_bytes (apply false r c None).reply
+  pub ok : a.ok ≡ (apply false r c None).ok
+  pub updated : a.updated ≡ is_updated r (apply false r c None)
+
+-- it neither updates contents nor packs files
+pub record IsIdle (r : Request) : Type 0 where
+  pub updates_none : updates r ≡ false
+  pub packs_none : is_optimize r ≡ false
+
+-- whether a request succeeded, and its reply
+pub record IsTold (r : Request) (done : Bool) (c : Contents) (reply : List ℕ) : Type 0 where
+  pub bytes : reply ≡ reply_bytes (apply false r c None).reply
+  pub ok : done ≡ (apply false r c None).ok
+
+-- nothing was written, and whatever was held is held
+pub record Looks {S B : Type 0} (s : space.Ghosts S) (holds : B → Files → Contents → Type 0) (base base' : B) (old new : S) : Type 0 where
+  pub keeps : Keeps s old new
+  pub sound : s.sound new
+  pub files : s.tells → (g : ℕ) → s.now new g ≡ s.now old g
+  pub held : (c : Contents) → Held s holds base old c → Held s holds base' new c
+
+module _ {S B : Type 0} (s : space.Ghosts S) (holds : B → Files → Contents → Type 0) where
+  pub looks_refl : (b : B) (a : S) → s.sound a → Looks s holds b b a a
+  looks_refl b a is = record { keeps = keeps_refl s a; sound = is; files = λ t g. refl; held = λ c h. h }
+
+  pub looks_then : (b b1 b2 : B) (a a1 a2 : S) → Looks s holds b b1 a a1 → Looks s holds b1 b2 a1 a2 → Looks s holds b b2 a a2
+  looks_then b b1 b2 a a1 a2 first second = record {
+    keeps = keeps_then s a a1 a2 first.keeps second.keeps;
+    sound = second.sound;
+    files = λ t g. second.files t g ∙ first.files t g;
+    held = λ c h. second.held c (first.held c h);
+  }
+
+-- a request, or none, was carried out and what it changed was kept; nothing was printed
+pub record Carries {S : Type 0} (s : space.Ghosts S) (reopens : Files → Contents → Type 0) (r : Option Request) (result : Result Bool MgrErr) (old new : S) (m : Mark) : Type 0 where
+  pub ok : (b : Bool) → result ≡ Ok b → b ≡ answered r m.contents
+  pub moments : LeavesTwo s reopens old new m (with_contents m (asked r m.contents))
+  pub last : IsThrough result → (o : Option Files) → s.left new (s.moment new) o → Reopens reopens o (with_contents m (asked r m.contents))
+
+-- as contents are brought to the files, or before and after a request
+abbrev pub FillsAsked : (Contents → Contents → Type 0) → Option Request → Contents → Type 0
+FillsAsked fills r c = fills c (asked r c) ⊎ fills (asked r c) (asked r c)

@@ -1,0 +1,74 @@
+-- What a task leaves of a database, of its space and of what it prints to.
+use Rattle.std.specs.Prelude.{◌≡◌, ◌≢◌, ◌⊎◌, ◌≤◌, ◌<◌, ◌+◌, ℕ, Bool, true, false, List, [], map, Option, Result, Ok, Err}
+use Rattle.tc_base.specs.Files.{Files}
+use Rattle.tc_io.specs.Told.{Adds}
+use Rattle.tc_io.specs.declared.sink.Sink as sink
+use Rattle.tc_space.specs.declared.space.Space as space
+use Rattle.ty_wire.specs.Prefixes.{IsPrefix}
+use Rattle.tc_model.specs.Contents.{Contents}
+use Rattle.ty_world.specs.World.{Mark}
+use Rattle.ty_rounds.specs.Kept.{HoldsMark, LeavesMarks, Reopens}
+use Rattle.tk_mgr.specs.declared.errors.MgrErr.{MgrErr}
+use Rattle.tk_mgr.specs.declared.errors.MgrErr.TheVariants as err
+use Rattle.tk_mgr.specs.declared.task.Task.{Task}
+use Rattle.tk_mgr.specs.Tasks.{Prints, after, all_marks, at_step, ok_of, steps_of}
+
+-- it may be used, nothing is left to commit, and its files stand for what it holds
+pub record MayManage {S B : Type 0} (s : space.Ghosts S) (holds : B → Files → Contents → Type 0) (reopens : Files → Contents → Type 0) (base : B) (space : S) : Type 0 where
+  pub sound : s.sound space
+  pub untouched : s.touched space ≡ false
+  pub stands : s.tells → (c : Contents) × holds base (s.now space) c × reopens (s.now space) c
+
+-- ---- marks: a task leaves the update log as it is
+
+abbrev pub with_contents : Mark → Contents → Mark
+with_contents m c = record { contents = c; log = m.log }
+
+abbrev pub last_mark : Task → Mark → Mark
+last_mark task m = with_contents m (after task m.contents)
+
+-- from the last to that before it
+abbrev pub marks_of : Task → Mark → List Mark
+marks_of task m = map (with_contents m) (all_marks task m.contents)
+
+-- ---- how it ended
+
+-- it was carried out, or what it prints wasn't taken
+abbrev pub IsThrough : Result Bool MgrErr → Type 0
+IsThrough (Ok ok) = Unit {0}
+IsThrough (Err err.Full) = ⊥
+IsThrough (Err err.Fault) = ⊥
+IsThrough (Err err.Sink) = Unit {0}
+IsThrough (Err err.Memory) = ⊥
+
+-- a front of what it prints
+pub record IsFrontOf (lines : Files → List ℕ → Type 0) (task : Task) (files : Files) (c : Contents) (taken : List ℕ) : Type 0 where
+  pub text : List ℕ
+  pub prints : Prints lines task files c text
+  pub front : IsPrefix taken text
+
+-- what it leaves where the files stood for a mark
+pub record ManagesFrom {S : Type 0} (s : space.Ghosts S) (reopens : Files → Contents → Type 0) (lines : Files → List ℕ → Type 0) (task : Task) (result : Result Bool MgrErr) (old new : S) (taken : List ℕ) (m : Mark) : Type 0 where
+  -- it answers whether its request succeeded
+  pub ok : (b : Bool) → result ≡ Ok b → b ≡ ok_of task m.contents
+  -- what was printed is its text, whole where it was carried out
+  pub printed : (taken ≡ []) ⊎ IsFrontOf lines task (s.now old) m.contents taken
+  pub whole : result ≡ Ok true → Prints lines task (s.now old) m.contents taken
+  -- a stop leaves files that stand for one of its marks; once anything was printed, or it is through, for the last
+  pub moments : LeavesMarks s reopens old new (marks_of task m)
+  pub last : IsThrough result ⊎ (taken ≢ []) → (o : Option Files) → s.left new (s.moment new) o → Reopens reopens o (last_mark task m)
+
+pub record Manages {S B O : Type 0} (s : space.Ghosts S) (g : sink.Ghosts O) (holds : B → Files → Contents → Type 0) (reopens : Files → Contents → Type 0) (lines : Files → List ℕ → Type 0) (task : Task) (result : Result Bool MgrErr) (base : B) (old new : S) (p q : O) : Type 0 where
+  pub taken : List ℕ
+  pub told : Adds (g.taken p) (g.taken q) taken
+  -- nothing was printed where its request failed
+  pub none : result ≡ Ok false → taken ≡ []
+  pub by : (m : Mark) → HoldsMark s holds reopens base old m → ManagesFrom s reopens lines task result old new taken m
+
+-- ---- a limit that was reached
+
+-- between the contents behind some of its requests and those behind the next, or as those are brought to the files
+pub record FillsTask (fills : Contents → Contents → Type 0) (task : Task) (c : Contents) : Type 0 where
+  pub step : ℕ
+  pub within : step ≤ steps_of task
+  pub by : ((step < steps_of task) × fills (at_step task c step) (at_step task c (step + 1))) ⊎ fills (at_step task c step) (at_step task c step)

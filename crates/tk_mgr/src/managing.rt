@@ -1,0 +1,50 @@
+//! A task carried out on a database.
+ghost use Rattle.std.specs.Prelude.{◌≡◌, ◌≤◌, Bool, IsErrOf};
+ghost use Rattle.tc_io.specs.Causes.{Rose};
+ghost use Rattle.tc_space.specs.Effects.{Follows};
+ghost use Rattle.ty_world.specs.World.{Mark};
+ghost use Rattle.ty_rounds.specs.Kept.{HoldsMark};
+ghost use Rattle.tk_mgr.specs.Managing.{FillsTask, Manages, MayManage};
+
+use crate::changing::{optimize, put, take_out};
+use crate::drill::drill;
+use crate::errors::MgrErr;
+use crate::informing::inform;
+use crate::listing::list;
+use crate::reading::get;
+use crate::task::Task;
+use std::alloc::Global;
+use tc_io::Sink;
+use tc_space::Space;
+use ty_base::Base;
+
+/// Carries out a task: makes its requests, commits what they changed, and then prints. Answers whether its request succeeded; where it failed nothing
+/// has changed and nothing is printed. A drill commits behind each hundred of its requests and behind the last.
+///
+/// On an `Err` a stop leaves what was kept at one of its commits; the space is to be opened again. `Memory` also comes where a list would print a value
+/// that is too long for a reply.
+pub fn manage<B: Base, O: Sink>(
+    alloc: Global,
+    task: Task,
+    base: &mut B,
+    space: &mut B::S,
+    out: &mut O,
+) -> Result<bool, MgrErr>
+    requires may { MayManage B.S.Space B.holds B.reopens base.old space.old }
+    ensures managed { Manages B.S.Space O.Sink B.holds B.reopens B.lines task result base.old space.old space.new out.old out.new }
+    ensures full { IsErrOf result MgrErr.Full → (m : Mark) → HoldsMark B.S.Space B.holds B.reopens base.old space.old m → FillsTask (B.fills space.new) task m.contents }
+    ensures follows { Follows B.S.faults B.S.limit B.S.names space.old space.new }
+    ensures later { O.faults out.old ≤ O.faults out.new }
+    ensures cause { IsErrOf result MgrErr.Fault → Rose (B.S.faults space.old) (B.S.faults space.new) }
+    ensures cause_sink { IsErrOf result MgrErr.Sink → Rose (O.faults out.old) (O.faults out.new) }
+{
+    match task {
+        Task::Put { word, key, value } => put(alloc, word, key, value, base, space),
+        Task::Out { key } => take_out(alloc, key, base, space),
+        Task::Get { key } => get(alloc, key, base, space, out),
+        Task::List { maximum, values } => list(alloc, maximum, values, base, space, out),
+        Task::Optimize { large } => optimize(large, base, space),
+        Task::Inform => inform(alloc, base, space, out),
+        Task::Drill { seed, count } => drill(alloc, seed, count, base, space, out),
+    }
+}

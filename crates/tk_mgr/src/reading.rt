@@ -1,0 +1,76 @@
+//! The value of a key.
+ghost use Rattle.std.specs.Prelude.{◌≡◌, ◌≤◌, ◌++◌, Bool, OnOk, IfOk, IsErrOf};
+ghost use Rattle.tc_io.specs.Causes.{Rose};
+ghost use Rattle.tc_space.specs.Frames.{Keeps};
+ghost use Rattle.tc_model.specs.Contents.{Contents};
+ghost use Rattle.ty_base.specs.Holding.{Held, IsReady};
+ghost use Rattle.tk_mgr.specs.declared.task.Task.TheVariants as task;
+ghost use Rattle.tk_mgr.specs.Asking.{Looks};
+ghost use Rattle.tk_mgr.specs.Showing.{IsValue, Shows};
+
+use crate::asking::look;
+use crate::errors::MgrErr;
+use crate::showing::{add_shown, behind, is_table, show};
+use std::alloc::Global;
+use tc_base::{Blob, Key, Request};
+use tc_io::Sink;
+use tc_space::Space;
+use ty_base::Base;
+
+/// Adds the value of a key as it is printed, and answers whether it is held. What `reply` holds is of no account.
+pub fn add_value<B: Base>(
+    key: Key,
+    base: &mut B,
+    space: &mut B::S,
+    reply: &mut Blob,
+    into: &mut Blob,
+) -> Result<bool, MgrErr>
+    requires ready { IsReady B.S.Space B.holds base.old space.old }
+    ensures looks { OnOk result (Looks B.S.Space B.holds base.old base.new space.old space.new) }
+    ensures value { IfOk result (λ ok. (c : Contents) → Held B.S.Space B.holds base.old space.old c → IsValue key ok c into.old into.new) }
+    ensures full { IsErrOf result MgrErr.Full → (c : Contents) → Held B.S.Space B.holds base.old space.old c → B.fills space.new c c }
+    ensures not_sink { IsErrOf result MgrErr.Sink → ⊥ }
+    ensures keeps { Keeps B.S.Space space.old space.new }
+    ensures cause { IsErrOf result MgrErr.Fault → Rose (B.S.faults space.old) (B.S.faults space.new) }
+{
+    let table = is_table(base.kind());
+    let ok = match look(base, space, Request::Get { key }, reply) {
+        Ok(ok) => ok,
+        Err(e) => return Err(e),
+    };
+    if !ok {
+        return Ok(false);
+    }
+    match add_shown(table, behind(reply.as_slice(), 5), into) {
+        Ok(()) => Ok(true),
+        Err(_) => Err(MgrErr::Memory),
+    }
+}
+
+/// Prints the value of a key and a newline.
+pub fn get<B: Base, O: Sink>(
+    alloc: Global,
+    key: Blob,
+    base: &mut B,
+    space: &mut B::S,
+    out: &mut O,
+) -> Result<bool, MgrErr>
+    requires ready { IsReady B.S.Space B.holds base.old space.old }
+    ensures shows { Shows B.S.Space B.holds B.lines (task.Get key) result base.old space.old (O.taken out.old) (O.taken out.new) }
+    ensures full { IsErrOf result MgrErr.Full → (c : Contents) → Held B.S.Space B.holds base.old space.old c → B.fills space.new c c }
+    ensures keeps { Keeps B.S.Space space.old space.new }
+    ensures later { O.faults out.old ≤ O.faults out.new }
+    ensures cause { IsErrOf result MgrErr.Fault → Rose (B.S.faults space.old) (B.S.faults space.new) }
+    ensures cause_sink { IsErrOf result MgrErr.Sink → Rose (O.faults out.old) (O.faults out.new) }
+{
+    let mut reply = Blob::new(alloc);
+    let mut text = Blob::new(alloc);
+    let ok = match add_value(Key::new(key), base, space, &mut reply, &mut text) {
+        Ok(ok) => ok,
+        Err(e) => return Err(e),
+    };
+    let Ok(()) = text.push(b'\n') else {
+        return Err(MgrErr::Memory);
+    };
+    show(ok, text.as_slice(), out)
+}

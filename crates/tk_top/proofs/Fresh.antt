@@ -1,0 +1,17 @@
+-- A space with nothing to commit.
+use Rattle.std.proofs.Common.{◌≡◌, ◌≤◌, ℕ, false}
+use Rattle.std.specs.Prelude.{Option, Some}
+use Rattle.tc_base.specs.Files.{Files}
+use Rattle.tc_space.specs.declared.space.Space as space
+
+-- a stop leaves the kept files, and those are the files now
+abbrev pub Fresh : {S : Type 0} → space.Ghosts S → S → Type 0
+Fresh s a = s.tells → ((o : Option Files) → s.left a (s.moment a) o → o ≡ s.kept a) × (s.kept a ≡ Some (s.now a))
+
+-- by the laws of a space
+pub fresh : {S : Type 0} (s : space.Ghosts S) (a : S) → ((b : S) (o : Option Files) → s.tells → s.sound b → s.left b (s.moment b) o → o ≡ s.kept b) → ((b : S) → s.tells → s.sound b → s.touched b ≡ false → s.kept b ≡ Some (s.now b)) → s.sound a → s.touched a ≡ false → Fresh s a
+fresh s a only_kept clean sound untouched = λ t. (λ o left. only_kept a o t sound left, clean a t sound untouched)
+
+-- what is left from a later moment on is left from an earlier one on
+abbrev pub Earlier : {S : Type 0} → space.Ghosts S → S → Type 0
+Earlier s a = (t u : ℕ) (o : Option Files) → t ≤ u → s.left a u o → s.left a t o

@@ -1,0 +1,131 @@
+-- A volume that is named and opened.
+use Rattle.std.proofs.Common.{◌≡◌, ◌⊎◌, ◌≢◌, ◌≤◌, inl, inr, ⊎_elim, ℕ, max, true, List, [], ◌∷◌, length, refl, sym, ap, subst, ◌∙◌, arith}
+use Rattle.std.specs.Prelude.{Option, Some, Result, Err}
+use Rattle.tc_base.specs.Files.{Files}
+use Rattle.tc_base.specs.declared.kind.Kind.{Kind}
+use Rattle.tc_base.specs.declared.kind.Rule.{Rule}
+use Rattle.tc_io.specs.Images.{Calls, synced, now, Images, ImagesSince, IsLostSync}
+use Rattle.tc_io.specs.declared.volume.Volume as volume
+use Rattle.tc_space.specs.declared.space.Space as space
+use Rattle.tc_undo.specs.Opening.{IsRefused, OpensKept}
+use Rattle.tc_undo.specs.Errors.{OnRule}
+use Rattle.tc_undo.specs.declared.errors.UndoErr.{UndoErr}
+use Rattle.tc_undo.specs.declared.errors.UndoErr.TheVariants as undo_err
+use Rattle.ud_log.specs.Undo.{files_of, is_data, recovered, undo}
+use Rattle.ud_state.specs.Recovery.{StaysSettled, FromTheSync, not_yet, since, Recovers}
+use Rattle.ud_state.specs.Since.{LeftSince, Since, quiet_calm, since_later}
+use Rattle.ud_state.specs.State.{IsSettled}
+use Rattle.ud_state.proofs.Leaving.{images_left, left_leads}
+use Rattle.ud_state.proofs.Replaying.{sync_log_calm}
+use Rattle.ud_state.proofs.Runs.{sync_reads}
+use Rattle.tc_model.specs.Contents.{Contents}
+use Rattle.ty_base.specs.Opening.{OpensTo}
+use Rattle.ty_world.specs.World.{Mark}
+use Rattle.ty_rounds.specs.Kept.{StandFor, Reopens}
+use Rattle.ty_rounds.proofs.Telling.{Adds-none}
+use Rattle.tk_top.specs.declared.ends.End.{End}
+use Rattle.tk_top.specs.declared.ends.End.TheVariants.{Done, NoMemory, TurnsSpent}
+use Rattle.tk_top.specs.Ends.{end_of_undo}
+use Rattle.tk_top.specs.Naming.{EndsUnopened, LeavesOpening, OpensNamed, OpensOver}
+use Rattle.tk_top.specs.Over.{AsOpening, BeginsAt, IsOver, Recover, StandsFor}
+use Rattle.tk_top.specs.Serving.{Begins}
+use Rattle.tk_top.specs.Stops.{IsEarly}
+
+at_moment : (cs : Calls) (ims : Files) → ImagesSince cs (length cs) ims → Images cs ims
+at_moment [] ims some = some
+at_moment (c ∷ cs) ims some = ⊎_elim (λ at_once. at_once) (λ earlier. absurd (omega (arith, earlier.0))) some
+
+pub at_exit : (cs : Calls) (ims : Files) → Images cs ims → ImagesSince cs (length cs) ims
+at_exit [] ims are = are
+at_exit (c ∷ cs) ims are = inl are
+
+longer : (cs : Calls) (t u : ℕ) (ims : Files) → t ≤ u → ImagesSince cs u ims → ImagesSince cs t ims
+longer [] t u ims le some = some
+longer (c ∷ cs) t u ims le some = ⊎_elim (λ at_once. inl at_once) (λ older. inr (omega (arith, le, older.0), longer cs t u ims le older.1)) some
+
+-- at each moment of recovery, as an opening image
+leads_back : (old new : Calls) → IsSettled old → Since (StaysSettled old) old new → (o : Option Files) → LeftSince new (length old) o → AsOpening old o
+leads_back old new settled moments o left = let x = left_leads old new o settled moments left in record { image = x.0; is_one = x.1; same = x.2 }
+
+some_is : (a b : Files) → Some a ≡ Some b → a ≡ b
+some_is a b e = cc
+
+-- ---- it was refused
+
+-- nothing was called but `bind`
+pub unbound_leaves : (old new : Calls) → new ≡ old → LeavesOpening old new
+unbound_leaves old new same = subst (λ (cs : Calls). LeavesOpening old cs) (sym same) (record {
+  exit = λ ims are. inr (inl refl, record { image = ims; is_one = are; same = refl });
+  moments = λ ims some. record { image = ims; is_one = at_moment old ims some; same = refl };
+})
+
+pub refused_leaves : (old bound new : Calls) → bound ≡ old → Images old (now old) → (IsSettled bound → Recovers bound new) → IsSettled old → LeavesOpening old new
+refused_leaves old bound new same image recovers settled =
+    let r : Recovers old new = subst (λ (cs : Calls). IsSettled cs → Recovers cs new) same recovers settled in
+    record {
+      exit = λ ims are. which r r.from ims are;
+      moments = λ ims some. leads_back old new settled r.moments (recovered ims) (images_left new (length old) ims some);
+    }
+  where
+    which : Recovers old new → FromTheSync old new → (ims : Files) → Images new ims → (recovered ims ≡ recovered (now old)) ⊎ (IsLostSync old new 1 × AsOpening old (recovered ims))
+    which r (not_yet lost) ims are = inr (lost, leads_back old new settled r.moments (recovered ims) (images_left new (length old) ims (longer new (length old) (length new) ims (since_later (StaysSettled old) old new r.moments) (at_exit new ims are))))
+    which r (since quiet) ims are =
+        let calm = quiet_calm ((1, synced) ∷ old) new (sync_log_calm old settled image) quiet in
+        inl (calm.all ims are ∙ quiet.kept ∙ ap recovered (λ i f. sync_reads old 1 f i))
+
+early_undo : (why : UndoErr) → IsEarly (end_of_undo why)
+early_undo undo_err.Fault = tt
+early_undo (undo_err.Broken rule) = tt
+early_undo undo_err.Memory = tt
+
+pub refused_rule : (why : UndoErr) (told : Type 0) (old bound new : Calls) → (told → bound ≡ old) → (told → IsRefused why bound new) → OnRule why (λ rule. told → undo (now old 1) (now old) ≡ Err rule)
+refused_rule undo_err.Fault told old bound new same refused = tt
+refused_rule (undo_err.Broken rule) told old bound new same refused = λ t. subst (λ (cs : Calls). undo (now cs 1) (now cs) ≡ Err rule) (same t) (refused t).broken.0
+refused_rule undo_err.Memory told old bound new same refused = tt
+
+-- there was no memory before any call
+pub ends_unnamed : {V : Type 0} (v : volume.Ghosts V) (name : List ℕ) (vol : V) → EndsUnopened v name NoMemory vol vol
+ends_unnamed v name vol = record { why = undo_err.Memory; is = refl; broken = tt; names = inr (Adds-none (v.names vol)); caused = λ count count'. tt; leaves = λ t settled. unbound_leaves (v.calls vol) (v.calls vol) refl }
+
+module _ {V : Type 0} {v : volume.Ghosts V} {name : List ℕ} {end : End} {old new : V} (u : EndsUnopened v name end old new) where
+  pub early_of : IsEarly end
+  early_of = subst IsEarly (sym u.is) (early_undo u.why)
+
+  pub not_ended : (end ≢ Done) × (end ≢ TurnsSpent)
+  not_ended = (λ is. subst IsEarly is early_of, λ is. subst IsEarly is early_of)
+
+-- ---- it was opened
+
+pub opens_over : {S : Type 0} (s : space.Ghosts S) (told : Type 0) (most : ℕ) (old bound ca : Calls) (a : S) (names given : Option (List (List ℕ))) (faults count : ℕ) → bound ≡ old → OpensKept bound ca → ((f : ℕ) → is_data f ≡ true → s.limit a f ≡ max most (length (s.now a f)))
+    → IsOver s.tells told ca (s.moment a) (s.left a) (s.now a) names given faults count → told → OpensOver s most old a
+opens_over s told most old bound ca a names given faults count same kept limits over t =
+    let k : OpensKept old ca = subst (λ (cs : Calls). OpensKept cs ca) same kept in
+    record {
+      tells = over.from t;
+      files = ap (λ (r : Result Files Rule). files_of r) k.undone ∙ ap (λ (f : Files). Some f) (sym over.now_is);
+      limits = limits;
+      later = λ settled. let long = since_later (StaysSettled old) old ca (k.stops settled).moments in omega (arith, long, over.moment_is);
+      moments = λ settled o l. leads_back old ca settled (k.stops settled).moments o (over.left_is (length old) o l);
+    }
+
+module _ {S V : Type 0} {s : space.Ghosts S} {v : volume.Ghosts V} {name : List ℕ} {most : ℕ} {vol : V} {a : S} (o : OpensNamed s v name most vol a) where
+  pub same_files : (files : Files) → v.tells → recovered (now (v.calls vol)) ≡ Some files → files ≡ s.now a
+  same_files files t is = some_is files (s.now a) (sym is ∙ (o.over t).files)
+
+  pub limits_so : (limit : ℕ → ℕ) → limit ≡ s.limit a → v.tells → (files : Files) → recovered (now (v.calls vol)) ≡ Some files → (f : ℕ) → is_data f ≡ true → limit f ≡ max most (length (files f))
+  limits_so limit same t files is f isd = ap (λ (l : ℕ → ℕ). l f) same ∙ (o.over t).limits f isd ∙ ap (λ (fs : Files). max most (length (fs f))) (sym (same_files files t is))
+
+  module _ (opens : Files → Contents → Type 0) where
+    pub begins_so : (first : Mark) → BeginsAt v.tells opens (v.calls vol) first → Begins s opens a first
+    begins_so first h = ((o.over h.0).tells, subst (λ (f : Files). StandFor opens f first) (same_files h.1.files h.0 h.1.is) h.1.stand)
+
+    pub stands_so : (s.tells → (c : Contents) × opens (s.now a) c) → v.tells → StandsFor opens (v.calls vol)
+    stands_so stands t = let b = o.over t in let x = stands b.tells in record { contents = x.0; stand = record { files = s.now a; is = b.files; stand = x.1 } }
+
+    -- a limit was reached where the files were opened
+    pub fills_so : (fills : Contents → Contents → Type 0) → (s.tells → (c : Contents) × opens (s.now a) c × fills c c) → v.tells → (c : Contents) × Recover opens (recovered (now (v.calls vol))) c × fills c c
+    fills_so fills filled t = let b = o.over t in let x = filled b.tells in (x.0, record { files = s.now a; is = b.files; stand = x.1 }, x.2)
+
+-- what was opened as contents of a kind
+pub of_kind : (kind : Kind) (reopens : Files → Contents → Type 0) (o : Option Files) (first : Mark) → Reopens (OpensTo kind reopens) o first → Reopens reopens o first
+of_kind kind reopens o first k = record { files = k.files; is = k.is; stand = record { contents = k.stand.contents.stand; log = k.stand.log } }

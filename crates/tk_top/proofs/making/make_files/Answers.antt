@@ -1,0 +1,33 @@
+use Rattle.std.proofs.Common.{sym}
+use Rattle.tk_top.proofs.Made.{judged_made, made_run, made_unopened}
+use Rattle.tk_top.proofs.Named.{limits_so}
+use Rattle.tk_top.proofs.Fresh.{fresh}
+use Rattle.tk_top.proofs.Staying.{made_unnamed, there_so}
+use Rattle.tk_top.proofs.Stops.{closes}
+use Rattle.tk_top.proofs.making.make_files.Goals as goal
+
+pub returns-in-Err-clause-made : goal.returns-in-Err-clause-made
+returns-in-Err-clause-made g c = let shape = c.args.shape.now in made_unopened g.B.Base.reopens (g.B.Opens.shaped shape) (g.B.Opens.anew shape) _ c.in-Err.ensures.unopened
+
+pub returns-clause-made : goal.returns-clause-made
+returns-clause-made g c = let shape = c.args.shape.now in let end = c.make_opened-end.new.space in
+    made_run g.B.Base.reopens (g.B.Opens.shaped shape) (g.B.Opens.anew shape) c.in-Ok.ensures.opened (closes g.S.Space g.S.V.Volume g.S.OnVolume.under end _ c.close_over.ensures (g.met.S.OnVolume.is_over end)) c.make_opened-end.ensures.made
+
+pub returns-clause-judged : goal.returns-clause-judged
+returns-clause-judged g c = let o = c.in-Ok.ensures.opened in let end = c.make_opened-end.new.space in
+    judged_made c.make_opened-end.result _ _ _ _ _ _
+    (λ h t. let b = o.over t in record { files = _; is = b.files; none = h b.tells })
+    (there_so o (closes g.S.Space g.S.V.Volume g.S.OnVolume.under end _ c.close_over.ensures (g.met.S.OnVolume.is_over end)) (λ x. fresh g.S.Space x g.met.S.Space.only_kept g.met.S.Space.clean))
+    (λ file rule never. absurd never)
+    c.make_opened-end.ensures.judged
+
+pub returns-in-Err-clause-judged : goal.returns-in-Err-clause-judged
+returns-in-Err-clause-judged g c = made_unnamed c.in-Err.ensures.unopened (λ files f r. ⊥) _ _
+
+pub returns-clause-full : goal.returns-clause-full
+returns-clause-full g c = λ is. let o = c.in-Ok.ensures.opened in let end = c.make_opened-end.new.space in record {
+  space = end;
+  vol_is = sym c.close_over.ensures;
+  limits = limits_so o (g.S.Space.limit end) c.make_opened-end.ensures.follows.same_limit;
+  lack = λ t. c.make_opened-end.ensures.full is (o.over t).tells;
+}

@@ -1,0 +1,73 @@
+use Rattle.std.proofs.Common.{inr, sym, subst, refl, rules, ◌∙◌, false, Bool}
+use Rattle.tc_model.specs.Contents.{Contents}
+use Rattle.ty_base.specs.Opening.{OpensTo}
+use Rattle.ty_world.specs.World.{Mark}
+use Rattle.tk_top.specs.Staying.{BreaksOver}
+use Rattle.tk_top.specs.Tasks.{IsMisplaced, JudgedTask, ManagesOver, ReasonOver, is_refused_by}
+use Rattle.tk_top.specs.declared.ends.End.{End}
+use Rattle.tk_top.proofs.Managed.{full_is, judged_begun, over_managed, over_misplaced, over_unopened}
+use Rattle.tk_top.proofs.Fresh.{fresh}
+use Rattle.tk_top.proofs.managing.manage_opened.Goals as goal
+
+pub returns-then-not-is_placed-clause-told : goal.returns-then-not-is_placed-clause-told
+returns-then-not-is_placed-clause-told g c = let s = g.B.S.Space in let b = g.B.Base in
+    over_misplaced s g.O.Sink (OpensTo c.args.kind b.reopens) b.reopens (λ files d h. h.stand) b.lines c.args.task c.args.space.now c.args.out.now
+    (fresh g.B.S.Space c.args.space.now g.met.B.S.Space.only_kept g.met.B.S.Space.clean c.requires.sound c.requires.untouched)
+    (λ t. subst (λ (b : Bool). is_refused_by b (s.now c.args.space.now 0)) c.wants_empty.ensures (c.if-not-is_placed.ensures.no (search rules) (s.now c.args.space.now 0) (c.len.ensures t)))
+
+pub returns-in-Err-clause-told : goal.returns-in-Err-clause-told
+returns-in-Err-clause-told g c = let s = g.B.S.Space in let b = g.B.Base in
+    subst (λ (end : End). ManagesOver s g.O.Sink (OpensTo c.args.kind b.reopens) b.reopens b.lines c.args.task end c.args.space.now c.open_kept.new.space c.args.out.now c.args.out.now) (sym c.from.ensures)
+    (over_unopened s g.O.Sink (OpensTo c.args.kind b.reopens) b.reopens (λ files d h. h.stand) b.lines c.args.task c.in-Err.e c.args.space.now c.open_kept.new.space c.args.out.now
+    (fresh g.B.S.Space c.args.space.now g.met.B.S.Space.only_kept g.met.B.S.Space.clean c.requires.sound c.requires.untouched)
+    (g.met.B.S.Space.earlier c.open_kept.new.space) c.open_kept.ensures.moments)
+
+pub manage-requires : goal.manage-requires
+manage-requires g c = let s = g.B.S.Space in record {
+  may = record {
+    sound = c.in-Ok.ensures.opened.ready.sound;
+    untouched = c.in-Ok.ensures.opened.untouched;
+    stands = λ t.
+        let x = c.in-Ok.ensures.stands t in
+        let hm = c.in-Ok.ensures.opened.marks (record { contents = x.0; log = s.now c.args.space.now 2 }) (t, record { contents = x.1; log = refl }) in
+        (x.0, hm.has.held.1, hm.stand);
+  };
+}
+
+pub returns-clause-told : goal.returns-clause-told
+returns-clause-told g c = let s = g.B.S.Space in let b = g.B.Base in let old = c.args.space.now in let mid = c.open_kept.new.space in
+    let placed : s.tells → IsMisplaced c.args.task (s.now old) → ⊥ = λ t m. c.if-not-is_placed.ensures.yes (search rules) (s.now old 0) (c.len.ensures t) (subst (λ (e : Bool). is_refused_by e (s.now old 0)) (sym c.wants_empty.ensures) m) in
+    subst (λ (end : End). ManagesOver s g.O.Sink (OpensTo c.args.kind b.reopens) b.reopens b.lines c.args.task end old c.manage.new.space c.args.out.now c.manage.new.out) (sym c.end_of-end.ensures)
+    (over_managed s g.O.Sink (OpensTo c.args.kind b.reopens) b.reopens (λ files d h. h.stand) b.lines c.args.task b.holds c.manage.result c.in-Ok.base old mid c.manage.new.space c.args.out.now c.manage.new.out
+    (fresh g.B.S.Space old g.met.B.S.Space.only_kept g.met.B.S.Space.clean c.requires.sound c.requires.untouched)
+    (fresh g.B.S.Space mid g.met.B.S.Space.only_kept g.met.B.S.Space.clean c.in-Ok.ensures.opened.ready.sound c.in-Ok.ensures.opened.untouched)
+    (g.met.B.S.Space.earlier c.manage.new.space) c.open_kept.ensures.moments c.in-Ok.ensures.opened.marks
+    (λ t w i f. c.in-Ok.ensures.same t (subst (λ (e : Bool). is_refused_by e (s.now old 0) → ⊥) w (placed t)) f i)
+    placed c.manage.ensures.managed)
+
+pub returns-clause-judged : goal.returns-clause-judged
+returns-clause-judged g c = let s = g.B.S.Space in let opens = OpensTo c.args.kind g.B.Base.reopens in let old = c.args.space.now in
+    let breaks = BreaksOver s (g.B.Opens.breaks c.args.kind) old c.manage.new.space in
+    subst (λ (end : End). JudgedTask end (s.tells → (d : Contents) × opens (s.now old) d) breaks (ReasonOver s opens c.args.task old)) (sym c.end_of-end.ensures)
+    (judged_begun c.manage.result (s.tells → (d : Contents) × opens (s.now old) d) (ReasonOver s opens c.args.task old) breaks c.in-Ok.ensures.stands
+    (λ bad. record {
+      which = λ t.
+          let x = c.in-Ok.ensures.stands t in
+          let m : Mark = record { contents = x.0; log = s.now old 2 } in
+          let hm = c.in-Ok.ensures.opened.marks m (t, record { contents = x.1; log = refl }) in
+          inr (x.0, x.1, sym ((c.manage.ensures.managed.by m hm).ok false bad));
+    }))
+
+pub returns-then-not-is_placed-clause-misplaced : goal.returns-then-not-is_placed-clause-misplaced
+returns-then-not-is_placed-clause-misplaced g c = λ t not. (refl, refl)
+
+pub returns-in-Err-clause-misplaced : goal.returns-in-Err-clause-misplaced
+returns-in-Err-clause-misplaced g c = let s = g.B.S.Space in let old = c.args.space.now in
+    λ t not. absurd (c.if-not-is_placed.ensures.yes (search rules) (s.now old 0) (c.len.ensures t) (subst (λ (e : Bool). is_refused_by e (s.now old 0)) (sym c.wants_empty.ensures) not))
+
+pub returns-clause-misplaced : goal.returns-clause-misplaced
+returns-clause-misplaced g c = let s = g.B.S.Space in let old = c.args.space.now in
+    λ t not. absurd (c.if-not-is_placed.ensures.yes (search rules) (s.now old 0) (c.len.ensures t) (subst (λ (e : Bool). is_refused_by e (s.now old 0)) (sym c.wants_empty.ensures) not))
+
+pub returns-clause-full : goal.returns-clause-full
+returns-clause-full g c = λ is. record { which = inr (λ first h. c.manage.ensures.full (full_is c.manage.result (sym c.end_of-end.ensures ∙ is)) first (c.in-Ok.ensures.opened.marks first h)) }

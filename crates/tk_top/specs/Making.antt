@@ -1,0 +1,68 @@
+-- What making a file anew leaves of a volume.
+use Rattle.std.specs.Prelude.{◌≡◌, ℕ, max, true, [], ◌∷◌, length, Option, Some}
+use Rattle.tc_base.specs.Files.{Files}
+use Rattle.tc_base.specs.declared.kind.Rule.{Rule}
+use Rattle.tc_io.specs.Images.{Calls, now}
+use Rattle.tc_space.specs.declared.space.Space as space
+use Rattle.ud_log.specs.Undo.{is_data, recovered}
+use Rattle.ud_state.specs.State.{IsSettled}
+use Rattle.tc_model.specs.Contents.{Contents}
+use Rattle.ty_world.specs.World.{Mark}
+use Rattle.ty_rounds.specs.Kept.{AtMark, Reopens}
+use Rattle.tk_mgr.specs.Managing.{with_contents}
+use Rattle.tk_top.specs.declared.ends.End.{End}
+use Rattle.tk_top.specs.declared.ends.End.TheVariants.{Done, Words, Refused, VolumeFault, Broken, NoMemory, Full, WireFault, TurnsSpent}
+use Rattle.tk_top.specs.Over.{BeginsAt}
+use Rattle.tk_top.specs.Staying.{StaysAt}
+use Rattle.tk_top.specs.Stops.{IsEarly, StopsAt, StopsOver}
+
+-- an end of making a file: no wire, and nothing is printed
+abbrev pub JudgedMaking : End → Type 0 → (ℕ → Rule → Type 0) → Type 0 → Type 0
+JudgedMaking Done empty breaks some = empty
+JudgedMaking Words empty breaks some = ⊥
+JudgedMaking Refused empty breaks some = some
+JudgedMaking VolumeFault empty breaks some = Unit {0}
+JudgedMaking (Broken file rule) empty breaks some = breaks file rule
+JudgedMaking NoMemory empty breaks some = Unit {0}
+JudgedMaking Full empty breaks some = empty
+JudgedMaking WireFault empty breaks some = ⊥
+JudgedMaking TurnsSpent empty breaks some = ⊥
+
+-- the volume reads and recovers to files, and the main file is empty; or it isn't, and they stay
+pub record MainIsEmpty (old : Calls) : Type 0 where
+  pub files : Files
+  pub is : recovered (now old) ≡ Some files
+  pub none : files 0 ≡ []
+
+pub record MainIsThere (old new : Calls) : Type 0 where
+  pub files : Files
+  pub is : recovered (now old) ≡ Some files
+  pub some : files 0 ≡ [] → ⊥
+  pub stay : IsSettled old → StaysAt files new
+
+-- files that stand for no data, and whose head has these numbers
+pub record IsMade (reopens : Files → Contents → Type 0) (numbers : Files → Type 0) (made : Mark) (o : Option Files) : Type 0 where
+  pub reopen : Reopens reopens o made
+  pub some : reopen.files 0 ≡ [] → ⊥
+  pub numbered : numbers reopen.files
+
+-- what a stop leaves at the exit stands for no data in the new shape, or for the mark before; for the former where it is done, for the latter where it is refused
+pub record ExitsMaking (reopens : Files → Contents → Type 0) (numbers : Files → Type 0) (anew : Contents) (end : End) (first : Mark) (o : Option Files) : Type 0 where
+  pub at : AtMark reopens o (with_contents first anew ∷ first ∷ [])
+  pub done : end ≡ Done → IsMade reopens numbers (with_contents first anew) o
+  pub stay : end ≡ Refused → Reopens reopens o first
+
+-- over a space that began at this mark
+abbrev pub MakingOver : {S : Type 0} → space.Ghosts S → (Files → Contents → Type 0) → (Files → Type 0) → Contents → End → S → S → Mark → Type 0
+MakingOver s reopens numbers anew end old new first = StopsOver s reopens (ExitsMaking reopens numbers anew end first) (with_contents first anew ∷ first ∷ []) old new
+
+-- over a volume that was settled and whose files, as they read, recovered and reopened to a mark
+pub record FilesMade (tells : Type 0) (opens reopens : Files → Contents → Type 0) (numbers : Files → Type 0) (anew : Contents) (end : End) (old new : Calls) : Type 0 where
+  pub ends : IsSettled old → (first : Mark) → BeginsAt tells opens old first → StopsAt reopens (ExitsMaking reopens numbers anew end first) (IsEarly end) (with_contents first anew ∷ first ∷ []) old new
+
+-- a space of this volume that has no room for the file; each of its data files may have so many bytes, or as many as it had where that is more
+pub record FilesLack {S V : Type 0} (s : space.Ghosts S) (under : S → V) (tells : Type 0) (lacks : S → Type 0) (most : ℕ) (old : Calls) (vol : V) : Type 0 where
+  pub space : S
+  pub vol_is : under space ≡ vol
+  pub limits : tells → (files : Files) → recovered (now old) ≡ Some files → (f : ℕ) → is_data f ≡ true → s.limit space f ≡ max most (length (files f))
+  pub lack : tells → lacks space

@@ -1,0 +1,52 @@
+-- What the naming and opening of a volume leaves of it.
+use Rattle.std.specs.Prelude.{◌≡◌, ◌⊎◌, ◌≤◌, ℕ, max, true, false, List, [], ◌∷◌, length, Option, Some, Err}
+use Rattle.tc_base.specs.Files.{Files}
+use Rattle.tc_io.specs.Images.{Calls, now, Images, ImagesSince, IsLostSync}
+use Rattle.tc_io.specs.Told.{Adds}
+use Rattle.tc_io.specs.declared.volume.Volume as volume
+use Rattle.tc_space.specs.declared.space.Space as space
+use Rattle.tc_undo.specs.Errors.{OnRule}
+use Rattle.tc_undo.specs.declared.errors.UndoErr.{UndoErr}
+use Rattle.ud_log.specs.Undo.{is_data, recovered, undo}
+use Rattle.ud_state.specs.State.{IsSettled}
+use Rattle.tk_top.specs.declared.ends.End.{End}
+use Rattle.tk_top.specs.Causes.{Caused}
+use Rattle.tk_top.specs.Ends.{end_of_undo}
+use Rattle.tk_top.specs.Over.{AsOpening}
+
+-- a space was opened over a volume that told its calls
+pub record OpensOver {S : Type 0} (s : space.Ghosts S) (most : ℕ) (old : Calls) (a : S) : Type 0 where
+  pub tells : s.tells
+  -- its files are what those of the volume, as they read, recover to
+  pub files : recovered (now old) ≡ Some (s.now a)
+  -- each data file may have so many bytes, or as many as it has where that is more
+  pub limits : (f : ℕ) → is_data f ≡ true → s.limit a f ≡ max most (length (s.now a f))
+  -- at any moment of a volume that was settled, as an opening image
+  pub later : IsSettled old → length old ≤ s.moment a
+  pub moments : IsSettled old → (o : Option Files) → s.left a (length old) o → AsOpening old o
+
+-- no space was opened over it
+pub record LeavesOpening (old new : Calls) : Type 0 where
+  -- at the exit, what the files, as they read, recover to; where the log wasn't brought to the disk, as an opening image
+  pub exit : (ims : Files) → Images new ims → (recovered ims ≡ recovered (now old)) ⊎ (IsLostSync old new 1 × AsOpening old (recovered ims))
+  -- at any moment, as an opening image
+  pub moments : (ims : Files) → ImagesSince new (length old) ims → AsOpening old (recovered ims)
+
+-- a volume was given a name, and a space was opened over it
+pub record OpensNamed {S V : Type 0} (s : space.Ghosts S) (v : volume.Ghosts V) (name : List ℕ) (most : ℕ) (vol : V) (a : S) : Type 0 where
+  pub sound : s.sound a
+  pub untouched : s.touched a ≡ false
+  pub names : Adds (v.names vol) (s.names a) (name ∷ [])
+  pub later : v.faults vol ≤ s.faults a
+  pub over : v.tells → OpensOver s most (v.calls vol) a
+
+-- or it was refused, and the run ends so
+pub record EndsUnopened {V : Type 0} (v : volume.Ghosts V) (name : List ℕ) (end : End) (old new : V) : Type 0 where
+  pub why : UndoErr
+  pub is : end ≡ end_of_undo why
+  -- a rule is named where the log breaks it first
+  pub broken : OnRule why (λ rule. v.tells → undo (now (v.calls old) 1) (now (v.calls old)) ≡ Err rule)
+  -- the names that the volume was given grew by this one, or by nothing
+  pub names : Adds (v.names old) (v.names new) (name ∷ []) ⊎ Adds (v.names old) (v.names new) []
+  pub caused : (count count' : ℕ) → Caused end (v.faults old) (v.faults new) count count'
+  pub leaves : v.tells → IsSettled (v.calls old) → LeavesOpening (v.calls old) (v.calls new)

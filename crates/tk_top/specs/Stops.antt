@@ -1,0 +1,36 @@
+-- What a stop leaves of a command on files.
+use Rattle.std.specs.Prelude.{◌⊎◌, length, List, Option}
+use Rattle.tc_base.specs.Files.{Files}
+use Rattle.tc_io.specs.Images.{Calls, Images, ImagesSince, IsLostSync}
+use Rattle.tc_space.specs.declared.space.Space as space
+use Rattle.ud_log.specs.Undo.{recovered}
+use Rattle.tc_model.specs.Contents.{Contents}
+use Rattle.ty_world.specs.World.{Mark}
+use Rattle.ty_rounds.specs.Kept.{AtMark, LeavesMarks}
+use Rattle.tk_top.specs.declared.ends.End.{End}
+use Rattle.tk_top.specs.declared.ends.End.TheVariants.{Done, Words, Refused, VolumeFault, Broken, NoMemory, Full, WireFault, TurnsSpent}
+use Rattle.tk_top.specs.Over.{AsOpening}
+
+-- an end that may come before the files were recovered
+abbrev pub IsEarly : End → Type 0
+IsEarly Done = ⊥
+IsEarly Words = ⊥
+IsEarly Refused = ⊥
+IsEarly VolumeFault = Unit {0}
+IsEarly (Broken file rule) = Unit {0}
+IsEarly NoMemory = Unit {0}
+IsEarly Full = ⊥
+IsEarly WireFault = ⊥
+IsEarly TurnsSpent = ⊥
+
+-- over a space: at the exit it is so, and at any moment it stands for one of these marks
+pub record StopsOver {S : Type 0} (s : space.Ghosts S) (reopens : Files → Contents → Type 0) (exits : Option Files → Type 0) (marks : List Mark) (old new : S) : Type 0 where
+  pub exit : (o : Option Files) → s.left new (s.moment new) o → exits o
+  pub moments : LeavesMarks s reopens old new marks
+
+-- over a volume
+pub record StopsAt (reopens : Files → Contents → Type 0) (exits : Option Files → Type 0) (early : Type 0) (marks : List Mark) (old new : Calls) : Type 0 where
+  -- at the exit; where the run ended before the log was brought to the disk, as an opening image
+  pub exit : (ims : Files) → Images new ims → exits (recovered ims) ⊎ (early × IsLostSync old new 1 × AsOpening old (recovered ims))
+  -- at any moment, or as an opening image
+  pub moments : (ims : Files) → ImagesSince new (length old) ims → AtMark reopens (recovered ims) marks ⊎ AsOpening old (recovered ims)
