@@ -1,6 +1,4 @@
-//! A hash database in files: its bytes, what it answers, and the rules that files break.
-use crate::damages::{Damage, changed, is_named};
-use crate::fixed::two;
+//! A hash database in files: its bytes, and what it answers.
 use crate::played::{alone, joined, piped, ran_over, volume_of, words};
 use std::alloc::{AllocError, Global};
 use std::test::Fail;
@@ -8,13 +6,13 @@ use tc_io::MemVolume;
 
 // A file of three buckets, with a unit of 16 and a pool of 68 bytes: so many records, the low byte of its size, its buckets, the front of its pool, and its blocks.
 #[derive(Drop)]
-struct Made {
-    large: bool,
-    records: u8,
-    size: u8,
-    buckets: &'static [u8],
-    pool: &'static [u8],
-    blocks: &'static [&'static [u8]],
+pub struct Made {
+    pub large: bool,
+    pub records: u8,
+    pub size: u8,
+    pub buckets: &'static [u8],
+    pub pool: &'static [u8],
+    pub blocks: &'static [&'static [u8]],
 }
 
 // Records of 16 bytes with a key and a value of one byte each, and no record below them.
@@ -40,7 +38,7 @@ const FREE: &[u8] = b"\xB0\x10\0\0\0...........";
 const FREE_TWO: &[u8] = b"\xB0\x20\0\0\0...........................";
 
 // No record.
-const NEW: Made = Made {
+pub const NEW: Made = Made {
     large: false,
     records: 0,
     size: 0x50,
@@ -50,7 +48,7 @@ const NEW: Made = Made {
 };
 
 // `a` has `1`.
-const ONE: Made = Made {
+pub const ONE: Made = Made {
     large: false,
     records: 1,
     size: 0x60,
@@ -60,7 +58,7 @@ const ONE: Made = Made {
 };
 
 // `b` in another bucket.
-const TWO: Made = Made {
+pub const TWO: Made = Made {
     large: false,
     records: 2,
     size: 0x70,
@@ -80,7 +78,7 @@ const THREE: Made = Made {
 };
 
 // `a` was taken out, and `b` is left behind its block.
-const FREED: Made = Made {
+pub const FREED: Made = Made {
     large: false,
     records: 1,
     size: 0x70,
@@ -89,8 +87,18 @@ const FREED: Made = Made {
     blocks: &[FREE, B],
 };
 
+// The same packed.
+pub const PACKED: Made = Made {
+    large: false,
+    records: 1,
+    size: 0x60,
+    buckets: b"\0\0\0\0\x15\0\0\0\0\0\0\0",
+    pool: b"",
+    blocks: &[B],
+};
+
 // `d` hangs to the left of `a`, since its second hash is the greater.
-const HUNG: Made = Made {
+pub const HUNG: Made = Made {
     large: false,
     records: 2,
     size: 0x70,
@@ -100,7 +108,7 @@ const HUNG: Made = Made {
 };
 
 // `a` has `1`, in the large form.
-const LARGE: Made = Made {
+pub const LARGE: Made = Made {
     large: true,
     records: 1,
     size: 0x80,
@@ -123,7 +131,7 @@ fn head_of(made: &Made) -> [u8; 256] {
     bytes
 }
 
-fn file_of(alloc: Global, made: &Made) -> Result<Vec<u8>, AllocError> {
+pub fn file_of(alloc: Global, made: &Made) -> Result<Vec<u8>, AllocError> {
     let blocks = joined(alloc, made.blocks)?;
     let mut file = Vec::new(alloc);
     file.extend_from_slice(&head_of(made))?;
@@ -144,9 +152,9 @@ pub fn one(alloc: Global) -> Result<Vec<u8>, AllocError> {
     file_of(alloc, &ONE)
 }
 
-const PUT_A: &[u8] = b"\xC8\x10\0\0\0\x01\0\0\0\x01a1";
+pub const PUT_A: &[u8] = b"\xC8\x10\0\0\0\x01\0\0\0\x01a1";
 
-const PUT_B: &[u8] = b"\xC8\x10\0\0\0\x01\0\0\0\x01b2";
+pub const PUT_B: &[u8] = b"\xC8\x10\0\0\0\x01\0\0\0\x01b2";
 
 const PUT_C: &[u8] = b"\xC8\x10\0\0\0\x01\0\0\0\x01c3";
 
@@ -162,9 +170,9 @@ const OUT_D: &[u8] = b"\xC8\x20\0\0\0\x01d";
 
 pub const GET_A: &[u8] = b"\xC8\x30\0\0\0\x01a";
 
-const GET_B: &[u8] = b"\xC8\x30\0\0\0\x01b";
+pub const GET_B: &[u8] = b"\xC8\x30\0\0\0\x01b";
 
-const FOUND_A: &[u8] = b"\0\0\0\0\x011";
+pub const FOUND_A: &[u8] = b"\0\0\0\0\x011";
 
 // A file, what is asked of it, what is answered, and the file then, but for the bytes from a place to another.
 #[derive(Drop)]
@@ -278,7 +286,7 @@ fn rows_of_records() -> [Row; 8] {
     ]
 }
 
-fn rows_of_blocks() -> [Row; 8] {
+fn rows_of_blocks() -> [Row; 9] {
     [
         Row {
             name: "the block of what goes is free",
@@ -287,6 +295,14 @@ fn rows_of_blocks() -> [Row; 8] {
             sent: b"\0",
             left: FREED,
             ignored: [341, 352],
+        },
+        Row {
+            name: "a packing leaves no free block",
+            made: FREED,
+            input: &[b"\xC8\x71\0\0\0\0", GET_B],
+            sent: b"\0\0\0\0\0\x012",
+            left: PACKED,
+            ignored: [0, 0],
         },
         Row {
             name: "a free block is taken",
@@ -404,7 +420,7 @@ fn rows_of_blocks() -> [Row; 8] {
 }
 
 // Whether two files are the same, but for the bytes from a place to another.
-fn is_like(one: &[u8], other: &[u8], ignored: &[usize; 2]) -> bool {
+pub fn is_like(one: &[u8], other: &[u8], ignored: &[usize; 2]) -> bool {
     one.len() == other.len()
         && one.iter().zip(other.iter()).enumerate().all(|(at, (a, b))| a == b
             || (ignored[0] <= at && at < ignored[1]))
@@ -485,297 +501,6 @@ fn a_file_is_made_where_there_is_none(rt: HostRuntime) -> Result<(), Fail> {
         b"\xC8\x46\0\0\0\0\0\0\0\0\x0B\0\x09\x0Euser:1001{\"name\":\"Ann\"}\0\0\0\0\0\0\0\0\0\0\0".as_slice()
     );
     assert!(rt; end.vol.bytes(1).is_empty());
-    Ok(())
-}
-
-// Files that are refused: each a file with bytes changed.
-fn damages_of_one() -> [Damage; 22] {
-    [
-        Damage {
-            name: "a byte less than a head",
-            edits: &[],
-            length: 255,
-            line: b"tokyo: broken: file 0 rule L1\n",
-        },
-        Damage {
-            name: "another magic",
-            edits: &[(0, 0)],
-            length: 352,
-            line: b"tokyo: broken: file 0 rule L1\n",
-        },
-        Damage {
-            name: "the type of a tree",
-            edits: &[(32, 1)],
-            length: 352,
-            line: b"tokyo: broken: file 0 rule L1\n",
-        },
-        Damage {
-            name: "the type of a fixed-length file",
-            edits: &[(32, 2)],
-            length: 352,
-            line: b"tokyo: broken: file 0 rule L1\n",
-        },
-        Damage {
-            name: "the type of a table",
-            edits: &[(32, 3)],
-            length: 352,
-            line: b"tokyo: broken: file 0 rule L1\n",
-        },
-        Damage {
-            name: "a unit of 8",
-            edits: &[(34, 3)],
-            length: 352,
-            line: b"tokyo: broken: file 0 rule L1\n",
-        },
-        Damage {
-            name: "an option",
-            edits: &[(36, 2)],
-            length: 352,
-            line: b"tokyo: broken: file 0 rule L1\n",
-        },
-        Damage {
-            name: "the large form, for which the buckets have no room",
-            edits: &[(36, 1)],
-            length: 352,
-            line: b"tokyo: broken: file 0 rule L1\n",
-        },
-        Damage {
-            name: "no bucket",
-            edits: &[(40, 0)],
-            length: 352,
-            line: b"tokyo: broken: file 0 rule L1\n",
-        },
-        Damage {
-            name: "a byte less than its size",
-            edits: &[],
-            length: 351,
-            line: b"tokyo: broken: file 0 rule L2\n",
-        },
-        Damage {
-            name: "a block of neither kind",
-            edits: &[(336, 0)],
-            length: 352,
-            line: b"tokyo: broken: file 0 rule L3\n",
-        },
-        Damage {
-            name: "a key that reaches past the end",
-            edits: &[(348, 2)],
-            length: 352,
-            line: b"tokyo: broken: file 0 rule L3\n",
-        },
-        Damage {
-            name: "a size that ends before the record",
-            edits: &[(56, 0x50)],
-            length: 352,
-            line: b"tokyo: broken: file 0 rule L4\n",
-        },
-        Damage {
-            name: "a bucket that names no block",
-            edits: &[(256, 0x16)],
-            length: 352,
-            line: b"tokyo: broken: file 0 rule L4\n",
-        },
-        Damage {
-            name: "a record below itself",
-            edits: &[(338, 0x15)],
-            length: 352,
-            line: b"tokyo: broken: file 0 rule L5\n",
-        },
-        Damage {
-            name: "a record in no bucket",
-            edits: &[(256, 0)],
-            length: 352,
-            line: b"tokyo: broken: file 0 rule L5\n",
-        },
-        Damage {
-            name: "another second hash",
-            edits: &[(337, 0x91)],
-            length: 352,
-            line: b"tokyo: broken: file 0 rule L6\n",
-        },
-        Damage {
-            name: "another bucket",
-            edits: &[(256, 0), (260, 0x15)],
-            length: 352,
-            line: b"tokyo: broken: file 0 rule L6\n",
-        },
-        Damage {
-            name: "another key, of another bucket",
-            edits: &[(350, b'b')],
-            length: 352,
-            line: b"tokyo: broken: file 0 rule L6\n",
-        },
-        Damage {
-            name: "a wrong count",
-            edits: &[(48, 2)],
-            length: 352,
-            line: b"tokyo: broken: file 0 rule L8\n",
-        },
-        Damage {
-            name: "a record in the list of free blocks",
-            edits: &[(268, 0x15), (269, 1)],
-            length: 352,
-            line: b"tokyo: broken: file 0 rule L9\n",
-        },
-        Damage {
-            name: "the first of two broken rules",
-            edits: &[(48, 2), (268, 0x15), (269, 1), (337, 0x91)],
-            length: 352,
-            line: b"tokyo: broken: file 0 rule L6\n",
-        },
-    ]
-}
-
-// Of a file in which one key hangs below another.
-fn damages_of_hung() -> [Damage; 2] {
-    [
-        Damage {
-            name: "the greater to the right",
-            edits: &[(338, 0), (342, 0x16)],
-            length: 368,
-            line: b"tokyo: broken: file 0 rule L7\n",
-        },
-        Damage {
-            name: "two below each other",
-            edits: &[(358, 0x15)],
-            length: 368,
-            line: b"tokyo: broken: file 0 rule L5\n",
-        },
-    ]
-}
-
-// Of a file with a free block.
-fn damages_of_freed() -> [Damage; 3] {
-    [
-        Damage {
-            name: "a free block that ends within a record",
-            edits: &[(337, 0x11)],
-            length: 368,
-            line: b"tokyo: broken: file 0 rule L3\n",
-        },
-        Damage {
-            name: "another size in the list of free blocks",
-            edits: &[(269, 2)],
-            length: 368,
-            line: b"tokyo: broken: file 0 rule L9\n",
-        },
-        Damage {
-            name: "a free block listed twice",
-            edits: &[(271, 1)],
-            length: 368,
-            line: b"tokyo: broken: file 0 rule L9\n",
-        },
-    ]
-}
-
-// Of a file in the large form.
-fn damages_of_large() -> [Damage; 3] {
-    [
-        Damage {
-            name: "a record below itself",
-            edits: &[(354, 0x16)],
-            length: 384,
-            line: b"tokyo: broken: file 0 rule L5\n",
-        },
-        Damage {
-            name: "a place past all files",
-            edits: &[(360, 0x16)],
-            length: 384,
-            line: b"tokyo: broken: file 0 rule L4\n",
-        },
-        Damage {
-            name: "the small form",
-            edits: &[(36, 0)],
-            length: 384,
-            line: b"tokyo: broken: file 0 rule L3\n",
-        },
-    ]
-}
-
-// The name of the first damage that isn't named so.
-fn first_unnamed(
-    alloc: Global,
-    made: &Made,
-    damages: &[Damage],
-) -> Result<Option<&'static str>, AllocError> {
-    let file = file_of(alloc, made)?;
-    for damage in damages.iter() {
-        if !is_named(alloc, "h.tch", &file, damage, PUT_B)? {
-            return Ok(Some(damage.name));
-        }
-    }
-    Ok(None)
-}
-
-#[test]
-fn the_first_broken_rule_is_named(rt: HostRuntime) -> Result<(), Fail> {
-    let alloc = rt.alloc();
-    assert_eq!(rt; first_unnamed(alloc, &ONE, &damages_of_one())?, None);
-    assert_eq!(rt; first_unnamed(alloc, &HUNG, &damages_of_hung())?, None);
-    assert_eq!(rt; first_unnamed(alloc, &FREED, &damages_of_freed())?, None);
-    assert_eq!(rt; first_unnamed(alloc, &LARGE, &damages_of_large())?, None);
-    Ok(())
-}
-
-// Whether a file that breaks no rule is opened, and answers so.
-fn is_sound(alloc: Global, file: &[u8]) -> Result<bool, AllocError> {
-    let end = piped(alloc, "h.tch", volume_of(alloc, file)?, GET_A)?;
-    Ok(end.status == 0 && end.wire.sent(0) == FOUND_A && end.line.bytes().is_empty())
-}
-
-#[test]
-fn what_no_rule_speaks_of_is_ignored(rt: HostRuntime) -> Result<(), Fail> {
-    let alloc = rt.alloc();
-    let one = file_of(alloc, &ONE)?;
-    for edits in [[(33, 3)], [(20, 0xFF)], [(128, 0xFF)], [(335, 0xFF)]] {
-        let file = changed(alloc, &one, &edits, 352)?;
-        assert!(rt; is_sound(alloc, &file)?, "byte {}", edits[0].0);
-    }
-    let mut slack = one;
-    slack.extend_from_slice(&[0xFF; 9])?;
-    assert!(rt; is_sound(alloc, &slack)?);
-    Ok(())
-}
-
-#[test]
-fn a_file_of_another_kind_is_refused(rt: HostRuntime) -> Result<(), Fail> {
-    let alloc = rt.alloc();
-    let file = two(alloc)?;
-    let end = piped(alloc, "h.tch", volume_of(alloc, &file)?, GET_A)?;
-    assert_eq!(rt; end.status, 4);
-    assert_eq!(rt;
-        end.line.bytes(),
-        b"tokyo: broken: file 0 rule L1\n".as_slice()
-    );
-    let file = file_of(alloc, &ONE)?;
-    let end = piped(alloc, "f.tcf", volume_of(alloc, &file)?, GET_A)?;
-    assert_eq!(rt; end.status, 4);
-    assert_eq!(rt;
-        end.line.bytes(),
-        b"tokyo: broken: file 0 rule F1\n".as_slice()
-    );
-    Ok(())
-}
-
-// `serve` refuses as `pipe` does, before it listens.
-#[test]
-fn a_broken_file_is_not_served(rt: HostRuntime) -> Result<(), Fail> {
-    let alloc = rt.alloc();
-    let file = changed(alloc, &file_of(alloc, &ONE)?, &[(256, 0), (260, 0x15)], 352)?;
-    let order = words(alloc, &["serve", "h.tch"])?;
-    let end = ran_over(
-        alloc,
-        &order,
-        volume_of(alloc, &file)?,
-        alone(alloc, PUT_A, 4096)?,
-    );
-    assert_eq!(rt; end.status, 4);
-    assert_eq!(rt;
-        end.line.bytes(),
-        b"tokyo: broken: file 0 rule L6\n".as_slice()
-    );
-    assert!(rt; end.wire.sent(0).is_empty());
-    assert_eq!(rt; end.vol.bytes(0), file.as_slice());
     Ok(())
 }
 

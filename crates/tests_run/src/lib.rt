@@ -4,6 +4,8 @@
 #[cfg(test)]
 mod cases;
 #[cfg(test)]
+mod commanded;
+#[cfg(test)]
 mod connections;
 #[cfg(test)]
 mod damages;
@@ -11,6 +13,8 @@ mod damages;
 mod databases;
 #[cfg(test)]
 mod fixed;
+#[cfg(test)]
+mod hash_damages;
 #[cfg(test)]
 mod hashed;
 #[cfg(test)]

@@ -20,6 +20,7 @@ pub enum Step {
     Opened(u32),
     Read(u32, &'static [&'static [u8]]),
     Ended(u32),
+    Quiet,
 }
 
 // How a run ended.
@@ -28,6 +29,7 @@ pub struct Ended {
     pub status: u8,
     pub vol: MemVolume,
     pub wire: MemWire,
+    pub out: MemSink,
     pub line: MemSink,
 }
 
@@ -71,6 +73,7 @@ pub fn script(alloc: Global, steps: &[Step], piece: usize) -> Result<MemWire, Al
                 wire.feed(*conn, &input, piece.min(4096).max(1))?;
             }
             Step::Ended(conn) => wire.act(Act::Ended(*conn))?,
+            Step::Quiet => wire.act(Act::Quiet)?,
         }
     }
     Ok(wire)
@@ -110,6 +113,7 @@ pub fn ran_over(alloc: Global, words: &Vec<String>, vol: MemVolume, mut wire: Me
         status: ran.status,
         vol: ran.vol,
         wire,
+        out,
         line: err,
     }
 }

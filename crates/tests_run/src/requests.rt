@@ -1,6 +1,6 @@
 //! Requests of one connection, in whatever pieces they come.
 use crate::cases::{Case, first_wrong};
-use crate::played::{FOUND, GET, PUT, alone, joined, ran, words};
+use crate::played::{FOUND, GET, PUT, Step, alone, joined, ran, script, words};
 use std::test::Fail;
 use tc_io::{At, Entry, MemWire};
 
@@ -135,17 +135,20 @@ fn the_longest_key_is_looked_for(rt: HostRuntime) -> Result<(), Fail> {
 #[test]
 fn other_words_are_refused(rt: HostRuntime) -> Result<(), Fail> {
     let alloc = rt.alloc();
-    let lists: [&[&str]; 10] = [
+    let lists: [&[&str]; 13] = [
         &[],
         &["pipe"],
         &["pipe", "x"],
+        &["pipe", "x.txt"],
         &["pipe", "*", "*"],
         &["*", "pipe"],
         &["serve", "x"],
         &["serve", "a.tcb"],
-        &["serve", "-port", "0", "*"],
+        &["serve", "-port", "0", "x.tch"],
         &["pipe", "++"],
+        &["serve", "-ulog", "*"],
         &["serve", "-ulog", "+"],
+        &["hash", "get", "x.tcb", "a"],
     ];
     for list in lists {
         let order = words(alloc, list)?;
@@ -153,6 +156,7 @@ fn other_words_are_refused(rt: HostRuntime) -> Result<(), Fail> {
         assert_eq!(rt; end.status, 1);
         assert_eq!(rt; end.line.bytes(), b"tokyo: words\n".as_slice());
         assert_eq!(rt; end.wire.log().len(), 0);
+        assert_eq!(rt; end.vol.calls(), 0);
     }
     Ok(())
 }
@@ -193,14 +197,16 @@ fn serve_opens_its_address(rt: HostRuntime) -> Result<(), Fail> {
     Ok(())
 }
 
+// Two turns serve a put, and no third comes to what happens next.
 #[test]
 fn turns_are_spent(rt: HostRuntime) -> Result<(), Fail> {
     let alloc = rt.alloc();
     let order = words(alloc, &["serve", "-turns", "2", "*"])?;
-    let end = ran(alloc, &order, alone(alloc, GET, 4096)?)?;
+    let steps = [Step::Opened(0), Step::Read(0, &[PUT]), Step::Quiet];
+    let end = ran(alloc, &order, script(alloc, &steps, 4096)?)?;
     assert_eq!(rt; end.status, 8);
     assert_eq!(rt; end.line.bytes(), b"tokyo: turns spent\n".as_slice());
-    assert_eq!(rt; end.wire.sent(0), b"\x01".as_slice());
+    assert_eq!(rt; end.wire.sent(0), b"\0".as_slice());
     Ok(())
 }
 

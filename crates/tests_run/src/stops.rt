@@ -1,15 +1,16 @@
-//! A put into a file of each kind, stopped or failed at each call of the volume, and the run that opens what is left, stopped or failed at each of its calls.
+//! A put into a file of each kind, a packing and commands, stopped or failed at each call of the volume, and the run that opens what is left, stopped or failed at each of its calls.
 use crate::fixed::two;
-use crate::hashed::created;
+use crate::hashed::{FREED, created, file_of, one};
 use crate::played::{Ended, alone, piped, ran_over, volume_of, words};
 use std::alloc::{AllocError, Global};
 use std::test::Fail;
 use tc_io::{Choice, MemVolume};
 
-/// A run that puts a value, what a get answers before and after, and how many calls of the volume it may make.
+/// A run on a name that changes its file, by a request or as a command, what a get answers before and after, and how many calls of the volume it may make.
 #[derive(Drop)]
 struct Trial {
-    order: [&'static str; 2],
+    order: &'static [&'static str],
+    name: &'static str,
     put: &'static [u8],
     get: &'static [u8],
     old: &'static [u8],
@@ -19,7 +20,8 @@ struct Trial {
 
 // The value of the id 1 becomes `z`.
 const FIXED: Trial = Trial {
-    order: ["pipe", "f.tcf"],
+    order: &["pipe", "f.tcf"],
+    name: "f.tcf",
     put: b"\xC8\x10\0\0\0\x01\0\0\0\x011z",
     get: b"\xC8\x30\0\0\0\x011",
     old: b"\0\0\0\0\x03abc",
@@ -29,10 +31,44 @@ const FIXED: Trial = Trial {
 
 // The key `a` gets the value `1`.
 const HASHED: Trial = Trial {
-    order: ["serve", "h.tch"],
+    order: &["serve", "h.tch"],
+    name: "h.tch",
     put: b"\xC8\x10\0\0\0\x01\0\0\0\x01a1",
     get: b"\xC8\x30\0\0\0\x01a",
     old: b"\x01",
+    new: b"\0\0\0\0\x011",
+    calls: 4096,
+};
+
+// The same by a command.
+const COMMAND: Trial = Trial {
+    order: &["hash", "put", "h.tch", "a", "1"],
+    name: "h.tch",
+    put: b"",
+    get: b"\xC8\x30\0\0\0\x01a",
+    old: b"\x01",
+    new: b"\0\0\0\0\x011",
+    calls: 4096,
+};
+
+// A file with a free block packed, which keeps the key `b`.
+const PACKING: Trial = Trial {
+    order: &["serve", "h.tch"],
+    name: "h.tch",
+    put: b"\xC8\x71\0\0\0\0",
+    get: b"\xC8\x30\0\0\0\x01b",
+    old: b"\0\0\0\0\x012",
+    new: b"\0\0\0\0\x012",
+    calls: 4096,
+};
+
+// A file written anew in the large form, which keeps the key `a`.
+const ENLARGING: Trial = Trial {
+    order: &["hash", "optimize", "-tl", "h.tch"],
+    name: "h.tch",
+    put: b"",
+    get: b"\xC8\x30\0\0\0\x01a",
+    old: b"\0\0\0\0\x011",
     new: b"\0\0\0\0\x011",
     calls: 4096,
 };
@@ -78,13 +114,13 @@ fn meet(alloc: Global, vol: &mut MemVolume, trouble: Trouble) -> Result<(), Allo
 
 // The trial's run over a volume.
 fn put(alloc: Global, trial: &Trial, vol: MemVolume) -> Result<Ended, AllocError> {
-    let order = words(alloc, &trial.order)?;
+    let order = words(alloc, trial.order)?;
     Ok(ran_over(alloc, &order, vol, alone(alloc, trial.put, 4096)?))
 }
 
 // Whether a volume, opened again, gives the old value or the new one; where the put was answered, the new one.
 fn holds(alloc: Global, trial: &Trial, vol: MemVolume, answered: bool) -> Result<bool, AllocError> {
-    let end = piped(alloc, trial.order[1], vol, trial.get)?;
+    let end = piped(alloc, trial.name, vol, trial.get)?;
     let found = end.wire.sent(0);
     Ok(end.status == 0 && (found == trial.new || (!answered && found == trial.old)))
 }
@@ -114,10 +150,10 @@ fn reopens_twice(
     stops: bool,
     answered: bool,
 ) -> Result<bool, AllocError> {
-    for call in 1..100u64 {
+    for call in 1..trial.calls {
         let mut image = vol.image(choice)?;
         meet(alloc, &mut image, Trouble { call, stops })?;
-        let end = piped(alloc, trial.order[1], image, trial.get)?;
+        let end = piped(alloc, trial.name, image, trial.get)?;
         if !reopens(alloc, trial, &end.vol, &choices()[..2], answered)? {
             return Ok(false);
         }
@@ -154,7 +190,12 @@ fn all(alloc: Global, trial: &Trial, file: &[u8], stops: bool) -> Result<bool, A
         meet(alloc, &mut vol, Trouble { call, stops })?;
         let end = put(alloc, trial, vol)?;
         let sent = end.wire.sent(0);
-        let answered = sent == b"\0".as_slice();
+        // a command has no reply but its status
+        let answered = if trial.put.is_empty() {
+            end.status == 0
+        } else {
+            sent == b"\0".as_slice()
+        };
         if !survives(alloc, trial, &end.vol, stops, answered)? {
             return Ok(false);
         }
@@ -199,5 +240,33 @@ fn a_put_by_key_is_stopped_at_each_call(rt: HostRuntime) -> Result<(), Fail> {
 fn a_put_by_key_fails_at_each_call(rt: HostRuntime) -> Result<(), Fail> {
     let file = created(rt.alloc())?;
     assert!(&rt; all(rt.alloc(), &HASHED, &file, false)?);
+    Ok(())
+}
+
+#[test]
+fn a_command_is_stopped_at_each_call(rt: HostRuntime) -> Result<(), Fail> {
+    let file = created(rt.alloc())?;
+    assert!(&rt; all(rt.alloc(), &COMMAND, &file, true)?);
+    Ok(())
+}
+
+#[test]
+fn a_packing_is_stopped_at_each_call(rt: HostRuntime) -> Result<(), Fail> {
+    let file = file_of(rt.alloc(), &FREED)?;
+    assert!(&rt; all(rt.alloc(), &PACKING, &file, true)?);
+    Ok(())
+}
+
+#[test]
+fn an_enlarging_is_stopped_at_each_call(rt: HostRuntime) -> Result<(), Fail> {
+    let file = one(rt.alloc())?;
+    assert!(&rt; all(rt.alloc(), &ENLARGING, &file, true)?);
+    Ok(())
+}
+
+#[test]
+fn an_enlarging_fails_at_each_call(rt: HostRuntime) -> Result<(), Fail> {
+    let file = one(rt.alloc())?;
+    assert!(&rt; all(rt.alloc(), &ENLARGING, &file, false)?);
     Ok(())
 }

@@ -2,7 +2,11 @@
 #![tactic(auto)]
 
 #[cfg(test)]
+mod empty;
+#[cfg(test)]
 mod files;
+#[cfg(test)]
+mod numbers;
 #[cfg(test)]
 mod serving;
 #[cfg(test)]
