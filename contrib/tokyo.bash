@@ -1,26 +1,66 @@
 # Completion of tokyo's words for bash: source this file, or put it into
 # the folder of bash-completion as `tokyo`.
 
-# Served by this version.
-_tokyo_served="pipe serve --help --version"
+# Carried out by this version.
+_tokyo_commands="pipe serve drill hash fixed --help --version"
+_tokyo_of_kind="create inform put out get list optimize --help"
 
-# Words to come: this version answers them with status 1, so they aren't offered. A word goes to the line above, and a name to
-# _tokyo_names, once the program serves it.
-#   drill hash tree fixed table
-#   of a kind: create inform put out get list optimize restore; of a table: setindex search
+# Words to come: this version answers them with status 1, so they aren't offered. A word goes to one of the lines above, and an
+# ending to _tokyo_files, once the program carries it out.
+#   tree table
+#   of a kind: restore; of a table: setindex search
 
-# What may be named: a star is quoted, as the shell would read it as files.
+# What may be named besides files: a star is quoted, as the shell would read it as files.
 _tokyo_names=("'*'" +)
 
+# The options of a command.
+_tokyo_options() { # KIND COMMAND
+    case "$1 $2" in
+        "hash create" | "hash optimize") echo "-tl" ;;
+        "hash put" | "fixed put") echo "-dk -dc" ;;
+        "hash list" | "fixed list") echo "-m -pv" ;;
+    esac
+}
+
+# Files whose names end so.
+_tokyo_files() { # ENDINGS WORD
+    compgen -f -X "!*.tc[$1]" -- "$2"
+}
+
+# What may stand in the place of a word behind `hash` or `fixed` and a command.
+_tokyo_behind_command() { # KIND COMMAND WORD
+    local at named=0
+    for ((at = 3; at < COMP_CWORD; at++)); do
+        case "${COMP_WORDS[at]}" in
+            -m) [ "$named" -gt 0 ] || at=$((at + 1)) ;;
+            -*) [ "$named" -eq 0 ] || named=$((named + 1)) ;;
+            *) named=$((named + 1)) ;;
+        esac
+    done
+    if [ "$named" -eq 1 ] && [ "$1" = fixed ] && [[ $2 == @(put|out|get) ]]; then
+        compgen -W "min max prev next" -- "$3"
+    elif [ "$named" -eq 0 ] && [ "$at" -eq "$COMP_CWORD" ]; then
+        if [[ $3 == -* ]]; then
+            compgen -W "$(_tokyo_options "$1" "$2")" -- "$3"
+        else
+            _tokyo_files "${1:0:1}" "$3"
+        fi
+    fi
+}
+
 _tokyo() {
-    local word=${COMP_WORDS[COMP_CWORD]}
+    local word=${COMP_WORDS[COMP_CWORD]} command=${COMP_WORDS[1]}
     COMPREPLY=()
     if [ "$COMP_CWORD" -eq 1 ]; then
-        mapfile -t COMPREPLY < <(compgen -W "$_tokyo_served" -- "$word")
-    elif [ "${COMP_WORDS[1]}" = serve ] && [[ $word == -* ]]; then
-        mapfile -t COMPREPLY < <(compgen -W "-host -port -lim -turns" -- "$word")
-    elif [ "${COMP_WORDS[1]}" = serve ] || { [ "$COMP_CWORD" -eq 2 ] && [ "${COMP_WORDS[1]}" = pipe ]; }; then
-        mapfile -t COMPREPLY < <(compgen -f -X '!*.tc[fh]' -- "$word")
+        mapfile -t COMPREPLY < <(compgen -W "$_tokyo_commands" -- "$word")
+    elif [[ $command == @(hash|fixed) ]] && [ "$COMP_CWORD" -eq 2 ]; then
+        mapfile -t COMPREPLY < <(compgen -W "$_tokyo_of_kind" -- "$word")
+    elif [[ $command == @(hash|fixed) ]]; then
+        mapfile -t COMPREPLY < <(_tokyo_behind_command "$command" "${COMP_WORDS[2]}" "$word")
+    elif [ "$command" = serve ] && [[ $word == -* ]]; then
+        mapfile -t COMPREPLY < <(compgen -W "-host -port -lim -sid -turns" -- "$word")
+    elif [ "$command" = serve ] || [ "$command $COMP_CWORD" = "pipe 2" ] || [ "$command $COMP_CWORD" = "drill 4" ]; then
+        mapfile -t COMPREPLY < <(_tokyo_files hf "$word")
         [ -n "$word" ] || COMPREPLY+=("${_tokyo_names[@]}")
     fi
 }
