@@ -1,8 +1,9 @@
 ghost use Rattle.std.specs.Prelude.{◌≡◌, ◌≤◌, ◌^◌, true, OnOk};
 
+use crate::calls::{get, out, put};
 use std::alloc::Global;
 use std::test::Fail;
-use tc_base::{Blob, Form, Mode, Steps};
+use tc_base::{Form, Mode};
 use tc_hash::Hash;
 use tc_space::{PutErr, RecErr, Space};
 use tc_stores::OneFile;
@@ -20,45 +21,6 @@ fn created(
     ensures { OnOk result (space.new.sound ≡ true) }
 {
     Hash::create(alloc, space, 0, 0, 4, 0, buckets, large)
-}
-
-fn put(
-    hash: &mut Hash<OneFile>,
-    space: &mut OneFile,
-    key: &[u8],
-    value: &[u8],
-) -> Result<(), PutErr>
-    requires { space.old.sound ≡ true }
-    ensures { OnOk result (space.new.sound ≡ true) }
-{
-    let mut steps: Steps<()> = Steps::new();
-    match hash.put(space, key, value, Mode::Over, &mut steps) {
-        Ok(()) => Ok(()),
-        Err(e) => Err(e),
-    }
-}
-
-fn out(hash: &mut Hash<OneFile>, space: &mut OneFile, key: &[u8]) -> Result<bool, RecErr>
-    requires { space.old.sound ≡ true }
-    ensures { OnOk result (space.new.sound ≡ true) }
-{
-    let mut steps: Steps<()> = Steps::new();
-    match hash.out(space, key, &mut steps) {
-        Ok(true) => Ok(true),
-        Ok(false) => Ok(false),
-        Err(e) => Err(e),
-    }
-}
-
-fn get(hash: &mut Hash<OneFile>, space: &mut OneFile, key: &[u8]) -> Result<Option<Blob>, RecErr>
-    requires { space.old.sound ≡ true }
-    ensures { OnOk result (space.new.sound ≡ true) }
-{
-    let mut steps: Steps<()> = Steps::new();
-    match hash.get(space, key, &mut steps) {
-        Ok(found) => Ok(found),
-        Err(e) => Err(e),
-    }
 }
 
 // Packs the file, and settles it.
@@ -88,8 +50,8 @@ fn bytes_at(space: &OneFile, at: usize, count: usize) -> &[u8] {
 fn a_packed_record_moves_to_the_front(rt: HostRuntime) -> Result<(), Fail> {
     let mut space = OneFile::new(rt.alloc(), &[])?;
     let mut hash = created(rt.alloc(), &mut space, 3, false)?;
-    put(&mut hash, &mut space, b"a", b"1")?;
-    put(&mut hash, &mut space, b"b", b"2")?;
+    put(&mut hash, &mut space, b"a", b"1", Mode::Over)?;
+    put(&mut hash, &mut space, b"b", b"2", Mode::Over)?;
     assert_eq!(&rt; out(&mut hash, &mut space, b"a")?, true);
     pack(&mut hash, &mut space, Form::Keep)?;
     assert_eq!(&rt;
@@ -108,7 +70,7 @@ fn a_packed_record_moves_to_the_front(rt: HostRuntime) -> Result<(), Fail> {
 fn a_small_file_is_written_anew_in_the_large_form(rt: HostRuntime) -> Result<(), Fail> {
     let mut space = OneFile::new(rt.alloc(), &[])?;
     let mut hash = created(rt.alloc(), &mut space, 3, false)?;
-    put(&mut hash, &mut space, b"a", b"1")?;
+    put(&mut hash, &mut space, b"a", b"1", Mode::Over)?;
     pack(&mut hash, &mut space, Form::Large)?;
     assert_eq!(&rt; bytes_at(&space, 36, 1), b"\x01".as_slice());
     assert_eq!(&rt;
@@ -123,7 +85,7 @@ fn a_small_file_is_written_anew_in_the_large_form(rt: HostRuntime) -> Result<(),
     // the same file as one that was made large
     let mut other = OneFile::new(rt.alloc(), &[])?;
     let mut large = created(rt.alloc(), &mut other, 3, true)?;
-    put(&mut large, &mut other, b"a", b"1")?;
+    put(&mut large, &mut other, b"a", b"1", Mode::Over)?;
     pack(&mut large, &mut other, Form::Large)?;
     assert!(&rt; space.bytes() == other.bytes());
     Ok(())
@@ -167,7 +129,7 @@ fn draw(
         let Ok(value) = vec![in alloc; byte; len] else {
             return Err(PutErr::Memory);
         };
-        match put(hash, space, &key_of(i), &value) {
+        match put(hash, space, &key_of(i), &value, Mode::Over) {
             Ok(()) => {}
             Err(e) => return Err(e),
         }
@@ -197,14 +159,14 @@ fn is_as_drawn(
         return Ok(false);
     }
     match get(hash, space, &key_of(i)) {
-        Ok(Some(value)) => {
+        Ok((Some(value), _)) => {
             Ok(
                 drawn.held
                     && value.len() == drawn.len
                     && value.as_slice().iter().all(|b| *b == drawn.byte),
             )
         }
-        Ok(None) => Ok(!drawn.held),
+        Ok((None, _)) => Ok(!drawn.held),
         Err(e) => Err(e),
     }
 }

@@ -1,5 +1,6 @@
 ghost use Rattle.std.specs.Prelude.{◌≡◌, true, IfOk, OnOk};
 
+use crate::calls::{get, out, put};
 use std::alloc::Global;
 use std::test::Fail;
 use tc_base::{Blob, Blobs, Mode, Steps};
@@ -13,51 +14,6 @@ fn created(alloc: Global, space: &mut OneFile) -> Result<Hash<OneFile>, RecErr>
     ensures { OnOk result (space.new.sound ≡ true) }
 {
     Hash::create(alloc, space, 0, 0, 4, 0, 3, false)
-}
-
-fn put(
-    hash: &mut Hash<OneFile>,
-    space: &mut OneFile,
-    key: &[u8],
-    value: &[u8],
-    mode: Mode,
-) -> Result<(), PutErr>
-    requires { space.old.sound ≡ true }
-    ensures { OnOk result (space.new.sound ≡ true) }
-{
-    let mut steps: Steps<()> = Steps::new();
-    match hash.put(space, key, value, mode, &mut steps) {
-        Ok(()) => Ok(()),
-        Err(e) => Err(e),
-    }
-}
-
-fn out(hash: &mut Hash<OneFile>, space: &mut OneFile, key: &[u8]) -> Result<bool, RecErr>
-    requires { space.old.sound ≡ true }
-    ensures { OnOk result (space.new.sound ≡ true) }
-{
-    let mut steps: Steps<()> = Steps::new();
-    match hash.out(space, key, &mut steps) {
-        Ok(true) => Ok(true),
-        Ok(false) => Ok(false),
-        Err(e) => Err(e),
-    }
-}
-
-// The value of a key, and the steps to it.
-fn get(
-    hash: &mut Hash<OneFile>,
-    space: &mut OneFile,
-    key: &[u8],
-) -> Result<(Option<Blob>, u64), RecErr>
-    requires { space.old.sound ≡ true }
-    ensures { OnOk result (space.new.sound ≡ true) }
-{
-    let mut steps: Steps<()> = Steps::new();
-    match hash.get(space, key, &mut steps) {
-        Ok(found) => Ok((found, steps.count())),
-        Err(e) => Err(e),
-    }
 }
 
 fn len(hash: &mut Hash<OneFile>, space: &mut OneFile, key: &[u8]) -> Result<Option<u64>, RecErr>
