@@ -46,6 +46,12 @@ given_after given (Ended c) = given
 given_after given Quiet = given
 given_after given Shut = given
 
+-- these are open, of these no more input comes, and the numbers below this one were given
+pub record Becomes (cs es : List ℕ) (n : ℕ) (cs' es' : List ℕ) (n' : ℕ) : Type 0 where
+  pub conns : cs' ≡ cs
+  pub ended : es' ≡ es
+  pub given : n' ≡ n
+
 -- an answer of a dial that may come
 abbrev pub MayDial : ℕ → Dialled → Type 0
 MayDial given (Conn c) = given ≤ c

@@ -202,7 +202,7 @@ impl Wire for MemWire {
     ghost use Rattle.tc_io.specs.declared.wire.Dialled.TheVariants.{NotNow};
     ghost use Rattle.tc_io.specs.declared.wire.Entry.TheVariants.{Open, Dial, Event, Send, Close};
     ghost use Rattle.tc_io.specs.Counted.{FailsRightly, one_more};
-    ghost use Rattle.tc_io.specs.Lines.{MayCome, MayDial, CanTake, open_after, open_dialled, ended_after, given_after, given_dialled, without};
+    ghost use Rattle.tc_io.specs.Lines.{Becomes, MayCome, MayDial, CanTake, open_after, open_dialled, ended_after, given_after, given_dialled, without};
     ghost use Rattle.tc_io.specs.Script.{Plays};
     ghost use Rattle.tc_io.specs.Transcript.{bytes_of};
     ghost use Rattle.tc_io.specs.Wires.{told, script_of, TellsUnstarved};
@@ -226,9 +226,7 @@ impl Wire for MemWire {
     fn open(&mut self, at: &At) -> Result<(), Fault>
         requires { self.old.opened ≡ false }
         ensures opened { self.new.opened ≡ is_ok result }
-        ensures conns { self.new.conns.items ≡ self.old.conns.items }
-        ensures ended { self.new.ended.items ≡ self.old.ended.items }
-        ensures given { self.new.given ≡ self.old.given }
+        ensures lines { Becomes self.old.conns.items self.old.ended.items self.old.given self.new.conns.items self.new.ended.items self.new.given }
         ensures told { OnOk result (told self.new ≡ told self.old ++ Open at.now ∷ []) }
         ensures told_err { OnErr result (TellsUnstarved self.old.counts self.new.counts (told self.old) (told self.new) (Open at.now)) }
         ensures plays { OnOk result (Plays (script_of self.old) (script_of self.new) (Open at.now ∷ [])) }
@@ -252,11 +250,8 @@ impl Wire for MemWire {
         requires { self.old.opened ≡ true }
         ensures opened { self.new.opened ≡ true }
         ensures may { IfOk result (λ answer. MayDial self.old.given answer) }
-        ensures conns { IfOk result (λ answer. self.new.conns.items ≡ open_dialled self.old.conns.items answer) }
-        ensures conns_err { OnErr result (self.new.conns.items ≡ self.old.conns.items) }
-        ensures ended { self.new.ended.items ≡ self.old.ended.items }
-        ensures given { IfOk result (λ answer. self.new.given ≡ given_dialled self.old.given answer) }
-        ensures given_err { OnErr result (self.new.given ≡ self.old.given) }
+        ensures lines { IfOk result (λ answer. Becomes (open_dialled self.old.conns.items answer) self.old.ended.items (given_dialled self.old.given answer) self.new.conns.items self.new.ended.items self.new.given) }
+        ensures lines_err { OnErr result (Becomes self.old.conns.items self.old.ended.items self.old.given self.new.conns.items self.new.ended.items self.new.given) }
         ensures told { IfOk result (λ answer. told self.new ≡ told self.old ++ Dial host.now port answer ∷ []) }
         ensures told_err { OnErr result (TellsUnstarved self.old.counts self.new.counts (told self.old) (told self.new) (Dial host.now port NotNow)) }
         ensures plays { IfOk result (λ answer. Plays (script_of self.old) (script_of self.new) (Dial host.now port answer ∷ [])) }
@@ -294,12 +289,8 @@ impl Wire for MemWire {
         requires { self.old.opened ≡ true }
         ensures opened { self.new.opened ≡ true }
         ensures may { IfOk result (λ ev. MayCome self.old.conns.items self.old.ended.items self.old.given paused.now busy ev) }
-        ensures conns { IfOk result (λ ev. self.new.conns.items ≡ open_after self.old.conns.items ev) }
-        ensures conns_err { OnErr result (self.new.conns.items ≡ self.old.conns.items) }
-        ensures ended { IfOk result (λ ev. self.new.ended.items ≡ ended_after self.old.ended.items ev) }
-        ensures ended_err { OnErr result (self.new.ended.items ≡ self.old.ended.items) }
-        ensures given { IfOk result (λ ev. self.new.given ≡ given_after self.old.given ev) }
-        ensures given_err { OnErr result (self.new.given ≡ self.old.given) }
+        ensures lines { IfOk result (λ ev. Becomes (open_after self.old.conns.items ev) (ended_after self.old.ended.items ev) (given_after self.old.given ev) self.new.conns.items self.new.ended.items self.new.given) }
+        ensures lines_err { OnErr result (Becomes self.old.conns.items self.old.ended.items self.old.given self.new.conns.items self.new.ended.items self.new.given) }
         ensures told { IfOk result (λ ev. told self.new ≡ told self.old ++ Event paused.now busy ev (bytes_of ev into.new) ∷ []) }
         ensures told_err { OnErr result (told self.new ≡ told self.old) }
         ensures plays { IfOk result (λ ev. Plays (script_of self.old) (script_of self.new) (Event paused.now busy ev (bytes_of ev into.new) ∷ [])) }
@@ -346,16 +337,11 @@ impl Wire for MemWire {
     }
 
     fn send(&mut self, conn: u32, bytes: &[u8]) -> Result<Sent, Fault>
-        requires opened { self.old.opened ≡ true }
-        requires is_open { list_any (nat_eq conn) self.old.conns.items ≡ true }
-        requires some { 0 < length bytes.now }
-        ensures opened { self.new.opened ≡ true }
-        ensures conns { self.new.conns.items ≡ self.old.conns.items }
-        ensures ended { self.new.ended.items ≡ self.old.ended.items }
-        ensures given { self.new.given ≡ self.old.given }
-        ensures can { IfOk result (λ sent. CanTake bytes.now sent) }
+        requires { 0 < length bytes.now }
+        ensures opened { self.new.opened ≡ self.old.opened }
+        ensures lines { Becomes self.old.conns.items self.old.ended.items self.old.given self.new.conns.items self.new.ended.items self.new.given }
         ensures sends { self.new.sends ≡ one_more self.old.sends }
-        ensures answer { IfOk result (λ sent. sent ≡ answer_to self.old.answers.items (one_more self.old.sends) (length bytes.now)) }
+        ensures answer { IfOk result (λ sent. CanTake bytes.now sent × (sent ≡ answer_to self.old.answers.items (one_more self.old.sends) (length bytes.now))) }
         ensures told { IfOk result (λ sent. told self.new ≡ told self.old ++ Send conn bytes.now sent ∷ []) }
         ensures told_err { OnErr result (told self.new ≡ told self.old) }
         ensures plays { IfOk result (λ sent. Plays (script_of self.old) (script_of self.new) (Send conn bytes.now sent ∷ [])) }
@@ -374,12 +360,8 @@ impl Wire for MemWire {
     }
 
     fn close(&mut self, conn: u32) -> Result<(), Fault>
-        requires opened { self.old.opened ≡ true }
-        requires is_open { list_any (nat_eq conn) self.old.conns.items ≡ true }
-        ensures opened { self.new.opened ≡ true }
-        ensures conns { self.new.conns.items ≡ without conn self.old.conns.items }
-        ensures ended { self.new.ended.items ≡ without conn self.old.ended.items }
-        ensures given { self.new.given ≡ self.old.given }
+        ensures opened { self.new.opened ≡ self.old.opened }
+        ensures lines { Becomes (without conn self.old.conns.items) (without conn self.old.ended.items) self.old.given self.new.conns.items self.new.ended.items self.new.given }
         ensures told { OnOk result (told self.new ≡ told self.old ++ Close conn ∷ []) }
         ensures told_err { OnErr result (told self.new ≡ told self.old) }
         ensures plays { OnOk result (Plays (script_of self.old) (script_of self.new) (Close conn ∷ [])) }

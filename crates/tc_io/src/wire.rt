@@ -83,7 +83,7 @@ pub trait Wire {
     ghost use Rattle.tc_io.specs.declared.wire.Dialled.TheVariants.{NotNow};
     ghost use Rattle.tc_io.specs.declared.wire.Entry.{Entry};
     ghost use Rattle.tc_io.specs.declared.wire.Entry.TheVariants.{Open, Dial, Event, Send, Close};
-    ghost use Rattle.tc_io.specs.Lines.{MayCome, MayDial, CanTake, open_after, open_dialled, ended_after, given_after, given_dialled, without};
+    ghost use Rattle.tc_io.specs.Lines.{Becomes, MayCome, MayDial, CanTake, open_after, open_dialled, ended_after, given_after, given_dialled, without};
     ghost use Rattle.tc_io.specs.Transcript.{bytes_of};
     ghost use Rattle.tc_io.specs.Script.{Script, Plays};
 
@@ -112,9 +112,7 @@ pub trait Wire {
     fn open(&mut self, at: &At) -> Result<(), Fault>
         requires { opened self.old ≡ false }
         ensures opened { opened self.new ≡ is_ok result }
-        ensures conns { conns self.new ≡ conns self.old }
-        ensures ended { ended self.new ≡ ended self.old }
-        ensures given { given self.new ≡ given self.old }
+        ensures lines { Becomes (conns self.old) (ended self.old) (given self.old) (conns self.new) (ended self.new) (given self.new) }
         ensures told { OnOk result (Adds (transcript self.old) (transcript self.new) (Open at.now ∷ [])) }
         ensures told_err { OnErr result (Adds (transcript self.old) (transcript self.new) [] ⊎ Adds (transcript self.old) (transcript self.new) (Open at.now ∷ [])) }
         ensures plays { OnOk result (Plays (plays self.old) (plays self.new) (Open at.now ∷ [])) }
@@ -125,11 +123,8 @@ pub trait Wire {
         requires { opened self.old ≡ true }
         ensures opened { opened self.new ≡ true }
         ensures may { IfOk result (λ answer. MayDial (given self.old) answer) }
-        ensures conns { IfOk result (λ answer. conns self.new ≡ open_dialled (conns self.old) answer) }
-        ensures conns_err { OnErr result (conns self.new ≡ conns self.old) }
-        ensures ended { ended self.new ≡ ended self.old }
-        ensures given { IfOk result (λ answer. given self.new ≡ given_dialled (given self.old) answer) }
-        ensures given_err { OnErr result (given self.new ≡ given self.old) }
+        ensures lines { IfOk result (λ answer. Becomes (open_dialled (conns self.old) answer) (ended self.old) (given_dialled (given self.old) answer) (conns self.new) (ended self.new) (given self.new)) }
+        ensures lines_err { OnErr result (Becomes (conns self.old) (ended self.old) (given self.old) (conns self.new) (ended self.new) (given self.new)) }
         ensures told { IfOk result (λ answer. Adds (transcript self.old) (transcript self.new) (Dial host.now port answer ∷ [])) }
         ensures told_err { OnErr result (Adds (transcript self.old) (transcript self.new) [] ⊎ Adds (transcript self.old) (transcript self.new) (Dial host.now port NotNow ∷ [])) }
         ensures plays { IfOk result (λ answer. Plays (plays self.old) (plays self.new) (Dial host.now port answer ∷ [])) }
@@ -140,12 +135,8 @@ pub trait Wire {
         requires { opened self.old ≡ true }
         ensures opened { opened self.new ≡ true }
         ensures may { IfOk result (λ ev. MayCome (conns self.old) (ended self.old) (given self.old) paused.now busy ev) }
-        ensures conns { IfOk result (λ ev. conns self.new ≡ open_after (conns self.old) ev) }
-        ensures conns_err { OnErr result (conns self.new ≡ conns self.old) }
-        ensures ended { IfOk result (λ ev. ended self.new ≡ ended_after (ended self.old) ev) }
-        ensures ended_err { OnErr result (ended self.new ≡ ended self.old) }
-        ensures given { IfOk result (λ ev. given self.new ≡ given_after (given self.old) ev) }
-        ensures given_err { OnErr result (given self.new ≡ given self.old) }
+        ensures lines { IfOk result (λ ev. Becomes (open_after (conns self.old) ev) (ended_after (ended self.old) ev) (given_after (given self.old) ev) (conns self.new) (ended self.new) (given self.new)) }
+        ensures lines_err { OnErr result (Becomes (conns self.old) (ended self.old) (given self.old) (conns self.new) (ended self.new) (given self.new)) }
         ensures told { IfOk result (λ ev. Adds (transcript self.old) (transcript self.new) (Event paused.now busy ev (bytes_of ev into.new) ∷ [])) }
         ensures told_err { OnErr result (Adds (transcript self.old) (transcript self.new) []) }
         ensures plays { IfOk result (λ ev. Plays (plays self.old) (plays self.new) (Event paused.now busy ev (bytes_of ev into.new) ∷ [])) }
@@ -153,13 +144,10 @@ pub trait Wire {
 
     /// Offers bytes to a connection.
     fn send(&mut self, conn: u32, bytes: &[u8]) -> Result<Sent, Fault>
-        requires opened { opened self.old ≡ true }
         requires is_open { list_any (nat_eq conn) (conns self.old) ≡ true }
         requires some { 0 < length bytes.now }
-        ensures opened { opened self.new ≡ true }
-        ensures conns { conns self.new ≡ conns self.old }
-        ensures ended { ended self.new ≡ ended self.old }
-        ensures given { given self.new ≡ given self.old }
+        ensures opened { opened self.new ≡ opened self.old }
+        ensures lines { Becomes (conns self.old) (ended self.old) (given self.old) (conns self.new) (ended self.new) (given self.new) }
         ensures can { IfOk result (λ sent. CanTake bytes.now sent) }
         ensures told { IfOk result (λ sent. Adds (transcript self.old) (transcript self.new) (Send conn bytes.now sent ∷ [])) }
         ensures told_err { OnErr result (Adds (transcript self.old) (transcript self.new) []) }
@@ -168,12 +156,9 @@ pub trait Wire {
 
     /// Ends a connection. Also where it fails, the connection is open no more.
     fn close(&mut self, conn: u32) -> Result<(), Fault>
-        requires opened { opened self.old ≡ true }
-        requires is_open { list_any (nat_eq conn) (conns self.old) ≡ true }
-        ensures opened { opened self.new ≡ true }
-        ensures conns { conns self.new ≡ without conn (conns self.old) }
-        ensures ended { ended self.new ≡ without conn (ended self.old) }
-        ensures given { given self.new ≡ given self.old }
+        requires { list_any (nat_eq conn) (conns self.old) ≡ true }
+        ensures opened { opened self.new ≡ opened self.old }
+        ensures lines { Becomes (without conn (conns self.old)) (without conn (ended self.old)) (given self.old) (conns self.new) (ended self.new) (given self.new) }
         ensures told { OnOk result (Adds (transcript self.old) (transcript self.new) (Close conn ∷ [])) }
         ensures told_err { OnErr result (Adds (transcript self.old) (transcript self.new) []) }
         ensures plays { OnOk result (Plays (plays self.old) (plays self.new) (Close conn ∷ [])) }

@@ -1,7 +1,8 @@
 -- What a call on a space does to it, by the members of a space.
-use Rattle.std.specs.Prelude.{◌≡◌, ◌≢◌, ℕ, ◌≤◌, Bool, false, List, Option, Result, OnOk, OnErr}
+use Rattle.std.specs.Prelude.{◌≡◌, ◌≢◌, ℕ, ◌≤◌, Bool, true, false, List, Option, Result, OnOk, OnErr}
 use Rattle.std.proofs.Common.{◌∙◌, arith, refl}
 use Rattle.tc_base.specs.Files.{Files}
+use Rattle.tc_space.specs.Moments.{Steady}
 
 -- whatever it answers: the count of faults hasn't fallen, and the limits and the names of the volume stay
 pub record Follows {S : Type 0} (faults : S → ℕ) (limit : S → ℕ → ℕ) (names : S → Option (List (List ℕ))) (old new : S) : Type 0 where
@@ -15,6 +16,16 @@ module _ {S : Type 0} (faults : S → ℕ) (limit : S → ℕ → ℕ) (names : 
 
   pub follows_then : (a b c : S) → Follows faults limit names a b → Follows faults limit names b c → Follows faults limit names a c
   follows_then a b c first second = record { later = omega (arith, first.later, second.later); same_limit = second.same_limit ∙ first.same_limit; same_names = second.same_names ∙ first.same_names }
+
+-- whatever it answers: a stop leaves what is kept, and that stays, and limits, names and faults follow
+pub record Stays {S : Type 0} (tells : Type 0) (moment : S → ℕ) (left : S → ℕ → Option Files → Type 0) (kept : S → Option Files) (faults : S → ℕ) (limit : S → ℕ → ℕ) (names : S → Option (List (List ℕ))) (old new : S) : Type 0 where
+  pub steady : tells → Steady moment left kept old new
+  pub follows : Follows faults limit names old new
+
+-- something may have been written, and nothing was read
+pub record Touches {S : Type 0} (touched : S → Bool) (bytes_read : S → ℕ) (old new : S) : Type 0 where
+  pub marked : touched new ≡ true
+  pub same_read : bytes_read new ≡ bytes_read old
 
 -- one file has these bytes, and all others stay
 pub record Changes {S : Type 0} (now : S → Files) (file : ℕ) (bytes : List ℕ) (old new : S) : Type 0 where

@@ -1,9 +1,9 @@
 ghost use Rattle.std.specs.Prelude.{◌≡◌, ◌+◌, ◌-◌, ◌^◌, ◌≤◌, ◌⊎◌, true, false, Bool, List, ℕ, length, take, drop, min, is_some, OnOk, OnErr, IsErrOf, Option, Some, is_ok, if◌then◌else◌};
 ghost use Rattle.tc_base.specs.Files.{Files, wrote};
 ghost use Rattle.tc_io.specs.Causes.{Rose};
-ghost use Rattle.tc_space.specs.Moments.{LeavesOnly, Steady};
-ghost use Rattle.tc_space.specs.Effects.{Changes, Follows, Outcome, Reached};
-ghost use Rattle.tc_space.specs.Ranges.{IsDataFile, Passes};
+ghost use Rattle.tc_space.specs.Moments.{LeavesOnly};
+ghost use Rattle.tc_space.specs.Effects.{Changes, Follows, Outcome, Reached, Stays, Touches};
+ghost use Rattle.tc_space.specs.Ranges.{IsDataFile, Passes, Reaches};
 
 use crate::errors::SpaceErr;
 use tc_base::Fault;
@@ -67,12 +67,10 @@ pub trait Space {
     /// Fills `into` with the bytes of a data file from a place on. It takes no memory.
     fn read(&mut self, file: u32, at: u64, into: &mut [u8]) -> Result<(), Fault>
         requires sound { sound self.old }
-        requires file { IsDataFile file }
-        requires inside { tells → at + length into.old ≤ length (now self.old file) }
+        requires reaches { Reaches tells (now self.old) file (at + length into.old) }
         ensures bytes { OnOk result (tells → into.new ≡ take (length into.old) (drop at (now self.old file))) }
         ensures now { tells → (g : ℕ) → now self.new g ≡ now self.old g }
-        ensures steady { tells → Steady moment left kept self.old self.new }
-        ensures follows { Follows faults limit names self.old self.new }
+        ensures stays { Stays tells moment left kept faults limit names self.old self.new }
         ensures sound { sound self.new }
         ensures touched { touched self.new ≡ touched self.old }
         ensures counted { bytes_read self.new ≡ min (bytes_read self.old + length into.old) (2 ^ 64 - 1) }
@@ -81,14 +79,11 @@ pub trait Space {
     /// Writes all the bytes over a data file from a place on, which may make it longer. It takes no memory.
     fn write(&mut self, file: u32, at: u64, bytes: &[u8]) -> Result<(), SpaceErr>
         requires sound { sound self.old }
-        requires file { IsDataFile file }
-        requires inside { tells → at ≤ length (now self.old file) }
+        requires reaches { Reaches tells (now self.old) file at }
         ensures wrote { OnOk result (tells → Changes now file (wrote at bytes.now (now self.old file)) self.old self.new) }
-        ensures steady { tells → Steady moment left kept self.old self.new }
-        ensures follows { Follows faults limit names self.old self.new }
+        ensures stays { Stays tells moment left kept faults limit names self.old self.new }
         ensures outcome { Outcome sound flag result self.new }
-        ensures touched { touched self.new ≡ true }
-        ensures counted { bytes_read self.new ≡ bytes_read self.old }
+        ensures touches { Touches touched bytes_read self.old self.new }
         ensures room { OnOk result (Passes (limit self.old file) (overfills self.old file at (length bytes.now)) at (length bytes.now) → ⊥) }
         ensures full { IsErrOf result SpaceErr.Full → Reached tells (Passes (limit self.old file) (overfills self.old file at (length bytes.now) × log_full self.new) at (length bytes.now)) now self.old self.new }
         ensures cause { (IsErrOf result SpaceErr.Fault → Rose (faults self.old) (faults self.new)) × (IsErrOf result SpaceErr.Memory → ⊥) };
@@ -96,14 +91,11 @@ pub trait Space {
     /// Shortens a data file to a length. It takes no memory.
     fn cut(&mut self, file: u32, len: u64) -> Result<(), SpaceErr>
         requires sound { sound self.old }
-        requires file { IsDataFile file }
-        requires inside { tells → len ≤ length (now self.old file) }
+        requires reaches { Reaches tells (now self.old) file len }
         ensures cut { OnOk result (tells → Changes now file (take len (now self.old file)) self.old self.new) }
-        ensures steady { tells → Steady moment left kept self.old self.new }
-        ensures follows { Follows faults limit names self.old self.new }
+        ensures stays { Stays tells moment left kept faults limit names self.old self.new }
         ensures outcome { Outcome sound flag result self.new }
-        ensures touched { touched self.new ≡ true }
-        ensures counted { bytes_read self.new ≡ bytes_read self.old }
+        ensures touches { Touches touched bytes_read self.old self.new }
         ensures room { OnOk result (tells → overfills self.old file len (length (now self.old file) - len) → ⊥) }
         ensures full { IsErrOf result SpaceErr.Full → Reached tells ((tells → overfills self.old file len (length (now self.old file) - len)) × log_full self.new) now self.old self.new }
         ensures cause { (IsErrOf result SpaceErr.Fault → Rose (faults self.old) (faults self.new)) × (IsErrOf result SpaceErr.Memory → ⊥) };
@@ -124,8 +116,7 @@ pub trait Space {
     fn spoil(&mut self)
         ensures spoiled { flag self.new ≡ false }
         ensures now { tells → (g : ℕ) → now self.new g ≡ now self.old g }
-        ensures steady { tells → Steady moment left kept self.old self.new }
-        ensures follows { Follows faults limit names self.old self.new }
+        ensures stays { Stays tells moment left kept faults limit names self.old self.new }
         ensures touched { touched self.new ≡ touched self.old }
         ensures counted { bytes_read self.new ≡ bytes_read self.old }
         ensures faults { faults self.new ≡ faults self.old };
