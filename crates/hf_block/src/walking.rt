@@ -187,10 +187,10 @@ pub fn walk<S: Space>(
     let large = head.is_large();
     let end = head.size;
     let mut blocks = Blocks::new(alloc);
-    let mut chunk = [0; 4096];
+    let mut chunk = [0; 16384];
     let mut at = head.first;
     while at < end {
-        let len = (end - at).min(4096) as usize;
+        let len = (end - at).min(16384) as usize;
         match walk_piece(
             space,
             file,

@@ -4,9 +4,9 @@ use Rattle.std.specs.Prelude.{slice_get, ◌==◌, if◌then◌else◌}
 use Rattle.std.proofs.lemmas.Bool.{cases_lt, eq-eqb, ne_eqb}
 use Rattle.std.specs.declared.cmp.Ordering.TheVariants.{Less, Greater}
 use Rattle.hf_block.specs.Pieces.{Record}
-use Rattle.hf_tree.specs.declared.parent.Parent.TheVariants.{Bucket}
+use Rattle.hf_tree.specs.declared.parent.Parent.TheVariants.{Bucket, Left, Right}
 use Rattle.hf_tree.specs.Keys.{key_cmp}
-use Rattle.hf_tree.specs.Rules.{Links, Records, Turn, left, right, turned, Way, end_of, Leads, IsRecord, ReachedOnce, AreAtHome, AreInOrder}
+use Rattle.hf_tree.specs.Rules.{Links, Records, Turn, left, right, turned, Way, end_of, Leads, IsRecord, NamesRecords, ReachedOnce, AreAtHome, AreInOrder}
 use Rattle.hf_tree.proofs.Orders.{less_then, greater_then}
 use Rattle.hf_tree.proofs.Ways.{IsBare, AreShort, none_zero}
 use Rattle.hf_chain.specs.Reaching.{Reached, code, root, child, IsIn, Origin, IsReached, Reach, IsAtHome, IsBetween}
@@ -52,12 +52,12 @@ module _ (links : Links) (records : Records) (n : ℕ) where
   each_later items roots done roots' done' ways i x le le2 r = record { is = r.is; leads = r.leads; short = r.short; origin = origin_later items roots done roots' done' ways (ways i) x le le2 r.origin }
 
   -- a link that names none
-  pub bucket_none : (items : List Reached) (roots : ℕ) → links (Bucket roots) ≡ 0 → Reach links records n items roots 0 → Reach links records n items (roots + 1) 0
-  bucket_none items roots none r = record {
+  pub bucket_none : (items : List Reached) (roots done : ℕ) → links (Bucket roots) ≡ 0 → Reach links records n items roots done → Reach links records n items (roots + 1) done
+  bucket_none items roots done none r = record {
     ways = r.ways;
-    each = λ i x e. each_later items roots 0 (roots + 1) 0 r.ways i x (omega arith) (omega arith) (r.each i x e);
+    each = λ i x e. each_later items roots done (roots + 1) done r.ways i x (omega arith) (omega arith) (r.each i x e);
     buckets = λ b low. elim (cases_lt b roots) [ inl less ↦ r.buckets b less | inr high ↦ (let e : b ≡ roots = omega (arith, low, high) in inl (ap (λ z. links (Bucket z)) e ∙ none)) ];
-    chains = λ k y t e low. absurd (omega (arith, low));
+    chains = r.chains;
     apart = r.apart;
   }
 
@@ -136,15 +136,16 @@ module _ (links : Links) (records : Records) (n : ℕ) where
 
   -- ---- a record reached twice
 
-  pub bucket_twice : (items : List Reached) (roots : ℕ) → roots < n → Reach links records n items roots 0 → IsIn items (links (Bucket roots)) → ReachedOnce links records n → ⊥
-  bucket_twice items roots low r (j, y, at, e) once =
+  pub bucket_twice : (items : List Reached) (roots done : ℕ) → roots < n → Reach links records n items roots done → IsIn items (links (Bucket roots)) → ReachedOnce links records n → ⊥
+  bucket_twice items roots done low r (j, y, at, e) once =
       let q = r.each j y at in
       let w = once y.place q.is in
       let a = w.2 (y.bucket, r.ways j) q.leads in
       let b = w.2 (roots, []) (low, sym e) in
       let c : ◌≡◌ {A = Way} (y.bucket, r.ways j) (roots, []) = a ∙ sym b in
       let bucket : y.bucket ≡ roots = ap (λ (z : Way). z.0) c in
-      ⊎_elim (λ o. omega (arith, o.2, bucket)) (λ o. omega (arith, o.4)) q.origin
+      let way : r.ways j ≡ [] = ap (λ (z : Way). z.1) c in
+      ⊎_elim (λ o. omega (arith, o.2, bucket)) (λ o. (let f : [] ≡ o.2 ∷ r.ways o.0 = sym way ∙ o.5 in cc)) q.origin
 
   -- the places of two records whose ways are the same
   same_way : (items : List Reached) (roots done : ℕ) (r : Reach links records n items roots done) (k l : ℕ) (y u : Reached) → slice_get items k ≡ Some y → slice_get items l ≡ Some u → u.bucket ≡ y.bucket → r.ways l ≡ r.ways k → (l ≡ k) × (u ≡ y)
@@ -220,6 +221,22 @@ module _ (links : Links) (records : Records) (n : ℕ) where
         let t : length (r.ways e.0) ≡ length way.1 = ap length e.5 in
         omega (arith, l, s, t),
   )
+
+  -- each link was followed, and so names none, or a record
+  chain_named : (items : List Reached) (done : ℕ) → Reach links records n items n done → 2 * length items ≤ done → ((p : ℕ) → IsRecord records p → IsIn items p) → (t : Turn) (p : ℕ) → IsRecord records p → (links (turned t p) ≡ 0) ⊎ IsRecord records (links (turned t p))
+  chain_named items done r all whole t p w =
+      let k = whole p w in
+      let l = get_low items k.0 k.1 k.2 in
+      let c = code_low t in
+      subst (λ q. (links (turned t q) ≡ 0) ⊎ IsRecord records (links (turned t q))) k.3
+      (⊎_elim (λ z. inl z)
+      (λ o. inr (subst (λ q. IsRecord records q) (child_place t k.1 (links (turned t k.1.place))) (r.each o.0 (child t k.1 (links (turned t k.1.place))) o.1).is))
+      (r.chains k.0 k.1 t k.2 (omega (arith, l, c, all))))
+
+  pub all_named : (items : List Reached) (done : ℕ) → Reach links records n items n done → 2 * length items ≤ done → ((p : ℕ) → IsRecord records p → IsIn items p) → NamesRecords links records n
+  all_named items done r all whole (Bucket b) low = ⊎_elim (λ z. inl z) (λ o. inr (r.each o.0 (root b (links (Bucket b))) o.1).is) (r.buckets b low)
+  all_named items done r all whole (Left p) w = chain_named items done r all whole left p w
+  all_named items done r all whole (Right p) w = chain_named items done r all whole right p w
 
   pub not_reached : (items : List Reached) (done : ℕ) → Reach links records n items n done → IsBare links records → 2 * length items ≤ done → (p : ℕ) → IsRecord records p → (IsIn items p → ⊥) → ReachedOnce links records n → ⊥
   not_reached items done r bare all p is missing once =

@@ -18,7 +18,7 @@ use Rattle.hf_tree.proofs.Ways.{all_hang, AreShort}
 use Rattle.hf_chain.specs.declared.facts.Fact.{Fact}
 use Rattle.hf_chain.specs.declared.reaching.Item.{Item}
 use Rattle.hf_chain.specs.Facts.{fact_of, AreFacts, HasFacts, spot, place_in}
-use Rattle.hf_chain.specs.Reaching.{Reached, seen, all_seen, AreLow, Fit, IsWholeReach, IsHomeBy, IsAtHome, IsBetween}
+use Rattle.hf_chain.specs.Reaching.{Reached, seen, all_seen, AreLow, Fit, IsNotOnce, IsWholeReach, IsHomeBy, IsAtHome, IsBetween}
 use Rattle.hf_chain.specs.Orders.{key_in, ComparesBy, IsBetweenBy}
 use Rattle.hf_chain.specs.Listing.{AllHold, Breaks}
 use Rattle.hf_chain.proofs.Fronts.{key_at}
@@ -144,17 +144,11 @@ facts_inside h bytes facts w = omega (arith, w.is.has.on, w.is.has.within)
 pub facts_at_now : (h : Head) (facts : List Fact) (now old : List ℕ) → now ≡ old → HasFacts h old facts → HasFacts h now facts
 facts_at_now h facts now old e w = subst (λ (l : List ℕ). HasFacts h l facts) (sym e) w
 
-abbrev pub ReachOf : Head → List Fact → List Item → List ℕ → Type 0
-ReachOf h facts items bytes = (ps : List Piece) → AreFacts h ps bytes facts → Fit (links_of h ps bytes) (record_at h.first ps) h.buckets facts → IsWholeReach (links_of h ps bytes) (record_at h.first ps) h.buckets (all_seen facts items)
+abbrev pub LinkBrokenOf : Head → List Fact → Rule → List ℕ → Type 0
+LinkBrokenOf h facts rule bytes = (ps : List Piece) → AreFacts h ps bytes facts → IsNotOnce (links_of h ps bytes) (record_at h.first ps) h.buckets → Breaks h ps bytes rule
 
-pub reach_at : (h : Head) (facts : List Fact) (items : List Item) (now old : List ℕ) → now ≡ old → ReachOf h facts items now → ReachOf h facts items old
-reach_at h facts items now old e w = subst (λ (l : List ℕ). ReachOf h facts items l) e w
-
-abbrev pub OnceOf : Head → List Fact → List ℕ → Type 0
-OnceOf h facts bytes = (ps : List Piece) → AreFacts h ps bytes facts → Fit (links_of h ps bytes) (record_at h.first ps) h.buckets facts → ReachedOnce (links_of h ps bytes) (record_at h.first ps) h.buckets → ⊥
-
-pub once_at : (h : Head) (facts : List Fact) (now old : List ℕ) → now ≡ old → OnceOf h facts now → OnceOf h facts old
-once_at h facts now old e w = subst (λ (l : List ℕ). OnceOf h facts l) e w
+pub link_broken_at : (h : Head) (facts : List Fact) (rule : Rule) (now old : List ℕ) → now ≡ old → LinkBrokenOf h facts rule now → LinkBrokenOf h facts rule old
+link_broken_at h facts rule now old e w = subst (λ (l : List ℕ). LinkBrokenOf h facts rule l) e w
 
 abbrev pub HoldOf : Head → List Fact → List Item → List ℕ → Type 0
 HoldOf h facts items bytes = (ps : List Piece) → AreFacts h ps bytes facts → Fit (links_of h ps bytes) (record_at h.first ps) h.buckets facts → IsWholeReach (links_of h ps bytes) (record_at h.first ps) h.buckets (all_seen facts items) → AllHold h ps bytes

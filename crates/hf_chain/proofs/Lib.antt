@@ -1,4 +1,5 @@
 pub mod Pieces
+pub mod TwoPlaces
 pub mod Fronts
 pub mod Descents
 pub mod Paying
@@ -8,7 +9,6 @@ pub mod Settings
 pub mod Lists
 pub mod FactRows
 pub mod Viewing
-pub mod Ending
 pub mod Halving
 pub mod Keyed
 pub mod Named

@@ -12,14 +12,13 @@ use Rattle.hf_tree.specs.Rules.{IsRecord, NamesRecords}
 use Rattle.hf_tree.proofs.Fields.{record_lies, is_bare, sections_first}
 use Rattle.hf_tree.proofs.Ways.{IsBare}
 use Rattle.hf_chain.specs.declared.facts.Fact.{Fact}
-use Rattle.hf_chain.specs.declared.naming.Ends.{Ends}
 use Rattle.hf_chain.specs.Heads.{capped}
-use Rattle.hf_chain.specs.Facts.{fact_of, AreFacts, Ascend, IsListedAt, Names, HasBadChain, AreEnds, entry_place, spot, place_in}
-use Rattle.hf_chain.specs.Reaching.{Fit}
+use Rattle.hf_chain.specs.Facts.{fact_of, AreFacts, Ascend, IsListedAt, Names, AllNamed, HasBadChain, entry_place, spot, place_in}
+use Rattle.hf_chain.specs.Reaching.{AreRead, Fit}
 use Rattle.hf_chain.specs.Orders.{AreTrue}
 use Rattle.hf_chain.proofs.Descents.{entry_is}
 use Rattle.hf_chain.proofs.FactRows.{stands, facts_rise, fact_record, record_fact}
-use Rattle.hf_chain.proofs.Lists.{get_low, get_some}
+use Rattle.hf_chain.proofs.Lists.{get_some}
 
 -- a number of a record names it, and 0 names none
 pub spot_names : (facts : List Fact) (m : ℕ) → m ≤ length facts → Names facts (spot facts m)
@@ -86,20 +85,14 @@ module _ (h : Head) (ps : List Piece) (bytes : List ℕ) (facts : List Fact) (v 
   chain_from : (n m : ℕ) (c : Parent) → links_of h ps bytes c ≡ n → m ≡ capped n → Names facts m → Links_to (links_of h ps bytes c)
   chain_from n m c is e names = subst (λ z. Links_to z) (sym is) (link_from n (subst (λ z. Names facts z) e names))
 
-  pub names_all : (ends : List Ends) → ((b : ℕ) → b < h.buckets → Names facts (entry_place h b bytes)) → AreEnds facts (length facts) ends → NamesRecords (links_of h ps bytes) (record_at h.first ps) h.buckets
-  names_all ends entries all (Bucket b) low = chain_from (unit h * entry_at (width h) b bytes) (entry_place h b bytes) (Bucket b) (entry_is h ps bytes b low) refl (entries b low)
-  names_all ends entries all (Left p) w =
+  pub names_all : ((b : ℕ) → b < h.buckets → Names facts (entry_place h b bytes)) → AllNamed facts → NamesRecords (links_of h ps bytes) (record_at h.first ps) h.buckets
+  names_all entries all (Bucket b) low = chain_from (unit h * entry_at (width h) b bytes) (entry_place h b bytes) (Bucket b) (entry_is h ps bytes b low) refl (entries b low)
+  names_all entries all (Left p) w =
       let k = fact_at p w.0 w.1 in
-      let i = get_low facts k.0 (fact_of h p w.0) k.1 in
-      let e = get_some ends k.0 (omega (arith, i, all.long)) in
-      let is = all.each k.0 (fact_of h p w.0) e.0 k.1 e.1 in
-      chain_from (unit h * w.0.left) (capped (unit h * w.0.left)) (Left p) (left_is p w.0 w.1) refl (names_at facts e.0.left (capped (unit h * w.0.left)) (all.low k.0 e.0 e.1).0 is.left)
-  names_all ends entries all (Right p) w =
+      chain_from (unit h * w.0.left) (capped (unit h * w.0.left)) (Left p) (left_is p w.0 w.1) refl (all k.0 (fact_of h p w.0) k.1).0
+  names_all entries all (Right p) w =
       let k = fact_at p w.0 w.1 in
-      let i = get_low facts k.0 (fact_of h p w.0) k.1 in
-      let e = get_some ends k.0 (omega (arith, i, all.long)) in
-      let is = all.each k.0 (fact_of h p w.0) e.0 k.1 e.1 in
-      chain_from (unit h * w.0.right) (capped (unit h * w.0.right)) (Right p) (right_is p w.0 w.1) refl (names_at facts e.0.right (capped (unit h * w.0.right)) (all.low k.0 e.0 e.1).1 is.right)
+      chain_from (unit h * w.0.right) (capped (unit h * w.0.right)) (Right p) (right_is p w.0 w.1) refl (all k.0 (fact_of h p w.0) k.1).1
 
   pub bad_entry : (b : ℕ) → b < h.buckets → (Names facts (entry_place h b bytes) → ⊥) → NamesRecords (links_of h ps bytes) (record_at h.first ps) h.buckets → ⊥
   bad_entry b low bad names = bad (link_to (unit h * entry_at (width h) b bytes) (subst (λ z. Links_to z) (entry_is h ps bytes b low) (names (Bucket b) low)))
@@ -112,6 +105,17 @@ module _ (h : Head) (ps : List Piece) (bytes : List ℕ) (facts : List Fact) (v 
       let r : Names facts (capped (unit h * g.0.right)) = link_to (unit h * g.0.right) (subst (λ z. Links_to z) (right_is p g.0 g.1) (names (Right p) (g.0, g.1))) in
       bad.3 (subst (λ (x : Fact). Names facts x.left) (sym g.2) l, subst (λ (x : Fact). Names facts x.right) (sym g.2) r)
 
+  pub are_read : AreRead (links_of h ps bytes) (record_at h.first ps) facts
+  are_read = record {
+    ascend = ascending;
+    to = λ i x at. (let g = got i x at in (g.0, g.1));
+    from = record_listed;
+    some = λ p w. (low_record p w).0;
+    few = λ p w. (let l = low_record p w in omega (arith, l.1));
+    lefts = λ i x at. (let g = got i x at in ap (λ (z : Fact). z.left) g.2 ∙ ap capped (sym (left_is x.place g.0 g.1)));
+    rights = λ i x at. (let g = got i x at in ap (λ (z : Fact). z.right) g.2 ∙ ap capped (sym (right_is x.place g.0 g.1)));
+  }
+
   pub fits : NamesRecords (links_of h ps bytes) (record_at h.first ps) h.buckets → Fit (links_of h ps bytes) (record_at h.first ps) h.buckets facts
   fits names = record {
     ascend = ascending;
@@ -123,6 +127,6 @@ module _ (h : Head) (ps : List Piece) (bytes : List ℕ) (facts : List Fact) (v 
     rights = λ i x at. (let g = got i x at in right_is x.place g.0 g.1 ∙ sym (ap (λ (z : Fact). z.right) g.2 ∙ capped_is (unit h * g.0.right) (subst (λ z. Links_to z) (right_is x.place g.0 g.1) (names (Right x.place) (g.0, g.1)))));
   }
 
-  -- where all links name records or none, a bucket's entry is its place
-  pub entry_same : (b p : ℕ) → b < h.buckets → NamesRecords (links_of h ps bytes) (record_at h.first ps) h.buckets → p ≡ entry_place h b bytes → links_of h ps bytes (Bucket b) ≡ p
-  entry_same b p low names is = entry_is h ps bytes b low ∙ sym (is ∙ capped_is (unit h * entry_at (width h) b bytes) (subst (λ z. Links_to z) (entry_is h ps bytes b low) (names (Bucket b) low)))
+  -- the place that a bucket's entry was read with
+  pub entry_read : (b p : ℕ) → b < h.buckets → p ≡ entry_place h b bytes → p ≡ capped (links_of h ps bytes (Bucket b))
+  entry_read b p low is = is ∙ ap capped (sym (entry_is h ps bytes b low))

@@ -26,7 +26,7 @@ use Rattle.hf_chain.specs.declared.heads.RecHead.{RecHead}
 use Rattle.hf_chain.specs.Heads.{head_of, HasRecord, capped}
 use Rattle.hf_chain.specs.Costs.{Within}
 use Rattle.hf_chain.specs.Differs.{OnlyLinks}
-use Rattle.hf_chain.specs.Chains.{CanName, CanHang, IsHere, MayHang, MayUnhang, HasSubtree, Rehung, around}
+use Rattle.hf_chain.specs.Chains.{CanName, CanHang, IsHere, MayHang, MayUnhang, HasSubtree, IsLast, Rehung, around}
 use Rattle.hf_chain.proofs.Descents.{Held, held_at, lefts, rights, hangs_inside, few_inside, capped_same}
 use Rattle.hf_chain.proofs.Differing.{link_inside, links_one, links_then, links_fewer}
 use Rattle.hf_chain.proofs.Paying.{within_by}
@@ -251,21 +251,17 @@ top_is h end ps bytes places k at from rec u top v ue b w read named room =
     let inside = hangs_inside h end ps bytes (links_of h ps bytes (Left at)) x.out.l b x.out.hangs.3 in
     f ∙ sym (named ∙ capped_same (u * rec.left) (length bytes) (omega (arith, f, inside)) room)
 
-pub left_tree : (h : Head) (at : ℕ) (from : Parent) (bytes now : List ℕ) (rec : RecHead) (u top : ℕ) → IsValid h → u ≡ unit h → (m : MayUnhang h at from bytes) → IsReadAs h rec at bytes → top ≡ capped (u * rec.left) → length bytes < 2 ^ 64 → now ≡ bytes → HasSubtree h top now
-left_tree h at from bytes now rec u top v ue m read named room same =
+pub left_tree : (h : Head) (at : ℕ) (from : Parent) (bytes now : List ℕ) (rec : RecHead) (u top : ℕ) → IsValid h → u ≡ unit h → (m : MayUnhang h at from bytes) → IsReadAs h rec at bytes → top ≡ capped (u * rec.left) → length bytes < 2 ^ 64 → rec.left ≢ 0 → now ≡ bytes → HasSubtree h top now
+left_tree h at from bytes now rec u top v ue m read named room some same =
     let x = at_hand h m.end m.pieces bytes m.places m.key at from v m.blocks m.is in
     let place = top_is h m.end m.pieces bytes m.places m.key at from rec u top v ue m.blocks m.is read named room in
     let few = few_inside h m.end m.pieces bytes (links_of h m.pieces bytes (Left at)) x.out.l m.blocks x.out.hangs.3 x.out.ordered.2 in
-    subst (λ (l : List ℕ). HasSubtree h top l) (sym same) (record { end = m.end; pieces = m.pieces; blocks = m.blocks; tree = x.out.l; hangs = subst (λ z. Hangs (view_of h m.pieces bytes) z x.out.l) place x.out.hangs.3; few = few })
+    subst (λ (l : List ℕ). HasSubtree h top l) (sym same) (record { some = top_some h u rec.left top ue some named; end = m.end; pieces = m.pieces; blocks = m.blocks; tree = x.out.l; hangs = subst (λ z. Hangs (view_of h m.pieces bytes) z x.out.l) place x.out.hangs.3; few = few })
 
--- what was found of the rightmost record of a tree
-abbrev pub IsLast : Head → ℕ → ℕ → List ℕ → Type 0
-IsLast h e a bytes = (end : ℕ) (ps : List Piece) (t : Tree) → HasBlocks h end ps bytes → Hangs (view_of h ps bytes) a t → e ≡ last a t
-
--- and the link that hangs there
-pub last_inside : (h : Head) (top e : ℕ) (mid now : List ℕ) → IsValid h → HasSubtree h top mid → top ≢ 0 → now ≡ mid → IsLast h e top mid → place_of (width h) (Right e) + width h ≤ length now
-last_inside h top e mid now v s some same is =
-    let there = last_there h s.end s.pieces mid top s.tree s.blocks s.hangs some in
+-- the right link of the rightmost record of a tree
+pub last_inside : (h : Head) (top e : ℕ) (mid now : List ℕ) → IsValid h → HasSubtree h top mid → now ≡ mid → IsLast h e top mid → place_of (width h) (Right e) + width h ≤ length now
+last_inside h top e mid now v s same is =
+    let there = last_there h s.end s.pieces mid top s.tree s.blocks s.hangs s.some in
     subst (λ (l : List ℕ). place_of (width h) (Right e) + width h ≤ length l) (sym same) (link_inside h s.end s.pieces mid (Right e) v s.blocks (subst (λ z. IsThere h s.pieces (Right z)) (sym (is s.end s.pieces s.tree s.blocks s.hangs)) there))
 
 pub out_both : (h : Head) (end : ℕ) (ps : List Piece) (frees lent : Frees) (old mid now half new : List ℕ) (places : Key → Option ℕ) (k : Key) (at : ℕ) (from : Parent) (rec : RecHead) (u top y : ℕ) → IsValid h → u ≡ unit h → LaidOut (unit h) h.first end ps frees lent old → HaveWidth (width h) h.first ps → IsHere (view_of h ps old) h.buckets places k at from → IsReadAs h rec at old → top ≡ capped (u * rec.left) → length old < 2 ^ 64 → rec.left ≢ 0 → rec.left < 256 ^ width h → rec.right < 256 ^ width h → mid ≡ old → IsLast h y top mid → now ≡ old → half ≡ wrote (place_of (width h) (Right y)) (le_bytes (width h) rec.right) now → new ≡ wrote (place_of (width h) from) (le_bytes (width h) rec.left) half → Rehung h end ps frees lent (with_key places k None) 2 old new
@@ -299,8 +295,8 @@ out_both h end ps frees lent old mid now half new places k at from rec u top y v
 -- the file is as long as before the first of two links
 pub second_long : (h : Head) (at : ℕ) (from : Parent) (bytes mid now half : List ℕ) (rec : RecHead) (u top e : ℕ) → IsValid h → u ≡ unit h → (m : MayUnhang h at from bytes) → IsReadAs h rec at bytes → top ≡ capped (u * rec.left) → length bytes < 2 ^ 64 → rec.left ≢ 0 → mid ≡ bytes → now ≡ mid → IsLast h e top mid → half ≡ wrote (place_of (width h) (Right e)) (le_bytes (width h) rec.right) now → length half ≡ length bytes
 second_long h at from bytes mid now half rec u top e v ue m read named room some was same is wrote_is =
-    let s = left_tree h at from bytes mid rec u top v ue m read named room was in
-    let inside = last_inside h top e mid now v s (top_some h u rec.left top ue some named) same is in
+    let s = left_tree h at from bytes mid rec u top v ue m read named room some was in
+    let inside = last_inside h top e mid now v s same is in
     ap length wrote_is ∙ wrote_long (place_of (width h) (Right e)) (le_bytes (width h) rec.right) now (omega (arith, inside, length-le_bytes (width h) rec.right)) ∙ ap length (same ∙ was)
 
 -- what is read on the way to the rightmost record

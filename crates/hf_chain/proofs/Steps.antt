@@ -1,71 +1,39 @@
 -- One link more that is followed.
-use Rattle.std.proofs.Common.{◌≡◌, ◌≢◌, ◌∙◌, inl, inr, ⊎_elim, ℕ, zero, suc, ◌+◌, ◌-◌, ◌*◌, ◌/◌, ◌%◌, ◌<◌, ◌≤◌, List, [], ◌∷◌, ◌++◌, length, refl, sym, ap, subst, arith, Some, None, Bool, true, false, cond, set, get_or, replicate}
+use Rattle.std.proofs.Common.{◌≡◌, ◌≢◌, ◌∙◌, ◌⊎◌, inl, inr, ⊎_elim, ℕ, zero, suc, ◌+◌, ◌-◌, ◌*◌, ◌<◌, ◌≤◌, List, [], ◌∷◌, ◌++◌, length, refl, sym, ap, subst, arith, Some, None, Bool, true, false, set, get_or, replicate}
 use Rattle.std.proofs.lemmas.List.{length-set, length-replicate}
 use Rattle.std.specs.Prelude.{slice_get}
-use Rattle.std.proofs.lemmas.Bool.{cases_eq, cases_lt, eq-eqb, ne_eqb}
-use Rattle.hf_tree.specs.declared.parent.Parent.TheVariants.{Bucket, Left, Right}
-use Rattle.hf_tree.specs.Rules.{Links, Records, Turn, left, right, turned, end_of, IsRecord, IsLink, NamesRecords, ReachedOnce}
+use Rattle.std.proofs.lemmas.Bool.{cases_eq, cases_lt}
+use Rattle.hf_tree.specs.declared.parent.Parent.TheVariants.{Bucket}
+use Rattle.hf_tree.specs.Rules.{Links, Records, Turn, left, right, turned, end_of, IsRecord, IsLink, ReachedOnce}
 use Rattle.hf_tree.proofs.Ways.{IsBare}
 use Rattle.hf_chain.specs.declared.facts.Fact.{Fact}
-use Rattle.hf_chain.specs.declared.naming.Ends.{Ends}
 use Rattle.hf_chain.specs.declared.reaching.Item.{Item}
-use Rattle.hf_chain.specs.Facts.{AreEnds, IsEnds, Ascend, Names, IsListedAt, spot, place_in}
-use Rattle.hf_chain.specs.Reaching.{Reached, Reach, code, root, child, IsIn, turn_of, end_at, root_item, child_item, seen, all_seen, IsItem, AreLow, trues, Marked, Fit, IsAllReached}
-use Rattle.hf_chain.proofs.Lists.{get_low, get_front, get_end, long, which, same_item, get_map, got_map, map_push, get_some}
+use Rattle.hf_chain.specs.Heads.{capped}
+use Rattle.hf_chain.specs.Facts.{Ascend, Names, IsListedAt, spot, place_in}
+use Rattle.hf_chain.specs.Reaching.{Reached, Reach, code, root, child, IsIn, root_item, child_item, numbered, seen, all_seen, IsItem, AreLow, trues, Marked, Follows, Stops, AreRead, IsAllReached, IsNotOnce}
+use Rattle.hf_chain.proofs.Lists.{get_low, get_front, get_end, long, which, same_item, get_map, got_map, map_push, map_long, get_some}
 use Rattle.hf_chain.proofs.Followed.{child_place, child_bucket, code_same, code_low, bucket_none, chain_none, not_reached, pushed, bucket_twice, chain_twice}
 
-pub code_of : (d : ℕ) → code (turn_of d) ≡ d % 2
-code_of d = elim (cases_eq (d % 2) 0) [
-  | inl e ↦ ap code (ap (λ (b : Bool). cond b left right) (eq-eqb (d % 2) 0 e)) ∙ sym e
-  | inr ne ↦ ap code (ap (λ (b : Bool). cond b left right) (ne_eqb (d % 2) 0 ne)) ∙ omega (arith, ne)
-]
-
-pub halves : (d : ℕ) → d ≡ 2 * (d / 2) + code (turn_of d)
-halves d = omega (arith, code_of d)
-
-module _ (links : Links) (records : Records) (n : ℕ) (names : NamesRecords links records n) where
-  root_record : (b p : ℕ) → b < n → p ≡ links (Bucket b) → p ≢ 0 → IsRecord records p
-  root_record b p low is some = ⊎_elim (λ z. absurd (some (is ∙ z))) (λ w. subst (λ z. IsRecord records z) (sym is) w) (names (Bucket b) low)
-
-  pub root_new : (items new : List Reached) (b p : ℕ) → b < n → p ≡ links (Bucket b) → p ≢ 0 → new ≡ items ++ root b p ∷ [] → (IsIn items p → ⊥) → Reach links records n items b 0 → Reach links records n new (b + 1) 0
-  root_new items new b p low is some grown fresh r = subst (λ (l : List Reached). Reach links records n l (b + 1) 0) (sym grown)
-      (pushed links records n items b 0 (b + 1) 0 (root b p) [] r (omega arith) (omega arith) (omega arith) (root_record b p low is some) (low, sym is) (omega arith) (inl (refl, refl, omega arith)) fresh
+module _ (links : Links) (records : Records) (n : ℕ) where
+  pub root_new : (items new : List Reached) (b p done : ℕ) → b < n → p ≡ links (Bucket b) → IsRecord records p → done ≤ 2 * length items → new ≡ items ++ root b p ∷ [] → (IsIn items p → ⊥) → Reach links records n items b done → Reach links records n new (b + 1) done
+  root_new items new b p done low is there most grown fresh r = subst (λ (l : List Reached). Reach links records n l (b + 1) done) (sym grown)
+      (pushed links records n items b done (b + 1) done (root b p) [] r (omega arith) (omega arith) most there (low, sym is) (omega arith) (inl (refl, refl, omega arith)) fresh
       (λ d high less. let e : d ≡ b = omega (arith, high, less) in (ap (λ z. links (Bucket z)) e ∙ sym is, ap (λ z. root z p) (sym e), refl))
-      (λ k y t at high less. absurd (omega (arith, less))))
+      (λ k y t at high less. absurd (omega (arith, high, less))))
 
-  pub root_zero : (items : List Reached) (b p : ℕ) → p ≡ links (Bucket b) → p ≡ 0 → Reach links records n items b 0 → Reach links records n items (b + 1) 0
-  root_zero items b p is none r = bucket_none links records n items b (sym is ∙ none) r
-
-  pub root_twice : (items : List Reached) (b p : ℕ) → b < n → p ≡ links (Bucket b) → IsIn items p → Reach links records n items b 0 → ReachedOnce links records n → ⊥
-  root_twice items b p low is in_ r o = bucket_twice links records n items b low r (subst (λ z. IsIn items z) is in_) o
-
-  -- ---- a record's chain
-
-  turned_link : (t : Turn) (p : ℕ) → IsRecord records p → IsLink records n (turned t p)
+  pub turned_link : (t : Turn) (p : ℕ) → IsRecord records p → IsLink records n (turned t p)
   turned_link left p w = w
   turned_link right p w = w
 
-  chain_record : (items : List Reached) (done k : ℕ) (y x : Reached) (t : Turn) → Reach links records n items n done → slice_get items k ≡ Some y → x ≡ child t y (links (turned t y.place)) → x.place ≢ 0 → IsRecord records x.place
-  chain_record items done k y x t r at is some =
-      let e : x.place ≡ links (turned t y.place) = ap (λ (z : Reached). z.place) is ∙ child_place t y (links (turned t y.place)) in
-      ⊎_elim (λ z. absurd (some (e ∙ z))) (λ w. subst (λ z. IsRecord records z) (sym e) w) (names (turned t y.place) (turned_link t y.place (r.each k y at).is))
-
-  pub chain_zero : (items : List Reached) (done k : ℕ) (y x : Reached) (t : Turn) → slice_get items k ≡ Some y → done ≡ 2 * k + code t → x ≡ child t y (links (turned t y.place)) → x.place ≡ 0 → Reach links records n items n done → Reach links records n items n (done + 1)
-  chain_zero items done k y x t at d is none r = chain_none links records n items n done k y t at d (sym (ap (λ (z : Reached). z.place) is ∙ child_place t y (links (turned t y.place))) ∙ none) r
-
-  pub chain_again : (items : List Reached) (done k : ℕ) (y x : Reached) (t : Turn) → slice_get items k ≡ Some y → done ≡ 2 * k + code t → x ≡ child t y (links (turned t y.place)) → IsIn items x.place → Reach links records n items n done → ReachedOnce links records n → ⊥
-  chain_again items done k y x t at d is in_ r o = chain_twice links records n items n done k y t at d r (subst (λ z. IsIn items z) (ap (λ (z : Reached). z.place) is ∙ child_place t y (links (turned t y.place))) in_) o
-
-  pub chain_new : (items new : List Reached) (done k : ℕ) (y x : Reached) (t : Turn) → slice_get items k ≡ Some y → done ≡ 2 * k + code t → x ≡ child t y (links (turned t y.place)) → x.place ≢ 0 → new ≡ items ++ x ∷ [] → (IsIn items x.place → ⊥) → Reach links records n items n done → Reach links records n new n (done + 1)
-  chain_new items new done k y x t at d is some grown fresh r =
+  pub chain_new : (items new : List Reached) (roots done k : ℕ) (y x : Reached) (t : Turn) → slice_get items k ≡ Some y → done ≡ 2 * k + code t → x ≡ child t y (links (turned t y.place)) → IsRecord records x.place → new ≡ items ++ x ∷ [] → (IsIn items x.place → ⊥) → Reach links records n items roots done → Reach links records n new roots (done + 1)
+  chain_new items new roots done k y x t at d is there grown fresh r =
       let q = r.each k y at in
       let low = get_low items k y at in
       let e : x.place ≡ links (turned t y.place) = ap (λ (z : Reached). z.place) is ∙ child_place t y (links (turned t y.place)) in
       let bucket : x.bucket ≡ y.bucket = ap (λ (z : Reached). z.bucket) is ∙ child_bucket t y (links (turned t y.place)) in
       let self : x ≡ child t y x.place = is ∙ ap (child t y) (sym e) in
-      subst (λ (l : List Reached). Reach links records n l n (done + 1)) (sym grown)
-      (pushed links records n items n done n (done + 1) x (t ∷ r.ways k) r (omega arith) (omega arith) (let c = code_low t in omega (arith, c, d, low))
-      (chain_record items done k y x t r at is some)
+      subst (λ (l : List Reached). Reach links records n l roots (done + 1)) (sym grown)
+      (pushed links records n items roots done roots (done + 1) x (t ∷ r.ways k) r (omega arith) (omega arith) (let c = code_low t in omega (arith, c, d, low)) there
       (omega (arith, q.leads.0, bucket), (λ i. links (turned t (links (end_of links (bucket i) (r.ways k))))) ∙ ap (λ z. links (turned t z)) q.leads.1 ∙ sym e)
       (let s = q.short in omega (arith, s, low)) (inr (k, y, t, at, omega (arith, d), refl, self)) fresh
       (λ b high less. absurd (omega (arith, high, less)))
@@ -99,29 +67,29 @@ pub known : (facts : List Fact) (m : ℕ) → 0 < m → m ≤ length facts → K
 known facts zero some low = absurd (omega (arith, some))
 known facts (suc i) some low = let w = get_some facts i (omega (arith, low)) in record { i = i; x = w.0; is = refl; at = w.1; place = ap place_in w.1 }
 
-pub seen_child : (facts : List Fact) (t : Turn) (y : Item) (m : ℕ) → seen facts (child_item t y m) ≡ child t (seen facts y) (spot facts m)
+seen_child : (facts : List Fact) (t : Turn) (y : Item) (m : ℕ) → seen facts (numbered (child_item t y 0) m) ≡ child t (seen facts y) (spot facts m)
 seen_child facts left y m = refl
 seen_child facts right y m = refl
-
-child_number : (t : Turn) (y : Item) (m : ℕ) → (child_item t y m).number ≡ m
-child_number left y m = refl
-child_number right y m = refl
-
-pub child_low : (n : ℕ) (t : Turn) (y next : Item) (m : ℕ) → next ≡ child_item t y m → m ≤ n → y.number ≤ n → y.above ≤ n → y.below ≤ n → (next.number ≤ n) × (next.above ≤ n) × (next.below ≤ n)
-child_low n left y next m e a b c d = (omega (arith, a, ap (λ (z : Item). z.number) e), omega (arith, b, ap (λ (z : Item). z.above) e), omega (arith, d, ap (λ (z : Item). z.below) e))
-child_low n right y next m e a b c d = (omega (arith, a, ap (λ (z : Item). z.number) e), omega (arith, c, ap (λ (z : Item). z.above) e), omega (arith, b, ap (λ (z : Item). z.below) e))
-
-pub end_low : (n : ℕ) (t : Turn) (e : Ends) → (e.left ≤ n) × (e.right ≤ n) → end_at t e ≤ n
-end_low n left e low = low.0
-end_low n right e low = low.1
 
 pub seen_in : (facts : List Fact) (items : List Item) (m : ℕ) → IsItem items m → IsIn (all_seen facts items) (spot facts m)
 seen_in facts items m w = (w.0, seen facts w.1, get_map (seen facts) items w.0 w.1 w.2, ap (spot facts) w.3)
 
-module _ (links : Links) (records : Records) (n : ℕ) (facts : List Fact) (fit : Fit links records n facts) where
-  spot_some : (m : ℕ) → 0 < m → m ≤ length facts → spot facts m ≢ 0
-  spot_some m some low e = let k = known facts m some low in let p = fit.some k.x.place (fit.to k.i k.x k.at) in omega (arith, p, k.place, e)
+-- the place that a record's chain names
+abbrev pub chain_in : Turn → Fact → ℕ
+chain_in left x = x.left
+chain_in right x = x.right
 
+-- ---- what following a link leaves
+
+pub followed_long : (facts : List Fact) (p : ℕ) (from : Item) (items new : List Item) → Follows facts p from items new → length items ≤ length new
+followed_long facts p from items new (inl o) = omega (arith, ap length o.1)
+followed_long facts p from items new (inr o) = omega (arith, ap length o.4, long items (numbered from o.0))
+
+pub followed_at : (facts : List Fact) (p : ℕ) (from : Item) (items new : List Item) (k : ℕ) (y : Item) → Follows facts p from items new → slice_get items k ≡ Some y → slice_get new k ≡ Some y
+followed_at facts p from items new k y (inl o) at = ap (λ (l : List Item). slice_get l k) o.1 ∙ at
+followed_at facts p from items new k y (inr o) at = ap (λ (l : List Item). slice_get l k) o.4 ∙ get_front items (numbered from o.0) k (get_low items k y at) ∙ at
+
+module _ (links : Links) (records : Records) (n : ℕ) (facts : List Fact) (read : AreRead links records facts) where
   spot_same : (m l : ℕ) → 0 < m → m ≤ length facts → 0 < l → l ≤ length facts → spot facts m ≡ spot facts l → m ≡ l
   spot_same m l some low some2 low2 e =
       let a = known facts m some low in
@@ -129,8 +97,8 @@ module _ (links : Links) (records : Records) (n : ℕ) (facts : List Fact) (fit 
       elim (cases_eq a.i b.i) [
         | inl same ↦ a.is ∙ ap suc same ∙ sym b.is
         | inr ne ↦ elim (cases_lt a.i b.i) [
-          | inl less ↦ absurd (let r = fit.ascend a.i b.i a.x b.x a.at b.at less in omega (arith, r, a.place, b.place, e))
-          | inr more ↦ absurd (let r = fit.ascend b.i a.i b.x a.x b.at a.at (omega (arith, more, ne)) in omega (arith, r, a.place, b.place, e))
+          | inl less ↦ absurd (let r = read.ascend a.i b.i a.x b.x a.at b.at less in omega (arith, r, a.place, b.place, e))
+          | inr more ↦ absurd (let r = read.ascend b.i a.i b.x a.x b.at a.at (omega (arith, more, ne)) in omega (arith, r, a.place, b.place, e))
         ]
       ]
 
@@ -140,69 +108,95 @@ module _ (links : Links) (records : Records) (n : ℕ) (facts : List Fact) (fit 
       let l = lows w.0 g.0 g.1 in
       (w.0, g.0, g.1, spot_same g.0.number m l.0 l.1 some low (sym (ap (λ (z : Reached). z.place) g.2) ∙ w.3))
 
-  -- the place that an entry names is that of a record, or 0
-  pub names_of_place : (b p : ℕ) → b < n → links (Bucket b) ≡ p → Names facts p
-  names_of_place b p low is = ⊎_elim (λ z. inl (sym is ∙ z)) (λ w. inr (subst (λ z. IsListedAt facts z) is (fit.from (links (Bucket b)) w))) (fit.names (Bucket b) low)
+  spot_record : (m : ℕ) → 0 < m → m ≤ length facts → IsRecord records (spot facts m)
+  spot_record m some low = let k = known facts m some low in subst (λ z. IsRecord records z) (sym k.place) (read.to k.i k.x k.at)
 
-  pub item_root_new : (items new : List Item) (b p m : ℕ) → b < n → links (Bucket b) ≡ p → spot facts m ≡ p → 0 < m → m ≤ length facts → AreLow (length facts) items → new ≡ items ++ root_item b m ∷ [] → (IsItem items m → ⊥) → Reach links records n (all_seen facts items) b 0 → Reach links records n (all_seen facts new) (b + 1) 0
-  item_root_new items new b p m low is named some few lows grown fresh r =
-      root_new links records n fit.names (all_seen facts items) (all_seen facts new) b (spot facts m) low (named ∙ sym is) (spot_some m some few) (ap (all_seen facts) grown ∙ map_push (seen facts) items (root_item b m)) (λ w. fresh (in_seen items m lows some few w)) r
+  -- the place that a link was read with is the one that it names, where a record stands there
+  link_spot : (m l : ℕ) → 0 < m → m ≤ length facts → spot facts m ≡ capped l → spot facts m ≡ l
+  link_spot m l some low is = let w = spot_record m some low in let f = read.few (spot facts m) w in omega (arith, f, is)
 
-  pub item_root_zero : (items : List Item) (b p m : ℕ) → links (Bucket b) ≡ p → spot facts m ≡ p → m ≡ 0 → Reach links records n (all_seen facts items) b 0 → Reach links records n (all_seen facts items) (b + 1) 0
-  item_root_zero items b p m is named none r = root_zero links records n fit.names (all_seen facts items) b (spot facts m) (named ∙ sym is) (ap (spot facts) none) r
+  names_link : (l : ℕ) → (l ≡ 0) ⊎ IsRecord records l → Names facts (capped l)
+  names_link l (inl z) = inl (omega (arith, z))
+  names_link l (inr w) = let f = read.few l w in let e : l ≡ capped l = omega (arith, f) in inr (subst (λ z. IsListedAt facts z) e (read.from l w))
 
-  pub item_root_twice : (items : List Item) (b p m : ℕ) → b < n → links (Bucket b) ≡ p → spot facts m ≡ p → IsItem items m → Reach links records n (all_seen facts items) b 0 → ReachedOnce links records n → ⊥
-  item_root_twice items b p m low is named in_ r o = root_twice links records n fit.names (all_seen facts items) b (spot facts m) low (named ∙ sym is) (seen_in facts items m in_) r o
+  -- ---- the entry of a bucket
 
-  link_is : (ends : List Ends) (t : Turn) (y : Item) (e : Ends) → AreEnds facts (length facts) ends → 0 < y.number → y.number ≤ length facts → slice_get ends (y.number - 1) ≡ Some e → spot facts (end_at t e) ≡ links (turned t (spot facts y.number))
-  link_is ends t y e all some low at =
-      let k = known facts y.number some low in
-      let i : y.number - 1 ≡ k.i = omega (arith, k.is) in
-      let both = all.each k.i k.x e k.at (ap (slice_get ends) (sym i) ∙ at) in
-      go t k both
-    where
-      go : (t : Turn) (k : Known facts y.number) → IsEnds facts k.x e → spot facts (end_at t e) ≡ links (turned t (spot facts y.number))
-      go left k both = both.left ∙ sym (ap (λ z. links (Left z)) k.place ∙ fit.lefts k.i k.x k.at)
-      go right k both = both.right ∙ sym (ap (λ z. links (Right z)) k.place ∙ fit.rights k.i k.x k.at)
+  pub bucket_follows : (items new : List Item) (b p done : ℕ) → b < n → p ≡ capped (links (Bucket b)) → done ≤ 2 * length items → AreLow (length facts) items → Follows facts p (root_item b 0) items new → Reach links records n (all_seen facts items) b done → Reach links records n (all_seen facts new) (b + 1) done
+  bucket_follows items new b p done low is most lows (inl o) r = subst (λ (l : List Item). Reach links records n (all_seen facts l) (b + 1) done) (sym o.1) (bucket_none links records n (all_seen facts items) b done (omega (arith, o.0, is)) r)
+  bucket_follows items new b p done low is most lows (inr o) r =
+      root_new links records n (all_seen facts items) (all_seen facts new) b (spot facts o.0) done low (link_spot o.0 (links (Bucket b)) o.1 o.2 (o.3 ∙ is)) (spot_record o.0 o.1 o.2) (omega (arith, most, map_long (seen facts) items))
+      (ap (all_seen facts) o.4 ∙ map_push (seen facts) items (numbered (root_item b 0) o.0)) (λ w. o.5 (in_seen items o.0 lows o.1 o.2 w)) r
 
-  -- what a chain of an item names
-  pub record Child (items : List Item) (done k : ℕ) (y next : Item) (e : Ends) (ends : List Ends) : Type 0 where
+  pub bucket_stops : (items : List Item) (b p done : ℕ) → b < n → p ≡ capped (links (Bucket b)) → Stops facts p items → Reach links records n (all_seen facts items) b done → IsNotOnce links records n
+  bucket_stops items b p done low is (inl bad) r names once = bad read.ascend (subst (λ z. Names facts z) (sym is) (names_link (links (Bucket b)) (names (Bucket b) low)))
+  bucket_stops items b p done low is (inr o) r names once =
+      bucket_twice links records n (all_seen facts items) b done low r (subst (λ z. IsIn (all_seen facts items) z) (link_spot o.0 (links (Bucket b)) o.1 o.2 (o.3 ∙ is)) (seen_in facts items o.0 o.4)) once
+
+  -- ---- a chain of a record
+
+  chain_is : (t : Turn) (i : ℕ) (x : Fact) → slice_get facts i ≡ Some x → chain_in t x ≡ capped (links (turned t x.place))
+  chain_is left i x at = read.lefts i x at
+  chain_is right i x at = read.rights i x at
+
+  -- the fact of a record that was reached
+  pub record Fact_of (items : List Item) (k : ℕ) (y : Item) (x : Fact) : Type 0 where
     pub at : slice_get items k ≡ Some y
-    pub half : done / 2 ≡ k
-    pub both : slice_get ends (y.number - 1) ≡ Some e
-    pub all : AreEnds facts (length facts) ends
+    pub fact : slice_get facts (y.number - 1) ≡ Some x
     pub lows : AreLow (length facts) items
-    pub is : next ≡ child_item (turn_of done) y (end_at (turn_of done) e)
 
-  child_is : (items : List Item) (done k : ℕ) (y next : Item) (e : Ends) (ends : List Ends) (c : Child items done k y next e ends) → seen facts next ≡ child (turn_of done) (seen facts y) (links (turned (turn_of done) (spot facts y.number)))
-  child_is items done k y next e ends c =
-      let l = c.lows k y c.at in
-      ap (seen facts) c.is ∙ seen_child facts (turn_of done) y (end_at (turn_of done) e) ∙ ap (child (turn_of done) (seen facts y)) (link_is ends (turn_of done) y e c.all l.0 l.1 c.both)
+  place_is : (items : List Item) (k : ℕ) (y : Item) (x : Fact) → Fact_of items k y x → spot facts y.number ≡ x.place
+  place_is items k y x f =
+      let l = f.lows k y f.at in
+      let w = known facts y.number l.0 l.1 in
+      let i : y.number - 1 ≡ w.i = omega (arith, w.is) in
+      w.place ∙ ap (λ (z : Fact). z.place) (same_item (slice_get facts w.i) w.x x w.at (ap (slice_get facts) (sym i) ∙ f.fact))
 
-  half_is : (done k : ℕ) → done / 2 ≡ k → done ≡ 2 * k + code (turn_of done)
-  half_is done k e = halves done ∙ ap (λ z. 2 * z + code (turn_of done)) e
+  link_is : (items : List Item) (k : ℕ) (y : Item) (x : Fact) (t : Turn) → Fact_of items k y x → chain_in t x ≡ capped (links (turned t (spot facts y.number)))
+  link_is items k y x t f = chain_is t (y.number - 1) x f.fact ∙ ap (λ z. capped (links (turned t z))) (sym (place_is items k y x f))
 
-  pub item_chain_zero : (items : List Item) (done k : ℕ) (y next : Item) (e : Ends) (ends : List Ends) (c : Child items done k y next e ends) → next.number ≡ 0 → Reach links records n (all_seen facts items) n done → Reach links records n (all_seen facts items) n (done + 1)
-  item_chain_zero items done k y next e ends c none r = chain_zero links records n fit.names (all_seen facts items) done k (seen facts y) (seen facts next) (turn_of done) (get_map (seen facts) items k y c.at) (half_is done k c.half) (child_is items done k y next e ends c) (ap (spot facts) none) r
+  pub chain_follows : (items new : List Item) (roots done k : ℕ) (t : Turn) (y : Item) (x : Fact) → Fact_of items k y x → done ≡ 2 * k + code t → Follows facts (chain_in t x) (child_item t y 0) items new → Reach links records n (all_seen facts items) roots done → Reach links records n (all_seen facts new) roots (done + 1)
+  chain_follows items new roots done k t y x f d (inl o) r =
+      let e = link_is items k y x t f in
+      subst (λ (l : List Item). Reach links records n (all_seen facts l) roots (done + 1)) (sym o.1) (chain_none links records n (all_seen facts items) roots done k (seen facts y) t (get_map (seen facts) items k y f.at) d (omega (arith, o.0, e)) r)
+  chain_follows items new roots done k t y x f d (inr o) r =
+      let s = link_spot o.0 (links (turned t (spot facts y.number))) o.1 o.2 (o.3 ∙ link_is items k y x t f) in
+      chain_new links records n (all_seen facts items) (all_seen facts new) roots done k (seen facts y) (seen facts (numbered (child_item t y 0) o.0)) t (get_map (seen facts) items k y f.at) d (seen_child facts t y o.0 ∙ ap (child t (seen facts y)) s) (spot_record o.0 o.1 o.2)
+      (ap (all_seen facts) o.4 ∙ map_push (seen facts) items (numbered (child_item t y 0) o.0)) (λ w. o.5 (in_seen items o.0 f.lows o.1 o.2 w)) r
 
-  pub item_chain_again : (items : List Item) (done k : ℕ) (y next : Item) (e : Ends) (ends : List Ends) (c : Child items done k y next e ends) → IsItem items next.number → Reach links records n (all_seen facts items) n done → ReachedOnce links records n → ⊥
-  item_chain_again items done k y next e ends c in_ r o = chain_again links records n fit.names (all_seen facts items) done k (seen facts y) (seen facts next) (turn_of done) (get_map (seen facts) items k y c.at) (half_is done k c.half) (child_is items done k y next e ends c) (seen_in facts items next.number in_) r o
+  pub chain_stops : (items : List Item) (roots done k : ℕ) (t : Turn) (y : Item) (x : Fact) → Fact_of items k y x → done ≡ 2 * k + code t → Stops facts (chain_in t x) items → Reach links records n (all_seen facts items) roots done → IsNotOnce links records n
+  chain_stops items roots done k t y x f d (inl bad) r names once =
+      bad read.ascend (subst (λ z. Names facts z) (sym (chain_is t (y.number - 1) x f.fact)) (names_link (links (turned t x.place)) (names (turned t x.place) (turned_link links records n t x.place (read.to (y.number - 1) x f.fact)))))
+  chain_stops items roots done k t y x f d (inr o) r names once =
+      let s = link_spot o.0 (links (turned t (spot facts y.number))) o.1 o.2 (o.3 ∙ link_is items k y x t f) in
+      chain_twice links records n (all_seen facts items) roots done k (seen facts y) t (get_map (seen facts) items k y f.at) d r (subst (λ z. IsIn (all_seen facts items) z) s (seen_in facts items o.0 o.4)) once
 
-  pub item_chain_new : (items new : List Item) (done k : ℕ) (y next : Item) (e : Ends) (ends : List Ends) (c : Child items done k y next e ends) → 0 < next.number → next.number ≤ length facts → new ≡ items ++ next ∷ [] → (IsItem items next.number → ⊥) → Reach links records n (all_seen facts items) n done → Reach links records n (all_seen facts new) n (done + 1)
-  item_chain_new items new done k y next e ends c some low grown fresh r =
-      chain_new links records n fit.names (all_seen facts items) (all_seen facts new) done k (seen facts y) (seen facts next) (turn_of done) (get_map (seen facts) items k y c.at) (half_is done k c.half) (child_is items done k y next e ends c) (spot_some next.number some low) (ap (all_seen facts) grown ∙ map_push (seen facts) items next) (λ w. fresh (in_seen items next.number c.lows some low w)) r
+  -- ---- both chains of a record
+
+  pub left_follows : (items mid : List Item) (roots k : ℕ) (y : Item) (x : Fact) → Fact_of items k y x → Follows facts x.left (child_item left y 0) items mid → Reach links records n (all_seen facts items) roots (2 * k) → Reach links records n (all_seen facts mid) roots (2 * k + 1)
+  left_follows items mid roots k y x f first r = chain_follows items mid roots (2 * k) k left y x f (omega arith) first r
+
+  pub both_follow : (items mid new : List Item) (roots k : ℕ) (y : Item) (x : Fact) → Fact_of items k y x → AreLow (length facts) mid → Follows facts x.left (child_item left y 0) items mid → Follows facts x.right (child_item right y 0) mid new → Reach links records n (all_seen facts items) roots (2 * k) → Reach links records n (all_seen facts new) roots (2 * k + 2)
+  both_follow items mid new roots k y x f lows first second r = subst (λ d. Reach links records n (all_seen facts new) roots d) (omega arith)
+      (chain_follows mid new roots (2 * k + 1) k right y x (record { at = followed_at facts x.left (child_item left y 0) items mid k y first f.at; fact = f.fact; lows = lows }) (omega arith) second (left_follows items mid roots k y x f first r))
+
+  pub left_stops : (items : List Item) (roots k : ℕ) (y : Item) (x : Fact) → Fact_of items k y x → Stops facts x.left items → Reach links records n (all_seen facts items) roots (2 * k) → IsNotOnce links records n
+  left_stops items roots k y x f stops r = chain_stops items roots (2 * k) k left y x f (omega arith) stops r
+
+  pub right_stops : (items mid : List Item) (roots k : ℕ) (y : Item) (x : Fact) → Fact_of items k y x → AreLow (length facts) mid → Follows facts x.left (child_item left y 0) items mid → Stops facts x.right mid → Reach links records n (all_seen facts items) roots (2 * k) → IsNotOnce links records n
+  right_stops items mid roots k y x f lows first stops r =
+      chain_stops mid roots (2 * k + 1) k right y x (record { at = followed_at facts x.left (child_item left y 0) items mid k y first f.at; fact = f.fact; lows = lows }) (omega arith) stops (left_follows items mid roots k y x f first r)
 
   -- each record is reached where each is marked
   pub whole_reach : (items : List Item) (marks : List Bool) → length marks ≡ length facts → Marked items marks → ((i : ℕ) → i < length marks → slice_get marks i ≡ Some true) → (p : ℕ) → IsRecord records p → IsIn (all_seen facts items) p
   whole_reach items marks same m all p w =
-      let f = fit.from p w in
+      let f = read.from p w in
       let low : f.0 < length marks = (let l = get_low facts f.0 f.1 f.2 in omega (arith, l, same)) in
       subst (λ z. IsIn (all_seen facts items) z) (ap place_in f.2 ∙ f.3) (seen_in facts items (suc f.0) ((m.same f.0 low).0 (all f.0 low)))
 
   pub not_whole : (items : List Item) (marks : List Bool) (i : ℕ) → IsBare links records → length marks ≡ length facts → Marked items marks → IsAllReached links records n (all_seen facts items) → i < length marks → slice_get marks i ≡ Some false → ReachedOnce links records n → ⊥
   not_whole items marks i bare same m r low unset o =
       let w = get_some facts i (omega (arith, low, same)) in
-      not_reached links records n (all_seen facts items) r.done r.is bare r.all w.0.place (fit.to i w.0 w.1)
+      not_reached links records n (all_seen facts items) r.done r.is bare r.all w.0.place (read.to i w.0 w.1)
       (λ in_. let it = in_seen items (suc i) (subst (λ z. AreLow z items) same m.low) (omega arith) (omega (arith, low, same)) (subst (λ z. IsIn (all_seen facts items) z) (sym (ap place_in w.1)) in_) in
       let t = (m.same i low).1 it in let e : Some true ≡ Some false = sym t ∙ unset in cc) o
 

@@ -1,5 +1,5 @@
 -- What the calls on chains speak of.
-use Rattle.std.specs.Prelude.{◌≡◌, ℕ, ◌*◌, ◌/◌, ◌%◌, ◌^◌, ◌<◌, ◌≤◌, List, length, Option, Some, None}
+use Rattle.std.specs.Prelude.{◌≡◌, ◌≢◌, ℕ, ◌*◌, ◌/◌, ◌%◌, ◌^◌, ◌<◌, ◌≤◌, List, length, Option, Some, None}
 use Rattle.std.specs.declared.cmp.Ordering.{Ordering}
 use Rattle.hf_head.specs.declared.head.Head.{Head}
 use Rattle.hf_head.specs.Heads.{unit}
@@ -10,7 +10,7 @@ use Rattle.hf_tree.specs.declared.parent.Parent.{Parent}
 use Rattle.hf_tree.specs.declared.parent.Parent.TheVariants.{Bucket, Left, Right}
 use Rattle.hf_tree.specs.declared.parent.Found.TheVariants.{Here, Gap}
 use Rattle.hf_tree.specs.Keys.{Key, bucket_of}
-use Rattle.hf_tree.specs.Trees.{Tree, seek, nodes, by_order}
+use Rattle.hf_tree.specs.Trees.{Tree, last, seek, nodes, by_order}
 use Rattle.hf_tree.specs.Views.{View, Hangs, Hung, Holds}
 use Rattle.hf_tree.specs.Links.{HasBlocks, view_of, width, AreKept}
 use Rattle.hf_chain.specs.Heads.{capped}
@@ -70,14 +70,19 @@ pub record MayUnhang (h : Head) (at : ℕ) (from : Parent) (bytes : List ℕ) : 
   pub key : Key
   pub is : IsHere (view_of h pieces bytes) h.buckets places key at from
 
--- a tree hangs at a place
+-- a tree of some records hangs at a place
 pub record HasSubtree (h : Head) (at : ℕ) (bytes : List ℕ) : Type 0 where
+  pub some : at ≢ 0
   pub end : ℕ
   pub pieces : List Piece
   pub blocks : HasBlocks h end pieces bytes
   pub tree : Tree
   pub hangs : Hangs (view_of h pieces bytes) at tree
   pub few : nodes tree ≤ length bytes
+
+-- the rightmost record of whatever tree hangs at a place
+abbrev pub IsLast : Head → ℕ → ℕ → List ℕ → Type 0
+IsLast h e a bytes = (end : ℕ) (pieces : List Piece) (t : Tree) → HasBlocks h end pieces bytes → Hangs (view_of h pieces bytes) a t → e ≡ last a t
 
 -- the blocks lie as before and each record is as before but for its chains; the records that hang have these places; besides at most so many
 -- links nothing was written

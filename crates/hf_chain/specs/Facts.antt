@@ -1,5 +1,5 @@
 -- The records of a file as a list of facts, one for each, in ascending place.
-use Rattle.std.specs.Prelude.{◌≡◌, ◌⊎◌, ℕ, zero, suc, ◌+◌, ◌*◌, ◌<◌, ◌≤◌, List, [], ◌∷◌, length, Option, Some, None, slice_get}
+use Rattle.std.specs.Prelude.{◌≡◌, ◌⊎◌, ℕ, zero, suc, ◌+◌, ◌*◌, ◌<◌, List, [], ◌∷◌, length, Option, Some, None, slice_get}
 use Rattle.tc_base.specs.Hashes.{second}
 use Rattle.hf_head.specs.declared.head.Head.{Head}
 use Rattle.hf_head.specs.Heads.{unit}
@@ -7,7 +7,6 @@ use Rattle.hf_block.specs.Pieces.{Record, Piece, held, free, size_of}
 use Rattle.hf_tree.specs.Keys.{bucket_of}
 use Rattle.hf_tree.specs.Links.{HasBlocks, entry_at, width}
 use Rattle.hf_chain.specs.declared.facts.Fact.{Fact}
-use Rattle.hf_chain.specs.declared.naming.Ends.{Ends}
 use Rattle.hf_chain.specs.Heads.{head_size, capped, HasRecord}
 
 -- what the rules ask of a record at a place
@@ -59,20 +58,14 @@ abbrev pub spot : List Fact → ℕ → ℕ
 spot facts zero = 0
 spot facts (suc i) = place_in (slice_get facts i)
 
--- the numbers of the records that both chains name
-pub record IsEnds (facts : List Fact) (x : Fact) (e : Ends) : Type 0 where
-  pub left : spot facts e.left ≡ x.left
-  pub right : spot facts e.right ≡ x.right
+-- both chains name none, or a record
+abbrev pub HasNamed : List Fact → Fact → Type 0
+HasNamed facts x = Names facts x.left × Names facts x.right
 
-abbrev pub AreLowEnds : ℕ → List Ends → Type 0
-AreLowEnds n ends = (i : ℕ) (e : Ends) → slice_get ends i ≡ Some e → (e.left ≤ n) × (e.right ≤ n)
-
--- those of the first records
-pub record AreEnds (facts : List Fact) (count : ℕ) (ends : List Ends) : Type 0 where
-  pub long : length ends ≡ count
-  pub each : (i : ℕ) (x : Fact) (e : Ends) → slice_get facts i ≡ Some x → slice_get ends i ≡ Some e → IsEnds facts x e
-  pub low : AreLowEnds (length facts) ends
+-- those of all records do
+abbrev pub AllNamed : List Fact → Type 0
+AllNamed facts = (i : ℕ) (x : Fact) → slice_get facts i ≡ Some x → HasNamed facts x
 
 -- a record of which a chain names what is no record
 abbrev pub HasBadChain : List Fact → Type 0
-HasBadChain facts = (i : ℕ) × (x : Fact) × (slice_get facts i ≡ Some x) × (Names facts x.left × Names facts x.right → ⊥)
+HasBadChain facts = (i : ℕ) × (x : Fact) × (slice_get facts i ≡ Some x) × (HasNamed facts x → ⊥)

@@ -3,8 +3,12 @@ pub mod Costs
 pub mod Differs
 pub mod Errors
 pub mod Facts
+pub mod Files
+pub mod Fronts
 pub mod Heads
 pub mod Limits
+pub mod Linking
 pub mod Listing
 pub mod Orders
+pub mod Passes
 pub mod Reaching

@@ -1,15 +1,15 @@
 -- What was reached from the buckets, one record after the other.
-use Rattle.std.specs.Prelude.{◌≡◌, ◌↔◌, ℕ, suc, ◌+◌, ◌*◌, ◌<◌, ◌≤◌, ◌⊎◌, Bool, true, false, List, [], ◌∷◌, length, map, Some, slice_get, ◌%◌, ◌==◌, if◌then◌else◌}
+use Rattle.std.specs.Prelude.{◌≡◌, ◌↔◌, ℕ, suc, ◌+◌, ◌*◌, ◌<◌, ◌≤◌, ◌⊎◌, Bool, true, false, List, [], ◌∷◌, ◌++◌, ◌-◌, ◌^◌, length, map, Some, slice_get}
 use Rattle.std.specs.declared.cmp.Ordering.TheVariants.{Less, Greater}
 use Rattle.tc_base.specs.Hashes.{second}
 use Rattle.hf_block.specs.Pieces.{Record}
 use Rattle.hf_tree.specs.declared.parent.Parent.TheVariants.{Bucket, Left, Right}
 use Rattle.hf_tree.specs.Keys.{key_cmp, bucket_of}
-use Rattle.hf_tree.specs.Rules.{Links, Records, Turn, left, right, turned, Leads, IsRecord, NamesRecords}
+use Rattle.hf_tree.specs.Rules.{Links, Records, Turn, left, right, turned, Leads, IsRecord, NamesRecords, ReachedOnce}
 use Rattle.hf_chain.specs.declared.facts.Fact.{Fact}
-use Rattle.hf_chain.specs.declared.naming.Ends.{Ends}
 use Rattle.hf_chain.specs.declared.reaching.Item.{Item}
-use Rattle.hf_chain.specs.Facts.{Ascend, IsListedAt, spot}
+use Rattle.hf_chain.specs.Heads.{capped}
+use Rattle.hf_chain.specs.Facts.{Ascend, IsListedAt, Names, spot}
 
 -- a record that was reached: its place, the bucket that it was reached from, and the places of the last records on the way that it hangs left of and
 -- right of, 0 for none
@@ -61,15 +61,7 @@ IsAtHome records n x = (r : Record) → records x.place ≡ Some r → (bucket_o
 abbrev pub IsBetween : Records → Reached → Type 0
 IsBetween records x = (r : Record) → records x.place ≡ Some r → ((a : Record) → records x.above ≡ Some a → key_cmp r.key a.key ≡ Greater) × ((z : Record) → records x.below ≡ Some z → key_cmp r.key z.key ≡ Less)
 
--- chains are followed two by two: the left one, then the right one
-abbrev pub turn_of : ℕ → Turn
-turn_of done = if done % 2 == 0 then left else right
-
 -- ---- the same by numbers of records
-
-abbrev pub end_at : Turn → Ends → ℕ
-end_at left e = e.left
-end_at right e = e.right
 
 abbrev pub root_item : ℕ → ℕ → Item
 root_item b n = record { number = n; bucket = b; above = 0; below = 0 }
@@ -77,6 +69,10 @@ root_item b n = record { number = n; bucket = b; above = 0; below = 0 }
 abbrev pub child_item : Turn → Item → ℕ → Item
 child_item left x n = record { number = n; bucket = x.bucket; above = x.number; below = x.below }
 child_item right x n = record { number = n; bucket = x.bucket; above = x.above; below = x.number }
+
+-- the same item with another number
+abbrev pub numbered : Item → ℕ → Item
+numbered x n = record { number = n; bucket = x.bucket; above = x.above; below = x.below }
 
 abbrev pub seen : List Fact → Item → Reached
 seen facts x = record { place = spot facts x.number; bucket = x.bucket; above = spot facts x.above; below = spot facts x.below }
@@ -104,6 +100,26 @@ pub record Marked (items : List Item) (marks : List Bool) : Type 0 where
   pub count : trues marks ≡ length items
   pub low : AreLow (length marks) items
 
+-- a link that names this place was followed: it names none, or a record that was not reached before and is now, which hangs as told
+abbrev pub Follows : List Fact → ℕ → Item → List Item → List Item → Type 0
+Follows facts p from old new =
+    ((p ≡ 0) × (new ≡ old))
+    ⊎ ((m : ℕ) × (0 < m) × (m ≤ length facts) × (spot facts m ≡ p) × (new ≡ old ++ numbered from m ∷ []) × (IsItem old m → ⊥))
+
+-- it can't be: it names what is no record, or one that was reached before
+abbrev pub Stops : List Fact → ℕ → List Item → Type 0
+Stops facts p items = (Ascend facts → Names facts p → ⊥) ⊎ ((m : ℕ) × (0 < m) × (m ≤ length facts) × (spot facts m ≡ p) × IsItem items m)
+
+-- the facts are those of the records, with the places that their chains name, as far as a number of 64 bits tells them
+pub record AreRead (links : Links) (records : Records) (facts : List Fact) : Type 0 where
+  pub ascend : Ascend facts
+  pub to : (i : ℕ) (x : Fact) → slice_get facts i ≡ Some x → IsRecord records x.place
+  pub from : (p : ℕ) → IsRecord records p → IsListedAt facts p
+  pub some : (p : ℕ) → IsRecord records p → 0 < p
+  pub few : (p : ℕ) → IsRecord records p → p < 2 ^ 64 - 1
+  pub lefts : (i : ℕ) (x : Fact) → slice_get facts i ≡ Some x → x.left ≡ capped (links (Left x.place))
+  pub rights : (i : ℕ) (x : Fact) → slice_get facts i ≡ Some x → x.right ≡ capped (links (Right x.place))
+
 -- the facts are those of the records, and their chains are the links; each link names a record or none
 pub record Fit (links : Links) (records : Records) (n : ℕ) (facts : List Fact) : Type 0 where
   pub ascend : Ascend facts
@@ -124,6 +140,21 @@ pub record IsAllReached (links : Links) (records : Records) (n : ℕ) (items : L
 pub record IsWholeReach (links : Links) (records : Records) (n : ℕ) (items : List Reached) : Type 0 where
   pub is : IsAllReached links records n items
   pub whole : (p : ℕ) → IsRecord records p → IsIn items p
+
+-- each link names a record or none, and the buckets reach each record
+pub record AllReached (links : Links) (records : Records) (n : ℕ) (items : List Reached) : Type 0 where
+  pub names : NamesRecords links records n
+  pub whole : IsWholeReach links records n items
+
+-- that isn't so, of links that name a record or none
+abbrev pub IsNotOnce : Links → Records → ℕ → Type 0
+IsNotOnce links records n = NamesRecords links records n → ReachedOnce links records n → ⊥
+
+-- none is reached yet, and there is a mark for each record
+pub record NoneReached (facts : List Fact) (items : List Item) (marks : List Bool) : Type 0 where
+  pub none : items ≡ []
+  pub long : length marks ≡ length facts
+  pub marked : Marked items marks
 
 -- what the fact of an item says: it is in its key's bucket, and has its key's second hash
 abbrev pub IsHomeBy : List Fact → Item → Type 0

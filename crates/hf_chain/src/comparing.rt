@@ -8,7 +8,8 @@ ghost use Rattle.tc_space.specs.Ranges.{IsDataFile};
 ghost use Rattle.tc_space.specs.Frames.{OnlyReads};
 ghost use Rattle.hf_block.specs.Pieces.{Record};
 ghost use Rattle.hf_tree.specs.Keys.{key_cmp};
-ghost use Rattle.hf_chain.specs.Heads.{head_of, HasRecord, IsHeadAt};
+ghost use Rattle.hf_chain.specs.Heads.{head_of, HasRecord};
+ghost use Rattle.hf_chain.specs.Fronts.{WasRead};
 
 use crate::heads::RecHead;
 use hf_head::Head;
@@ -108,9 +109,7 @@ pub fn compare<S: Space>(
     requires sound { S.sound space.old }
     requires file { IsDataFile file }
     requires hash { hash ≡ second key.now }
-    requires there { S.tells → IsHeadAt head.now rec.now at (S.now space.old file) }
-    requires front { S.tells → front.now ≡ take (length front.now) (drop at (S.now space.old file)) }
-    requires long { S.tells → length (S.now space.old file) < 2 ^ 64 }
+    requires read { S.tells → WasRead head.now rec.now at front.now (S.now space.old file) }
     ensures order { IfOk result (λ o. S.tells → (r : Record) → HasRecord head.now r at (S.now space.old file) → rec.now ≡ head_of r → r.hash ≡ second r.key → o ≡ key_cmp key.now r.key) }
     ensures reads { OnlyReads S.Space space.old space.new }
     ensures counted { S.bytes_read space.new ≤ S.bytes_read space.old + length key.now }

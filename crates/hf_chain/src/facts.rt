@@ -9,6 +9,7 @@ ghost use Rattle.hf_chain.specs.Heads.{head_of, head_size, HasRecord, IsRecordAt
 ghost use Rattle.tc_window.specs.Windows.{Shows};
 ghost use Rattle.hf_chain.specs.Listing.{AreListed, WereListed};
 ghost use Rattle.hf_chain.specs.Facts.{fact_of, facts_of};
+ghost use Rattle.hf_chain.specs.Passes.{Looks};
 
 use crate::heads::{RecHead, head_in, place_named};
 use hf_block::Blocks;
@@ -91,13 +92,11 @@ fn fact_at<S: Space>(
     place: u64,
     window: &mut Window,
 ) -> Result<Fact, ReadErr>
-    requires sound { S.sound space.old }
-    requires file { IsDataFile file }
+    requires looks { Looks S.Space space.old file window.old }
     requires head { IsValid head.now }
     requires there { S.tells → IsRecordAt head.now place (S.now space.old file) }
-    requires shows { S.tells → Shows window.old (S.now space.old file) }
     ensures fact { IfOk result (λ x. S.tells → (r : Record) → HasRecord head.now r place (S.now space.old file) → x ≡ fact_of head.now place r) }
-    ensures shows { OnOk result (S.tells → Shows window.new (S.now space.old file)) }
+    ensures looks { OnOk result (Looks S.Space space.new file window.new) }
     ensures reads { OnlyReads S.Space space.old space.new }
     ensures cause { IsErrOf result ReadErr.Fault → Rose (S.faults space.old) (S.faults space.new) }
 {
@@ -107,6 +106,31 @@ fn fact_at<S: Space>(
     Ok(fact_in(head, place, &rec, window.get(start, rec.key as usize)))
 }
 
+// How many bytes are read ahead.
+const AHEAD: u64 = 16384;
+
+// Reads the bytes from a place on ahead, where that lies behind those that were, and answers up to where they are.
+fn read_ahead<S: Space>(
+    space: &mut S,
+    file: u32,
+    place: u64,
+    end: u64,
+    window: &mut Window,
+) -> Result<u64, ReadErr>
+    requires looks { Looks S.Space space.old file window.old }
+    requires inside { S.tells → place ≤ length (S.now space.old file) }
+    ensures looks { OnOk result (Looks S.Space space.new file window.new) }
+    ensures reads { OnlyReads S.Space space.old space.new }
+    ensures cause { IsErrOf result ReadErr.Fault → Rose (S.faults space.old) (S.faults space.new) }
+{
+    if place < end {
+        return Ok(end);
+    }
+    let count = space.len(file).saturating_sub(place).min(AHEAD);
+    window.fill(space, file, place, count as usize)?;
+    Ok(place.saturating_add(count))
+}
+
 /// The facts of the records of a list of blocks. Each record's head and key are read once, many at a time.
 pub fn read_facts<S: Space>(
     alloc: Global,
@@ -114,25 +138,25 @@ pub fn read_facts<S: Space>(
     file: u32,
     head: &Head,
     blocks: &Blocks,
-    window: &mut Window,
 ) -> Result<Facts, ReadErr>
     requires sound { S.sound space.old }
     requires file { IsDataFile file }
     requires head { IsValid head.now }
     requires listed { S.tells → WereListed head.now (S.now space.old file) blocks.now }
-    requires shows { S.tells → Shows window.old (S.now space.old file) }
     ensures facts { IfOk result (λ facts. S.tells → (ps : List Piece) → AreListed head.now ps (S.now space.old file) blocks.now → facts ≡ facts_of head.now head.now.first ps) }
-    ensures shows { OnOk result (S.tells → Shows window.new (S.now space.old file)) }
     ensures reads { OnlyReads S.Space space.old space.new }
     ensures cause { IsErrOf result ReadErr.Fault → Rose (S.faults space.old) (S.faults space.new) }
 {
+    let mut window = Window::new(alloc);
+    let mut end = 0;
     let mut facts = Facts::new(alloc);
     for i in 0..blocks.len() {
         let block = *blocks.at(i);
         if block.free {
             continue;
         }
-        let fact = fact_at(space, file, head, block.place, window)?;
+        end = read_ahead(space, file, block.place, end, &mut window)?;
+        let fact = fact_at(space, file, head, block.place, &mut window)?;
         facts.push(fact)?;
     }
     Ok(facts)

@@ -1,15 +1,16 @@
 //! A record found by its key.
-ghost use Rattle.std.specs.Prelude.{◌≡◌, ℕ, ◌+◌, ◌*◌, ◌^◌, ◌<◌, ◌≤◌, ◌⊎◌, List, length, IfOk};
+ghost use Rattle.std.specs.Prelude.{◌≡◌, ℕ, ◌+◌, ◌^◌, ◌≤◌, List, length, IfOk};
 ghost use Rattle.tc_base.specs.Hashes.{second};
 ghost use Rattle.tc_io.specs.Causes.{HasCause};
-ghost use Rattle.tc_space.specs.Ranges.{IsDataFile};
 ghost use Rattle.tc_space.specs.Frames.{OnlyReads};
-ghost use Rattle.hf_head.specs.Heads.{IsValid, unit as head_unit};
+ghost use Rattle.hf_head.specs.Heads.{unit as head_unit};
 ghost use Rattle.hf_block.specs.Pieces.{Record, Piece};
 ghost use Rattle.hf_tree.specs.declared.parent.Parent.TheVariants.{Bucket};
 ghost use Rattle.hf_tree.specs.Keys.{key_cmp, bucket_of as home};
 ghost use Rattle.hf_tree.specs.Trees.{Tree, seek, nodes};
+ghost use Rattle.hf_chain.specs.Files.{IsOpenFile};
 ghost use Rattle.hf_chain.specs.Heads.{head_of, HasRecord, IsRecordAt};
+ghost use Rattle.hf_chain.specs.Fronts.{HasFront};
 ghost use Rattle.hf_chain.specs.Chains.{InTree, HasTree, step_of};
 ghost use Rattle.hf_chain.specs.Costs.{step_most, Paid, Within};
 
@@ -34,7 +35,7 @@ fn turn(order: Ordering, at: u64, rec: &RecHead, unit: u64) -> Option<(Parent, u
     }
 }
 
-// One record of a search, where the bytes to fill are all up to the end of the file, or 96 of them.
+// One record of a search, where the bytes to fill are all up to the end of the file, or enough for its head.
 fn look_front<S: Space>(
     space: &mut S,
     file: u32,
@@ -44,18 +45,12 @@ fn look_front<S: Space>(
     key: &[u8],
     hash: u8,
 ) -> Result<Option<(Parent, u64)>, Fault>
-    requires sound { S.sound space.old }
-    requires file { IsDataFile file }
-    requires head { IsValid head.now }
+    requires ready { IsOpenFile S.Space head.now file space.old }
     requires hash { hash ≡ second key.now }
-    requires there { S.tells → IsRecordAt head.now at (S.now space.old file) }
-    requires inside { S.tells → at + length front.old ≤ length (S.now space.old file) }
-    requires enough { S.tells → (at + length front.old ≡ length (S.now space.old file)) ⊎ (40 ≤ length front.old) }
-    requires short { length front.old ≤ 96 }
-    requires long { S.tells → length (S.now space.old file) < 2 ^ 64 }
+    requires front { S.tells → HasFront head.now at (length front.old) (S.now space.old file) }
     ensures step { IfOk result (λ s. S.tells → (r : Record) → HasRecord head.now r at (S.now space.old file) → r.hash ≡ second r.key → s ≡ step_of (head_unit head.now) at r (key_cmp key.now r.key)) }
     ensures reads { OnlyReads S.Space space.old space.new }
-    ensures counted { S.bytes_read space.new ≤ S.bytes_read space.old + step_most (length key.now) }
+    ensures counted { S.bytes_read space.new ≤ S.bytes_read space.old + (length front.old + length key.now) }
     ensures cause { HasCause (S.faults space.old) (S.faults space.new) result }
 {
     space.read(file, at, front)?;
@@ -73,9 +68,7 @@ fn look_at<S: Space>(
     key: &[u8],
     hash: u8,
 ) -> Result<Option<(Parent, u64)>, Fault>
-    requires sound { S.sound space.old }
-    requires file { IsDataFile file }
-    requires head { IsValid head.now }
+    requires ready { IsOpenFile S.Space head.now file space.old }
     requires hash { hash ≡ second key.now }
     requires there { S.tells → IsRecordAt head.now at (S.now space.old file) }
     ensures step { IfOk result (λ s. S.tells → (r : Record) → HasRecord head.now r at (S.now space.old file) → r.hash ≡ second r.key → s ≡ step_of (head_unit head.now) at r (key_cmp key.now r.key)) }
@@ -97,9 +90,7 @@ pub fn find<S: Space, L>(
     key: &[u8],
     steps: &mut Steps<L>,
 ) -> Result<Found, Fault>
-    requires sound { S.sound space.old }
-    requires file { IsDataFile file }
-    requires head { IsValid head.now }
+    requires ready { IsOpenFile S.Space head.now file space.old }
     requires tree { S.tells → HasTree head.now (home head.now.buckets key.now) (S.now space.old file) }
     ensures found { IfOk result (λ f. S.tells → (end : ℕ) (pieces : List Piece) (t : Tree) → InTree head.now end pieces (S.now space.old file) (home head.now.buckets key.now) t → f ≡ seek (Bucket (home head.now.buckets key.now)) t key.now) }
     ensures within { S.tells → (end : ℕ) (pieces : List Piece) (t : Tree) → InTree head.now end pieces (S.now space.old file) (home head.now.buckets key.now) t → Within (1 + nodes t) (step_most (length key.now)) steps.old steps.new (S.bytes_read space.old) (S.bytes_read space.new) }

@@ -1,21 +1,18 @@
 //! Records hung and taken out.
-ghost use Rattle.std.specs.Prelude.{◌≡◌, ◌≢◌, ℕ, ◌+◌, ◌*◌, ◌/◌, ◌%◌, ◌^◌, ◌<◌, ◌≤◌, ◌⊎◌, List, length, Option, Some, None, IfOk, OnOk, OnErr, IsErrOf, false};
+ghost use Rattle.std.specs.Prelude.{ℕ, List, Option, IfOk, OnOk, IsErrOf};
 ghost use Rattle.tc_io.specs.Causes.{Rose, HasCause};
-ghost use Rattle.tc_space.specs.Ranges.{IsDataFile};
 ghost use Rattle.tc_space.specs.Effects.{Outcome};
-ghost use Rattle.tc_space.specs.Frames.{OnlyReads, OnlyWrites, Keeps, Others};
-ghost use Rattle.tc_space.specs.Stores.{Only};
-ghost use Rattle.hf_head.specs.Heads.{IsValid, unit};
+ghost use Rattle.tc_space.specs.Frames.{OnlyReads, OnlyWrites, Keeps};
 ghost use Rattle.hf_block.specs.Pieces.{Piece};
-ghost use Rattle.hf_layout.specs.Frees.{Frees};
-ghost use Rattle.hf_layout.specs.Layout.{LaidOut, HaveWidth};
 ghost use Rattle.hf_tree.specs.Keys.{Key};
-ghost use Rattle.hf_tree.specs.Trees.{Tree, last, nodes};
-ghost use Rattle.hf_tree.specs.Views.{Hangs, with_key};
-ghost use Rattle.hf_tree.specs.Links.{HasBlocks, view_of, width};
-ghost use Rattle.hf_chain.specs.Chains.{CanName, CanHang, IsHere, MayHang, MayUnhang, HasSubtree, Rehung, around};
+ghost use Rattle.hf_tree.specs.Trees.{Tree, nodes};
+ghost use Rattle.hf_tree.specs.Views.{Hangs};
+ghost use Rattle.hf_tree.specs.Links.{HasBlocks, view_of};
+ghost use Rattle.hf_chain.specs.Chains.{CanName, IsHere, MayHang, MayUnhang, HasSubtree, IsLast, around};
 ghost use Rattle.hf_chain.specs.Costs.{Paid, Within};
+ghost use Rattle.hf_chain.specs.Files.{IsOpenFile};
 ghost use Rattle.hf_chain.specs.Limits.{IsFull};
+ghost use Rattle.hf_chain.specs.Linking.{ChangesBy, IsHung, IsOut, LooksFirst};
 
 use crate::counting::count_step;
 use crate::heads::{place_named, read_head};
@@ -33,13 +30,10 @@ pub fn hang<S: Space>(
     at: u64,
     to: &Parent,
 ) -> Result<(), RecErr>
-    requires sound { S.sound space.old }
-    requires file { IsDataFile file }
-    requires head { IsValid head.now }
+    requires ready { IsOpenFile S.Space head.now file space.old }
     requires names { CanName head.now at }
     requires gap { S.tells → MayHang head.now at to.now (S.now space.old file) }
-    ensures hung { OnOk result (S.tells → (end : ℕ) (pieces : List Piece) (frees lent : Frees) (places : Key → Option ℕ) (key : Key) → LaidOut (unit head.now) head.now.first end pieces frees lent (S.now space.old file) → HaveWidth (width head.now) head.now.first pieces → CanHang (view_of head.now pieces (S.now space.old file)) head.now.buckets places key at to.now → Rehung head.now end pieces frees lent (with_key places key (Some at)) 1 (S.now space.old file) (S.now space.new file)) }
-    ensures others { OnOk result (Others S.Space (Only file) space.old space.new) }
+    ensures hung { OnOk result (ChangesBy S.Space file (IsHung head.now at to.now) space.old space.new) }
     ensures outcome { Outcome S.sound S.flag result space.new }
     ensures writes { OnlyWrites S.Space space.old space.new }
     ensures full { IsErrOf result RecErr.Full → IsFull S.Space head.now file space.old space.new }
@@ -56,12 +50,9 @@ fn rightmost<S: Space, L>(
     at: u64,
     steps: &mut Steps<L>,
 ) -> Result<u64, Fault>
-    requires sound { S.sound space.old }
-    requires file { IsDataFile file }
-    requires head { IsValid head.now }
-    requires some { at ≢ 0 }
+    requires ready { IsOpenFile S.Space head.now file space.old }
     requires tree { S.tells → HasSubtree head.now at (S.now space.old file) }
-    ensures last { IfOk result (λ e. S.tells → (end : ℕ) (pieces : List Piece) (t : Tree) → HasBlocks head.now end pieces (S.now space.old file) → Hangs (view_of head.now pieces (S.now space.old file)) at t → e ≡ last at t) }
+    ensures last { IfOk result (λ e. S.tells → IsLast head.now e at (S.now space.old file)) }
     ensures within { S.tells → (end : ℕ) (pieces : List Piece) (t : Tree) → HasBlocks head.now end pieces (S.now space.old file) → Hangs (view_of head.now pieces (S.now space.old file)) at t → Within (nodes t) 40 steps.old steps.new (S.bytes_read space.old) (S.bytes_read space.new) }
     ensures paid { Paid 40 steps.old steps.new (S.bytes_read space.old) (S.bytes_read space.new) }
     ensures reads { OnlyReads S.Space space.old space.new }
@@ -91,16 +82,12 @@ pub fn unhang<S: Space, L>(
     from: &Parent,
     steps: &mut Steps<L>,
 ) -> Result<(), RecErr>
-    requires sound { S.sound space.old }
-    requires file { IsDataFile file }
-    requires head { IsValid head.now }
+    requires ready { IsOpenFile S.Space head.now file space.old }
     requires here { S.tells → MayUnhang head.now at from.now (S.now space.old file) }
-    ensures out { OnOk result (S.tells → (end : ℕ) (pieces : List Piece) (frees lent : Frees) (places : Key → Option ℕ) (key : Key) → LaidOut (unit head.now) head.now.first end pieces frees lent (S.now space.old file) → HaveWidth (width head.now) head.now.first pieces → IsHere (view_of head.now pieces (S.now space.old file)) head.now.buckets places key at from.now → Rehung head.now end pieces frees lent (with_key places key None) 2 (S.now space.old file) (S.now space.new file)) }
+    ensures out { OnOk result (ChangesBy S.Space file (IsOut head.now at from.now) space.old space.new) }
     ensures within { S.tells → (end : ℕ) (pieces : List Piece) (places : Key → Option ℕ) (key : Key) → HasBlocks head.now end pieces (S.now space.old file) → (w : IsHere (view_of head.now pieces (S.now space.old file)) head.now.buckets places key at from.now) → Within (around (view_of head.now pieces (S.now space.old file)) head.now.buckets places key at from.now w) 40 steps.old steps.new (S.bytes_read space.old) (S.bytes_read space.new) }
     ensures paid { Paid 40 steps.old steps.new (S.bytes_read space.old) (S.bytes_read space.new) }
-    ensures others { OnOk result (Others S.Space (Only file) space.old space.new) }
-    ensures sound { OnOk result (S.sound space.new) }
-    ensures refused { OnErr result (OnlyReads S.Space space.old space.new ⊎ (S.flag space.new ≡ false)) }
+    ensures outcome { LooksFirst S.Space result space.old space.new }
     ensures keeps { Keeps S.Space space.old space.new }
     ensures full { IsErrOf result RecErr.Full → IsFull S.Space head.now file space.old space.new }
     ensures cause { (IsErrOf result RecErr.Fault → Rose (S.faults space.old) (S.faults space.new)) × (IsErrOf result RecErr.Memory → ⊥) }

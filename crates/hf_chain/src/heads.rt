@@ -8,6 +8,7 @@ ghost use Rattle.hf_head.specs.Layout.{number_at};
 ghost use Rattle.hf_block.specs.Pieces.{Record, held, spell, IsWhole};
 ghost use Rattle.hf_tree.specs.Links.{width, entry_at};
 ghost use Rattle.hf_chain.specs.Heads.{head_of, HasRecord, capped};
+ghost use Rattle.hf_chain.specs.Fronts.{FitsLinks, IsEnough};
 
 use hf_block::{Block, read_block};
 use hf_head::Head;
@@ -81,7 +82,7 @@ pub fn head_in(front: &[u8], large: bool) -> RecHead
     }
 }
 
-// The head of the record at a place, where the bytes to fill are all up to the end of the file, or 40 of them.
+// The head of the record at a place, where the bytes to fill are all up to the end of the file, or 40 at least.
 fn read_front<S: Space>(
     space: &mut S,
     file: u32,
@@ -91,14 +92,11 @@ fn read_front<S: Space>(
 ) -> Result<RecHead, Fault>
     requires sound { S.sound space.old }
     requires file { IsDataFile file }
-    requires inside { S.tells → at + length front.old ≤ length (S.now space.old file) }
-    requires enough { S.tells → (at + length front.old ≡ length (S.now space.old file)) ⊎ (40 ≤ length front.old) }
-    requires short { length front.old ≤ 40 }
+    requires enough { S.tells → IsEnough at (length front.old) (S.now space.old file) }
     ensures head { IfOk result (λ x. S.tells → (r : Record) → HasRecord head.now r at (S.now space.old file) → x ≡ head_of r) }
-    ensures chains { IfOk result (λ x. (x.left < 256 ^ width head.now) × (x.right < 256 ^ width head.now)) }
-    ensures small { IfOk result (λ x. x.head ≤ 40) }
+    ensures fits { IfOk result (FitsLinks head.now) }
     ensures reads { OnlyReads S.Space space.old space.new }
-    ensures counted { S.bytes_read space.new ≤ S.bytes_read space.old + 40 }
+    ensures counted { S.bytes_read space.new ≤ S.bytes_read space.old + length front.old }
     ensures cause { HasCause (S.faults space.old) (S.faults space.new) result }
 {
     space.read(file, at, front)?;
@@ -111,8 +109,7 @@ pub fn read_head<S: Space>(space: &mut S, file: u32, head: &Head, at: u64) -> Re
     requires file { IsDataFile file }
     requires inside { S.tells → at ≤ length (S.now space.old file) }
     ensures head { IfOk result (λ x. S.tells → (r : Record) → HasRecord head.now r at (S.now space.old file) → x ≡ head_of r) }
-    ensures chains { IfOk result (λ x. (x.left < 256 ^ width head.now) × (x.right < 256 ^ width head.now)) }
-    ensures small { IfOk result (λ x. x.head ≤ 40) }
+    ensures fits { IfOk result (FitsLinks head.now) }
     ensures long { S.tells → length (S.now space.old file) < 2 ^ 64 }
     ensures reads { OnlyReads S.Space space.old space.new }
     ensures counted { S.bytes_read space.new ≤ S.bytes_read space.old + 40 }

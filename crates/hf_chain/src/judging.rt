@@ -1,13 +1,12 @@
 //! The rules that each record is at home, and that each bucket's tree is in order.
-ghost use Rattle.std.specs.Prelude.{◌≡◌, ◌↔◌, ℕ, ◌+◌, ◌<◌, ◌≤◌, List, IfOk, OnOk, IsErrOf, IsTrue, true, false, Some, slice_get, length, take, drop};
+ghost use Rattle.std.specs.Prelude.{◌≡◌, ◌↔◌, ℕ, ◌+◌, ◌^◌, ◌<◌, ◌≤◌, List, IfOk, IsTrue, true, false, Some, slice_get, length, take, drop};
 ghost use Rattle.std.specs.Ordering.{nat_cmp};
 ghost use Rattle.std.specs.Cmp.Lexicographic.{slice_cmp};
-ghost use Rattle.tc_io.specs.Causes.{Rose};
+ghost use Rattle.tc_io.specs.Causes.{HasCause};
 ghost use Rattle.tc_space.specs.Ranges.{IsDataFile};
 ghost use Rattle.tc_space.specs.Frames.{OnlyReads};
 ghost use Rattle.hf_tree.specs.Keys.{key_cmp};
 ghost use Rattle.hf_chain.specs.declared.reaching.Item.{Item};
-ghost use Rattle.tc_window.specs.Windows.{Shows};
 ghost use Rattle.hf_chain.specs.Facts.{IsFactOf};
 ghost use Rattle.hf_chain.specs.Reaching.{AreLow, IsHomeBy};
 ghost use Rattle.hf_chain.specs.Orders.{AreTrue, ComparesBy, IsBetweenBy, key_in};
@@ -17,8 +16,8 @@ use crate::facts::{Fact, Facts};
 use crate::reaching::{Item, Items};
 use hf_head::Head;
 use std::cmp::Ordering;
+use tc_base::Fault;
 use tc_space::Space;
-use tc_window::{ReadErr, Window};
 
 // Whether a record that was reached is in its key's bucket, and has its key's second hash.
 fn is_home(facts: &Facts, item: &Item) -> bool
@@ -47,30 +46,95 @@ pub fn all_home(facts: &Facts, items: &Items) -> bool
     true
 }
 
-// The order of two keys of one length, by their bytes.
+// The order of bytes of the file from a place on, which are read into `piece`, and as many from another.
+fn order_of_piece<S: Space>(
+    space: &mut S,
+    file: u32,
+    a: u64,
+    b: u64,
+    piece: &mut [u8],
+) -> Result<Ordering, Fault>
+    requires sound { S.sound space.old }
+    requires file { IsDataFile file }
+    requires first { S.tells → a + length piece.old ≤ length (S.now space.old file) }
+    requires second { S.tells → b + length piece.old ≤ length (S.now space.old file) }
+    requires long { S.tells → length (S.now space.old file) < 2 ^ 64 }
+    ensures order { IfOk result (λ o. S.tells → o ≡ slice_cmp nat_cmp (take (length piece.old) (drop a (S.now space.old file))) (take (length piece.old) (drop b (S.now space.old file)))) }
+    ensures reads { OnlyReads S.Space space.old space.new }
+    ensures cause { HasCause (S.faults space.old) (S.faults space.new) result }
+{
+    space.read(file, a, piece)?;
+    compare_bytes(space, file, b, piece)
+}
+
+// The order of at most 64 bytes of the file from a place on and as many from another.
+fn order_of_part<S: Space>(
+    space: &mut S,
+    file: u32,
+    a: u64,
+    b: u64,
+    count: usize,
+) -> Result<Ordering, Fault>
+    requires sound { S.sound space.old }
+    requires file { IsDataFile file }
+    requires first { S.tells → a + count ≤ length (S.now space.old file) }
+    requires second { S.tells → b + count ≤ length (S.now space.old file) }
+    requires few { (count ≤ 64) × (S.tells → length (S.now space.old file) < 2 ^ 64) }
+    ensures order { IfOk result (λ o. S.tells → o ≡ slice_cmp nat_cmp (take count (drop a (S.now space.old file))) (take count (drop b (S.now space.old file)))) }
+    ensures reads { OnlyReads S.Space space.old space.new }
+    ensures cause { HasCause (S.faults space.old) (S.faults space.new) result }
+{
+    let mut piece = [0; 64];
+    order_of_piece(space, file, a, b, &mut piece[..count])
+}
+
+// The order of so many bytes of the file from a place on and as many from another, read in pieces. It takes no memory.
 fn order_of_bytes<S: Space>(
     space: &mut S,
     file: u32,
-    a: &Fact,
-    b: &Fact,
-    window: &mut Window,
-) -> Result<Ordering, ReadErr>
+    a: u64,
+    b: u64,
+    long: u64,
+) -> Result<Ordering, Fault>
+    requires sound { S.sound space.old }
+    requires file { IsDataFile file }
+    requires first { S.tells → a + long ≤ length (S.now space.old file) }
+    requires second { S.tells → b + long ≤ length (S.now space.old file) }
+    requires few { S.tells → length (S.now space.old file) < 2 ^ 64 }
+    ensures order { IfOk result (λ o. S.tells → o ≡ slice_cmp nat_cmp (take long (drop a (S.now space.old file))) (take long (drop b (S.now space.old file)))) }
+    ensures reads { OnlyReads S.Space space.old space.new }
+    ensures cause { HasCause (S.faults space.old) (S.faults space.new) result }
+{
+    let mut done = 0;
+    while done < long {
+        let n = (long - done).min(64);
+        let first = a.saturating_add(done);
+        let second = b.saturating_add(done);
+        let order = order_of_part(space, file, first, second, n as usize)?;
+        match order {
+            Ordering::Equal => done += n,
+            other => return Ok(other),
+        }
+    }
+    Ok(Ordering::Equal)
+}
+
+// The order of two keys of one length, by their bytes.
+fn order_of_keys<S: Space>(space: &mut S, file: u32, a: &Fact, b: &Fact) -> Result<Ordering, Fault>
     requires sound { S.sound space.old }
     requires file { IsDataFile file }
     requires same { a.now.long ≡ b.now.long }
     requires first { S.tells → a.now.start + a.now.long ≤ length (S.now space.old file) }
     requires second { S.tells → b.now.start + b.now.long ≤ length (S.now space.old file) }
-    requires shows { S.tells → Shows window.old (S.now space.old file) }
     ensures order { IfOk result (λ o. S.tells → o ≡ slice_cmp nat_cmp (key_in a.now (S.now space.old file)) (key_in b.now (S.now space.old file))) }
-    ensures shows { OnOk result (S.tells → Shows window.new (S.now space.old file)) }
     ensures reads { OnlyReads S.Space space.old space.new }
-    ensures cause { IsErrOf result ReadErr.Fault → Rose (S.faults space.old) (S.faults space.new) }
+    ensures cause { HasCause (S.faults space.old) (S.faults space.new) result }
 {
     // a key lies inside the file
-    let start = b.start.min(space.len(file));
-    window.fill(space, file, a.start, a.long as usize)?;
-    let order = compare_bytes(space, file, start, window.get(a.start, a.long as usize))?;
-    Ok(order)
+    let end = space.len(file);
+    let first = a.start.min(end);
+    let second = b.start.min(end);
+    order_of_bytes(space, file, first, second, a.long)
 }
 
 // The order of the keys of two records. Keys are read only where their hashes and lengths are the same.
@@ -80,21 +144,18 @@ fn order_of<S: Space>(
     head: &Head,
     a: &Fact,
     b: &Fact,
-    window: &mut Window,
-) -> Result<Ordering, ReadErr>
+) -> Result<Ordering, Fault>
     requires sound { S.sound space.old }
     requires file { IsDataFile file }
     requires first { S.tells → IsFactOf head.now a.now (S.now space.old file) }
     requires second { S.tells → IsFactOf head.now b.now (S.now space.old file) }
-    requires shows { S.tells → Shows window.old (S.now space.old file) }
     ensures order { IfOk result (λ o. S.tells → o ≡ key_cmp (key_in a.now (S.now space.old file)) (key_in b.now (S.now space.old file))) }
-    ensures shows { OnOk result (S.tells → Shows window.new (S.now space.old file)) }
     ensures reads { OnlyReads S.Space space.old space.new }
-    ensures cause { IsErrOf result ReadErr.Fault → Rose (S.faults space.old) (S.faults space.new) }
+    ensures cause { HasCause (S.faults space.old) (S.faults space.new) result }
 {
     match a.second.cmp(&b.second) {
         Ordering::Equal => match a.long.cmp(&b.long) {
-            Ordering::Equal => order_of_bytes(space, file, a, b, window),
+            Ordering::Equal => order_of_keys(space, file, a, b),
             longer => Ok(longer),
         },
         greater => Ok(greater),
@@ -132,25 +193,22 @@ fn compares<S: Space>(
     fact: &Fact,
     number: u64,
     wanted: Ordering,
-    window: &mut Window,
-) -> Result<bool, ReadErr>
+) -> Result<bool, Fault>
     requires sound { S.sound space.old }
     requires file { IsDataFile file }
     requires low { number ≤ length facts.now }
     requires this { S.tells → IsFactOf head.now fact.now (S.now space.old file) }
     requires all { S.tells → AreTrue head.now facts.now (S.now space.old file) }
-    requires shows { S.tells → Shows window.old (S.now space.old file) }
     ensures yes { IfOk result (λ is. is ≡ true → S.tells → ComparesBy facts.now fact.now number wanted (S.now space.old file)) }
     ensures no { IfOk result (λ is. is ≡ false → S.tells → ComparesBy facts.now fact.now number wanted (S.now space.old file) → ⊥) }
-    ensures shows { OnOk result (S.tells → Shows window.new (S.now space.old file)) }
     ensures reads { OnlyReads S.Space space.old space.new }
-    ensures cause { IsErrOf result ReadErr.Fault → Rose (S.faults space.old) (S.faults space.new) }
+    ensures cause { HasCause (S.faults space.old) (S.faults space.new) result }
 {
     if number == 0 {
         return Ok(true);
     }
     let other = *facts.at((number - 1) as usize);
-    let order = order_of(space, file, head, fact, &other, window)?;
+    let order = order_of(space, file, head, fact, &other)?;
     Ok(is_same(order, wanted))
 }
 
@@ -161,18 +219,15 @@ fn is_between<S: Space>(
     head: &Head,
     facts: &Facts,
     item: &Item,
-    window: &mut Window,
-) -> Result<bool, ReadErr>
+) -> Result<bool, Fault>
     requires sound { S.sound space.old }
     requires file { IsDataFile file }
     requires low { (0 < item.now.number) × (item.now.number ≤ length facts.now) × (item.now.above ≤ length facts.now) × (item.now.below ≤ length facts.now) }
     requires all { S.tells → AreTrue head.now facts.now (S.now space.old file) }
-    requires shows { S.tells → Shows window.old (S.now space.old file) }
     ensures yes { IfOk result (λ is. is ≡ true → S.tells → IsBetweenBy facts.now item.now (S.now space.old file)) }
     ensures no { IfOk result (λ is. is ≡ false → S.tells → IsBetweenBy facts.now item.now (S.now space.old file) → ⊥) }
-    ensures shows { OnOk result (S.tells → Shows window.new (S.now space.old file)) }
     ensures reads { OnlyReads S.Space space.old space.new }
-    ensures cause { IsErrOf result ReadErr.Fault → Rose (S.faults space.old) (S.faults space.new) }
+    ensures cause { HasCause (S.faults space.old) (S.faults space.new) result }
 {
     let fact = *facts.at((item.number - 1) as usize);
     match compares(
@@ -183,18 +238,8 @@ fn is_between<S: Space>(
         &fact,
         item.above,
         Ordering::Greater,
-        window,
     ) {
-        Ok(true) => compares(
-            space,
-            file,
-            head,
-            facts,
-            &fact,
-            item.below,
-            Ordering::Less,
-            window,
-        ),
+        Ok(true) => compares(space, file, head, facts, &fact, item.below, Ordering::Less),
         Ok(false) => Ok(false),
         Err(e) => Err(e),
     }
@@ -207,22 +252,19 @@ pub fn all_between<S: Space>(
     head: &Head,
     facts: &Facts,
     items: &Items,
-    window: &mut Window,
-) -> Result<bool, ReadErr>
+) -> Result<bool, Fault>
     requires sound { S.sound space.old }
     requires file { IsDataFile file }
     requires low { AreLow (length facts.now) items.now }
     requires all { S.tells → AreTrue head.now facts.now (S.now space.old file) }
-    requires shows { S.tells → Shows window.old (S.now space.old file) }
     ensures yes { IfOk result (λ is. is ≡ true → S.tells → (k : ℕ) (x : Item) → slice_get items.now k ≡ Some x → IsBetweenBy facts.now x (S.now space.old file)) }
     ensures no { IfOk result (λ is. is ≡ false → S.tells → (k : ℕ) × (x : Item) × (slice_get items.now k ≡ Some x) × (IsBetweenBy facts.now x (S.now space.old file) → ⊥)) }
-    ensures shows { OnOk result (S.tells → Shows window.new (S.now space.old file)) }
     ensures reads { OnlyReads S.Space space.old space.new }
-    ensures cause { IsErrOf result ReadErr.Fault → Rose (S.faults space.old) (S.faults space.new) }
+    ensures cause { HasCause (S.faults space.old) (S.faults space.new) result }
 {
     for k in 0..items.len() {
         let item = *items.at(k);
-        match is_between(space, file, head, facts, &item, window) {
+        match is_between(space, file, head, facts, &item) {
             Ok(true) => {}
             Ok(false) => return Ok(false),
             Err(e) => return Err(e),

@@ -1,27 +1,17 @@
 //! The rule that each link names a record or none.
 ghost use Rattle.std.specs.Prelude.{◌≡◌, ℕ, ◌+◌, ◌^◌, ◌<◌, ◌≤◌, IfOk, IfSome, IfNone, OnOk, IsErrOf, Some, true, false, slice_get, length};
 ghost use Rattle.tc_io.specs.Causes.{Rose};
-ghost use Rattle.tc_space.specs.Ranges.{IsDataFile};
 ghost use Rattle.tc_space.specs.Frames.{OnlyReads};
-ghost use Rattle.hf_head.specs.Heads.{IsValid};
 ghost use Rattle.hf_chain.specs.declared.facts.Fact.{Fact};
-ghost use Rattle.tc_window.specs.Windows.{Shows};
-ghost use Rattle.hf_chain.specs.Facts.{Ascend, IsListedAt, Names, HasBadChain, IsEnds, AreEnds, entry_place, spot};
+ghost use Rattle.hf_chain.specs.Facts.{AllNamed, Ascend, HasBadChain, HasNamed, IsListedAt, Names, entry_place, spot};
+ghost use Rattle.hf_chain.specs.Passes.{HasBuckets, Looks};
 
 use crate::facts::{Fact, Facts};
 use crate::heads::place_named;
 use hf_head::Head;
-use std::alloc::{AllocError, Global};
-use tc_base::{Seq, get_le};
+use tc_base::get_le;
 use tc_space::Space;
 use tc_window::{ReadErr, Window};
-
-/// The records that both chains of a record name, by number from 1; 0 is none.
-#[derive(Clone, Copy, Debug, Drop, PartialEq, Eq)]
-pub struct Ends {
-    pub left: u64,
-    pub right: u64,
-}
 
 // Where a place is looked for next among the records from one number to before another: in the middle, or where its share of what lies between
 // their places points, which is near where records have much the same size.
@@ -79,34 +69,32 @@ pub fn resolve(facts: &Facts, place: u64) -> Option<u64>
     }
 }
 
-// The numbers of the records that both chains of a record name.
-fn ends_of(facts: &Facts, fact: &Fact) -> Option<Ends>
-    ensures some { IfSome result (λ e. IsEnds facts.now fact.now e × (e.left ≤ length facts.now) × (e.right ≤ length facts.now)) }
-    ensures none { IfNone result (Ascend facts.now → Names facts.now fact.now.left × Names facts.now fact.now.right → ⊥) }
+// Whether both chains of a record name a record or none.
+fn has_named(facts: &Facts, fact: &Fact) -> bool
+    ensures yes { result ≡ true → HasNamed facts.now fact.now }
+    ensures no { result ≡ false → Ascend facts.now → HasNamed facts.now fact.now → ⊥ }
 {
     match resolve(facts, fact.left) {
-        Some(left) => match resolve(facts, fact.right) {
-            Some(right) => Some(Ends { left, right }),
-            None => None,
+        Some(_) => match resolve(facts, fact.right) {
+            Some(_) => true,
+            None => false,
         },
-        None => None,
+        None => false,
     }
 }
 
-/// The numbers of the records that all chains name; or nothing where one names what is no record.
-pub fn chains_named(alloc: Global, facts: &Facts) -> Result<Option<Seq<Ends>>, AllocError>
-    ensures some { IfOk result (λ found. IfSome found (λ ends. AreEnds facts.now (length facts.now) ends)) }
-    ensures none { IfOk result (λ found. IfNone found (Ascend facts.now → HasBadChain facts.now)) }
+/// Whether each chain names a record or none.
+pub fn chains_named(facts: &Facts) -> bool
+    ensures yes { result ≡ true → AllNamed facts.now }
+    ensures no { result ≡ false → Ascend facts.now → HasBadChain facts.now }
 {
-    let mut ends: Seq<Ends> = Seq::new(alloc);
     for i in 0..facts.len() {
         let fact = *facts.at(i);
-        match ends_of(facts, &fact) {
-            Some(both) => ends.push(both)?,
-            None => return Ok(None),
+        if !has_named(facts, &fact) {
+            return false;
         }
     }
-    Ok(Some(ends))
+    true
 }
 
 /// The place that a bucket's entry names. Entries are read many at a time.
@@ -117,14 +105,11 @@ pub fn entry<S: Space>(
     bucket: u64,
     window: &mut Window,
 ) -> Result<u64, ReadErr>
-    requires sound { S.sound space.old }
-    requires file { IsDataFile file }
-    requires head { IsValid head.now }
+    requires looks { Looks S.Space space.old file window.old }
+    requires buckets { HasBuckets S.Space head.now space.old file }
     requires low { bucket < head.now.buckets }
-    requires inside { S.tells → head.now.first ≤ length (S.now space.old file) }
-    requires shows { S.tells → Shows window.old (S.now space.old file) }
     ensures place { IfOk result (λ p. S.tells → p ≡ entry_place head.now bucket (S.now space.old file)) }
-    ensures shows { OnOk result (S.tells → Shows window.new (S.now space.old file)) }
+    ensures looks { OnOk result (Looks S.Space space.new file window.new) }
     ensures reads { OnlyReads S.Space space.old space.new }
     ensures cause { IsErrOf result ReadErr.Fault → Rose (S.faults space.old) (S.faults space.new) }
 {
@@ -143,14 +128,10 @@ pub fn entries_named<S: Space>(
     facts: &Facts,
     window: &mut Window,
 ) -> Result<bool, ReadErr>
-    requires sound { S.sound space.old }
-    requires file { IsDataFile file }
-    requires head { IsValid head.now }
-    requires inside { S.tells → head.now.first ≤ length (S.now space.old file) }
-    requires shows { S.tells → Shows window.old (S.now space.old file) }
+    requires looks { Looks S.Space space.old file window.old }
+    requires buckets { HasBuckets S.Space head.now space.old file }
     ensures yes { IfOk result (λ is. is ≡ true → S.tells → (b : ℕ) → b < head.now.buckets → Names facts.now (entry_place head.now b (S.now space.old file))) }
     ensures no { IfOk result (λ is. is ≡ false → S.tells → Ascend facts.now → (b : ℕ) × (b < head.now.buckets) × (Names facts.now (entry_place head.now b (S.now space.old file)) → ⊥)) }
-    ensures shows { OnOk result (S.tells → Shows window.new (S.now space.old file)) }
     ensures reads { OnlyReads S.Space space.old space.new }
     ensures cause { IsErrOf result ReadErr.Fault → Rose (S.faults space.old) (S.faults space.new) }
 {

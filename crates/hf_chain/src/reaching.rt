@@ -1,20 +1,20 @@
 //! The records that the buckets reach, each once.
-ghost use Rattle.std.specs.Prelude.{◌≡◌, ℕ, suc, ◌+◌, ◌*◌, ◌/◌, ◌^◌, ◌<◌, ◌≤◌, ◌++◌, [], ◌∷◌, List, IfOk, IfSome, IfNone, OnOk, IsErrOf, true, false, Some, slice_get, length, replicate};
+ghost use Rattle.std.specs.Prelude.{◌≡◌, ℕ, ◌+◌, ◌*◌, ◌<◌, ◌≤◌, ◌++◌, [], ◌∷◌, List, IfOk, IfSome, IfNone, OnOk, IsErrOf, true, false, Some, slice_get, length, replicate};
 ghost use Rattle.tc_io.specs.Causes.{Rose};
 ghost use Rattle.tc_space.specs.Ranges.{IsDataFile};
 ghost use Rattle.tc_space.specs.Frames.{OnlyReads};
-ghost use Rattle.hf_head.specs.Heads.{IsValid};
 ghost use Rattle.hf_block.specs.Pieces.{Piece};
 ghost use Rattle.hf_layout.specs.Layout.{record_at};
 ghost use Rattle.hf_tree.specs.declared.parent.Parent.TheVariants.{Bucket};
 ghost use Rattle.hf_tree.specs.Links.{links_of};
-ghost use Rattle.hf_tree.specs.Rules.{Links, Records, ReachedOnce};
-ghost use Rattle.tc_window.specs.Windows.{Shows};
-ghost use Rattle.hf_chain.specs.Facts.{AreEnds, AreLowEnds, AreFacts, spot};
-ghost use Rattle.hf_chain.specs.Reaching.{Marked, AreLow, IsItem, Fit, Reach, IsAllReached, IsWholeReach, all_seen, end_at, turn_of, root_item, child_item};
+ghost use Rattle.hf_tree.specs.Rules.{Links, Records, left, right};
+ghost use Rattle.hf_chain.specs.Heads.{capped};
+ghost use Rattle.hf_chain.specs.Facts.{AreFacts};
+ghost use Rattle.hf_chain.specs.Passes.{HasBuckets, Looks};
+ghost use Rattle.hf_chain.specs.Reaching.{AllReached, AreLow, AreRead, Follows, IsItem, IsNotOnce, Marked, NoneReached, Reach, Stops, all_seen, child_item};
 
 use crate::facts::Facts;
-use crate::naming::{Ends, entry, resolve};
+use crate::naming::{entry, resolve};
 use hf_head::Head;
 use std::alloc::{AllocError, Global};
 use tc_base::Seq;
@@ -56,8 +56,113 @@ fn add(items: &mut Items, marks: &mut [bool], item: Item) -> Result<bool, AllocE
     Ok(true)
 }
 
-// Follows the entry of a bucket, which names a place, behind those of the buckets before it.
-fn reach_root(
+// Follows a link that names a place; what is reached by it hangs like `from`, whose number doesn't count. False where the link names what
+// is no record, or one that was reached before.
+fn follow(
+    facts: &Facts,
+    place: u64,
+    from: &Item,
+    items: &mut Items,
+    marks: &mut [bool],
+) -> Result<bool, AllocError>
+    requires long { length marks.old ≡ length facts.now }
+    requires low { (from.now.above ≤ length facts.now) × (from.now.below ≤ length facts.now) }
+    requires marked { Marked items.old marks.old }
+    ensures marked { OnOk result (Marked items.new marks.new) }
+    ensures follows { IfOk result (λ is. is ≡ true → Follows facts.now place from.now items.old items.new) }
+    ensures stops { IfOk result (λ is. is ≡ false → Stops facts.now place items.old) }
+{
+    let number = match resolve(facts, place) {
+        Some(number) => number,
+        None => return Ok(false),
+    };
+    if number == 0 {
+        return Ok(true);
+    }
+    let next = Item {
+        number,
+        bucket: from.bucket,
+        above: from.above,
+        below: from.below,
+    };
+    add(items, marks, next)
+}
+
+// How what hangs left of a record is reached.
+fn left_of(item: &Item) -> Item
+    ensures { result ≡ child_item left item.now 0 }
+{
+    Item {
+        number: 0,
+        bucket: item.bucket,
+        above: item.number,
+        below: item.below,
+    }
+}
+
+// How what hangs right of it is.
+fn right_of(item: &Item) -> Item
+    ensures { result ≡ child_item right item.now 0 }
+{
+    Item {
+        number: 0,
+        bucket: item.bucket,
+        above: item.above,
+        below: item.number,
+    }
+}
+
+// Follows both chains of a record that was reached, behind those of the records before it.
+fn follow_both(
+    facts: &Facts,
+    k: usize,
+    items: &mut Items,
+    marks: &mut [bool],
+) -> Result<bool, AllocError>
+    requires there { k < length items.old }
+    requires long { length marks.old ≡ length facts.now }
+    requires marked { Marked items.old marks.old }
+    ensures marked { OnOk result (Marked items.new marks.new) }
+    ensures longer { IfOk result (λ is. is ≡ true → length items.old ≤ length items.new) }
+    ensures reached { IfOk result (λ is. is ≡ true → (links : Links) (records : Records) (n roots : ℕ) → AreRead links records facts.now → Reach links records n (all_seen facts.now items.old) roots (2 * k) → Reach links records n (all_seen facts.now items.new) roots (2 * k + 2)) }
+    ensures stops { IfOk result (λ is. is ≡ false → (links : Links) (records : Records) (n roots : ℕ) → AreRead links records facts.now → Reach links records n (all_seen facts.now items.old) roots (2 * k) → IsNotOnce links records n) }
+{
+    let item = *items.at(k);
+    let fact = *facts.at((item.number - 1) as usize);
+    match follow(facts, fact.left, &left_of(&item), items, marks) {
+        Ok(true) => follow(facts, fact.right, &right_of(&item), items, marks),
+        Ok(false) => Ok(false),
+        Err(e) => Err(e),
+    }
+}
+
+// Follows the chains of all records that are reached, from one of them on.
+fn follow_all(
+    facts: &Facts,
+    start: usize,
+    items: &mut Items,
+    marks: &mut [bool],
+) -> Result<bool, AllocError>
+    requires there { start ≤ length items.old }
+    requires long { length marks.old ≡ length facts.now }
+    requires marked { Marked items.old marks.old }
+    ensures marked { OnOk result (Marked items.new marks.new) }
+    ensures reached { IfOk result (λ is. is ≡ true → (links : Links) (records : Records) (n roots : ℕ) → AreRead links records facts.now → Reach links records n (all_seen facts.now items.old) roots (2 * start) → Reach links records n (all_seen facts.now items.new) roots (2 * length items.new)) }
+    ensures stops { IfOk result (λ is. is ≡ false → (links : Links) (records : Records) (n roots : ℕ) → AreRead links records facts.now → Reach links records n (all_seen facts.now items.old) roots (2 * start) → IsNotOnce links records n) }
+{
+    let mut k = start;
+    while k < items.len() {
+        match follow_both(facts, k, items, marks) {
+            Ok(true) => k += 1,
+            Ok(false) => return Ok(false),
+            Err(e) => return Err(e),
+        }
+    }
+    Ok(true)
+}
+
+// Follows the entry of a bucket, which names a place, and all chains of its tree, behind those of the buckets before it.
+fn reach_bucket(
     facts: &Facts,
     bucket: u64,
     place: u64,
@@ -67,96 +172,21 @@ fn reach_root(
     requires long { length marks.old ≡ length facts.now }
     requires marked { Marked items.old marks.old }
     ensures marked { OnOk result (Marked items.new marks.new) }
-    ensures reached { IfOk result (λ is. is ≡ true → (links : Links) (records : Records) (n : ℕ) → Fit links records n facts.now → bucket < n → links (Bucket bucket) ≡ place → Reach links records n (all_seen facts.now items.old) bucket 0 → Reach links records n (all_seen facts.now items.new) (bucket + 1) 0) }
-    ensures twice { IfOk result (λ is. is ≡ false → (links : Links) (records : Records) (n : ℕ) → Fit links records n facts.now → bucket < n → links (Bucket bucket) ≡ place → Reach links records n (all_seen facts.now items.old) bucket 0 → ReachedOnce links records n → ⊥) }
+    ensures reached { IfOk result (λ is. is ≡ true → (links : Links) (records : Records) (n : ℕ) → AreRead links records facts.now → bucket < n → place ≡ capped (links (Bucket bucket)) → Reach links records n (all_seen facts.now items.old) bucket (2 * length items.old) → Reach links records n (all_seen facts.now items.new) (bucket + 1) (2 * length items.new)) }
+    ensures stops { IfOk result (λ is. is ≡ false → (links : Links) (records : Records) (n : ℕ) → AreRead links records facts.now → bucket < n → place ≡ capped (links (Bucket bucket)) → Reach links records n (all_seen facts.now items.old) bucket (2 * length items.old) → IsNotOnce links records n) }
 {
-    let number = match resolve(facts, place) {
-        Some(number) => number,
-        None => return Ok(true),
-    };
-    if number == 0 {
-        return Ok(true);
-    }
+    let start = items.len();
     let root = Item {
-        number,
+        number: 0,
         bucket,
         above: 0,
         below: 0,
     };
-    add(items, marks, root)
-}
-
-// The record that a chain of an item names, left of it where the number of chains followed before is even, else right of it.
-fn child(item: &Item, ends: &Ends, done: u128) -> Item
-    ensures { result ≡ child_item (turn_of done) item.now (end_at (turn_of done) ends.now) }
-{
-    if done % 2 == 0 {
-        Item {
-            number: ends.left,
-            bucket: item.bucket,
-            above: item.number,
-            below: item.below,
-        }
-    } else {
-        Item {
-            number: ends.right,
-            bucket: item.bucket,
-            above: item.above,
-            below: item.number,
-        }
+    match follow(facts, place, &root, items, marks) {
+        Ok(true) => follow_all(facts, start, items, marks),
+        Ok(false) => Ok(false),
+        Err(e) => Err(e),
     }
-}
-
-// Follows a chain of a record that was reached, behind those followed before.
-fn reach_chain(
-    facts: &Facts,
-    ends: &Seq<Ends>,
-    done: u128,
-    items: &mut Items,
-    marks: &mut [bool],
-) -> Result<bool, AllocError>
-    requires low { done / 2 < length items.old }
-    requires fits { done / 2 < 2 ^ 64 }
-    requires long { length marks.old ≡ length facts.now }
-    requires ends { AreEnds facts.now (length facts.now) ends.now }
-    requires marked { Marked items.old marks.old }
-    ensures longer { OnOk result (length items.old ≤ length items.new) }
-    ensures marked { OnOk result (Marked items.new marks.new) }
-    ensures reached { IfOk result (λ is. is ≡ true → (links : Links) (records : Records) (n : ℕ) → Fit links records n facts.now → Reach links records n (all_seen facts.now items.old) n done → Reach links records n (all_seen facts.now items.new) n (done + 1)) }
-    ensures twice { IfOk result (λ is. is ≡ false → (links : Links) (records : Records) (n : ℕ) → Fit links records n facts.now → Reach links records n (all_seen facts.now items.old) n done → ReachedOnce links records n → ⊥) }
-{
-    let item = *items.at((done / 2) as usize);
-    let both = *ends.at((item.number - 1) as usize);
-    let next = child(&item, &both, done);
-    if next.number == 0 {
-        return Ok(true);
-    }
-    add(items, marks, next)
-}
-
-// Follows the chains of all records that are reached.
-fn reach_chains(
-    facts: &Facts,
-    ends: &Seq<Ends>,
-    items: &mut Items,
-    marks: &mut [bool],
-) -> Result<bool, AllocError>
-    requires long { length marks.old ≡ length facts.now }
-    requires ends { AreEnds facts.now (length facts.now) ends.now }
-    requires marked { Marked items.old marks.old }
-    ensures marked { OnOk result (Marked items.new marks.new) }
-    ensures reached { IfOk result (λ is. is ≡ true → (links : Links) (records : Records) (n : ℕ) → Fit links records n facts.now → Reach links records n (all_seen facts.now items.old) n 0 → IsAllReached links records n (all_seen facts.now items.new)) }
-    ensures twice { IfOk result (λ is. is ≡ false → (links : Links) (records : Records) (n : ℕ) → Fit links records n facts.now → Reach links records n (all_seen facts.now items.old) n 0 → ReachedOnce links records n → ⊥) }
-{
-    let mut done: u128 = 0;
-    while done / 2 < items.len() as u128 {
-        match reach_chain(facts, ends, done, items, marks) {
-            Ok(true) => done += 1,
-            Ok(false) => return Ok(false),
-            Err(e) => return Err(e),
-        }
-    }
-    Ok(true)
 }
 
 // Whether all are marked.
@@ -172,8 +202,8 @@ fn all_marked(marks: &[bool]) -> bool
     true
 }
 
-// Follows the entries of all buckets.
-fn reach_roots<S: Space>(
+// Follows the entries of all buckets, each with its tree.
+fn reach_buckets<S: Space>(
     space: &mut S,
     file: u32,
     head: &Head,
@@ -182,24 +212,18 @@ fn reach_roots<S: Space>(
     items: &mut Items,
     marks: &mut [bool],
 ) -> Result<bool, ReadErr>
-    requires sound { S.sound space.old }
-    requires file { IsDataFile file }
-    requires head { IsValid head.now }
-    requires inside { S.tells → head.now.first ≤ length (S.now space.old file) }
-    requires shows { S.tells → Shows window.old (S.now space.old file) }
-    requires long { length marks.old ≡ length facts.now }
-    requires none { items.old ≡ [] }
-    requires marked { Marked items.old marks.old }
+    requires looks { Looks S.Space space.old file window.old }
+    requires buckets { HasBuckets S.Space head.now space.old file }
+    requires none { NoneReached facts.now items.old marks.old }
     ensures marked { OnOk result (Marked items.new marks.new) }
-    ensures reached { IfOk result (λ is. is ≡ true → S.tells → (ps : List Piece) → AreFacts head.now ps (S.now space.old file) facts.now → Fit (links_of head.now ps (S.now space.old file)) (record_at head.now.first ps) head.now.buckets facts.now → Reach (links_of head.now ps (S.now space.old file)) (record_at head.now.first ps) head.now.buckets (all_seen facts.now items.new) head.now.buckets 0) }
-    ensures twice { IfOk result (λ is. is ≡ false → S.tells → (ps : List Piece) → AreFacts head.now ps (S.now space.old file) facts.now → Fit (links_of head.now ps (S.now space.old file)) (record_at head.now.first ps) head.now.buckets facts.now → ReachedOnce (links_of head.now ps (S.now space.old file)) (record_at head.now.first ps) head.now.buckets → ⊥) }
-    ensures shows { OnOk result (S.tells → Shows window.new (S.now space.old file)) }
+    ensures reached { IfOk result (λ is. is ≡ true → S.tells → (ps : List Piece) → AreFacts head.now ps (S.now space.old file) facts.now → Reach (links_of head.now ps (S.now space.old file)) (record_at head.now.first ps) head.now.buckets (all_seen facts.now items.new) head.now.buckets (2 * length items.new)) }
+    ensures stops { IfOk result (λ is. is ≡ false → S.tells → (ps : List Piece) → AreFacts head.now ps (S.now space.old file) facts.now → IsNotOnce (links_of head.now ps (S.now space.old file)) (record_at head.now.first ps) head.now.buckets) }
     ensures reads { OnlyReads S.Space space.old space.new }
     ensures cause { IsErrOf result ReadErr.Fault → Rose (S.faults space.old) (S.faults space.new) }
 {
     for bucket in 0..head.buckets {
         let place = entry(space, file, head, bucket, window)?;
-        match reach_root(facts, bucket, place, items, marks) {
+        match reach_bucket(facts, bucket, place, items, marks) {
             Ok(true) => {}
             Ok(false) => return Ok(false),
             Err(e) => return Err(ReadErr::from(e)),
@@ -215,73 +239,61 @@ fn unmarked(alloc: Global, count: usize) -> Result<Vec<bool>, AllocError>
     Ok(vec![in alloc; false; count]?)
 }
 
-// Whether the buckets reach each record once; those reached are added.
+// Whether each link names a record or none, and the buckets reach each record once; those reached are added.
 fn reach_into<S: Space>(
     space: &mut S,
     file: u32,
     head: &Head,
     facts: &Facts,
-    ends: &Seq<Ends>,
     window: &mut Window,
     items: &mut Items,
     marks: &mut [bool],
 ) -> Result<bool, ReadErr>
-    requires sound { S.sound space.old }
-    requires file { IsDataFile file }
-    requires head { IsValid head.now }
-    requires inside { S.tells → head.now.first ≤ length (S.now space.old file) }
-    requires shows { S.tells → Shows window.old (S.now space.old file) }
-    requires long { length marks.old ≡ length facts.now }
-    requires ends { AreEnds facts.now (length facts.now) ends.now }
-    requires none { items.old ≡ [] }
-    requires marked { Marked items.old marks.old }
+    requires looks { Looks S.Space space.old file window.old }
+    requires buckets { HasBuckets S.Space head.now space.old file }
+    requires none { NoneReached facts.now items.old marks.old }
     ensures low { OnOk result (AreLow (length facts.now) items.new) }
-    ensures some { IfOk result (λ is. is ≡ true → S.tells → (ps : List Piece) → AreFacts head.now ps (S.now space.old file) facts.now → Fit (links_of head.now ps (S.now space.old file)) (record_at head.now.first ps) head.now.buckets facts.now → IsWholeReach (links_of head.now ps (S.now space.old file)) (record_at head.now.first ps) head.now.buckets (all_seen facts.now items.new)) }
-    ensures none { IfOk result (λ is. is ≡ false → S.tells → (ps : List Piece) → AreFacts head.now ps (S.now space.old file) facts.now → Fit (links_of head.now ps (S.now space.old file)) (record_at head.now.first ps) head.now.buckets facts.now → ReachedOnce (links_of head.now ps (S.now space.old file)) (record_at head.now.first ps) head.now.buckets → ⊥) }
-    ensures shows { OnOk result (S.tells → Shows window.new (S.now space.old file)) }
+    ensures some { IfOk result (λ is. is ≡ true → S.tells → (ps : List Piece) → AreFacts head.now ps (S.now space.old file) facts.now → AllReached (links_of head.now ps (S.now space.old file)) (record_at head.now.first ps) head.now.buckets (all_seen facts.now items.new)) }
+    ensures none { IfOk result (λ is. is ≡ false → S.tells → (ps : List Piece) → AreFacts head.now ps (S.now space.old file) facts.now → IsNotOnce (links_of head.now ps (S.now space.old file)) (record_at head.now.first ps) head.now.buckets) }
     ensures reads { OnlyReads S.Space space.old space.new }
     ensures cause { IsErrOf result ReadErr.Fault → Rose (S.faults space.old) (S.faults space.new) }
 {
-    match reach_roots(space, file, head, facts, window, items, marks) {
-        Ok(true) => {}
-        Ok(false) => return Ok(false),
-        Err(e) => return Err(e),
+    match reach_buckets(space, file, head, facts, window, items, marks) {
+        Ok(true) => Ok(all_marked(marks)),
+        Ok(false) => Ok(false),
+        Err(e) => Err(e),
     }
-    match reach_chains(facts, ends, items, marks) {
-        Ok(true) => {}
-        Ok(false) => return Ok(false),
-        Err(e) => return Err(ReadErr::from(e)),
-    }
-    Ok(all_marked(marks))
 }
 
-/// The records of a file, where the buckets reach each of them once; else nothing.
+/// The records of a file, where each link names one of them or none and the buckets reach each of them once; else nothing. A bucket's tree
+/// is followed before the next bucket's.
 pub fn reach<S: Space>(
     alloc: Global,
     space: &mut S,
     file: u32,
     head: &Head,
     facts: &Facts,
-    ends: &Seq<Ends>,
-    window: &mut Window,
 ) -> Result<Option<Items>, ReadErr>
     requires sound { S.sound space.old }
     requires file { IsDataFile file }
-    requires head { IsValid head.now }
-    requires inside { S.tells → head.now.first ≤ length (S.now space.old file) }
-    requires shows { S.tells → Shows window.old (S.now space.old file) }
-    requires ends { AreEnds facts.now (length facts.now) ends.now }
+    requires buckets { HasBuckets S.Space head.now space.old file }
     ensures low { IfOk result (λ found. IfSome found (λ items. AreLow (length facts.now) items)) }
-    ensures some { IfOk result (λ found. IfSome found (λ items. S.tells → (ps : List Piece) → AreFacts head.now ps (S.now space.old file) facts.now → Fit (links_of head.now ps (S.now space.old file)) (record_at head.now.first ps) head.now.buckets facts.now → IsWholeReach (links_of head.now ps (S.now space.old file)) (record_at head.now.first ps) head.now.buckets (all_seen facts.now items))) }
-    ensures none { IfOk result (λ found. IfNone found (S.tells → (ps : List Piece) → AreFacts head.now ps (S.now space.old file) facts.now → Fit (links_of head.now ps (S.now space.old file)) (record_at head.now.first ps) head.now.buckets facts.now → ReachedOnce (links_of head.now ps (S.now space.old file)) (record_at head.now.first ps) head.now.buckets → ⊥)) }
-    ensures shows { OnOk result (S.tells → Shows window.new (S.now space.old file)) }
+    ensures some { IfOk result (λ found. IfSome found (λ items. S.tells → (ps : List Piece) → AreFacts head.now ps (S.now space.old file) facts.now → AllReached (links_of head.now ps (S.now space.old file)) (record_at head.now.first ps) head.now.buckets (all_seen facts.now items))) }
+    ensures none { IfOk result (λ found. IfNone found (S.tells → (ps : List Piece) → AreFacts head.now ps (S.now space.old file) facts.now → IsNotOnce (links_of head.now ps (S.now space.old file)) (record_at head.now.first ps) head.now.buckets)) }
     ensures reads { OnlyReads S.Space space.old space.new }
     ensures cause { IsErrOf result ReadErr.Fault → Rose (S.faults space.old) (S.faults space.new) }
 {
+    let mut window = Window::new(alloc);
     let mut items: Items = Seq::new(alloc);
     let mut marks = unmarked(alloc, facts.len())?;
     match reach_into(
-        space, file, head, facts, ends, window, &mut items, &mut marks,
+        space,
+        file,
+        head,
+        facts,
+        &mut window,
+        &mut items,
+        &mut marks,
     ) {
         Ok(true) => Ok(Some(items)),
         Ok(false) => Ok(None),

@@ -5,6 +5,7 @@ use Rattle.std.proofs.lemmas.List.{drop-drop, places, same_lists}
 use Rattle.std.proofs.Math.Nat.{div-add-mod, mod-lt, mul-add, mul-le-mul_left}
 use Rattle.tc_base.specs.Endian.{field, le_bytes, le_number}
 use Rattle.hf_pack.specs.declared.stream.Stream.{Stream}
+use Rattle.hf_pack.specs.Entries.{PushedAs}
 use Rattle.hf_pack.specs.Moving.{AllFit, entries_as, renamed}
 use Rattle.hf_pack.specs.Streams.{Pushed, end_of}
 use Rattle.hf_pack.proofs.Moved.{mul_more}
@@ -62,16 +63,15 @@ module _ (f : ℕ → ℕ) (w : ℕ) where
   ]
 
   -- entries pushed behind others
-  pub pushed_more : (s t u : Stream) (a b c : List ℕ) (done n at : ℕ) → end_of s ≡ 256 → at ≡ 256 + w * done → Pushed s t a b (entries_as f w done (drop 256 a)) → Pushed t u b c (entries_as f w n (drop at b)) → Pushed s u a c (entries_as f w (done + n) (drop 256 a))
+  pub pushed_more : (s t u : Stream) (a b c : List ℕ) (done n at : ℕ) → end_of s ≡ 256 → at ≡ 256 + w * done → PushedAs f w done 256 s t a b → PushedAs f w n at t u b c → PushedAs f w (done + n) 256 s u a c
   pushed_more s t u a b c done n at starts is first second =
-      let e : drop at b ≡ drop (w * done) (drop 256 a) = first.behind at (omega (arith, first.ends, starts, is, length-entries f w done (drop 256 a))) ∙ ap (λ (k : ℕ). drop k a) (is ∙ omega arith) ∙ sym (drop-drop (w * done) 256 a) in
-      pushed_as s u a c (entries_as f w done (drop 256 a) ++ entries_as f w n (drop (w * done) (drop 256 a))) (entries_as f w (done + n) (drop 256 a)) (entries_then done n (drop 256 a))
-      (pushed_then s t u a b c (entries_as f w done (drop 256 a)) (entries_as f w n (drop (w * done) (drop 256 a))) first (subst (λ (l : List ℕ). Pushed t u b c (entries_as f w n l)) e second))
-
-  pub fit_on : (s t : Stream) (a b : List ℕ) (done n at : ℕ) → end_of s ≡ 256 → at ≡ 256 + w * done → Pushed s t a b (entries_as f w done (drop 256 a)) → AllFit f w done (drop 256 a) → AllFit f w n (drop at b) → AllFit f w (done + n) (drop 256 a)
-  fit_on s t a b done n at starts is first fit more =
-      let e : drop at b ≡ drop (w * done) (drop 256 a) = first.behind at (omega (arith, first.ends, starts, is, length-entries f w done (drop 256 a))) ∙ ap (λ (k : ℕ). drop k a) (is ∙ omega arith) ∙ sym (drop-drop (w * done) 256 a) in
-      fit_then done n (drop 256 a) fit (subst (λ (l : List ℕ). AllFit f w n l) e more)
+      let e : drop at b ≡ drop (w * done) (drop 256 a) = first.pushed.behind at (omega (arith, first.pushed.ends, starts, is, length-entries f w done (drop 256 a))) ∙ ap (λ (k : ℕ). drop k a) (is ∙ omega arith) ∙ sym (drop-drop (w * done) 256 a) in
+      record {
+        pushed =
+            pushed_as s u a c (entries_as f w done (drop 256 a) ++ entries_as f w n (drop (w * done) (drop 256 a))) (entries_as f w (done + n) (drop 256 a)) (entries_then done n (drop 256 a))
+            (pushed_then s t u a b c (entries_as f w done (drop 256 a)) (entries_as f w n (drop (w * done) (drop 256 a))) first.pushed (subst (λ (l : List ℕ). Pushed t u b c (entries_as f w n l)) e second.pushed));
+        fit = fit_then done n (drop 256 a) first.fit (subst (λ (l : List ℕ). AllFit f w n l) e second.fit);
+      }
 
 pub room_for : (w count most long : ℕ) → most ≡ long / w → count ≤ most → w * count ≤ long
 room_for w count most long is low = omega (arith, mul-le-mul_left {m = count} {n = long / w} w (omega (arith, is, low)), div-add-mod long w)

@@ -10,8 +10,9 @@ ghost use Rattle.tc_space.specs.Ranges.{IsDataFile};
 ghost use Rattle.tc_space.specs.Stores.{Only};
 ghost use Rattle.hf_head.specs.Heads.{IsValid, unit};
 ghost use Rattle.hf_tree.specs.Links.{width};
+ghost use Rattle.hf_pack.specs.Entries.{PushedAs};
 ghost use Rattle.hf_pack.specs.Moving.{AllFit, entries_as, renamed};
-ghost use Rattle.hf_pack.specs.Streams.{Pushed, end_of};
+ghost use Rattle.hf_pack.specs.Streams.{end_of};
 
 use crate::moving::put_le;
 use crate::renaming::rename;
@@ -59,8 +60,7 @@ fn rename_some<S: Space>(
 ) -> Result<(), RecErr>
     requires always { (S.sound space.old) × IsDataFile file × IsValid head.now × (new.old ≡ []) × (length room.old ≡ width head.now * count) }
     requires inside { S.tells → (end_of stream.old ≤ at) × (at + width head.now * count ≤ length (S.now space.old file)) }
-    ensures pushed { OnOk result (S.tells → Pushed stream.old stream.new (S.now space.old file) (S.now space.new file) (entries_as (renamed (unit head.now) (tree.get nat_cmp targets.now)) (width head.now) count (drop at (S.now space.old file)))) }
-    ensures low { OnOk result (S.tells → AllFit (renamed (unit head.now) (tree.get nat_cmp targets.now)) (width head.now) count (drop at (S.now space.old file))) }
+    ensures pushed { OnOk result (S.tells → PushedAs (renamed (unit head.now) (tree.get nat_cmp targets.now)) (width head.now) count at stream.old stream.new (S.now space.old file) (S.now space.new file)) }
     ensures long { length room.new ≡ length room.old }
     ensures others { OnOk result (Others S.Space (Only file) space.old space.new) }
     ensures outcome { Outcome S.sound S.flag result space.new }
@@ -98,8 +98,7 @@ pub fn rename_entries<S: Space>(
 ) -> Result<(), RecErr>
     requires always { (S.sound space.old) × IsDataFile file × IsValid head.now × (8 ≤ length room.old) }
     requires inside { S.tells → (end_of stream.old ≡ 256) × (256 + width head.now * head.now.buckets ≤ length (S.now space.old file)) }
-    ensures pushed { OnOk result (S.tells → Pushed stream.old stream.new (S.now space.old file) (S.now space.new file) (entries_as (renamed (unit head.now) (tree.get nat_cmp targets.now)) (width head.now) head.now.buckets (drop 256 (S.now space.old file)))) }
-    ensures low { OnOk result (S.tells → AllFit (renamed (unit head.now) (tree.get nat_cmp targets.now)) (width head.now) head.now.buckets (drop 256 (S.now space.old file))) }
+    ensures pushed { OnOk result (S.tells → PushedAs (renamed (unit head.now) (tree.get nat_cmp targets.now)) (width head.now) head.now.buckets 256 stream.old stream.new (S.now space.old file) (S.now space.new file)) }
     ensures others { OnOk result (Others S.Space (Only file) space.old space.new) }
     ensures outcome { Outcome S.sound S.flag result space.new }
     ensures keeps { Keeps S.Space space.old space.new }

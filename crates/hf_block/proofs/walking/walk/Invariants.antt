@@ -10,7 +10,7 @@ invariant-loop-at g l = record {
   reads : OnlyReads g.S.Space l.initial.space l.space;
   low : l.head.first ≤ l.at;
   high : l.at ≤ l.end;
-  long : length l.chunk ≡ 4096;
+  long : length l.chunk ≡ 16384;
   row : StandInRow l.unit l.head.first l.at l.blocks;
   walked : g.S.Space.tells → Walked (wide l.large) l.unit l.head.first l.at (between l.head.first l.end (g.S.Space.now l.initial.space l.file)) [] l.blocks;
 }

@@ -14,11 +14,17 @@ returns-in_default-cmp-clause-order g c = λ t r a is its. by_length c.args.rec.
 
 pub compare_near-requires-clause-inside : goal.compare_near-requires-clause-inside
 compare_near-requires-clause-inside g c = λ t.
-    let w = c.requires.there t in
+    let w = (c.requires.read t).there in
     let long : length c.args.key.now ≡ c.args.rec.now.key = ranked (length c.args.key.now) c.args.rec.now.key Equal (sym c.in-Equal-cmp.is ∙ c.cmp-in-Equal.ensures) in
     let size = ap (λ (x : RecHead). x.key) w.head in
     let head = ap (λ (x : RecHead). x.head) w.head in
     omega (arith, key_inside (unit c.args.head.now) w.r c.args.at (g.S.Space.now c.args.space.now c.args.file) w.has.is, long, size, head)
+
+pub compare_near-requires-clause-front : goal.compare_near-requires-clause-front
+compare_near-requires-clause-front g c = λ t. (c.requires.read t).is
+
+pub compare_near-requires-clause-long : goal.compare_near-requires-clause-long
+compare_near-requires-clause-long g c = λ t. (c.requires.read t).long
 
 pub returns-in-Equal-cmp-clause-order : goal.returns-in-Equal-cmp-clause-order
 returns-in-Equal-cmp-clause-order g c = by_bytes c.compare_near.result g.S.Space.tells c.args.head.now c.args.at c.args.rec.now c.args.key.now c.args.hash (g.S.Space.now c.args.space.now c.args.file) c.requires.hash (sym c.in-Equal.is ∙ c.cmp.ensures) (sym c.in-Equal-cmp.is ∙ c.cmp-in-Equal.ensures) c.compare_near.ensures.order

@@ -4,6 +4,7 @@ use Rattle.hf_tree.proofs.Fields.{at_inside}
 use Rattle.hf_chain.specs.declared.heads.RecHead.{RecHead}
 use Rattle.hf_chain.specs.Heads.{head_size}
 use Rattle.tc_window.specs.Windows.{Shows}
+use Rattle.hf_chain.proofs.Viewing.{looks_on}
 use Rattle.hf_chain.proofs.Fronts.{key_at, key_inside}
 use Rattle.tc_window.proofs.Viewing.{shows_at}
 use Rattle.hf_chain.proofs.facts.fact_at.Goals as goal
@@ -28,3 +29,7 @@ returns-clause-fact g c = λ t r has.
     let shown : Shows c.fill.new.self now = c.in_ok-fill.ensures.shows t (shows_at c.head_at.new.window f now (sym e) (c.in_ok-rec.ensures.shows t)) in
     let key : c.get.result.now ≡ r.key = c.get.ensures.shows now shown ∙ (λ i. take (head i).key (drop (start i) (e i))) ∙ key_at (unit c.args.head.now) r c.args.place f has.is in
     c.fact_in.ensures r head key (omega (arith, inside, c.head_at.ensures.long t))
+
+pub returns-clause-looks : goal.returns-clause-looks
+returns-clause-looks g c = looks_on g.S.Space c.args.file c.head_at.new.space c.fill.new.space c.fill.new.self c.fill.ensures.reads c.requires.looks.data_file
+    (λ t. c.in_ok-fill.ensures.shows t (shows_at c.head_at.new.window (g.S.Space.now c.args.space.now c.args.file) (g.S.Space.now c.head_at.new.space c.args.file) (sym (c.head_at.ensures.reads.files t c.args.file)) (c.in_ok-rec.ensures.shows t)))

@@ -9,13 +9,13 @@ use Rattle.hf_chain.proofs.Paying.{paid_one, paid_then, within_by, one_more}
 use Rattle.hf_chain.proofs.finding.find.Goals as goal
 
 pub read_entry-requires-clause-inside : goal.read_entry-requires-clause-inside
-read_entry-requires-clause-inside g c = λ t. let w = c.requires.tree t in entry_inside c.args.head.now w.end w.pieces (g.S.Space.now c.args.space.now c.args.file) c.bucket_of-bucket.result c.requires.head w.is.blocks c.bucket_of-bucket.ensures.inside
+read_entry-requires-clause-inside g c = λ t. let w = c.requires.tree t in entry_inside c.args.head.now w.end w.pieces (g.S.Space.now c.args.space.now c.args.file) c.bucket_of-bucket.result c.requires.ready.valid w.is.blocks c.bucket_of-bucket.ensures.inside
 
 pub read_entry-requires-clause-low : goal.read_entry-requires-clause-low
-read_entry-requires-clause-low g c = omega (arith, c.bucket_of-bucket.ensures.inside, c.requires.head.numbers.few_buckets)
+read_entry-requires-clause-low g c = omega (arith, c.bucket_of-bucket.ensures.inside, c.requires.ready.valid.numbers.few_buckets)
 
 pub place_named-at-requires : goal.place_named-at-requires
-place_named-at-requires g c = omega (arith, unit_small c.args.head.now c.requires.head, c.unit.ensures)
+place_named-at-requires g c = omega (arith, unit_small c.args.head.now c.requires.ready.valid, c.unit.ensures)
 
 pub returns-in_err-entry-clause-within : goal.returns-in_err-entry-clause-within
 returns-in_err-entry-clause-within g c = λ t end ps u w.

@@ -9,8 +9,8 @@ use Rattle.hf_chain.proofs.hanging.rightmost.Goals as goal
 
 pub loop-depth-init : goal.loop-depth-init
 loop-depth-init g c = record {
-  reads = only_reads_refl g.S.Space c.args.space.now c.requires.sound;
-  walk = λ t end ps u b hang. walk_start c.args.head.now end ps (g.S.Space.now c.args.space.now c.args.file) u c.args.at hang c.requires.some;
+  reads = only_reads_refl g.S.Space c.args.space.now c.requires.ready.sound;
+  walk = λ t end ps u b hang. walk_start c.args.head.now end ps (g.S.Space.now c.args.space.now c.args.file) u c.args.at hang (c.requires.tree t).some;
   count = omega arith;
   read = omega arith;
   paid = paid_none 40 c.args.steps.now (g.S.Space.bytes_read c.args.space.now) (g.S.Space.bytes_read c.args.space.now) (omega arith);
@@ -48,7 +48,7 @@ pub returns-then-rec-eq0-clause-paid : goal.returns-then-rec-eq0-clause-paid
 returns-then-rec-eq0-clause-paid g c = paid_then 40 c.args.steps.now c.loop-depth.steps c.count_step.new.steps (g.S.Space.bytes_read c.args.space.now) (g.S.Space.bytes_read c.loop-depth.space) (g.S.Space.bytes_read c.read_head.new.space) c.loop-depth.invariant.paid (paid_one 40 c.loop-depth.steps c.count_step.new.steps (g.S.Space.bytes_read c.loop-depth.space) (g.S.Space.bytes_read c.read_head.new.space) c.count_step.ensures.later c.count_step.ensures.more (omega (arith, c.read_head.ensures.counted)))
 
 pub place_named-end-requires : goal.place_named-end-requires
-place_named-end-requires g c = omega (arith, unit_small c.args.head.now c.requires.head, c.unit.ensures)
+place_named-end-requires g c = omega (arith, unit_small c.args.head.now c.requires.ready.valid, c.unit.ensures)
 
 pub loop-depth-preserved : goal.loop-depth-preserved
 loop-depth-preserved g c = record {

@@ -5,14 +5,12 @@ use Rattle.hf_chain.specs.declared.reaching.Item.{Item}
 use Rattle.hf_chain.specs.Orders.{IsBetweenBy}
 use Rattle.hf_chain.proofs.Lists.{same_item, get_low}
 use Rattle.hf_chain.proofs.Halving.{below_or}
-use Rattle.tc_window.proofs.Viewing.{shows_at}
 use Rattle.hf_chain.proofs.Keyed.{true_at_file, between_at_file, between_at_now}
 use Rattle.hf_chain.proofs.judging.all_between.Goals as goal
 
 pub loop-k-init : goal.loop-k-init
 loop-k-init g c = record {
   reads = only_reads_refl g.S.Space c.args.space.now c.requires.sound;
-  shows = c.requires.shows;
   yes = λ t k x low at. absurd (omega (arith, low));
 }
 
@@ -22,13 +20,9 @@ is_between-requires-clause-low g c = c.requires.low c.loop-k.k c.at.result.now c
 pub is_between-requires-clause-all : goal.is_between-requires-clause-all
 is_between-requires-clause-all g c = λ t. true_at_file c.args.head.now c.args.facts.now (g.S.Space.now c.loop-k.space c.args.file) (g.S.Space.now c.args.space.now c.args.file) (c.loop-k.invariant.reads.files t c.args.file) (c.requires.all t)
 
-pub is_between-requires-clause-shows : goal.is_between-requires-clause-shows
-is_between-requires-clause-shows g c = λ t. shows_at c.loop-k.window (g.S.Space.now c.args.space.now c.args.file) (g.S.Space.now c.loop-k.space c.args.file) (sym (c.loop-k.invariant.reads.files t c.args.file)) (c.loop-k.invariant.shows t)
-
 pub loop-k-preserved : goal.loop-k-preserved
 loop-k-preserved g c = record {
   reads = only_reads_then g.S.Space c.args.space.now c.loop-k.space c.is_between.new.space c.loop-k.invariant.reads c.is_between.ensures.reads;
-  shows = λ t. shows_at c.is_between.new.window (g.S.Space.now c.loop-k.space c.args.file) (g.S.Space.now c.args.space.now c.args.file) (c.loop-k.invariant.reads.files t c.args.file) (c.in-Ok-true.ensures.shows t);
   yes = λ t k x low at. ⊎_elim (λ less. c.loop-k.invariant.yes t k x less at)
       (λ same. let s = same_item (slice_get c.args.items.now k) x c.at.result.now at (ap (slice_get c.args.items.now) same ∙ c.at.ensures) in
       subst (λ (z : Item). IsBetweenBy c.args.facts.now z (g.S.Space.now c.args.space.now c.args.file)) (sym s) (between_at_file c.args.facts.now c.at.result.now (g.S.Space.now c.loop-k.space c.args.file) (g.S.Space.now c.args.space.now c.args.file) (c.loop-k.invariant.reads.files t c.args.file) (c.in-Ok-true.ensures.yes c.in-Ok-true.field-0-test t)))
@@ -37,9 +31,6 @@ loop-k-preserved g c = record {
 
 pub returns-in-Ok-false-clause-no : goal.returns-in-Ok-false-clause-no
 returns-in-Ok-false-clause-no g c = λ is t. (c.loop-k.k, c.at.result.now, c.at.ensures, λ all. c.in-Ok-false.ensures.no c.in-Ok-false.field-0-test t (between_at_now c.args.facts.now c.at.result.now (g.S.Space.now c.loop-k.space c.args.file) (g.S.Space.now c.args.space.now c.args.file) (c.loop-k.invariant.reads.files t c.args.file) all))
-
-pub returns-in-Ok-false-clause-shows : goal.returns-in-Ok-false-clause-shows
-returns-in-Ok-false-clause-shows g c = λ t. shows_at c.is_between.new.window (g.S.Space.now c.loop-k.space c.args.file) (g.S.Space.now c.args.space.now c.args.file) (c.loop-k.invariant.reads.files t c.args.file) (c.in-Ok-false.ensures.shows t)
 
 pub returns-clause-yes : goal.returns-clause-yes
 returns-clause-yes g c = λ is t k x at. c.loop-k.invariant.yes t k x (let l = get_low c.args.items.now k x at in omega (arith, l)) at

@@ -2,13 +2,11 @@ use Rattle.std.proofs.Common.{◌≡◌, ◌<◌, ℕ, Some}
 use Rattle.std.specs.Prelude.{slice_get}
 use Rattle.tc_space.specs.Frames.{OnlyReads}
 use Rattle.hf_chain.specs.declared.reaching.Item.{Item}
-use Rattle.tc_window.specs.Windows.{Shows}
 use Rattle.hf_chain.specs.Orders.{IsBetweenBy}
 use Rattle.hf_chain.proofs.judging.all_between.Given as goal
 
 abbrev pub invariant-loop-k : goal.invariant-loop-k
 invariant-loop-k g l = record {
   reads : OnlyReads g.S.Space l.fn.space l.space;
-  shows : g.S.Space.tells → Shows l.window (g.S.Space.now l.fn.space l.file);
   yes : g.S.Space.tells → (k : ℕ) (x : Item) → k < l.k → slice_get l.items k ≡ Some x → IsBetweenBy l.facts x (g.S.Space.now l.fn.space l.file);
 }

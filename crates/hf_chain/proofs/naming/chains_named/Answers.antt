@@ -1,16 +1,22 @@
-use Rattle.std.proofs.Common.{ℕ, subst, arith}
-use Rattle.hf_chain.specs.Facts.{AreEnds}
-use Rattle.hf_chain.proofs.Ending.{no_ends, one_end}
+use Rattle.std.proofs.Common.{◌∙◌, ⊎_elim, arith, sym, ap, subst}
+use Rattle.std.specs.Prelude.{slice_get}
+use Rattle.hf_chain.specs.declared.facts.Fact.{Fact}
+use Rattle.hf_chain.specs.Facts.{HasNamed}
+use Rattle.hf_chain.proofs.Halving.{below_or}
+use Rattle.hf_chain.proofs.Lists.{same_item, get_low}
 use Rattle.hf_chain.proofs.naming.chains_named.Goals as goal
 
 pub loop-i-init : goal.loop-i-init
-loop-i-init c = no_ends c.args.facts.now _ c.new-ends.ensures
+loop-i-init c = λ i x low at. absurd (omega (arith, low))
 
 pub loop-i-preserved : goal.loop-i-preserved
-loop-i-preserved c = one_end c.args.facts.now c.loop-i.i c.loop-i.ends _ c.at.result.now c.in-Some.both c.loop-i.invariant c.at.ensures c.in_ok-push-in-Some.ensures.ok c.in-Some.ensures.some.0 (c.in-Some.ensures.some.1, c.in-Some.ensures.some.2)
+loop-i-preserved c = λ i x low at. ⊎_elim (λ less. c.loop-i.invariant i x less at)
+    (λ same. let s = same_item (slice_get c.args.facts.now i) x c.at.result.now at (ap (slice_get c.args.facts.now) same ∙ c.at.ensures) in
+    subst (λ (z : Fact). HasNamed c.args.facts.now z) (sym s) (c.has_named.ensures.yes c.if-not-has_named.false))
+    (below_or c.loop-i.i i low)
 
-pub returns-in-None-clause-none : goal.returns-in-None-clause-none
-returns-in-None-clause-none c = λ rises. (c.loop-i.i, c.at.result.now, c.at.ensures, c.in-None.ensures.none rises)
+pub returns-then-not-has_named-clause-no : goal.returns-then-not-has_named-clause-no
+returns-then-not-has_named-clause-no c = λ is rises. (c.loop-i.i, c.at.result.now, c.at.ensures, c.has_named.ensures.no c.if-not-has_named.true rises)
 
-pub returns-clause-some : goal.returns-clause-some
-returns-clause-some c = subst (λ (n : ℕ). AreEnds c.args.facts.now n c.loop-i.ends) (omega (arith, c.len-i-end.ensures, c.loop-i-test.false)) c.loop-i.invariant
+pub returns-clause-yes : goal.returns-clause-yes
+returns-clause-yes c = λ is i x at. c.loop-i.invariant i x (let l = get_low c.args.facts.now i x at in omega (arith, l)) at

@@ -1,37 +1,36 @@
-use Rattle.std.proofs.Common.{arith, subst}
+use Rattle.std.proofs.Common.{◌*◌, ◌≤◌, length, arith, subst}
 use Rattle.hf_layout.specs.Layout.{record_at}
 use Rattle.hf_tree.specs.Links.{links_of}
-use Rattle.hf_chain.specs.Reaching.{AreLow}
-use Rattle.hf_chain.proofs.Named.{bare}
+use Rattle.hf_chain.specs.Reaching.{AreLow, all_seen, seen}
+use Rattle.hf_chain.proofs.Lists.{map_long}
+use Rattle.hf_chain.proofs.Named.{bare, are_read}
+use Rattle.hf_chain.proofs.Followed.{all_named}
 use Rattle.hf_chain.proofs.Steps.{whole_reach, not_whole}
 use Rattle.hf_chain.proofs.reaching.reach_into.Goals as goal
 
-pub reach_chains-requires-clause-long : goal.reach_chains-requires-clause-long
-reach_chains-requires-clause-long g c = omega (arith, c.requires.long, c.reach_roots.auto.marks)
+pub returns-in-Ok-true-clause-low : goal.returns-in-Ok-true-clause-low
+returns-in-Ok-true-clause-low g c = subst (λ z. AreLow z c.reach_buckets.new.items) (omega (arith, c.requires.none.long, c.reach_buckets.auto.marks)) c.in-Ok-true.ensures.marked.low
 
 pub returns-in-Ok-false-clause-low : goal.returns-in-Ok-false-clause-low
-returns-in-Ok-false-clause-low g c = subst (λ z. AreLow z c.reach_roots.new.items) (omega (arith, c.requires.long, c.reach_roots.auto.marks)) c.in-Ok-false.ensures.marked.low
+returns-in-Ok-false-clause-low g c = subst (λ z. AreLow z c.reach_buckets.new.items) (omega (arith, c.requires.none.long, c.reach_buckets.auto.marks)) c.in-Ok-false.ensures.marked.low
 
-pub returns-in-Ok-false-clause-none : goal.returns-in-Ok-false-clause-none
-returns-in-Ok-false-clause-none g c = λ is t ps a fit o. c.in-Ok-false.ensures.twice c.in-Ok-false.field-0-test t ps a fit o
+pub returns-in-Ok-true-clause-some : goal.returns-in-Ok-true-clause-some
+returns-in-Ok-true-clause-some g c = λ is t ps a.
+    let links = links_of c.args.head.now ps (g.S.Space.now c.args.space.now c.args.file) in
+    let records = record_at c.args.head.now.first ps in
+    let most : 2 * length (all_seen c.args.facts.now c.reach_buckets.new.items) ≤ 2 * length c.reach_buckets.new.items = omega (arith, map_long (seen c.args.facts.now) c.reach_buckets.new.items) in
+    let r = c.in-Ok-true.ensures.reached c.in-Ok-true.field-0-test t ps a in
+    let whole = whole_reach links records c.args.head.now.buckets c.args.facts.now (are_read c.args.head.now ps (g.S.Space.now c.args.space.now c.args.file) c.args.facts.now c.requires.buckets.valid a) c.reach_buckets.new.items c.reach_buckets.new.marks (omega (arith, c.requires.none.long, c.reach_buckets.auto.marks)) c.in-Ok-true.ensures.marked (c.all_marked.ensures.yes is) in
+    record {
+      names = all_named links records c.args.head.now.buckets (all_seen c.args.facts.now c.reach_buckets.new.items) (2 * length c.reach_buckets.new.items) r most whole;
+      whole = record { is = record { done = 2 * length c.reach_buckets.new.items; all = most; is = r }; whole = whole };
+    }
 
-pub returns-in-Ok-false-reach_chains-clause-low : goal.returns-in-Ok-false-reach_chains-clause-low
-returns-in-Ok-false-reach_chains-clause-low g c = subst (λ z. AreLow z c.reach_chains.new.items) (omega (arith, c.requires.long, c.reach_roots.auto.marks, c.reach_chains.auto.marks)) c.in-Ok-false-reach_chains.ensures.marked.low
-
-pub returns-in-Ok-false-reach_chains-clause-none : goal.returns-in-Ok-false-reach_chains-clause-none
-returns-in-Ok-false-reach_chains-clause-none g c = λ is t ps a fit o. c.in-Ok-false-reach_chains.ensures.twice c.in-Ok-false-reach_chains.field-0-test (links_of c.args.head.now ps (g.S.Space.now c.args.space.now c.args.file)) (record_at c.args.head.now.first ps) c.args.head.now.buckets fit (c.in-Ok-true.ensures.reached c.in-Ok-true.field-0-test t ps a fit) o
-
-pub returns-clause-low : goal.returns-clause-low
-returns-clause-low g c = subst (λ z. AreLow z c.reach_chains.new.items) (omega (arith, c.requires.long, c.reach_roots.auto.marks, c.reach_chains.auto.marks)) c.in-Ok-true-reach_chains.ensures.marked.low
-
-pub returns-clause-some : goal.returns-clause-some
-returns-clause-some g c = λ is t ps a fit. record {
-  is = c.in-Ok-true-reach_chains.ensures.reached c.in-Ok-true-reach_chains.field-0-test (links_of c.args.head.now ps (g.S.Space.now c.args.space.now c.args.file)) (record_at c.args.head.now.first ps) c.args.head.now.buckets fit (c.in-Ok-true.ensures.reached c.in-Ok-true.field-0-test t ps a fit);
-  whole = whole_reach (links_of c.args.head.now ps (g.S.Space.now c.args.space.now c.args.file)) (record_at c.args.head.now.first ps) c.args.head.now.buckets c.args.facts.now fit c.reach_chains.new.items c.reach_chains.new.marks (omega (arith, c.requires.long, c.reach_roots.auto.marks, c.reach_chains.auto.marks)) c.in-Ok-true-reach_chains.ensures.marked (c.all_marked.ensures.yes is);
-}
-
-pub returns-clause-none : goal.returns-clause-none
-returns-clause-none g c = λ is t ps a fit o.
+pub returns-in-Ok-true-clause-none : goal.returns-in-Ok-true-clause-none
+returns-in-Ok-true-clause-none g c = λ is t ps a names once.
+    let links = links_of c.args.head.now ps (g.S.Space.now c.args.space.now c.args.file) in
+    let records = record_at c.args.head.now.first ps in
+    let most : 2 * length (all_seen c.args.facts.now c.reach_buckets.new.items) ≤ 2 * length c.reach_buckets.new.items = omega (arith, map_long (seen c.args.facts.now) c.reach_buckets.new.items) in
     let w = c.all_marked.ensures.no is in
-    not_whole (links_of c.args.head.now ps (g.S.Space.now c.args.space.now c.args.file)) (record_at c.args.head.now.first ps) c.args.head.now.buckets c.args.facts.now fit c.reach_chains.new.items c.reach_chains.new.marks w.0 (bare c.args.head.now ps (g.S.Space.now c.args.space.now c.args.file) c.args.facts.now c.requires.head a) (omega (arith, c.requires.long, c.reach_roots.auto.marks, c.reach_chains.auto.marks)) c.in-Ok-true-reach_chains.ensures.marked
-    (c.in-Ok-true-reach_chains.ensures.reached c.in-Ok-true-reach_chains.field-0-test (links_of c.args.head.now ps (g.S.Space.now c.args.space.now c.args.file)) (record_at c.args.head.now.first ps) c.args.head.now.buckets fit (c.in-Ok-true.ensures.reached c.in-Ok-true.field-0-test t ps a fit)) w.1 w.2 o
+    not_whole links records c.args.head.now.buckets c.args.facts.now (are_read c.args.head.now ps (g.S.Space.now c.args.space.now c.args.file) c.args.facts.now c.requires.buckets.valid a) c.reach_buckets.new.items c.reach_buckets.new.marks w.0 (bare c.args.head.now ps (g.S.Space.now c.args.space.now c.args.file) c.args.facts.now c.requires.buckets.valid a) (omega (arith, c.requires.none.long, c.reach_buckets.auto.marks)) c.in-Ok-true.ensures.marked
+    (record { done = 2 * length c.reach_buckets.new.items; all = most; is = c.in-Ok-true.ensures.reached c.in-Ok-true.field-0-test t ps a }) w.1 w.2 once

@@ -8,7 +8,7 @@ use Rattle.tc_space.specs.Stores.{Only}
 use Rattle.hf_head.specs.Heads.{unit}
 use Rattle.hf_tree.specs.Links.{width}
 use Rattle.hf_pack.specs.Moving.{renamed}
-use Rattle.hf_pack.proofs.Numbers.{fit_on, pushed_more, room_for}
+use Rattle.hf_pack.proofs.Numbers.{pushed_more, room_for}
 use Rattle.hf_pack.proofs.Renamed.{length-entries}
 use Rattle.hf_pack.proofs.entries.rename_entries.Goals as goal
 
@@ -18,7 +18,7 @@ rename_some-requires-clause-inside g c = λ t.
     let w : ℕ = width c.args.head.now in
     let done : ℕ = c.loop-done.done in
     let n : ℕ = c.min-count.result in
-    let p = c.loop-done.invariant.pushed t in
+    let p = (c.loop-done.invariant.pushed t).pushed in
     let inside = c.requires.inside t in
     let same : c.width-width.result * done ≡ w * done = ap (λ (k : ℕ). k * done) c.width-width.ensures.value in
     let ends = length-entries f w done (drop 256 (g.S.Space.now c.args.space.now c.args.file)) in
@@ -43,5 +43,4 @@ loop-done-preserved g c =
       others = others_then g.S.Space (Only c.args.file) c.args.space.now c.loop-done.space c.rename_some.new.space i.others c.in-Ok.ensures.others;
       keeps = keeps_then g.S.Space c.args.space.now c.loop-done.space c.rename_some.new.space i.keeps c.rename_some.ensures.keeps;
       pushed = λ t. pushed_more (renamed (unit c.args.head.now) (tree.get nat_cmp c.args.targets.now)) (width c.args.head.now) c.args.stream.now c.loop-done.stream c.rename_some.new.stream (g.S.Space.now c.args.space.now c.args.file) (g.S.Space.now c.loop-done.space c.args.file) (g.S.Space.now c.rename_some.new.space c.args.file) done n (256 + c.width-width.result * done) (c.requires.inside t).0 at (i.pushed t) (c.in-Ok.ensures.pushed t);
-      fit = λ t. fit_on (renamed (unit c.args.head.now) (tree.get nat_cmp c.args.targets.now)) (width c.args.head.now) c.args.stream.now c.loop-done.stream (g.S.Space.now c.args.space.now c.args.file) (g.S.Space.now c.loop-done.space c.args.file) done n (256 + c.width-width.result * done) (c.requires.inside t).0 at (i.pushed t) (i.fit t) (c.in-Ok.ensures.low t);
     }

@@ -20,8 +20,9 @@ pub returns-in-Ok-push-clause-pushed : goal.returns-in-Ok-push-clause-pushed
 returns-in-Ok-push-clause-pushed g c = λ t.
     let new : List ℕ = g.S.Space.now c.push.new.space c.args.file in
     let e = written_is (tree.get nat_cmp c.args.targets.now) (unit c.args.head.now) c.unit.result (width c.args.head.now) c.width-width.result c.args.count c.args.at (g.S.Space.now c.args.space.now c.args.file) c.args.room.now c.read_into.new.into c.args.new.now c.rename_each.new.into c.unit.ensures c.width-width.ensures.value c.requires.always.3 c.requires.always.4 (c.in-Ok.ensures.bytes t) c.in-Ok-rename_each.ensures.renamed in
-    subst (λ (xs : List ℕ). Pushed c.args.stream.now c.push.new.self (g.S.Space.now c.args.space.now c.args.file) new xs) (c.as_slice.ensures ∙ e)
-    (subst (λ (l : List ℕ). Pushed c.args.stream.now c.push.new.self l new c.as_slice.result.now) (c.read_into.ensures.reads.files t c.args.file) (c.in-Ok-push.ensures.pushed t))
-
-pub returns-in-Ok-push-clause-low : goal.returns-in-Ok-push-clause-low
-returns-in-Ok-push-clause-low g c = λ t. fit_is (tree.get nat_cmp c.args.targets.now) (unit c.args.head.now) c.unit.result (width c.args.head.now) c.width-width.result c.args.count c.args.at (g.S.Space.now c.args.space.now c.args.file) c.args.room.now c.read_into.new.into c.unit.ensures c.width-width.ensures.value c.requires.always.4 (c.in-Ok.ensures.bytes t) c.in-Ok-rename_each.ensures.low
+    record {
+      pushed =
+          subst (λ (xs : List ℕ). Pushed c.args.stream.now c.push.new.self (g.S.Space.now c.args.space.now c.args.file) new xs) (c.as_slice.ensures ∙ e)
+          (subst (λ (l : List ℕ). Pushed c.args.stream.now c.push.new.self l new c.as_slice.result.now) (c.read_into.ensures.reads.files t c.args.file) (c.in-Ok-push.ensures.pushed t));
+      fit = fit_is (tree.get nat_cmp c.args.targets.now) (unit c.args.head.now) c.unit.result (width c.args.head.now) c.width-width.result c.args.count c.args.at (g.S.Space.now c.args.space.now c.args.file) c.args.room.now c.read_into.new.into c.unit.ensures c.width-width.ensures.value c.requires.always.4 (c.in-Ok.ensures.bytes t) c.in-Ok-rename_each.ensures.low;
+    }

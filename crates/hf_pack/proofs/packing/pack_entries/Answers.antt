@@ -13,7 +13,7 @@ rename_entries-requires-clause-inside g c = λ t. (omega (arith, c.new-stream.en
 
 pub flush-requires-clause-inside : goal.flush-requires-clause-inside
 flush-requires-clause-inside g c = λ t.
-    let p = c.in-Ok.ensures.pushed t in
+    let p = (c.in-Ok.ensures.pushed t).pushed in
     let long = length-entries (renamed (unit c.args.head.now) (tree.get nat_cmp c.args.targets.now)) (width c.args.head.now) c.args.head.now.buckets (drop 256 (g.S.Space.now c.args.space.now c.args.file)) in
     omega (arith, p.ends, p.long, c.new-stream.ensures.at, ap length c.new-stream.ensures.none, c.requires.inside t, long)
 
@@ -25,4 +25,7 @@ returns-in-Ok-flush-clause-renamed g c = λ t.
     let old : List ℕ = g.S.Space.now c.args.space.now c.args.file in
     let xs : List ℕ = entries_as f w n (drop 256 old) in
     let long = length-entries f w n (drop 256 old) in
-    flushed_then c.new-stream.result c.rename_entries.new.stream c.flush.new.self 256 (256 + w * n) old (g.S.Space.now c.rename_entries.new.space c.args.file) (g.S.Space.now c.flush.new.space c.args.file) xs c.new-stream.ensures.at c.new-stream.ensures.none c.in-Ok-flush.ensures.none (omega (arith, long)) (c.in-Ok.ensures.pushed t) (c.in-Ok-flush.ensures.pushed t)
+    flushed_then c.new-stream.result c.rename_entries.new.stream c.flush.new.self 256 (256 + w * n) old (g.S.Space.now c.rename_entries.new.space c.args.file) (g.S.Space.now c.flush.new.space c.args.file) xs c.new-stream.ensures.at c.new-stream.ensures.none c.in-Ok-flush.ensures.none (omega (arith, long)) (c.in-Ok.ensures.pushed t).pushed (c.in-Ok-flush.ensures.pushed t)
+
+pub returns-in-Ok-flush-clause-low : goal.returns-in-Ok-flush-clause-low
+returns-in-Ok-flush-clause-low g c = λ t. (c.in-Ok.ensures.pushed t).fit

@@ -1,0 +1,42 @@
+use Rattle.std.proofs.Common.{◌∙◌, ◌*◌, List, length, arith, sym, ap, subst}
+use Rattle.tc_space.specs.Frames.{only_reads_refl, only_reads_then}
+use Rattle.hf_layout.specs.Layout.{record_at}
+use Rattle.hf_tree.specs.Links.{links_of}
+use Rattle.hf_chain.specs.declared.reaching.Item.{Item}
+use Rattle.hf_chain.specs.Facts.{entry_place}
+use Rattle.hf_chain.specs.Reaching.{Reach, all_seen}
+use Rattle.hf_chain.proofs.Viewing.{buckets_at}
+use Rattle.hf_chain.proofs.Named.{are_read, entry_read}
+use Rattle.hf_chain.proofs.Followed.{reach_start}
+use Rattle.hf_chain.proofs.reaching.reach_buckets.Goals as goal
+
+pub loop-bucket-init : goal.loop-bucket-init
+loop-bucket-init g c = record {
+  reads = only_reads_refl g.S.Space c.args.space.now c.requires.looks.sound;
+  looks = c.requires.looks;
+  long = c.requires.none.long;
+  marked = c.requires.none.marked;
+  reached = λ t ps a. subst (λ (l : List Item). Reach (links_of c.args.head.now ps (g.S.Space.now c.args.space.now c.args.file)) (record_at c.args.head.now.first ps) c.args.head.now.buckets (all_seen c.args.facts.now l) 0 (2 * length l)) (sym c.requires.none.none) (reach_start (links_of c.args.head.now ps (g.S.Space.now c.args.space.now c.args.file)) (record_at c.args.head.now.first ps) c.args.head.now.buckets);
+}
+
+pub entry-requires-clause-buckets : goal.entry-requires-clause-buckets
+entry-requires-clause-buckets g c = buckets_at g.S.Space c.args.head.now c.args.file c.args.space.now c.loop-bucket.space c.loop-bucket.invariant.reads c.requires.buckets
+
+pub loop-bucket-preserved : goal.loop-bucket-preserved
+loop-bucket-preserved g c = record {
+  reads = only_reads_then g.S.Space c.args.space.now c.loop-bucket.space c.entry.new.space c.loop-bucket.invariant.reads c.entry.ensures.reads;
+  looks = c.in_ok-place.ensures.looks;
+  long = omega (arith, c.loop-bucket.invariant.long, c.reach_bucket.auto.marks);
+  marked = c.in-Ok-true.ensures.marked;
+  reached = λ t ps a. c.in-Ok-true.ensures.reached c.in-Ok-true.field-0-test (links_of c.args.head.now ps (g.S.Space.now c.args.space.now c.args.file)) (record_at c.args.head.now.first ps) c.args.head.now.buckets (are_read c.args.head.now ps (g.S.Space.now c.args.space.now c.args.file) c.args.facts.now c.requires.buckets.valid a) (omega arith)
+      (entry_read c.args.head.now ps (g.S.Space.now c.args.space.now c.args.file) c.args.facts.now c.requires.buckets.valid a c.loop-bucket.bucket c.in_ok-place.place (omega arith) (c.in_ok-place.ensures.place t ∙ ap (entry_place c.args.head.now c.loop-bucket.bucket) (c.loop-bucket.invariant.reads.files t c.args.file)))
+      (c.loop-bucket.invariant.reached t ps a);
+}
+
+pub returns-in-Ok-false-clause-stops : goal.returns-in-Ok-false-clause-stops
+returns-in-Ok-false-clause-stops g c = λ is t ps a. c.in-Ok-false.ensures.stops c.in-Ok-false.field-0-test (links_of c.args.head.now ps (g.S.Space.now c.args.space.now c.args.file)) (record_at c.args.head.now.first ps) c.args.head.now.buckets (are_read c.args.head.now ps (g.S.Space.now c.args.space.now c.args.file) c.args.facts.now c.requires.buckets.valid a) (omega arith)
+    (entry_read c.args.head.now ps (g.S.Space.now c.args.space.now c.args.file) c.args.facts.now c.requires.buckets.valid a c.loop-bucket.bucket c.in_ok-place.place (omega arith) (c.in_ok-place.ensures.place t ∙ ap (entry_place c.args.head.now c.loop-bucket.bucket) (c.loop-bucket.invariant.reads.files t c.args.file)))
+    (c.loop-bucket.invariant.reached t ps a)
+
+pub returns-clause-reached : goal.returns-clause-reached
+returns-clause-reached g c = λ is t ps a. subst (λ n. Reach (links_of c.args.head.now ps (g.S.Space.now c.args.space.now c.args.file)) (record_at c.args.head.now.first ps) c.args.head.now.buckets (all_seen c.args.facts.now c.loop-bucket.items) n (2 * length c.loop-bucket.items)) (omega arith) (c.loop-bucket.invariant.reached t ps a)
