@@ -3,7 +3,7 @@ use Rattle.std.proofs.Common.{◌≡◌, ◌∙◌, ◌⊎◌, inl, inr, ℕ, ze
 use Rattle.std.specs.Prelude.{Some, IsSome, max}
 use Rattle.std.specs.FinMap.{empty, get, insert, remove}
 use Rattle.std.proofs.lemmas.Bool.{cases_lt}
-use Rattle.std.proofs.lemmas.List.{append-nil, length-take-le, take-take, take_all, take_at}
+use Rattle.std.proofs.lemmas.List.{append-nil, length-take-le, take-append-drop, take-take, take_all, take_at}
 use Rattle.std.proofs.Math.Nat.{div-le_self}
 use Rattle.tc_base.specs.Files.{wrote}
 use Rattle.hf_head.specs.FixedHeads.{SpellsFixed, HasFixedNumbers, cell, fixed_in, fixed_spelled}
@@ -119,6 +119,13 @@ stands_of width limit t m bytes h front spells = record {
 front_wrote : (head old : List ℕ) → length head ≡ 256 → take 256 (wrote 0 head old) ≡ head
 unfolding wrote
 front_wrote head old long = take_at head (drop (0 + length head) old) 256 long
+
+-- what stands at the front already is written
+pub front_same : (x old : List ℕ) → take (length x) old ≡ x → wrote 0 x old ≡ old
+unfolding wrote
+front_same x old is =
+    let front : 0 + length x ≡ length x = omega arith in
+    ap (λ (l : List ℕ). l ++ drop (0 + length x) old) (sym is) ∙ ap (λ (n : ℕ). take (length x) old ++ drop n old) front ∙ take-append-drop (length x) old
 
 module _ (width limit : ℕ) (t : Tally) (m : Array) (head old new : List ℕ) (h : Holds width limit t m old) (long : length head ≡ 256) (is : new ≡ take (end_of width t.greatest) (wrote 0 head old)) where
   first_long : end_of width t.greatest ≤ length (wrote 0 head old)

@@ -1,11 +1,11 @@
 -- What a fixed-length file holds between calls.
-use Rattle.std.specs.Prelude.{◌≡◌, ◌⊎◌, ℕ, ◌<◌, List}
+use Rattle.std.specs.Prelude.{◌≡◌, ◌⊎◌, ℕ, ◌^◌, ◌<◌, ◌≤◌, List, [], length}
 use Rattle.tc_model.specs.Arrays.{Array}
 use Rattle.tc_space.specs.Frames.{In}
 use Rattle.tc_space.specs.declared.space.Space.{Ghosts}
 use Rattle.tc_fixed.specs.declared.fixed.Fixed.{Fixed}
 use Rattle.tc_fixed.specs.declared.tally.Tally.{Tally}
-use Rattle.tc_fixed.specs.Cells.{Fills}
+use Rattle.tc_fixed.specs.Cells.{Fills, end_of}
 use Rattle.tc_fixed.specs.Shapes.{HasShape, most_id}
 use Rattle.tc_fixed.specs.Tallies.{Counts}
 
@@ -41,3 +41,26 @@ module _ {S : Type 0} where
 -- so many bytes pass the file's limit, or the undo log is full
 abbrev pub HasNoRoom : ℕ → Type 0 → ℕ → Type 0
 HasNoRoom limit log_is_full long = (limit < long) ⊎ log_is_full
+
+module _ {S : Type 0} (s : Ghosts S) (space : S) where
+  -- the space may be used, and its file has so many bytes at least
+  pub record ReachesTo (upto : ℕ) : Type 0 where
+    pub sound : s.sound space
+    pub inside : s.tells → upto ≤ length (s.now space 0)
+
+  -- the space may be used, and its file has the cells of that width up to an id
+  pub record HasCellsTo (width last : ℕ) : Type 0 where
+    pub sound : s.sound space
+    pub width_least : 1 ≤ width
+    pub width_most : width ≤ 1048576
+    pub last_most : last ≤ 2 ^ 40
+    pub inside : s.tells → end_of width last ≤ length (s.now space 0)
+
+  -- the space may be used, its file has no bytes, and a fixed-length file may have these numbers
+  pub record MayCreate (width limit : ℕ) : Type 0 where
+    pub sound : s.sound space
+    pub empty : s.tells → s.now space 0 ≡ []
+    pub width_least : 1 ≤ width
+    pub width_most : width ≤ 1048576
+    pub limit_least : 512 ≤ limit
+    pub limit_most : limit ≤ 2 ^ 40

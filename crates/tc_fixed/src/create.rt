@@ -1,11 +1,11 @@
 //! A file made anew.
-ghost use Rattle.std.specs.Prelude.{◌≡◌, ◌⊎◌, ◌≤◌, ◌^◌, List, [], take, IfOk, OnOk, OnErr, IsErrOf, false};
+ghost use Rattle.std.specs.Prelude.{◌≡◌, take, IfOk, OnOk, OnErr, IsErrOf, false};
 ghost use Rattle.std.specs.FinMap.{empty};
 ghost use Rattle.tc_io.specs.Causes.{Rose};
 ghost use Rattle.tc_space.specs.Frames.{Keeps, OnlyReads, Others};
 ghost use Rattle.tc_space.specs.Stores.{Only};
 ghost use Rattle.hf_head.specs.FixedHeads.{fixed_in};
-ghost use Rattle.tc_fixed.specs.Holding.{HasNoRoom, Means};
+ghost use Rattle.tc_fixed.specs.Holding.{HasNoRoom, MayCreate, Means};
 ghost use Rattle.tc_fixed.specs.Settling.{new_head};
 ghost use Rattle.tc_fixed.specs.Shapes.{most_id};
 ghost use Rattle.tc_fixed.specs.Standing.{Stands};
@@ -22,10 +22,7 @@ impl<S: Space> Fixed<S> {
     /// Makes an empty file a fixed-length file without ids, for values of at most a width from 1 to 1,048,576, with a limit of its size from 512
     /// to 2^40. After a refusal the space isn't sound.
     pub fn create(alloc: Global, space: &mut S, width: u32, limit: u64) -> Result<Fixed<S>, RecErr>
-        requires sound { S.sound space.old }
-        requires empty { S.tells → S.now space.old 0 ≡ [] }
-        requires width { (1 ≤ width) × (width ≤ 1048576) }
-        requires limit { (512 ≤ limit) × (limit ≤ 2 ^ 40) }
+        requires may { MayCreate S.Space space.old width limit }
         ensures shape { IfOk result (λ f. (f.width ≡ width) × (f.limit ≡ limit)) }
         ensures created { IfOk result (λ f. S.sound space.new × Others S.Space (Only 0) space.old space.new × (S.tells → Means S.Space f space.new empty)) }
         ensures stands { OnOk result (S.tells → Stands (S.now space.new 0) width (most_id width limit) empty) }

@@ -1,9 +1,10 @@
 //! Cells looked at.
-ghost use Rattle.std.specs.Prelude.{◌≡◌, ◌+◌, ◌^◌, ◌≤◌, length, IfOk, OnOk, IsErrOf};
+ghost use Rattle.std.specs.Prelude.{◌≡◌, ◌+◌, ◌≤◌, length, IfOk, OnOk, IsErrOf};
 ghost use Rattle.tc_io.specs.Causes.{Rose, HasCause};
 ghost use Rattle.tc_space.specs.Frames.{OnlyReads};
 ghost use Rattle.tc_window.specs.Windows.{Shows};
-ghost use Rattle.tc_fixed.specs.Cells.{cell_at, end_of, size_len};
+ghost use Rattle.tc_fixed.specs.Cells.{cell_at, size_len};
+ghost use Rattle.tc_fixed.specs.Holding.{HasCellsTo};
 ghost use Rattle.tc_fixed.specs.Looks.{Sees};
 
 use crate::cells::{Look, cell_len, look_in, place, size_len};
@@ -17,10 +18,8 @@ const PIECE: u64 = 4096;
 
 // What the front of the cell of an id tells, read into bytes that are as many.
 fn read_look<S: Space>(space: &mut S, width: u32, id: u64, into: &mut [u8]) -> Result<Look, Fault>
-    requires sound { S.sound space.old }
-    requires width { (1 ≤ width) × (width ≤ 1048576) }
-    requires id { (1 ≤ id) × (id ≤ 2 ^ 40) }
-    requires inside { S.tells → end_of width id ≤ length (S.now space.old 0) }
+    requires cells { HasCellsTo S.Space space.old width id }
+    requires some { 1 ≤ id }
     requires front { length into.old ≡ size_len width + 1 }
     ensures sees { IfOk result (λ look. S.tells → Sees width look (cell_at width id (S.now space.old 0))) }
     ensures reads { OnlyReads S.Space space.old space.new }
@@ -34,10 +33,8 @@ fn read_look<S: Space>(space: &mut S, width: u32, id: u64, into: &mut [u8]) -> R
 
 /// What the front of the cell of an id tells, by one small read.
 pub fn look_at<S: Space>(space: &mut S, width: u32, id: u64) -> Result<Look, Fault>
-    requires sound { S.sound space.old }
-    requires width { (1 ≤ width) × (width ≤ 1048576) }
-    requires id { (1 ≤ id) × (id ≤ 2 ^ 40) }
-    requires inside { S.tells → end_of width id ≤ length (S.now space.old 0) }
+    requires cells { HasCellsTo S.Space space.old width id }
+    requires some { 1 ≤ id }
     ensures sees { IfOk result (λ look. S.tells → Sees width look (cell_at width id (S.now space.old 0))) }
     ensures reads { OnlyReads S.Space space.old space.new }
     ensures cause { HasCause (S.faults space.old) (S.faults space.new) result }
@@ -63,10 +60,8 @@ pub fn look<S: Space>(
     width: u32,
     id: u64,
 ) -> Result<Look, ReadErr>
-    requires sound { S.sound space.old }
-    requires width { (1 ≤ width) × (width ≤ 1048576) }
-    requires id { (1 ≤ id) × (id ≤ 2 ^ 40) }
-    requires inside { S.tells → end_of width id ≤ length (S.now space.old 0) }
+    requires cells { HasCellsTo S.Space space.old width id }
+    requires some { 1 ≤ id }
     requires shows { S.tells → Shows window.old (S.now space.old 0) }
     ensures sees { IfOk result (λ look. S.tells → Sees width look (cell_at width id (S.now space.old 0))) }
     ensures shows { OnOk result (S.tells → Shows window.new (S.now space.old 0)) }

@@ -4,7 +4,7 @@ ghost use Rattle.tc_io.specs.Causes.{Rose};
 ghost use Rattle.hf_head.specs.FixedHeads.{HasFixedNumbers, SpellsFixed};
 ghost use Rattle.tc_model.specs.Arrays.{Array};
 ghost use Rattle.tc_space.specs.Frames.{OnlyReads};
-ghost use Rattle.tc_fixed.specs.Holding.{Means, max_id_of};
+ghost use Rattle.tc_fixed.specs.Holding.{ReachesTo, Means, max_id_of};
 ghost use Rattle.tc_fixed.specs.Cells.{cell_at};
 ghost use Rattle.tc_fixed.specs.Looks.{Sees};
 ghost use Rattle.tc_fixed.specs.Opening.{Breaks, IsCountedTo, NamesFile, WasCounted, broken_at};
@@ -47,10 +47,9 @@ fn head_of(bytes: &[u8; 256]) -> Option<FixedHead>
     }
 }
 
-// Fills `into` with the first bytes of the file.
-fn read_front<S: Space>(space: &mut S, into: &mut [u8; 256]) -> Result<(), Fault>
-    requires sound { S.sound space.old }
-    requires long { S.tells → 256 ≤ length (S.now space.old 0) }
+/// Fills `into` with the first bytes of the file.
+pub fn read_front<S: Space>(space: &mut S, into: &mut [u8; 256]) -> Result<(), Fault>
+    requires reaches { ReachesTo S.Space space.old 256 }
     ensures bytes { OnOk result (S.tells → into.new ≡ take 256 (S.now space.old 0)) }
     ensures reads { OnlyReads S.Space space.old space.new }
     ensures cause { OnErr result (Rose (S.faults space.old) (S.faults space.new)) }

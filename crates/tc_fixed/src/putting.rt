@@ -7,7 +7,7 @@ ghost use Rattle.tc_space.specs.Effects.{Changes};
 ghost use Rattle.tc_space.specs.Frames.{Keeps, OnlyReads, Refuses, Writes};
 ghost use Rattle.tc_space.specs.Stores.{IsReady, Only};
 ghost use Rattle.tc_fixed.specs.Cells.{end_of, with_cell};
-ghost use Rattle.tc_fixed.specs.Holding.{HasNoRoom, Means, SameShape, max_id_of};
+ghost use Rattle.tc_fixed.specs.Holding.{HasCellsTo, HasNoRoom, Means, SameShape, max_id_of};
 
 use crate::cells::{place, spell};
 use crate::fixed::Fixed;
@@ -25,12 +25,9 @@ fn write_cell<S: Space>(
     id: u64,
     bytes: &[u8],
 ) -> Result<(), RecErr>
-    requires sound { S.sound space.old }
-    requires width { (1 ≤ width) × (width ≤ 1048576) }
+    requires cells { HasCellsTo S.Space space.old width last }
     requires id { (1 ≤ id) × (id ≤ 2 ^ 40) }
-    requires last { last ≤ 2 ^ 40 }
     requires cell { length bytes.now ≡ cell width }
-    requires inside { S.tells → end_of width last ≤ length (S.now space.old 0) }
     ensures wrote { OnOk result (S.tells → Changes S.now 0 (with_cell width last id bytes.now (S.now space.old 0)) space.old space.new) }
     ensures sound { OnOk result (S.sound space.new) }
     ensures refused { OnErr result ((S.flag space.new ≡ false) ⊎ OnlyReads S.Space space.old space.new) }

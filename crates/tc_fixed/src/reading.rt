@@ -1,13 +1,13 @@
 //! Values read.
-ghost use Rattle.std.specs.Prelude.{◌≡◌, ◌+◌, ◌^◌, ◌≤◌, length, IfOk, IfSome, OnOk, IsErrOf, option_map};
+ghost use Rattle.std.specs.Prelude.{◌≡◌, ◌+◌, ◌≤◌, length, IfOk, IfSome, OnOk, IsErrOf, option_map};
 ghost use Rattle.std.specs.FinMap.{get};
 ghost use Rattle.tc_io.specs.Causes.{Rose, HasCause};
 ghost use Rattle.tc_model.specs.Arrays.{Array};
 ghost use Rattle.tc_space.specs.Frames.{Keeps, OnlyReads, Reads};
 ghost use Rattle.tc_space.specs.Stores.{IsReady};
 ghost use Rattle.hf_head.specs.FixedHeads.{cell};
-ghost use Rattle.tc_fixed.specs.Cells.{cell_at, end_of};
-ghost use Rattle.tc_fixed.specs.Holding.{Means, SameShape};
+ghost use Rattle.tc_fixed.specs.Cells.{cell_at};
+ghost use Rattle.tc_fixed.specs.Holding.{HasCellsTo, Means, SameShape};
 
 use crate::cells::{Look, cell_len, place, value_of};
 use crate::fixed::Fixed;
@@ -18,10 +18,8 @@ use tc_space::{RecErr, Space};
 
 // Makes bytes those of the cell of an id.
 fn read_cell<S: Space>(space: &mut S, width: u32, id: u64, into: &mut Vec<u8>) -> Result<(), RecErr>
-    requires sound { S.sound space.old }
-    requires width { (1 ≤ width) × (width ≤ 1048576) }
-    requires id { (1 ≤ id) × (id ≤ 2 ^ 40) }
-    requires inside { S.tells → end_of width id ≤ length (S.now space.old 0) }
+    requires cells { HasCellsTo S.Space space.old width id }
+    requires some { 1 ≤ id }
     ensures long { OnOk result (length into.new.items ≡ cell width) }
     ensures bytes { OnOk result (S.tells → into.new.items ≡ cell_at width id (S.now space.old 0)) }
     ensures reads { OnlyReads S.Space space.old space.new }

@@ -4,7 +4,7 @@ ghost use Rattle.tc_base.specs.Files.{wrote};
 ghost use Rattle.tc_io.specs.Causes.{Rose, HasCause};
 ghost use Rattle.tc_space.specs.Effects.{Changes, Outcome};
 ghost use Rattle.tc_space.specs.Frames.{Keeps, OnlyReads};
-ghost use Rattle.tc_fixed.specs.Holding.{HasNoRoom};
+ghost use Rattle.tc_fixed.specs.Holding.{HasNoRoom, ReachesTo};
 
 use std::alloc::Global;
 use tc_base::Fault;
@@ -18,8 +18,7 @@ const PIECE: u64 = 65_536;
 
 /// Fills the bytes with those of the file from a place on.
 pub fn read_at<S: Space>(space: &mut S, at: u64, into: &mut [u8]) -> Result<(), Fault>
-    requires sound { S.sound space.old }
-    requires inside { S.tells → at + length into.old ≤ length (S.now space.old 0) }
+    requires reaches { ReachesTo S.Space space.old (at + length into.old) }
     ensures bytes { OnOk result (S.tells → into.new ≡ take (length into.old) (drop at (S.now space.old 0))) }
     ensures reads { OnlyReads S.Space space.old space.new }
     ensures cause { HasCause (S.faults space.old) (S.faults space.new) result }
@@ -29,8 +28,7 @@ pub fn read_at<S: Space>(space: &mut S, at: u64, into: &mut [u8]) -> Result<(), 
 
 /// Writes bytes over the file from a place on. After a refusal the space isn't sound.
 pub fn write_at<S: Space>(space: &mut S, at: u64, bytes: &[u8]) -> Result<(), RecErr>
-    requires sound { S.sound space.old }
-    requires inside { S.tells → at ≤ length (S.now space.old 0) }
+    requires reaches { ReachesTo S.Space space.old at }
     ensures wrote { OnOk result (S.tells → Changes S.now 0 (wrote at bytes.now (S.now space.old 0)) space.old space.new) }
     ensures outcome { Outcome S.sound S.flag result space.new }
     ensures keeps { Keeps S.Space space.old space.new }
@@ -45,8 +43,7 @@ pub fn write_at<S: Space>(space: &mut S, at: u64, bytes: &[u8]) -> Result<(), Re
 
 /// Writes bytes over others of the file. After a refusal the space isn't sound.
 pub fn write_over<S: Space>(space: &mut S, at: u64, bytes: &[u8]) -> Result<(), RecErr>
-    requires sound { S.sound space.old }
-    requires inside { S.tells → at + length bytes.now ≤ length (S.now space.old 0) }
+    requires reaches { ReachesTo S.Space space.old (at + length bytes.now) }
     ensures wrote { OnOk result (S.tells → Changes S.now 0 (wrote at bytes.now (S.now space.old 0)) space.old space.new) }
     ensures outcome { Outcome S.sound S.flag result space.new }
     ensures keeps { Keeps S.Space space.old space.new }
@@ -79,8 +76,7 @@ pub fn cut_to<S: Space>(space: &mut S, len: u64) -> Result<(), RecErr>
 
 // The same, with as many of these zeros at a time as there are.
 fn write_zeros<S: Space>(space: &mut S, from: u64, to: u64, zeros: &[u8]) -> Result<(), RecErr>
-    requires sound { S.sound space.old }
-    requires inside { S.tells → from ≤ length (S.now space.old 0) }
+    requires reaches { ReachesTo S.Space space.old from }
     requires on { from ≤ to }
     requires some { 1 ≤ length zeros.now }
     requires zeros { zeros.now ≡ replicate (length zeros.now) 0 }
@@ -103,8 +99,7 @@ fn write_zeros<S: Space>(space: &mut S, from: u64, to: u64, zeros: &[u8]) -> Res
 
 /// Writes zeros from a place up to another. After a refusal the space isn't sound, or nothing has changed.
 pub fn clear_up_to<S: Space>(alloc: Global, space: &mut S, from: u64, to: u64) -> Result<(), RecErr>
-    requires sound { S.sound space.old }
-    requires inside { S.tells → from ≤ length (S.now space.old 0) }
+    requires reaches { ReachesTo S.Space space.old from }
     ensures wrote { OnOk result (S.tells → Changes S.now 0 (wrote from (replicate (to - from) 0) (S.now space.old 0)) space.old space.new) }
     ensures sound { OnOk result (S.sound space.new) }
     ensures refused { OnErr result ((S.flag space.new ≡ false) ⊎ OnlyReads S.Space space.old space.new) }
@@ -122,4 +117,13 @@ pub fn clear_up_to<S: Space>(alloc: Global, space: &mut S, from: u64, to: u64) -
         Ok(()) => Ok(()),
         Err(e) => Err(e),
     }
+}
+
+/// Gives the space up: it isn't sound any more.
+pub fn give_up<S: Space>(space: &mut S)
+    ensures spoiled { S.flag space.new ≡ false }
+    ensures keeps { Keeps S.Space space.old space.new }
+    ensures faults { S.faults space.new ≡ S.faults space.old }
+{
+    space.spoil();
 }

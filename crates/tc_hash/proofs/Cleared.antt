@@ -16,7 +16,7 @@ use Rattle.tc_base.specs.Files.{Files}
 use Rattle.tc_space.specs.Effects.{Changes}
 use Rattle.tc_space.specs.Ranges.{IsDataFile}
 use Rattle.tc_space.specs.declared.space.Space.{Ghosts}
-use Rattle.tc_hash.specs.Creating.{IsNew, MayBe}
+use Rattle.tc_hash.specs.Creating.{AreZeros, IsNew, MayBe}
 use Rattle.tc_hash.specs.Fields.{HasFields}
 use Rattle.tc_hash.specs.Holding.{Holds}
 use Rattle.tc_hash.proofs.Created.{create_brought, new_bytes, new_fields, zeros_are}
@@ -62,8 +62,8 @@ same_options (suc (suc a)) b p q e = absurd (omega (arith, p))
 same_options zero (suc (suc b)) p q e = absurd (omega (arith, q))
 same_options (suc zero) (suc (suc b)) p q e = absurd (omega (arith, q))
 
-pub some_zeros : (z : List ℕ) (n : ℕ) → 0 < n → z ≡ replicate n 0 → (0 < length z) × (z ≡ replicate (length z) 0)
-some_zeros z n some e = let long = ap length e in let all = length-replicate {A = ℕ} n 0 in (omega (arith, some, long, all), zeros_are z n e)
+pub some_zeros : (z : List ℕ) (n : ℕ) → 0 < n → z ≡ replicate n 0 → AreZeros z
+some_zeros z n some e = let long = ap length e in let all = length-replicate {A = ℕ} n 0 in record { some = omega (arith, some, long, all); are = zeros_are z n e }
 
 pub changes_twice : {S : Type 0} (now : S → Files) (file : ℕ) (x y : List ℕ) (a b c : S) → Changes now file x a b → Changes now file y b c → Changes now file y a c
 changes_twice now file x y a b c first second = record { here = second.here; others = λ g ne. second.others g ne ∙ first.others g ne }

@@ -27,3 +27,4 @@ pub mod Cleared
 pub mod Unbroken
 pub mod Enlarged
 pub mod Packed
+pub mod Tight

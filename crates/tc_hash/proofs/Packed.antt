@@ -5,7 +5,7 @@ use Rattle.tc_base.specs.Maps.{Map}
 use Rattle.tc_base.specs.declared.kind.Form.{Form}
 use Rattle.tc_base.specs.declared.kind.Form.TheVariants as form
 use Rattle.tc_space.specs.Changes.{same}
-use Rattle.tc_space.specs.Frames.{In, OnlyReads, Others, Refuses, Writes}
+use Rattle.tc_space.specs.Frames.{In, OnlyReads, Refuses, Writes}
 use Rattle.tc_space.specs.Stores.{FullBy, Only}
 use Rattle.tc_space.specs.declared.space.Space.{Ghosts}
 use Rattle.hf_head.specs.declared.head.Head.{Head}
@@ -25,7 +25,7 @@ use Rattle.tc_hash.specs.declared.hash.Hash.{Hash}
 use Rattle.tc_hash.specs.Holding.{Holds}
 use Rattle.tc_hash.specs.Keeping.{file_of, holds}
 use Rattle.tc_hash.specs.Packing.{fills_any, fills_packing}
-use Rattle.tc_hash.specs.Settling.{Brought, head_now}
+use Rattle.tc_hash.specs.Settling.{Settles, head_now}
 use Rattle.tc_hash.proofs.Kept.{links_head}
 
 abbrev Packing : Head → ℕ → List ℕ → List ℕ → Type 0
@@ -68,11 +68,11 @@ module _ {S : Type 0} (s : Ghosts S) where
   full_any v form.Large a b full = record { by = λ m w. inr (full.by m w) }
 
   -- what is held in memory was brought to the file
-  pub settled_same : (v v' : Hash S) (a b : S) → v'.file ≡ v.file → s.sound b × Others s (Only v.file) a b → (s.tells → (m : Map) → Holds v.head v.pool.size (frees_in v.pool) v.records m (s.now a v.file) → Brought v'.head v'.pool.size (frees_in v'.pool) v'.records v'.region m (s.now b v.file)) → Writes s (Only (file_of v)) (In s file_of holds) same v v' a b
-  settled_same v v' a b file done brought = record {
-    sound = done.0;
-    means = λ m w. (w.0, subst (λ (f : ℕ). holds v' (s.now b f) m) (sym file) (brought w.0 m w.1).holds);
-    others = done.1;
+  pub settled_same : (v v' : Hash S) (a b : S) → v'.file ≡ v.file → Settles s v v' a b → Writes s (Only (file_of v)) (In s file_of holds) same v v' a b
+  settled_same v v' a b file done = record {
+    sound = done.sound;
+    means = λ m w. (w.0, subst (λ (f : ℕ). holds v' (s.now b f) m) (sym file) (done.brought w.0 m w.1).holds);
+    others = done.others;
   }
 
   -- nothing was written, and free blocks at the end may have been dropped

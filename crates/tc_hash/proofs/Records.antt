@@ -26,9 +26,11 @@ use Rattle.hf_tree.specs.declared.parent.Found.TheVariants.{Here, Gap}
 use Rattle.hf_tree.specs.Keys.{Key}
 use Rattle.tc_hash.specs.declared.hash.Hash.{Hash}
 use Rattle.tc_hash.specs.Asking.{value_most}
+use Rattle.tc_hash.specs.Changing.{MayChange}
 use Rattle.tc_hash.specs.Holding.{HasMap, Holds, IsReadable, IsSearched}
 use Rattle.tc_hash.specs.Keeping.{file_of, holds}
 use Rattle.tc_hash.proofs.Finding.{here_record, gap_none}
+use Rattle.tc_hash.proofs.Valid.{is_data, is_valid}
 
 -- ---- what is held
 
@@ -54,6 +56,16 @@ module _ {S : Type 0} (s : Ghosts S) where
 
   pub refuses_only : (v v' : Hash S) (a b : S) → v'.file ≡ v.file → v'.head ≡ v.head → v'.records ≡ v.records → (s.flag b ≡ false) ⊎ (OnlyReads s a b × (v'.pool ≡ v.pool)) → Refuses s (In s file_of holds) v v' a b
   refuses_only v v' a b ef eh er r = ⊎_elim (λ f. inl f) (λ o. inr (reads_only v v' a b ef eh o.1 er o.0)) r
+
+  -- its records may be changed
+  pub may_change : (v : Hash S) (a : S) → IsReady s (In s file_of holds) v a → MayChange s a v.file v.head v.pool
+  may_change v a ready = record {
+    sound = ready.sound;
+    data_file = is_data v.file v.data;
+    valid = is_valid v.head v.valid;
+    unit_is = v.unit_is;
+    held = λ t. let w = ready.held t in (w.0, w.1.1.has);
+  }
 
   -- it may be called again
   pub still_ready : (v : Hash S) (a b : S) → OnlyReads s a b → IsReady s (In s file_of holds) v a → IsReady s (In s file_of holds) v b

@@ -2,6 +2,7 @@ pub mod Costs
 pub mod Asking
 pub mod Filling
 pub mod Moves
+pub mod Changing
 pub mod Fields
 pub mod Holding
 pub mod Keeping

@@ -1,5 +1,5 @@
 -- The steps of a put and of an out.
-use Rattle.std.specs.Prelude.{◌≡◌, ◌⊎◌, ℕ, ◌+◌, ◌^◌, ◌≤◌, ◌<◌, ◌%◌, List, Some, None, if◌then◌else◌, ◌==◌, take}
+use Rattle.std.specs.Prelude.{◌≡◌, ◌⊎◌, ℕ, ◌+◌, ◌^◌, ◌≤◌, ◌<◌, ◌%◌, List, length, Some, None, if◌then◌else◌, ◌==◌, take}
 use Rattle.hf_head.specs.declared.head.Head.{Head}
 use Rattle.hf_block.specs.Pieces.{Record, Piece, IsSize, IsWhole, held, spell, size_of}
 use Rattle.hf_layout.specs.Frees.{Frees, MeetsNone, none}
@@ -24,7 +24,7 @@ pub record Added (unit first end : ℕ) (old : List Piece) (free : Frees) (place
   pub now : Replaced unit first end old free place r before bytes
   pub fresh : record_at first old place ≡ None
 
--- a record may be written over a block that isn't the pool's
+-- a record may be written over a block that isn't the pool's, in which it has room
 pub record MayReplace (unit end : ℕ) (free : Frees) (at size : ℕ) (new bytes : List ℕ) : Type 0 where
   pub first : ℕ
   pub pieces : List Piece
@@ -35,6 +35,7 @@ pub record MayReplace (unit end : ℕ) (free : Frees) (at size : ℕ) (new bytes
   pub aligned : first % unit ≡ 0
   pub is : new ≡ spell (held r)
   pub whole : IsWhole unit (held r)
+  pub few : length new ≤ size
 
 -- a block that may be given back
 pub record IsWithin (unit end : ℕ) (free : Frees) (at size long : ℕ) : Type 0 where

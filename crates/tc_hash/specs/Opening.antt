@@ -8,6 +8,8 @@ use Rattle.hf_block.specs.Pieces.{Piece, IsFilled, placed}
 use Rattle.hf_block.specs.Walks.{between}
 use Rattle.hf_block.specs.declared.walking.WalkErr.{WalkErr}
 use Rattle.hf_block.specs.declared.walking.WalkErr.TheVariants as walk
+use Rattle.tc_space.specs.Ranges.{IsDataFile}
+use Rattle.tc_space.specs.declared.space.Space.{Ghosts}
 use Rattle.tc_space.specs.declared.errors.OpenErr.{OpenErr}
 use Rattle.tc_space.specs.declared.errors.OpenErr.TheVariants as open_err
 use Rattle.hf_layout.specs.Frees.{Frees, none}
@@ -24,6 +26,13 @@ pub record HasHead (kind : ℕ) (bytes : List ℕ) (h : Head) : Type 0 where
   pub valid : IsValid h
   pub spells : Spells h (take 256 bytes)
   pub kind_is : h.kind ≡ kind
+
+-- the space may be used, and this is a data file with that head
+pub record HasHeadIn {S : Type 0} (s : Ghosts S) (space : S) (file : ℕ) (h : Head) : Type 0 where
+  pub sound : s.sound space
+  pub data_file : IsDataFile file
+  pub valid : IsValid h
+  pub is : s.tells → HasHead h.kind (s.now space file) h
 
 -- whole blocks with chains of the file's width stand from the first one up to the file size
 abbrev pub FillsUp : Head → List ℕ → List Piece → Type 0

@@ -1,5 +1,5 @@
 -- A file packed: written anew in the large form, or in the form that it has.
-use Rattle.std.specs.Prelude.{◌≡◌, ◌⊎◌, ℕ, true, List, [], ◌∷◌, length, map, Some, None}
+use Rattle.std.specs.Prelude.{◌≡◌, ◌⊎◌, ℕ, true, List, [], ◌∷◌, length, map, take, Some, None}
 use Rattle.std.specs.FinMap.{get, insert}
 use Rattle.tc_base.specs.Maps.{Map}
 use Rattle.tc_base.specs.declared.kind.Form.{Form}
@@ -8,12 +8,14 @@ use Rattle.tc_base.specs.declared.seq.Pair.{Pair}
 use Rattle.tc_space.specs.Stores.{StaysMap}
 use Rattle.tc_space.specs.declared.space.Space.{Ghosts}
 use Rattle.hf_head.specs.declared.head.Head.{Head}
-use Rattle.hf_head.specs.Heads.{unit}
+use Rattle.hf_head.specs.Heads.{head_in, unit}
+use Rattle.hf_block.specs.Pieces.{Piece}
 use Rattle.hf_block.specs.Written.{block_len}
 use Rattle.hf_layout.specs.Frees.{Frees}
+use Rattle.hf_layout.specs.Layout.{frees_of}
 use Rattle.hf_pool.specs.declared.pool.Pool.{Pool}
 use Rattle.hf_pool.specs.Pools.{frees, TakesFree, Grows}
-use Rattle.hf_tree.specs.Links.{width}
+use Rattle.hf_tree.specs.Links.{HasBlocks, width}
 use Rattle.tc_hash.specs.declared.hash.Hash.{Hash}
 use Rattle.tc_hash.specs.Creating.{HasNoRoom, IsNew}
 use Rattle.tc_hash.specs.Keeping.{fills, file_of, gets_of, region_of}
@@ -23,6 +25,20 @@ use Rattle.tc_hash.specs.Moves.{IsRefusedFor}
 pub record Packs {S : Type 0} (options : ℕ) (h : Hash S) : Type 0 where
   pub nothing : (q : ℕ) → frees h.pool q ≡ None
   pub options_is : h.head.options ≡ options
+
+-- of this form, with no free block
+pub record IsTight {S : Type 0} (f : Form) (h : Hash S) : Type 0 where
+  pub nothing : (q : ℕ) → frees h.pool q ≡ None
+  pub large : f ≡ form.Large → h.head.options ≡ 1
+
+-- a file of this form whose blocks are all those of records
+pub record IsPacked (f : Form) (bytes : List ℕ) : Type 0 where
+  pub head : Head
+  pub pieces : List Piece
+  pub in_front : head_in (take 256 bytes) ≡ head
+  pub blocks : HasBlocks head head.size pieces bytes
+  pub none_free : (q : ℕ) → frees_of head.first pieces q ≡ None
+  pub large : f ≡ form.Large → head.options ≡ 1
 
 -- the file, the region and the count of gets stay, and so do the numbers of the file
 pub record StaysNumbered {S : Type 0} (old new : Hash S) : Type 0 where

@@ -8,6 +8,11 @@ use Rattle.hf_pool.specs.Sections.{InOrder, section_bytes}
 use Rattle.hf_block.specs.Walks.{between}
 use Rattle.hf_tree.specs.Links.{array, width}
 use Rattle.tc_base.specs.Maps.{Map}
+use Rattle.tc_space.specs.Frames.{Others}
+use Rattle.tc_space.specs.Stores.{Only}
+use Rattle.tc_space.specs.declared.space.Space.{Ghosts}
+use Rattle.hf_pool.specs.Pools.{frees as frees_in}
+use Rattle.tc_hash.specs.declared.hash.Hash.{Hash}
 use Rattle.tc_hash.specs.Holding.{Holds}
 use Rattle.tc_hash.specs.Standing.{StandsWith}
 
@@ -46,3 +51,10 @@ pub record ChangesFront (h : Head) (size : ℕ) (old new : List ℕ) : Type 0 wh
   pub long : length new ≡ size
   pub entries : array h new ≡ array h old
   pub blocks : between h.first size new ≡ between h.first size old
+
+-- what is held in memory was brought to the file, and other files stay
+pub record Settles {S : Type 0} (s : Ghosts S) (v v' : Hash S) (old new : S) : Type 0 where
+  pub sound : s.sound new
+  pub others : Others s (Only v.file) old new
+  pub brought : s.tells → (m : Map) → Holds v.head v.pool.size (frees_in v.pool) v.records m (s.now old v.file) → Brought v'.head v'.pool.size (frees_in v'.pool) v'.records v'.region m (s.now new v.file)
+  pub front : s.tells → ChangesFront v.head v'.pool.size (s.now old v.file) (s.now new v.file)

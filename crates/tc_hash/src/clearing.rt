@@ -7,7 +7,7 @@ ghost use Rattle.tc_space.specs.Frames.{In, Keeps, Refuses, Writes};
 ghost use Rattle.tc_space.specs.Ranges.{IsDataFile};
 ghost use Rattle.tc_space.specs.Stores.{IsReady, Only, StaysMap};
 ghost use Rattle.hf_head.specs.Heads.{Spells, is_large, spelled};
-ghost use Rattle.tc_hash.specs.Creating.{IsNew};
+ghost use Rattle.tc_hash.specs.Creating.{AreZeros, IsNew};
 ghost use Rattle.tc_hash.specs.Fields.{HasFields};
 ghost use Rattle.tc_hash.specs.Keeping.{file_of, gets_of, holds, region_of, SameShape};
 
@@ -42,7 +42,7 @@ pub(crate) fn write_anew<S: Space>(
 ) -> Result<(), RecErr>
     requires always { (S.sound space.old) × IsDataFile file }
     requires long { 256 ≤ head.now.first }
-    requires zeros { (0 < length zeros.now) × (zeros.now ≡ replicate (length zeros.now) 0) }
+    requires zeros { AreZeros zeros.now }
     ensures wrote { OnOk result (S.tells → Changes S.now file (spelled head.now ++ replicate (head.now.first - 256) 0) space.old space.new) }
     ensures outcome { Outcome S.sound S.flag result space.new }
     ensures keeps { Keeps S.Space space.old space.new }

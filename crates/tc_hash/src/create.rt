@@ -1,19 +1,14 @@
 //! A file made anew.
 ghost use Rattle.std.specs.Prelude.{◌≡◌, ◌⊎◌, ℕ, ◌+◌, ◌*◌, ◌-◌, ◌<◌, ◌≤◌, ◌^◌, ◌++◌, ◌%◌, ◌==◌, List, [], length, replicate, take, IfOk, OnOk, OnErr, IsErrOf, None, false};
-ghost use Rattle.std.specs.FinMap.{empty};
-ghost use Rattle.tc_base.specs.Maps.{Map};
 ghost use Rattle.tc_io.specs.Causes.{Rose};
 ghost use Rattle.tc_space.specs.Effects.{Changes, Outcome};
-ghost use Rattle.tc_space.specs.Frames.{Keeps, OnlyReads, Others};
-ghost use Rattle.tc_space.specs.Ranges.{IsDataFile};
-ghost use Rattle.tc_space.specs.Stores.{Only};
-ghost use Rattle.hf_head.specs.Heads.{Spells, head_in, is_large, sections, spelled, unit};
+ghost use Rattle.tc_space.specs.Frames.{Keeps, OnlyReads};
+ghost use Rattle.hf_head.specs.Heads.{Spells, is_large, sections, spelled, unit};
 ghost use Rattle.hf_layout.specs.Frees.{none};
 ghost use Rattle.hf_layout.specs.Layout.{LaidOut};
 ghost use Rattle.hf_pool.specs.Pools.{frees};
-ghost use Rattle.tc_hash.specs.Creating.{HasNoRoom, IsNew, MayBe};
+ghost use Rattle.tc_hash.specs.Creating.{AreZeros, Creates, EndsAt, HasNoRoom, IsEmptyIn, IsNew, MayBe};
 ghost use Rattle.tc_hash.specs.Fields.{HasFields};
-ghost use Rattle.tc_hash.specs.Settling.{Brought};
 
 use crate::hash::Hash;
 use crate::open::held_open;
@@ -77,9 +72,7 @@ pub(crate) fn new_head(kind: u8, apow: u8, fpow: u8, buckets: u64, large: bool) 
 
 // Adds bytes at the end of a file.
 fn append<S: Space>(space: &mut S, file: u32, at: u64, bytes: &[u8]) -> Result<(), RecErr>
-    requires sound { S.sound space.old }
-    requires file { IsDataFile file }
-    requires end { S.tells → length (S.now space.old file) ≡ at }
+    requires ends { EndsAt S.Space space.old file at }
     ensures wrote { OnOk result (S.tells → Changes S.now file (S.now space.old file ++ bytes.now) space.old space.new) }
     ensures outcome { Outcome S.sound S.flag result space.new }
     ensures keeps { Keeps S.Space space.old space.new }
@@ -100,12 +93,9 @@ fn append_zeros<S: Space>(
     to: u64,
     zeros: &[u8],
 ) -> Result<(), RecErr>
-    requires sound { S.sound space.old }
-    requires file { IsDataFile file }
-    requires end { S.tells → length (S.now space.old file) ≡ from }
+    requires ends { EndsAt S.Space space.old file from }
     requires on { from ≤ to }
-    requires some { 0 < length zeros.now }
-    requires zeros { zeros.now ≡ replicate (length zeros.now) 0 }
+    requires zeros { AreZeros zeros.now }
     ensures wrote { OnOk result (S.tells → Changes S.now file (S.now space.old file ++ replicate (to - from) 0) space.old space.new) }
     ensures outcome { Outcome S.sound S.flag result space.new }
     ensures keeps { Keeps S.Space space.old space.new }
@@ -130,12 +120,9 @@ pub(crate) fn write_new<S: Space>(
     head: &Head,
     zeros: &[u8],
 ) -> Result<(), RecErr>
-    requires sound { S.sound space.old }
-    requires file { IsDataFile file }
-    requires empty { S.tells → S.now space.old file ≡ [] }
+    requires empty { IsEmptyIn S.Space space.old file }
     requires long { 256 ≤ head.now.first }
-    requires some { 0 < length zeros.now }
-    requires zeros { zeros.now ≡ replicate (length zeros.now) 0 }
+    requires zeros { AreZeros zeros.now }
     ensures wrote { OnOk result (S.tells → Changes S.now file (spelled head.now ++ replicate (head.now.first - 256) 0) space.old space.new) }
     ensures outcome { Outcome S.sound S.flag result space.new }
     ensures keeps { Keeps S.Space space.old space.new }
@@ -176,14 +163,10 @@ impl<S: Space> Hash<S> {
         buckets: u64,
         large: bool,
     ) -> Result<Hash<S>, RecErr>
-        requires sound { S.sound space.old }
-        requires file { IsDataFile file }
-        requires empty { S.tells → S.now space.old file ≡ [] }
+        requires empty { IsEmptyIn S.Space space.old file }
         requires numbers { MayBe kind apow fpow buckets }
         ensures file { IfOk result (λ h. (h.file ≡ file) × IsNew kind apow fpow buckets large h.head) }
-        ensures brought { IfOk result (λ h. S.tells → Brought h.head h.pool.size (frees h.pool) h.records h.region empty (S.now space.new file)) }
-        ensures head { IfOk result (λ h. S.tells → head_in (take 256 (S.now space.new file)) ≡ h.head) }
-        ensures created { OnOk result (S.sound space.new × Others S.Space (Only file) space.old space.new) }
+        ensures created { IfOk result (λ h. Creates S.Space file h space.old space.new) }
         ensures refused { OnErr result ((S.flag space.new ≡ false) ⊎ OnlyReads S.Space space.old space.new) }
         ensures keeps { Keeps S.Space space.old space.new }
         ensures full { IsErrOf result RecErr.Full → (h : Head) × IsNew kind apow fpow buckets large h × HasNoRoom (S.limit space.old file) (S.log_full space.new) h.first }

@@ -1,12 +1,11 @@
 //! A block given back.
-ghost use Rattle.std.specs.Prelude.{◌≡◌, ℕ, ◌+◌, ◌%◌, ◌<◌, length, OnOk, IsErrOf, IsTrue};
+ghost use Rattle.std.specs.Prelude.{◌≡◌, ℕ, ◌+◌, ◌%◌, ◌<◌, OnOk, IsErrOf, IsTrue};
 ghost use Rattle.tc_io.specs.Causes.{Rose};
-ghost use Rattle.tc_space.specs.Ranges.{IsDataFile};
 ghost use Rattle.tc_space.specs.Effects.{Outcome};
 ghost use Rattle.tc_space.specs.Frames.{OnlyWrites};
-ghost use Rattle.hf_pool.specs.Pools.{frees, GoesBack};
-ghost use Rattle.tc_hash.specs.Costs.{Edits};
-ghost use Rattle.tc_hash.specs.Moves.{IsWithin, IsGiven};
+ghost use Rattle.hf_pool.specs.Pools.{frees};
+ghost use Rattle.tc_hash.specs.Changing.{GivesBlock, MayGiveBack};
+ghost use Rattle.tc_hash.specs.Moves.{IsWithin};
 
 use crate::spaces::give_up;
 use hf_pool::Pool;
@@ -35,13 +34,9 @@ pub fn give_back<S: Space>(
     at: u64,
     size: u64,
 ) -> Result<(), RecErr>
-    requires sound { S.sound space.old }
-    requires file { IsDataFile file }
-    requires within { S.tells → IsWithin pool.old.unit pool.old.size (frees pool.old) at size (length (S.now space.old file)) }
-    ensures given { OnOk result (IsGiven S.tells (frees pool.old) (frees pool.new) at size (S.now space.old file) (S.now space.new file)) }
-    ensures back { OnOk result (S.tells → GoesBack pool.old.unit (frees pool.old) (frees pool.new) at size (S.now space.old file) (S.now space.new file)) }
-    ensures pool { (pool.new.unit ≡ pool.old.unit) × OnOk result (pool.new.size ≡ pool.old.size) }
-    ensures edits { OnOk result (Edits S.Space file 5 space.old space.new) }
+    requires may { MayGiveBack S.Space space.old file pool.old at size }
+    ensures given { OnOk result (GivesBlock S.Space file pool.old pool.new at size space.old space.new) }
+    ensures unit { pool.new.unit ≡ pool.old.unit }
     ensures outcome { Outcome S.sound S.flag result space.new }
     ensures writes { OnlyWrites S.Space space.old space.new }
     ensures full { IsErrOf result RecErr.Full → S.tells → S.log_full space.new }
@@ -52,5 +47,8 @@ pub fn give_back<S: Space>(
         give_up(space);
         return Err(RecErr::Memory);
     }
-    pool.give(space, file, at, size)
+    match pool.give(space, file, at, size) {
+        Ok(()) => Ok(()),
+        Err(e) => Err(e),
+    }
 }

@@ -19,6 +19,7 @@ mod section;
 mod settle;
 mod sorting;
 mod spaces;
+mod spelling;
 pub mod steps;
 mod storing;
 mod taking;

@@ -8,6 +8,7 @@ ghost use Rattle.tc_space.specs.Ranges.{IsDataFile};
 ghost use Rattle.hf_head.specs.Heads.{IsValid, Spells, head_in, unit};
 ghost use Rattle.hf_block.specs.Pieces.{Piece, placed};
 ghost use Rattle.hf_block.specs.Rows.{StandInRow};
+ghost use Rattle.hf_block.specs.Walks.{HoldsUpTo};
 ghost use Rattle.hf_layout.specs.Frees.{none};
 ghost use Rattle.hf_layout.specs.Layout.{LaidOut, frees_of};
 ghost use Rattle.hf_pool.specs.Pools.{frees};
@@ -17,7 +18,7 @@ ghost use Rattle.tc_hash.specs.Holding.{Holds};
 ghost use Rattle.tc_hash.specs.Sections.{IsListOf, section_of};
 ghost use Rattle.tc_hash.specs.Settling.{section_len};
 ghost use Rattle.tc_hash.specs.Standing.{StandsWith};
-ghost use Rattle.tc_hash.specs.Opening.{Breaks, HasHead, FillsUp, HasListed, IsNoList, WasRead, broken_at, open_of};
+ghost use Rattle.tc_hash.specs.Opening.{Breaks, HasHead, HasHeadIn, FillsUp, HasListed, IsNoList, WasRead, broken_at, open_of};
 
 use crate::hash::Hash;
 use crate::section::{is_list, read_section, section_size};
@@ -68,11 +69,13 @@ fn head_of(bytes: &[u8; 256], kind: u8) -> Option<Head>
     Some(head)
 }
 
-// Fills `into` with the first bytes of the file.
-fn read_front<S: Space>(space: &mut S, file: u32, into: &mut [u8; 256]) -> Result<(), Fault>
-    requires sound { S.sound space.old }
-    requires file { IsDataFile file }
-    requires long { S.tells → 256 ≤ length (S.now space.old file) }
+/// Fills `into` with the first bytes of the file.
+pub(crate) fn read_front<S: Space>(
+    space: &mut S,
+    file: u32,
+    into: &mut [u8; 256],
+) -> Result<(), Fault>
+    requires holds { HoldsUpTo S.Space space.old file 256 }
     ensures bytes { OnOk result (S.tells → into.new ≡ take 256 (S.now space.old file)) }
     ensures reads { OnlyReads S.Space space.old space.new }
     ensures cause { OnErr result (Rose (S.faults space.old) (S.faults space.new)) }
@@ -114,10 +117,7 @@ fn read_blocks<S: Space>(
     file: u32,
     head: &Head,
 ) -> Result<Blocks, OpenErr>
-    requires sound { S.sound space.old }
-    requires file { IsDataFile file }
-    requires head { IsValid head.now }
-    requires is { S.tells → HasHead head.now.kind (S.now space.old file) head.now }
+    requires head { HasHeadIn S.Space space.old file head.now }
     ensures row { IfOk result (λ blocks. StandInRow (unit head.now) head.now.first head.now.size blocks) }
     ensures listed { IfOk result (λ blocks. S.tells → HasListed head.now (S.now space.old file) blocks) }
     ensures broken { IfErr result (λ e. Breaks S.tells head.now.kind file (S.now space.old file) e) }
@@ -143,10 +143,8 @@ fn judge_section<S: Space>(
     pool: &Pool,
     section: &mut [u8],
 ) -> Result<(), OpenErr>
-    requires sound { S.sound space.old }
-    requires file { IsDataFile file }
+    requires holds { HoldsUpTo S.Space space.old file head.now.first }
     requires head { IsValid head.now }
-    requires long { S.tells → head.now.first ≤ length (S.now space.old file) }
     requires size { pool.now.size ≤ 2 ^ 40 }
     requires unit { pool.now.unit ≡ unit head.now }
     requires section { length section.old ≡ section_len head.now }
@@ -172,10 +170,8 @@ fn check_section<S: Space>(
     head: &Head,
     pool: &Pool,
 ) -> Result<(), OpenErr>
-    requires sound { S.sound space.old }
-    requires file { IsDataFile file }
+    requires holds { HoldsUpTo S.Space space.old file head.now.first }
     requires head { IsValid head.now }
-    requires long { S.tells → head.now.first ≤ length (S.now space.old file) }
     requires size { pool.now.size ≤ 2 ^ 40 }
     requires unit { pool.now.unit ≡ unit head.now }
     ensures list { OnOk result (S.tells → IsListOf (unit head.now) (frees pool.now) (section_of head.now (S.now space.old file))) }
@@ -206,10 +202,7 @@ fn read_pool<S: Space>(
     head: &Head,
     blocks: &Blocks,
 ) -> Result<Pool, OpenErr>
-    requires sound { S.sound space.old }
-    requires file { IsDataFile file }
-    requires head { IsValid head.now }
-    requires is { S.tells → HasHead head.now.kind (S.now space.old file) head.now }
+    requires head { HasHeadIn S.Space space.old file head.now }
     requires row { StandInRow (unit head.now) head.now.first head.now.size blocks.now }
     requires listed { S.tells → HasListed head.now (S.now space.old file) blocks.now }
     ensures unit { IfOk result (λ pool. pool.unit ≡ unit head.now) }

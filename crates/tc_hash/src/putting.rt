@@ -1,34 +1,33 @@
 //! A key given a value.
-ghost use Rattle.std.specs.Prelude.{◌≡◌, ℕ, ◌+◌, ◌%◌, ◌^◌, ◌<◌, ◌≤◌, List, length, OnOk, IsErrOf, IsTrue, None};
+ghost use Rattle.std.specs.Prelude.{◌≡◌, ℕ, ◌+◌, ◌%◌, ◌^◌, ◌<◌, ◌≤◌, List, length, OnOk, OnErr, IsErrOf, IsTrue, None, false};
 ghost use Rattle.std.specs.FinMap.{insert};
-ghost use Rattle.tc_base.specs.Maps.{Map};
 ghost use Rattle.tc_io.specs.Causes.{Rose};
 ghost use Rattle.tc_space.specs.Ranges.{IsDataFile};
 ghost use Rattle.tc_space.specs.Effects.{Outcome};
 ghost use Rattle.tc_space.specs.Frames.{OnlyWrites};
-ghost use Rattle.hf_head.specs.Heads.{IsValid, unit};
+ghost use Rattle.hf_head.specs.Heads.{unit};
 ghost use Rattle.hf_block.specs.Pieces.{Record, Piece, held, spell, IsWhole};
 ghost use Rattle.hf_block.specs.Written.{block_len};
 ghost use Rattle.hf_layout.specs.Frees.{none};
 ghost use Rattle.hf_layout.specs.Layout.{HasBlock, LaidOut};
-ghost use Rattle.hf_tree.specs.declared.parent.Parent.{Parent};
 ghost use Rattle.hf_tree.specs.Links.{width};
-ghost use Rattle.hf_tree.specs.declared.parent.Found.TheVariants.{Here, Gap};
+ghost use Rattle.hf_tree.specs.declared.parent.Found.TheVariants.{Gap};
 ghost use Rattle.hf_pool.specs.Pools.{frees};
+ghost use Rattle.tc_hash.specs.Changing.{FitsInto, HasRecordOf, MapsBy, MayChange};
 ghost use Rattle.tc_hash.specs.Costs.{Edits};
-ghost use Rattle.tc_hash.specs.Holding.{HasMap, HasSome, IsSearched};
+ghost use Rattle.tc_hash.specs.Holding.{IsSearched};
 ghost use Rattle.tc_hash.specs.Packing.{Takes};
-ghost use Rattle.tc_hash.specs.Moves.{IsRefusedFor, IsHeadOf, IsBlockAt, MayReplace, Replaced};
+ghost use Rattle.tc_hash.specs.Moves.{IsRefusedFor, MayReplace, Replaced};
 
-use crate::adding::{add_record, wanted};
+use crate::adding::add_record;
 use crate::giving::give_back;
 use crate::spaces::{give_up, write_at};
-use hf_block::write_rec;
+use crate::spelling::spell_record;
 use hf_chain::{Parent, RecHead, hang};
 use hf_head::Head;
 use hf_pool::Pool;
 use std::alloc::Global;
-use tc_base::{Blob, second_hash};
+use tc_base::second_hash;
 use tc_space::{RecErr, Space};
 
 /// Puts a key that isn't held, where it would hang. After a refusal the space isn't sound.
@@ -42,35 +41,22 @@ pub fn put_new<S: Space>(
     value: &[u8],
     to: &Parent,
 ) -> Result<(), RecErr>
-    requires always { (S.sound space.old) × IsDataFile file × IsValid head.now × (pool.old.unit ≡ unit head.now) }
-    requires held { S.tells → HasSome head.now pool.old.size (frees pool.old) (S.now space.old file) }
+    requires may { MayChange S.Space space.old file head.now pool.old }
     requires gap { S.tells → IsSearched head.now key.now (Gap to.now) (S.now space.old file) }
-    ensures put { OnOk result (S.tells → (m : Map) → HasMap head.now pool.old.size (frees pool.old) m (S.now space.old file) → HasMap head.now pool.new.size (frees pool.new) (insert m key.now value.now) (S.now space.new file)) }
-    ensures edits { OnOk result (Edits S.Space file (block_len (width head.now) key.now value.now (unit head.now) + 13) space.old space.new) }
+    ensures put { OnOk result (MapsBy S.Space file head.now (λ m. insert m key.now value.now) (block_len (width head.now) key.now value.now (unit head.now) + 13) pool.old pool.new space.old space.new) }
     ensures pool { (pool.new.unit ≡ pool.old.unit) × OnOk result (Takes pool.old pool.new) }
-    ensures outcome { Outcome S.sound S.flag result space.new }
+    ensures refused { OnErr result (S.flag space.new ≡ false) }
     ensures writes { OnlyWrites S.Space space.old space.new }
     ensures full { IsErrOf result RecErr.Full → S.tells → IsRefusedFor head.now pool.old.size (frees pool.old) (S.limit space.old file) (length (S.now space.new file)) (S.log_full space.new) (block_len (width head.now) key.now value.now (unit head.now)) }
     ensures cause { IsErrOf result RecErr.Fault → Rose (S.faults space.old) (S.faults space.new) }
 {
-    let Some(size) = wanted(head, key, value) else {
-        give_up(space);
-        return Err(RecErr::Full);
-    };
-    let mut bytes = Blob::new(alloc);
     let hash = second_hash(key);
-    let Ok(()) = write_rec(
-        hash,
-        0,
-        0,
-        key,
-        value,
-        head.unit(),
-        head.is_large(),
-        &mut bytes,
-    ) else {
-        give_up(space);
-        return Err(RecErr::Memory);
+    let bytes = match spell_record(alloc, head, hash, 0, 0, key, value) {
+        Ok(bytes) => bytes,
+        Err(e) => {
+            give_up(space);
+            return Err(e);
+        }
     };
     match add_record(space, file, head, pool, bytes.as_slice()) {
         Ok(place) => match hang(space, file, head, place, to) {
@@ -97,9 +83,7 @@ fn write_over<S: Space>(
     old: u64,
     bytes: &[u8],
 ) -> Result<(), RecErr>
-    requires sound { S.sound space.old }
-    requires file { IsDataFile file }
-    requires few { length bytes.now ≤ old }
+    requires always { (S.sound space.old) × IsDataFile file }
     requires may { S.tells → MayReplace pool.old.unit pool.old.size (frees pool.old) at old bytes.now (S.now space.old file) }
     ensures over { OnOk result (S.tells → (first : ℕ) (ps : List Piece) (r : Record) → first % pool.old.unit ≡ 0 → bytes.now ≡ spell (held r) → IsWhole pool.old.unit (held r) → LaidOut pool.old.unit first pool.old.size ps (frees pool.old) none (S.now space.old file) → HasBlock first ps at old → frees pool.old at ≡ None → Replaced pool.old.unit first pool.old.size ps (frees pool.new) at r (S.now space.old file) (S.now space.new file)) }
     ensures pool { (pool.new.unit ≡ pool.old.unit) × OnOk result (pool.new.size ≡ pool.old.size) }
@@ -141,33 +125,22 @@ pub fn put_over<S: Space>(
     rec: &RecHead,
     old: u64,
 ) -> Result<(), RecErr>
-    requires always { (S.sound space.old) × IsDataFile file × IsValid head.now × (pool.old.unit ≡ unit head.now) }
-    requires held { S.tells → HasSome head.now pool.old.size (frees pool.old) (S.now space.old file) }
-    requires here { S.tells → (from : Parent) × IsSearched head.now key.now (Here at from) (S.now space.old file) }
-    requires chains { (rec.now.left < 256 ^ width head.now) × (rec.now.right < 256 ^ width head.now) }
-    requires sized { (block_len (width head.now) key.now value.now (unit head.now) ≤ old) × (block_len (width head.now) key.now value.now (unit head.now) ≤ 2 ^ 30) }
-    requires block { S.tells → IsHeadOf head.now rec.now at (S.now space.old file) × IsBlockAt head.now at old (S.now space.old file) }
-    ensures put { OnOk result (S.tells → (m : Map) → HasMap head.now pool.old.size (frees pool.old) m (S.now space.old file) → HasMap head.now pool.new.size (frees pool.new) (insert m key.now value.now) (S.now space.new file)) }
-    ensures edits { OnOk result (Edits S.Space file (block_len (width head.now) key.now value.now (unit head.now) + 5) space.old space.new) }
+    requires may { MayChange S.Space space.old file head.now pool.old }
+    requires here { S.tells → HasRecordOf head.now key.now rec.now at old (S.now space.old file) }
+    requires fits { FitsInto head.now key.now value.now rec.now old }
+    ensures put { OnOk result (MapsBy S.Space file head.now (λ m. insert m key.now value.now) (block_len (width head.now) key.now value.now (unit head.now) + 5) pool.old pool.new space.old space.new) }
     ensures unit { pool.new.unit ≡ pool.old.unit }
-    ensures outcome { Outcome S.sound S.flag result space.new }
+    ensures refused { OnErr result (S.flag space.new ≡ false) }
     ensures writes { OnlyWrites S.Space space.old space.new }
     ensures full { IsErrOf result RecErr.Full → S.tells → S.log_full space.new }
     ensures cause { IsErrOf result RecErr.Fault → Rose (S.faults space.old) (S.faults space.new) }
 {
-    let mut bytes = Blob::new(alloc);
-    let Ok(()) = write_rec(
-        rec.hash,
-        rec.left,
-        rec.right,
-        key,
-        value,
-        head.unit(),
-        head.is_large(),
-        &mut bytes,
-    ) else {
-        give_up(space);
-        return Err(RecErr::Memory);
+    let bytes = match spell_record(alloc, head, rec.hash, rec.left, rec.right, key, value) {
+        Ok(bytes) => bytes,
+        Err(e) => {
+            give_up(space);
+            return Err(e);
+        }
     };
     match write_over(space, file, pool, at, old, bytes.as_slice()) {
         Ok(()) => Ok(()),

@@ -2,8 +2,8 @@
 ghost use Rattle.std.specs.Prelude.{◌≡◌, ◌≢◌, ℕ, ◌+◌, ◌*◌, ◌<◌, ◌≤◌, ◌^◌, List, length, drop, IfSome, IfNone, OnOk, OnErr, Some, true, false};
 ghost use Rattle.tc_io.specs.Causes.{Rose};
 ghost use Rattle.tc_space.specs.Frames.{OnlyReads};
-ghost use Rattle.tc_space.specs.Ranges.{IsDataFile};
 ghost use Rattle.hf_head.specs.Heads.{IsValid};
+ghost use Rattle.hf_block.specs.Walks.{HoldsUpTo};
 ghost use Rattle.hf_pool.specs.Pools.{frees};
 ghost use Rattle.tc_hash.specs.Sections.{IsEnd, IsListOf, IsNoPair, IsPair, section_of};
 ghost use Rattle.tc_hash.specs.Settling.{section_at, section_len};
@@ -97,10 +97,8 @@ pub fn read_section<S: Space>(
     head: &Head,
     into: &mut [u8],
 ) -> Result<(), Fault>
-    requires sound { S.sound space.old }
-    requires file { IsDataFile file }
+    requires holds { HoldsUpTo S.Space space.old file head.now.first }
     requires head { IsValid head.now }
-    requires long { S.tells → head.now.first ≤ length (S.now space.old file) }
     requires size { length into.old ≡ section_len head.now }
     ensures bytes { OnOk result (S.tells → into.new ≡ section_of head.now (S.now space.old file)) }
     ensures reads { OnlyReads S.Space space.old space.new }

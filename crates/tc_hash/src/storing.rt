@@ -15,17 +15,18 @@ ghost use Rattle.hf_tree.specs.declared.parent.Parent.{Parent};
 ghost use Rattle.hf_tree.specs.declared.parent.Found.TheVariants.{Gap, Here};
 ghost use Rattle.hf_tree.specs.Links.{width};
 ghost use Rattle.hf_chain.specs.Heads.{head_of, HasRecord, IsHeadAt};
+ghost use Rattle.tc_hash.specs.Changing.{FitsInto, HasRecordOf};
 ghost use Rattle.tc_hash.specs.Costs.{Edits};
 ghost use Rattle.tc_hash.specs.Holding.{IsSearched};
 ghost use Rattle.tc_hash.specs.Keeping.{file_of, holds, size_in, GivesValue, LacksBlock, LacksRoom, StaysOpen};
 ghost use Rattle.tc_hash.specs.Packing.{Takes};
 ghost use Rattle.tc_hash.specs.Moves.{IsBlockAt, IsHeadOf};
 
-use crate::adding::wanted;
 use crate::hash::Hash;
 use crate::putting::{put_new, put_over};
 use crate::searching::{block_of, read_value, search};
 use crate::spaces::give_up;
+use crate::spelling::wanted;
 use hf_chain::{Found, Parent, RecHead, read_head};
 use std::alloc::Global;
 use tc_base::{Blob, Mode, Steps};
@@ -177,8 +178,8 @@ impl<S: Space> Hash<S> {
         size: u64,
     ) -> Result<(), RecErr>
         requires ready { IsReady S.Space (In S.Space file_of holds) self.old space.old }
-        requires here { S.tells → ((from : Parent) × IsSearched self.old.head key.now (Here at from) (S.now space.old self.old.file)) × IsHeadOf self.old.head rec.now at (S.now space.old self.old.file) × IsBlockAt self.old.head at size (S.now space.old self.old.file) }
-        requires fits { (rec.now.left < 256 ^ width self.old.head) × (rec.now.right < 256 ^ width self.old.head) × (size_in self.old key.now value.now ≤ size) × (size_in self.old key.now value.now ≤ 2 ^ 30) }
+        requires here { S.tells → HasRecordOf self.old.head key.now rec.now at size (S.now space.old self.old.file) }
+        requires fits { FitsInto self.old.head key.now value.now rec.now size }
         ensures put { OnOk result (GivesValue S.Space Over key.now value.now 34 self.old self.new space.old space.new) }
         ensures outcome { Outcome S.sound S.flag result space.new }
         ensures full { IsErrOf result RecErr.Full → S.tells → S.log_full space.new }

@@ -1,15 +1,11 @@
 //! A record taken out.
 ghost use Rattle.std.specs.Prelude.{◌≡◌, ◌≤◌, ◌⊎◌, false, OnErr, OnOk, IsErrOf};
-ghost use Rattle.std.specs.FinMap.{remove};
-ghost use Rattle.tc_base.specs.Maps.{Map};
 ghost use Rattle.tc_io.specs.Causes.{Rose};
-ghost use Rattle.tc_space.specs.Ranges.{IsDataFile};
+ghost use Rattle.tc_space.specs.Changes.{out_of};
 ghost use Rattle.tc_space.specs.Frames.{Keeps, OnlyReads};
-ghost use Rattle.hf_head.specs.Heads.{IsValid, unit};
 ghost use Rattle.hf_tree.specs.declared.parent.Found.TheVariants.{Here};
-ghost use Rattle.hf_pool.specs.Pools.{frees};
-ghost use Rattle.tc_hash.specs.Costs.{Edits};
-ghost use Rattle.tc_hash.specs.Holding.{HasMap, HasSome, IsSearched};
+ghost use Rattle.tc_hash.specs.Changing.{MapsBy, MayChange};
+ghost use Rattle.tc_hash.specs.Holding.{IsSearched};
 ghost use Rattle.tc_hash.specs.Moves.{Gives, IsBlockAt};
 
 use crate::giving::give_back;
@@ -32,14 +28,10 @@ pub fn take_out<S: Space, L>(
     size: u64,
     steps: &mut Steps<L>,
 ) -> Result<(), RecErr>
-    requires always { (S.sound space.old) × IsDataFile file × IsValid head.now × (pool.old.unit ≡ unit head.now) }
-    requires held { S.tells → HasSome head.now pool.old.size (frees pool.old) (S.now space.old file) }
-    requires here { S.tells → IsSearched head.now key.now (Here at from.now) (S.now space.old file) }
-    requires block { S.tells → IsBlockAt head.now at size (S.now space.old file) }
-    ensures out { OnOk result (S.tells → (m : Map) → HasMap head.now pool.old.size (frees pool.old) m (S.now space.old file) → HasMap head.now pool.new.size (frees pool.new) (remove m key.now) (S.now space.new file)) }
+    requires may { MayChange S.Space space.old file head.now pool.old }
+    requires here { S.tells → IsSearched head.now key.now (Here at from.now) (S.now space.old file) × IsBlockAt head.now at size (S.now space.old file) }
+    ensures out { OnOk result (MapsBy S.Space file head.now (out_of key.now) 21 pool.old pool.new space.old space.new) }
     ensures pool { (pool.new.unit ≡ pool.old.unit) × OnOk result (Gives pool.old pool.new) }
-    ensures edits { OnOk result (Edits S.Space file 21 space.old space.new) }
-    ensures sound { OnOk result (S.sound space.new) }
     ensures refused { OnErr result ((S.flag space.new ≡ false) ⊎ (OnlyReads S.Space space.old space.new × (pool.new ≡ pool.old))) }
     ensures keeps { Keeps S.Space space.old space.new }
     ensures rises { steps.old ≤ steps.new }

@@ -25,6 +25,10 @@ impl<S: Space> Engine for FixedEngine<S> {
 
     ghost lines = { λ files text. Lines files text };
 
+    ghost tight = { λ e form. Unit {0} };
+
+    ghost packed = { λ form files. Unit {0} };
+
     ghost no_table = { λ e files c holds. never_table e files c holds };
 
     ghost apart = { λ e f g c same. moved_apart e f g c same };

@@ -4,8 +4,8 @@ use Rattle.tc_fixed.proofs.Celled.{ends_at}
 use Rattle.tc_fixed.proofs.Filled.{cell_inside}
 use Rattle.tc_fixed.proofs.putting.write_cell.Goals as goal
 
-pub write_at-requires-clause-inside : goal.write_at-requires-clause-inside
-write_at-requires-clause-inside g c = λ t. cell_inside c.args.width c.args.last c.args.id c.place-at.result c.place.result (g.S.Space.now c.args.space.now 0) _ c.requires.id.0 c.place-at.ensures.value c.place.ensures.value (c.requires.inside t) (c.in-Ok.ensures.wrote t).here
+pub write_at-requires : goal.write_at-requires
+write_at-requires g c = record { reaches = record { sound = c.in-Ok.ensures.sound; inside = λ t. cell_inside c.args.width c.args.last c.args.id c.place-at.result c.place.result (g.S.Space.now c.args.space.now 0) _ c.requires.id.0 c.place-at.ensures.value c.place.ensures.value (c.requires.cells.inside t) (c.in-Ok.ensures.wrote t).here } }
 
 pub returns-in-Err-write_at-clause-full : goal.returns-in-Err-write_at-clause-full
 returns-in-Err-write_at-clause-full g c = λ full. (

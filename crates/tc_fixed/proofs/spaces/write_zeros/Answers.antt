@@ -7,13 +7,13 @@ pub loop-at-init : goal.loop-at-init
 loop-at-init g c = record {
   on = omega arith;
   high = c.requires.on;
-  sound = c.requires.sound;
+  sound = c.requires.reaches.sound;
   keeps = keeps_refl g.S.Space c.args.space.now;
   wrote = λ t. zeros_none g.S.Space.now c.args.space.now c.args.from (c.args.from - c.args.from) (omega arith);
 }
 
-pub write_at-requires-clause-inside : goal.write_at-requires-clause-inside
-write_at-requires-clause-inside g c = λ t. zeros_inside g.S.Space.now c.args.space.now c.loop-at.space c.args.from c.loop-at.at (c.loop-at.invariant.wrote t) c.loop-at.invariant.on (c.requires.inside t)
+pub write_at-requires : goal.write_at-requires
+write_at-requires g c = record { reaches = record { sound = c.loop-at.invariant.sound; inside = λ t. zeros_inside g.S.Space.now c.args.space.now c.loop-at.space c.args.from c.loop-at.at (c.loop-at.invariant.wrote t) c.loop-at.invariant.on (c.requires.reaches.inside t) } }
 
 pub loop-at-preserved : goal.loop-at-preserved
 loop-at-preserved g c =
@@ -25,5 +25,5 @@ loop-at-preserved g c =
       sound = c.in-Ok.ensures.outcome.ok;
       keeps = keeps_then g.S.Space c.args.space.now c.loop-at.space c.write_at.new.space v.keeps c.in-Ok.ensures.keeps;
       wrote = λ t. zeros_then g.S.Space.now c.args.space.now c.loop-at.space c.write_at.new.space c.args.from c.loop-at.at n (take n c.args.zeros.now)
-          (v.wrote t) (c.in-Ok.ensures.wrote t) (zeros_front n (length c.args.zeros.now) c.args.zeros.now c.requires.zeros (omega (arith, c.min-n.ensures))) v.on (c.requires.inside t);
+          (v.wrote t) (c.in-Ok.ensures.wrote t) (zeros_front n (length c.args.zeros.now) c.args.zeros.now c.requires.zeros (omega (arith, c.min-n.ensures))) v.on (c.requires.reaches.inside t);
     }

@@ -5,14 +5,26 @@ use Rattle.tc_hash.specs.Opening.{HasHead, HasListed, WasRead}
 use Rattle.tc_hash.proofs.Opened.{breaks_kind}
 use Rattle.tc_hash.proofs.open.read_parts.Goals as goal
 
-pub read_blocks-requires-clause-is : goal.read_blocks-requires-clause-is
-read_blocks-requires-clause-is g c = λ t. subst (λ (k : ℕ). HasHead k (g.S.Space.now c.load_head.new.space c.args.file) c.in-Ok.head) (sym c.in-Ok.ensures.valid.1) (subst (λ (l : List ℕ). HasHead c.args.kind l c.in-Ok.head) (sym (c.in-Ok.ensures.reads.files t c.args.file)) (c.in-Ok.ensures.head t))
+pub read_blocks-requires : goal.read_blocks-requires
+read_blocks-requires g c = record {
+  head = record {
+    sound = c.in-Ok.ensures.reads.is_sound;
+    data_file = c.requires.file;
+    valid = c.in-Ok.ensures.valid.0;
+    is = λ t. subst (λ (k : ℕ). HasHead k (g.S.Space.now c.load_head.new.space c.args.file) c.in-Ok.head) (sym c.in-Ok.ensures.valid.1) (subst (λ (l : List ℕ). HasHead c.args.kind l c.in-Ok.head) (sym (c.in-Ok.ensures.reads.files t c.args.file)) (c.in-Ok.ensures.head t));
+  };
+}
 
 pub returns-in-Err-read_blocks-clause-broken : goal.returns-in-Err-read_blocks-clause-broken
 returns-in-Err-read_blocks-clause-broken g c = breaks_kind g.S.Space.tells c.in-Ok.head.kind c.args.kind c.args.file (g.S.Space.now c.args.space.now c.args.file) (g.S.Space.now c.load_head.new.space c.args.file) c.in-Err-read_blocks.e c.in-Ok.ensures.valid.1 (λ t. c.in-Ok.ensures.reads.files t c.args.file) c.in-Err-read_blocks.ensures.broken
 
-pub read_pool-requires-clause-is : goal.read_pool-requires-clause-is
-read_pool-requires-clause-is g c = λ t. subst (λ (k : ℕ). HasHead k (g.S.Space.now c.read_blocks.new.space c.args.file) c.in-Ok.head) (sym c.in-Ok.ensures.valid.1) (subst (λ (l : List ℕ). HasHead c.args.kind l c.in-Ok.head) (sym (c.in-Ok-read_blocks.ensures.reads.files t c.args.file ∙ c.in-Ok.ensures.reads.files t c.args.file)) (c.in-Ok.ensures.head t))
+pub read_pool-requires-clause-head : goal.read_pool-requires-clause-head
+read_pool-requires-clause-head g c = record {
+  sound = c.in-Ok-read_blocks.ensures.reads.is_sound;
+  data_file = c.requires.file;
+  valid = c.in-Ok.ensures.valid.0;
+  is = λ t. subst (λ (k : ℕ). HasHead k (g.S.Space.now c.read_blocks.new.space c.args.file) c.in-Ok.head) (sym c.in-Ok.ensures.valid.1) (subst (λ (l : List ℕ). HasHead c.args.kind l c.in-Ok.head) (sym (c.in-Ok-read_blocks.ensures.reads.files t c.args.file ∙ c.in-Ok.ensures.reads.files t c.args.file)) (c.in-Ok.ensures.head t));
+}
 
 pub read_pool-requires-clause-listed : goal.read_pool-requires-clause-listed
 read_pool-requires-clause-listed g c = λ t. subst (λ (l : List ℕ). HasListed c.in-Ok.head l c.in-Ok-read_blocks.blocks) (sym (c.in-Ok-read_blocks.ensures.reads.files t c.args.file)) (c.in-Ok-read_blocks.ensures.listed t)

@@ -20,7 +20,7 @@ returns-then-size-old-clause-over g c = λ t first ps r aligned is whole laid bl
     let before : List ℕ = g.S.Space.now c.args.space.now c.args.file in
     let n = ap length is in
     subst (λ (b : List ℕ). Replaced u first c.args.pool.now.size ps free c.args.at r before b) (sym ((c.in-Ok.ensures.wrote t).here ∙ ap (λ (b : List ℕ). wrote c.args.at b before) is))
-    (over_whole u first c.args.pool.now.size ps free c.args.at c.args.old r before aligned laid block unpooled whole (omega (arith, n, c.if-size-old.true, c.requires.few)))
+    (over_whole u first c.args.pool.now.size ps free c.args.at c.args.old r before aligned laid block unpooled whole (omega (arith, n, c.if-size-old.true, (c.requires.may t).few)))
 
 pub returns-then-size-old-clause-edits : goal.returns-then-size-old-clause-edits
 returns-then-size-old-clause-edits g c =
@@ -30,17 +30,24 @@ returns-then-size-old-clause-edits g c =
     (λ t. (let k = c.requires.may t in omega (arith, over_inside c.args.pool.now.unit k.first c.args.pool.now.size k.pieces (frees c.args.pool.now) c.args.at c.args.old k.r (g.S.Space.now c.args.space.now c.args.file) k.aligned k.laid k.block k.unpooled k.whole)))
     (omega arith) c.in-Ok.ensures.wrote)
 
-pub give_back-requires-clause-within : goal.give_back-requires-clause-within
-give_back-requires-clause-within g c = λ t.
+pub give_back-requires : goal.give_back-requires
+give_back-requires g c =
     let u : ℕ = c.args.pool.now.unit in
     let end : ℕ = c.args.pool.now.size in
     let free : Frees = frees c.args.pool.now in
     let before : List ℕ = g.S.Space.now c.args.space.now c.args.file in
-    let k = c.requires.may t in
-    let n = ap length k.is in
-    subst (λ (m : List ℕ). IsWithin u end free (c.args.at + length c.args.bytes.now) (c.args.old - length c.args.bytes.now) (length m)) (sym (c.in-Ok.ensures.wrote t).here)
-    (subst (λ (b : List ℕ). IsWithin u end free (c.args.at + length b) (c.args.old - length b) (length (wrote c.args.at b before))) (sym k.is)
-    (rest_within u k.first end k.pieces free c.args.at c.args.old k.r before k.aligned k.laid k.block k.unpooled k.whole (omega (arith, n, c.if-size-old.false))))
+    record {
+      may = record {
+        sound = c.in-Ok.ensures.outcome.ok;
+        data_file = c.requires.always.1;
+        within = λ t.
+            let k = c.requires.may t in
+            let n = ap length k.is in
+            subst (λ (m : List ℕ). IsWithin u end free (c.args.at + length c.args.bytes.now) (c.args.old - length c.args.bytes.now) (length m)) (sym (c.in-Ok.ensures.wrote t).here)
+            (subst (λ (b : List ℕ). IsWithin u end free (c.args.at + length b) (c.args.old - length b) (length (wrote c.args.at b before))) (sym k.is)
+            (rest_within u k.first end k.pieces free c.args.at c.args.old k.r before k.aligned k.laid k.block k.unpooled k.whole (omega (arith, n, c.if-size-old.false))));
+      };
+    }
 
 pub returns-in-Ok-give_back-clause-over : goal.returns-in-Ok-give_back-clause-over
 returns-in-Ok-give_back-clause-over g c = λ t first ps r aligned is whole laid block unpooled.
@@ -54,9 +61,10 @@ returns-in-Ok-give_back-clause-over g c = λ t first ps r aligned is whole laid 
     let before : List ℕ = g.S.Space.now c.args.space.now c.args.file in
     let after : List ℕ = g.S.Space.now c.give_back.new.space c.args.file in
     let here = (c.in-Ok.ensures.wrote t).here in
+    let gave = c.in-Ok-give_back.ensures.given in
     let n = ap length is in
-    let given = subst (λ (b : List ℕ). IsGiven g.S.Space.tells free free' (at + length b) (old - length b) (wrote at b before) after) is (subst (λ (m : List ℕ). IsGiven g.S.Space.tells free free' (at + length bytes) (old - length bytes) m after) here c.in-Ok-give_back.ensures.given) in
-    let back = subst (λ (b : List ℕ). GoesBack u free free' (at + length b) (old - length b) (wrote at b before) after) is (subst (λ (m : List ℕ). GoesBack u free free' (at + length bytes) (old - length bytes) m after) here (c.in-Ok-give_back.ensures.back t)) in
+    let given = subst (λ (b : List ℕ). IsGiven g.S.Space.tells free free' (at + length b) (old - length b) (wrote at b before) after) is (subst (λ (m : List ℕ). IsGiven g.S.Space.tells free free' (at + length bytes) (old - length bytes) m after) here gave.given) in
+    let back = subst (λ (b : List ℕ). GoesBack u free free' (at + length b) (old - length b) (wrote at b before) after) is (subst (λ (m : List ℕ). GoesBack u free free' (at + length bytes) (old - length bytes) m after) here (gave.back t)) in
     over_front u first end ps free at old r before aligned laid block unpooled whole (omega (arith, n, c.if-size-old.false)) free' g.S.Space.tells after t given back
 
 pub returns-in-Ok-give_back-clause-edits : goal.returns-in-Ok-give_back-clause-edits
@@ -66,10 +74,10 @@ returns-in-Ok-give_back-clause-edits g c =
     (edits_wrote g.S.Space c.args.file c.args.at size c.args.bytes.now c.args.space.now c.write_at.new.space
     (λ t. (let k = c.requires.may t in omega (arith, over_inside c.args.pool.now.unit k.first c.args.pool.now.size k.pieces (frees c.args.pool.now) c.args.at c.args.old k.r (g.S.Space.now c.args.space.now c.args.file) k.aligned k.laid k.block k.unpooled k.whole)))
     (omega arith) c.in-Ok.ensures.wrote)
-    c.in-Ok-give_back.ensures.edits
+    c.in-Ok-give_back.ensures.given.edits
 
 pub returns-in-Err-clause-full : goal.returns-in-Err-clause-full
 returns-in-Err-clause-full g c = λ full t.
     let k = c.requires.may t in
-    not_past g.S.Space g.met.S.Space.within c.args.file c.args.at (length c.args.bytes.now) c.args.space.now c.write_at.new.space t c.requires.sound c.requires.file
-    (omega (arith, c.requires.few, over_inside c.args.pool.now.unit k.first c.args.pool.now.size k.pieces (frees c.args.pool.now) c.args.at c.args.old k.r (g.S.Space.now c.args.space.now c.args.file) k.aligned k.laid k.block k.unpooled k.whole)) (c.in-Err.ensures.full full)
+    not_past g.S.Space g.met.S.Space.within c.args.file c.args.at (length c.args.bytes.now) c.args.space.now c.write_at.new.space t c.requires.always.0 c.requires.always.1
+    (omega (arith, k.few, over_inside c.args.pool.now.unit k.first c.args.pool.now.size k.pieces (frees c.args.pool.now) c.args.at c.args.old k.r (g.S.Space.now c.args.space.now c.args.file) k.aligned k.laid k.block k.unpooled k.whole)) (c.in-Err.ensures.full full)

@@ -11,19 +11,19 @@ returns-in-Ok-clause-created g c = (
   λ t. (
     t,
     create_holds c.args.width c.args.limit c.none-tally.result c.spelling.result (g.S.Space.now c.args.space.now 0) (g.S.Space.now c.write_at.new.space 0)
-        (c.requires.width.0, c.requires.width.1, c.requires.limit.0, c.requires.limit.1) c.none-tally.ensures.greatest c.none-tally.ensures.counts (c.requires.empty t) (c.in-Ok.ensures.wrote t).here
+        (c.requires.may.width_least, c.requires.may.width_most, c.requires.may.limit_least, c.requires.may.limit_most) c.none-tally.ensures.greatest c.none-tally.ensures.counts (c.requires.may.empty t) (c.in-Ok.ensures.wrote t).here
         (c.spelling.ensures.bytes ∙ ap (λ (h : FixedHead). fixed_spelled h) c.head_now-head.ensures) (ap (λ (h : FixedHead). length (fixed_spelled h)) (sym c.head_now-head.ensures) ∙ c.spelling.ensures.long),
   ),
 )
 
 pub returns-in-Ok-clause-stands : goal.returns-in-Ok-clause-stands
 returns-in-Ok-clause-stands g c = λ t. create_stands c.args.width c.args.limit c.none-tally.result c.spelling.result (g.S.Space.now c.args.space.now 0) (g.S.Space.now c.write_at.new.space 0)
-    (c.requires.width.0, c.requires.width.1, c.requires.limit.0, c.requires.limit.1) c.none-tally.ensures.greatest c.none-tally.ensures.counts (c.requires.empty t) (c.in-Ok.ensures.wrote t).here
+    (c.requires.may.width_least, c.requires.may.width_most, c.requires.may.limit_least, c.requires.may.limit_most) c.none-tally.ensures.greatest c.none-tally.ensures.counts (c.requires.may.empty t) (c.in-Ok.ensures.wrote t).here
     (c.spelling.ensures.bytes ∙ ap (λ (h : FixedHead). fixed_spelled h) c.head_now-head.ensures) (ap (λ (h : FixedHead). length (fixed_spelled h)) (sym c.head_now-head.ensures) ∙ c.spelling.ensures.long)
     (subst (λ (h : FixedHead). SpellsFixed h (fixed_spelled h)) c.head_now-head.ensures c.spelling.ensures.spells)
 
 pub returns-in-Ok-clause-head : goal.returns-in-Ok-clause-head
 returns-in-Ok-clause-head g c = λ t. create_head c.args.width c.args.limit c.none-tally.result c.spelling.result (g.S.Space.now c.args.space.now 0) (g.S.Space.now c.write_at.new.space 0)
-    (c.requires.width.0, c.requires.width.1, c.requires.limit.0, c.requires.limit.1) c.none-tally.ensures.greatest c.none-tally.ensures.counts (c.requires.empty t) (c.in-Ok.ensures.wrote t).here
+    (c.requires.may.width_least, c.requires.may.width_most, c.requires.may.limit_least, c.requires.may.limit_most) c.none-tally.ensures.greatest c.none-tally.ensures.counts (c.requires.may.empty t) (c.in-Ok.ensures.wrote t).here
     (c.spelling.ensures.bytes ∙ ap (λ (h : FixedHead). fixed_spelled h) c.head_now-head.ensures) (ap (λ (h : FixedHead). length (fixed_spelled h)) (sym c.head_now-head.ensures) ∙ c.spelling.ensures.long)
     (subst (λ (h : FixedHead). SpellsFixed h (fixed_spelled h)) c.head_now-head.ensures c.spelling.ensures.spells) c.none-tally.ensures.none.0 c.none-tally.ensures.none.1

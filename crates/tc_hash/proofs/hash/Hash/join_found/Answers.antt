@@ -47,7 +47,7 @@ joined-requires-clause-long g c = λ t. omega (arith, c.read_head.ensures.long t
 pub put_value-requires-clause-ready : goal.put_value-requires-clause-ready
 put_value-requires-clause-ready g c =
     let r = only_reads_then g.S.Space c.args.space.now c.read_head.new.space c.joined.new.space c.read_head.ensures.reads c.joined.ensures.reads in
-    (still_ready g.S.Space c.args.self.now c.args.space.now c.joined.new.space r c.requires.ready, c.in-Ok.ensures.chains.0, c.in-Ok.ensures.chains.1)
+    (still_ready g.S.Space c.args.self.now c.args.space.now c.joined.new.space r c.requires.ready, c.in-Ok.ensures.fits.left, c.in-Ok.ensures.fits.right)
 
 pub put_value-requires-clause-here : goal.put_value-requires-clause-here
 put_value-requires-clause-here g c = λ t.

@@ -20,7 +20,7 @@ read_head-requires-clause-inside g c = λ t.
     omega (arith, at_inside (unit self.head) r.r c.args.at bytes r.has.is)
 
 pub put_value-requires-clause-ready : goal.put_value-requires-clause-ready
-put_value-requires-clause-ready g c = (still_ready g.S.Space c.args.self.now c.args.space.now c.read_head.new.space c.read_head.ensures.reads c.requires.ready, c.in-Ok.ensures.chains.0, c.in-Ok.ensures.chains.1)
+put_value-requires-clause-ready g c = (still_ready g.S.Space c.args.self.now c.args.space.now c.read_head.new.space c.read_head.ensures.reads c.requires.ready, c.in-Ok.ensures.fits.left, c.in-Ok.ensures.fits.right)
 
 pub put_value-requires-clause-here : goal.put_value-requires-clause-here
 put_value-requires-clause-here g c = λ t.

@@ -6,7 +6,7 @@ use Rattle.tc_hash.proofs.hash.Hash.put_value.Goals as goal
 pub put_inside-requires-clause-here : goal.put_inside-requires-clause-here
 put_inside-requires-clause-here g c = λ t.
     let h = c.requires.here t in
-    ((c.args.from.now, h.0), h.1, c.block_of-size.ensures c.args.self.now.head c.args.at (g.S.Space.now c.args.space.now c.args.self.now.file) h.1)
+    record { here = (c.args.from.now, h.0); head = h.1; block = c.block_of-size.ensures c.args.self.now.head c.args.at (g.S.Space.now c.args.space.now c.args.self.now.file) h.1 }
 
 pub put_anew-requires-clause-here : goal.put_anew-requires-clause-here
 put_anew-requires-clause-here g c = λ t.

@@ -1,31 +1,28 @@
 use Rattle.std.proofs.Common.{◌∙◌, refl}
 use Rattle.hf_pool.specs.Pools.{frees}
-use Rattle.tc_hash.proofs.Records.{count_out, refuses_only}
-use Rattle.tc_hash.proofs.Valid.{is_data, is_valid}
+use Rattle.tc_hash.proofs.Records.{count_out, may_change, refuses_only}
+use Rattle.tc_hash.proofs.Valid.{is_valid}
 use Rattle.tc_hash.proofs.hash.Hash.take_record.Goals as goal
 
-pub take_out-requires-clause-always : goal.take_out-requires-clause-always
-take_out-requires-clause-always g c = (c.requires.ready.sound, is_data c.args.self.now.file c.args.self.now.data, is_valid c.args.self.now.head c.args.self.now.valid, c.args.self.now.unit_is)
-
-pub take_out-requires-clause-held : goal.take_out-requires-clause-held
-take_out-requires-clause-held g c = λ t. let w = c.requires.ready.held t in (w.0, w.1.1.has)
+pub take_out-requires-clause-may : goal.take_out-requires-clause-may
+take_out-requires-clause-may g c = may_change g.S.Space c.args.self.now c.args.space.now c.requires.ready
 
 pub returns-in-Ok-clause-taken : goal.returns-in-Ok-clause-taken
 returns-in-Ok-clause-taken g c =
     let self = c.args.self.now in
     record {
       writes = record {
-        sound = c.in-Ok.ensures.sound;
+        sound = c.in-Ok.ensures.out.sound;
         means = λ m w. (
           w.0,
           record {
-            has = c.in-Ok.ensures.out w.0 m w.1.has;
+            has = c.in-Ok.ensures.out.map w.0 m w.1.has;
             count = c.saturating_sub-self.ensures ∙ count_out self.head self.pool.size (frees self.pool) m (g.S.Space.now c.args.space.now self.file) c.args.key.now (is_valid self.head self.valid) w.1.has c.args.at c.args.from.now self.records (c.requires.here w.0).0 w.1.count;
           },
         );
-        others = c.in-Ok.ensures.edits.others;
+        others = c.in-Ok.ensures.out.edits.others;
       };
-      edits = c.in-Ok.ensures.edits;
+      edits = c.in-Ok.ensures.out.edits;
       gives = c.in-Ok.ensures.pool.1;
       head = refl;
     }
