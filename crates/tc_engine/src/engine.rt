@@ -1,6 +1,7 @@
 //! The trait of engines.
 ghost use Rattle.std.specs.Prelude.{◌≡◌, ◌∷◌, ◌++◌, [], ℕ, List, Bool, true, false, not, map, length, OnOk, OnErr, IfOk, IsErrOf, IsSome, Option, option_map, is_some};
 ghost use Rattle.tc_base.specs.Files.{Files};
+ghost use Rattle.tc_base.specs.declared.kind.Form.{Form};
 ghost use Rattle.tc_io.specs.Causes.{Rose};
 ghost use Rattle.tc_space.specs.Frames.{Keeps, Reads, Refuses};
 ghost use Rattle.ty_wire.specs.Prefixes.{IsPrefix};
@@ -38,6 +39,12 @@ pub trait Engine {
 
     /// What an inspection tells of files behind what it tells of contents; nothing in memory.
     ghost lines: { Files → List ℕ → Type 0 };
+
+    /// It was packed in a form since it was last changed.
+    ghost tight: { Self → Form → Type 0 };
+
+    /// Files are packed in a form: no space lies free in them.
+    ghost packed: { Form → Files → Type 0 };
 
     /// Its kind.
     fn kind(&self) -> Kind
@@ -214,6 +221,7 @@ pub trait Engine {
     /// Brings what is held in memory to the files, which then stand for the contents.
     fn settle(&mut self, space: &mut Self::S) -> Result<(), RecErr>
         requires ready { IsReady Self.S.Space holds self.old space.old }
+        ensures packs { OnOk result ((form : Form) (c : Contents) → tight self.old form → Held Self.S.Space holds self.old space.old c → packed form (Self.S.now space.new)) }
         ensures settled { OnOk result ((c : Contents) → Held Self.S.Space holds self.old space.old c → Held Self.S.Space holds self.new space.new c × reopens (Self.S.now space.new) c) }
         ensures sound { OnOk result (Self.S.sound space.new) }
         ensures log { OnOk result (Stays Self.S.Space 2 space.old space.new) }
@@ -225,6 +233,7 @@ pub trait Engine {
     /// Packs the files, in place or in the large form. The contents stay, and stand in the files once it is settled.
     fn pack(&mut self, space: &mut Self::S, form: Form) -> Result<(), RecErr>
         requires ready { IsReady Self.S.Space holds self.old space.old }
+        ensures tight { OnOk result (tight self.new form) }
         ensures packed { OnOk result ((c : Contents) → Held Self.S.Space holds self.old space.old c → Held Self.S.Space holds self.new space.new c) }
         ensures sound { OnOk result (Self.S.sound space.new) }
         ensures log { OnOk result (Stays Self.S.Space 2 space.old space.new) }

@@ -6,6 +6,7 @@ ghost use Rattle.tc_hashdb.specs.Filling.{Fills};
 ghost use Rattle.tc_hashdb.specs.Holding.{HoldsKeys, Reopens};
 ghost use Rattle.tc_hashdb.specs.Informing.{Lines};
 ghost use Rattle.tc_hashdb.specs.Laws.{moved_apart, never_table};
+ghost use Rattle.tc_hash.specs.Packing.{IsPacked, IsTight};
 
 use crate::holding::HashEngine;
 use crate::informing::{add_lines, read_head};
@@ -25,6 +26,10 @@ impl<S: Space> Engine for HashEngine<S> {
     ghost fills = { λ space c d. Fills S.Space space c d };
 
     ghost lines = { λ files text. Lines files text };
+
+    ghost tight = { λ e form. IsTight form e.hash };
+
+    ghost packed = { λ form files. IsPacked form (files 0) };
 
     ghost no_table = { λ e files c holds. never_table e files c holds };
 

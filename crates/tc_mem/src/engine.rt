@@ -57,6 +57,10 @@ impl Engine for MemEngine {
 
     ghost lines = { λ files text. text ≡ [] };
 
+    ghost tight = { λ e form. Unit {0} };
+
+    ghost packed = { λ form files. Unit {0} };
+
     ghost no_table = { λ e files c holds. never_table e.held c holds };
 
     ghost apart = { λ e f g c same. ((λ h. h), (λ h. h)) };

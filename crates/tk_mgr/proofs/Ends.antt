@@ -1,7 +1,10 @@
 -- What tasks leave, by what their requests left.
 use Rattle.std.proofs.Common.{◌≡◌, inl, inr, ⊎_elim, ℕ, Bool, true, false, List, [], ◌∷◌, refl, sym, ap, subst, ◌∙◌, arith, Ok, Err}
-use Rattle.std.specs.Prelude.{◌&&◌, Option, Some, None, Result, map}
+use Rattle.std.specs.Prelude.{◌&&◌, Option, Some, None, Result, map, unwrap_or}
+use Rattle.std.proofs.lemmas.Bool.{or_from}
 use Rattle.tc_base.specs.Files.{Files}
+use Rattle.tc_base.specs.declared.kind.Form.{Form}
+use Rattle.tc_base.specs.declared.kind.Form.TheVariants as form
 use Rattle.tc_base.specs.declared.request.Request.{Request}
 use Rattle.tc_io.specs.declared.sink.Sink as sink
 use Rattle.tc_space.specs.Effects.{Follows}
@@ -15,16 +18,17 @@ use Rattle.tc_model.specs.Packing.{is_optimize}
 use Rattle.tc_model.specs.declared.applied.Applied.{Applied}
 use Rattle.tc_model.proofs.Idle.{apply_idle}
 use Rattle.ty_world.specs.World.{Mark}
-use Rattle.ty_base.specs.Holding.{Held, IsReady, Leaves}
+use Rattle.ty_base.specs.Holding.{Held, IsReady, Leaves, may_write}
 use Rattle.ty_rounds.specs.Kept.{HasMark, HoldsMark, LeavesMarks, LeavesTwo, MovesTo, Reopens}
 use Rattle.ty_rounds.proofs.Leaving.{IsClean, Earlier, kept_stands, was_kept, left_stands, none_two, steady_two, moved_two}
 use Rattle.ty_rounds.proofs.Telling.{Adds-none}
 use Rattle.tk_mgr.specs.declared.errors.MgrErr.{MgrErr}
 use Rattle.tk_mgr.specs.declared.errors.MgrErr.TheVariants as err
 use Rattle.tk_mgr.specs.declared.task.Task.{Task}
+use Rattle.tk_mgr.specs.declared.task.Task.TheVariants.{Optimize}
 use Rattle.tk_mgr.specs.Errors.{mgr_of}
 use Rattle.tk_mgr.specs.Tasks.{Prints, after, all_marks, answered, asked, at_step, before_last, ok_of, steps_of}
-use Rattle.tk_mgr.specs.Managing.{FillsTask, IsThrough, Manages, MayManage, last_mark, with_contents}
+use Rattle.tk_mgr.specs.Managing.{ArePacked, FillsTask, IsThrough, Manages, MayManage, PacksTask, form_for, last_mark, packing, with_contents}
 use Rattle.tk_mgr.specs.Asking.{Answers, Carries, FillsAsked, IsIdle, Looks}
 use Rattle.tk_mgr.specs.Showing.{Shows}
 
@@ -45,6 +49,10 @@ and_none false u e = refl
 -- a request that is idle leaves contents
 pub idle_stays : (r : Request) (c : Contents) → IsIdle r → (apply false r c None).contents ≡ c
 idle_stays r c h = apply_idle false r c None (and_none (apply false r c None).ok (updates r) h.updates_none)
+
+-- nor may it write
+pub idle_writes_none : (r : Request) → IsIdle r → may_write r ≡ true → ⊥
+idle_writes_none r h writes = let none = or_from (updates r) (is_optimize r) h.updates_none h.packs_none in absurd (let both = sym writes ∙ none in cc)
 
 module _ {S B : Type 0} (s : space.Ghosts S) (holds : B → Files → Contents → Type 0) where
   pub ready_may : (reopens : Files → Contents → Type 0) (b : B) (a : S) → MayManage s holds reopens b a → IsReady s holds b a
@@ -131,6 +139,13 @@ module _ {S : Type 0} (s : space.Ghosts S) (reopens : Files → Contents → Typ
           last = λ i o l. subst (λ (c : Contents). Reopens reopens o (with_contents m c)) (sym last) (x.last (⊎_elim (λ y. y) (λ some. absurd (some refl)) i) o l);
         };
   }
+
+  -- a packing that was kept
+  pub packs_left : (packed : Form → Files → Type 0) (large : Bool) (f : Form) (a : S) → packing (Optimize large) ≡ Some f → s.tells → IsClean s a → packed (form_for large) (s.now a) → (o : Option Files) → s.left a (s.moment a) o → ArePacked packed f o
+  packs_left packed large f a is t clean p o l = subst (λ (g : Form). ArePacked packed g o) (ap (λ (x : Option Form). unwrap_or x form.Keep) is) (record { files = s.now a; is = clean.only o t l ∙ clean.clean t; are = p })
+
+  pub packs_as : (packed : Form → Files → Type 0) (now task : Task) (result : Result Bool MgrErr) (a : S) → now ≡ task → PacksTask s packed task result a → PacksTask s packed now result a
+  packs_as packed now task result a is h = subst (λ (t : Task). PacksTask s packed t result a) (sym is) h
 
   pub manages_as : {B O : Type 0} (g : sink.Ghosts O) (holds : B → Files → Contents → Type 0) (lines : Files → List ℕ → Type 0) (now task : Task) (result : Result Bool MgrErr) (base : B) (a b : S) (p q : O) → now ≡ task
       → Manages s g holds reopens lines task result base a b p q → Manages s g holds reopens lines now result base a b p q

@@ -40,6 +40,3 @@ module _ {S B : Type 0} (s : space.Ghosts S) (holds : B → Files → Contents �
       };
     };
   }
-
-  pub report_fills : (fills : Contents → Contents → Type 0) (run : Run) (base : B) (old : S) → ((c : Contents) → Held s holds base old c → fills c c) → (seed : ℕ) (m : Mark) → Holds s holds seed run base old m → FillsTask fills (Drill seed run.made) m.contents
-  report_fills fills run base old full seed m h = fills_still fills seed run.made run.made m.contents (omega arith) (full (drilled run.made seed m.contents).contents h.has.held)

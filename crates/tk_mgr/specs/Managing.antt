@@ -1,6 +1,8 @@
 -- What a task leaves of a database, of its space and of what it prints to.
-use Rattle.std.specs.Prelude.{◌≡◌, ◌≢◌, ◌⊎◌, ◌≤◌, ◌<◌, ◌+◌, ℕ, Bool, true, false, List, [], map, Option, Result, Ok, Err}
+use Rattle.std.specs.Prelude.{◌≡◌, ◌≢◌, ◌⊎◌, ◌≤◌, ◌<◌, ◌+◌, ℕ, Bool, true, false, List, [], map, Option, None, Some, Result, Ok, Err}
 use Rattle.tc_base.specs.Files.{Files}
+use Rattle.tc_base.specs.declared.kind.Form.{Form}
+use Rattle.tc_base.specs.declared.kind.Form.TheVariants as form
 use Rattle.tc_io.specs.Told.{Adds}
 use Rattle.tc_io.specs.declared.sink.Sink as sink
 use Rattle.tc_space.specs.declared.space.Space as space
@@ -11,6 +13,7 @@ use Rattle.ty_rounds.specs.Kept.{HoldsMark, LeavesMarks, Reopens}
 use Rattle.tk_mgr.specs.declared.errors.MgrErr.{MgrErr}
 use Rattle.tk_mgr.specs.declared.errors.MgrErr.TheVariants as err
 use Rattle.tk_mgr.specs.declared.task.Task.{Task}
+use Rattle.tk_mgr.specs.declared.task.Task.TheVariants.{Get, List as Lists, Optimize, Inform}
 use Rattle.tk_mgr.specs.Tasks.{Prints, after, all_marks, at_step, ok_of, steps_of}
 
 -- it may be used, nothing is left to commit, and its files stand for what it holds
@@ -65,7 +68,35 @@ pub record Manages {S B O : Type 0} (s : space.Ghosts S) (g : sink.Ghosts O) (ho
   pub none : result ≡ Ok false → taken ≡ []
   pub by : (m : Mark) → HoldsMark s holds reopens base old m → ManagesFrom s reopens lines task result old new taken m
 
+-- ---- files packed
+
+abbrev pub form_for : Bool → Form
+form_for true = form.Large
+form_for false = form.Keep
+
+-- the form that a task packs files in, if it does
+abbrev pub packing : Task → Option Form
+packing (Optimize large) = Some (form_for large)
+packing _ = None
+
+-- these are files, packed in that form
+pub record ArePacked (packed : Form → Files → Type 0) (f : Form) (o : Option Files) : Type 0 where
+  pub files : Files
+  pub is : o ≡ Some files
+  pub are : packed f files
+
+-- once a packing is carried out a stop leaves packed files
+abbrev pub PacksTask : {S : Type 0} → space.Ghosts S → (Form → Files → Type 0) → Task → Result Bool MgrErr → S → Type 0
+PacksTask s packed task result new = (f : Form) → packing task ≡ Some f → result ≡ Ok true → (o : Option Files) → s.left new (s.moment new) o → ArePacked packed f o
+
 -- ---- a limit that was reached
+
+-- a task that may write files
+abbrev pub writes_files : Task → Bool
+writes_files (Get key) = false
+writes_files (Lists maximum values) = false
+writes_files Inform = false
+writes_files _ = true
 
 -- between the contents behind some of its requests and those behind the next, or as those are brought to the files
 pub record FillsTask (fills : Contents → Contents → Type 0) (task : Task) (c : Contents) : Type 0 where

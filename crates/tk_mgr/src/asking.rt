@@ -1,11 +1,12 @@
 //! Requests of a task, and the keeping of what they changed.
-ghost use Rattle.std.specs.Prelude.{◌≡◌, false, Some, OnOk, IfOk, IsErrOf};
+ghost use Rattle.std.specs.Prelude.{◌≡◌, false, true, Some, OnOk, IfOk, IsErrOf};
+ghost use Rattle.tc_base.specs.declared.kind.Form.{Form};
 ghost use Rattle.tc_io.specs.Causes.{Rose};
 ghost use Rattle.tc_space.specs.Effects.{Follows};
 ghost use Rattle.tc_space.specs.Frames.{Keeps};
 ghost use Rattle.tc_model.specs.Contents.{Contents};
 ghost use Rattle.tc_model.specs.Packing.{is_optimize};
-ghost use Rattle.ty_base.specs.Holding.{Held, IsReady, Leaves};
+ghost use Rattle.ty_base.specs.Holding.{FillsBy, Held, IsReady, Leaves};
 ghost use Rattle.ty_world.specs.World.{Mark};
 ghost use Rattle.ty_rounds.specs.Kept.{HasMark, HoldsMark, MovesTo};
 ghost use Rattle.ty_rounds.specs.Keeping.{IsKept};
@@ -30,7 +31,7 @@ pub fn ask<B: Base>(
     requires ready { IsReady B.S.Space B.holds base.old space.old }
     ensures answers { IfOk result (λ a. (c : Contents) → Held B.S.Space B.holds base.old space.old c → Answers B.S.Space B.holds request a c base.new space.new reply.new) }
     ensures leaves { IfOk result (λ a. Leaves B.S.Space ((a.updated ≡ false) × (is_optimize request ≡ false)) space.old space.new) }
-    ensures full { IsErrOf result MgrErr.Full → (c : Contents) → Held B.S.Space B.holds base.old space.old c → B.fills space.new c (asked (Some request) c) }
+    ensures full { IsErrOf result MgrErr.Full → FillsBy B.S.Space B.holds (B.fills space.new) request base.old space.old (asked (Some request)) }
     ensures not_sink { IsErrOf result MgrErr.Sink → ⊥ }
     ensures keeps { Keeps B.S.Space space.old space.new }
     ensures cause { IsErrOf result MgrErr.Fault → Rose (B.S.faults space.old) (B.S.faults space.new) }
@@ -54,7 +55,7 @@ pub fn look<B: Base>(
     requires idle { IsIdle request }
     ensures looks { OnOk result (Looks B.S.Space B.holds base.old base.new space.old space.new) }
     ensures told { IfOk result (λ ok. (c : Contents) → Held B.S.Space B.holds base.old space.old c → IsTold request ok c reply.new) }
-    ensures full { IsErrOf result MgrErr.Full → (c : Contents) → Held B.S.Space B.holds base.old space.old c → B.fills space.new c c }
+    ensures not_full { IsErrOf result MgrErr.Full → ⊥ }
     ensures not_sink { IsErrOf result MgrErr.Sink → ⊥ }
     ensures keeps { Keeps B.S.Space space.old space.new }
     ensures cause { IsErrOf result MgrErr.Fault → Rose (B.S.faults space.old) (B.S.faults space.new) }
@@ -70,6 +71,7 @@ pub fn save<B: Base>(base: &mut B, space: &mut B::S, commits: bool) -> Result<()
     requires ready { IsReady B.S.Space B.holds base.old space.old }
     requires untouched { commits ≡ false → B.S.touched space.old ≡ false }
     ensures kept { OnOk result (IsKept B.S.Space B.holds B.reopens commits base.old base.new space.old space.new) }
+    ensures packs { OnOk result (commits ≡ true → (form : Form) (c : Contents) → B.tight base.old form → Held B.S.Space B.holds base.old space.old c → B.packed form (B.S.now space.new)) }
     ensures moments { (m : Mark) → HasMark B.S.Space B.holds base.old space.old m → MovesTo B.S.Space B.reopens space.old space.new m }
     ensures full { IsErrOf result MgrErr.Full → (c : Contents) → Held B.S.Space B.holds base.old space.old c → B.fills space.new c c }
     ensures not_sink { IsErrOf result MgrErr.Sink → ⊥ }

@@ -8,8 +8,9 @@ ghost use Rattle.ty_base.specs.Holding.{Held};
 ghost use Rattle.ty_world.specs.World.{Mark};
 ghost use Rattle.ty_rounds.specs.Kept.{HoldsMark};
 ghost use Rattle.tk_mgr.specs.Asking.{Carries, FillsAsked};
-ghost use Rattle.tk_mgr.specs.Managing.{MayManage};
+ghost use Rattle.tk_mgr.specs.Managing.{MayManage, PacksTask, form_for};
 ghost use Rattle.tk_mgr.specs.Tasks.{put_request};
+ghost use Rattle.tk_mgr.specs.declared.task.Task.TheVariants.{Optimize};
 
 use crate::asking::{change, save};
 use crate::errors::MgrErr;
@@ -99,7 +100,9 @@ pub fn take_out<B: Base>(
 }
 
 // The form that files are packed in.
-fn form_of(large: bool) -> Form {
+fn form_of(large: bool) -> Form
+    ensures { result ≡ form_for large }
+{
     if large { Form::Large } else { Form::Keep }
 }
 
@@ -107,6 +110,7 @@ fn form_of(large: bool) -> Form {
 pub fn optimize<B: Base>(large: bool, base: &mut B, space: &mut B::S) -> Result<bool, MgrErr>
     requires may { MayManage B.S.Space B.holds B.reopens base.old space.old }
     ensures carries { (m : Mark) → HoldsMark B.S.Space B.holds B.reopens base.old space.old m → Carries B.S.Space B.reopens None result space.old space.new m }
+    ensures packs { (m : Mark) → HoldsMark B.S.Space B.holds B.reopens base.old space.old m → PacksTask B.S.Space B.packed (Optimize large) result space.new }
     ensures full { IsErrOf result MgrErr.Full → (c : Contents) → Held B.S.Space B.holds base.old space.old c → B.fills space.new c c }
     ensures not_sink { IsErrOf result MgrErr.Sink → ⊥ }
     ensures follows { Follows B.S.faults B.S.limit B.S.names space.old space.new }

@@ -89,7 +89,7 @@ fn add_contents<B: Base>(
     requires ready { IsReady B.S.Space B.holds base.old space.old }
     ensures looks { OnOk result (Looks B.S.Space B.holds base.old base.new space.old space.new) }
     ensures told { OnOk result ((c : Contents) → Held B.S.Space B.holds base.old space.old c → into.new ≡ into.old ++ told_of c) }
-    ensures full { IsErrOf result MgrErr.Full → (c : Contents) → Held B.S.Space B.holds base.old space.old c → B.fills space.new c c }
+    ensures not_full { IsErrOf result MgrErr.Full → ⊥ }
     ensures not_sink { IsErrOf result MgrErr.Sink → ⊥ }
     ensures keeps { Keeps B.S.Space space.old space.new }
     ensures cause { IsErrOf result MgrErr.Fault → Rose (B.S.faults space.old) (B.S.faults space.new) }
@@ -118,7 +118,7 @@ fn inspect<B: Base>(
 ) -> Result<(), MgrErr>
     requires may { MayManage B.S.Space B.holds B.reopens base.old space.old }
     ensures told { OnOk result ((c : Contents) → Held B.S.Space B.holds base.old space.old c → Inspects B.S.Space B.lines c space.old text.old text.new) }
-    ensures full { IsErrOf result MgrErr.Full → (c : Contents) → Held B.S.Space B.holds base.old space.old c → B.fills space.new c c }
+    ensures not_full { IsErrOf result MgrErr.Full → ⊥ }
     ensures not_sink { IsErrOf result MgrErr.Sink → ⊥ }
     ensures keeps { Keeps B.S.Space space.old space.new }
     ensures cause { IsErrOf result MgrErr.Fault → Rose (B.S.faults space.old) (B.S.faults space.new) }
@@ -142,7 +142,7 @@ pub fn inform<B: Base, O: Sink>(
 ) -> Result<bool, MgrErr>
     requires may { MayManage B.S.Space B.holds B.reopens base.old space.old }
     ensures shows { Shows B.S.Space B.holds B.lines task.Inform result base.old space.old (O.taken out.old) (O.taken out.new) }
-    ensures full { IsErrOf result MgrErr.Full → (c : Contents) → Held B.S.Space B.holds base.old space.old c → B.fills space.new c c }
+    ensures not_full { IsErrOf result MgrErr.Full → ⊥ }
     ensures keeps { Keeps B.S.Space space.old space.new }
     ensures later { O.faults out.old ≤ O.faults out.new }
     ensures cause { IsErrOf result MgrErr.Fault → Rose (B.S.faults space.old) (B.S.faults space.new) }

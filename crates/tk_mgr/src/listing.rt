@@ -57,7 +57,7 @@ fn add_pair<B: Base>(
     requires ready { IsReady B.S.Space B.holds base.old space.old }
     ensures looks { OnOk result (Looks B.S.Space B.holds base.old base.new space.old space.new) }
     ensures line { OnOk result ((c : Contents) → Held B.S.Space B.holds base.old space.old c → waiting.new ≡ waiting.old ++ line_of true c key.now) }
-    ensures full { IsErrOf result MgrErr.Full → (c : Contents) → Held B.S.Space B.holds base.old space.old c → B.fills space.new c c }
+    ensures not_full { IsErrOf result MgrErr.Full → ⊥ }
     ensures not_sink { IsErrOf result MgrErr.Sink → ⊥ }
     ensures keeps { Keeps B.S.Space space.old space.new }
     ensures cause { IsErrOf result MgrErr.Fault → Rose (B.S.faults space.old) (B.S.faults space.new) }
@@ -97,7 +97,7 @@ fn add_line<B: Base>(
     requires ready { IsReady B.S.Space B.holds base.old space.old }
     ensures looks { OnOk result (Looks B.S.Space B.holds base.old base.new space.old space.new) }
     ensures line { OnOk result ((c : Contents) → Held B.S.Space B.holds base.old space.old c → waiting.new ≡ waiting.old ++ line_of values c key.now) }
-    ensures full { IsErrOf result MgrErr.Full → (c : Contents) → Held B.S.Space B.holds base.old space.old c → B.fills space.new c c }
+    ensures not_full { IsErrOf result MgrErr.Full → ⊥ }
     ensures not_sink { IsErrOf result MgrErr.Sink → ⊥ }
     ensures keeps { Keeps B.S.Space space.old space.new }
     ensures cause { IsErrOf result MgrErr.Fault → Rose (B.S.faults space.old) (B.S.faults space.new) }
@@ -160,7 +160,7 @@ fn print_line<B: Base, O: Sink>(
     requires ready { IsReady B.S.Space B.holds base.old space.old }
     ensures printed { OnOk result (PrintsLine B.S.Space B.holds values key.now base.old base.new space.old space.new (O.taken out.old) (O.taken out.new) waiting.old waiting.new) }
     ensures stops { OnErr result (StopsLine B.S.Space B.holds values key.now base.old space.old (O.taken out.old) (O.taken out.new) waiting.old) }
-    ensures full { IsErrOf result MgrErr.Full → (c : Contents) → Held B.S.Space B.holds base.old space.old c → B.fills space.new c c }
+    ensures not_full { IsErrOf result MgrErr.Full → ⊥ }
     ensures keeps { Keeps B.S.Space space.old space.new }
     ensures later { O.faults out.old ≤ O.faults out.new }
     ensures cause { IsErrOf result MgrErr.Fault → Rose (B.S.faults space.old) (B.S.faults space.new) }
@@ -187,7 +187,7 @@ fn print_lines<B: Base, O: Sink>(
 ) -> Result<(), MgrErr>
     requires ready { IsReady B.S.Space B.holds base.old space.old }
     ensures listed { Listed B.S.Space B.holds values result items.now base.old space.old (O.taken out.old) (O.taken out.new) }
-    ensures full { IsErrOf result MgrErr.Full → (c : Contents) → Held B.S.Space B.holds base.old space.old c → B.fills space.new c c }
+    ensures not_full { IsErrOf result MgrErr.Full → ⊥ }
     ensures keeps { Keeps B.S.Space space.old space.new }
     ensures later { O.faults out.old ≤ O.faults out.new }
     ensures cause { IsErrOf result MgrErr.Fault → Rose (B.S.faults space.old) (B.S.faults space.new) }
@@ -233,7 +233,7 @@ pub fn list<B: Base, O: Sink>(
 ) -> Result<bool, MgrErr>
     requires ready { IsReady B.S.Space B.holds base.old space.old }
     ensures shows { Shows B.S.Space B.holds B.lines (task.List maximum values) result base.old space.old (O.taken out.old) (O.taken out.new) }
-    ensures full { IsErrOf result MgrErr.Full → (c : Contents) → Held B.S.Space B.holds base.old space.old c → B.fills space.new c c }
+    ensures not_full { IsErrOf result MgrErr.Full → ⊥ }
     ensures keeps { Keeps B.S.Space space.old space.new }
     ensures later { O.faults out.old ≤ O.faults out.new }
     ensures cause { IsErrOf result MgrErr.Fault → Rose (B.S.faults space.old) (B.S.faults space.new) }

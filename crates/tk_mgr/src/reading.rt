@@ -28,7 +28,7 @@ pub fn add_value<B: Base>(
     requires ready { IsReady B.S.Space B.holds base.old space.old }
     ensures looks { OnOk result (Looks B.S.Space B.holds base.old base.new space.old space.new) }
     ensures value { IfOk result (λ ok. (c : Contents) → Held B.S.Space B.holds base.old space.old c → IsValue key ok c into.old into.new) }
-    ensures full { IsErrOf result MgrErr.Full → (c : Contents) → Held B.S.Space B.holds base.old space.old c → B.fills space.new c c }
+    ensures not_full { IsErrOf result MgrErr.Full → ⊥ }
     ensures not_sink { IsErrOf result MgrErr.Sink → ⊥ }
     ensures keeps { Keeps B.S.Space space.old space.new }
     ensures cause { IsErrOf result MgrErr.Fault → Rose (B.S.faults space.old) (B.S.faults space.new) }
@@ -57,7 +57,7 @@ pub fn get<B: Base, O: Sink>(
 ) -> Result<bool, MgrErr>
     requires ready { IsReady B.S.Space B.holds base.old space.old }
     ensures shows { Shows B.S.Space B.holds B.lines (task.Get key) result base.old space.old (O.taken out.old) (O.taken out.new) }
-    ensures full { IsErrOf result MgrErr.Full → (c : Contents) → Held B.S.Space B.holds base.old space.old c → B.fills space.new c c }
+    ensures not_full { IsErrOf result MgrErr.Full → ⊥ }
     ensures keeps { Keeps B.S.Space space.old space.new }
     ensures later { O.faults out.old ≤ O.faults out.new }
     ensures cause { IsErrOf result MgrErr.Fault → Rose (B.S.faults space.old) (B.S.faults space.new) }

@@ -64,7 +64,7 @@ pub fn report<B: Base>(run: &mut Run, base: &mut B, space: &mut B::S) -> Result<
     requires ready { IsReady B.S.Space B.holds base.old space.old }
     ensures text { IfOk result (λ text. Tells B.S.Space B.holds run.old run.old.made base.old space.old text) }
     ensures makes { OnOk result (Makes B.S.Space B.holds 0 run.old run.new base.old base.new space.old space.new) }
-    ensures full { IsErrOf result MgrErr.Full → (seed : ℕ) (m : Mark) → Holds B.S.Space B.holds seed run.old base.old space.old m → FillsTask (B.fills space.new) (Drill seed run.old.made) m.contents }
+    ensures not_full { IsErrOf result MgrErr.Full → ⊥ }
     ensures not_sink { IsErrOf result MgrErr.Sink → ⊥ }
     ensures keeps { Keeps B.S.Space space.old space.new }
     ensures cause { IsErrOf result MgrErr.Fault → Rose (B.S.faults space.old) (B.S.faults space.new) }

@@ -10,7 +10,7 @@ use Rattle.tk_top.specs.declared.ends.End.{End}
 use Rattle.tk_top.specs.declared.ends.End.TheVariants.{Words, NoMemory}
 use Rattle.tk_top.specs.Over.{BreaksAt, Judged, StandsFor}
 use Rattle.tk_top.specs.Making.{JudgedMaking, MainIsEmpty, MainIsThere}
-use Rattle.tk_top.specs.Stored.{anew_of, breaks_of, kind_in, lines_in, numbers_of, reopens_of, stored_as}
+use Rattle.tk_top.specs.Stored.{anew_of, breaks_of, kind_in, lines_in, numbers_of, packed_in, reopens_of, stored_as}
 use Rattle.tk_top.specs.Tasks.{JudgedTask, RefusedAt}
 use Rattle.tk_top.specs.Top.{AskedRun, CausedBy, DrillsMemory, FileRun, IsDrilled, IsServing, MakesFiles, Opens, RunsAsked, SourceRun, TaskOnFiles}
 use Rattle.tk_mgr.specs.declared.task.Task.{Task}
@@ -46,7 +46,7 @@ module _ {V W O : Type 0} (v : volume.Ghosts V) (g : wire.Ghosts W) (o : sink.Gh
   task_none : (name : List ℕ) (stored : Stored) (task : Task) (vol : V) (p : O) → TaskOnFiles v o NoMemory name stored task vol vol p p
   task_none name stored task vol p = record {
     names = inr (Adds-none (v.names vol));
-    told = managed_unopened o (reopens_of stored) (lines_in stored) task (kind_in stored) NoMemory p (ends_unnamed v name vol);
+    told = managed_unopened o (reopens_of stored) (lines_in stored) (packed_in stored) task (kind_in stored) NoMemory p (ends_unnamed v name vol);
     judged = tt;
     misplaced = misplaced_unnamed (ends_unnamed v name vol) task;
     full = λ e. absurd cc;

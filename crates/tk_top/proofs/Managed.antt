@@ -2,6 +2,7 @@
 use Rattle.std.proofs.Common.{◌≡◌, ◌≢◌, inl, inr, ⊎_elim, ℕ, zero, suc, Bool, true, false, List, [], map, refl, sym, subst, ◌∙◌, arith}
 use Rattle.std.specs.Prelude.{Option, Some, None, Result, Ok, Err, if◌then◌else◌}
 use Rattle.tc_base.specs.Files.{Files}
+use Rattle.tc_base.specs.declared.kind.Form.{Form}
 use Rattle.tc_base.specs.declared.request.Request.{Request}
 use Rattle.tc_base.specs.declared.request.Request.TheVariants as request
 use Rattle.tc_io.specs.Images.{now}
@@ -21,7 +22,7 @@ use Rattle.tc_base.specs.declared.kind.Kind.{Kind}
 use Rattle.tc_base.specs.declared.kind.Rule.{Rule}
 use Rattle.tk_words.specs.declared.order.PutWord.{PutWord}
 use Rattle.tk_words.specs.declared.order.PutWord.TheVariants.{Over, Keep, Cat, Dup}
-use Rattle.tk_mgr.specs.Managing.{IsThrough, Manages, marks_of, with_contents}
+use Rattle.tk_mgr.specs.Managing.{IsThrough, Manages, PacksTask, marks_of, with_contents, writes_files}
 use Rattle.tk_mgr.specs.Tasks.{Prints, after, hundreds, maximum_of, ok_of, put_request}
 use Rattle.tk_mgr.specs.declared.errors.MgrErr.{MgrErr}
 use Rattle.tk_mgr.specs.declared.errors.MgrErr.TheVariants as mgr
@@ -128,6 +129,16 @@ failed_same (Optimize large) c failed = absurd cc
 failed_same Inform c failed = absurd cc
 failed_same (Drill seed n) c failed = absurd cc
 
+-- a task that is for an empty main file may write
+pub placed_writes : (task : Task) (files : Files) → (IsMisplaced task files → ⊥) → files 0 ≡ [] → writes_files task ≡ true
+placed_writes (Put word key value) files placed empty = refl
+placed_writes (Out key) files placed empty = refl
+placed_writes (Get key) files placed empty = absurd (placed empty)
+placed_writes (Lists maximum values) files placed empty = absurd (placed empty)
+placed_writes (Optimize large) files placed empty = refl
+placed_writes Inform files placed empty = absurd (placed empty)
+placed_writes (Drill seed n) files placed empty = refl
+
 -- ---- marks
 
 hundreds_have : (seed k : ℕ) (m : Mark) → IsIn m (map (with_contents m) (hundreds seed k m.contents))
@@ -168,28 +179,28 @@ module _ (lines : Files → List ℕ → Type 0) where
   on_misplaced : (task : Task) (files : Files) (first : Mark) → IsMisplaced task files → TaskOn lines task Refused files [] first
   on_misplaced task files first not = record { placed = λ is. absurd cc; ok = λ is. absurd cc; printed = λ is. absurd cc; refused = λ is. inl not; front = inl refl }
 
-module _ (reopens : Files → Contents → Type 0) where
+module _ (reopens : Files → Contents → Type 0) (packed : Form → Files → Type 0) where
   at_first : (task : Task) (first : Mark) (o : Option Files) → Reopens reopens o first → AtMark reopens o (marks_of task first)
   at_first task first o r = record { mark = first; listed = first_marked task first; reopen = r }
 
-  exits_unbegun : (task : Task) (end : End) (first : Mark) (o : Option Files) → IsUnbegun end → Reopens reopens o first → ExitsTask reopens task end [] first o
-  exits_unbegun task end first o un r = record { at = at_first task first o r; last = λ more. absurd (⊎_elim (λ c. un.not_carried c) (λ some. some refl) more); stay = λ is. r }
+  exits_unbegun : (task : Task) (end : End) (first : Mark) (o : Option Files) → IsUnbegun end → Reopens reopens o first → ExitsTask reopens packed task end [] first o
+  exits_unbegun task end first o un r = record { at = at_first task first o r; last = λ more. absurd (⊎_elim (λ c. un.not_carried c) (λ some. some refl) more); stay = λ is. r; packs = λ f pack done. absurd (un.not_done done) }
 
-  exits_misplaced : (task : Task) (first : Mark) (o : Option Files) → Reopens reopens o first → ExitsTask reopens task Refused [] first o
-  exits_misplaced task first o r = record { at = at_first task first o r; last = λ more. absurd (⊎_elim (λ c. c) (λ some. some refl) more); stay = λ is. r }
+  exits_misplaced : (task : Task) (first : Mark) (o : Option Files) → Reopens reopens o first → ExitsTask reopens packed task Refused [] first o
+  exits_misplaced task first o r = record { at = at_first task first o r; last = λ more. absurd (⊎_elim (λ c. c) (λ some. some refl) more); stay = λ is. r; packs = λ f pack done. absurd cc }
 
 -- ---- over a space
 
-module _ {S O : Type 0} (s : space.Ghosts S) (g : sink.Ghosts O) (opens reopens : Files → Contents → Type 0) (stand : (files : Files) (c : Contents) → opens files c → reopens files c) (lines : Files → List ℕ → Type 0) (task : Task) where
+module _ {S O : Type 0} (s : space.Ghosts S) (g : sink.Ghosts O) (opens reopens : Files → Contents → Type 0) (stand : (files : Files) (c : Contents) → opens files c → reopens files c) (lines : Files → List ℕ → Type 0) (packed : Form → Files → Type 0) (task : Task) where
   -- what is left at this moment where nothing was begun
-  first_left : (end : End) (old mid : S) (first : Mark) → IsUnbegun end → Fresh s old → Earlier s mid → Begins s opens old first → MovesTo s reopens old mid first → StopsOver s reopens (ExitsTask reopens task end [] first) (marks_of task first) old mid
+  first_left : (end : End) (old mid : S) (first : Mark) → IsUnbegun end → Fresh s old → Earlier s mid → Begins s opens old first → MovesTo s reopens old mid first → StopsOver s reopens (ExitsTask reopens packed task end [] first) (marks_of task first) old mid
   first_left end old mid first un fresh earlier h mv = record {
-    exit = λ o l. exits_unbegun reopens task end first o un (still_first s reopens opens stand old mid first fresh earlier h mv o l);
+    exit = λ o l. exits_unbegun reopens packed task end first o un (still_first s reopens opens stand old mid first fresh earlier h mv o l);
     moments = opening_marks s reopens opens stand old mid first (marks_of task first) (first_marked task first) (kept_stands s reopens opens stand old first fresh h) mv;
   }
 
   -- the database wasn't opened
-  pub over_unopened : (e : AnyErr) (old mid : S) (p : O) → Fresh s old → Earlier s mid → ((m : Mark) → Begins s opens old m → MovesTo s reopens old mid m) → ManagesOver s g opens reopens lines task (end_of e) old mid p p
+  pub over_unopened : (e : AnyErr) (old mid : S) (p : O) → Fresh s old → Earlier s mid → ((m : Mark) → Begins s opens old m → MovesTo s reopens old mid m) → ManagesOver s g opens reopens lines packed task (end_of e) old mid p p
   over_unopened e old mid p fresh earlier moves = record {
     taken = [];
     told = Adds-none (g.taken p);
@@ -198,7 +209,7 @@ module _ {S O : Type 0} (s : space.Ghosts S) (g : sink.Ghosts O) (opens reopens 
   }
 
   -- the main file isn't as it is wanted
-  pub over_misplaced : (old : S) (p : O) → Fresh s old → (s.tells → IsMisplaced task (s.now old)) → ManagesOver s g opens reopens lines task Refused old old p p
+  pub over_misplaced : (old : S) (p : O) → Fresh s old → (s.tells → IsMisplaced task (s.now old)) → ManagesOver s g opens reopens lines packed task Refused old old p p
   over_misplaced old p fresh not = record {
     taken = [];
     told = Adds-none (g.taken p);
@@ -208,7 +219,7 @@ module _ {S O : Type 0} (s : space.Ghosts S) (g : sink.Ghosts O) (opens reopens 
         record {
           on = on_misplaced lines task (s.now old) first (not h.0);
           stops = record {
-            exit = λ o l. exits_misplaced reopens task first o (moved k ((fresh h.0).0 o l));
+            exit = λ o l. exits_misplaced reopens packed task first o (moved k ((fresh h.0).0 o l));
             moments = record { leaves = record { later = omega arith; each = λ t o le l. inl l } };
           };
         };
@@ -217,8 +228,8 @@ module _ {S O : Type 0} (s : space.Ghosts S) (g : sink.Ghosts O) (opens reopens 
   -- it was opened
   pub over_managed : {B : Type 0} (holds : B → Files → Contents → Type 0) (result : Result Bool MgrErr) (base : B) (old mid new : S) (p q : O) → Fresh s old → Fresh s mid → Earlier s new
       → ((m : Mark) → Begins s opens old m → MovesTo s reopens old mid m) → ((m : Mark) → Begins s opens old m → HoldsMark s holds reopens base mid m) → (s.tells → wants_empty task ≡ false → s.now mid ≡ s.now old) → (s.tells → IsMisplaced task (s.now old) → ⊥)
-      → Manages s g holds reopens lines task result base mid new p q → ManagesOver s g opens reopens lines task (end_of_task result) old new p q
-  over_managed holds result base old mid new p q fresh calm earlier moves marks same placed managed = record {
+      → Manages s g holds reopens lines task result base mid new p q → ((m : Mark) → HoldsMark s holds reopens base mid m → PacksTask s packed task result new) → ManagesOver s g opens reopens lines packed task (end_of_task result) old new p q
+  over_managed holds result base old mid new p q fresh calm earlier moves marks same placed managed packs = record {
     taken = managed.taken;
     told = managed.told;
     silent = λ is. managed.none (silent_is result is);
@@ -238,11 +249,12 @@ module _ {S O : Type 0} (s : space.Ghosts S) (g : sink.Ghosts O) (opens reopens 
           stops = record {
             exit = λ o l. record {
               at = ⊎_elim
-                  (λ at_mid. at_first reopens task first o (record { files = s.now mid; is = (calm h.0).0 o at_mid ∙ (calm h.0).1; stand = record { contents = hm.stand; log = hm.has.log } }))
+                  (λ at_mid. at_first reopens packed task first o (record { files = s.now mid; is = (calm h.0).0 o at_mid ∙ (calm h.0).1; stand = record { contents = hm.stand; log = hm.has.log } }))
                   (λ marked. marked)
                   (m.moments.leaves.each (s.moment mid) o (omega arith) (earlier (s.moment mid) (s.moment new) o m.moments.leaves.later l));
               last = λ more. m.last (⊎_elim (λ c. inl (carried_is result c)) (λ some. inr some) more) o l;
               stay = λ is. subst (λ (c : Contents). Reopens reopens o (with_contents first c)) (failed_same task first.contents (sym (m.ok false (refused_is result is)))) (m.last (inl (subst IsThrough (sym (refused_is result is)) tt)) o l);
+              packs = λ f pack done. packs first hm f pack (done_is result done) o l;
             };
             moments = marks_then s reopens opens stand old mid new (marks_of task first) (opening_marks s reopens opens stand old mid first (marks_of task first) (first_marked task first) k (moves first h)) m.moments;
           };
@@ -251,21 +263,21 @@ module _ {S O : Type 0} (s : space.Ghosts S) (g : sink.Ghosts O) (opens reopens 
 
 -- ---- over a volume
 
-module _ {V O : Type 0} {v : volume.Ghosts V} (g : sink.Ghosts O) (reopens : Files → Contents → Type 0) (lines : Files → List ℕ → Type 0) (task : Task) where
+module _ {V O : Type 0} {v : volume.Ghosts V} (g : sink.Ghosts O) (reopens : Files → Contents → Type 0) (lines : Files → List ℕ → Type 0) (packed : Form → Files → Type 0) (task : Task) where
   -- the run never came to an open space
-  pub managed_unopened : (kind : Kind) {name : List ℕ} (end : End) {old new : V} (p : O) → EndsUnopened v name end old new → FilesManaged v.tells g (OpensTo kind reopens) reopens lines task end (v.calls old) (v.calls new) p p
+  pub managed_unopened : (kind : Kind) {name : List ℕ} (end : End) {old new : V} (p : O) → EndsUnopened v name end old new → FilesManaged v.tells g (OpensTo kind reopens) reopens lines packed task end (v.calls old) (v.calls new) p p
   managed_unopened kind end {old} {new} p u = let un = unbegun_early end (early_of u) in record {
     taken = [];
     told = Adds-none (g.taken p);
     silent = λ is. refl;
     ends = λ settled first h. record {
       on = on_unbegun lines task end h.1.files first un;
-      stops = stops_unopened reopens _ _ _ (v.calls old) (v.calls new) first (early_of u, refl) (u.leaves h.0 settled) (of_kind kind reopens _ first h.1) (λ o r. exits_unbegun reopens task end first o un r);
+      stops = stops_unopened reopens _ _ _ (v.calls old) (v.calls new) first (early_of u, refl) (u.leaves h.0 settled) (of_kind kind reopens _ first h.1) (λ o r. exits_unbegun reopens packed task end first o un r);
     };
   }
 
   -- recovery ended well, and the task was carried out over the space
-  pub managed_run : {S : Type 0} {s : space.Ghosts S} {name : List ℕ} {most : ℕ} {vol w : V} {a t : S} (opens : Files → Contents → Type 0) {end : End} {p q : O} → OpensNamed s v name most vol a → Closes s v t w → ManagesOver s g opens reopens lines task end a t p q → FilesManaged v.tells g opens reopens lines task end (v.calls vol) (v.calls w) p q
+  pub managed_run : {S : Type 0} {s : space.Ghosts S} {name : List ℕ} {most : ℕ} {vol w : V} {a t : S} (opens : Files → Contents → Type 0) {end : End} {p q : O} → OpensNamed s v name most vol a → Closes s v t w → ManagesOver s g opens reopens lines packed task end a t p q → FilesManaged v.tells g opens reopens lines packed task end (v.calls vol) (v.calls w) p q
   managed_run opens {end} o closed run = record {
     taken = run.taken;
     told = run.told;
@@ -313,4 +325,4 @@ module _ {S V : Type 0} {s : space.Ghosts S} {v : volume.Ghosts V} {name : List 
   reason_so r t = let b = o.over t in record { which = ⊎_elim (λ not. inl (s.now a, b.files, not)) (λ x. inr (x.0, record { files = s.now a; is = b.files; stand = x.1 }, x.2)) (r.which b.tells) }
 
   pub full_task_so : (fills : Contents → Contents → Type 0) → FullTask s.tells fills (opens (s.now a)) (Begins s opens a) task → FullTask v.tells fills (Recover opens (recovered (now (v.calls vol)))) (BeginsAt v.tells opens (v.calls vol)) task
-  full_task_so fills x = record { which = ⊎_elim (λ y. inl (fills_so o opens fills y)) (λ y. inr (λ first h. y first (begins_so o opens first h))) x.which }
+  full_task_so fills x = record { writes = λ t. x.writes (o.over t).tells; which = ⊎_elim (λ y. inl (fills_so o opens fills y)) (λ y. inr (λ first h. y first (begins_so o opens first h))) x.which }

@@ -1,11 +1,13 @@
 -- The kinds of database in files that stand today.
 use Rattle.std.specs.Prelude.{ℕ, List}
 use Rattle.tc_base.specs.Files.{Files}
+use Rattle.tc_base.specs.declared.kind.Form.{Form}
 use Rattle.tc_base.specs.declared.kind.Kind.{Kind}
 use Rattle.tc_base.specs.declared.kind.Kind.TheVariants as kind
 use Rattle.tc_base.specs.declared.kind.Rule.{Rule}
 use Rattle.tc_model.specs.Contents.{Contents}
 use Rattle.tc_fixed.specs.Holding.{HasNoRoom}
+use Rattle.tc_hash.specs.Packing.{IsPacked}
 use Rattle.tc_hashdb.specs.Filling.{FillsWith}
 use Rattle.tc_hashdb.specs.Holding as hash
 use Rattle.tc_hashdb.specs.Informing as hash_lines
@@ -35,6 +37,11 @@ breaks_of Fixed = fixed.BreaksAs kind.Fixed
 abbrev pub lines_in : Stored → Files → List ℕ → Type 0
 lines_in Hash = hash_lines.Lines
 lines_in Fixed = fixed.Lines
+
+-- files are packed in a form: of a fixed-length file all are
+abbrev pub packed_in : Stored → Form → Files → Type 0
+packed_in Hash form files = IsPacked form (files 0)
+packed_in Fixed form files = Unit {0}
 
 -- a limit is reached between contents and those that a request makes of them: of the length of files, which have these now, or of the undo log
 abbrev pub fills_of : Stored → (ℕ → ℕ) → (ℕ → ℕ) → Type 0 → Contents → Contents → Type 0

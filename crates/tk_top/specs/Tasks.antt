@@ -1,6 +1,7 @@
 -- What a command on files leaves of them, and of what it prints to.
 use Rattle.std.specs.Prelude.{◌≡◌, ◌≢◌, ◌⊎◌, ℕ, max, Bool, true, false, List, [], length, Option, Some, Result, Ok, Err}
 use Rattle.tc_base.specs.Files.{Files}
+use Rattle.tc_base.specs.declared.kind.Form.{Form}
 use Rattle.tc_base.specs.declared.kind.Rule.{Rule}
 use Rattle.tc_io.specs.Images.{Calls, now}
 use Rattle.tc_io.specs.Told.{Adds}
@@ -11,7 +12,7 @@ use Rattle.ud_state.specs.State.{IsSettled}
 use Rattle.tc_model.specs.Contents.{Contents}
 use Rattle.ty_world.specs.World.{Mark}
 use Rattle.ty_rounds.specs.Kept.{AtMark, Reopens}
-use Rattle.tk_mgr.specs.Managing.{FillsTask, IsFrontOf, last_mark, marks_of}
+use Rattle.tk_mgr.specs.Managing.{ArePacked, FillsTask, IsFrontOf, last_mark, marks_of, packing, writes_files}
 use Rattle.tk_mgr.specs.Tasks.{Prints, ok_of}
 use Rattle.tk_mgr.specs.declared.errors.MgrErr.{MgrErr}
 use Rattle.tk_mgr.specs.declared.errors.MgrErr.TheVariants as mgr
@@ -87,33 +88,35 @@ pub record TaskOn (lines : Files → List ℕ → Type 0) (task : Task) (end : E
   pub front : (taken ≡ []) ⊎ IsFrontOf lines task files first.contents taken
 
 -- what a stop leaves at the exit stands for one of its marks; for the last once it is carried out or anything was printed, for the first where it is refused
-pub record ExitsTask (reopens : Files → Contents → Type 0) (task : Task) (end : End) (taken : List ℕ) (first : Mark) (o : Option Files) : Type 0 where
+pub record ExitsTask (reopens : Files → Contents → Type 0) (packed : Form → Files → Type 0) (task : Task) (end : End) (taken : List ℕ) (first : Mark) (o : Option Files) : Type 0 where
   pub at : AtMark reopens o (marks_of task first)
   pub last : IsCarried end ⊎ (taken ≢ []) → Reopens reopens o (last_mark task first)
   pub stay : end ≡ Refused → Reopens reopens o first
+  -- files are packed once a packing is carried out
+  pub packs : (f : Form) → packing task ≡ Some f → end ≡ Done → ArePacked packed f o
 
 -- over a space that began at this mark
-pub record TaskOver {S : Type 0} (s : space.Ghosts S) (reopens : Files → Contents → Type 0) (lines : Files → List ℕ → Type 0) (task : Task) (end : End) (old new : S) (taken : List ℕ) (first : Mark) : Type 0 where
+pub record TaskOver {S : Type 0} (s : space.Ghosts S) (reopens : Files → Contents → Type 0) (lines : Files → List ℕ → Type 0) (packed : Form → Files → Type 0) (task : Task) (end : End) (old new : S) (taken : List ℕ) (first : Mark) : Type 0 where
   pub on : TaskOn lines task end (s.now old) taken first
-  pub stops : StopsOver s reopens (ExitsTask reopens task end taken first) (marks_of task first) old new
+  pub stops : StopsOver s reopens (ExitsTask reopens packed task end taken first) (marks_of task first) old new
 
-pub record ManagesOver {S O : Type 0} (s : space.Ghosts S) (g : sink.Ghosts O) (opens reopens : Files → Contents → Type 0) (lines : Files → List ℕ → Type 0) (task : Task) (end : End) (old new : S) (p q : O) : Type 0 where
+pub record ManagesOver {S O : Type 0} (s : space.Ghosts S) (g : sink.Ghosts O) (opens reopens : Files → Contents → Type 0) (lines : Files → List ℕ → Type 0) (packed : Form → Files → Type 0) (task : Task) (end : End) (old new : S) (p q : O) : Type 0 where
   pub taken : List ℕ
   pub told : Adds (g.taken p) (g.taken q) taken
   pub silent : IsSilent end → taken ≡ []
-  pub ends : (first : Mark) → Begins s opens old first → TaskOver s reopens lines task end old new taken first
+  pub ends : (first : Mark) → Begins s opens old first → TaskOver s reopens lines packed task end old new taken first
 
 -- over a volume whose files, as they read, recovered to these and reopened to this mark
-pub record TaskRun (reopens : Files → Contents → Type 0) (lines : Files → List ℕ → Type 0) (task : Task) (end : End) (files : Files) (old new : Calls) (taken : List ℕ) (first : Mark) : Type 0 where
+pub record TaskRun (reopens : Files → Contents → Type 0) (lines : Files → List ℕ → Type 0) (packed : Form → Files → Type 0) (task : Task) (end : End) (files : Files) (old new : Calls) (taken : List ℕ) (first : Mark) : Type 0 where
   pub on : TaskOn lines task end files taken first
-  pub stops : StopsAt reopens (ExitsTask reopens task end taken first) (IsEarly end × (taken ≡ [])) (marks_of task first) old new
+  pub stops : StopsAt reopens (ExitsTask reopens packed task end taken first) (IsEarly end × (taken ≡ [])) (marks_of task first) old new
 
 -- what was printed, and what a task makes of a volume that was settled
-pub record FilesManaged {O : Type 0} (tells : Type 0) (g : sink.Ghosts O) (opens reopens : Files → Contents → Type 0) (lines : Files → List ℕ → Type 0) (task : Task) (end : End) (old new : Calls) (p q : O) : Type 0 where
+pub record FilesManaged {O : Type 0} (tells : Type 0) (g : sink.Ghosts O) (opens reopens : Files → Contents → Type 0) (lines : Files → List ℕ → Type 0) (packed : Form → Files → Type 0) (task : Task) (end : End) (old new : Calls) (p q : O) : Type 0 where
   pub taken : List ℕ
   pub told : Adds (g.taken p) (g.taken q) taken
   pub silent : IsSilent end → taken ≡ []
-  pub ends : IsSettled old → (first : Mark) (b : BeginsAt tells opens old first) → TaskRun reopens lines task end b.1.files old new taken first
+  pub ends : IsSettled old → (first : Mark) (b : BeginsAt tells opens old first) → TaskRun reopens lines packed task end b.1.files old new taken first
 
 -- a main file that isn't as the task wants it: the run is refused, if no call failed before and there was memory, and the files stay
 pub record Misplaces (task : Task) (end : End) (old new : Calls) : Type 0 where
@@ -128,8 +131,9 @@ pub record ReasonOver {S : Type 0} (s : space.Ghosts S) (opens : Files → Conte
 pub record RefusedAt (opens : Files → Contents → Type 0) (task : Task) (old : Calls) : Type 0 where
   pub which : ((files : Files) × (recovered (now old) ≡ Some files) × IsMisplaced task files) ⊎ ((c : Contents) × Recover opens (recovered (now old)) c × (ok_of task c ≡ false))
 
--- a limit was reached where the files were opened, or along the task
+-- a limit was reached where the files were opened, or along the task, which is one that may write
 pub record FullTask (tells : Type 0) (fills : Contents → Contents → Type 0) (opens : Contents → Type 0) (start : Mark → Type 0) (task : Task) : Type 0 where
+  pub writes : tells → writes_files task ≡ true
   pub which : (tells → (c : Contents) × opens c × fills c c) ⊎ ((first : Mark) → start first → FillsTask fills task first.contents)
 
 -- a space of this volume that has reached a limit; each of its data files may have so many bytes, or as many as it had where that is more

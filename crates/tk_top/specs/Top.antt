@@ -29,7 +29,7 @@ use Rattle.tk_top.specs.Causes.{Caused}
 use Rattle.tk_top.specs.Making.{FilesMade, JudgedMaking, MainIsEmpty, MainIsThere}
 use Rattle.tk_top.specs.Over.{BeginsAt, BreaksAt, FilesRun, FullFiles, Judged, Recover, StandsFor}
 use Rattle.tk_top.specs.Serving.{ServesAt, PlaysAll}
-use Rattle.tk_top.specs.Stored.{anew_of, breaks_of, fills_of, kind_in, lacks_of, lines_in, numbers_of, reopens_of, stored_as}
+use Rattle.tk_top.specs.Stored.{anew_of, breaks_of, fills_of, kind_in, lacks_of, lines_in, numbers_of, packed_in, reopens_of, stored_as}
 use Rattle.tk_top.specs.Tasks.{FilesManaged, FullTask, JudgedTask, Misplaces, RefusedAt}
 use Rattle.tk_top.specs.Words.{asked_of}
 use Rattle.tk_top.specs.declared.words.Asked.{Asked}
@@ -113,7 +113,7 @@ pub record IsFullTask {V : Type 0} (v : volume.Ghosts V) (stored : Stored) (task
 pub record TaskOnFiles {V O : Type 0} (v : volume.Ghosts V) (o : sink.Ghosts O) (end : End) (name : List ℕ) (stored : Stored) (task : Task) (vol vol' : V) (p q : O) : Type 0 where
   pub names : Adds (v.names vol) (v.names vol') (name ∷ []) ⊎ Adds (v.names vol) (v.names vol') []
   -- what was printed, and what any stop leaves of a volume that was settled and whose files stood for contents
-  pub told : FilesManaged v.tells o (Opens stored) (reopens_of stored) (lines_in stored) task end (v.calls vol) (v.calls vol') p q
+  pub told : FilesManaged v.tells o (Opens stored) (reopens_of stored) (lines_in stored) (packed_in stored) task end (v.calls vol) (v.calls vol') p q
   -- where it was carried out, the files stood for contents; where it was refused, for a reason; and where a rule is named, it is the first that is broken
   pub judged : JudgedTask end (v.tells → StandsFor (Opens stored) (v.calls vol)) (λ file rule. v.tells → BreaksAt (breaks_of stored) (v.calls vol) (v.calls vol') file rule) (v.tells → RefusedAt (Opens stored) task (v.calls vol))
   pub misplaced : v.tells → Misplaces task end (v.calls vol) (v.calls vol')

@@ -5,7 +5,7 @@ ghost use Rattle.tc_io.specs.Told.{Adds};
 ghost use Rattle.tc_io.specs.Images.{now};
 ghost use Rattle.tc_space.specs.Effects.{Follows};
 ghost use Rattle.tc_model.specs.Contents.{Contents};
-ghost use Rattle.ty_base.specs.Opening.{Breaks, OpensTo};
+ghost use Rattle.ty_base.specs.Opening.{Breaks, FillsNew, OpensTo};
 ghost use Rattle.ty_world.specs.World.{Mark};
 ghost use Rattle.ty_rounds.specs.Kept.{MovesTo};
 ghost use Rattle.tk_top.specs.declared.ends.End.TheVariants.{Full};
@@ -32,7 +32,7 @@ pub fn open_kept<B: Opens + Drop>(alloc: Global, kind: Kind, space: &mut B::S) -
     ensures same { OnOk result (B.S.tells → (B.S.now space.old 0 ≡ [] → ⊥) → (f : ℕ) → B.S.now space.new f ≡ B.S.now space.old f) }
     ensures broken { IfErr result (λ e. Breaks e (BreaksOver B.S.Space (B.breaks kind) space.old space.new)) }
     ensures moments { (m : Mark) → Begins B.S.Space (OpensTo kind B.reopens) space.old m → MovesTo B.S.Space B.reopens space.old space.new m }
-    ensures full { IsErrOf result AnyErr.Full → B.S.tells → (c : Contents) × OpensTo kind B.reopens (B.S.now space.old) c × B.fills space.new c c }
+    ensures full { IsErrOf result AnyErr.Full → B.S.tells → FillsNew (OpensTo kind B.reopens) (B.fills space.new) (B.S.now space.old) }
     ensures follows { Follows B.S.faults B.S.limit B.S.names space.old space.new }
     ensures cause { IsErrOf result AnyErr.Fault → Rose (B.S.faults space.old) (B.S.faults space.new) }
 {

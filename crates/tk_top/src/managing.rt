@@ -72,7 +72,7 @@ pub fn manage_opened<B: Opens + Drop, O: Sink>(
 ) -> End
     requires sound { B.S.sound space.old }
     requires untouched { B.S.touched space.old ≡ false }
-    ensures told { ManagesOver B.S.Space O.Sink (OpensTo kind B.reopens) B.reopens B.lines task result space.old space.new out.old out.new }
+    ensures told { ManagesOver B.S.Space O.Sink (OpensTo kind B.reopens) B.reopens B.lines B.packed task result space.old space.new out.old out.new }
     ensures judged { JudgedTask result (B.S.tells → (c : Contents) × OpensTo kind B.reopens (B.S.now space.old) c) (BreaksOver B.S.Space (B.breaks kind) space.old space.new) (ReasonOver B.S.Space (OpensTo kind B.reopens) task space.old) }
     // A main file that isn't as the task wants it is looked at, and no more.
     ensures misplaced { B.S.tells → IsMisplaced task (B.S.now space.old) → (result ≡ Refused) × (space.new ≡ space.old) }
@@ -105,7 +105,7 @@ pub fn manage_files<S: OnVolume, B: Opens<S = S> + Drop, O: Sink>(
     // The names that `bind` was given grew by this one, or by nothing.
     ensures names { Adds (S.V.names vol) (S.V.names result.vol) (name.now ∷ []) ⊎ Adds (S.V.names vol) (S.V.names result.vol) [] }
     // What was printed, and what any stop leaves of a volume that was settled and whose files stood for contents.
-    ensures told { FilesManaged S.V.tells O.Sink (OpensTo kind B.reopens) B.reopens B.lines task result.end (S.V.calls vol) (S.V.calls result.vol) out.old out.new }
+    ensures told { FilesManaged S.V.tells O.Sink (OpensTo kind B.reopens) B.reopens B.lines B.packed task result.end (S.V.calls vol) (S.V.calls result.vol) out.old out.new }
     // Where it was carried out, the files stood for contents; where it was refused, for a reason; and where a rule is named, it is broken.
     ensures judged { JudgedTask result.end (S.V.tells → StandsFor (OpensTo kind B.reopens) (S.V.calls vol)) (λ file rule. S.V.tells → BreaksAt (B.breaks kind) (S.V.calls vol) (S.V.calls result.vol) file rule) (S.V.tells → RefusedAt (OpensTo kind B.reopens) task (S.V.calls vol)) }
     ensures misplaced { S.V.tells → Misplaces task result.end (S.V.calls vol) (S.V.calls result.vol) }

@@ -9,7 +9,7 @@ use Rattle.tc_model.specs.Apply.{apply, applied, updates}
 use Rattle.tc_model.specs.Applying.{Applies}
 use Rattle.tc_model.specs.Packing.{is_optimize}
 use Rattle.tc_model.specs.declared.applied.Applied.{Applied}
-use Rattle.ty_base.specs.Holding.{Held, Leaves, Serves}
+use Rattle.ty_base.specs.Holding.{Held, Leaves, Serves, FillsBy}
 use Rattle.ty_answers.specs.Engines.{engine_of}
 use Rattle.ty_answers.specs.Steps.{IsFullStep, Steps}
 use Rattle.ty_answers.specs.declared.database.Database.{Database}
@@ -41,5 +41,5 @@ module _ {S E : Type 0} (s : Ghosts S) (holds : E → Files → Contents → Typ
     reads = λ i. n.idle (sym (ap (λ u. done && u) up) ∙ (quiet i).0) (quiet i).1;
   }
 
-  pub full_applies : (fills : S → Contents → Contents → Type 0) (r : Request) (w : Walk) (e : E) (x y : S) → IsFullStep s holds fills r w e x y → (c : Contents) → Held s holds e x c → fills y c (apply false r c w).contents
-  full_applies fills r w e x y full c h = subst (λ step. fills y c step.contents) (sym (applied_here r c w)) (full.by c h)
+  pub full_applies : (fills : S → Contents → Contents → Type 0) (r : Request) (w : Walk) (e : E) (x y : S) → IsFullStep s holds fills r w e x y → FillsBy s holds (fills y) r e x (λ c. (apply false r c w).contents)
+  full_applies fills r w e x y full = record { writes = full.writes; by = λ c h. subst (λ step. fills y c step.contents) (sym (applied_here r c w)) (full.by c h) }

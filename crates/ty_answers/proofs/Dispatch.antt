@@ -10,7 +10,7 @@ use Rattle.tc_space.specs.declared.space.Space.{Ghosts}
 use Rattle.ty_wire.specs.Spelling.{reply_bytes}
 use Rattle.tc_model.specs.Contents.{Contents, Walk}
 use Rattle.tc_model.specs.Apply.{Effect, Step, applied, effect, fits, refusal_of, refused, took, updates}
-use Rattle.ty_base.specs.Holding.{Held}
+use Rattle.ty_base.specs.Holding.{Held, may_write}
 use Rattle.ty_answers.specs.Answers.{Answered, Answers, IsFullBy, contents_of, told_by}
 use Rattle.ty_answers.specs.Answers as answers
 use Rattle.ty_answers.specs.Steps.{Ends, IsFullStep, Steps}
@@ -97,10 +97,11 @@ module _ {S E : Type 0} (s : Ghosts S) (holds : E → Files → Contents → Typ
     idle = λ i packs. absurd (let f : true ≡ false = packs in cc);
   })
 
-  pub full_arm : (fills : S → Contents → Contents → Type 0) (r shape : Request) (shown : answers.Request) (e : E) (a b : S) (w : Walk) → r ≡ shape → is_plain shape ≡ true → ((c : Contents) → shown c ≡ effect shape c) → IsFullBy s holds fills shown e a b → IsFullStep s holds fills r w e a b
-  full_arm fills r shape shown e a b w is plain same full = subst (λ q. IsFullStep s holds fills q w e a b) (sym is) (record {
+  pub full_arm : (fills : S → Contents → Contents → Type 0) (r shape : Request) (shown : answers.Request) (e : E) (a b : S) (w : Walk) → r ≡ shape → is_plain shape ≡ true → may_write shape ≡ true → ((c : Contents) → shown c ≡ effect shape c) → IsFullBy s holds fills shown e a b → IsFullStep s holds fills r w e a b
+  full_arm fills r shape shown e a b w is plain may same full = subst (λ q. IsFullStep s holds fills q w e a b) (sym is) (record {
+    writes = may;
     by = λ c h. subst (λ d. fills b c d) (ap (λ q. contents_of q c) (same c) ∙ (took_contents shape (effect shape c) c w ∙ ap (λ q. q.contents) (sym (plain_applied shape c w plain)))) (full.by c h);
   })
 
   pub full_packing : (fills : S → Contents → Contents → Type 0) (r : Request) (text : List ℕ) (e : E) (a b : S) (w : Walk) → r ≡ Optimize text → ((c : Contents) → Held s holds e a c → fills b c c) → IsFullStep s holds fills r w e a b
-  full_packing fills r text e a b w is full = full_arm fills r (Optimize text) (told_by (λ c. Some answer.Done)) e a b w is refl (λ c. refl) (record { by = λ c h. subst (λ d. fills b c d) (sym (same_contents (fits answer.Done) c)) (full c h) })
+  full_packing fills r text e a b w is full = full_arm fills r (Optimize text) (told_by (λ c. Some answer.Done)) e a b w is refl refl (λ c. refl) (record { by = λ c h. subst (λ d. fills b c d) (sym (same_contents (fits answer.Done) c)) (full c h) })

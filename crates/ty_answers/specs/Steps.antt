@@ -1,5 +1,5 @@
 -- What a request, of whichever sort, leaves of an engine, of the walk and of the bytes of replies.
-use Rattle.std.specs.Prelude.{◌≡◌, ◌++◌, ◌&&◌, ℕ, Bool, false, List}
+use Rattle.std.specs.Prelude.{◌≡◌, ◌++◌, ◌&&◌, ℕ, Bool, true, false, List}
 use Rattle.tc_base.specs.Files.{Files}
 use Rattle.tc_base.specs.declared.request.Request.{Request}
 use Rattle.tc_space.specs.Frames.{OnlyReads}
@@ -8,7 +8,7 @@ use Rattle.ty_wire.specs.Spelling.{reply_bytes}
 use Rattle.tc_model.specs.Contents.{Contents, Walk}
 use Rattle.tc_model.specs.Apply.{Step, applied, updates}
 use Rattle.tc_model.specs.Packing.{is_optimize}
-use Rattle.ty_base.specs.Holding.{Held, Stays}
+use Rattle.ty_base.specs.Holding.{Held, Stays, may_write}
 
 -- contents, walk, success and reply are those of the step
 pub record Ends (step : Step) (done : Bool) (c : Contents) (w : Walk) (old new : List ℕ) : Type 0 where
@@ -24,6 +24,7 @@ pub record Steps {S E : Type 0} (s : Ghosts S) (holds : E → Files → Contents
   pub applied_is : (c : Contents) → Held s holds e a c → (d : Contents) × Held s holds e' b d × Ends (applied r c w) done d w' old new
   pub idle : (done && updates r) ≡ false → is_optimize r ≡ false → OnlyReads s a b
 
--- a limit is reached, as the space stands, between the contents and those that the request was to leave
+-- a limit is reached, as the space stands, where a request may write, between the contents and those that the request was to leave
 pub record IsFullStep {S E : Type 0} (s : Ghosts S) (holds : E → Files → Contents → Type 0) (fills : S → Contents → Contents → Type 0) (r : Request) (w : Walk) (e : E) (a b : S) : Type 0 where
+  pub writes : may_write r ≡ true
   pub by : (c : Contents) → Held s holds e a c → fills b c (applied r c w).contents

@@ -5,6 +5,7 @@ ghost use Rattle.tc_space.specs.Frames.{Keeps, Refuses};
 ghost use Rattle.ty_base.specs.Holding.{Held, IsReady};
 ghost use Rattle.ty_wire.specs.Prefixes.{IsPrefix};
 ghost use Rattle.tc_engine.specs.Changes.{all_cleared, all_gone, all_pushed, all_stored, pushed, stored, taken};
+ghost use Rattle.tc_base.specs.declared.kind.Form.TheVariants.{Keep};
 ghost use Rattle.tc_base.specs.declared.request.Reply.TheVariants as answer;
 ghost use Rattle.tc_model.specs.Contents.{Contents};
 ghost use Rattle.ty_answers.specs.Answers.{Answers, IsFullBy, changed_by, done_reply, fail_reply, told_by};
@@ -185,6 +186,7 @@ pub fn optimize<E: Engine>(
     reply: &mut Blob,
 ) -> Result<bool, RecErr>
     requires { IsReady E.S.Space E.holds engine.old space.old }
+    ensures tight { OnOk result (E.tight engine.new Keep) }
     ensures answers { IfOk result (λ done. Answers E.S.Space E.holds (told_by (λ c. Some answer.Done)) answer.Fail true done engine.old engine.new space.old space.new reply.old reply.new) }
     ensures refused { OnErr result (Refuses E.S.Space (Held E.S.Space E.holds) engine.old engine.new space.old space.new) }
     ensures front { IsPrefix reply.old reply.new }

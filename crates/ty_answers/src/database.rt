@@ -1,12 +1,14 @@
 //! A database behind requests, over any engine.
 ghost use Rattle.std.specs.Prelude.{◌≡◌, ◌++◌, true, false, List, ℕ, OnOk, OnErr, IfOk, IsErrOf};
 ghost use Rattle.tc_base.specs.Files.{Files};
+ghost use Rattle.tc_base.specs.declared.kind.Form.TheVariants.{Keep};
 ghost use Rattle.tc_io.specs.Causes.{Rose};
 ghost use Rattle.tc_space.specs.Frames.{Keeps, Refuses};
 ghost use Rattle.ty_base.specs.Holding.{AreApart, Declines, Held, IsReady};
 ghost use Rattle.ty_wire.specs.Prefixes.{IsPrefix};
 ghost use Rattle.tc_model.specs.Apply.{updates};
 ghost use Rattle.tc_model.specs.Contents.{Contents};
+ghost use Rattle.tc_model.specs.Packing.{is_optimize};
 ghost use Rattle.ty_answers.specs.Engines.{engine_of};
 ghost use Rattle.ty_answers.specs.Steps.{IsFullStep, Steps};
 
@@ -53,6 +55,7 @@ fn serve<E: Engine>(
     requires ready { IsReady E.S.Space E.holds engine.old space.old }
     requires updating { updating ≡ updates request }
     ensures steps { IfOk result (λ done. Steps E.S.Space E.holds request done engine.old engine.new space.old space.new walk.old walk.new reply.old reply.new) }
+    ensures tight { OnOk result (is_optimize request ≡ true → E.tight engine.new Keep) }
     ensures declines { OnErr result (Declines E.S.Space E.holds engine.old engine.new space.old space.new walk.old walk.new) }
     ensures front { IsPrefix reply.old reply.new }
     ensures full { IsErrOf result RecErr.Full → IsFullStep E.S.Space E.holds E.fills request walk.old engine.old space.old space.new }
@@ -116,6 +119,10 @@ impl<E: Engine> Base for Database<E> {
     ghost fills = { E.fills };
 
     ghost lines = { E.lines };
+
+    ghost tight = { λ b. E.tight (engine_of b) };
+
+    ghost packed = { E.packed };
 
     ghost apart = { λ b. E.apart (engine_of b) };
 

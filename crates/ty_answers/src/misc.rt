@@ -32,6 +32,7 @@ fn perform<E: Engine>(
     ensures answers { IfOk result (λ done. Answers E.S.Space E.holds (meant misc) FailMisc (misc_updates misc) done engine.old engine.new space.old space.new reply.old reply.new) }
     ensures refused { OnErr result (Refuses E.S.Space (Held E.S.Space E.holds) engine.old engine.new space.old space.new) }
     ensures front { IsPrefix reply.old reply.new }
+    ensures writes { IsErrOf result RecErr.Full → misc_updates misc ≡ true }
     ensures full { IsErrOf result RecErr.Full → IsFullBy E.S.Space E.holds E.fills (meant misc) engine.old space.old space.new }
     ensures keeps { Keeps E.S.Space space.old space.new }
     ensures cause { IsErrOf result RecErr.Fault → Rose (E.S.faults space.old) (E.S.faults space.new) }
@@ -82,6 +83,7 @@ pub fn call<E: Engine>(
     ensures answers { IfOk result (λ done. Answers E.S.Space E.holds (called name.now options args.now) FailMisc (updates_call name.now args.now) done engine.old engine.new space.old space.new reply.old reply.new) }
     ensures refused { OnErr result (Refuses E.S.Space (Held E.S.Space E.holds) engine.old engine.new space.old space.new) }
     ensures front { IsPrefix reply.old reply.new }
+    ensures writes { IsErrOf result RecErr.Full → updates_call name.now args.now ≡ true }
     ensures full { IsErrOf result RecErr.Full → IsFullBy E.S.Space E.holds E.fills (called name.now options args.now) engine.old space.old space.new }
     ensures keeps { Keeps E.S.Space space.old space.new }
     ensures cause { IsErrOf result RecErr.Fault → Rose (E.S.faults space.old) (E.S.faults space.new) }

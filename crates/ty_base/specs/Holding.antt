@@ -1,5 +1,5 @@
 -- What a database holds over the files of its space.
-use Rattle.std.specs.Prelude.{◌≡◌, ◌≢◌, ◌⊎◌, ℕ, false, List}
+use Rattle.std.specs.Prelude.{◌≡◌, ◌≢◌, ◌⊎◌, ◌||◌, ℕ, Bool, true, false, List}
 use Rattle.std.proofs.Common.{◌∙◌, arith, refl, sym}
 use Rattle.tc_base.specs.Files.{Files}
 use Rattle.tc_base.specs.declared.request.Request.{Request}
@@ -7,8 +7,9 @@ use Rattle.tc_space.specs.Frames.{OnlyReads, Others, Reads, only_reads_refl}
 use Rattle.tc_space.specs.Stores.{Only}
 use Rattle.tc_space.specs.declared.space.Space.{Ghosts}
 use Rattle.tc_model.specs.Contents.{Contents, Walk}
-use Rattle.tc_model.specs.Apply.{Step}
+use Rattle.tc_model.specs.Apply.{Step, updates}
 use Rattle.tc_model.specs.Applying.{Applies}
+use Rattle.tc_model.specs.Packing.{is_optimize}
 use Rattle.tc_model.specs.declared.applied.Applied.{Applied}
 
 -- it holds these contents, with the files as they are now
@@ -20,6 +21,15 @@ pub record Serves {S B : Type 0} (s : Ghosts S) (held : B → Files → Contents
   pub contents : Contents
   pub holds : Held s held base space contents
   pub applies : Applies step r a contents w old new
+
+-- a request that may write files: one that may change contents, or pack the files
+abbrev pub may_write : Request → Bool
+may_write r = updates r || is_optimize r
+
+-- a limit is reached, where a request may write, between what is held and what it makes of that
+pub record FillsBy {S B : Type 0} (s : Ghosts S) (holds : B → Files → Contents → Type 0) (fills : Contents → Contents → Type 0) (r : Request) (base : B) (space : S) (after : Contents → Contents) : Type 0 where
+  pub writes : may_write r ≡ true
+  pub by : (c : Contents) → Held s holds base space c → fills c (after c)
 
 -- it may be used: so may the space, and some contents are held where files are told
 pub record IsReady {S B : Type 0} (s : Ghosts S) (holds : B → Files → Contents → Type 0) (base : B) (space : S) : Type 0 where

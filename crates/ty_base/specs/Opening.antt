@@ -29,6 +29,13 @@ pub record IsCreated {B N : Type 0} (held : B → Files → Contents → Type 0)
   pub some : files 0 ≡ [] → ⊥
   pub numbers : has_numbers shape files
 
+-- the main file is empty, and a limit is reached as it is given what it is to stand for
+pub record FillsNew (opens : Files → Contents → Type 0) (fills : Contents → Contents → Type 0) (files : Files) : Type 0 where
+  pub empty : files 0 ≡ []
+  pub contents : Contents
+  pub stand : opens files contents
+  pub full : fills contents contents
+
 -- the same cause
 abbrev pub any_of : RecErr → AnyErr
 any_of rec.Full = any.Full

@@ -1,13 +1,15 @@
 //! One database over a space.
-ghost use Rattle.std.specs.Prelude.{◌≡◌, ◌++◌, ℕ, false, List, OnOk, OnErr, IfOk, IsErrOf};
+ghost use Rattle.std.specs.Prelude.{◌≡◌, ◌++◌, ℕ, false, true, List, OnOk, OnErr, IfOk, IsErrOf};
 ghost use Rattle.tc_base.specs.Files.{Files};
+ghost use Rattle.tc_base.specs.declared.kind.Form.{Form};
+ghost use Rattle.tc_base.specs.declared.kind.Form.TheVariants.{Keep};
 ghost use Rattle.tc_io.specs.Causes.{Rose};
 ghost use Rattle.tc_space.specs.Frames.{Keeps, Reads, Refuses};
 ghost use Rattle.ty_wire.specs.Prefixes.{IsPrefix};
 ghost use Rattle.tc_model.specs.Contents.{Contents, kind_of};
 ghost use Rattle.tc_model.specs.Apply.{apply};
 ghost use Rattle.tc_model.specs.Packing.{is_optimize};
-ghost use Rattle.ty_base.specs.Holding.{AreApart, Declines, Held, IsReady, Leaves, Serves, Stays};
+ghost use Rattle.ty_base.specs.Holding.{AreApart, Declines, FillsBy, Held, IsReady, Leaves, Serves, Stays};
 
 use tc_base::{Blob, Form, Kind, Request};
 use tc_model::{Applied, Walk};
@@ -31,6 +33,12 @@ pub trait Base {
     /// What an inspection tells of files behind what it tells of contents; nothing in memory.
     ghost lines: { Files → List ℕ → Type 0 };
 
+    /// It was packed in a form since it was last changed.
+    ghost tight: { Self → Form → Type 0 };
+
+    /// Files are packed in a form: no space lies free in them.
+    ghost packed: { Form → Files → Type 0 };
+
     /// Its kind.
     fn kind(&self) -> Kind
         ensures { (files : Files) (c : Contents) → holds self.now files c → result ≡ kind_of c };
@@ -45,16 +53,18 @@ pub trait Base {
     ) -> Result<Applied, RecErr>
         requires ready { IsReady Self.S.Space holds self.old space.old }
         ensures applied { IfOk result (λ a. (c : Contents) → Held Self.S.Space holds self.old space.old c → Serves Self.S.Space holds (apply false request c walk.old) request a self.new space.new walk.new reply.old reply.new) }
+        ensures tight { OnOk result (is_optimize request ≡ true → tight self.new Keep) }
         ensures leaves { IfOk result (λ a. Leaves Self.S.Space ((a.updated ≡ false) × (is_optimize request ≡ false)) space.old space.new) }
         ensures refused { OnErr result (Declines Self.S.Space holds self.old self.new space.old space.new walk.old walk.new) }
         ensures reply_front { IsPrefix reply.old reply.new }
-        ensures full { IsErrOf result RecErr.Full → (c : Contents) → Held Self.S.Space holds self.old space.old c → fills space.new c (apply false request c walk.old).contents }
+        ensures full { IsErrOf result RecErr.Full → FillsBy Self.S.Space holds (fills space.new) request self.old space.old (λ c. (apply false request c walk.old).contents) }
         ensures keeps { Keeps Self.S.Space space.old space.new }
         ensures cause { IsErrOf result RecErr.Fault → Rose (Self.S.faults space.old) (Self.S.faults space.new) };
 
     /// Brings what is held in memory to the files, which then stand for the contents.
     fn settle(&mut self, space: &mut Self::S) -> Result<(), RecErr>
         requires ready { IsReady Self.S.Space holds self.old space.old }
+        ensures packs { OnOk result ((form : Form) (c : Contents) → tight self.old form → Held Self.S.Space holds self.old space.old c → packed form (Self.S.now space.new)) }
         ensures settled { OnOk result ((c : Contents) → Held Self.S.Space holds self.old space.old c → Held Self.S.Space holds self.new space.new c × reopens (Self.S.now space.new) c) }
         ensures sound { OnOk result (Self.S.sound space.new) }
         ensures log { OnOk result (Stays Self.S.Space 2 space.old space.new) }
@@ -66,6 +76,7 @@ pub trait Base {
     /// Packs the files, in place or in the large form. The contents stay, and stand in the files once it is settled.
     fn pack(&mut self, space: &mut Self::S, form: Form) -> Result<(), RecErr>
         requires ready { IsReady Self.S.Space holds self.old space.old }
+        ensures tight { OnOk result (tight self.new form) }
         ensures packed { OnOk result ((c : Contents) → Held Self.S.Space holds self.old space.old c → Held Self.S.Space holds self.new space.new c) }
         ensures sound { OnOk result (Self.S.sound space.new) }
         ensures log { OnOk result (Stays Self.S.Space 2 space.old space.new) }

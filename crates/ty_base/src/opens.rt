@@ -7,7 +7,7 @@ ghost use Rattle.tc_io.specs.Causes.{Rose};
 ghost use Rattle.tc_space.specs.Frames.{Keeps, OnlyReads};
 ghost use Rattle.tc_model.specs.Contents.{Contents};
 ghost use Rattle.ty_base.specs.Holding.{StaysUsable};
-ghost use Rattle.ty_base.specs.Opening.{Breaks, IsCreated, IsNotBroken, IsOpened, OpensTo};
+ghost use Rattle.ty_base.specs.Opening.{Breaks, FillsNew, IsCreated, IsNotBroken, IsOpened, OpensTo};
 
 use crate::base::Base;
 use crate::errors::AnyErr;
@@ -43,7 +43,7 @@ pub trait Opens: Base {
         ensures broken { IfErr result (λ e. Breaks e (λ file rule. Self.S.tells → breaks kind (Self.S.now space.old) file rule)) }
         ensures usable { OnOk result (StaysUsable Self.S.Space space.old space.new) }
         ensures reads { Self.S.tells → (Self.S.now space.old 0 ≡ [] → ⊥) → OnlyReads Self.S.Space space.old space.new }
-        ensures full { IsErrOf result AnyErr.Full → Self.S.tells → (c : Contents) × OpensTo kind Self.reopens (Self.S.now space.old) c × Self.fills space.new c c }
+        ensures full { IsErrOf result AnyErr.Full → Self.S.tells → FillsNew (OpensTo kind Self.reopens) (Self.fills space.new) (Self.S.now space.old) }
         ensures keeps { Keeps Self.S.Space space.old space.new }
         ensures cause { IsErrOf result AnyErr.Fault → Rose (Self.S.faults space.old) (Self.S.faults space.new) };
 

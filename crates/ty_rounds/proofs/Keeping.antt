@@ -18,6 +18,10 @@ module _ {S : Type 0} (s : Ghosts S) where
   pub settled_moves : (reopens : Files → Contents → Type 0) (a b : S) (m : Mark) → Keeps s a b → s.tells → MovesTo s reopens a b m
   settled_moves reopens a b m keeps t = let st = keeps.steady t in record { leaves = record { later = st.leaves.later; each = λ u o le l. ⊎_elim (λ was. inl was) (λ is. inr (inl is)) (st.leaves.each u o le l) } }
 
+  -- the commit leaves the files as they are
+  pub kept_packed : (packed : Files → Type 0) (b d : S) → ((g : ℕ) → s.now d g ≡ s.now b g) → packed (s.now b) → packed (s.now d)
+  kept_packed packed b d now is = subst packed (λ i f. sym (now f) i) is
+
   -- what is settled: whatever was held, it is, and the files stand for it
   abbrev pub Settles : {B : Type 0} → (B → Files → Contents → Type 0) → (Files → Contents → Type 0) → B → B → S → S → Type 0
   Settles holds reopens base base' a b = (c : Contents) → Held s holds base a c → Held s holds base' b c × reopens (s.now b) c

@@ -27,7 +27,7 @@ use Rattle.ty_rounds.specs.Peers.{numbers, all_taken}
 use Rattle.ty_rounds.specs.Ready.{FewUnread, FewWaiting}
 use Rattle.ty_rounds.specs.Holding.{Holds, AllHold, RoundsTo}
 use Rattle.ty_rounds.specs.Repls.{OwesRepl}
-use Rattle.ty_rounds.specs.Serving.{RoundsOne, ServesOne, FillsAt, Halfway}
+use Rattle.ty_rounds.specs.Serving.{RoundsOne, ServesOne, FillsAt, Halfway, MayWrite}
 use Rattle.ty_rounds.specs.declared.peer.Peer.{Peer}
 
 -- ---- one
@@ -199,7 +199,7 @@ more u v c0 c c' w0 w w' old ps ks i p q h lt is serves = go h.back h.rest refl 
         }
 
 -- a limit was reached at the next request
-pub fills_at : (fills : Contents → Contents → Type 0) (u : Bool) (c0 : Contents) (c : Contents → Type 0) (w0 w : Walk) (old ps : List Peer) (ks : List Client) (i : ℕ) (p : Peer) → Halfway u c0 c w0 w old ps i ks → i < length ps → p ≡ get_or ps i p → ((d : Contents) → c d → (k : Client) → Holds p k → fills d (round_one d w k).contents) → FillsAt fills c0 w0 ks
+pub fills_at : (fills : Contents → Contents → Type 0) (u : Bool) (c0 : Contents) (c : Contents → Type 0) (w0 w : Walk) (old ps : List Peer) (ks : List Client) (i : ℕ) (p : Peer) → Halfway u c0 c w0 w old ps i ks → i < length ps → p ≡ get_or ps i p → ((d : Contents) → c d → (k : Client) → Holds p k → MayWrite k × fills d (round_one d w k).contents) → FillsAt fills c0 w0 ks
 fills_at fills u c0 c w0 w old ps ks i p h lt is full = go h.back h.rest refl refl h.left
   where
     go : (back : List Peer) (rest : List Client) → h.back ≡ back → h.rest ≡ rest → AllHold back rest → FillsAt fills c0 w0 ks
@@ -215,7 +215,8 @@ fills_at fills u c0 c w0 w old ps ks i p h lt is full = go h.back h.rest refl re
           front = h.served;
           back = k ∷ ys;
           parts = h.clients_are ∙ ap (λ (l : List Client). h.served ++ l) f;
-          full = subst (λ (d : Contents). fills now.contents d) (sym (more_contents c0 w0 h.served k)) (subst (λ (v : Walk). fills now.contents (round_one now.contents v k).contents) h.walk one);
+          writes = one.0;
+          full = subst (λ (d : Contents). fills now.contents d) (sym (more_contents c0 w0 h.served k)) (subst (λ (v : Walk). fills now.contents (round_one now.contents v k).contents) h.walk one.1);
         }
 
 pub finish : (u : Bool) (c0 : Contents) (c : Contents → Type 0) (w0 w : Walk) (old ps : List Peer) (ks : List Client) (i : ℕ) → Halfway u c0 c w0 w old ps i ks → length ps ≤ i → RoundsTo u c w ps (round_all c0 w0 ks)

@@ -391,5 +391,5 @@ module _ {S B W : Type 0} (s : space.Ghosts S) (g : wire.Ghosts W) (holds : B �
     some = λ w st. let js = heard (map unstopped w.there) ev hears.asks.bytes in subst (λ (v : Walk). FillsAt fills w.contents v js) (sym st.walk) (full w.contents st.mark.has.held js (hears.holds w.there st.each));
   }
 
-  pub full_keep : (fills : Contents → Contents → Type 0) (b b1 : B) (a a1 : S) (x y : W) (k l : Walk) (ps ps1 ps2 : List Peer) (ev : Ev) (u : Bool) → Hears g x y ps ps1 ev → Rounds s holds u b b1 a a1 k l ps1 ps2 → ((c : Contents) → Held s holds b1 a1 c → fills c c) → FullTurn fills (Known b a) (g.given x) k ps (g.transcript x) (g.transcript y)
-  full_keep fills b b1 a a1 x y k l ps ps1 ps2 ev u hears rounds full = full_round fills b a x y k ps ps1 ev hears (λ c hc js held. record { front = js; back = []; parts = sym (append-nil js); full = full (round_all c k js).contents (rounds.each c hc js held).contents })
+  pub full_keep : (fills : Contents → Contents → Type 0) (b b1 : B) (a a1 : S) (x y : W) (k l : Walk) (ps ps1 ps2 : List Peer) (ev : Ev) (u : Bool) → Hears g x y ps ps1 ev → Rounds s holds u b b1 a a1 k l ps1 ps2 → (u ≡ true) × ((c : Contents) → Held s holds b1 a1 c → fills c c) → FullTurn fills (Known b a) (g.given x) k ps (g.transcript x) (g.transcript y)
+  full_keep fills b b1 a a1 x y k l ps ps1 ps2 ev u hears rounds full = full_round fills b a x y k ps ps1 ev hears (λ c hc js held. record { front = js; back = []; parts = sym (append-nil js); writes = sym (rounds.each c hc js held).was ∙ full.0; full = full.1 (round_all c k js).contents (rounds.each c hc js held).contents })

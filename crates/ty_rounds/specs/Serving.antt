@@ -1,12 +1,14 @@
 -- What serving one connection does.
-use Rattle.std.specs.Prelude.{◌≡◌, ℕ, Bool, false, List, [], ◌∷◌, ◌++◌, length, map}
+use Rattle.std.specs.Prelude.{◌≡◌, ℕ, Bool, true, false, List, [], ◌∷◌, ◌++◌, length, map}
 use Rattle.tc_io.specs.declared.wire.Ev.{Ev}
 use Rattle.tc_model.specs.Contents.{Contents, Walk}
 use Rattle.ty_world.specs.World.{Client, World, round_one, round_all, heard, unstopped}
 use Rattle.tc_base.specs.Files.{Files}
+use Rattle.tc_base.specs.declared.request.Request.{Request}
 use Rattle.tc_space.specs.declared.space.Space as space
 use Rattle.ty_base.specs.Holding as holding
-use Rattle.ty_base.specs.Holding.{Held, Leaves}
+use Rattle.ty_base.specs.Holding.{Held, Leaves, may_write}
+use Rattle.ty_core.specs.Serving.{Begins}
 use Rattle.ty_rounds.specs.Holding.{Holds, AllHold, RoundsTo}
 use Rattle.ty_rounds.specs.Peers.{numbers}
 use Rattle.ty_rounds.specs.Ready.{Each, FewUnread, FewWaiting, IsCalm}
@@ -27,11 +29,23 @@ abbrev pub behind_next : Contents → Walk → List Client → List Client → C
 behind_next c w front [] = (round_all c w front).contents
 behind_next c w front (k ∷ ks) = (round_all c w (front ++ k ∷ [])).contents
 
--- somewhere in a round this holds of the contents behind its first requests and of those behind one more
+-- the request at the front of a client's bytes may write
+pub record MayWrite (k : Client) : Type 0 where
+  pub request : Request
+  pub begins : Begins request k.unread
+  pub writes : may_write request ≡ true
+
+-- so may the next request, or behind the last there is anything to commit
+abbrev pub NextWrites : Bool → List Client → Type 0
+NextWrites commits [] = commits ≡ true
+NextWrites commits (k ∷ ks) = MayWrite k
+
+-- somewhere in a round, where something is to be written, this holds of the contents behind its first requests and of those behind one more
 pub record FillsAt (fills : Contents → Contents → Type 0) (c : Contents) (w : Walk) (ks : List Client) : Type 0 where
   pub front : List Client
   pub back : List Client
   pub parts : ks ≡ front ++ back
+  pub writes : NextWrites (round_all c w front).commits back
   pub full : fills (round_all c w front).contents (behind_next c w front back)
 
 -- and in the round of an event

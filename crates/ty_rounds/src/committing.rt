@@ -1,15 +1,15 @@
 //! What was done is brought to the files and kept.
-ghost use Rattle.std.specs.Prelude.{◌≡◌, false, OnOk, IfErr, IsErrOf};
+ghost use Rattle.std.specs.Prelude.{◌≡◌, false, true, OnOk, IfErr, IsErrOf};
+ghost use Rattle.tc_base.specs.declared.kind.Form.{Form};
 ghost use Rattle.tc_io.specs.Causes.{Rose};
 ghost use Rattle.tc_space.specs.Effects.{Follows};
 ghost use Rattle.tc_space.specs.Frames.{OnlyReads};
 ghost use Rattle.tc_model.specs.Contents.{Contents};
-ghost use Rattle.ty_base.specs.Holding as holding;
 ghost use Rattle.ty_base.specs.Holding.{Held};
 ghost use Rattle.ty_world.specs.World.{Mark};
 ghost use Rattle.ty_rounds.specs.declared.outcome.TurnErr.TheVariants.{Wire as wire_err};
 ghost use Rattle.ty_rounds.specs.Kept.{HasMark, MovesTo};
-ghost use Rattle.ty_rounds.specs.Keeping.{IsKept};
+ghost use Rattle.ty_rounds.specs.Keeping.{IsKept, MayKeep};
 
 use crate::outcome::TurnErr;
 use tc_space::Space;
@@ -19,13 +19,13 @@ use ty_base::Base;
 ///
 /// On an `Err`, which is never `Wire`, a stop leaves what was kept before or what stands for what was held; the space is to be opened again.
 pub fn keep<B: Base>(base: &mut B, space: &mut B::S, commits: bool) -> Result<(), TurnErr>
-    requires ready { holding.IsReady B.S.Space B.holds base.old space.old }
-    requires untouched { commits ≡ false → B.S.touched space.old ≡ false }
+    requires may { MayKeep B.S.Space B.holds commits base.old space.old }
     ensures kept { OnOk result (IsKept B.S.Space B.holds B.reopens commits base.old base.new space.old space.new) }
+    ensures packs { OnOk result (commits ≡ true → (form : Form) (c : Contents) → B.tight base.old form → Held B.S.Space B.holds base.old space.old c → B.packed form (B.S.now space.new)) }
     ensures moments { (m : Mark) → HasMark B.S.Space B.holds base.old space.old m → MovesTo B.S.Space B.reopens space.old space.new m }
     ensures idle { commits ≡ false → OnlyReads B.S.Space space.old space.new }
     ensures not_wire { IfErr result (λ e. e ≡ wire_err → ⊥) }
-    ensures full { IsErrOf result TurnErr.Full → (c : Contents) → Held B.S.Space B.holds base.old space.old c → B.fills space.new c c }
+    ensures full { IsErrOf result TurnErr.Full → (commits ≡ true) × ((c : Contents) → Held B.S.Space B.holds base.old space.old c → B.fills space.new c c) }
     ensures follows { Follows B.S.faults B.S.limit B.S.names space.old space.new }
     ensures cause { IsErrOf result TurnErr.Volume → Rose (B.S.faults space.old) (B.S.faults space.new) }
 {

@@ -6,7 +6,7 @@ ghost use Rattle.tc_model.specs.Contents.{Contents};
 ghost use Rattle.ty_base.specs.Holding as holding;
 ghost use Rattle.ty_base.specs.Holding.{Held};
 ghost use Rattle.ty_world.specs.World.{Client, round_one};
-ghost use Rattle.ty_rounds.specs.Serving.{ServesReady, FillsAt, Rounds};
+ghost use Rattle.ty_rounds.specs.Serving.{ServesReady, FillsAt, MayWrite, Rounds};
 ghost use Rattle.ty_rounds.specs.Holding.{Holds, AllHold};
 ghost use Rattle.ty_rounds.specs.Ready.{Each, IsCalm};
 ghost use Rattle.tc_base.specs.declared.request.Request.{Request};
@@ -42,7 +42,7 @@ fn serve_one<B: Base>(
     requires ready { holding.IsReady B.S.Space B.holds base.old space.old }
     requires calm { IsCalm p.old }
     ensures served { IfOk result (λ u. ServesReady B.S.Space B.holds u base.old base.new space.old space.new walk.old walk.new p.old p.new) }
-    ensures full { IsErrOf result RecErr.Full → (c : Contents) → Held B.S.Space B.holds base.old space.old c → (k : Client) → Holds p.old k → B.fills space.new c (round_one c walk.old k).contents }
+    ensures full { IsErrOf result RecErr.Full → (c : Contents) → Held B.S.Space B.holds base.old space.old c → (k : Client) → Holds p.old k → MayWrite k × B.fills space.new c (round_one c walk.old k).contents }
     ensures keeps { Keeps B.S.Space space.old space.new }
     ensures cause { IsErrOf result RecErr.Fault → Rose (B.S.faults space.old) (B.S.faults space.new) }
 {

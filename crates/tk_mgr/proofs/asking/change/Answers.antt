@@ -1,4 +1,4 @@
-use Rattle.std.proofs.Common.{rules, inr}
+use Rattle.std.proofs.Common.{rules, inl, inr}
 use Rattle.std.specs.Prelude.{Some}
 use Rattle.tk_mgr.specs.Managing.{with_contents}
 use Rattle.tk_mgr.specs.Tasks.{asked}
@@ -34,3 +34,6 @@ returns-in-Err-save-clause-carries g c = λ m h.
 
 pub returns-in-Err-save-clause-full : goal.returns-in-Err-save-clause-full
 returns-in-Err-save-clause-full g c = λ is d h. inr (c.in-Err-save.ensures.full (search rules) (asked (Some c.args.request) d) (c.in-Ok.ensures.answers d h).held)
+
+pub returns-in-Err-clause-full : goal.returns-in-Err-clause-full
+returns-in-Err-clause-full g c = λ is d h. inl ((c.in-Err.ensures.full (search rules)).by d h)

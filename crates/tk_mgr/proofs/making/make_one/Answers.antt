@@ -12,4 +12,4 @@ returns-clause-makes g c = record {
 
 pub returns-in-Err-clause-full : goal.returns-in-Err-clause-full
 returns-in-Err-clause-full g c = λ is seed m h. one_fills g.B.S.Space g.B.Base.holds _ seed m _ c.has_rows-rows.result c.draw-x.result c.in_ok-request.request _ _
-    (λ e held. (c.draw-x.ensures, c.in_ok-request.ensures, c.has_rows-rows.ensures e (c.kind.ensures _ e held.1))) (c.in-Err.ensures.full (search rules)) h
+    (λ e held. (c.draw-x.ensures, c.in_ok-request.ensures, c.has_rows-rows.ensures e (c.kind.ensures _ e held.1))) (c.in-Err.ensures.full (search rules)).by h

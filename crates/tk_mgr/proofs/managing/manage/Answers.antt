@@ -1,9 +1,10 @@
-use Rattle.std.proofs.Common.{refl}
+use Rattle.std.proofs.Common.{refl, ap}
 use Rattle.std.specs.Prelude.{Some, None, []}
 use Rattle.tc_base.specs.declared.request.Request.TheVariants as request
 use Rattle.tk_mgr.specs.declared.task.Task.TheVariants as task
+use Rattle.tk_mgr.specs.Managing.{writes_files}
 use Rattle.tk_mgr.specs.Tasks.{maximum_of, put_request}
-use Rattle.tk_mgr.proofs.Ends.{carries_manages, shows_manages, manages_as, idle_stays, keeps_follows, fills_as, fills_asked, fills_before}
+use Rattle.tk_mgr.proofs.Ends.{carries_manages, shows_manages, manages_as, idle_stays, keeps_follows, fills_as, fills_asked, fills_before, packs_as}
 use Rattle.tk_mgr.proofs.managing.manage.Goals as goal
 
 pub returns-in-Put-clause-managed : goal.returns-in-Put-clause-managed
@@ -42,6 +43,52 @@ returns-in-Inform-clause-managed g c =
     (record { sound = c.requires.may.sound; only = λ o t l. g.met.B.S.Space.only_kept c.args.space.now o t c.requires.may.sound l; clean = λ t. g.met.B.S.Space.clean c.args.space.now t c.requires.may.sound c.requires.may.untouched })
     (λ t u o le l. g.met.B.S.Space.earlier c.inform.new.space t u o le l) c.inform.ensures.keeps c.inform.ensures.shows)
 
+-- ---- files packed
+
+pub returns-in-Put-clause-packs : goal.returns-in-Put-clause-packs
+returns-in-Put-clause-packs g c = λ m h. packs_as g.B.S.Space g.B.Base.reopens g.B.Base.packed _ (task.Put c.in-Put.word c.in-Put.key c.in-Put.value) _ _ c.in-Put.is (λ f is. absurd cc)
+
+pub returns-in-Out-clause-packs : goal.returns-in-Out-clause-packs
+returns-in-Out-clause-packs g c = λ m h. packs_as g.B.S.Space g.B.Base.reopens g.B.Base.packed _ (task.Out c.in-Out.key) _ _ c.in-Out.is (λ f is. absurd cc)
+
+pub returns-in-Get-clause-packs : goal.returns-in-Get-clause-packs
+returns-in-Get-clause-packs g c = λ m h. packs_as g.B.S.Space g.B.Base.reopens g.B.Base.packed _ (task.Get c.in-Get.key) _ _ c.in-Get.is (λ f is. absurd cc)
+
+pub returns-in-List-clause-packs : goal.returns-in-List-clause-packs
+returns-in-List-clause-packs g c = λ m h. packs_as g.B.S.Space g.B.Base.reopens g.B.Base.packed _ (task.List c.in-List.maximum c.in-List.values) _ _ c.in-List.is (λ f is. absurd cc)
+
+pub returns-in-Inform-clause-packs : goal.returns-in-Inform-clause-packs
+returns-in-Inform-clause-packs g c = λ m h. packs_as g.B.S.Space g.B.Base.reopens g.B.Base.packed _ task.Inform _ _ c.in-Inform.is (λ f is. absurd cc)
+
+pub returns-in-Drill-clause-packs : goal.returns-in-Drill-clause-packs
+returns-in-Drill-clause-packs g c = λ m h. packs_as g.B.S.Space g.B.Base.reopens g.B.Base.packed _ (task.Drill c.in-Drill.seed c.in-Drill.count) _ _ c.in-Drill.is (λ f is. absurd cc)
+
+pub returns-in-Optimize-clause-packs : goal.returns-in-Optimize-clause-packs
+returns-in-Optimize-clause-packs g c = λ m h. packs_as g.B.S.Space g.B.Base.reopens g.B.Base.packed _ (task.Optimize c.in-Optimize.large) _ _ c.in-Optimize.is (c.optimize.ensures.packs m h)
+
+-- ---- which may write files
+
+pub returns-in-Put-clause-writes : goal.returns-in-Put-clause-writes
+returns-in-Put-clause-writes g c = λ full. ap writes_files c.in-Put.is
+
+pub returns-in-Out-clause-writes : goal.returns-in-Out-clause-writes
+returns-in-Out-clause-writes g c = λ full. ap writes_files c.in-Out.is
+
+pub returns-in-Optimize-clause-writes : goal.returns-in-Optimize-clause-writes
+returns-in-Optimize-clause-writes g c = λ full. ap writes_files c.in-Optimize.is
+
+pub returns-in-Drill-clause-writes : goal.returns-in-Drill-clause-writes
+returns-in-Drill-clause-writes g c = λ full. ap writes_files c.in-Drill.is
+
+pub returns-in-Get-clause-writes : goal.returns-in-Get-clause-writes
+returns-in-Get-clause-writes g c = λ full. absurd (c.get.ensures.not_full full)
+
+pub returns-in-List-clause-writes : goal.returns-in-List-clause-writes
+returns-in-List-clause-writes g c = λ full. absurd (c.list.ensures.not_full full)
+
+pub returns-in-Inform-clause-writes : goal.returns-in-Inform-clause-writes
+returns-in-Inform-clause-writes g c = λ full. absurd (c.inform.ensures.not_full full)
+
 -- ---- limits
 
 pub returns-in-Put-clause-full : goal.returns-in-Put-clause-full
@@ -57,14 +104,13 @@ returns-in-Optimize-clause-full g c = λ is m h. fills_as (g.B.Base.fills c.opti
     (fills_before (g.B.Base.fills c.optimize.new.space) (task.Optimize c.in-Optimize.large) m.contents refl (c.optimize.ensures.full is m.contents h.has.held))
 
 pub returns-in-Get-clause-full : goal.returns-in-Get-clause-full
-returns-in-Get-clause-full g c = λ is m h. fills_as (g.B.Base.fills c.get.new.space) _ (task.Get c.in-Get.key) m.contents c.in-Get.is (fills_before (g.B.Base.fills c.get.new.space) (task.Get c.in-Get.key) m.contents refl (c.get.ensures.full is m.contents h.has.held))
+returns-in-Get-clause-full g c = λ is m h. absurd (c.get.ensures.not_full is)
 
 pub returns-in-List-clause-full : goal.returns-in-List-clause-full
-returns-in-List-clause-full g c = λ is m h. fills_as (g.B.Base.fills c.list.new.space) _ (task.List c.in-List.maximum c.in-List.values) m.contents c.in-List.is
-    (fills_before (g.B.Base.fills c.list.new.space) (task.List c.in-List.maximum c.in-List.values) m.contents refl (c.list.ensures.full is m.contents h.has.held))
+returns-in-List-clause-full g c = λ is m h. absurd (c.list.ensures.not_full is)
 
 pub returns-in-Inform-clause-full : goal.returns-in-Inform-clause-full
-returns-in-Inform-clause-full g c = λ is m h. fills_as (g.B.Base.fills c.inform.new.space) _ task.Inform m.contents c.in-Inform.is (fills_before (g.B.Base.fills c.inform.new.space) task.Inform m.contents refl (c.inform.ensures.full is m.contents h.has.held))
+returns-in-Inform-clause-full g c = λ is m h. absurd (c.inform.ensures.not_full is)
 
 -- ---- the space
 

@@ -1,7 +1,7 @@
 use Rattle.std.proofs.Common.{rules, refl, subst, Bool}
 use Rattle.tc_base.specs.declared.request.Request.TheVariants.{Stat}
 use Rattle.tk_mgr.specs.Asking.{IsTold}
-use Rattle.tk_mgr.proofs.Reported.{report_fills, report_makes, report_tells}
+use Rattle.tk_mgr.proofs.Reported.{report_makes, report_tells}
 use Rattle.tk_mgr.proofs.report.report.Goals as goal
 
 pub returns-in-Ok-summary_text-clause-text : goal.returns-in-Ok-summary_text-clause-text
@@ -11,6 +11,3 @@ returns-in-Ok-summary_text-clause-text g c = report_tells g.B.S.Space g.B.Base.h
 
 pub returns-in-Ok-summary_text-clause-makes : goal.returns-in-Ok-summary_text-clause-makes
 returns-in-Ok-summary_text-clause-makes g c = report_makes g.B.S.Space g.B.Base.holds c.args.run.now _ _ _ _ _ refl refl refl c.requires.ready c.in-Ok.ensures.looks
-
-pub returns-in-Err-clause-full : goal.returns-in-Err-clause-full
-returns-in-Err-clause-full g c = λ is. report_fills g.B.S.Space g.B.Base.holds (g.B.Base.fills c.look.new.space) c.args.run.now _ _ (c.in-Err.ensures.full (search rules))

@@ -13,7 +13,7 @@ use Rattle.tk_top.proofs.base.serve_base.Goals as goal
 pub serve-end-requires-clause-ready : goal.serve-end-requires-clause-ready
 serve-end-requires-clause-ready g c = let s = g.B.S.Space in let w = g.W.Wire in
     let opened : w.opened c.open.new.self ≡ true = search rules in
-    ready_at s w g.B.Base.holds c.args.base c.new-server.result.base c.args.space.now c.open.new.self c.new-server.result.peers.items c.new-server.ensures.base c.new-server.ensures.peers opened (c.open.ensures.conns ∙ g.met.W.Wire.none_before c.args.wire.now c.requires.opened) c.requires.ready c.requires.untouched
+    ready_at s w g.B.Base.holds c.args.base c.new-server.result.base c.args.space.now c.open.new.self c.new-server.result.peers.items c.new-server.ensures.base c.new-server.ensures.peers opened (c.open.ensures.lines.conns ∙ g.met.W.Wire.none_before c.args.wire.now c.requires.opened) c.requires.ready c.requires.untouched
 
 pub returns-in-Err-clause-told : goal.returns-in-Err-clause-told
 returns-in-Err-clause-told g c = let s = g.B.S.Space in let w = g.W.Wire in

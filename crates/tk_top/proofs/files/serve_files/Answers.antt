@@ -20,13 +20,13 @@ returns-in-Err-clause-told g c = let s = g.B.S.Space in let b = g.B.Base in let 
 
 pub returns-in-Err-clause-judged : goal.returns-in-Err-clause-judged
 returns-in-Err-clause-judged g c = let s = g.B.S.Space in let opens = OpensTo c.args.kind g.B.Base.reopens in
-    let full : c.in-Err.e ≡ any.Full → s.tells → (d : Contents) × opens (s.now c.args.space.now) d = λ is t. let x = c.in-Err.ensures.full (search rules) t in (x.0, x.1) in
+    let full : c.in-Err.e ≡ any.Full → s.tells → (d : Contents) × opens (s.now c.args.space.now) d = λ is t. let x = c.in-Err.ensures.full (search rules) t in (x.contents, x.stand) in
     let breaks = BreaksOver s (g.B.Opens.breaks c.args.kind) c.args.space.now c.open_kept.new.space in
     subst (λ (end : End). Judged end (s.tells → (d : Contents) × opens (s.now c.args.space.now) d) breaks) (sym c.from.ensures)
     (judged_err c.in-Err.e (s.tells → (d : Contents) × opens (s.now c.args.space.now) d) breaks c.in-Err.ensures.broken full)
 
 pub returns-in-Err-clause-full : goal.returns-in-Err-clause-full
-returns-in-Err-clause-full g c = λ is. let e : c.in-Err.e ≡ any.Full = full_err c.in-Err.e (sym c.from.ensures ∙ is) in record { which = inl (c.in-Err.ensures.full (search rules)) }
+returns-in-Err-clause-full g c = λ is. let e : c.in-Err.e ≡ any.Full = full_err c.in-Err.e (sym c.from.ensures ∙ is) in record { which = inl (λ t. let new = c.in-Err.ensures.full (search rules) t in (new.contents, new.stand, new.full)) }
 
 pub returns-clause-told : goal.returns-clause-told
 returns-clause-told g c = let s = g.B.S.Space in let b = g.B.Base in let w = g.W.Wire in

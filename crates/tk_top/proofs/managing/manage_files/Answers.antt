@@ -8,11 +8,11 @@ use Rattle.tk_top.proofs.Stops.{closes}
 use Rattle.tk_top.proofs.managing.manage_files.Goals as goal
 
 pub returns-in-Err-clause-told : goal.returns-in-Err-clause-told
-returns-in-Err-clause-told g c = let b = g.B.Base in managed_unopened g.O.Sink b.reopens b.lines c.args.task c.args.kind _ c.args.out.now c.in-Err.ensures.unopened
+returns-in-Err-clause-told g c = let b = g.B.Base in managed_unopened g.O.Sink b.reopens b.lines b.packed c.args.task c.args.kind _ c.args.out.now c.in-Err.ensures.unopened
 
 pub returns-clause-told : goal.returns-clause-told
 returns-clause-told g c = let b = g.B.Base in let end = c.manage_opened-end.new.space in
-    managed_run g.O.Sink b.reopens b.lines c.args.task (OpensTo c.args.kind b.reopens) c.in-Ok.ensures.opened (closes g.S.Space g.S.V.Volume g.S.OnVolume.under end _ c.close_over.ensures (g.met.S.OnVolume.is_over end)) c.manage_opened-end.ensures.told
+    managed_run g.O.Sink b.reopens b.lines b.packed c.args.task (OpensTo c.args.kind b.reopens) c.in-Ok.ensures.opened (closes g.S.Space g.S.V.Volume g.S.OnVolume.under end _ c.close_over.ensures (g.met.S.OnVolume.is_over end)) c.manage_opened-end.ensures.told
 
 pub returns-clause-judged : goal.returns-clause-judged
 returns-clause-judged g c = let o = c.in-Ok.ensures.opened in let opens = OpensTo c.args.kind g.B.Base.reopens in let end = c.manage_opened-end.new.space in

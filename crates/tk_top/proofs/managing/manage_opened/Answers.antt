@@ -1,24 +1,26 @@
-use Rattle.std.proofs.Common.{inr, sym, subst, refl, rules, ◌∙◌, false, Bool}
+use Rattle.std.proofs.Common.{◌≡◌, inl, inr, sym, subst, refl, rules, ◌∙◌, false, Bool}
 use Rattle.tc_model.specs.Contents.{Contents}
 use Rattle.ty_base.specs.Opening.{OpensTo}
 use Rattle.ty_world.specs.World.{Mark}
 use Rattle.tk_top.specs.Staying.{BreaksOver}
 use Rattle.tk_top.specs.Tasks.{IsMisplaced, JudgedTask, ManagesOver, ReasonOver, is_refused_by}
 use Rattle.tk_top.specs.declared.ends.End.{End}
-use Rattle.tk_top.proofs.Managed.{full_is, judged_begun, over_managed, over_misplaced, over_unopened}
+use Rattle.ty_base.specs.declared.errors.AnyErr.TheVariants as any
+use Rattle.tk_top.proofs.Kept.{full_err}
+use Rattle.tk_top.proofs.Managed.{full_is, judged_begun, over_managed, over_misplaced, over_unopened, placed_writes}
 use Rattle.tk_top.proofs.Fresh.{fresh}
 use Rattle.tk_top.proofs.managing.manage_opened.Goals as goal
 
 pub returns-then-not-is_placed-clause-told : goal.returns-then-not-is_placed-clause-told
 returns-then-not-is_placed-clause-told g c = let s = g.B.S.Space in let b = g.B.Base in
-    over_misplaced s g.O.Sink (OpensTo c.args.kind b.reopens) b.reopens (λ files d h. h.stand) b.lines c.args.task c.args.space.now c.args.out.now
+    over_misplaced s g.O.Sink (OpensTo c.args.kind b.reopens) b.reopens (λ files d h. h.stand) b.lines b.packed c.args.task c.args.space.now c.args.out.now
     (fresh g.B.S.Space c.args.space.now g.met.B.S.Space.only_kept g.met.B.S.Space.clean c.requires.sound c.requires.untouched)
     (λ t. subst (λ (b : Bool). is_refused_by b (s.now c.args.space.now 0)) c.wants_empty.ensures (c.if-not-is_placed.ensures.no (search rules) (s.now c.args.space.now 0) (c.len.ensures t)))
 
 pub returns-in-Err-clause-told : goal.returns-in-Err-clause-told
 returns-in-Err-clause-told g c = let s = g.B.S.Space in let b = g.B.Base in
-    subst (λ (end : End). ManagesOver s g.O.Sink (OpensTo c.args.kind b.reopens) b.reopens b.lines c.args.task end c.args.space.now c.open_kept.new.space c.args.out.now c.args.out.now) (sym c.from.ensures)
-    (over_unopened s g.O.Sink (OpensTo c.args.kind b.reopens) b.reopens (λ files d h. h.stand) b.lines c.args.task c.in-Err.e c.args.space.now c.open_kept.new.space c.args.out.now
+    subst (λ (end : End). ManagesOver s g.O.Sink (OpensTo c.args.kind b.reopens) b.reopens b.lines b.packed c.args.task end c.args.space.now c.open_kept.new.space c.args.out.now c.args.out.now) (sym c.from.ensures)
+    (over_unopened s g.O.Sink (OpensTo c.args.kind b.reopens) b.reopens (λ files d h. h.stand) b.lines b.packed c.args.task c.in-Err.e c.args.space.now c.open_kept.new.space c.args.out.now
     (fresh g.B.S.Space c.args.space.now g.met.B.S.Space.only_kept g.met.B.S.Space.clean c.requires.sound c.requires.untouched)
     (g.met.B.S.Space.earlier c.open_kept.new.space) c.open_kept.ensures.moments)
 
@@ -37,13 +39,13 @@ manage-requires g c = let s = g.B.S.Space in record {
 pub returns-clause-told : goal.returns-clause-told
 returns-clause-told g c = let s = g.B.S.Space in let b = g.B.Base in let old = c.args.space.now in let mid = c.open_kept.new.space in
     let placed : s.tells → IsMisplaced c.args.task (s.now old) → ⊥ = λ t m. c.if-not-is_placed.ensures.yes (search rules) (s.now old 0) (c.len.ensures t) (subst (λ (e : Bool). is_refused_by e (s.now old 0)) (sym c.wants_empty.ensures) m) in
-    subst (λ (end : End). ManagesOver s g.O.Sink (OpensTo c.args.kind b.reopens) b.reopens b.lines c.args.task end old c.manage.new.space c.args.out.now c.manage.new.out) (sym c.end_of-end.ensures)
-    (over_managed s g.O.Sink (OpensTo c.args.kind b.reopens) b.reopens (λ files d h. h.stand) b.lines c.args.task b.holds c.manage.result c.in-Ok.base old mid c.manage.new.space c.args.out.now c.manage.new.out
+    subst (λ (end : End). ManagesOver s g.O.Sink (OpensTo c.args.kind b.reopens) b.reopens b.lines b.packed c.args.task end old c.manage.new.space c.args.out.now c.manage.new.out) (sym c.end_of-end.ensures)
+    (over_managed s g.O.Sink (OpensTo c.args.kind b.reopens) b.reopens (λ files d h. h.stand) b.lines b.packed c.args.task b.holds c.manage.result c.in-Ok.base old mid c.manage.new.space c.args.out.now c.manage.new.out
     (fresh g.B.S.Space old g.met.B.S.Space.only_kept g.met.B.S.Space.clean c.requires.sound c.requires.untouched)
     (fresh g.B.S.Space mid g.met.B.S.Space.only_kept g.met.B.S.Space.clean c.in-Ok.ensures.opened.ready.sound c.in-Ok.ensures.opened.untouched)
     (g.met.B.S.Space.earlier c.manage.new.space) c.open_kept.ensures.moments c.in-Ok.ensures.opened.marks
     (λ t w i f. c.in-Ok.ensures.same t (subst (λ (e : Bool). is_refused_by e (s.now old 0) → ⊥) w (placed t)) f i)
-    placed c.manage.ensures.managed)
+    placed c.manage.ensures.managed c.manage.ensures.packs)
 
 pub returns-clause-judged : goal.returns-clause-judged
 returns-clause-judged g c = let s = g.B.S.Space in let opens = OpensTo c.args.kind g.B.Base.reopens in let old = c.args.space.now in
@@ -70,4 +72,14 @@ returns-clause-misplaced g c = let s = g.B.S.Space in let old = c.args.space.now
     λ t not. absurd (c.if-not-is_placed.ensures.yes (search rules) (s.now old 0) (c.len.ensures t) (subst (λ (e : Bool). is_refused_by e (s.now old 0)) (sym c.wants_empty.ensures) not))
 
 pub returns-clause-full : goal.returns-clause-full
-returns-clause-full g c = λ is. record { which = inr (λ first h. c.manage.ensures.full (full_is c.manage.result (sym c.end_of-end.ensures ∙ is)) first (c.in-Ok.ensures.opened.marks first h)) }
+returns-clause-full g c = λ is. let full = full_is c.manage.result (sym c.end_of-end.ensures ∙ is) in record {
+  writes = λ t. c.manage.ensures.writes full;
+  which = inr (λ first h. c.manage.ensures.full full first (c.in-Ok.ensures.opened.marks first h));
+}
+
+pub returns-in-Err-clause-full : goal.returns-in-Err-clause-full
+returns-in-Err-clause-full g c = λ is. let s = g.B.S.Space in let old = c.args.space.now in let e : c.in-Err.e ≡ any.Full = full_err c.in-Err.e (sym c.from.ensures ∙ is) in
+    let placed : s.tells → IsMisplaced c.args.task (s.now old) → ⊥ = λ t m. c.if-not-is_placed.ensures.yes (search rules) (s.now old 0) (c.len.ensures t) (subst (λ (b : Bool). is_refused_by b (s.now old 0)) (sym c.wants_empty.ensures) m) in record {
+      writes = λ t. placed_writes c.args.task (s.now old) (placed t) (c.in-Err.ensures.full (search rules) t).empty;
+      which = inl (λ t. let new = c.in-Err.ensures.full (search rules) t in (new.contents, new.stand, new.full));
+    }

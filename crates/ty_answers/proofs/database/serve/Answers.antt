@@ -1,9 +1,10 @@
-use Rattle.std.proofs.Common.{refl}
+use Rattle.std.proofs.Common.{refl, ap, Bool, false}
+use Rattle.std.specs.Prelude.{◌||◌}
 use Rattle.tc_base.specs.declared.request.Request.TheVariants.{Misc}
 use Rattle.tc_base.specs.declared.request.Reply.TheVariants.{FailMisc}
 use Rattle.tc_model.specs.Apply.{called}
 use Rattle.tc_model.specs.Misc.{updates_call}
-use Rattle.ty_answers.proofs.Dispatch.{arm, full_packing, packing_arm}
+use Rattle.ty_answers.proofs.Dispatch.{arm, full_arm, full_packing, packing_arm}
 use Rattle.ty_answers.proofs.Making.{if_ok}
 use Rattle.ty_answers.proofs.database.serve.Goals as goal
 
@@ -15,3 +16,7 @@ returns-in-Optimize-clause-steps g c = if_ok _ (λ done n. packing_arm g.E.S.Spa
 
 pub returns-in-Optimize-clause-full : goal.returns-in-Optimize-clause-full
 returns-in-Optimize-clause-full g c = λ full. full_packing g.E.S.Space g.E.Engine.holds g.E.Engine.fills c.args.request _ c.args.engine.now _ _ c.args.walk.now c.in-Optimize.is (c.optimize.ensures.full full)
+
+pub returns-in-Misc-clause-full : goal.returns-in-Misc-clause-full
+returns-in-Misc-clause-full g c = λ full. full_arm g.E.S.Space g.E.Engine.holds g.E.Engine.fills c.args.request (Misc c.in-Misc.name c.in-Misc.options c.in-Misc.args) (called c.in-Misc.name c.in-Misc.options c.in-Misc.args) c.args.engine.now _ _ c.args.walk.now c.in-Misc.is refl
+    (ap (λ (b : Bool). b || false) (c.call.ensures.writes full)) (λ m. refl) (c.call.ensures.full full)

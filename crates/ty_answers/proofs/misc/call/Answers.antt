@@ -54,3 +54,10 @@ returns-clause-full g c =
     λ is. shown_full s holds g.E.Engine.fills (called name options args) (meant misc) c.args.engine.now c.args.space.now c.perform.new.space
     (λ m h. called_is name options args misc m kept (ap (misc_of name args) (sym (c.kind.ensures _ m h.1)) ∙ read) short)
     (c.perform.ensures.full is)
+
+pub returns-clause-writes : goal.returns-clause-writes
+returns-clause-writes g c =
+    let name = c.args.name.now in
+    let args = c.args.args.now in
+    let read = ap (λ n. misc_of n args c.kind.result) (sym c.as_slice.ensures) ∙ (sym c.in_ok-misc.ensures ∙ c.in-Some.is) in
+    λ is. updates_named name args c.kind.result c.in-Some.misc read (c.perform.ensures.writes is)

@@ -20,18 +20,18 @@ loop-i-init g c = record {
   faults = omega arith;
 }
 
-pub close-requires-clause-is_open : goal.close-requires-clause-is_open
-close-requires-clause-is_open g c = open_at _ _ c.loop-i.i c.remove-p.result (search rules) (search rules) c.loop-i.invariant.wired
+pub close-requires : goal.close-requires
+close-requires g c = open_at _ _ c.loop-i.i c.remove-p.result (search rules) (search rules) c.loop-i.invariant.wired
 
 pub returns-in_err-close-clause-told : goal.returns-in_err-close-clause-told
 returns-in_err-close-clause-told g c = close_fails g.W.Wire _ _ _ _ _ _ c.loop-i.i c.from_residual.result c.from_residual.ensures.0 c.loop-i.invariant.told c.in_err-close.ensures.told_err
 
 pub loop-i-preserved-then-is_done : goal.loop-i-preserved-then-is_done
 loop-i-preserved-then-is_done g c = let i = c.loop-i.invariant in record {
-  opened = c.close.ensures.opened;
-  fewer = still_there _ _ _ c.remove-p.result.conn c.close.ensures.conns i.fewer;
-  given = c.close.ensures.given ∙ i.given;
-  wired = closed_wired _ _ _ _ c.loop-i.i c.remove-p.result (search rules) (search rules) c.remove-p.ensures.items c.close.ensures.conns i.wired;
+  opened = c.close.ensures.opened ∙ i.opened;
+  fewer = still_there _ _ _ c.remove-p.result.conn c.close.ensures.lines.conns i.fewer;
+  given = c.close.ensures.lines.given ∙ i.given;
+  wired = closed_wired _ _ _ _ c.loop-i.i c.remove-p.result (search rules) (search rules) c.remove-p.ensures.items c.close.ensures.lines.conns i.wired;
   told = one_closes g.W.Wire _ _ _ _ _ _ c.loop-i.i c.remove-p.result (search rules) (search rules) (ap is_over (one_at c.loop-i.peers.items c.loop-i.i c.remove-p.result c.index.result.now (search rules) (search rules) (search rules)) ∙ sym (c.is_done.ensures (each_at IsCalm _ c.loop-i.i c.index.result.now (search rules) (search rules) i.calm)) ∙ c.if-is_done.true) (apart_peers _ _ i.wired)
       (i.fewer c.remove-p.result.conn (open_at _ _ c.loop-i.i c.remove-p.result (search rules) (search rules) i.wired)) c.remove-p.ensures.items i.told c.in_ok-close.ensures.told c.in_ok-close.ensures.plays;
   clear = clear_less _ _ c.loop-i.i c.remove-p.ensures.items i.clear;

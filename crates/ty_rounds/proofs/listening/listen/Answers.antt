@@ -16,14 +16,14 @@ returns-in_default-clause-err g c =
         told = c.in_ok-ev.ensures.told;
         plays = c.in_ok-ev.ensures.plays;
         may = c.in_ok-ev.ensures.may;
-        conns = c.in_ok-ev.ensures.conns;
-        given = c.in_ok-ev.ensures.given;
+        conns = c.in_ok-ev.ensures.lines.conns;
+        given = c.in_ok-ev.ensures.lines.given;
         are_bytes = c.hear.ensures.bytes;
       }),
     )
 
 pub returns-clause-wired : goal.returns-clause-wired
-returns-clause-wired g c = wired_after _ _ _ _ c.as_slice-2.result.now (not c.is_empty-busy.result) c.args.peers.now.items c.hear.new.peers.items c.in_ok-ev.ev c.in_ok-ev.ensures.may c.in_ok-ev.ensures.conns c.in-Ok.ensures.numbers c.requires.wired
+returns-clause-wired g c = wired_after _ _ _ _ c.as_slice-2.result.now (not c.is_empty-busy.result) c.args.peers.now.items c.hear.new.peers.items c.in_ok-ev.ev c.in_ok-ev.ensures.may c.in_ok-ev.ensures.lines.conns c.in-Ok.ensures.numbers c.requires.wired
 
 pub returns-clause-ok : goal.returns-clause-ok
 returns-clause-ok g c =
@@ -33,7 +33,7 @@ returns-clause-ok g c =
       told = c.in_ok-ev.ensures.told;
       plays = c.in_ok-ev.ensures.plays;
       may = c.in_ok-ev.ensures.may;
-      conns = c.in_ok-ev.ensures.conns;
-      given = c.in_ok-ev.ensures.given;
+      conns = c.in_ok-ev.ensures.lines.conns;
+      given = c.in_ok-ev.ensures.lines.given;
       are_bytes = c.hear.ensures.bytes;
     }) (λ ks a. c.in-Ok.ensures.heard _ (unstopped_hold _ ks a)) c.in-Ok.ensures.few c.in-Ok.ensures.calm

@@ -1,6 +1,7 @@
-use Rattle.std.proofs.Common.{rules, refl, sym, subst, false, ◌≡◌, ◌∙◌}
+use Rattle.std.proofs.Common.{rules, List, ℕ, refl, sym, subst, false, ◌≡◌, ◌∙◌}
 use Rattle.tc_model.specs.Contents.{Contents}
 use Rattle.ty_base.specs.Holding.{leaves_nothing}
+use Rattle.ty_core.specs.Serving.{Begins}
 use Rattle.ty_rounds.proofs.Few.{calm_stirs, quiet_none}
 use Rattle.ty_rounds.proofs.ServingLaws.{one_contents, gone_idle, waits_idle, none_idle, one_served, still_ready, fewer_unread, few_waiting}
 use Rattle.ty_rounds.proofs.rounds.serve_one.Goals as goal
@@ -62,5 +63,7 @@ returns-clause-served g c = let s = c.in-Ok.ensures.served in let o = c.in_ok-ow
 
 pub returns-in-Err-clause-full : goal.returns-in-Err-clause-full
 returns-in-Err-clause-full g c = λ is d h k held.
-    let x = c.in-Err.ensures.full (search rules) in
-    subst (λ (e : Contents). g.B.Base.fills c.serve.new.space d e) (sym (one_contents d c.args.walk.now c.args.p.now k x.request x.begins.rest (search rules) (search rules) x.begins.front held)) (x.full d h)
+    let x = c.in-Err.ensures.full (search rules) in (
+      record { request = x.request; begins = subst (λ (bytes : List ℕ). Begins x.request bytes) (sym held.unread) x.begins; writes = x.full.writes },
+      subst (λ (e : Contents). g.B.Base.fills c.serve.new.space d e) (sym (one_contents d c.args.walk.now c.args.p.now k x.request x.begins.rest (search rules) (search rules) x.begins.front held)) (x.full.by d h),
+    )

@@ -16,9 +16,9 @@ loop-wire-init g c = record {
 
 pub loop-wire-preserved : goal.loop-wire-preserved
 loop-wire-preserved g c = record {
-  opened = c.send.ensures.opened;
-  conns = c.send.ensures.conns ∙ c.loop-wire.invariant.conns;
-  given = c.send.ensures.given ∙ c.loop-wire.invariant.given;
+  opened = c.send.ensures.opened ∙ c.loop-wire.invariant.opened;
+  conns = c.send.ensures.lines.conns ∙ c.loop-wire.invariant.conns;
+  given = c.send.ensures.lines.given ∙ c.loop-wire.invariant.given;
   conn = c.loop-wire.invariant.conn;
   told = one_more g.W.Wire _ _ _ c.args.p.now c.loop-wire.p (record c.loop-wire.p { session = c.taken.new.self }) c.waiting.result.now c.in_ok-n.field-0 c.loop-wire.invariant.told c.loop-wire.invariant.conn c.in_ok-n.ensures.told c.in_ok-n.ensures.plays
       (record {
@@ -48,13 +48,13 @@ pub returns-clause-told : goal.returns-clause-told
 returns-clause-told g c = rests_sent g.W.Wire _ _ c.args.p.now c.loop-wire.p c.loop-wire.invariant.told (search rules)
 
 pub returns-in_err-n-clause-wire_stays : goal.returns-in_err-n-clause-wire_stays
-returns-in_err-n-clause-wire_stays g c = record { opened = c.send.ensures.opened; conns = c.send.ensures.conns ∙ c.loop-wire.invariant.conns; given = c.send.ensures.given ∙ c.loop-wire.invariant.given }
+returns-in_err-n-clause-wire_stays g c = record { opened = c.send.ensures.opened ∙ c.loop-wire.invariant.opened; conns = c.send.ensures.lines.conns ∙ c.loop-wire.invariant.conns; given = c.send.ensures.lines.given ∙ c.loop-wire.invariant.given }
 
 pub returns-in-NotYet-clause-wire_stays : goal.returns-in-NotYet-clause-wire_stays
-returns-in-NotYet-clause-wire_stays g c = record { opened = c.send.ensures.opened; conns = c.send.ensures.conns ∙ c.loop-wire.invariant.conns; given = c.send.ensures.given ∙ c.loop-wire.invariant.given }
+returns-in-NotYet-clause-wire_stays g c = record { opened = c.send.ensures.opened ∙ c.loop-wire.invariant.opened; conns = c.send.ensures.lines.conns ∙ c.loop-wire.invariant.conns; given = c.send.ensures.lines.given ∙ c.loop-wire.invariant.given }
 
 pub returns-in-Gone-clause-wire_stays : goal.returns-in-Gone-clause-wire_stays
-returns-in-Gone-clause-wire_stays g c = record { opened = c.send.ensures.opened; conns = c.send.ensures.conns ∙ c.loop-wire.invariant.conns; given = c.send.ensures.given ∙ c.loop-wire.invariant.given }
+returns-in-Gone-clause-wire_stays g c = record { opened = c.send.ensures.opened ∙ c.loop-wire.invariant.opened; conns = c.send.ensures.lines.conns ∙ c.loop-wire.invariant.conns; given = c.send.ensures.lines.given ∙ c.loop-wire.invariant.given }
 
 pub returns-clause-wire_stays : goal.returns-clause-wire_stays
 returns-clause-wire_stays g c = record { opened = c.loop-wire.invariant.opened; conns = c.loop-wire.invariant.conns; given = c.loop-wire.invariant.given }

@@ -11,8 +11,8 @@ returns-in-Err-round-clause-told g c = round_ends g.B.S.Space g.W.Wire g.B.Base.
     (record { sound = c.requires.ready.base_is.sound; only = λ o t l. g.met.B.S.Space.only_kept c.args.space.now o t c.requires.ready.base_is.sound l; clean = λ t. g.met.B.S.Space.clean c.args.space.now t c.requires.ready.base_is.sound c.requires.ready.untouched })
     (λ t u o le l. g.met.B.S.Space.earlier c.round.new.space t u o le l)
 
-pub keep-requires-clause-untouched : goal.keep-requires-clause-untouched
-keep-requires-clause-untouched g c = λ e. search rules
+pub keep-requires : goal.keep-requires
+keep-requires g c = record { may = record { ready = search rules; untouched = λ e. search rules } }
 
 pub returns-in-Err-keep-clause-told : goal.returns-in-Err-keep-clause-told
 returns-in-Err-keep-clause-told g c = keep_ends g.B.S.Space g.W.Wire g.B.Base.holds g.B.Base.reopens _ c.round.new.base _ c.args.space.now c.round.new.space c.keep.new.space _ _ _ c.round.new.walk _ _ c.listen.new.peers.items c.round.new.peers.items _ c.in-Ok.ev c.in-Ok-round.commits c.in-Err-keep.e c.in-Ok.ensures.ok c.in-Err-keep.ensures.not_wire c.in-Ok-round.ensures.rounds c.round.ensures.keeps c.keep.ensures.moments c.keep.ensures.idle

@@ -1,4 +1,5 @@
 use Rattle.std.proofs.Common.{refl, sym, ap, Err}
+use Rattle.tc_hash.proofs.Tight.{tight_of}
 use Rattle.tc_hashdb.specs.Lifting.{ready_down}
 use Rattle.tc_hashdb.proofs.Kept.{ready_hash}
 use Rattle.tc_hashdb.proofs.Packed.{pack_full, pack_refused, packed_up}
@@ -6,6 +7,9 @@ use Rattle.tc_hashdb.proofs.engine.HashEngineEngine.pack.Goals as goal
 
 pub pack-requires : goal.pack-requires
 pack-requires g c = ready_hash g.S.Space c.args.self.now c.args.space.now (ready_down g.S.Space c.args.self.now c.args.space.now c.requires.ready)
+
+pub returns-in-Ok-clause-tight : goal.returns-in-Ok-clause-tight
+returns-in-Ok-clause-tight g c = tight_of c.args.form _ _ c.in-Ok.ensures.packs
 
 pub returns-in-Ok-clause-packed : goal.returns-in-Ok-clause-packed
 returns-in-Ok-clause-packed g c = packed_up g.S.Space _ _ _ _ c.requires.ready c.in-Ok.ensures.packed c.pack.ensures.stays refl

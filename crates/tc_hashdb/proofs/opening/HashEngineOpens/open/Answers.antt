@@ -27,7 +27,12 @@ returns-in-Err-clause-reads g c = λ t some. absurd (some (no_bytes (g.S.Space.n
 pub returns-in-Err-clause-full : goal.returns-in-Err-clause-full
 returns-in-Err-clause-full g c = λ full t.
     let is : kinds.Hash ≡ c.args.kind = search (rules, c.ne.ensures, c.if-ne.false) in
-    (hash false empty, made_opens c.args.kind (g.S.Space.now c.args.space.now) is (sym (c.len.ensures t) ∙ c.if-len-eq0.true), made_full g.S.Space c.create.new.space (c.in-Err.ensures.full full t))
+    record {
+      empty = no_bytes (g.S.Space.now c.args.space.now 0) (sym (c.len.ensures t) ∙ c.if-len-eq0.true);
+      contents = hash false empty;
+      stand = made_opens c.args.kind (g.S.Space.now c.args.space.now) is (sym (c.len.ensures t) ∙ c.if-len-eq0.true);
+      full = made_full g.S.Space c.create.new.space (c.in-Err.ensures.full full t);
+    }
 
 pub returns-in-Ok-open-clause-stands : goal.returns-in-Ok-open-clause-stands
 returns-in-Ok-open-clause-stands g c = λ t.

@@ -7,7 +7,7 @@ pub serve-requires-clause-updating : goal.serve-requires-clause-updating
 serve-requires-clause-updating g c = updates_is c.is_updating-updating.result c.args.request (λ t. c.is_updating-updating.ensures.0 t) (λ u. c.is_updating-updating.ensures.1 u)
 
 pub returns-in-Err-clause-full : goal.returns-in-Err-clause-full
-returns-in-Err-clause-full g c is m h = full_applies g.E.S.Space g.E.Engine.holds g.E.Engine.fills c.args.request c.args.walk.now c.args.self.now.engine c.args.space.now c.serve.new.space (c.in-Err.ensures.full (search rules)) m h
+returns-in-Err-clause-full g c = λ is. let full = full_applies g.E.S.Space g.E.Engine.holds g.E.Engine.fills c.args.request c.args.walk.now c.args.self.now.engine c.args.space.now c.serve.new.space (c.in-Err.ensures.full (search rules)) in record { writes = full.writes; by = full.by }
 
 pub returns-clause-applied : goal.returns-clause-applied
 returns-clause-applied g c =
