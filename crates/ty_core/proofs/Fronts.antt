@@ -1,9 +1,10 @@
 -- A request at the front, by its reading and by its spelling.
-use Rattle.std.proofs.Common.{◌≡◌, ℕ, ◌≤◌, Bool, true, false, List, ◌++◌, length, take, drop, sym, ap, subst, ◌∙◌, arith, length-append, refl}
+use Rattle.std.proofs.Common.{◌≡◌, ℕ, ◌≤◌, Bool, true, false, List, [], ◌∷◌, ◌++◌, length, take, drop, sym, ap, subst, ◌∙◌, arith, length-append, refl}
+use Rattle.std.proofs.lemmas.Bool.{eqb-true}
 use Rattle.std.proofs.lemmas.List.{append_cancel_right, drop-append-le, take-append-drop}
 use Rattle.tc_base.proofs.Exact.{same_whole}
 use Rattle.ty_wire.proofs.Answered.{whole}
-use Rattle.std.specs.Prelude.{Ok, ◌&&◌, ◌||◌, Option, Some, None, if◌then◌else◌}
+use Rattle.std.specs.Prelude.{nat_eq, Ok, ◌&&◌, ◌||◌, Option, Some, None, if◌then◌else◌}
 use Rattle.tc_base.specs.Files.{Files}
 use Rattle.tc_base.specs.declared.request.Request.{Request}
 use Rattle.tc_model.specs.Apply.{Step, apply, is_updated, refusal_of, updates}
@@ -17,7 +18,8 @@ use Rattle.ty_wire.specs.Reading.{request_at}
 use Rattle.ty_wire.specs.Spelling.{spelling, Fits, reply_bytes}
 use Rattle.tc_model.specs.Packing.{is_optimize}
 use Rattle.ty_core.specs.declared.serving.Served.{Served}
-use Rattle.ty_core.specs.Serving.{IsWhole, Serves, ServesFront, TakesOff, feed_of, update_of}
+use Rattle.ty_core.specs.declared.taking.Taken.{Taken}
+use Rattle.ty_core.specs.Serving.{IsTaken, IsWhole, Serves, ServesFront, TakesOff, feed_of, update_of}
 
 pub refused_applies : (replica : Bool) (r : Request) (c : Contents) (w : Walk) (old new : List ℕ) → (replica && updates r) ≡ true → new ≡ old ++ reply_bytes (refusal_of r)
     → Applies (apply replica r c w) r (record { ok = false; updated = false }) c w old new
@@ -45,12 +47,27 @@ front_is n bytes r is fits begins =
     let s = same_whole r is.read.0 begins.0 (drop n bytes) (sym w ∙ reads) in
     record { parts = begins.1 ∙ ap (λ (l : List ℕ). spelling r ++ l) s.1; reads = w ∙ ap (λ (l : List ℕ). Ok (r, l)) s.1; fits = fits; within = is.read.1 }
 
-pub takes_off : (n : ℕ) (bytes : List ℕ) (r : Request) (d : Served) → IsFront n bytes r → d.feeds ≡ feed_of r → TakesOff r d bytes (drop n bytes)
-takes_off n bytes r d f feeds = record { front = f.reads; fits = f.fits; spelled = f.parts; feeds = feeds }
-
 -- its bytes are those that aren't left
 pub own_bytes : (n : ℕ) (bytes : List ℕ) (r : Request) → IsFront n bytes r → take n bytes ≡ spelling r
 own_bytes n bytes r f = append_cancel_right (take n bytes) (spelling r) (drop n bytes) (take-append-drop n bytes ∙ f.parts)
+
+pub small_taken : (n : ℕ) (bytes rest : List ℕ) (r : Request) (t : Taken) (logs : Bool) → IsFront n bytes r → rest ≡ drop n bytes → t.request ≡ r → t.copied ≡ (if logs && updates r then Some (take n bytes) else None) → IsTaken t logs bytes rest
+small_taken n bytes rest r t logs f left is copied = record {
+  fits = subst Fits (sym is) f.fits;
+  spelled = f.parts ∙ (λ i. spelling (sym is i) ++ sym left i);
+  copied = copied ∙ (λ i. if logs && updates (sym is i) then Some (own_bytes n bytes r f i) else None) ∙ ap (λ (q : Request). if logs && updates t.request then Some (spelling q) else None) (sym is);
+}
+
+pub taken_off : (t : Taken) (logs : Bool) (unread rest : List ℕ) (d : Served) → IsTaken t logs unread rest → d.feeds ≡ feed_of t.request → TakesOff t.request d unread rest
+taken_off t logs unread rest d k feeds = record { front = whole unread t.request rest k.fits k.spelled; fits = k.fits; spelled = k.spelled; feeds = feeds }
+
+-- the same bytes, where they are left
+pub moved : (t : Taken) (logs : Bool) (bytes same rest : List ℕ) (n : ℕ) → bytes ≡ same → rest ≡ drop n same → IsTaken t logs bytes (drop n bytes) → IsTaken t logs same rest
+moved t logs bytes same rest n is left k = subst (λ (l : List ℕ). IsTaken t logs same l) (sym left) (subst (λ (l : List ℕ). IsTaken t logs l (drop n l)) is k)
+
+pub none_left : (l : List ℕ) → nat_eq (length l) 0 ≡ true → [] ≡ l
+none_left [] e = refl
+none_left (x ∷ l) e = absurd (let z : length (x ∷ l) ≡ 0 = eqb-true (length (x ∷ l)) 0 e in omega (arith, z))
 
 -- ---- what is left to do
 

@@ -1,13 +1,10 @@
--- What holds of a session's fields.
-use Rattle.std.specs.Prelude.{◌≤◌, ℕ, List, length}
+-- What holds of the fields of a connection's bytes.
+use Rattle.std.specs.Prelude.{ℕ, List, Option}
 use Rattle.ty_wire.specs.declared.reading.Front.{Front}
 use Rattle.ty_wire.specs.declared.looking.Seen.{Seen}
-use Rattle.ty_wire.specs.Seen.{IsSeen}
-use Rattle.ty_wire.specs.Taking.{Takes, IsRead}
+use Rattle.ty_core.specs.declared.large.Large.{Large}
+use Rattle.ty_core.specs.Gathering.{IsSighted, MayGather, all_of}
 
--- what stands at the front is known, what was seen of it holds, and no more was taken than there is
-pub record IsHeld (unread : List ℕ) (front : Front) (seen : Seen) (waiting : List ℕ) (taken : ℕ) : Type 0 where
-  pub takes : Takes unread front
-  pub reads : IsRead unread front
-  pub sees : IsSeen seen unread
-  pub inside : taken ≤ length waiting
+pub record IsHeld (large : Option Large) (bytes : List ℕ) (front : Front) (seen : Seen) : Type 0 where
+  pub sighted : IsSighted (all_of large bytes) front seen
+  pub gathers : MayGather large bytes

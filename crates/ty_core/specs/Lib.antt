@@ -1,3 +1,4 @@
+pub mod Gathering
 pub mod Held
 pub mod Queues
 pub mod Serving

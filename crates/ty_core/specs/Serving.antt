@@ -8,11 +8,12 @@ use Rattle.ty_wire.specs.Prefixes.{IsPrefix}
 use Rattle.ty_wire.specs.Reading.{request_at}
 use Rattle.ty_wire.specs.Spelling.{spelling, Fits, reply_bytes}
 use Rattle.tc_model.specs.Contents.{Contents, Walk}
-use Rattle.tc_model.specs.Apply.{Step, apply, is_updated}
+use Rattle.tc_model.specs.Apply.{Step, apply, is_updated, updates}
 use Rattle.tc_model.specs.Packing.{is_optimize}
-use Rattle.ty_base.specs.Holding.{Held}
+use Rattle.ty_base.specs.Holding.{FillsBy, Held}
 use Rattle.ty_core.specs.declared.serving.Feed.{Feed}
 use Rattle.ty_core.specs.declared.serving.Served.{Served}
+use Rattle.ty_core.specs.declared.taking.Taken.{Taken}
 
 -- the feed that a request asks for
 abbrev pub feed_of : Request → Option Feed
@@ -32,6 +33,12 @@ pub record Begins (r : Request) (unread : List ℕ) : Type 0 where
 pub record IsWhole (whole : ℕ) (unread : List ℕ) : Type 0 where
   pub read : (r : Request) × (whole ≤ length unread) × (request_at unread ≡ Ok (r, drop whole unread))
   pub spelled : (r : Request) × Fits r × IsPrefix (spelling r) unread
+
+-- the request was taken off the bytes, and its own are kept where they are asked for and may be of use
+pub record IsTaken (t : Taken) (logs : Bool) (unread unread' : List ℕ) : Type 0 where
+  pub fits : Fits t.request
+  pub spelled : unread ≡ spelling t.request ++ unread'
+  pub copied : t.copied ≡ (if logs && updates t.request then Some (spelling t.request) else None)
 
 -- the request is the one that the bytes begin with, by its reading and by its spelling, and the others are left
 pub record TakesOff (r : Request) (d : Served) (unread unread' : List ℕ) : Type 0 where
@@ -54,8 +61,8 @@ pub record ServesFront {S B : Type 0} (s : Ghosts S) (holds : B → Files → Co
   pub takes : TakesOff request d unread unread'
   pub serves : (c : Contents) → Held s holds base old c → (e : Contents) × Held s holds base' new e × Serves replica logs request d c e w w' waiting waiting'
 
--- a limit is reached between contents and what the request at the front makes of them
+-- a limit is reached, where the request at the front may write, between contents and what it makes of them
 pub record FillsFront {S B : Type 0} (s : Ghosts S) (holds : B → Files → Contents → Type 0) (fills : Contents → Contents → Type 0) (replica : Bool) (base : B) (old : S) (w : Walk) (unread : List ℕ) : Type 0 where
   pub request : Request
   pub begins : Begins request unread
-  pub full : (c : Contents) → Held s holds base old c → fills c (apply replica request c w).contents
+  pub full : FillsBy s holds fills request base old (λ c. (apply replica request c w).contents)

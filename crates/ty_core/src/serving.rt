@@ -1,4 +1,4 @@
-//! The request at the front of bytes, served.
+//! A request, served.
 ghost use Rattle.std.specs.Prelude.{◌≡◌, ◌≢◌, ◌⊎◌, ◌≤◌, ◌++◌, ◌&&◌, ℕ, Bool, true, false, List, Option, OnOk, OnErr, IfOk, IsErrOf, IsTrue, Ok, length, drop, if◌then◌else◌, Some, None};
 ghost use Rattle.tc_base.specs.declared.request.Request.{Request};
 ghost use Rattle.tc_io.specs.Causes.{Rose};
@@ -6,17 +6,17 @@ ghost use Rattle.tc_space.specs.Frames.{Keeps};
 ghost use Rattle.tc_model.specs.Contents.{Contents};
 ghost use Rattle.tc_model.specs.Apply.{apply, refusal_of, updates};
 ghost use Rattle.ty_wire.specs.Prefixes.{IsPrefix};
-ghost use Rattle.ty_base.specs.Holding.{Declines, Held, IsReady, Leaves};
+ghost use Rattle.ty_base.specs.Holding.{Declines, FillsBy, Held, IsReady, Leaves};
 ghost use Rattle.ty_base.specs.Holding as holding;
 ghost use Rattle.tc_model.specs.Packing.{is_optimize};
-ghost use Rattle.ty_core.specs.Serving.{FillsFront, IsWhole, ServesFront, feed_of};
+ghost use Rattle.ty_core.specs.Serving.{FillsFront, IsTaken, ServesFront, feed_of};
 
-use std::alloc::{AllocError, Global};
+use crate::taking::{Taken, if_updating};
 use tc_base::{Blob, Reply, Request};
 use tc_model::{Applied, Walk};
 use tc_space::{RecErr, Space};
 use ty_base::Base;
-use ty_wire::{is_updating, read_request, write_reply};
+use ty_wire::write_reply;
 
 /// Whom a `repl` asks to be fed: the update records above a timestamp, for a server of this number.
 #[derive(Clone, Copy, Debug, PartialEq, Eq)]
@@ -47,13 +47,6 @@ fn refusal(request: &Request) -> Reply
     }
 }
 
-// Whether a test holds and the request updates where it succeeds.
-fn if_updating(request: &Request, test: bool) -> bool
-    ensures { result ≡ (test && updates request.now) }
-{
-    if test { is_updating(request) } else { false }
-}
-
 // Whether it packs the files.
 fn is_packing(request: &Request) -> bool
     ensures { result ≡ is_optimize request.now }
@@ -71,17 +64,6 @@ fn asked_feed(request: &Request) -> Option<Feed>
             server: *server,
         }),
         _ => None,
-    }
-}
-
-// A copy of the bytes where they are asked for.
-fn copy(alloc: Global, bytes: &[u8], asked: bool) -> Result<Option<Blob>, AllocError>
-    ensures { IfOk result (λ o. o ≡ (if asked then Some bytes.now else None)) }
-{
-    if asked {
-        Ok(Some(Blob::from_slice(alloc, bytes)?))
-    } else {
-        Ok(None)
     }
 }
 
@@ -106,7 +88,7 @@ pub fn answer<B: Base>(
     ensures leaves { IfOk result (λ a. Leaves B.S.Space ((a.updated ≡ false) × (is_optimize request ≡ false)) space.old space.new) }
     ensures refused { OnErr result (Declines B.S.Space B.holds base.old base.new space.old space.new walk.old walk.new) }
     ensures reply_front { IsPrefix reply.old reply.new }
-    ensures full { IsErrOf result RecErr.Full → (c : Contents) → Held B.S.Space B.holds base.old space.old c → B.fills space.new c (apply replica request c walk.old).contents }
+    ensures full { IsErrOf result RecErr.Full → FillsBy B.S.Space B.holds (B.fills space.new) request base.old space.old (λ c. (apply replica request c walk.old).contents) }
     ensures keeps { Keeps B.S.Space space.old space.new }
     ensures cause { IsErrOf result RecErr.Fault → Rose (B.S.faults space.old) (B.S.faults space.new) }
 {
@@ -123,32 +105,27 @@ pub fn answer<B: Base>(
     }
 }
 
-/// Serves the request at the front of bytes, whose own are the first `whole`. Where `logs` is set, the bytes of one that updates are given back.
-pub fn serve_front<B: Base>(
-    alloc: Global,
-    unread: &[u8],
-    whole: usize,
+/// Serves a request that was taken off. Where its bytes were asked for, those of one that updates are given back.
+pub fn serve_taken<B: Base>(
+    taken: Taken,
     waiting: &mut Blob,
     base: &mut B,
     space: &mut B::S,
     walk: &mut Walk,
     replica: bool,
-    logs: bool,
 ) -> Result<Served, RecErr>
-    requires whole { IsWhole whole unread.now }
     requires ready { IsReady B.S.Space B.holds base.old space.old }
-    ensures served { IfOk result (λ d. ServesFront B.S.Space B.holds replica logs d base.old base.new space.old space.new walk.old walk.new unread.now (drop whole unread.now) waiting.old waiting.new) }
+    ensures served { IfOk result (λ d. (logs : Bool) (unread rest : List ℕ) → IsTaken taken logs unread rest → ServesFront B.S.Space B.holds replica logs d base.old base.new space.old space.new walk.old walk.new unread rest waiting.old waiting.new) }
     ensures leaves { IfOk result (λ d. Leaves B.S.Space (d.commits ≡ false) space.old space.new) }
     ensures refused { OnErr result (Declines B.S.Space B.holds base.old base.new space.old space.new walk.old walk.new) }
     ensures waiting_front { IsPrefix waiting.old waiting.new }
-    ensures full { IsErrOf result RecErr.Full → FillsFront B.S.Space B.holds (B.fills space.new) replica base.old space.old walk.old unread.now }
+    ensures full { IsErrOf result RecErr.Full → (logs : Bool) (unread rest : List ℕ) → IsTaken taken logs unread rest → FillsFront B.S.Space B.holds (B.fills space.new) replica base.old space.old walk.old unread }
     ensures keeps { Keeps B.S.Space space.old space.new }
     ensures cause { IsErrOf result RecErr.Fault → Rose (B.S.faults space.old) (B.S.faults space.new) }
 {
-    let request = read_request(alloc, unread)?;
+    let Taken { request, copied } = taken;
     let packs = is_packing(&request);
     let feeds = asked_feed(&request);
-    let copied = copy(alloc, &unread[..whole], if_updating(&request, logs))?;
     let applied = match answer(base, space, request, walk, replica, waiting) {
         Ok(applied) => applied,
         Err(e) => return Err(e),

@@ -8,39 +8,34 @@ ghost use Rattle.ty_base.specs.Holding.{Declines, IsReady, Leaves};
 ghost use Rattle.ty_core.specs.Queues.{queue};
 ghost use Rattle.ty_core.specs.Serving.{FillsFront, ServesFront};
 
-use crate::serving::{Served, serve_front};
-use bytes::BytesMut;
+use crate::serving::{Served, serve_taken};
+use crate::unread::Unread;
 use std::alloc::{AllocError, Global};
 use std::marker::Model;
 use tc_base::Blob;
 use tc_model::Walk;
 use tc_space::{RecErr, Space};
 use ty_base::Base;
-use ty_wire::{Front, Seen, look};
+use ty_wire::Front;
 
 /// The bytes of a connection that no request took yet, and those that wait to be sent to it. Both queues are seen as lists.
 #[derive(Drop)]
 pub struct Session {
-    alloc: Global,
-    unread: BytesMut,
-    // what stands at the front of the unread bytes, and what was looked at of a request that isn't whole
-    front: Front,
-    seen: Seen,
+    unread: Unread,
     waiting: Blob,
     // so many of them were taken
     taken: usize,
 }
 
 impl Model for Session {
-    ghost use Rattle.std.specs.Prelude.{drop};
+    ghost use Rattle.std.specs.Prelude.{◌≤◌, drop, length};
     ghost use Rattle.ty_core.specs.Queues.{Queue, queue};
-    ghost use Rattle.ty_core.specs.Held.{IsHeld};
 
     ghost Value = { Queue };
 
-    ghost view = { λ s. queue s.unread.items (drop s.taken s.waiting) };
+    ghost view = { λ s. queue s.unread (drop s.taken s.waiting) };
 
-    ghost invariant = { λ s. IsHeld s.unread.items s.front s.seen s.waiting s.taken };
+    ghost invariant = { λ s. s.taken ≤ length s.waiting };
 }
 
 impl Session {
@@ -48,12 +43,8 @@ impl Session {
     pub fn new(alloc: Global) -> Session
         ensures { result ≡ queue [] [] }
     {
-        let mut seen = Seen::new();
         Session {
-            alloc,
-            unread: BytesMut::new(alloc),
-            front: look(&[], &mut seen),
-            seen,
+            unread: Unread::new(alloc),
             waiting: Blob::new(alloc),
             taken: 0,
         }
@@ -64,9 +55,7 @@ impl Session {
         ensures ok { OnOk result (self.new ≡ queue (self.old.unread ++ bytes.now) self.old.waiting) }
         ensures err { OnErr result (self.new ≡ self.old) }
     {
-        self.unread.extend_from_slice(bytes)?;
-        self.front = look(self.unread.as_slice(), &mut self.seen);
-        Ok(())
+        self.unread.push(bytes)
     }
 
     /// What stands at the front of the unread bytes.
@@ -74,7 +63,7 @@ impl Session {
         ensures grammar { Takes self.now.unread result }
         ensures reading { IsRead self.now.unread result }
     {
-        self.front
+        self.unread.look()
     }
 
     /// The bytes that wait to be sent.
@@ -107,6 +96,7 @@ impl Session {
 
     /// Serves the request at the front: it is taken off the unread bytes, and its reply waits. Of a `repl` no reply is added. Where `logs` is
     /// set the bytes of a request that updated are given back. After an `Err` the session is of no more use.
+    #[tactic(auto, using(crate::proofs::Fronts::still_inside, tc_space::specs::Frames::keeps_then, tc_space::specs::Frames::keeps_refl))]
     pub fn serve<B: Base>(
         &mut self,
         base: &mut B,
@@ -125,26 +115,11 @@ impl Session {
         ensures keeps { Keeps B.S.Space space.old space.new }
         ensures cause { IsErrOf result RecErr.Fault → Rose (B.S.faults space.old) (B.S.faults space.new) }
     {
-        let Front::Whole(whole) = self.front else {
-            unreachable!();
-        };
-        let served = match serve_front(
-            self.alloc,
-            self.unread.as_slice(),
-            whole,
-            &mut self.waiting,
-            base,
-            space,
-            walk,
-            replica,
-            logs,
-        ) {
+        let taken = self.unread.take(logs)?;
+        let served = match serve_taken(taken, &mut self.waiting, base, space, walk, replica) {
             Ok(served) => served,
             Err(e) => return Err(e),
         };
-        self.unread.advance(whole);
-        self.seen = Seen::new();
-        self.front = look(self.unread.as_slice(), &mut self.seen);
         Ok(served)
     }
 }

@@ -14,9 +14,6 @@ use tc_io::Sent;
 // So many bytes are gathered before they are written, and as many are written as they come.
 const GATHERED: usize = 16_384;
 
-// So many events a reply waits for the next one at most.
-const HELD_MOST: u32 = 64;
-
 // So often a call is made again that a signal ended.
 const TRIES: u32 = 4;
 
@@ -53,8 +50,6 @@ pub struct Line {
     // taken and not written yet: those from `written` on
     out: Vec<u8>,
     written: usize,
-    // so many events went by since the first of them was taken
-    held: u32,
 }
 
 impl Line {
@@ -78,7 +73,6 @@ impl Line {
             is_shut: false,
             out: Vec::with_capacity(alloc, GATHERED)?,
             written: 0,
-            held: 0,
         })
     }
 
@@ -256,7 +250,6 @@ impl Line {
 
     /// Writes what was taken, as far as the system takes it now.
     pub fn flush(&mut self) {
-        self.held = 0;
         for _ in 0..TRIES {
             if self.is_blocked || self.written >= self.out.len() {
                 break;
@@ -275,18 +268,6 @@ impl Line {
             self.out.clear();
             self.written = 0;
         }
-    }
-
-    /// Writes what was taken where no more is about to come, or it has waited for long enough.
-    pub fn flush_ripe(&mut self, paused: &[u32]) {
-        if self.out.is_empty() || self.is_blocked {
-            return;
-        }
-        self.held = self.held.saturating_add(1);
-        if self.held < HELD_MOST && paused.contains(&self.number) {
-            return;
-        }
-        self.flush();
     }
 
     /// Takes bytes, to write them with those that follow, or writes them where they are many.

@@ -23,7 +23,7 @@ const NAP: u64 = 5;
 /// Connections at an address, and those that are dialled.
 ///
 /// It sleeps where nothing is ready, for a second at most, and asks the system once for a batch of events. What it took of replies is
-/// gathered, up to 16 KiB a connection, and written once no more of them is about to come. A peer's reset is the end of its input, or it is gone;
+/// gathered, up to 16 KiB a connection, and written once nothing is ready, or 64 turns later. A peer's reset is the end of its input, or it is gone;
 /// a fault is only a failed `open`, a failed question to the system, or want of memory for a number.
 #[derive(Drop)]
 pub struct SocketWire<'a, R> {
@@ -61,7 +61,7 @@ impl<'a, R: Net + rt::Clock> SocketWire<'a, R> {
     /// Writes all that was taken, as far as the system takes it now.
     pub fn write_out(&mut self) {
         if let Some(sockets) = self.sockets.as_mut() {
-            sockets.flush_all();
+            sockets.flush(&[]);
         }
     }
 
@@ -177,7 +177,8 @@ fn take<R: rt::Clock>(
     arrive(rt, sockets, roster, paused, into)
 }
 
-// An event that is ready, once what is due was written and the system was asked where that is due.
+// An event that is ready, once the system was asked where that is due. Where there is none, what was taken is written, but for connections that are about
+// to get more; else it waits, so that replies are written in a row, whose first alone may have to wake a peer.
 fn look<R: rt::Clock>(
     rt: &R,
     sockets: &mut Sockets,
@@ -188,11 +189,15 @@ fn look<R: rt::Clock>(
     ensures ok { IfOk result (λ took. Took roster.old.conns.items roster.new.conns.items roster.old.ended.items roster.new.ended.items roster.old.given roster.new.given paused.now took) }
     ensures err { OnErr result (SameNumbers roster.old roster.new) }
 {
-    sockets.flush_ripe(paused);
+    sockets.flush_old();
     if sockets.is_due() {
         sockets.ask(rt, Duration::from_millis(0))?;
     }
-    take(rt, sockets, roster, paused, into)
+    let taken = take(rt, sockets, roster, paused, into)?;
+    if taken.is_none() {
+        sockets.flush(paused);
+    }
+    Ok(taken)
 }
 
 impl<'a, R: Net + rt::Clock> Wire for SocketWire<'a, R> {

@@ -27,6 +27,9 @@ const TURNS_MOST: u32 = 64;
 // So many go by where nothing is ready, but requests wait to be served.
 const BUSY_TURNS_MOST: u32 = 8;
 
+// So many turns a reply waits at most, to be written in a row with others.
+const HELD_MOST: u32 = 64;
+
 /// What was found ready.
 pub enum Found {
     Bytes(u32, usize),
@@ -64,6 +67,8 @@ pub struct Sockets {
     has_ready: bool,
     // bytes may be gathered that aren't written yet
     owes: bool,
+    // so many turns since all were written
+    held: u32,
     // where the last line was found
     found_at: usize,
 }
@@ -122,6 +127,7 @@ impl Sockets {
             just_opened: false,
             has_ready: false,
             owes: false,
+            held: 0,
             found_at: 0,
         })
     }
@@ -165,25 +171,32 @@ impl Sockets {
         }
     }
 
-    /// Writes what was taken for connections that aren't about to get more.
-    pub fn flush_ripe(&mut self, paused: &[u32]) {
+    /// Writes what was taken where it has waited for long enough.
+    pub fn flush_old(&mut self) {
+        if !self.owes {
+            return;
+        }
+        self.held = self.held.saturating_add(1);
+        if self.held >= HELD_MOST {
+            self.flush(&[]);
+        }
+    }
+
+    /// Writes what was taken, but for those connections.
+    pub fn flush(&mut self, but: &[u32]) {
         if !self.owes {
             return;
         }
         let mut owes = false;
         for line in self.lines.iter_mut() {
-            if line.owes() {
-                line.flush_ripe(paused);
-                owes = owes || line.owes();
+            if line.owes() && !but.contains(&line.number()) {
+                line.flush();
             }
+            owes = owes || line.owes();
         }
         self.owes = owes;
-    }
-
-    /// Writes all that was taken.
-    pub fn flush_all(&mut self) {
-        for line in self.lines.iter_mut() {
-            line.flush();
+        if but.is_empty() || !owes {
+            self.held = 0;
         }
     }
 

@@ -24,8 +24,10 @@ returns-in-Ok-clause-applied g c = λ d h.
     subst (λ (s : Step). Serves g.B.S.Space g.B.Base.holds s c.args.request c.in-Ok.applied c.apply.new.self c.apply.new.space c.apply.new.walk c.args.reply.now c.apply.new.reply) (sym (apply_same c.args.replica c.args.request d c.args.walk.now (sym c.if_updating.ensures ∙ c.if-if_updating.false))) (c.in-Ok.ensures.applied d h)
 
 pub returns-in-Err-clause-full : goal.returns-in-Err-clause-full
-returns-in-Err-clause-full g c = λ is d h.
-    subst (λ (s : Step). g.B.Base.fills c.apply.new.space d s.contents) (sym (apply_same c.args.replica c.args.request d c.args.walk.now (sym c.if_updating.ensures ∙ c.if-if_updating.false))) (c.in-Err.ensures.full is d h)
+returns-in-Err-clause-full g c = λ is. let full = c.in-Err.ensures.full is in record {
+  writes = full.writes;
+  by = λ d h. subst (λ (s : Step). g.B.Base.fills c.apply.new.space d s.contents) (sym (apply_same c.args.replica c.args.request d c.args.walk.now (sym c.if_updating.ensures ∙ c.if-if_updating.false))) (full.by d h);
+}
 
 pub returns-in_err-write_reply-clause-reply_front : goal.returns-in_err-write_reply-clause-reply_front
 returns-in_err-write_reply-clause-reply_front g c = ([], c.in_err-write_reply.ensures.err ∙ sym (append-nil c.args.reply.now))

@@ -1,26 +1,19 @@
-use Rattle.std.proofs.Common.{List, ℕ, subst, ap, sym, drop, ◌∙◌}
-use Rattle.ty_wire.specs.Seen.{IsSeen}
-use Rattle.ty_wire.specs.Taking.{Takes, IsRead}
+use Rattle.std.proofs.Common.{List, ℕ, rules, refl, ap, subst}
 use Rattle.ty_core.specs.Queues.{Queue}
-use Rattle.ty_core.proofs.Fronts.{front_behind, still_inside}
+use Rattle.ty_core.specs.Serving.{FillsFront}
+use Rattle.ty_core.proofs.Fronts.{front_behind}
 use Rattle.ty_core.proofs.session.Session.serve.Goals as goal
-
-pub look-self-inside-requires : goal.look-self-inside-requires
-look-self-inside-requires g c = c.new-self-inside.ensures c.as_slice-2.result.now
-
-pub invariant_of-self-2 : goal.invariant_of-self-2
-invariant_of-self-2 g c = record {
-  takes = subst (λ (l : List ℕ). Takes l c.look-self-inside.result) c.as_slice-2.ensures c.look-self-inside.ensures.grammar;
-  reads = subst (λ (l : List ℕ). IsRead l c.look-self-inside.result) c.as_slice-2.ensures c.look-self-inside.ensures.reading;
-  sees = subst (λ (l : List ℕ). IsSeen c.look-self-inside.new.seen l) c.as_slice-2.ensures c.look-self-inside.ensures.seen;
-  inside = still_inside _ _ c.self.inside.taken c.serve_front.ensures.waiting_front c.self.invariant.inside;
-}
 
 pub returns-clause-served : goal.returns-clause-served
 returns-clause-served g c =
-    front_behind g.B.S.Space g.B.Base.holds c.args.replica c.args.logs c.in-Ok.served _ _ _ _ _ _ c.args.self.now.unread c.as_slice.result.now _ _ _ c.self.inside.waiting c.serve_front.new.waiting c.self.inside.taken
-    (c.as_slice.ensures ∙ ap (λ (q : Queue). q.unread) c.self.view_is)
-    (ap (drop c.in-Whole.whole) c.as_slice.ensures ∙ sym c.advance.ensures.items)
+    front_behind g.B.S.Space g.B.Base.holds c.args.replica c.args.logs c.in-Ok.served _ _ _ _ _ _ c.args.self.now.unread _ _ _ _ c.self.inside.waiting c.serve_taken.new.waiting c.self.inside.taken
+    (ap (λ (q : Queue). q.unread) c.self.view_is)
+    refl
     (ap (λ (q : Queue). q.waiting) c.self.view_is)
-    c.self.invariant.inside
-    c.in-Ok.ensures.served
+    c.self.invariant
+    (c.in-Ok.ensures.served c.args.logs _ _ c.in_ok-taken.ensures)
+
+pub returns-in-Err-clause-full : goal.returns-in-Err-clause-full
+returns-in-Err-clause-full g c = λ is.
+    subst (λ (l : List ℕ). FillsFront g.B.S.Space g.B.Base.holds (g.B.Base.fills c.serve_taken.new.space) c.args.replica c.args.base.now c.args.space.now c.args.walk.now l) (ap (λ (q : Queue). q.unread) c.self.view_is)
+    (c.in-Err.ensures.full (search rules) c.args.logs _ _ c.in_ok-taken.ensures)

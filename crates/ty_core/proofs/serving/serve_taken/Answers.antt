@@ -1,0 +1,25 @@
+use Rattle.std.proofs.Common.{refl, rules, ap, ◌∙◌, List, ℕ}
+use Rattle.std.specs.Prelude.{Option, None, if◌then◌else◌}
+use Rattle.ty_wire.specs.Spelling.{spelling}
+use Rattle.ty_wire.proofs.Answered.{whole}
+use Rattle.ty_core.proofs.Fronts.{serves, taken_off}
+use Rattle.ty_core.proofs.serving.serve_taken.Goals as goal
+
+pub returns-clause-served : goal.returns-clause-served
+returns-clause-served g c = λ logs unread rest k. record {
+  request = c.args.taken.request;
+  takes = taken_off c.args.taken logs unread rest _ k c.asked_feed-feeds.ensures;
+  serves = λ d h. let x = c.in-Ok.ensures.applied d h in (
+    x.contents,
+    x.holds,
+    serves c.args.replica logs c.args.taken.request c.in-Ok.applied _ _ d x.contents _ _ _ _ (spelling c.args.taken.request) refl c.is_packing-packs.ensures
+        (c.kept-update.ensures ∙ ap (λ (o : Option (List ℕ)). if c.in-Ok.applied.updated then o else None) k.copied) refl x.applies,
+  );
+}
+
+pub returns-in-Err-clause-full : goal.returns-in-Err-clause-full
+returns-in-Err-clause-full g c = λ is logs unread rest k. record {
+  request = c.args.taken.request;
+  begins = record { rest = rest; front = whole unread c.args.taken.request rest k.fits k.spelled };
+  full = c.in-Err.ensures.full (search rules);
+}

@@ -1,0 +1,111 @@
+//! The request at the front of bytes, taken off them.
+ghost use Rattle.std.specs.Prelude.{◌≡◌, ◌≤◌, ◌&&◌, List, ℕ, IfOk, length, drop, if◌then◌else◌, Some, None};
+ghost use Rattle.tc_base.specs.declared.request.Request.{Request};
+ghost use Rattle.tc_model.specs.Apply.{updates};
+ghost use Rattle.ty_core.specs.Gathering.{BeginsPut, MayGather, all_of};
+ghost use Rattle.ty_core.specs.Serving.{IsTaken, IsWhole};
+
+use crate::large::Large;
+use bytes::BytesMut;
+use std::alloc::{AllocError, Global};
+use tc_base::{Blob, Request};
+use ty_wire::{is_updating, read_request};
+
+/// A request, and its bytes where they were asked for and it may update.
+#[derive(Debug, Drop)]
+pub struct Taken {
+    pub request: Request,
+    pub copied: Option<Blob>,
+}
+
+/// Whether a test holds and the request updates where it succeeds.
+pub fn if_updating(request: &Request, test: bool) -> bool
+    ensures { result ≡ (test && updates request.now) }
+{
+    if test { is_updating(request) } else { false }
+}
+
+// A copy of the bytes where they are asked for.
+fn copy(alloc: Global, bytes: &[u8], asked: bool) -> Result<Option<Blob>, AllocError>
+    ensures { IfOk result (λ o. o ≡ (if asked then Some bytes.now else None)) }
+{
+    if asked {
+        Ok(Some(Blob::from_slice(alloc, bytes)?))
+    } else {
+        Ok(None)
+    }
+}
+
+// The request at the front of bytes, whose own are the first `whole`.
+fn read_small(alloc: Global, unread: &[u8], whole: usize, logs: bool) -> Result<Taken, AllocError>
+    requires { IsWhole whole unread.now }
+    ensures { IfOk result (λ t. IsTaken t logs unread.now (drop whole unread.now)) }
+{
+    let request = read_request(alloc, unread)?;
+    let copied = copy(alloc, &unread[..whole], if_updating(&request, logs))?;
+    Ok(Taken { request, copied })
+}
+
+// Takes bytes off the front. Where none are left, their room is used again from its front.
+#[tactic(auto, using(crate::proofs::Fronts::none_left))]
+fn pass(bytes: &mut BytesMut, n: usize)
+    requires { n ≤ length bytes.old.items }
+    ensures { bytes.new.items ≡ drop n bytes.old.items }
+{
+    bytes.advance(n);
+    if bytes.is_empty() {
+        bytes.clear();
+    }
+}
+
+// A request that stands whole among the bytes.
+fn take_small(
+    alloc: Global,
+    bytes: &mut BytesMut,
+    whole: usize,
+    logs: bool,
+) -> Result<Taken, AllocError>
+    requires { IsWhole whole bytes.old.items }
+    ensures { IfOk result (λ t. IsTaken t logs bytes.old.items bytes.new.items) }
+{
+    let taken = read_small(alloc, bytes.as_slice(), whole, logs)?;
+    pass(bytes, whole);
+    Ok(taken)
+}
+
+// A put whose value was gathered.
+#[tactic(auto, using(crate::proofs::Gathering::head_long, crate::proofs::Gathering::large_taken))]
+fn take_large(alloc: Global, large: Large, logs: bool) -> Result<Taken, AllocError>
+    requires begins { BeginsPut large.head large.size }
+    requires full { length large.value ≡ large.size }
+    ensures { IfOk result (λ t. (behind : List ℕ) → IsTaken t logs (all_of (Some large) behind) behind) }
+{
+    let key = large.key(alloc)?;
+    let copied = large.copy(alloc, logs)?;
+    Ok(Taken {
+        request: Request::Put {
+            key,
+            value: large.into_value(),
+        },
+        copied,
+    })
+}
+
+/// The request at the front. Its own bytes are the first `whole`.
+pub fn take_front(
+    alloc: Global,
+    large: &mut Option<Large>,
+    bytes: &mut BytesMut,
+    whole: usize,
+    logs: bool,
+) -> Result<Taken, AllocError>
+    requires whole { IsWhole whole (all_of large.old bytes.old.items) }
+    requires gathers { MayGather large.old bytes.old.items }
+    ensures taken { IfOk result (λ t. IsTaken t logs (all_of large.old bytes.old.items) (all_of large.new bytes.new.items)) }
+    ensures gathers { MayGather large.new bytes.new.items }
+{
+    match large.take() {
+        Some(large) => take_large(alloc, large, logs),
+        None => take_small(alloc, bytes, whole, logs),
+    }
+}
