@@ -1,0 +1,69 @@
+-- A key in the leaf where it belongs.
+use Rattle.std.proofs.Common.{◌≡◌, ℕ, ◌<◌, List, [], ◌∷◌, ◌++◌, Bool, true, false, Some, None, map, sym, ap, ◌∙◌, subst, append_assoc}
+use Rattle.std.specs.Prelude.{slice_get}
+use Rattle.std.specs.FinMap.{get}
+use Rattle.std.specs.List.{AllByRecursion, flat_map}
+use Rattle.tc_base.specs.Lists.{pair, values}
+use Rattle.tc_base.specs.Maps.{Map}
+use Rattle.tc_base.specs.declared.seq.Pair.{Pair}
+use Rattle.tc_space.specs.Frames.{Reads}
+use Rattle.tc_space.specs.declared.space.Space.{Ghosts}
+use Rattle.bt_page.specs.declared.page.Item.{Item}
+use Rattle.bt_page.specs.declared.page.Leaf.{Leaf}
+use Rattle.bt_rows.specs.declared.head.TreeHead.{TreeHead}
+use Rattle.bt_rows.specs.Orders.{Before, IsOrder}
+use Rattle.bt_rows.specs.Rules.{Ascends, item_pairs}
+use Rattle.bt_cache.specs.Effects.{Looks}
+use Rattle.bt_tree.specs.declared.tree.Tree.{Tree}
+use Rattle.bt_tree.specs.Items.{IsLeafFor, item_in, item_of}
+use Rattle.bt_tree.specs.Meaning.{Means}
+use Rattle.bt_tree.specs.Visits.{StaysTree, Visits, Asks}
+use Rattle.bt_tree.specs.Searches.{IsSpot}
+use Rattle.bt_tree.specs.Trees.{HoldsPairs}
+use Rattle.bt_tree.proofs.Keys.{all_join}
+use Rattle.bt_tree.proofs.Spots.{parts_at, own_at, own_miss, item_there}
+use Rattle.bt_tree.proofs.Values.{Parts, values_of_parts}
+
+module _ (before : Before) (order : IsOrder before) (key : List ℕ) (ps : List Pair) (leaf : Leaf) (place : ℕ) (l : IsLeafFor before key ps leaf) where
+  parts_of : (hit : Bool) → IsSpot before leaf.items key place hit → (p : Parts before key ps) × (p.own ≡ own_at before order leaf.items place hit)
+  parts_of hit s =
+      let at = parts_at before order key leaf.items place hit l.ascends s in
+      let p : Parts before key (flat_map item_pairs leaf.items) = at.0 in (
+        record {
+          front = l.front ++ p.front;
+          own = p.own;
+          back = p.back ++ l.back;
+          are = l.are ∙ ap (λ (t : List Pair). l.front ++ (t ++ l.back)) p.are ∙ rearrange l.front p.front (map (pair key) p.own) p.back l.back;
+          low = all_join (λ q. before q.key key ≡ true) l.front p.front l.low p.low;
+          high = all_join (λ q. before key q.key ≡ true) p.back l.back p.high l.high;
+        },
+        at.1,
+      )
+    where
+      rearrange : (a b c d e : List Pair) → a ++ ((b ++ (c ++ d)) ++ e) ≡ (a ++ b) ++ (c ++ (d ++ e))
+      rearrange a b c d e = simp append_assoc
+
+  values_at : (hit : Bool) → IsSpot before leaf.items key place hit → values ps key ≡ own_at before order leaf.items place hit
+  values_at hit s = let p = parts_of hit s in values_of_parts before order key ps p.0 ∙ p.1
+
+  pub found_none : (Ascends before leaf.items → IsSpot before leaf.items key place false) → None ≡ item_in key ps
+  found_none s = sym (ap (item_of key) (values_at false (s l.ascends) ∙ own_miss before order leaf.items place))
+
+  pub found_some : (x : Item) → (Ascends before leaf.items → IsSpot before leaf.items key place true) → slice_get leaf.items place ≡ Some x → Some x ≡ item_in key ps
+  found_some x s is = sym (ap (item_of key) (values_at true (s l.ascends)) ∙ item_there before order key leaf.items place x l.some (s l.ascends) is)
+
+-- pages are looked at, and the numbers of the tree stay
+module _ {S V O : Type 0} (s : Ghosts S) (file_of : V → ℕ) (holds : V → List ℕ → Map → Type 0) (before : Before) (t u : Tree V O) (old new : S) where
+  tree_reads : Looks s file_of holds t.cache.pages u.cache.pages t.store u.store old new → StaysTree t u → Reads s (Means s file_of holds before) t u old new
+  tree_reads looks stays = record { now = looks.reads.now; touched = looks.reads.touched; sound = looks.reads.sound; means = means }
+    where
+      pairs_on : (m : Map) (ps : List Pair) → HoldsPairs before t.head t.height t.index (get m) ps → HoldsPairs before u.head u.height u.index (get m) ps
+      pairs_on m ps p =
+          subst (λ (h : TreeHead). HoldsPairs before h u.height u.index (get m) ps) (sym stays.head)
+          (subst (λ (n : ℕ). HoldsPairs before t.head n u.index (get m) ps) (sym stays.height) (subst (λ (b : Bool). HoldsPairs before t.head t.height b (get m) ps) (sym stays.index) p))
+
+      means : (ps : List Pair) → Means s file_of holds before t old ps → Means s file_of holds before u new ps
+      means ps h = let b = looks.reads.means h.1.0 ((h.0, h.1.1), h.1.2) in (b.0.0, (h.1.0, b.0.1, b.1, pairs_on h.1.0 ps h.1.3))
+
+  pub asks_of : (region : V → List ℕ) (gets : V → ℕ) (most steps steps' : ℕ) → Visits s file_of holds region gets most t u steps steps' old new → Asks s file_of holds region gets before most t u steps steps' old new
+  asks_of region gets most steps steps' v = record { reads = tree_reads v.looks v.stays; keeps = v.looks.keeps; pages = v.pages; stays = v.stays }

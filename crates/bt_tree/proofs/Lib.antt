@@ -1,0 +1,11 @@
+pub mod Descents
+pub mod Finds
+pub mod Keys
+pub mod Makes
+pub mod Pages
+pub mod Rising
+pub mod Rows
+pub mod Settles
+pub mod Spots
+pub mod Values
+pub mod Walks

@@ -1,0 +1,10 @@
+pub mod Costs
+pub mod Filling
+pub mod Items
+pub mod Making
+pub mod Meaning
+pub mod Searches
+pub mod Standing
+pub mod Trees
+pub mod Ways
+pub mod Visits

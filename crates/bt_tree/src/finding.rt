@@ -1,0 +1,49 @@
+//! A key with its values.
+ghost use Rattle.std.specs.Prelude.{◌≡◌, List, IfOk, IsErrOf};
+ghost use Rattle.tc_base.specs.declared.seq.Pair.{Pair};
+ghost use Rattle.tc_io.specs.Causes.{Rose};
+ghost use Rattle.tc_space.specs.Stores.{IsReady};
+ghost use Rattle.bt_rows.specs.Orders.{before_by};
+ghost use Rattle.bt_tree.specs.Items.{IsLeafFor, item_in};
+ghost use Rattle.bt_tree.specs.Meaning.{Means};
+ghost use Rattle.bt_tree.specs.Visits.{Asks};
+
+use crate::copying::copy_item;
+use crate::searching::spot;
+use crate::tree::Tree;
+use bt_page::{Item, Leaf};
+use std::alloc::{AllocError, Global};
+use tc_base::{Order, Steps};
+use tc_space::{RecErr, Records};
+
+// A copy of the key and its values, if the leaf where it belongs has it.
+fn copy_found<O: Order>(alloc: Global, leaf: &Leaf, key: &[u8]) -> Result<Option<Item>, AllocError>
+    ensures { IfOk result (λ found. (ps : List Pair) → IsLeafFor (before_by O.cmp) key.now ps leaf.now → found ≡ item_in key.now ps) }
+{
+    let (place, hit) = spot::<O>(leaf.items.as_slice(), key);
+    if !hit {
+        return Ok(None);
+    }
+    Ok(Some(copy_item(alloc, leaf.items.at(place))?))
+}
+
+impl<R: Records, O: Order> Tree<R, O> {
+    /// A key with all its values, in order of arrival, as a copy; None where it isn't held. It reads at most `height` pages, and none that is in memory: each read is a step. `Full` doesn't come.
+    pub fn find<L>(
+        &mut self,
+        space: &mut R::S,
+        key: &[u8],
+        steps: &mut Steps<L>,
+    ) -> Result<Option<Item>, RecErr>
+        requires { IsReady R.S.Space (Means R.S.Space R.file_of R.holds (before_by O.cmp)) self.old space.old }
+        ensures value { IfOk result (λ found. (ps : List Pair) → Means R.S.Space R.file_of R.holds (before_by O.cmp) self.old space.old ps → found ≡ item_in key.now ps) }
+        ensures asks { Asks R.S.Space R.file_of R.holds R.region R.gets (before_by O.cmp) self.old.height self.old self.new steps.old steps.new space.old space.new }
+        ensures cause { (IsErrOf result RecErr.Fault → Rose (R.S.faults space.old) (R.S.faults space.new)) × (IsErrOf result RecErr.Full → ⊥) }
+    {
+        let leaf = match self.leaf_for(space, key, steps) {
+            Ok(leaf) => leaf,
+            Err(e) => return Err(e),
+        };
+        Ok(copy_found::<O>(self.alloc, &leaf, key)?)
+    }
+}

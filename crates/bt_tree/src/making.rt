@@ -1,0 +1,86 @@
+//! A tree made anew.
+ghost use Rattle.std.specs.Prelude.{◌≡◌, IfOk, OnErr, IsErrOf};
+ghost use Rattle.tc_base.specs.Maps.{Map};
+ghost use Rattle.tc_base.specs.declared.kind.Mode.TheVariants.{Over};
+ghost use Rattle.tc_io.specs.Causes.{Rose};
+ghost use Rattle.tc_space.specs.Changes.{put_in};
+ghost use Rattle.tc_space.specs.Frames.{In, Keeps};
+ghost use Rattle.tc_space.specs.Stores.{FullBy, IsReady};
+ghost use Rattle.bt_page.specs.Keys.{key_of};
+ghost use Rattle.bt_page.specs.Pages.{leaf_bytes};
+ghost use Rattle.bt_rows.specs.Orders.{before_by};
+ghost use Rattle.bt_tree.specs.Making.{IsBare, IsNew, IsRefused, MayBe, lone_leaf};
+ghost use Rattle.bt_tree.specs.Meaning.{Means};
+
+use crate::path::Path;
+use crate::tree::Tree;
+use bt_cache::Cache;
+use bt_page::Leaf;
+use bt_rows::TreeHead;
+use std::alloc::Global;
+use std::marker::PhantomData;
+use tc_base::{Order, Seq};
+use tc_space::{RecErr, Records};
+
+/// How many pages a tree holds in memory.
+pub const ROOM: usize = 64;
+
+// The numbers of a tree of one leaf with no keys.
+fn new_head(order: u8, leaf_limit: u32, node_limit: u32) -> TreeHead
+    ensures { result ≡ record { order = order; leaf_limit = leaf_limit; node_limit = node_limit; root = 1; first = 1; last = 1; leaf_ids = 1; node_ids = 0; pairs = 0 } }
+{
+    TreeHead {
+        order,
+        leaf_limit,
+        node_limit,
+        root: 1,
+        first: 1,
+        last: 1,
+        leaf_ids: 1,
+        node_ids: 0,
+        pairs: 0,
+    }
+}
+
+impl<R: Records + Drop, O: Order> Tree<R, O> {
+    /// A tree of no pairs in a store that holds nothing, or the record `column` alone: one leaf is written. Both limits are from 4 to 256. After a refusal the store is gone, and the space isn't
+    /// sound or nothing is written. The header's numbers come with `settle`.
+    pub fn create(
+        alloc: Global,
+        store: R,
+        space: &mut R::S,
+        leaf_limit: u32,
+        node_limit: u32,
+    ) -> Result<Tree<R, O>, RecErr>
+        requires ready { IsReady R.S.Space (In R.S.Space R.file_of R.holds) store space.old }
+        requires bare { (m : Map) → In R.S.Space R.file_of R.holds store space.old m → IsBare m }
+        requires numbers { MayBe leaf_limit node_limit O.CODE }
+        ensures made { IfOk result (λ t. IsNew R.S.Space R.file_of (R.file_of store) (Means R.S.Space R.file_of R.holds (before_by O.cmp)) leaf_limit node_limit O.CODE t space.old space.new) }
+        ensures refused { OnErr result (IsRefused R.S.Space space.old space.new) }
+        ensures full { IsErrOf result RecErr.Full → FullBy (In R.S.Space R.file_of R.holds) R.fills (put_in Over (key_of 1) (leaf_bytes lone_leaf)) store space.old space.new }
+        ensures keeps { Keeps R.S.Space space.old space.new }
+        ensures cause { IsErrOf result RecErr.Fault → Rose (R.S.faults space.old) (R.S.faults space.new) }
+    {
+        let mut store = store;
+        let index = store.count() > 0;
+        let mut cache = Cache::new(alloc, ROOM)?;
+        let leaf = Leaf {
+            prev: 0,
+            next: 0,
+            items: Seq::new(alloc),
+        };
+        match cache.put_leaf(&mut store, space, 1, leaf) {
+            Ok(()) => Ok(Tree {
+                alloc,
+                store,
+                cache,
+                head: new_head(O::CODE, leaf_limit, node_limit),
+                height: 1,
+                index,
+                path: Path::new(alloc),
+                of: PhantomData,
+            }),
+            Err(e) => Err(e),
+        }
+    }
+}

@@ -1,0 +1,41 @@
+//! The way down to a leaf.
+ghost use Rattle.std.specs.Prelude.{◌≡◌, [], ◌∷◌, ◌++◌, ℕ, List, reverse, OnOk, MatchOption};
+
+use std::alloc::{AllocError, Global};
+use std::marker::Model;
+
+/// The nodes above a place, each by its id and with which of the pages below it was taken. A contract sees the lowest first.
+#[derive(Debug, Drop)]
+pub(crate) struct Path {
+    steps: Vec<(u64, usize)>,
+}
+
+impl Model for Path {
+    ghost Value = { List (ℕ × ℕ) };
+
+    ghost view = { λ p. reverse p.steps.items };
+}
+
+impl Path {
+    pub(crate) fn new(alloc: Global) -> Path
+        ensures { result ≡ [] }
+    {
+        Path {
+            steps: Vec::new(alloc),
+        }
+    }
+
+    /// Takes all steps out, and keeps the room for others.
+    pub(crate) fn clear(&mut self)
+        ensures { self.new ≡ [] }
+    {
+        self.steps.clear();
+    }
+
+    pub(crate) fn push(&mut self, id: u64, place: usize) -> Result<(), AllocError>
+        ensures { OnOk result (self.new ≡ (id, place) ∷ self.old) }
+    {
+        self.steps.push((id, place))?;
+        Ok(())
+    }
+}
