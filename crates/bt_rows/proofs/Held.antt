@@ -114,7 +114,8 @@ leaves_past pages (suc k) more slots e =
     let next : suc k + more ≡ suc (k + more) = omega arith in
     ap (λ (n : ℕ). leaves_in pages n slots) next ∙ ap (λ (t : List LeafAt). leaves_among pages slots ++ t) (leaves_past pages k more (next_row pages slots) e)
 
-depth_free : (pages : PageMap) (j k : ℕ) (slots : List Slot) → row pages j slots ≡ [] → row pages k slots ≡ [] → leaves_in pages j slots ≡ leaves_in pages k slots
+-- whichever row is the last, the leaves are the same
+pub depth_free : (pages : PageMap) (j k : ℕ) (slots : List Slot) → row pages j slots ≡ [] → row pages k slots ≡ [] → leaves_in pages j slots ≡ leaves_in pages k slots
 depth_free pages j k slots e f = ⊎_elim
     (λ (low : j < k). let is : j + (k - j) ≡ k = omega (arith, low) in sym (ap (λ (n : ℕ). leaves_in pages n slots) (sym is) ∙ leaves_past pages j (k - j) slots e))
     (λ (high : k ≤ j). let is : k + (j - k) ≡ j = omega (arith, high) in ap (λ (n : ℕ). leaves_in pages n slots) (sym is) ∙ leaves_past pages k (j - k) slots f)

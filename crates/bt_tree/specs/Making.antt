@@ -1,6 +1,6 @@
 -- A tree made anew.
-use Rattle.std.specs.Prelude.{◌≡◌, ◌⊎◌, ℕ, ◌≤◌, List, [], Some, false}
-use Rattle.std.specs.FinMap.{get}
+use Rattle.std.specs.Prelude.{◌≡◌, ◌⊎◌, ℕ, ◌≤◌, List, [], Bool, Some, false, nat_lt}
+use Rattle.std.specs.FinMap.{get, len}
 use Rattle.tc_base.specs.Maps.{Map}
 use Rattle.tc_base.specs.declared.seq.Pair.{Pair}
 use Rattle.tc_space.specs.Frames.{OnlyReads, Others}
@@ -20,6 +20,10 @@ pub record MayBe (leaf_limit node_limit code : ℕ) : Type 0 where
 -- a map of nothing, or of the record `column` alone
 abbrev pub IsBare : Map → Type 0
 IsBare m = (key bytes : List ℕ) → get m key ≡ Some bytes → key ≡ column
+
+-- whether it has any record: in front of a tree's first leaf that is `column`, which index files alone have
+abbrev pub has_some : Map → Bool
+has_some m = nat_lt 0 (len m)
 
 -- a leaf alone and with no keys
 abbrev pub lone_leaf : Leaf

@@ -28,7 +28,7 @@ fn copy_found<O: Order>(alloc: Global, leaf: &Leaf, key: &[u8]) -> Result<Option
 }
 
 impl<R: Records, O: Order> Tree<R, O> {
-    /// A key with all its values, in order of arrival, as a copy; None where it isn't held. It reads at most `height` pages, and none that is in memory: each read is a step. `Full` doesn't come.
+    /// A key with all its values, in order of arrival, as a copy; None where it isn't held. It reads at most `height` pages, each of them a step. `Full` doesn't come.
     pub fn find<L>(
         &mut self,
         space: &mut R::S,

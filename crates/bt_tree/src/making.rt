@@ -9,7 +9,7 @@ ghost use Rattle.tc_space.specs.Stores.{FullBy, IsReady};
 ghost use Rattle.bt_page.specs.Keys.{key_of};
 ghost use Rattle.bt_page.specs.Pages.{leaf_bytes};
 ghost use Rattle.bt_rows.specs.Orders.{before_by};
-ghost use Rattle.bt_tree.specs.Making.{IsBare, IsNew, IsRefused, MayBe, lone_leaf};
+ghost use Rattle.bt_tree.specs.Making.{IsBare, IsNew, IsRefused, MayBe, has_some, lone_leaf};
 ghost use Rattle.bt_tree.specs.Meaning.{Means};
 
 use crate::path::Path;
@@ -43,7 +43,7 @@ fn new_head(order: u8, leaf_limit: u32, node_limit: u32) -> TreeHead
 }
 
 impl<R: Records + Drop, O: Order> Tree<R, O> {
-    /// A tree of no pairs in a store that holds nothing, or the record `column` alone: one leaf is written. Both limits are from 4 to 256. After a refusal the store is gone, and the space isn't
+    /// A tree of no pairs in a store that holds nothing, or the record `column` alone, which makes it an index file's: one leaf is written. Both limits are from 4 to 256. After a refusal the store is gone, and the space isn't
     /// sound or nothing is written. The header's numbers come with `settle`.
     pub fn create(
         alloc: Global,
@@ -56,6 +56,7 @@ impl<R: Records + Drop, O: Order> Tree<R, O> {
         requires bare { (m : Map) → In R.S.Space R.file_of R.holds store space.old m → IsBare m }
         requires numbers { MayBe leaf_limit node_limit O.CODE }
         ensures made { IfOk result (λ t. IsNew R.S.Space R.file_of (R.file_of store) (Means R.S.Space R.file_of R.holds (before_by O.cmp)) leaf_limit node_limit O.CODE t space.old space.new) }
+        ensures index { IfOk result (λ t. (m : Map) → In R.S.Space R.file_of R.holds store space.old m → t.index ≡ has_some m) }
         ensures refused { OnErr result (IsRefused R.S.Space space.old space.new) }
         ensures full { IsErrOf result RecErr.Full → FullBy (In R.S.Space R.file_of R.holds) R.fills (put_in Over (key_of 1) (leaf_bytes lone_leaf)) store space.old space.new }
         ensures keeps { Keeps R.S.Space space.old space.new }
