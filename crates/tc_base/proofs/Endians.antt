@@ -53,6 +53,15 @@ field_at at w i bytes h = get_or-take w (drop at bytes) i 0 h ∙ get_or-drop at
 pub length-field : (at w : ℕ) (bytes : List ℕ) → at + w ≤ length bytes → length (field at w bytes) ≡ w
 length-field at w bytes h = length-take-le w (drop at bytes) (omega (arith, length-drop at bytes))
 
+pub le_four : (text : List ℕ) → length text ≡ 4 → le_number text ≡ (get_or text 3 0 * 256 + get_or text 2 0) * 65536 + (get_or text 1 0 * 256 + get_or text 0 0)
+unfolding le_number
+le_four [] e = absurd (omega (arith, e))
+le_four (a ∷ []) e = absurd (omega (arith, e))
+le_four (a ∷ (b ∷ [])) e = absurd (omega (arith, e))
+le_four (a ∷ (b ∷ (c ∷ []))) e = absurd (omega (arith, e))
+le_four (a ∷ (b ∷ (c ∷ (d ∷ [])))) e = omega arith
+le_four (a ∷ (b ∷ (c ∷ (d ∷ (x ∷ text))))) e = absurd (omega (arith, e))
+
 -- one byte more from the back
 pub le_more : (text : List ℕ) (w i n b : ℕ) → length text ≡ w → i < w → n ≡ le_number (drop (w - i) text) → b ≡ get_or text (w - 1 - i) 0 → n * 256 + b ≡ le_number (drop (w - (i + 1)) text)
 le_more text w i n b long less is byte =

@@ -1,5 +1,5 @@
 -- Keys are ordered as the numbers that their first bytes make, where these differ.
-use Rattle.std.proofs.Common.{rules, ◌≡◌, ◌<◌, ◌*◌, ◌+◌, ℕ, zero, suc, List, [], ◌∷◌, ◌++◌, length, take, drop, refl, sym, ap, subst, ◌∙◌, ⊎_elim, arith}
+use Rattle.std.proofs.Common.{rules, ◌≡◌, ◌<◌, ◌≤◌, ◌*◌, ◌+◌, ℕ, zero, suc, List, [], ◌∷◌, ◌++◌, length, take, drop, refl, sym, ap, subst, ◌∙◌, ⊎_elim, arith}
 use Rattle.std.specs.declared.cmp.Ordering.{Ordering}
 use Rattle.std.specs.declared.cmp.Ordering.TheVariants.{Less, Equal, Greater}
 use Rattle.std.specs.Ordering.{nat_cmp, ordering_then, ordering_reverse}
@@ -178,3 +178,17 @@ foreseen_is Greater xs ys e n = e
 
 pub zeros_46 : AreZeros (0 ∷ 0 ∷ 0 ∷ 0 ∷ 0 ∷ 0 ∷ 0 ∷ 0 ∷ 0 ∷ 0 ∷ 0 ∷ 0 ∷ 0 ∷ 0 ∷ 0 ∷ 0 ∷ 0 ∷ 0 ∷ 0 ∷ 0 ∷ 0 ∷ 0 ∷ 0 ∷ 0 ∷ 0 ∷ 0 ∷ 0 ∷ 0 ∷ 0 ∷ 0 ∷ 0 ∷ 0 ∷ 0 ∷ 0 ∷ 0 ∷ 0 ∷ 0 ∷ 0 ∷ 0 ∷ 0 ∷ 0 ∷ 0 ∷ 0 ∷ 0 ∷ 0 ∷ 0 ∷ [])
 zeros_46 = search rules
+
+-- ---- a number read at once
+
+pub whole_front : (xs ys : List ℕ) → 8 ≤ length xs → ys ≡ take 8 xs → from_be_bytes w64 ys ≡ front_at 0 xs
+unfolding front_at
+whole_front [] ys enough is = absurd (omega (arith, enough))
+whole_front (a ∷ []) ys enough is = absurd (omega (arith, enough))
+whole_front (a ∷ b ∷ []) ys enough is = absurd (omega (arith, enough))
+whole_front (a ∷ b ∷ c ∷ []) ys enough is = absurd (omega (arith, enough))
+whole_front (a ∷ b ∷ c ∷ d ∷ []) ys enough is = absurd (omega (arith, enough))
+whole_front (a ∷ b ∷ c ∷ d ∷ e ∷ []) ys enough is = absurd (omega (arith, enough))
+whole_front (a ∷ b ∷ c ∷ d ∷ e ∷ f ∷ []) ys enough is = absurd (omega (arith, enough))
+whole_front (a ∷ b ∷ c ∷ d ∷ e ∷ f ∷ g ∷ []) ys enough is = absurd (omega (arith, enough))
+whole_front (a ∷ b ∷ c ∷ d ∷ e ∷ f ∷ g ∷ h ∷ rest) ys enough is = ap (from_be_bytes w64) is

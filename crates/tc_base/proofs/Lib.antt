@@ -7,4 +7,5 @@ pub mod ExactPairs
 pub mod Foreseeing
 pub mod Hashing
 pub mod Parts
+pub mod Rising
 pub mod Vnums

@@ -1,8 +1,8 @@
 -- A list of pairs in an order of keys, equal keys in order of arrival.
-use Rattle.std.specs.Prelude.{ℕ, List, [], ◌∷◌, ◌++◌, map, drop, filter, slice_get, Option, Some, None}
-use Rattle.std.specs.List.{dedup}
+use Rattle.std.specs.Prelude.{◌≡◌, ℕ, List, [], ◌∷◌, ◌++◌, map, drop, filter, slice_get, Option, Some, None, true}
+use Rattle.std.specs.List.{AllByRecursion, dedup}
 use Rattle.std.specs.declared.cmp.Ordering.{Ordering}
-use Rattle.std.specs.Ordering.{is_lt, is_gt, is_ge}
+use Rattle.std.specs.Ordering.{is_lt, is_le, is_gt, is_ge}
 use Rattle.tc_base.specs.declared.seq.Pair.{Pair}
 use Rattle.tc_base.specs.Texts.{is_text}
 
@@ -53,3 +53,8 @@ from_on R key ps = filter (λ p. is_ge (R p.key key)) ps
 abbrev pub before : (List ℕ → List ℕ → Ordering) → Option (List ℕ) → List Pair → List Pair
 before R None ps = ps
 before R (Some key) ps = below R ps key
+
+-- no key stands behind a greater one
+abbrev pub Rises : (List ℕ → List ℕ → Ordering) → List Pair → Type 0
+Rises R [] = Unit {0}
+Rises R (p ∷ ps) = AllByRecursion (λ q. is_le (R p.key q.key) ≡ true) ps × Rises R ps

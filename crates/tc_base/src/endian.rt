@@ -6,6 +6,17 @@ ghost use Rattle.tc_base.specs.Files.{wrote};
 
 use crate::fields::NotWhole;
 
+// The number in a field of four bytes at a place, the least byte first.
+fn get_four(bytes: &[u8], at: usize) -> u64
+    requires inside { at + 4 ≤ length bytes.now }
+    ensures value { result ≡ le_number (field at 4 bytes.now) }
+    ensures fits { result < 256 ^ 4 }
+{
+    let low = u64::from(bytes[at + 1]) * 256 + u64::from(bytes[at]);
+    let high = u64::from(bytes[at + 3]) * 256 + u64::from(bytes[at + 2]);
+    high * 65_536 + low
+}
+
 /// The number in a field of `width` bytes at a place, the least byte first.
 pub fn get_le(bytes: &[u8], at: usize, width: usize) -> u64
     requires some { 1 ≤ width }
@@ -14,6 +25,10 @@ pub fn get_le(bytes: &[u8], at: usize, width: usize) -> u64
     ensures value { result ≡ le_number (field at width bytes.now) }
     ensures fits { result < 256 ^ width }
 {
+    // most fields have four bytes
+    if width == 4 {
+        return get_four(bytes, at);
+    }
     let mut n: u64 = 0;
     for i in 0..width {
         n = n * 256 + u64::from(bytes[at + width - 1 - i]);

@@ -10,9 +10,9 @@ fn byte_at(bytes: &[u8], i: usize) -> u8
     if i < bytes.len() { bytes[i] } else { 0 }
 }
 
-// The number of the first eight bytes.
+// The number of the first eight bytes, of which some are missing.
 #[tactic(auto, unfolding(crate::specs::Fronts::front_at))]
-fn number(bytes: &[u8]) -> u64
+fn short_number(bytes: &[u8]) -> u64
     ensures { result ≡ front_at 0 bytes.now }
 {
     u64::from_be_bytes([
@@ -25,6 +25,18 @@ fn number(bytes: &[u8]) -> u64
         byte_at(bytes, 6),
         byte_at(bytes, 7),
     ])
+}
+
+// The number of the first eight bytes.
+#[tactic(auto, using(crate::proofs::Foreseeing::whole_front))]
+fn number(bytes: &[u8]) -> u64
+    ensures { result ≡ front_at 0 bytes.now }
+{
+    match bytes.first_chunk::<8>() {
+        // one load
+        Some(front) => u64::from_be_bytes(*front),
+        None => short_number(bytes),
+    }
 }
 
 /// The number of the eight bytes from a place on, the greatest first; those that are missing count as 0.

@@ -2,6 +2,7 @@
 #![tactic(auto)]
 
 mod blob;
+mod comparing;
 mod decimal;
 mod endian;
 mod fault;

@@ -115,6 +115,9 @@ fn spell(mut n: u64) -> ([u8; 10], usize)
 pub fn vnum_len(n: u64) -> usize
     ensures { result ≡ length (vnum n) }
 {
+    if n < 128 {
+        return 1;
+    }
     spell(n).1
 }
 

@@ -7,6 +7,7 @@ ghost use Rattle.std.proofs.lemmas.Map.Lookups.{CmpEqualImpliesEq, exact_bytes};
 ghost use Rattle.tc_base.specs.Orders.{NeverFalls, lexical, value_part, by_number};
 ghost use Rattle.tc_base.specs.OrderLaws.{by_number_total, by_number_exact};
 
+use crate::comparing::compare;
 use crate::decimal::number_of;
 use std::cmp::Ordering;
 
@@ -62,7 +63,7 @@ impl Order for Lexical {
     ghost exact = { exact_bytes };
 
     fn order(a: &[u8], b: &[u8]) -> Ordering {
-        a.cmp(&b)
+        compare(a, b)
     }
 }
 
@@ -94,7 +95,7 @@ impl Order for Decimal {
 
     fn order(a: &[u8], b: &[u8]) -> Ordering {
         match number_of(value_part(a)).cmp(&number_of(value_part(b))) {
-            Ordering::Equal => a.cmp(&b),
+            Ordering::Equal => compare(a, b),
             other => other,
         }
     }

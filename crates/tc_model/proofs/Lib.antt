@@ -14,7 +14,6 @@ pub mod MapLaws
 pub mod NumberExamples
 pub mod OperatorExamples
 pub mod Placing
-pub mod Rising
 pub mod RowLaws
 pub mod Scripts
 pub mod Stopping

@@ -22,7 +22,7 @@ use Rattle.tc_model.specs.Stores.{held, is_held, value_of, with_row, put_row, st
 use Rattle.tc_model.specs.Well.{IsRow, IsCell, AreCells, AreRows, IsWell}
 use Rattle.tc_model.proofs.MapLaws.{bytes_same}
 use Rattle.tc_base.specs.OrderLaws.{order_total}
-use Rattle.tc_model.proofs.Rising.{rises_with}
+use Rattle.tc_base.proofs.Rising.{rises_with}
 use Rattle.tc_model.proofs.RowLaws.{MayBeRow, row_of_text_row, with_lacking_row}
 
 -- ---- what holds of all that a map has

@@ -1,19 +1,12 @@
 -- What contents are like after any requests.
 use Rattle.std.specs.Prelude.{◌≡◌, ℕ, ◌≤◌, true, List, [], ◌∷◌, length, Some}
 use Rattle.std.specs.List.{AllByRecursion, list_all}
-use Rattle.std.specs.declared.cmp.Ordering.{Ordering}
-use Rattle.std.specs.Ordering.{is_le}
 use Rattle.std.specs.FinMap.{get, len}
-use Rattle.tc_base.specs.declared.seq.Pair.{Pair}
+use Rattle.tc_base.specs.Lists.{Rises}
 use Rattle.tc_base.specs.Orders.{order}
 use Rattle.tc_model.specs.Arrays.{Array}
 use Rattle.tc_model.specs.Rows.{Row, is_column, is_distinct}
 use Rattle.tc_model.specs.Contents.{Contents, hash, tree, fixed, table, Rows}
-
--- no key stands behind a greater one
-abbrev pub Rises : (List ℕ → List ℕ → Ordering) → List Pair → Type 0
-Rises R [] = Unit {0}
-Rises R (p ∷ ps) = AllByRecursion (λ q. is_le (R p.key q.key) ≡ true) ps × Rises R ps
 
 -- names and values are as they may be, and no name comes twice
 pub record IsRow (row : Row) : Type 0 where

@@ -1,8 +1,6 @@
 -- What puts and outs make of a map, and of a list of pairs.
-use Rattle.std.specs.Prelude.{◌≡◌, ℕ, List, [], ◌∷◌, ◌++◌, filter, Bool, true, false, Option, is_some, unwrap_or}
+use Rattle.std.specs.Prelude.{ℕ, List, [], ◌++◌, filter, Bool, true, false, Option, is_some, unwrap_or}
 use Rattle.std.specs.FinMap.{get, insert, remove}
-use Rattle.std.specs.List.{AllByRecursion}
-use Rattle.std.specs.Ordering.{is_le}
 use Rattle.std.specs.declared.cmp.Ordering.{Ordering}
 use Rattle.tc_base.specs.Lists.{first, with_first, with_last, without_first, without_all}
 use Rattle.tc_base.specs.Maps.{Map}
@@ -56,11 +54,6 @@ module _ (cmp : List ℕ → List ℕ → Ordering) where
 
   abbrev pub all_out : List ℕ → List Pair → List Pair
   all_out key ps = without_all cmp ps key
-
-  -- no key stands behind a greater one
-  abbrev pub Rises : List Pair → Type 0
-  Rises [] = Unit {0}
-  Rises (p ∷ ps) = AllByRecursion (λ q. is_le (cmp p.key q.key) ≡ true) ps × Rises ps
 
 abbrev pub is_inside : Side → Bool
 is_inside Before = false

@@ -1,9 +1,9 @@
 //! A list of pairs over one file.
 ghost use Rattle.std.specs.Prelude.{◌≡◌, ℕ, List, length, take, OnOk, OnErr, IfOk, IsErrOf};
-ghost use Rattle.tc_base.specs.Lists.{first, values};
+ghost use Rattle.tc_base.specs.Lists.{Rises, first, values};
 ghost use Rattle.tc_base.specs.declared.seq.Pair.{Pair};
 ghost use Rattle.tc_io.specs.Causes.{Rose};
-ghost use Rattle.tc_space.specs.Changes.{Rises, all_out, first_in, first_out, has_pair, inside, put_first, put_last, same};
+ghost use Rattle.tc_space.specs.Changes.{all_out, first_in, first_out, has_pair, inside, put_first, put_last, same};
 ghost use Rattle.tc_space.specs.Frames.{In, Keeps, Reads, Refuses, Writes};
 ghost use Rattle.tc_space.specs.Stores.{Exists, FullBy, IsReady, Only, Puts, TakesOut, Ticks};
 

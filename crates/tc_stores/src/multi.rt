@@ -119,7 +119,7 @@ impl<S: Space, O: Order> Multi for MemMulti<S, O> {
     type O = O;
 
     ghost use Rattle.std.specs.Prelude.{◌≡◌};
-    ghost use Rattle.tc_space.specs.Changes.{Rises};
+    ghost use Rattle.tc_base.specs.Lists.{Rises};
 
     ghost file_of = { λ r. r.file };
 

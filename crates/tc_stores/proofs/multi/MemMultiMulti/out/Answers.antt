@@ -2,7 +2,7 @@ use Rattle.std.proofs.Common.{◌∙◌, ap, refl, drop}
 use Rattle.tc_base.specs.Lists.{values}
 use Rattle.tc_space.specs.Changes.{has_pair, first_out}
 use Rattle.tc_space.specs.Frames.{others_refl}
-use Rattle.tc_stores.proofs.Rising.{rises_with}
+use Rattle.tc_base.proofs.Rising.{rises_with}
 use Rattle.tc_stores.proofs.multi.MemMultiMulti.out.Goals as goal
 
 pub returns-clause-out : goal.returns-clause-out

@@ -1,7 +1,7 @@
 use Rattle.std.proofs.Common.{◌∙◌, [], ap, refl}
 use Rattle.tc_space.specs.Changes.{has_pair, all_out}
 use Rattle.tc_space.specs.Frames.{others_refl}
-use Rattle.tc_stores.proofs.Rising.{rises_with}
+use Rattle.tc_base.proofs.Rising.{rises_with}
 use Rattle.tc_stores.proofs.multi.MemMultiMulti.out_all.Goals as goal
 
 pub returns-clause-out : goal.returns-clause-out

@@ -2,7 +2,7 @@ use Rattle.std.proofs.Common.{◌∙◌, ◌∷◌, ap, sym, drop}
 use Rattle.tc_base.specs.Lists.{first, values}
 use Rattle.tc_space.specs.Changes.{first_in, put_first, put_value}
 use Rattle.tc_space.specs.Frames.{others_refl}
-use Rattle.tc_stores.proofs.Rising.{rises_with}
+use Rattle.tc_base.proofs.Rising.{rises_with}
 use Rattle.tc_stores.proofs.multi.MemMultiMulti.put.Goals as goal
 
 pub returns-clause-put : goal.returns-clause-put

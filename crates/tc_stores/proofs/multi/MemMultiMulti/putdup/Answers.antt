@@ -2,7 +2,7 @@ use Rattle.std.proofs.Common.{◌∙◌, ◌++◌, ◌∷◌, [], ap}
 use Rattle.tc_base.specs.Lists.{values}
 use Rattle.tc_space.specs.Changes.{put_last}
 use Rattle.tc_space.specs.Frames.{others_refl}
-use Rattle.tc_stores.proofs.Rising.{rises_with}
+use Rattle.tc_base.proofs.Rising.{rises_with}
 use Rattle.tc_stores.proofs.multi.MemMultiMulti.putdup.Goals as goal
 
 pub returns-clause-put : goal.returns-clause-put

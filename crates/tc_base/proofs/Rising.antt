@@ -7,8 +7,7 @@ use Rattle.std.specs.declared.cmp.Ordering.TheVariants.{Less, Equal, Greater}
 use Rattle.std.specs.Ordering.{is_lt, is_le, is_gt, ordering_reverse}
 use Rattle.std.specs.Cmp.{IsTotalOrder, tied_itself}
 use Rattle.tc_base.specs.declared.seq.Pair.{Pair}
-use Rattle.tc_base.specs.Lists.{pair, below, above, with_values}
-use Rattle.tc_space.specs.Changes.{Rises}
+use Rattle.tc_base.specs.Lists.{Rises, above, below, pair, with_values}
 
 module _ {A : Type 0} where
   all_more : {P Q : A → Type 0} → ((x : A) → P x → Q x) → (xs : List A) → AllByRecursion P xs → AllByRecursion Q xs
