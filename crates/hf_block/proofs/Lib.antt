@@ -3,3 +3,4 @@ pub mod FreeHeads
 pub mod Listing
 pub mod NextBlock
 pub mod Padding
+pub mod SmallHeads

@@ -1,5 +1,5 @@
 //! The head of a block at the front of bytes.
-ghost use Rattle.std.specs.Prelude.{◌≡◌, ◌↔◌, ◌+◌, ◌*◌, ◌≤◌, length, IfOk, Ok, Err};
+ghost use Rattle.std.specs.Prelude.{◌≡◌, ◌↔◌, ◌+◌, ◌*◌, ◌≤◌, length, IfOk, IfSome, Ok, Err};
 ghost use Rattle.tc_base.specs.Reading.{Gives};
 ghost use Rattle.tc_base.specs.Vnum.{vnum};
 ghost use Rattle.hf_head.specs.Heads.{wide};
@@ -39,11 +39,63 @@ pub(crate) fn head_len(key: u64, value: u64, large: bool) -> u64
     4 + 2 * width(large) as u64 + vnum_len(key) as u64 + vnum_len(value) as u64
 }
 
+// The number that four bytes spell, the least first.
+fn number(a: u8, b: u8, c: u8, d: u8) -> u64
+    ensures { result ≡ a + 256 * (b + 256 * (c + 256 * d)) }
+{
+    let low = u64::from(b) * 256 + u64::from(a);
+    let high = u64::from(d) * 256 + u64::from(c);
+    high * 65_536 + low
+}
+
+// The same as `read_rec` of a file that isn't in the large form, where key and value have fewer than 128 bytes each.
+fn read_small(bytes: &[u8]) -> Option<(Block, &[u8])>
+    ensures { IfSome result (λ x. rec_front 4 bytes.now ≡ Ok (x.0, x.1.now)) }
+{
+    let [
+        hash,
+        a,
+        b,
+        c,
+        d,
+        e,
+        f,
+        g,
+        h,
+        low,
+        high,
+        key,
+        value,
+        rest @ ..,
+    ] = bytes
+    else {
+        return None;
+    };
+    if *key >= 128 || *value >= 128 {
+        return None;
+    }
+    let block = Block::Rec {
+        hash: *hash,
+        left: number(*a, *b, *c, *d),
+        right: number(*e, *f, *g, *h),
+        pad: u16::from(*high) * 256 + u16::from(*low),
+        key: u64::from(*key),
+        value: u64::from(*value),
+        head: 14,
+    };
+    Some((block, rest))
+}
+
 // What stands behind the first byte of a record.
 #[tactic(auto, unfolding(crate::specs::Fronts::rec_front))]
 fn read_rec(bytes: &[u8], large: bool) -> Result<(Block, &[u8]), NotWhole>
     ensures { Gives (λ x. (x.0, x.1.now)) result (rec_front (wide large) bytes.now) }
 {
+    if !large {
+        if let Some(found) = read_small(bytes) {
+            return Ok(found);
+        }
+    }
     let (hash, rest) = read_le(1, bytes)?;
     let (left, rest) = read_le(width(large), rest)?;
     let (right, rest) = read_le(width(large), rest)?;

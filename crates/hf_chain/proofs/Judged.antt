@@ -19,12 +19,14 @@ use Rattle.hf_chain.specs.declared.facts.Fact.{Fact}
 use Rattle.hf_chain.specs.declared.reaching.Item.{Item}
 use Rattle.hf_chain.specs.Facts.{fact_of, AreFacts, HasFacts, spot, place_in}
 use Rattle.hf_chain.specs.Reaching.{Reached, seen, all_seen, AreLow, Fit, IsNotOnce, IsWholeReach, IsHomeBy, IsAtHome, IsBetween}
-use Rattle.hf_chain.specs.Orders.{key_in, ComparesBy, IsBetweenBy}
+use Rattle.hf_chain.specs.declared.judging.Verdict.{Verdict}
+use Rattle.hf_chain.specs.declared.judging.Verdict.TheVariants.{InOrder, Stray, Mixed}
+use Rattle.hf_chain.specs.Orders.{key_in, ComparesBy, IsBetweenBy, Judged, Refutes}
 use Rattle.hf_chain.specs.Listing.{AllHold, Breaks}
 use Rattle.hf_chain.proofs.Fronts.{key_at}
 use Rattle.hf_chain.proofs.FactRows.{stands, facts_count}
 use Rattle.hf_chain.proofs.Named.{bare, low_record, fact_at}
-use Rattle.hf_chain.proofs.Lists.{same_item, get_map, got_map}
+use Rattle.hf_chain.proofs.Lists.{get_low, same_item, get_map, got_map}
 use Rattle.hf_chain.proofs.Steps.{known, facts_once}
 use Rattle.hf_chain.proofs.Followed.{reached_once, all_home, not_home, all_ordered, not_ordered}
 
@@ -126,6 +128,26 @@ module _ (h : Head) (ps : List Piece) (bytes : List ℕ) (facts : List Fact) (it
       hang = (_, all_hang (links_of h ps bytes) (record_at h.first ps) h.buckets (length (all_seen facts items)) (bare h ps bytes facts v a) once_short.1 fit.names once_short.0 home order);
     }
 
+  -- ---- by what was found
+
+  module _ (tells : Type 0) (verdict : Verdict) (j : Judged tells facts items (length items) bytes verdict) (t : tells) where
+    found_home : (verdict ≢ Stray) → AreAtHome (links_of h ps bytes) (record_at h.first ps) h.buckets
+    found_home ne = homes (λ k x at. j.home ne k x (get_low items k x at) at)
+
+    found_order : verdict ≡ InOrder → AreInOrder (links_of h ps bytes) (record_at h.first ps) h.buckets
+    found_order is = ordered (λ k x at. j.between is t k x (get_low items k x at) at)
+
+    not_stray : (v : Verdict) → verdict ≡ v → v ≢ Stray → verdict ≢ Stray
+    not_stray v is ne e = ne (sym is ∙ e)
+
+    pub judged_hold : verdict ≡ InOrder → length facts ≡ h.records → AllHold h ps bytes
+    judged_hold is count = all_hold (found_home (not_stray InOrder is (λ e. cc))) (found_order is) count
+
+    pub judged_broken : (rule : Rule) → Refutes verdict (length facts) h.records rule → Breaks h ps bytes rule
+    judged_broken rule (inl o) = let n = j.stray o.0 in subst (λ (r : Rule). Breaks h ps bytes r) (sym o.1) (home_broken n.0 n.1 n.2 n.3)
+    judged_broken rule (inr (inl o)) = let n = j.mixed o.0 t in subst (λ (r : Rule). Breaks h ps bytes r) (sym o.1) (order_broken (found_home (not_stray Mixed o.0 (λ e. cc))) n.0 n.1 n.2 n.3)
+    judged_broken rule (inr (inr o)) = subst (λ (r : Rule). Breaks h ps bytes r) (sym o.2) (count_broken (found_home (not_stray InOrder o.0 (λ e. cc))) (found_order o.0) o.1)
+
 pub same_rule : {T : Type 0} (a b : Rule) → ◌≡◌ {A = Result T WalkErr} (Err (Broken a)) (Err (Broken b)) → a ≡ b
 same_rule a b e = cc
 
@@ -149,18 +171,6 @@ LinkBrokenOf h facts rule bytes = (ps : List Piece) → AreFacts h ps bytes fact
 
 pub link_broken_at : (h : Head) (facts : List Fact) (rule : Rule) (now old : List ℕ) → now ≡ old → LinkBrokenOf h facts rule now → LinkBrokenOf h facts rule old
 link_broken_at h facts rule now old e w = subst (λ (l : List ℕ). LinkBrokenOf h facts rule l) e w
-
-abbrev pub HoldOf : Head → List Fact → List Item → List ℕ → Type 0
-HoldOf h facts items bytes = (ps : List Piece) → AreFacts h ps bytes facts → Fit (links_of h ps bytes) (record_at h.first ps) h.buckets facts → IsWholeReach (links_of h ps bytes) (record_at h.first ps) h.buckets (all_seen facts items) → AllHold h ps bytes
-
-pub hold_at : (h : Head) (facts : List Fact) (items : List Item) (now old : List ℕ) → now ≡ old → HoldOf h facts items now → HoldOf h facts items old
-hold_at h facts items now old e w = subst (λ (l : List ℕ). HoldOf h facts items l) e w
-
-abbrev pub BrokenOf : Head → List Fact → List Item → Rule → List ℕ → Type 0
-BrokenOf h facts items rule bytes = (ps : List Piece) → AreFacts h ps bytes facts → Fit (links_of h ps bytes) (record_at h.first ps) h.buckets facts → IsWholeReach (links_of h ps bytes) (record_at h.first ps) h.buckets (all_seen facts items) → Breaks h ps bytes rule
-
-pub broken_at : (h : Head) (facts : List Fact) (items : List Item) (rule : Rule) (now old : List ℕ) → now ≡ old → BrokenOf h facts items rule now → BrokenOf h facts items rule old
-broken_at h facts items rule now old e w = subst (λ (l : List ℕ). BrokenOf h facts items rule l) e w
 
 abbrev pub AllHoldOf : Head → List Fact → List ℕ → Type 0
 AllHoldOf h facts bytes = (ps : List Piece) → AreFacts h ps bytes facts → AllHold h ps bytes

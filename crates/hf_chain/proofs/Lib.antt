@@ -11,6 +11,7 @@ pub mod FactRows
 pub mod Viewing
 pub mod Halving
 pub mod Keyed
+pub mod Findings
 pub mod Named
 pub mod Followed
 pub mod Steps

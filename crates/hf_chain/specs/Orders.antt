@@ -1,12 +1,17 @@
 -- Records compared by their keys in the file.
-use Rattle.std.specs.Prelude.{◌≡◌, ℕ, suc, List, take, drop, Some, slice_get}
+use Rattle.std.specs.Prelude.{◌≡◌, ◌≢◌, ◌⊎◌, ◌<◌, ℕ, suc, List, take, drop, Some, slice_get}
 use Rattle.std.specs.declared.cmp.Ordering.{Ordering}
 use Rattle.std.specs.declared.cmp.Ordering.TheVariants.{Less, Greater}
+use Rattle.tc_base.specs.declared.kind.Rule.{Rule}
 use Rattle.hf_head.specs.declared.head.Head.{Head}
 use Rattle.hf_tree.specs.Keys.{key_cmp}
+use Rattle.hf_tree.specs.Rules.{rule_l}
 use Rattle.hf_chain.specs.declared.facts.Fact.{Fact}
 use Rattle.hf_chain.specs.declared.reaching.Item.{Item}
+use Rattle.hf_chain.specs.declared.judging.Verdict.{Verdict}
+use Rattle.hf_chain.specs.declared.judging.Verdict.TheVariants.{InOrder, Stray, Mixed}
 use Rattle.hf_chain.specs.Facts.{IsFactOf}
+use Rattle.hf_chain.specs.Reaching.{IsHomeBy}
 
 -- each fact is that of a record in the file
 abbrev pub AreTrue : Head → List Fact → List ℕ → Type 0
@@ -23,3 +28,22 @@ ComparesBy facts a number wanted file = (j : ℕ) (b : Fact) → number ≡ suc 
 -- what was reached is above what it hangs left of, and below what it hangs right of
 abbrev pub IsBetweenBy : List Fact → Item → List ℕ → Type 0
 IsBetweenBy facts x file = (i : ℕ) (a : Fact) → x.number ≡ suc i → slice_get facts i ≡ Some a → ComparesBy facts a x.above Greater file × ComparesBy facts a x.below Less file
+
+-- one that was reached isn't at home
+abbrev pub HasStray : List Fact → List Item → Type 0
+HasStray facts items = (k : ℕ) × (x : Item) × (slice_get items k ≡ Some x) × (IsHomeBy facts x → ⊥)
+
+-- one isn't between those that it hangs left of and right of
+abbrev pub HasMixed : List Fact → List Item → List ℕ → Type 0
+HasMixed facts items file = (k : ℕ) × (x : Item) × (slice_get items k ≡ Some x) × (IsBetweenBy facts x file → ⊥)
+
+-- what was found of so many of the records that were reached, in a file that may be told
+pub record Judged (tells : Type 0) (facts : List Fact) (items : List Item) (count : ℕ) (file : List ℕ) (v : Verdict) : Type 0 where
+  pub home : v ≢ Stray → (k : ℕ) (x : Item) → k < count → slice_get items k ≡ Some x → IsHomeBy facts x
+  pub stray : v ≡ Stray → HasStray facts items
+  pub between : v ≡ InOrder → tells → (k : ℕ) (x : Item) → k < count → slice_get items k ≡ Some x → IsBetweenBy facts x file
+  pub mixed : v ≡ Mixed → tells → HasMixed facts items file
+
+-- a rule that doesn't hold by what was found of so many records, of which the head says how many there are
+abbrev pub Refutes : Verdict → ℕ → ℕ → Rule → Type 0
+Refutes v count records rule = ((v ≡ Stray) × (rule ≡ rule_l 6)) ⊎ ((v ≡ Mixed) × (rule ≡ rule_l 7)) ⊎ ((v ≡ InOrder) × (count ≢ records) × (rule ≡ rule_l 8))

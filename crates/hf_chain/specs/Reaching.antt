@@ -84,6 +84,11 @@ all_seen facts items = map (seen facts) items
 abbrev pub IsItem : List Item → ℕ → Type 0
 IsItem items n = (k : ℕ) × (x : Item) × (slice_get items k ≡ Some x) × (x.number ≡ n)
 
+-- more were reached behind those
+pub record Grew (old new : List Item) : Type 0 where
+  pub long : length old ≤ length new
+  pub same : (k : ℕ) (x : Item) → slice_get old k ≡ Some x → slice_get new k ≡ Some x
+
 -- each number is one of so many records
 abbrev pub AreLow : ℕ → List Item → Type 0
 AreLow n items = (k : ℕ) (x : Item) → slice_get items k ≡ Some x → (0 < x.number) × (x.number ≤ n) × (x.above ≤ n) × (x.below ≤ n)

@@ -10,13 +10,16 @@ ghost use Rattle.hf_layout.specs.Layout.{record_at};
 ghost use Rattle.hf_tree.specs.Links.{links_of};
 ghost use Rattle.hf_chain.specs.Facts.{AreFacts, HasFacts};
 ghost use Rattle.hf_chain.specs.Passes.{HasBuckets};
-ghost use Rattle.hf_chain.specs.Reaching.{AreLow, Fit, IsNotOnce, IsWholeReach, all_seen};
+ghost use Rattle.hf_chain.specs.declared.judging.Verdict.TheVariants.{InOrder as in_order};
+ghost use Rattle.hf_chain.specs.Orders.{Refutes};
+ghost use Rattle.hf_chain.specs.Reaching.{IsNotOnce};
 ghost use Rattle.hf_chain.specs.Listing.{AreListed, WereListed, AllHold, Breaks};
 
 use crate::facts::{Facts, read_facts};
-use crate::judging::{all_between, all_home};
+use crate::guessing::{Guesses, guess};
+use crate::judging::Verdict;
 use crate::naming::{chains_named, entries_named};
-use crate::reaching::{Items, reach};
+use crate::reaching::reach;
 use crate::reads::walk_err;
 use hf_block::{Blocks, WalkErr};
 use hf_head::Head;
@@ -50,36 +53,22 @@ const COUNT: Rule = Rule {
     number: 8,
 };
 
-// The rules behind those of links, where the buckets reach these records and no others.
-fn check_reached<S: Space>(
-    space: &mut S,
-    file: u32,
-    head: &Head,
-    facts: &Facts,
-    items: &Items,
-) -> Result<(), WalkErr>
-    requires sound { S.sound space.old }
-    requires file { IsDataFile file }
-    requires head { IsValid head.now }
-    requires low { AreLow (length facts.now) items.now }
-    requires facts { S.tells → HasFacts head.now (S.now space.old file) facts.now }
-    ensures hold { OnOk result (S.tells → (ps : List Piece) → AreFacts head.now ps (S.now space.old file) facts.now → Fit (links_of head.now ps (S.now space.old file)) (record_at head.now.first ps) head.now.buckets facts.now → IsWholeReach (links_of head.now ps (S.now space.old file)) (record_at head.now.first ps) head.now.buckets (all_seen facts.now items.now) → AllHold head.now ps (S.now space.old file)) }
-    ensures broken { (rule : Rule) → result ≡ Err (WalkErr.Broken rule) → S.tells → (ps : List Piece) → AreFacts head.now ps (S.now space.old file) facts.now → Fit (links_of head.now ps (S.now space.old file)) (record_at head.now.first ps) head.now.buckets facts.now → IsWholeReach (links_of head.now ps (S.now space.old file)) (record_at head.now.first ps) head.now.buckets (all_seen facts.now items.now) → Breaks head.now ps (S.now space.old file) rule }
-    ensures reads { OnlyReads S.Space space.old space.new }
-    ensures cause { IsErrOf result WalkErr.Fault → Rose (S.faults space.old) (S.faults space.new) }
+// What is told of the rules behind those of links, once the records that the buckets reach were judged.
+fn conclude(head: &Head, facts: &Facts, verdict: Verdict) -> Result<(), WalkErr>
+    ensures hold { OnOk result ((verdict ≡ in_order) × (length facts.now ≡ head.now.records)) }
+    ensures broken { (rule : Rule) → result ≡ Err (WalkErr.Broken rule) → Refutes verdict (length facts.now) head.now.records rule }
+    ensures no_fault { IsErrOf result WalkErr.Fault → ⊥ }
 {
-    if !all_home(facts, items) {
-        return Err(WalkErr::Broken(HOME));
+    match verdict {
+        Verdict::Stray => Err(WalkErr::Broken(HOME)),
+        Verdict::Mixed => Err(WalkErr::Broken(ORDER)),
+        Verdict::InOrder => {
+            if facts.len() as u64 != head.records {
+                return Err(WalkErr::Broken(COUNT));
+            }
+            Ok(())
+        }
     }
-    match all_between(space, file, head, facts, items) {
-        Ok(true) => {}
-        Ok(false) => return Err(WalkErr::Broken(ORDER)),
-        Err(e) => return Err(WalkErr::from(e)),
-    }
-    if facts.len() as u64 != head.records {
-        return Err(WalkErr::Broken(COUNT));
-    }
-    Ok(())
 }
 
 // Which rule of links is broken, where not each link names a record or none with each record reached once.
@@ -89,6 +78,7 @@ fn broken_link<S: Space>(
     file: u32,
     head: &Head,
     facts: &Facts,
+    guesses: &Guesses,
 ) -> Result<Rule, ReadErr>
     requires sound { S.sound space.old }
     requires file { IsDataFile file }
@@ -98,12 +88,12 @@ fn broken_link<S: Space>(
     ensures cause { IsErrOf result ReadErr.Fault → Rose (S.faults space.old) (S.faults space.new) }
 {
     let mut window = Window::new(alloc);
-    match entries_named(space, file, head, facts, &mut window) {
+    match entries_named(space, file, head, facts, guesses, &mut window) {
         Ok(true) => {}
         Ok(false) => return Ok(NAMES),
         Err(e) => return Err(e),
     }
-    if !chains_named(facts) {
+    if !chains_named(facts, guesses) {
         return Ok(NAMES);
     }
     Ok(ONCE)
@@ -126,9 +116,12 @@ fn check_facts<S: Space>(
     ensures reads { OnlyReads S.Space space.old space.new }
     ensures cause { IsErrOf result WalkErr.Fault → Rose (S.faults space.old) (S.faults space.new) }
 {
-    match reach(alloc, space, file, head, facts) {
-        Ok(Some(items)) => check_reached(space, file, head, facts, &items),
-        Ok(None) => match broken_link(alloc, space, file, head, facts) {
+    let Ok(guesses) = guess(alloc, facts) else {
+        return Err(WalkErr::Memory);
+    };
+    match reach(alloc, space, file, head, facts, &guesses) {
+        Ok(Some(trees)) => conclude(head, facts, trees.verdict),
+        Ok(None) => match broken_link(alloc, space, file, head, facts, &guesses) {
             Ok(rule) => Err(WalkErr::Broken(rule)),
             Err(e) => Err(walk_err(e)),
         },

@@ -1,5 +1,5 @@
 //! What the rules ask of each record of a file, read once.
-ghost use Rattle.std.specs.Prelude.{◌≡◌, ℕ, ◌+◌, ◌^◌, ◌<◌, ◌≤◌, List, length, IfOk, OnOk, IsErrOf};
+ghost use Rattle.std.specs.Prelude.{◌≡◌, ℕ, ◌+◌, ◌^◌, ◌<◌, ◌≤◌, List, [], length, take, drop, IfOk, IfSome, OnOk, IsErrOf};
 ghost use Rattle.tc_io.specs.Causes.{Rose};
 ghost use Rattle.tc_space.specs.Ranges.{IsDataFile};
 ghost use Rattle.tc_space.specs.Frames.{OnlyReads};
@@ -14,7 +14,7 @@ ghost use Rattle.hf_chain.specs.Passes.{Looks};
 use crate::heads::{RecHead, head_in, place_named};
 use hf_block::Blocks;
 use hf_head::Head;
-use std::alloc::Global;
+use std::alloc::{AllocError, Global};
 use tc_base::{Seq, bucket_of, second_hash};
 use tc_space::Space;
 use tc_window::{ReadErr, Window};
@@ -84,8 +84,8 @@ pub fn head_at<S: Space>(
     Ok(head_in(window.get(place, ahead), head.is_large()))
 }
 
-// The fact of the record at a place.
-fn fact_at<S: Space>(
+// The fact of the record at a place, whose head and key may lie behind the window.
+fn fact_behind<S: Space>(
     space: &mut S,
     file: u32,
     head: &Head,
@@ -106,29 +106,80 @@ fn fact_at<S: Space>(
     Ok(fact_in(head, place, &rec, window.get(start, rec.key as usize)))
 }
 
+// The fact of the record at a place whose bytes from there on were read, where its key is among them.
+fn fact_near(head: &Head, place: u64, front: &[u8]) -> Option<Fact>
+    requires { IsValid head.now }
+    ensures { IfSome result (λ x. (bytes : List ℕ) (r : Record) → front.now ≡ take (length front.now) (drop place bytes) → HasRecord head.now r place bytes → x ≡ fact_of head.now place r) }
+{
+    // no file is as long as that, and a shorter front may not hold all of a head
+    if place >= 1 << 63 || front.len() < 40 {
+        return None;
+    }
+    let rec = head_in(front, head.is_large());
+    let start = rec.head as usize;
+    if rec.key > (front.len() - start) as u64 {
+        return None;
+    }
+    let key = &front[start..start + rec.key as usize];
+    Some(fact_in(head, place, &rec, key))
+}
+
+// The fact of the record at a place.
+fn fact_at<S: Space>(
+    space: &mut S,
+    file: u32,
+    head: &Head,
+    place: u64,
+    window: &mut Window,
+) -> Result<Fact, ReadErr>
+    requires looks { Looks S.Space space.old file window.old }
+    requires head { IsValid head.now }
+    requires there { S.tells → IsRecordAt head.now place (S.now space.old file) }
+    ensures fact { IfOk result (λ x. S.tells → (r : Record) → HasRecord head.now r place (S.now space.old file) → x ≡ fact_of head.now place r) }
+    ensures looks { OnOk result (Looks S.Space space.new file window.new) }
+    ensures reads { OnlyReads S.Space space.old space.new }
+    ensures cause { IsErrOf result ReadErr.Fault → Rose (S.faults space.old) (S.faults space.new) }
+{
+    match fact_near(head, place, window.rest(place)) {
+        Some(fact) => Ok(fact),
+        None => fact_behind(space, file, head, place, window),
+    }
+}
+
 // How many bytes are read ahead.
 const AHEAD: u64 = 16384;
 
-// Reads the bytes from a place on ahead, where that lies behind those that were, and answers up to where they are.
+// Fewer bytes than so many may not hold a record's head and key.
+const FEW: usize = 256;
+
+// Reads the bytes from a place on ahead, where few of them are there.
 fn read_ahead<S: Space>(
     space: &mut S,
     file: u32,
     place: u64,
-    end: u64,
     window: &mut Window,
-) -> Result<u64, ReadErr>
+) -> Result<(), ReadErr>
     requires looks { Looks S.Space space.old file window.old }
     requires inside { S.tells → place ≤ length (S.now space.old file) }
     ensures looks { OnOk result (Looks S.Space space.new file window.new) }
     ensures reads { OnlyReads S.Space space.old space.new }
     ensures cause { IsErrOf result ReadErr.Fault → Rose (S.faults space.old) (S.faults space.new) }
 {
-    if place < end {
-        return Ok(end);
+    if window.rest(place).len() >= FEW {
+        return Ok(());
     }
     let count = space.len(file).saturating_sub(place).min(AHEAD);
     window.fill(space, file, place, count as usize)?;
-    Ok(place.saturating_add(count))
+    Ok(())
+}
+
+// No facts, with room for those of the head's number of records, but of no more than there are blocks.
+fn room_for(alloc: Global, head: &Head, blocks: &Blocks) -> Result<Facts, AllocError>
+    ensures { IfOk result (λ facts. facts ≡ []) }
+{
+    let room = head.records.min(blocks.len() as u64) as usize;
+    let facts = Vec::with_capacity(alloc, room)?;
+    Ok(Facts::from_vec(facts))
 }
 
 /// The facts of the records of a list of blocks. Each record's head and key are read once, many at a time.
@@ -148,14 +199,13 @@ pub fn read_facts<S: Space>(
     ensures cause { IsErrOf result ReadErr.Fault → Rose (S.faults space.old) (S.faults space.new) }
 {
     let mut window = Window::new(alloc);
-    let mut end = 0;
-    let mut facts = Facts::new(alloc);
+    let mut facts = room_for(alloc, head, blocks)?;
     for i in 0..blocks.len() {
         let block = *blocks.at(i);
         if block.free {
             continue;
         }
-        end = read_ahead(space, file, block.place, end, &mut window)?;
+        read_ahead(space, file, block.place, &mut window)?;
         let fact = fact_at(space, file, head, block.place, &mut window)?;
         facts.push(fact)?;
     }

@@ -9,7 +9,8 @@ ghost use Rattle.hf_tree.specs.Keys.{key_cmp};
 ghost use Rattle.hf_chain.specs.declared.reaching.Item.{Item};
 ghost use Rattle.hf_chain.specs.Facts.{IsFactOf};
 ghost use Rattle.hf_chain.specs.Reaching.{AreLow, IsHomeBy};
-ghost use Rattle.hf_chain.specs.Orders.{AreTrue, ComparesBy, IsBetweenBy, key_in};
+ghost use Rattle.hf_chain.specs.declared.judging.Verdict.TheVariants.{InOrder as in_order};
+ghost use Rattle.hf_chain.specs.Orders.{AreTrue, ComparesBy, IsBetweenBy, Judged, key_in};
 
 use crate::comparing::compare_bytes;
 use crate::facts::{Fact, Facts};
@@ -18,6 +19,18 @@ use hf_head::Head;
 use std::cmp::Ordering;
 use tc_base::Fault;
 use tc_space::Space;
+
+/// What is found of records that were reached.
+#[derive(Clone, Copy, Debug, PartialEq, Eq)]
+pub enum Verdict {
+    /// Each is in its key's bucket, has its key's second hash, and is above the one that it hangs left of and below the one that it
+    /// hangs right of.
+    InOrder,
+    /// One isn't in its key's bucket, or hasn't its key's second hash.
+    Stray,
+    /// None is such, but one isn't above or below another as it should be.
+    Mixed,
+}
 
 // Whether a record that was reached is in its key's bucket, and has its key's second hash.
 fn is_home(facts: &Facts, item: &Item) -> bool
@@ -31,13 +44,14 @@ fn is_home(facts: &Facts, item: &Item) -> bool
     fact.hash == fact.second
 }
 
-/// Whether each record that was reached is in its key's bucket, and has its key's second hash.
-pub fn all_home(facts: &Facts, items: &Items) -> bool
+// Whether each record that was reached is in its key's bucket, and has its key's second hash, as those before `start` are.
+fn all_home(facts: &Facts, items: &Items, start: usize) -> bool
     requires low { AreLow (length facts.now) items.now }
+    requires front { (k : ℕ) (x : Item) → k < start → slice_get items.now k ≡ Some x → IsHomeBy facts.now x }
     ensures yes { result ≡ true → (k : ℕ) (x : Item) → slice_get items.now k ≡ Some x → IsHomeBy facts.now x }
     ensures no { result ≡ false → (k : ℕ) × (x : Item) × (slice_get items.now k ≡ Some x) × (IsHomeBy facts.now x → ⊥) }
 {
-    for k in 0..items.len() {
+    for k in start..items.len() {
         let item = *items.at(k);
         if !is_home(facts, &item) {
             return false;
@@ -245,24 +259,27 @@ fn is_between<S: Space>(
     }
 }
 
-/// Whether each record that was reached is above the one that it hangs left of, and below the one that it hangs right of.
-pub fn all_between<S: Space>(
+// Whether each record that was reached is above the one that it hangs left of, and below the one that it hangs right of, as those before
+// `start` are.
+fn all_between<S: Space>(
     space: &mut S,
     file: u32,
     head: &Head,
     facts: &Facts,
     items: &Items,
+    start: usize,
 ) -> Result<bool, Fault>
     requires sound { S.sound space.old }
     requires file { IsDataFile file }
     requires low { AreLow (length facts.now) items.now }
     requires all { S.tells → AreTrue head.now facts.now (S.now space.old file) }
+    requires front { S.tells → (k : ℕ) (x : Item) → k < start → slice_get items.now k ≡ Some x → IsBetweenBy facts.now x (S.now space.old file) }
     ensures yes { IfOk result (λ is. is ≡ true → S.tells → (k : ℕ) (x : Item) → slice_get items.now k ≡ Some x → IsBetweenBy facts.now x (S.now space.old file)) }
     ensures no { IfOk result (λ is. is ≡ false → S.tells → (k : ℕ) × (x : Item) × (slice_get items.now k ≡ Some x) × (IsBetweenBy facts.now x (S.now space.old file) → ⊥)) }
     ensures reads { OnlyReads S.Space space.old space.new }
     ensures cause { HasCause (S.faults space.old) (S.faults space.new) result }
 {
-    for k in 0..items.len() {
+    for k in start..items.len() {
         let item = *items.at(k);
         match is_between(space, file, head, facts, &item) {
             Ok(true) => {}
@@ -271,4 +288,64 @@ pub fn all_between<S: Space>(
         }
     }
     Ok(true)
+}
+
+// The same as `judge`, where all those before were in order.
+fn judge_all<S: Space>(
+    space: &mut S,
+    file: u32,
+    head: &Head,
+    facts: &Facts,
+    items: &Items,
+    start: usize,
+) -> Result<Verdict, Fault>
+    requires sound { S.sound space.old }
+    requires file { IsDataFile file }
+    requires low { AreLow (length facts.now) items.now }
+    requires all { S.tells → AreTrue head.now facts.now (S.now space.old file) }
+    requires front { Judged S.tells facts.now items.now start (S.now space.old file) in_order }
+    ensures judged { IfOk result (Judged S.tells facts.now items.now (length items.now) (S.now space.old file)) }
+    ensures reads { OnlyReads S.Space space.old space.new }
+    ensures cause { HasCause (S.faults space.old) (S.faults space.new) result }
+{
+    if !all_home(facts, items, start) {
+        return Ok(Verdict::Stray);
+    }
+    match all_between(space, file, head, facts, items, start) {
+        Ok(true) => Ok(Verdict::InOrder),
+        Ok(false) => Ok(Verdict::Mixed),
+        Err(e) => Err(e),
+    }
+}
+
+/// What is found of all records that were reached, where those before `start` were judged. Keys are read where their hashes and lengths
+/// are the same.
+pub fn judge<S: Space>(
+    space: &mut S,
+    file: u32,
+    head: &Head,
+    facts: &Facts,
+    items: &Items,
+    start: usize,
+    before: Verdict,
+) -> Result<Verdict, Fault>
+    requires sound { S.sound space.old }
+    requires file { IsDataFile file }
+    requires low { AreLow (length facts.now) items.now }
+    requires all { S.tells → AreTrue head.now facts.now (S.now space.old file) }
+    requires front { Judged S.tells facts.now items.now start (S.now space.old file) before }
+    ensures judged { IfOk result (Judged S.tells facts.now items.now (length items.now) (S.now space.old file)) }
+    ensures reads { OnlyReads S.Space space.old space.new }
+    ensures cause { HasCause (S.faults space.old) (S.faults space.new) result }
+{
+    match before {
+        Verdict::InOrder => judge_all(space, file, head, facts, items, start),
+        Verdict::Stray => Ok(Verdict::Stray),
+        Verdict::Mixed => {
+            if all_home(facts, items, start) {
+                return Ok(Verdict::Mixed);
+            }
+            Ok(Verdict::Stray)
+        }
+    }
 }

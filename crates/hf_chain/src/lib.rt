@@ -6,6 +6,7 @@ mod comparing;
 mod counting;
 mod facts;
 mod finding;
+mod guessing;
 mod hanging;
 mod heads;
 mod judging;

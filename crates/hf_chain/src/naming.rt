@@ -7,6 +7,7 @@ ghost use Rattle.hf_chain.specs.Facts.{AllNamed, Ascend, HasBadChain, HasNamed, 
 ghost use Rattle.hf_chain.specs.Passes.{HasBuckets, Looks};
 
 use crate::facts::{Fact, Facts};
+use crate::guessing::Guesses;
 use crate::heads::place_named;
 use hf_head::Head;
 use tc_base::get_le;
@@ -31,7 +32,7 @@ fn probe(facts: &Facts, low: usize, high: usize, place: u64, halves: bool) -> us
 }
 
 // Which record stands at a place, if one does.
-fn position(facts: &Facts, place: u64) -> Option<usize>
+fn search(facts: &Facts, place: u64) -> Option<usize>
     ensures found { IfSome result (λ i. (x : Fact) × (slice_get facts.now i ≡ Some x) × (x.place ≡ place)) }
     ensures low { IfSome result (λ i. i + 1 < 2 ^ 64) }
     ensures none { IfNone result (Ascend facts.now → IsListedAt facts.now place → ⊥) }
@@ -55,27 +56,55 @@ fn position(facts: &Facts, place: u64) -> Option<usize>
     None
 }
 
+// Whether the record with that place in the list stands at a place.
+fn stands(facts: &Facts, i: usize, place: u64) -> bool
+    ensures found { result ≡ true → (x : Fact) × (slice_get facts.now i ≡ Some x) × (x.place ≡ place) }
+    ensures low { result ≡ true → i + 1 < 2 ^ 64 }
+{
+    if i >= facts.len() {
+        return false;
+    }
+    facts.at(i).place == place
+}
+
+// The same as `search`, for which the guess and the record behind it are looked at first.
+fn position(facts: &Facts, guesses: &Guesses, place: u64) -> Option<usize>
+    ensures found { IfSome result (λ i. (x : Fact) × (slice_get facts.now i ≡ Some x) × (x.place ≡ place)) }
+    ensures low { IfSome result (λ i. i + 1 < 2 ^ 64) }
+    ensures none { IfNone result (Ascend facts.now → IsListedAt facts.now place → ⊥) }
+{
+    let guess = guesses.at(place);
+    if stands(facts, guess, place) {
+        return Some(guess);
+    }
+    let next = guess.saturating_add(1);
+    if stands(facts, next, place) {
+        return Some(next);
+    }
+    search(facts, place)
+}
+
 /// The number of the record that a link names with a place, 0 for none; or nothing where that is no record.
-pub fn resolve(facts: &Facts, place: u64) -> Option<u64>
+pub fn resolve(facts: &Facts, guesses: &Guesses, place: u64) -> Option<u64>
     ensures some { IfSome result (λ n. (n ≤ length facts.now) × (spot facts.now n ≡ place)) }
     ensures none { IfNone result (Ascend facts.now → Names facts.now place → ⊥) }
 {
     if place == 0 {
         return Some(0);
     }
-    match position(facts, place) {
+    match position(facts, guesses, place) {
         Some(i) => Some(i as u64 + 1),
         None => None,
     }
 }
 
 // Whether both chains of a record name a record or none.
-fn has_named(facts: &Facts, fact: &Fact) -> bool
+fn has_named(facts: &Facts, guesses: &Guesses, fact: &Fact) -> bool
     ensures yes { result ≡ true → HasNamed facts.now fact.now }
     ensures no { result ≡ false → Ascend facts.now → HasNamed facts.now fact.now → ⊥ }
 {
-    match resolve(facts, fact.left) {
-        Some(_) => match resolve(facts, fact.right) {
+    match resolve(facts, guesses, fact.left) {
+        Some(_) => match resolve(facts, guesses, fact.right) {
             Some(_) => true,
             None => false,
         },
@@ -84,13 +113,13 @@ fn has_named(facts: &Facts, fact: &Fact) -> bool
 }
 
 /// Whether each chain names a record or none.
-pub fn chains_named(facts: &Facts) -> bool
+pub fn chains_named(facts: &Facts, guesses: &Guesses) -> bool
     ensures yes { result ≡ true → AllNamed facts.now }
     ensures no { result ≡ false → Ascend facts.now → HasBadChain facts.now }
 {
     for i in 0..facts.len() {
         let fact = *facts.at(i);
-        if !has_named(facts, &fact) {
+        if !has_named(facts, guesses, &fact) {
             return false;
         }
     }
@@ -126,6 +155,7 @@ pub fn entries_named<S: Space>(
     file: u32,
     head: &Head,
     facts: &Facts,
+    guesses: &Guesses,
     window: &mut Window,
 ) -> Result<bool, ReadErr>
     requires looks { Looks S.Space space.old file window.old }
@@ -137,7 +167,7 @@ pub fn entries_named<S: Space>(
 {
     for bucket in 0..head.buckets {
         let place = entry(space, file, head, bucket, window)?;
-        match resolve(facts, place) {
+        match resolve(facts, guesses, place) {
             Some(_) => {}
             None => return Ok(false),
         }

@@ -9,11 +9,14 @@ ghost use Rattle.hf_tree.specs.declared.parent.Parent.TheVariants.{Bucket};
 ghost use Rattle.hf_tree.specs.Links.{links_of};
 ghost use Rattle.hf_tree.specs.Rules.{Links, Records, left, right};
 ghost use Rattle.hf_chain.specs.Heads.{capped};
-ghost use Rattle.hf_chain.specs.Facts.{AreFacts};
+ghost use Rattle.hf_chain.specs.Facts.{AreFacts, HasFacts};
+ghost use Rattle.hf_chain.specs.Orders.{Judged};
 ghost use Rattle.hf_chain.specs.Passes.{HasBuckets, Looks};
-ghost use Rattle.hf_chain.specs.Reaching.{AllReached, AreLow, AreRead, Follows, IsItem, IsNotOnce, Marked, NoneReached, Reach, Stops, all_seen, child_item};
+ghost use Rattle.hf_chain.specs.Reaching.{AllReached, AreLow, AreRead, Follows, Grew, IsItem, IsNotOnce, Marked, NoneReached, Reach, Stops, all_seen, child_item};
 
 use crate::facts::Facts;
+use crate::guessing::Guesses;
+use crate::judging::{Verdict, judge};
 use crate::naming::{entry, resolve};
 use hf_head::Head;
 use std::alloc::{AllocError, Global};
@@ -60,6 +63,7 @@ fn add(items: &mut Items, marks: &mut [bool], item: Item) -> Result<bool, AllocE
 // is no record, or one that was reached before.
 fn follow(
     facts: &Facts,
+    guesses: &Guesses,
     place: u64,
     from: &Item,
     items: &mut Items,
@@ -72,7 +76,7 @@ fn follow(
     ensures follows { IfOk result (λ is. is ≡ true → Follows facts.now place from.now items.old items.new) }
     ensures stops { IfOk result (λ is. is ≡ false → Stops facts.now place items.old) }
 {
-    let number = match resolve(facts, place) {
+    let number = match resolve(facts, guesses, place) {
         Some(number) => number,
         None => return Ok(false),
     };
@@ -115,6 +119,7 @@ fn right_of(item: &Item) -> Item
 // Follows both chains of a record that was reached, behind those of the records before it.
 fn follow_both(
     facts: &Facts,
+    guesses: &Guesses,
     k: usize,
     items: &mut Items,
     marks: &mut [bool],
@@ -123,14 +128,14 @@ fn follow_both(
     requires long { length marks.old ≡ length facts.now }
     requires marked { Marked items.old marks.old }
     ensures marked { OnOk result (Marked items.new marks.new) }
-    ensures longer { IfOk result (λ is. is ≡ true → length items.old ≤ length items.new) }
+    ensures grew { IfOk result (λ is. is ≡ true → Grew items.old items.new) }
     ensures reached { IfOk result (λ is. is ≡ true → (links : Links) (records : Records) (n roots : ℕ) → AreRead links records facts.now → Reach links records n (all_seen facts.now items.old) roots (2 * k) → Reach links records n (all_seen facts.now items.new) roots (2 * k + 2)) }
     ensures stops { IfOk result (λ is. is ≡ false → (links : Links) (records : Records) (n roots : ℕ) → AreRead links records facts.now → Reach links records n (all_seen facts.now items.old) roots (2 * k) → IsNotOnce links records n) }
 {
     let item = *items.at(k);
     let fact = *facts.at((item.number - 1) as usize);
-    match follow(facts, fact.left, &left_of(&item), items, marks) {
-        Ok(true) => follow(facts, fact.right, &right_of(&item), items, marks),
+    match follow(facts, guesses, fact.left, &left_of(&item), items, marks) {
+        Ok(true) => follow(facts, guesses, fact.right, &right_of(&item), items, marks),
         Ok(false) => Ok(false),
         Err(e) => Err(e),
     }
@@ -139,6 +144,7 @@ fn follow_both(
 // Follows the chains of all records that are reached, from one of them on.
 fn follow_all(
     facts: &Facts,
+    guesses: &Guesses,
     start: usize,
     items: &mut Items,
     marks: &mut [bool],
@@ -147,12 +153,13 @@ fn follow_all(
     requires long { length marks.old ≡ length facts.now }
     requires marked { Marked items.old marks.old }
     ensures marked { OnOk result (Marked items.new marks.new) }
+    ensures grew { IfOk result (λ is. is ≡ true → Grew items.old items.new) }
     ensures reached { IfOk result (λ is. is ≡ true → (links : Links) (records : Records) (n roots : ℕ) → AreRead links records facts.now → Reach links records n (all_seen facts.now items.old) roots (2 * start) → Reach links records n (all_seen facts.now items.new) roots (2 * length items.new)) }
     ensures stops { IfOk result (λ is. is ≡ false → (links : Links) (records : Records) (n roots : ℕ) → AreRead links records facts.now → Reach links records n (all_seen facts.now items.old) roots (2 * start) → IsNotOnce links records n) }
 {
     let mut k = start;
     while k < items.len() {
-        match follow_both(facts, k, items, marks) {
+        match follow_both(facts, guesses, k, items, marks) {
             Ok(true) => k += 1,
             Ok(false) => return Ok(false),
             Err(e) => return Err(e),
@@ -164,6 +171,7 @@ fn follow_all(
 // Follows the entry of a bucket, which names a place, and all chains of its tree, behind those of the buckets before it.
 fn reach_bucket(
     facts: &Facts,
+    guesses: &Guesses,
     bucket: u64,
     place: u64,
     items: &mut Items,
@@ -172,6 +180,7 @@ fn reach_bucket(
     requires long { length marks.old ≡ length facts.now }
     requires marked { Marked items.old marks.old }
     ensures marked { OnOk result (Marked items.new marks.new) }
+    ensures grew { IfOk result (λ is. is ≡ true → Grew items.old items.new) }
     ensures reached { IfOk result (λ is. is ≡ true → (links : Links) (records : Records) (n : ℕ) → AreRead links records facts.now → bucket < n → place ≡ capped (links (Bucket bucket)) → Reach links records n (all_seen facts.now items.old) bucket (2 * length items.old) → Reach links records n (all_seen facts.now items.new) (bucket + 1) (2 * length items.new)) }
     ensures stops { IfOk result (λ is. is ≡ false → (links : Links) (records : Records) (n : ℕ) → AreRead links records facts.now → bucket < n → place ≡ capped (links (Bucket bucket)) → Reach links records n (all_seen facts.now items.old) bucket (2 * length items.old) → IsNotOnce links records n) }
 {
@@ -182,8 +191,8 @@ fn reach_bucket(
         above: 0,
         below: 0,
     };
-    match follow(facts, place, &root, items, marks) {
-        Ok(true) => follow_all(facts, start, items, marks),
+    match follow(facts, guesses, place, &root, items, marks) {
+        Ok(true) => follow_all(facts, guesses, start, items, marks),
         Ok(false) => Ok(false),
         Err(e) => Err(e),
     }
@@ -202,30 +211,40 @@ fn all_marked(marks: &[bool]) -> bool
     true
 }
 
-// Follows the entries of all buckets, each with its tree.
+// Follows the entries of all buckets, each with its tree, and judges what each reaches.
 fn reach_buckets<S: Space>(
     space: &mut S,
     file: u32,
     head: &Head,
     facts: &Facts,
+    guesses: &Guesses,
     window: &mut Window,
     items: &mut Items,
     marks: &mut [bool],
+    verdict: &mut Verdict,
 ) -> Result<bool, ReadErr>
     requires looks { Looks S.Space space.old file window.old }
     requires buckets { HasBuckets S.Space head.now space.old file }
+    requires facts { S.tells → HasFacts head.now (S.now space.old file) facts.now }
     requires none { NoneReached facts.now items.old marks.old }
     ensures marked { OnOk result (Marked items.new marks.new) }
     ensures reached { IfOk result (λ is. is ≡ true → S.tells → (ps : List Piece) → AreFacts head.now ps (S.now space.old file) facts.now → Reach (links_of head.now ps (S.now space.old file)) (record_at head.now.first ps) head.now.buckets (all_seen facts.now items.new) head.now.buckets (2 * length items.new)) }
+    ensures judged { IfOk result (λ is. is ≡ true → Judged S.tells facts.now items.new (length items.new) (S.now space.old file) verdict.new) }
     ensures stops { IfOk result (λ is. is ≡ false → S.tells → (ps : List Piece) → AreFacts head.now ps (S.now space.old file) facts.now → IsNotOnce (links_of head.now ps (S.now space.old file)) (record_at head.now.first ps) head.now.buckets) }
     ensures reads { OnlyReads S.Space space.old space.new }
     ensures cause { IsErrOf result ReadErr.Fault → Rose (S.faults space.old) (S.faults space.new) }
 {
+    *verdict = Verdict::InOrder;
     for bucket in 0..head.buckets {
         let place = entry(space, file, head, bucket, window)?;
-        match reach_bucket(facts, bucket, place, items, marks) {
+        let start = items.len();
+        match reach_bucket(facts, guesses, bucket, place, items, marks) {
             Ok(true) => {}
             Ok(false) => return Ok(false),
+            Err(e) => return Err(ReadErr::from(e)),
+        }
+        match judge(space, file, head, facts, items, start, *verdict) {
+            Ok(found) => *verdict = found,
             Err(e) => return Err(ReadErr::from(e)),
         }
     }
@@ -245,57 +264,85 @@ fn reach_into<S: Space>(
     file: u32,
     head: &Head,
     facts: &Facts,
+    guesses: &Guesses,
     window: &mut Window,
     items: &mut Items,
     marks: &mut [bool],
+    verdict: &mut Verdict,
 ) -> Result<bool, ReadErr>
     requires looks { Looks S.Space space.old file window.old }
     requires buckets { HasBuckets S.Space head.now space.old file }
+    requires facts { S.tells → HasFacts head.now (S.now space.old file) facts.now }
     requires none { NoneReached facts.now items.old marks.old }
     ensures low { OnOk result (AreLow (length facts.now) items.new) }
     ensures some { IfOk result (λ is. is ≡ true → S.tells → (ps : List Piece) → AreFacts head.now ps (S.now space.old file) facts.now → AllReached (links_of head.now ps (S.now space.old file)) (record_at head.now.first ps) head.now.buckets (all_seen facts.now items.new)) }
+    ensures judged { IfOk result (λ is. is ≡ true → Judged S.tells facts.now items.new (length items.new) (S.now space.old file) verdict.new) }
     ensures none { IfOk result (λ is. is ≡ false → S.tells → (ps : List Piece) → AreFacts head.now ps (S.now space.old file) facts.now → IsNotOnce (links_of head.now ps (S.now space.old file)) (record_at head.now.first ps) head.now.buckets) }
     ensures reads { OnlyReads S.Space space.old space.new }
     ensures cause { IsErrOf result ReadErr.Fault → Rose (S.faults space.old) (S.faults space.new) }
 {
-    match reach_buckets(space, file, head, facts, window, items, marks) {
+    match reach_buckets(
+        space, file, head, facts, guesses, window, items, marks, verdict,
+    ) {
         Ok(true) => Ok(all_marked(marks)),
         Ok(false) => Ok(false),
         Err(e) => Err(e),
     }
 }
 
-/// The records of a file, where each link names one of them or none and the buckets reach each of them once; else nothing. A bucket's tree
-/// is followed before the next bucket's.
+// No records, with room for so many.
+fn room_for(alloc: Global, count: usize) -> Result<Items, AllocError>
+    ensures { IfOk result (λ items. items ≡ []) }
+{
+    let items = Vec::with_capacity(alloc, count)?;
+    Ok(Items::from_vec(items))
+}
+
+/// The records of a file that the buckets reach.
+#[derive(Drop)]
+pub struct Trees {
+    pub items: Items,
+    /// What is found of them.
+    pub verdict: Verdict,
+}
+
+/// The records of a file, where each link names one of them or none and the buckets reach each of them once, and what is found of them; else
+/// nothing. A bucket's tree is followed and judged before the next bucket's.
 pub fn reach<S: Space>(
     alloc: Global,
     space: &mut S,
     file: u32,
     head: &Head,
     facts: &Facts,
-) -> Result<Option<Items>, ReadErr>
+    guesses: &Guesses,
+) -> Result<Option<Trees>, ReadErr>
     requires sound { S.sound space.old }
     requires file { IsDataFile file }
     requires buckets { HasBuckets S.Space head.now space.old file }
-    ensures low { IfOk result (λ found. IfSome found (λ items. AreLow (length facts.now) items)) }
-    ensures some { IfOk result (λ found. IfSome found (λ items. S.tells → (ps : List Piece) → AreFacts head.now ps (S.now space.old file) facts.now → AllReached (links_of head.now ps (S.now space.old file)) (record_at head.now.first ps) head.now.buckets (all_seen facts.now items))) }
+    requires facts { S.tells → HasFacts head.now (S.now space.old file) facts.now }
+    ensures low { IfOk result (λ found. IfSome found (λ all. AreLow (length facts.now) all.items)) }
+    ensures judged { IfOk result (λ found. IfSome found (λ all. Judged S.tells facts.now all.items (length all.items) (S.now space.old file) all.verdict)) }
+    ensures some { IfOk result (λ found. IfSome found (λ all. S.tells → (ps : List Piece) → AreFacts head.now ps (S.now space.old file) facts.now → AllReached (links_of head.now ps (S.now space.old file)) (record_at head.now.first ps) head.now.buckets (all_seen facts.now all.items))) }
     ensures none { IfOk result (λ found. IfNone found (S.tells → (ps : List Piece) → AreFacts head.now ps (S.now space.old file) facts.now → IsNotOnce (links_of head.now ps (S.now space.old file)) (record_at head.now.first ps) head.now.buckets)) }
     ensures reads { OnlyReads S.Space space.old space.new }
     ensures cause { IsErrOf result ReadErr.Fault → Rose (S.faults space.old) (S.faults space.new) }
 {
     let mut window = Window::new(alloc);
-    let mut items: Items = Seq::new(alloc);
+    let mut items = room_for(alloc, facts.len())?;
     let mut marks = unmarked(alloc, facts.len())?;
+    let mut verdict = Verdict::InOrder;
     match reach_into(
         space,
         file,
         head,
         facts,
+        guesses,
         &mut window,
         &mut items,
         &mut marks,
+        &mut verdict,
     ) {
-        Ok(true) => Ok(Some(items)),
+        Ok(true) => Ok(Some(Trees { items, verdict })),
         Ok(false) => Ok(None),
         Err(e) => Err(e),
     }

@@ -1,6 +1,6 @@
 -- What a window shows of a file.
-use Rattle.std.proofs.Common.{◌≡◌, ◌∙◌, ℕ, ◌+◌, ◌-◌, ◌≤◌, List, length, take, drop, sym, ap, subst, arith}
-use Rattle.std.proofs.lemmas.List.{take-take, drop-drop, drop-take}
+use Rattle.std.proofs.Common.{◌≡◌, ◌∙◌, ℕ, ◌+◌, ◌-◌, ◌≤◌, List, length, take, drop, length-drop, sym, ap, subst, arith}
+use Rattle.std.proofs.lemmas.List.{take-take, drop-drop, drop-take, length-take-le}
 use Rattle.tc_window.specs.declared.window.Window.{Window}
 use Rattle.tc_window.specs.Windows.{Covers, Shows}
 
@@ -22,3 +22,9 @@ seen_in_window w at count skip file is c s =
     let m : skip + count - skip ≡ count = omega arith in
     let fits : skip + count ≤ length w.bytes.items = omega (arith, is, c.low, c.high) in
     (λ i. take (m i) (drop skip (s i))) ∙ part_of (length w.bytes.items) w.at skip count file fits ∙ ap (λ n. take count (drop n file)) (omega (arith, is, c.low))
+
+pub rest_of_window : (w : Window) (at skip : ℕ) (file : List ℕ) → at ≡ w.at + skip → skip ≤ length w.bytes.items → Shows w file → take (length w.bytes.items - skip) (drop skip w.bytes.items) ≡ take (length (take (length w.bytes.items - skip) (drop skip w.bytes.items))) (drop at file)
+rest_of_window w at skip file is le s =
+    let n : ℕ = length w.bytes.items - skip in
+    let long : length (take n (drop skip w.bytes.items)) ≡ n = length-take-le n (drop skip w.bytes.items) (omega (arith, length-drop skip w.bytes.items)) in
+    ap (λ (l : List ℕ). take n (drop skip l)) s ∙ part_of (length w.bytes.items) w.at skip n file (omega (arith, le)) ∙ (λ i. take (sym long i) (drop (sym is i) file))

@@ -61,8 +61,10 @@ impl Window {
         ensures at { OnOk result (self.new.at ≡ at) }
         ensures long { OnOk result (length self.new.bytes.items ≡ count) }
     {
-        self.bytes.clear();
-        self.bytes.resize(count, 0)?;
+        if self.bytes.len() != count {
+            self.bytes.clear();
+            self.bytes.resize(count, 0)?;
+        }
         self.at = at;
         Ok(())
     }
@@ -116,5 +118,16 @@ impl Window {
     {
         let skip = (at - self.at) as usize;
         &self.bytes[skip..skip + count]
+    }
+
+    /// The bytes from a place on that are there; none, where it isn't among them.
+    pub fn rest(&self, at: u64) -> &[u8]
+        ensures { (file : List ℕ) → Shows self.now file → result.now ≡ take (length result.now) (drop at file) }
+    {
+        if at < self.at || at - self.at > self.bytes.len() as u64 {
+            return &self.bytes[..0];
+        }
+        let skip = (at - self.at) as usize;
+        &self.bytes[skip..]
     }
 }

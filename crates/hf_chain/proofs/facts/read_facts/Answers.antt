@@ -11,7 +11,7 @@ pub loop-i-init : goal.loop-i-init
 loop-i-init g c = record {
   reads = only_reads_refl g.S.Space c.args.space.now c.requires.sound;
   looks = record { sound = c.requires.sound; data_file = c.requires.file; shows = λ t. c.new-window.ensures (g.S.Space.now c.args.space.now c.args.file) };
-  so = λ t ps listed. read_start c.args.head.now ps _ c.new-facts.ensures;
+  so = λ t ps listed. read_start c.args.head.now ps _ c.in_ok-facts.ensures;
 }
 
 pub loop-i-preserved-then-block : goal.loop-i-preserved-then-block

@@ -7,6 +7,9 @@ use Rattle.hf_chain.proofs.Halving.{below_or}
 use Rattle.hf_chain.proofs.Keyed.{not_both}
 use Rattle.hf_chain.proofs.judging.all_home.Goals as goal
 
+pub loop-k-init : goal.loop-k-init
+loop-k-init c = c.requires.front
+
 pub is_home-requires : goal.is_home-requires
 is_home-requires c = let l = c.requires.low c.loop-k.k c.at.result.now c.at.ensures in record { low = (l.0, l.1) }
 

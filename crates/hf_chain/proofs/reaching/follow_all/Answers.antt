@@ -1,10 +1,10 @@
 use Rattle.std.proofs.Common.{arith, subst}
 use Rattle.hf_chain.specs.Reaching.{Reach, all_seen}
-use Rattle.hf_chain.proofs.Steps.{few_items}
+use Rattle.hf_chain.proofs.Steps.{few_items, grew_refl, grew_then}
 use Rattle.hf_chain.proofs.reaching.follow_all.Goals as goal
 
 pub loop-k-init : goal.loop-k-init
-loop-k-init c = record { long = c.requires.long; marked = c.requires.marked; most = c.requires.there; reached = λ links records n roots read r. r }
+loop-k-init c = record { long = c.requires.long; marked = c.requires.marked; most = c.requires.there; grew = grew_refl c.args.items.now; reached = λ links records n roots read r. r }
 
 pub loop-k-smaller : goal.loop-k-smaller
 loop-k-smaller c = omega (arith, few_items c.loop-k.items c.loop-k.marks c.loop-k.invariant.marked, c.loop-k.invariant.long)
@@ -13,7 +13,8 @@ pub loop-k-preserved : goal.loop-k-preserved
 loop-k-preserved c = record {
   long = omega (arith, c.loop-k.invariant.long, c.follow_both.auto.marks);
   marked = c.in-Ok-true.ensures.marked;
-  most = omega (arith, c.in-Ok-true.ensures.longer c.in-Ok-true.field-0-test);
+  most = let g = c.in-Ok-true.ensures.grew c.in-Ok-true.field-0-test in omega (arith, g.long);
+  grew = grew_then c.args.items.now c.loop-k.items c.follow_both.new.items c.loop-k.invariant.grew (c.in-Ok-true.ensures.grew c.in-Ok-true.field-0-test);
   reached = λ links records n roots read r. subst (λ d. Reach links records n (all_seen c.args.facts.now c.follow_both.new.items) roots d) (omega arith) (c.in-Ok-true.ensures.reached c.in-Ok-true.field-0-test links records n roots read (c.loop-k.invariant.reached links records n roots read r));
 }
 

@@ -2,7 +2,7 @@ use Rattle.std.proofs.Common.{arith, ap, subst}
 use Rattle.hf_chain.specs.declared.reaching.Item.{Item}
 use Rattle.hf_chain.specs.Reaching.{AreLow, Follows}
 use Rattle.hf_chain.proofs.Lists.{if_ok}
-use Rattle.hf_chain.proofs.Steps.{followed_long, left_stops, right_stops, both_follow}
+use Rattle.hf_chain.proofs.Steps.{followed_grew, grew_then, left_stops, right_stops, both_follow}
 use Rattle.hf_chain.proofs.reaching.follow_both.Goals as goal
 
 pub at-fact-requires : goal.at-fact-requires
@@ -17,12 +17,10 @@ follow-requires-in-Ok-true-clause-long c = omega (arith, c.requires.long, c.foll
 pub follow-requires-in-Ok-true-clause-low : goal.follow-requires-in-Ok-true-clause-low
 follow-requires-in-Ok-true-clause-low c = let l = c.requires.marked.low c.args.k c.at.result.now c.at.ensures in (omega (arith, l.2, c.requires.long, ap (λ (z : Item). z.above) c.right_of.ensures), omega (arith, l.1, c.requires.long, ap (λ (z : Item). z.below) c.right_of.ensures))
 
-pub returns-in-Ok-true-clause-longer : goal.returns-in-Ok-true-clause-longer
-returns-in-Ok-true-clause-longer c = if_ok c.follow-in-Ok-true.result (λ new follows is. omega (
-  arith,
-  followed_long c.args.facts.now c.at-fact.result.now.left c.left_of.result c.args.items.now c.follow.new.items (c.in-Ok-true.ensures.follows c.in-Ok-true.field-0-test),
-  followed_long c.args.facts.now c.at-fact.result.now.right c.right_of.result c.follow.new.items c.follow-in-Ok-true.new.items (follows is),
-)) c.follow-in-Ok-true.ensures.follows
+pub returns-in-Ok-true-clause-grew : goal.returns-in-Ok-true-clause-grew
+returns-in-Ok-true-clause-grew c = if_ok c.follow-in-Ok-true.result (λ new follows is. grew_then c.args.items.now c.follow.new.items c.follow-in-Ok-true.new.items
+    (followed_grew c.args.facts.now c.at-fact.result.now.left c.left_of.result c.args.items.now c.follow.new.items (c.in-Ok-true.ensures.follows c.in-Ok-true.field-0-test))
+    (followed_grew c.args.facts.now c.at-fact.result.now.right c.right_of.result c.follow.new.items c.follow-in-Ok-true.new.items (follows is))) c.follow-in-Ok-true.ensures.follows
 
 pub returns-in-Ok-true-clause-reached : goal.returns-in-Ok-true-clause-reached
 returns-in-Ok-true-clause-reached c = if_ok c.follow-in-Ok-true.result (λ new follows is links records n roots read r.

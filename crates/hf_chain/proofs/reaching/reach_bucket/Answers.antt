@@ -1,7 +1,7 @@
 use Rattle.std.proofs.Common.{◌+◌, ◌*◌, length, arith, subst}
 use Rattle.hf_chain.specs.Reaching.{AreLow, Reach, all_seen, root_item}
 use Rattle.hf_chain.proofs.Lists.{if_ok}
-use Rattle.hf_chain.proofs.Steps.{followed_long, bucket_follows, bucket_stops}
+use Rattle.hf_chain.proofs.Steps.{followed_grew, followed_long, grew_then, bucket_follows, bucket_stops}
 use Rattle.hf_chain.proofs.reaching.reach_bucket.Goals as goal
 
 pub follow_all-requires-clause-there : goal.follow_all-requires-clause-there
@@ -9,6 +9,10 @@ follow_all-requires-clause-there c = omega (arith, c.len-start.ensures, followed
 
 pub follow_all-requires-clause-long : goal.follow_all-requires-clause-long
 follow_all-requires-clause-long c = omega (arith, c.requires.long, c.follow.auto.marks)
+
+pub returns-in-Ok-true-clause-grew : goal.returns-in-Ok-true-clause-grew
+returns-in-Ok-true-clause-grew c = if_ok c.follow_all.result (λ new grew is. grew_then c.args.items.now c.follow.new.items c.follow_all.new.items
+    (followed_grew c.args.facts.now c.args.place (root_item c.args.bucket 0) c.args.items.now c.follow.new.items (c.in-Ok-true.ensures.follows c.in-Ok-true.field-0-test)) (grew is)) c.follow_all.ensures.grew
 
 pub returns-in-Ok-true-clause-reached : goal.returns-in-Ok-true-clause-reached
 returns-in-Ok-true-clause-reached c = if_ok c.follow_all.result (λ new reached is links records n read low place r. reached is links records n (c.args.bucket + 1) read
