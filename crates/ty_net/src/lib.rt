@@ -11,6 +11,7 @@ mod roster;
 mod sinks;
 mod socket;
 mod sockets;
+mod stretch;
 
 pub use net::NetWire;
 pub use pipe::PipeWire;

@@ -49,12 +49,22 @@ impl Roster {
         Ok(())
     }
 
-    /// Whether more may come of it.
-    pub fn hears(&self, number: u32) -> bool
+    // Whether it is open. It is looked for at that place first.
+    fn is_open(&self, at: usize, number: u32) -> bool
+        ensures { result ≡ true → has self.now.conns.items number ≡ true }
+    {
+        if at < self.conns.len() && self.conns[at] == number {
+            return true;
+        }
+        self.conns.contains(&number)
+    }
+
+    /// Whether more may come of it. It is looked for at that place first.
+    pub fn hears(&self, at: usize, number: u32) -> bool
         ensures open { result ≡ true → has self.now.conns.items number ≡ true }
         ensures goes_on { result ≡ true → has self.now.ended.items number ≡ false }
     {
-        self.conns.contains(&number) && !self.ended.contains(&number)
+        self.is_open(at, number) && !self.ended.contains(&number)
     }
 
     /// No more input comes of it. An `Err` changes nothing.

@@ -6,6 +6,7 @@ ghost use Rattle.ty_net.specs.Finds.{MayFind};
 use crate::leaving::Leaving;
 use crate::line::{Heard, Line};
 use crate::roster::Roster;
+use crate::stretch::Stretch;
 use mio::event::Event;
 use mio::net::{TcpListener, TcpStream};
 use mio::{Events, Interest, Poll, Token};
@@ -63,10 +64,10 @@ pub struct Sockets {
     is_starved: bool,
     // the last event was a connection that opened
     just_opened: bool,
-    // a line may be readable
-    has_ready: bool,
-    // bytes may be gathered that aren't written yet
-    owes: bool,
+    // so many lines are readable
+    ready: usize,
+    // bytes that aren't written yet are gathered at no other places
+    owing: Stretch,
     // so many turns since all were written
     held: u32,
     // where the last line was found
@@ -85,23 +86,31 @@ pub fn address_of<R: Net>(net: &R, host: &[u8], port: u16) -> io::Result<SocketA
     }
 }
 
+// Where the connection of that number stands: they stand in ascending number.
 fn place_of(lines: &[Line], number: usize) -> Option<usize>
     ensures { IfSome result (λ i. i < length lines.now) }
 {
-    lines
-        .iter()
-        .position(|line| line.number() as usize == number)
+    let place = lines.partition_point(|line| (line.number() as usize) < number);
+    if place < lines.len() && lines[place].number() as usize == number {
+        return Some(place);
+    }
+    None
 }
 
-// Takes in one event of a connection. Answers whether it is there.
-fn note(lines: &mut Vec<Line>, event: &Event) -> bool {
-    match place_of(lines, event.token().0) {
-        Some(i) => {
-            lines[i].note(event);
-            true
+// Takes in one event of a connection. Answers whether it is there. Where nothing was ready, the next search begins with it.
+fn note(lines: &mut Vec<Line>, ready: &mut usize, cursor: &mut usize, event: &Event) -> bool {
+    let Some(i) = place_of(lines, event.token().0) else {
+        return false;
+    };
+    let was_ready = lines[i].is_readable();
+    lines[i].note(event);
+    if !was_ready && lines[i].is_readable() {
+        if *ready == 0 {
+            *cursor = i;
         }
-        None => false,
+        *ready = ready.saturating_add(1);
     }
+    true
 }
 
 impl Sockets {
@@ -125,8 +134,8 @@ impl Sockets {
             may_accept: true,
             is_starved: false,
             just_opened: false,
-            has_ready: false,
-            owes: false,
+            ready: 0,
+            owing: Stretch::none(),
             held: 0,
             found_at: 0,
         })
@@ -147,14 +156,10 @@ impl Sockets {
     pub fn ask<R: rt::Clock>(&mut self, rt: &R, wait: Duration) -> io::Result<()> {
         self.turns = 0;
         self.poll.poll(&mut self.events, Some(wait))?;
-        if !self.events.is_empty() {
-            self.has_ready = true;
-            self.owes = true;
-        }
         for event in self.events.iter() {
             if event.token().0 == LISTENER {
                 self.may_accept = true;
-            } else if !note(&mut self.lines, event) {
+            } else if !note(&mut self.lines, &mut self.ready, &mut self.cursor, event) {
                 self.leaving.note(event);
             }
         }
@@ -173,7 +178,7 @@ impl Sockets {
 
     /// Writes what was taken where it has waited for long enough.
     pub fn flush_old(&mut self) {
-        if !self.owes {
+        if self.owing.is_none() {
             return;
         }
         self.held = self.held.saturating_add(1);
@@ -184,18 +189,23 @@ impl Sockets {
 
     /// Writes what was taken, but for those connections.
     pub fn flush(&mut self, but: &[u32]) {
-        if !self.owes {
+        if self.owing.is_none() {
             return;
         }
-        let mut owes = false;
-        for line in self.lines.iter_mut() {
+        let places = self.owing;
+        self.owing = Stretch::none();
+        for at in places.from..places.to {
+            let Some(line) = self.lines.get_mut(at) else {
+                break;
+            };
             if line.owes() && !but.contains(&line.number()) {
                 line.flush();
             }
-            owes = owes || line.owes();
+            if line.owes() {
+                self.owing.add(at);
+            }
         }
-        self.owes = owes;
-        if but.is_empty() || !owes {
+        if but.is_empty() || self.owing.is_none() {
             self.held = 0;
         }
     }
@@ -266,7 +276,9 @@ impl Sockets {
         )?;
         self.lines.push(line)?;
         self.just_opened = true;
-        self.has_ready = true;
+        if is_readable {
+            self.ready = self.ready.saturating_add(1);
+        }
         Ok(())
     }
 
@@ -274,27 +286,35 @@ impl Sockets {
     pub fn hear(&mut self, of: Of, roster: &Roster, paused: &[u32], into: &mut [u8; 4096]) -> Found
         ensures { MayFind roster.now.conns.items roster.now.ended.items paused.now result }
     {
-        if !self.has_ready {
-            return Found::Nothing;
-        }
-        let mut has_ready = false;
+        let mut left = self.ready;
         for _ in 0..self.lines.len() {
+            if left == 0 {
+                break;
+            }
             if self.cursor >= self.lines.len() {
                 self.cursor = 0;
             }
-            let Some(line) = self.lines.get_mut(self.cursor) else {
-                return Found::Nothing;
+            let at = self.cursor;
+            self.cursor = at.saturating_add(1);
+            let Some(line) = self.lines.get_mut(at) else {
+                break;
             };
-            self.cursor = self.cursor.saturating_add(1);
-            match hear_line(line, of, roster, paused, into) {
-                Found::Nothing => has_ready = has_ready || line.is_readable(),
+            if !line.is_readable() {
+                continue;
+            }
+            left = left.saturating_sub(1);
+            let found = hear_line(line, at, of, roster, paused, into);
+            if !line.is_readable() {
+                self.ready = self.ready.saturating_sub(1);
+            }
+            match found {
+                Found::Nothing => {}
                 found => {
                     self.just_opened = false;
                     return found;
                 }
             }
         }
-        self.has_ready = has_ready;
         Found::Nothing
     }
 
@@ -308,6 +328,7 @@ impl Sockets {
             return None;
         }
         self.found_at = at;
+        self.owing.add(at);
         Some(line.offer(bytes))
     }
 
@@ -316,7 +337,6 @@ impl Sockets {
         requires { 0 < length bytes.now }
         ensures { CanTake bytes.now result }
     {
-        self.owes = true;
         // sends come in ascending number
         if let Some(sent) = self.offer_at(self.found_at, number, bytes) {
             return sent;
@@ -325,10 +345,10 @@ impl Sockets {
             return sent;
         }
         match place_of(&self.lines, number as usize) {
-            Some(i) => {
-                self.found_at = i;
-                self.lines[i].offer(bytes)
-            }
+            Some(i) => match self.offer_at(i, number, bytes) {
+                Some(sent) => sent,
+                None => Sent::Gone,
+            },
             None => Sent::Gone,
         }
     }
@@ -342,6 +362,10 @@ impl Sockets {
             return;
         };
         let line = self.lines.remove(i);
+        if line.is_readable() {
+            self.ready = self.ready.saturating_sub(1);
+        }
+        self.owing.close_up(i);
         if i < self.cursor {
             self.cursor -= 1;
         }
@@ -349,9 +373,10 @@ impl Sockets {
     }
 }
 
-// What one line gives, where it may.
+// What one line gives, where it may. Its number is likely to stand at that place of the roster.
 fn hear_line(
     line: &mut Line,
+    at: usize,
     of: Of,
     roster: &Roster,
     paused: &[u32],
@@ -359,11 +384,15 @@ fn hear_line(
 ) -> Found
     ensures { MayFind roster.now.conns.items roster.now.ended.items paused.now result }
 {
-    if !line.is_readable() || (of == Of::Closing && !line.is_closing()) {
+    if of == Of::Closing && !line.is_closing() {
         return Found::Nothing;
     }
     let number = line.number();
-    if !roster.hears(number) || paused.contains(&number) {
+    // numbers ascend, so one that waits is found by halves
+    if paused.binary_search(&number).is_ok() {
+        return Found::Nothing;
+    }
+    if !roster.hears(at, number) || paused.contains(&number) {
         return Found::Nothing;
     }
     match line.read(into) {

@@ -121,15 +121,6 @@ calm_stirs p is e = absurd cc
 pub calm_settled : (p q : Peer) → q ≡ record p { stirs = waits p || is_over p } → IsCalm q
 calm_settled p q is = subst IsCalm (sym is) (λ e. let o = or_parts (waits p) (is_over p) e in record { idle = o.0; stays = o.1 })
 
-pub calm_set : (ps : List Peer) (i : ℕ) (q : Peer) → q.stirs ≡ true → Each IsCalm ps → Each IsCalm (set ps i q)
-calm_set ps i q is h = each_set IsCalm ps i q (calm_stirs q is) h
-
-pub calm_push : (ps ps' : List Peer) (q : Peer) → ps' ≡ ps ++ q ∷ [] → q.stirs ≡ true → Each IsCalm ps → Each IsCalm ps'
-calm_push ps ps' q is stirs h = subst (Each IsCalm) (sym is) (each_push IsCalm ps q (calm_stirs q stirs) h)
-
-pub calm_remove : (ps ps' : List Peer) (i : ℕ) → ps' ≡ remove ps i → Each IsCalm ps → Each IsCalm ps'
-calm_remove ps ps' i is h = subst (Each IsCalm) (sym is) (each_remove IsCalm ps i h)
-
 -- what is quiet was sent all, and no whole request stands in front
 pub quiet_taken : (p : Peer) → IsQuiet p → all_taken p ≡ true
 quiet_taken p q = not_no (all_taken p) (or_parts (not (all_taken p)) (is_whole (request_at p.session.unread)) q.idle).0

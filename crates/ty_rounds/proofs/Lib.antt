@@ -10,6 +10,7 @@ pub mod Leaving
 pub mod Places
 pub mod SendLaws
 pub mod ServingLaws
+pub mod Spans
 pub mod Telling
 pub mod Turned
 pub mod Waiting

@@ -130,7 +130,7 @@ or_assoc : (a b d : Bool) → (a || (b || d)) ≡ ((a || b) || d)
 or_assoc true b d = refl
 or_assoc false b d = refl
 
-or_false : (a : Bool) → (a || false) ≡ a
+pub or_false : (a : Bool) → (a || false) ≡ a
 or_false true = refl
 or_false false = refl
 

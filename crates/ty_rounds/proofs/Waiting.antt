@@ -1,8 +1,8 @@
 -- The connections that wait, of the server and of the world.
-use Rattle.std.proofs.Common.{◌≡◌, ◌<◌, ◌+◌, ℕ, suc, Bool, true, false, not, cond, List, [], ◌∷◌, ◌++◌, length, get_or, take, map, refl, sym, ap, ◌∙◌, arith}
+use Rattle.std.proofs.Common.{◌≡◌, ◌<◌, ◌≤◌, ◌+◌, ℕ, suc, Bool, true, false, not, cond, List, [], ◌∷◌, ◌++◌, length, get_or, take, map, refl, sym, ap, ◌∙◌, arith}
 use Rattle.std.specs.Prelude.{◌||◌, ◌&&◌, ◌==◌}
 use Rattle.std.specs.List.{list_any, filter}
-use Rattle.std.proofs.lemmas.List.{append-nil}
+use Rattle.std.proofs.lemmas.List.{append-nil, take_all}
 use Rattle.std.proofs.lemmas.Bool.{ne_eqb}
 use Rattle.ty_wire.specs.Reading.{request_at}
 use Rattle.ty_world.specs.Frames.{is_whole, is_bad}
@@ -72,3 +72,6 @@ waiting_no ps i p old lt is idle so_far =
     so_far ∙ sym (append-nil (waiting_numbers (take i ps)))
     ∙ ap (λ (b : Bool). waiting_numbers (take i ps) ++ numbers (cond b (p ∷ []) [])) (sym idle)
     ∙ sym (waiting_push (take i ps) p) ∙ ap waiting_numbers (sym (take_next ps i p lt is))
+
+pub waiting_all : (ps : List Peer) (xs : List ℕ) (i : ℕ) → length ps ≤ i → xs ≡ waiting_numbers (take i ps) → xs ≡ waiting_numbers ps
+waiting_all ps xs i le is = is ∙ ap waiting_numbers (take_all i ps le)

@@ -9,4 +9,5 @@ pub mod Ready
 pub mod Repls
 pub mod Sending
 pub mod Serving
+pub mod Spans
 pub mod Turns

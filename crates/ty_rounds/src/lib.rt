@@ -8,6 +8,7 @@ mod outcome;
 mod peer;
 mod rounds;
 mod sends;
+mod span;
 mod turning;
 
 pub use committing::keep;

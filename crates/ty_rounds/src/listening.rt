@@ -9,11 +9,13 @@ ghost use Rattle.ty_rounds.specs.declared.peer.Peer.{Peer};
 ghost use Rattle.ty_rounds.specs.Events.{MayHear};
 ghost use Rattle.ty_rounds.specs.Holding.{AllHold, AreApart, Wired};
 ghost use Rattle.ty_rounds.specs.Peers.{numbers, waiting_numbers};
-ghost use Rattle.ty_rounds.specs.Ready.{Each, IsCalm, NoneOver, StayFew};
+ghost use Rattle.ty_rounds.specs.Ready.{NoneOver, StayFew};
+ghost use Rattle.ty_rounds.specs.Spans.{IsSpan};
 ghost use Rattle.ty_rounds.specs.Turns.{Hears, HearErr};
 
 use crate::outcome::TurnErr;
 use crate::peer::Peer;
+use crate::span::Span;
 use std::alloc::{AllocError, Global};
 use tc_io::{Ev, Wire};
 
@@ -35,13 +37,14 @@ impl Buffers {
     }
 }
 
-// Lists the connections that wait.
-fn list_waiting(peers: &[Peer], paused: &mut Vec<u32>) -> Result<(), AllocError>
-    requires { Each IsCalm peers.now }
+// Lists the connections that wait. None does outside the span.
+fn list_waiting(peers: &[Peer], span: Span, paused: &mut Vec<u32>) -> Result<(), AllocError>
+    requires { IsSpan span peers.now }
     ensures { OnOk result (paused.new.items ≡ waiting_numbers peers.now) }
 {
     paused.clear();
-    for p in peers {
+    for i in span.from..span.to {
+        let p = &peers[i];
         if p.is_paused() {
             paused.push(p.conn)?;
         }
@@ -49,8 +52,8 @@ fn list_waiting(peers: &[Peer], paused: &mut Vec<u32>) -> Result<(), AllocError>
     Ok(())
 }
 
-// Where the connection of that number stands.
-fn index_of(peers: &[Peer], conn: u32) -> Option<usize>
+// Where the connection of that number stands, looked for one by one.
+fn scanned_for(peers: &[Peer], conn: u32) -> Option<usize>
     ensures found { IfSome result (λ i. (p : Peer) × (slice_get peers.now i ≡ Some p) × (p.conn ≡ conn)) }
     ensures none { IfNone result (list_any (nat_eq conn) (numbers peers.now) ≡ false) }
 {
@@ -62,13 +65,30 @@ fn index_of(peers: &[Peer], conn: u32) -> Option<usize>
     None
 }
 
+// Where the connection of that number stands. It is looked for by halves first, since numbers ascend.
+fn index_of(peers: &[Peer], conn: u32) -> Option<usize>
+    ensures found { IfSome result (λ i. (p : Peer) × (slice_get peers.now i ≡ Some p) × (p.conn ≡ conn)) }
+    ensures none { IfNone result (list_any (nat_eq conn) (numbers peers.now) ≡ false) }
+{
+    let i = peers.partition_point(|p| p.conn < conn);
+    match peers.get(i) {
+        Some(p) if p.conn == conn => Some(i),
+        _ => scanned_for(peers, conn),
+    }
+}
+
 // Bytes came of a connection.
-fn take_read(peers: &mut Vec<Peer>, conn: u32, bytes: &[u8]) -> Result<(), AllocError>
+fn take_read(
+    peers: &mut Vec<Peer>,
+    span: &mut Span,
+    conn: u32,
+    bytes: &[u8],
+) -> Result<(), AllocError>
     requires { AreApart (numbers peers.old.items) }
     ensures heard { OnOk result ((ks : List Client) → AllHold peers.old.items ks → AllHold peers.new.items (map (at_conn conn (with_read bytes.now)) ks)) }
     ensures numbers { numbers peers.new.items ≡ numbers peers.old.items }
     ensures few { OnOk result (list_any (nat_eq conn) (waiting_numbers peers.old.items) ≡ false → NoneOver peers.old.items → length bytes.now ≤ 4096 → StayFew peers.old.items peers.new.items) }
-    ensures calm { OnOk result (Each IsCalm peers.old.items → Each IsCalm peers.new.items) }
+    ensures calm { OnOk result (IsSpan span.old peers.old.items → IsSpan span.new peers.new.items) }
 {
     let Some(i) = index_of(peers, conn) else {
         return Ok(());
@@ -77,16 +97,17 @@ fn take_read(peers: &mut Vec<Peer>, conn: u32, bytes: &[u8]) -> Result<(), Alloc
     let _front = p.session.look();
     p.session.push(bytes)?;
     p.stirs = true;
+    span.add(i);
     Ok(())
 }
 
 // No more bytes come of a connection.
-fn take_end(peers: &mut Vec<Peer>, conn: u32)
+fn take_end(peers: &mut Vec<Peer>, span: &mut Span, conn: u32)
     requires { AreApart (numbers peers.old.items) }
     ensures heard { (ks : List Client) → AllHold peers.old.items ks → AllHold peers.new.items (map (at_conn conn with_end) ks) }
     ensures numbers { numbers peers.new.items ≡ numbers peers.old.items }
     ensures few { StayFew peers.old.items peers.new.items }
-    ensures calm { Each IsCalm peers.old.items → Each IsCalm peers.new.items }
+    ensures calm { IsSpan span.old peers.old.items → IsSpan span.new peers.new.items }
 {
     let Some(i) = index_of(peers, conn) else {
         return;
@@ -94,35 +115,49 @@ fn take_end(peers: &mut Vec<Peer>, conn: u32)
     let p = &mut peers[i];
     p.ended = true;
     p.stirs = true;
+    span.add(i);
 }
 
 // A connection opened.
-fn take_opened(alloc: Global, peers: &mut Vec<Peer>, conn: u32) -> Result<(), AllocError>
+fn take_opened(
+    alloc: Global,
+    peers: &mut Vec<Peer>,
+    span: &mut Span,
+    conn: u32,
+) -> Result<(), AllocError>
     ensures heard { OnOk result ((ks : List Client) → AllHold peers.old.items ks → AllHold peers.new.items (ks ++ new_client conn (length ks) ∷ [])) }
     ensures numbers { OnOk result (numbers peers.new.items ≡ numbers peers.old.items ++ conn ∷ []) }
     ensures few { OnOk result (StayFew peers.old.items peers.new.items) }
-    ensures calm { OnOk result (Each IsCalm peers.old.items → Each IsCalm peers.new.items) }
+    ensures calm { OnOk result (IsSpan span.old peers.old.items → IsSpan span.new peers.new.items) }
 {
-    let p = Peer::new(alloc, conn, peers.len());
+    let place = peers.len();
+    let p = Peer::new(alloc, conn, place);
     peers.push(p)?;
+    span.add(place);
     Ok(())
 }
 
 // Takes an event in.
-fn hear(alloc: Global, peers: &mut Vec<Peer>, ev: Ev, buffer: &[u8; 4096]) -> Result<(), AllocError>
+fn hear(
+    alloc: Global,
+    peers: &mut Vec<Peer>,
+    span: &mut Span,
+    ev: Ev,
+    buffer: &[u8; 4096],
+) -> Result<(), AllocError>
     requires may { MayHear peers.old.items ev }
     requires apart { AreApart (numbers peers.old.items) }
     ensures heard { OnOk result ((ks : List Client) → AllHold peers.old.items ks → AllHold peers.new.items (heard ks ev (bytes_of ev buffer.now))) }
     ensures numbers { OnOk result (numbers peers.new.items ≡ open_after (numbers peers.old.items) ev) }
     ensures few { OnOk result (NoneOver peers.old.items → StayFew peers.old.items peers.new.items) }
-    ensures calm { OnOk result (Each IsCalm peers.old.items → Each IsCalm peers.new.items) }
+    ensures calm { OnOk result (IsSpan span.old peers.old.items → IsSpan span.new peers.new.items) }
     ensures bytes { IsBytes buffer.now }
 {
     match ev {
-        Ev::Opened(c) => take_opened(alloc, peers, c),
-        Ev::Read(c, n) => take_read(peers, c, &buffer[..n]),
+        Ev::Opened(c) => take_opened(alloc, peers, span, c),
+        Ev::Read(c, n) => take_read(peers, span, c, &buffer[..n]),
         Ev::Ended(c) => {
-            take_end(peers, c);
+            take_end(peers, span, c);
             Ok(())
         }
         Ev::Quiet => Ok(()),
@@ -134,23 +169,24 @@ fn hear(alloc: Global, peers: &mut Vec<Peer>, ev: Ev, buffer: &[u8; 4096]) -> Re
 pub fn listen<W: Wire>(
     alloc: Global,
     peers: &mut Vec<Peer>,
+    span: &mut Span,
     buffers: &mut Buffers,
     wire: &mut W,
 ) -> Result<Ev, TurnErr>
     requires opened { W.opened wire.old ≡ true }
     requires wired { Wired (W.conns wire.old) peers.old.items }
-    requires calm { Each IsCalm peers.old.items }
+    requires calm { IsSpan span.old peers.old.items }
     ensures opened { W.opened wire.new ≡ true }
-    ensures wired { OnOk result (Wired (W.conns wire.new) peers.new.items) }
+    ensures wired { OnOk result (Wired (W.conns wire.new) peers.new.items × IsSpan span.new peers.new.items) }
     ensures ok { IfOk result (λ ev. Hears W.Wire wire.old wire.new peers.old.items peers.new.items ev) }
     ensures err { IfErr result (λ e. HearErr W.Wire wire.old wire.new peers.old.items e) }
     ensures later { W.faults wire.old ≤ W.faults wire.new }
     ensures cause { IsErrOf result TurnErr.Wire → Rose (W.faults wire.old) (W.faults wire.new) }
 {
-    list_waiting(peers.as_slice(), &mut buffers.paused)?;
+    list_waiting(peers.as_slice(), *span, &mut buffers.paused)?;
     let busy = !buffers.paused.is_empty();
     let ev = wire.next(buffers.paused.as_slice(), busy, &mut buffers.bytes)?;
-    let Ok(()) = hear(alloc, peers, ev, &buffers.bytes) else {
+    let Ok(()) = hear(alloc, peers, span, ev, &buffers.bytes) else {
         return Err(TurnErr::Memory);
     };
     Ok(ev)

@@ -6,15 +6,17 @@ ghost use Rattle.tc_model.specs.Contents.{Contents};
 ghost use Rattle.ty_base.specs.Holding as holding;
 ghost use Rattle.ty_base.specs.Holding.{Held};
 ghost use Rattle.ty_world.specs.World.{Client, round_one};
+ghost use Rattle.ty_rounds.specs.Spans.{IsSpan};
 ghost use Rattle.ty_rounds.specs.Serving.{ServesReady, FillsAt, MayWrite, Rounds};
 ghost use Rattle.ty_rounds.specs.Holding.{Holds, AllHold};
-ghost use Rattle.ty_rounds.specs.Ready.{Each, IsCalm};
+ghost use Rattle.ty_rounds.specs.Ready.{IsCalm};
 ghost use Rattle.tc_base.specs.declared.request.Request.{Request};
 ghost use Rattle.ty_core.specs.Serving.{feed_of};
 ghost use Rattle.ty_core.specs.declared.serving.Feed.{Feed};
 ghost use Rattle.ty_rounds.specs.Repls.{OwesRepl};
 
 use crate::peer::Peer;
+use crate::span::Span;
 use tc_model::Walk;
 use tc_space::{RecErr, Space};
 use ty_base::Base;
@@ -66,22 +68,24 @@ fn serve_one<B: Base>(
     Ok(served.commits)
 }
 
-/// A round: each connection in turn. Answers whether there is anything to commit.
+/// A round: each connection in turn, of which those outside the span have no request. Answers whether there is anything to commit.
 pub fn round_of_all<B: Base>(
     peers: &mut Vec<Peer>,
+    span: Span,
     base: &mut B,
     space: &mut B::S,
     walk: &mut Walk,
 ) -> Result<bool, RecErr>
     requires ready { holding.IsReady B.S.Space B.holds base.old space.old }
-    requires calm { Each IsCalm peers.old.items }
+    requires calm { IsSpan span peers.old.items }
     ensures rounds { IfOk result (λ u. Rounds B.S.Space B.holds u base.old base.new space.old space.new walk.old walk.new peers.old.items peers.new.items) }
     ensures full { IsErrOf result RecErr.Full → (c : Contents) → Held B.S.Space B.holds base.old space.old c → (ks : List Client) → AllHold peers.old.items ks → FillsAt (B.fills space.new) c walk.old ks }
+    ensures span { OnOk result (IsSpan span peers.new.items) }
     ensures keeps { Keeps B.S.Space space.old space.new }
     ensures cause { IsErrOf result RecErr.Fault → Rose (B.S.faults space.old) (B.S.faults space.new) }
 {
     let mut commits = false;
-    for i in 0..peers.len() {
+    for i in span.from..span.to {
         let p = &mut peers[i];
         let one = match serve_one(p, base, space, walk) {
             Ok(one) => one,

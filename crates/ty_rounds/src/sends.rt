@@ -3,10 +3,12 @@ ghost use Rattle.std.specs.Prelude.{◌≡◌, [], ◌∷◌, true, nat_eq, OnOk
 ghost use Rattle.std.specs.List.{list_any};
 ghost use Rattle.tc_io.specs.Causes.{HasCause};
 ghost use Rattle.ty_rounds.specs.Holding.{Wired};
-ghost use Rattle.ty_rounds.specs.Ready.{Each, IsCalm, StayFew};
+ghost use Rattle.ty_rounds.specs.Ready.{IsCalm, StayFew};
+ghost use Rattle.ty_rounds.specs.Spans.{IsSpan};
 ghost use Rattle.ty_rounds.specs.Sending.{DeliversAll, DeliversOne, WireStays};
 
 use crate::peer::Peer;
+use crate::span::Span;
 use tc_base::Fault;
 use tc_io::{Sent, Wire};
 
@@ -53,19 +55,19 @@ fn deliver<W: Wire>(wire: &mut W, p: &mut Peer) -> Result<(), Fault>
     Ok(())
 }
 
-/// Sends to each connection in ascending number.
-pub fn deliver_all<W: Wire>(wire: &mut W, peers: &mut Vec<Peer>) -> Result<(), Fault>
+/// Sends to each connection in ascending number. Nothing waits outside the span.
+pub fn deliver_all<W: Wire>(wire: &mut W, peers: &mut Vec<Peer>, span: Span) -> Result<(), Fault>
     requires opened { W.opened wire.old ≡ true }
     requires wired { Wired (W.conns wire.old) peers.old.items }
-    requires calm { Each IsCalm peers.old.items }
+    requires calm { IsSpan span peers.old.items }
     ensures wire_stays { WireStays W.Wire wire.old wire.new }
     ensures wired { Wired (W.conns wire.new) peers.new.items }
     ensures told { DeliversAll W.Wire wire.old wire.new peers.old.items peers.new.items result }
     ensures few { OnOk result (StayFew peers.old.items peers.new.items) }
-    ensures calm { OnOk result (Each IsCalm peers.new.items) }
+    ensures calm { OnOk result (IsSpan span peers.new.items) }
     ensures cause { HasCause (W.faults wire.old) (W.faults wire.new) result }
 {
-    for i in 0..peers.len() {
+    for i in span.from..span.to {
         let p = &mut peers[i];
         deliver(wire, p)?;
     }

@@ -11,7 +11,8 @@ ghost use Rattle.ty_world.specs.World.{Client, Mark};
 ghost use Rattle.ty_rounds.specs.declared.outcome.TurnErr.TheVariants.{Wire as wire_err};
 ghost use Rattle.ty_rounds.specs.Holding.{AllHold, Wired};
 ghost use Rattle.ty_rounds.specs.Kept.{HoldsMark};
-ghost use Rattle.ty_rounds.specs.Ready.{Each, IsCalm, IsReady};
+ghost use Rattle.ty_rounds.specs.Ready.{IsReady};
+ghost use Rattle.ty_rounds.specs.Spans.{IsSpan, MayBeSpan};
 ghost use Rattle.ty_rounds.specs.Serving.{FillsAt, Rounds};
 ghost use Rattle.ty_rounds.specs.Turns.{Turns, FullTurn, Finishes};
 
@@ -22,6 +23,7 @@ use crate::outcome::{Outcome, TurnErr};
 use crate::peer::Peer;
 use crate::rounds::round_of_all;
 use crate::sends::deliver_all;
+use crate::span::{Span, span_of};
 use std::alloc::Global;
 use tc_io::{Clock, Ev, Wire};
 use tc_model::Walk;
@@ -35,7 +37,10 @@ pub struct Server<B> {
     pub base: B,
     pub walk: Walk,
     pub peers: Vec<Peer>,
+    // where those stand that stir; none where any may
+    span: Option<Span>,
     buffers: Buffers,
+    ghost spans: { MayBeSpan span peers.items },
 }
 
 impl<B: Base> Server<B> {
@@ -50,6 +55,7 @@ impl<B: Base> Server<B> {
             base,
             walk: Walk::new(),
             peers: Vec::new(alloc),
+            span: None,
             buffers: Buffers::new(alloc),
         }
     }
@@ -58,40 +64,45 @@ impl<B: Base> Server<B> {
 // A round, with a turn's errors.
 fn round<B: Base>(
     peers: &mut Vec<Peer>,
+    span: Span,
     base: &mut B,
     space: &mut B::S,
     walk: &mut Walk,
 ) -> Result<bool, TurnErr>
     requires ready { holding.IsReady B.S.Space B.holds base.old space.old }
-    requires calm { Each IsCalm peers.old.items }
+    requires calm { IsSpan span peers.old.items }
     ensures rounds { IfOk result (λ u. Rounds B.S.Space B.holds u base.old base.new space.old space.new walk.old walk.new peers.old.items peers.new.items) }
     ensures not_wire { IfErr result (λ e. e ≡ wire_err → ⊥) }
     ensures full { IsErrOf result TurnErr.Full → (c : Contents) → Held B.S.Space B.holds base.old space.old c → (ks : List Client) → AllHold peers.old.items ks → FillsAt (B.fills space.new) c walk.old ks }
+    ensures span { OnOk result (IsSpan span peers.new.items) }
     ensures keeps { Keeps B.S.Space space.old space.new }
     ensures cause { IsErrOf result TurnErr.Volume → Rose (B.S.faults space.old) (B.S.faults space.new) }
 {
-    Ok(round_of_all(peers, base, space, walk)?)
+    Ok(round_of_all(peers, span, base, space, walk)?)
 }
 
 // Sends what waits, and closes what is over.
-fn finish<W: Wire>(wire: &mut W, peers: &mut Vec<Peer>) -> Result<(), TurnErr>
+fn finish<W: Wire>(wire: &mut W, peers: &mut Vec<Peer>, span: &mut Span) -> Result<(), TurnErr>
     requires opened { W.opened wire.old ≡ true }
     requires wired { Wired (W.conns wire.old) peers.old.items }
-    requires calm { Each IsCalm peers.old.items }
+    requires calm { IsSpan span.old peers.old.items }
     ensures opened { W.opened wire.new ≡ true }
     ensures wired { OnOk result (Wired (W.conns wire.new) peers.new.items) }
+    ensures span { OnOk result (IsSpan span.new peers.new.items) }
     ensures told { Finishes W.Wire wire.old wire.new result peers.old.items peers.new.items }
     ensures only_wire { IfErr result (λ e. e ≡ wire_err) }
     ensures cause { HasCause (W.faults wire.old) (W.faults wire.new) result }
 {
-    match deliver_all(wire, peers) {
+    match deliver_all(wire, peers, *span) {
         Ok(()) => {}
         Err(_) => return Err(TurnErr::Wire),
     }
-    match close_over(wire, peers) {
-        Ok(()) => Ok(()),
-        Err(_) => Err(TurnErr::Wire),
+    match close_over(wire, peers, span) {
+        Ok(()) => {}
+        Err(_) => return Err(TurnErr::Wire),
     }
+    *span = span.narrowed(peers);
+    Ok(())
 }
 
 // Whether no event will come any more.
@@ -129,11 +140,24 @@ pub fn turn<B: Base, W: Wire, K: Clock>(
     ensures cause_space { IsErrOf result TurnErr.Volume → Rose (B.S.faults space.old) (B.S.faults space.new) }
 {
     let _ = clock;
-    let ev = match listen(server.alloc, &mut server.peers, &mut server.buffers, wire) {
+    let mut span = span_of(server.span.take(), &server.peers);
+    let ev = match listen(
+        server.alloc,
+        &mut server.peers,
+        &mut span,
+        &mut server.buffers,
+        wire,
+    ) {
         Ok(ev) => ev,
         Err(e) => return Err(e),
     };
-    let commits = match round(&mut server.peers, &mut server.base, space, &mut server.walk) {
+    let commits = match round(
+        &mut server.peers,
+        span,
+        &mut server.base,
+        space,
+        &mut server.walk,
+    ) {
         Ok(commits) => commits,
         Err(e) => return Err(e),
     };
@@ -141,10 +165,11 @@ pub fn turn<B: Base, W: Wire, K: Clock>(
         Ok(()) => {}
         Err(e) => return Err(e),
     }
-    match finish(wire, &mut server.peers) {
+    match finish(wire, &mut server.peers, &mut span) {
         Ok(()) => {}
         Err(_) => return Err(TurnErr::Wire),
     }
+    server.span = Some(span);
     if is_shut(ev) {
         return Ok(Outcome::Shut);
     }

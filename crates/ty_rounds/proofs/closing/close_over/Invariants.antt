@@ -1,8 +1,9 @@
-use Rattle.std.proofs.Common.{◌≡◌, ◌≤◌, ◌-◌, ℕ, true, length}
+use Rattle.std.proofs.Common.{◌≡◌, ◌≤◌, ◌-◌, ℕ, true}
 use Rattle.tc_io.specs.Lines.{has}
 use Rattle.ty_rounds.specs.Holding.{Wired}
-use Rattle.ty_rounds.specs.Ready.{Each, IsCalm, StayFew}
+use Rattle.ty_rounds.specs.Ready.{StayFew}
 use Rattle.ty_rounds.specs.Closings.{ClosesFront}
+use Rattle.ty_rounds.specs.Spans.{IsSpan}
 use Rattle.ty_rounds.proofs.ClosingLaws.{FrontClear}
 use Rattle.ty_rounds.proofs.closing.close_over.Given as goal
 
@@ -14,11 +15,11 @@ invariant-loop-i g l = let wire = g.W.Wire in record {
   wired : Wired (wire.conns l.wire) l.peers.items;
   told : ClosesFront g.W.Wire l.fn.wire l.wire l.fn.peers.items l.peers.items l.i;
   clear : FrontClear l.peers.items l.i;
-  calm : Each IsCalm l.peers.items;
+  calm : IsSpan l.span l.peers.items;
   few : StayFew l.fn.peers.items l.peers.items;
-  within : l.i ≤ length l.peers.items;
+  within : l.span.from ≤ l.i;
   faults : wire.faults l.fn.wire ≤ wire.faults l.wire;
 }
 
 abbrev pub decreases-loop-i : goal.decreases-loop-i
-decreases-loop-i g l = length l.peers.items - l.i
+decreases-loop-i g l = l.span.to - l.i

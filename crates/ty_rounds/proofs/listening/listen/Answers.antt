@@ -23,7 +23,7 @@ returns-in_default-clause-err g c =
     )
 
 pub returns-clause-wired : goal.returns-clause-wired
-returns-clause-wired g c = wired_after _ _ _ _ c.as_slice-2.result.now (not c.is_empty-busy.result) c.args.peers.now.items c.hear.new.peers.items c.in_ok-ev.ev c.in_ok-ev.ensures.may c.in_ok-ev.ensures.lines.conns c.in-Ok.ensures.numbers c.requires.wired
+returns-clause-wired g c = (wired_after _ _ _ _ c.as_slice-2.result.now (not c.is_empty-busy.result) c.args.peers.now.items c.hear.new.peers.items c.in_ok-ev.ev c.in_ok-ev.ensures.may c.in_ok-ev.ensures.lines.conns c.in-Ok.ensures.numbers c.requires.wired, c.in-Ok.ensures.calm c.requires.calm)
 
 pub returns-clause-ok : goal.returns-clause-ok
 returns-clause-ok g c =
@@ -36,4 +36,4 @@ returns-clause-ok g c =
       conns = c.in_ok-ev.ensures.lines.conns;
       given = c.in_ok-ev.ensures.lines.given;
       are_bytes = c.hear.ensures.bytes;
-    }) (λ ks a. c.in-Ok.ensures.heard _ (unstopped_hold _ ks a)) c.in-Ok.ensures.few c.in-Ok.ensures.calm
+    }) (λ ks a. c.in-Ok.ensures.heard _ (unstopped_hold _ ks a)) c.in-Ok.ensures.few (λ _. (c.in-Ok.ensures.calm c.requires.calm).calm)

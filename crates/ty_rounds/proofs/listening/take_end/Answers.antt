@@ -2,7 +2,8 @@ use Rattle.std.proofs.Common.{rules, refl, ◌<◌, length, true}
 use Rattle.ty_world.specs.World.{with_end}
 use Rattle.ty_rounds.proofs.Places.{others_hold, set_holds, none_there, found_there}
 use Rattle.ty_rounds.proofs.ServingLaws.{numbers_kept}
-use Rattle.ty_rounds.proofs.Few.{few_refl, few_set, calm_set}
+use Rattle.ty_rounds.proofs.Few.{few_refl, few_set, calm_stirs}
+use Rattle.ty_rounds.proofs.Spans.{span_set}
 use Rattle.ty_rounds.proofs.Hearing.{ends}
 use Rattle.ty_rounds.proofs.listening.take_end.Goals as goal
 
@@ -28,4 +29,4 @@ pub returns-clause-few : goal.returns-clause-few
 returns-clause-few c = few_set c.args.peers.now.items c.in-Some.i c.index_mut-p.result.now (record c.index_mut-p.result.now { ended = true; stirs = true }) (found_there c.deref.result.now c.args.peers.now.items c.in-Some.i c.args.conn c.deref.ensures.value c.in-Some.ensures.found).below (search rules) (λ h. h) (λ h. h)
 
 pub returns-clause-calm : goal.returns-clause-calm
-returns-clause-calm c = λ h. calm_set c.args.peers.now.items c.in-Some.i (record c.index_mut-p.result.now { ended = true; stirs = true }) refl h
+returns-clause-calm c = λ h. span_set c.args.span.now _ c.args.peers.now.items c.in-Some.i (record c.index_mut-p.result.now { ended = true; stirs = true }) (found_there c.deref.result.now c.args.peers.now.items c.in-Some.i c.args.conn c.deref.ensures.value c.in-Some.ensures.found).below c.add.ensures (calm_stirs _ refl) h

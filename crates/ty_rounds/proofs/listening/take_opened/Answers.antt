@@ -4,7 +4,8 @@ use Rattle.ty_rounds.specs.Holding.{AllHold}
 use Rattle.ty_rounds.specs.declared.peer.Peer.{Peer}
 use Rattle.ty_world.specs.World.{new_client}
 use Rattle.ty_core.specs.Queues.{Queue}
-use Rattle.ty_rounds.proofs.Few.{few_push, calm_push}
+use Rattle.ty_rounds.proofs.Few.{few_push, calm_stirs}
+use Rattle.ty_rounds.proofs.Spans.{span_push}
 use Rattle.ty_rounds.proofs.Hearing.{opens}
 use Rattle.ty_rounds.proofs.listening.take_opened.Goals as goal
 
@@ -16,4 +17,4 @@ pub returns-clause-few : goal.returns-clause-few
 returns-clause-few c = few_push _ _ c.new-p.result c.in_ok-push.ensures.items (ap (λ (z : Queue). length z.unread) c.new-p.ensures.session) (ap (λ (z : Queue). length z.waiting) c.new-p.ensures.session)
 
 pub returns-clause-calm : goal.returns-clause-calm
-returns-clause-calm c = λ h. calm_push _ _ c.new-p.result c.in_ok-push.ensures.items c.new-p.ensures.stirs h
+returns-clause-calm c = λ h. span_push c.args.span.now _ _ _ c.new-p.result c.in_ok-push.ensures.items (search rules) (calm_stirs _ c.new-p.ensures.stirs) h

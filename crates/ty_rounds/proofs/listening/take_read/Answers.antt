@@ -5,7 +5,8 @@ use Rattle.ty_rounds.proofs.Places.{others_hold, set_holds, none_there, found_th
 use Rattle.ty_rounds.proofs.ServingLaws.{numbers_kept}
 use Rattle.std.proofs.Common.{ap, true}
 use Rattle.ty_core.specs.Queues.{Queue}
-use Rattle.ty_rounds.proofs.Few.{few_refl, few_read, calm_set}
+use Rattle.ty_rounds.proofs.Few.{few_refl, few_read, calm_stirs}
+use Rattle.ty_rounds.proofs.Spans.{span_set}
 use Rattle.ty_rounds.proofs.Hearing.{reads}
 use Rattle.ty_rounds.proofs.listening.take_read.Goals as goal
 
@@ -33,4 +34,4 @@ returns-clause-few c = λ idle none long.
     few_read c.args.peers.now.items c.in-Some.i c.args.conn c.index_mut-p.result.now (record c.index_mut-p.result.now { session = c.push.new.self; stirs = true }) c.look-front.result c.args.bytes.now there.below (search rules) (there.at c.index_mut-p.result.now (search rules)) c.look-front.ensures.grammar c.look-front.ensures.reading idle none long (ap (λ (z : Queue). z.unread) c.in_ok-push.ensures.ok) (ap (λ (z : Queue). z.waiting) c.in_ok-push.ensures.ok)
 
 pub returns-clause-calm : goal.returns-clause-calm
-returns-clause-calm c = λ h. calm_set c.args.peers.now.items c.in-Some.i (record c.index_mut-p.result.now { session = c.push.new.self; stirs = true }) refl h
+returns-clause-calm c = λ h. span_set c.args.span.now _ c.args.peers.now.items c.in-Some.i (record c.index_mut-p.result.now { session = c.push.new.self; stirs = true }) (found_there c.deref.result.now c.args.peers.now.items c.in-Some.i c.args.conn c.deref.ensures.value c.in-Some.ensures.found).below c.add.ensures (calm_stirs _ refl) h

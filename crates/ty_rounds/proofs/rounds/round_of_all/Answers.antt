@@ -5,6 +5,7 @@ use Rattle.ty_base.specs.Holding.{leaves_nothing}
 use Rattle.ty_rounds.specs.Ready.{FewUnread, FewWaiting, IsCalm}
 use Rattle.ty_rounds.proofs.Few.{each_at, each_set}
 use Rattle.ty_rounds.proofs.ServingLaws.{begin, fills_at, more_is, finish, numbers_kept, leaves_then}
+use Rattle.ty_rounds.proofs.Spans.{round_steps, skip_back, skip_front, span_inside}
 use Rattle.ty_rounds.proofs.rounds.round_of_all.Goals as goal
 
 pub loop-i-init : goal.loop-i-init
@@ -13,7 +14,7 @@ loop-i-init g c = record {
   unread = λ h. h;
   waiting = λ t h. h;
   calm = c.requires.calm;
-  round = λ d h ks a. begin _ d _ _ ks h a;
+  round = λ d h ks a. skip_front _ c.args.span c.args.peers.now.items c.requires.calm (round_steps false d _ _ _ _ c.args.peers.now.items ks) (begin _ d _ _ ks h a);
   ready = c.requires.ready;
   leaves = leaves_nothing g.B.S.Space (false ≡ false) c.args.space.now c.requires.ready.sound;
   keeps = keeps_refl g.B.S.Space c.args.space.now;
@@ -28,7 +29,7 @@ loop-i-preserved g c = let s = g.B.S.Space in
       numbers = numbers_kept _ _ c.index_mut-p.result.now _ (search rules) (search rules) one.conn ∙ i.numbers;
       unread = λ h. let few = i.unread h in each_set FewUnread _ _ _ (one.unread (each_at FewUnread _ c.loop-i.i c.index_mut-p.result.now (search rules) (search rules) few)) few;
       waiting = λ t h. let few = i.waiting t h in each_set FewWaiting _ _ _ (one.waiting t (each_at FewWaiting _ c.loop-i.i c.index_mut-p.result.now (search rules) (search rules) few)) few;
-      calm = each_set IsCalm _ _ _ one.calm i.calm;
+      calm = span_inside c.args.span _ c.loop-i.i _ (search rules) (search rules) (search rules) one.calm i.calm;
       round = λ d h ks a. more_is _ c.loop-i.commits c.in-Ok.one d _ _ _ _ _ _ _ ks _ c.index_mut-p.result.now c.serve_one.new.p is (i.round d h ks a) (search rules) (search rules) one.each;
       ready = one.ready;
       leaves = leaves_then s _ c.loop-i.commits c.in-Ok.one _ c.loop-i.space _ is i.leaves one.leaves;
@@ -40,8 +41,8 @@ returns-clause-rounds g c = let i = c.loop-i.invariant in record {
   numbers = i.numbers;
   unread = i.unread;
   waiting = i.waiting;
-  calm = i.calm;
-  each = λ d h ks a. finish _ d _ _ _ _ _ ks _ (i.round d h ks a) (search rules);
+  calm = i.calm.calm;
+  each = λ d h ks a. let n = skip_back _ c.args.span c.loop-i.peers.items c.loop-i.i i.calm (round_steps c.loop-i.commits d _ _ _ _ c.loop-i.peers.items ks) (search rules) (i.round d h ks a) in finish _ d _ _ _ _ _ ks n.0 n.2 n.1;
   ready = i.ready;
   leaves = i.leaves;
 }
@@ -51,4 +52,4 @@ returns-in-Err-clause-full g c = λ is d h ks a.
     fills_at (g.B.Base.fills c.serve_one.new.space) _ d _ _ c.loop-i.walk _ _ ks _ c.index_mut-p.result.now (c.loop-i.invariant.round d h ks a) (search rules) (search rules) (c.in-Err.ensures.full (search rules))
 
 pub serve_one-requires-clause-calm : goal.serve_one-requires-clause-calm
-serve_one-requires-clause-calm g c = each_at IsCalm _ c.loop-i.i c.index_mut-p.result.now (search rules) (search rules) c.loop-i.invariant.calm
+serve_one-requires-clause-calm g c = each_at IsCalm _ c.loop-i.i c.index_mut-p.result.now (search rules) (search rules) c.loop-i.invariant.calm.calm

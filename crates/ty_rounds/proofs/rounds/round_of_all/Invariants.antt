@@ -5,8 +5,9 @@ use Rattle.ty_base.specs.Holding.{Held, IsReady, Leaves}
 use Rattle.ty_world.specs.World.{Client}
 use Rattle.ty_rounds.specs.Holding.{AllHold}
 use Rattle.ty_rounds.specs.Peers.{numbers}
-use Rattle.ty_rounds.specs.Ready.{Each, FewUnread, FewWaiting, IsCalm}
+use Rattle.ty_rounds.specs.Ready.{Each, FewUnread, FewWaiting}
 use Rattle.ty_rounds.specs.Serving.{Halfway}
+use Rattle.ty_rounds.specs.Spans.{IsSpan}
 use Rattle.ty_rounds.proofs.rounds.round_of_all.Given as goal
 
 abbrev pub invariant-loop-i : goal.invariant-loop-i
@@ -14,7 +15,7 @@ invariant-loop-i g l = let s = g.B.S.Space in let holds = g.B.Base.holds in reco
   numbers : numbers l.peers.items ≡ numbers l.fn.peers.items;
   unread : Each FewUnread l.fn.peers.items → Each FewUnread l.peers.items;
   waiting : s.tells → Each FewWaiting l.fn.peers.items → Each FewWaiting l.peers.items;
-  calm : Each IsCalm l.peers.items;
+  calm : IsSpan l.fn.span l.peers.items;
   round : (c : Contents) → Held s holds l.fn.base l.fn.space c → (ks : List Client) → AllHold l.fn.peers.items ks → Halfway l.commits c (Held s holds l.base l.space) l.fn.walk l.walk l.fn.peers.items l.peers.items l.i ks;
   ready : IsReady s holds l.base l.space;
   leaves : Leaves s (l.commits ≡ false) l.fn.space l.space;

@@ -1,7 +1,8 @@
 use Rattle.std.proofs.Common.{◌≡◌, ◌≤◌, true}
 use Rattle.ty_rounds.specs.Holding.{Wired}
-use Rattle.ty_rounds.specs.Ready.{Each, IsCalm, StayFew}
+use Rattle.ty_rounds.specs.Ready.{StayFew}
 use Rattle.ty_rounds.specs.Sending.{DeliversFront}
+use Rattle.ty_rounds.specs.Spans.{IsSpan}
 use Rattle.ty_rounds.proofs.sends.deliver_all.Given as goal
 
 abbrev pub invariant-loop-i : goal.invariant-loop-i
@@ -11,7 +12,7 @@ invariant-loop-i g l = let wire = g.W.Wire in record {
   given : wire.given l.wire ≡ wire.given l.fn.wire;
   wired : Wired (wire.conns l.wire) l.peers.items;
   told : DeliversFront g.W.Wire l.fn.wire l.wire l.fn.peers.items l.peers.items l.i;
-  calm : Each IsCalm l.peers.items;
+  calm : IsSpan l.fn.span l.peers.items;
   few : StayFew l.fn.peers.items l.peers.items;
   faults : wire.faults l.fn.wire ≤ wire.faults l.wire;
 }

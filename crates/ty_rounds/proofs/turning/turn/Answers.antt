@@ -90,6 +90,3 @@ returns-in-Err-round-clause-full g c = λ is. full_round g.B.S.Space g.W.Wire g.
 
 pub returns-in-Err-keep-clause-full : goal.returns-in-Err-keep-clause-full
 returns-in-Err-keep-clause-full g c = λ is. full_keep g.B.S.Space g.W.Wire g.B.Base.holds g.B.Base.reopens (g.B.Base.fills c.keep.new.space) _ c.round.new.base c.args.space.now c.round.new.space _ _ _ c.round.new.walk _ c.listen.new.peers.items c.round.new.peers.items c.in-Ok.ev c.in-Ok-round.commits c.in-Ok.ensures.ok c.in-Ok-round.ensures.rounds (c.in-Err-keep.ensures.full (search rules))
-
-pub round-requires-clause-calm : goal.round-requires-clause-calm
-round-requires-clause-calm g c = c.in-Ok.ensures.ok.calm c.requires.ready.calm
