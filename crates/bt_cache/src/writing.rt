@@ -8,7 +8,7 @@ ghost use Rattle.tc_space.specs.Changes.{out_of, put_in};
 ghost use Rattle.tc_space.specs.Frames.{In, Refuses, Writes};
 ghost use Rattle.tc_space.specs.Stores.{FullBy, IsReady, Only};
 ghost use Rattle.bt_page.specs.Keys.{key_of};
-ghost use Rattle.bt_page.specs.Pages.{HasValue, leaf_bytes, node_bytes};
+ghost use Rattle.bt_page.specs.Pages.{HasValue, LeafFits, NodeFits, leaf_bytes, node_bytes};
 ghost use Rattle.bt_rows.specs.Pages.{IsPage};
 ghost use Rattle.bt_cache.specs.Effects.{Stays, rec_of};
 ghost use Rattle.bt_cache.specs.Held.{AreSame, Beside, ids};
@@ -80,6 +80,7 @@ impl<R: Records> Cache<R> {
         requires id { id < 2 ^ 48 }
         requires values { AllByRecursion HasValue leaf.items }
         ensures put { OnOk result (Writes R.S.Space (Only (R.file_of store.old)) (Beside R.S.Space R.file_of R.holds) (put_in Over (key_of id) (leaf_bytes leaf)) (self.old.pages, store.old) (self.new.pages, store.new) space.old space.new) }
+        ensures fits { OnOk result (LeafFits leaf) }
         ensures list { OnOk result (ids self.new.pages ≡ used self.old.pages.cap id (ids self.old.pages)) }
         ensures refused { OnErr result (Refuses R.S.Space (Beside R.S.Space R.file_of R.holds) (self.old.pages, store.old) (self.new.pages, store.new) space.old space.new) }
         ensures full { IsErrOf result RecErr.Full → FullBy (In R.S.Space R.file_of R.holds) R.fills (put_in Over (key_of id) (leaf_bytes leaf)) store.old space.old space.new }
@@ -109,6 +110,7 @@ impl<R: Records> Cache<R> {
         requires ready { IsReady R.S.Space (Beside R.S.Space R.file_of R.holds) (self.old.pages, store.old) space.old }
         requires id { 2 ^ 48 ≤ id }
         ensures put { OnOk result (Writes R.S.Space (Only (R.file_of store.old)) (Beside R.S.Space R.file_of R.holds) (put_in Over (key_of id) (node_bytes node)) (self.old.pages, store.old) (self.new.pages, store.new) space.old space.new) }
+        ensures fits { OnOk result (NodeFits node) }
         ensures list { OnOk result (ids self.new.pages ≡ used self.old.pages.cap id (ids self.old.pages)) }
         ensures refused { OnErr result (Refuses R.S.Space (Beside R.S.Space R.file_of R.holds) (self.old.pages, store.old) (self.new.pages, store.new) space.old space.new) }
         ensures full { IsErrOf result RecErr.Full → FullBy (In R.S.Space R.file_of R.holds) R.fills (put_in Over (key_of id) (node_bytes node)) store.old space.old space.new }

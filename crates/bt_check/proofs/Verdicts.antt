@@ -18,7 +18,7 @@ use Rattle.bt_rows.specs.Standing.{PagesStand, TreeStands, leaves_of}
 use Rattle.bt_rows.proofs.Held.{the_pages, are_held}
 use Rattle.bt_check.specs.Collected.{has, IsCollected}
 use Rattle.bt_check.specs.Leaves.{IsSeen, IsClosed}
-use Rattle.bt_check.specs.Walks.{IsWalked}
+use Rattle.bt_check.specs.Walks.{IsHigh, IsWalked}
 use Rattle.bt_check.specs.Verdicts.{Breaks, IsFirstBroken, LeavesHold, LeavesBreak, Gathered, IsBottom, broken_at, rule_b}
 use Rattle.bt_check.proofs.Seen.{rule_to, rule_from, less_all, less_self}
 
@@ -49,14 +49,14 @@ module _ (h : TreeHead) (index : Bool) (m : Map) (ids : BTreeSet ℕ) (within : 
   pub third_broken : (before : Before) → Whenever m ids (λ pages. B3 pages h.root → ⊥) → IsFirstBroken before h index m (rule_b 3)
   third_broken before w = inr (b, inr (c.0, pages, are, inl (refl, w h pages are whole.all)))
 
-  pub fourth_broken : (before : Before) → (bottom : List Slot) (uneven : Bool) → Whenever m ids (λ pages. IsWalked pages h.root bottom uneven) → uneven ≡ true → IsFirstBroken before h index m (rule_b 4)
-  fourth_broken before bottom uneven w e = let r = w h pages are whole.all in inr (b, inr (c.0, pages, are, inr (r.depth, r.reach, inl (refl, r.odd e))))
+  pub fourth_broken : (before : Before) → (bottom : List Slot) (uneven : Bool) (height : ℕ) → Whenever m ids (λ pages. IsWalked pages h.root bottom uneven height) → uneven ≡ true → IsFirstBroken before h index m (rule_b 4)
+  fourth_broken before bottom uneven height w e = let r = w h pages are whole.all in inr (b, inr (c.0, pages, are, inr (height, r.reach, inl (refl, r.odd e))))
 
-  pub fifth_broken : (before : Before) → (bottom : List Slot) (uneven : Bool) → Whenever m ids (λ pages. IsWalked pages h.root bottom uneven) → uneven ≡ false → within ≡ false → IsFirstBroken before h index m (rule_b 5)
-  fifth_broken before bottom uneven w e f = let r = w h pages are whole.all in inr (b, inr (c.0, pages, are, inr (r.depth, r.reach, inr (r.even e, inl (refl, whole.outside f)))))
+  pub fifth_broken : (before : Before) → (bottom : List Slot) (uneven : Bool) (height : ℕ) → Whenever m ids (λ pages. IsWalked pages h.root bottom uneven height) → uneven ≡ false → within ≡ false → IsFirstBroken before h index m (rule_b 5)
+  fifth_broken before bottom uneven height w e f = let r = w h pages are whole.all in inr (b, inr (c.0, pages, are, inr (height, r.reach, inr (r.even e, inl (refl, whole.outside f)))))
 
-  pub pages_stand : (bottom : List Slot) (uneven : Bool) → Whenever m ids (λ pages. IsWalked pages h.root bottom uneven) → uneven ≡ false → within ≡ true → (s : PagesStand h index m) × IsBottom h index m s bottom
-  pages_stand bottom uneven w e f = let r = w h pages are whole.all in (record { head = b; keys = c.0; pages = pages; held = are; depth = r.depth; reach = r.reach; even = r.even e; limits = whole.inside f }, record { placed = r.placed; leaves = r.leaves e })
+  pub pages_stand : (bottom : List Slot) (uneven : Bool) (height : ℕ) → Whenever m ids (λ pages. IsWalked pages h.root bottom uneven height) → uneven ≡ false → within ≡ true → (s : PagesStand h index m) × IsBottom h index m s bottom height
+  pages_stand bottom uneven height w e f = let r = w h pages are whole.all in (record { head = b; keys = c.0; pages = pages; held = are; depth = height; reach = r.reach; even = r.even e; limits = whole.inside f }, record { high = r.high; placed = r.placed; leaves = r.leaves e })
 
 -- ---- leaves
 
@@ -82,12 +82,12 @@ module _ (before : Before) (h : TreeHead) (ls : List LeafAt) (last : Option Leaf
 -- ---- all
 
 -- what was seen of the bottom row was seen of all leaves
-pub seen_as : (before : Before) (h : TreeHead) (index : Bool) (m : Map) (s : PagesStand h index m) (bottom : List Slot) (last : Option LeafAt) (ordered linked : Bool) (left : Option ℕ) → IsBottom h index m s bottom → IsSeen before h (leaves_among s.pages bottom) last ordered linked left
+pub seen_as : (before : Before) (h : TreeHead) (index : Bool) (m : Map) (s : PagesStand h index m) (bottom : List Slot) (height : ℕ) (last : Option LeafAt) (ordered linked : Bool) (left : Option ℕ) → IsBottom h index m s bottom height → IsSeen before h (leaves_among s.pages bottom) last ordered linked left
     → IsSeen before h (leaves_of s) last ordered linked left
-seen_as before h index m s bottom last ordered linked left b v = subst (λ (ls : List LeafAt). IsSeen before h ls last ordered linked left) (sym b.leaves) v
+seen_as before h index m s bottom height last ordered linked left b v = subst (λ (ls : List LeafAt). IsSeen before h ls last ordered linked left) (sym b.leaves) v
 
 pub leaves_broken : (before : Before) (h : TreeHead) (index : Bool) (m : Map) (rule : Rule) (s : PagesStand h index m) → LeavesBreak before h (leaves_of s) rule → IsFirstBroken before h index m rule
 leaves_broken before h index m rule s b = inr (s.head, inr (s.keys, s.pages, s.held, inr (s.depth, s.reach, inr (s.even, inr (s.limits, b)))))
 
-pub tree_stands : (before : Before) (h : TreeHead) (index : Bool) (m : Map) (s : PagesStand h index m) → LeavesHold before h (leaves_of s) → TreeStands before h index m
-tree_stands before h index m s l = record { stand = s; order = l.order; links = l.links; count = l.count }
+pub tree_stands : (before : Before) (h : TreeHead) (index : Bool) (m : Map) (s : PagesStand h index m) (height : ℕ) → LeavesHold before h (leaves_of s) → IsHigh s.pages h.root height → (t : TreeStands before h index m) × IsHigh t.stand.pages h.root height
+tree_stands before h index m s height l high = (record { stand = s; order = l.order; links = l.links; count = l.count }, high)

@@ -181,8 +181,7 @@ bottom_leaves pages (suc j) slots e h even lt =
     ap (λ t. t ++ leaves_in pages (suc j) (next_row pages slots)) none ∙ bottom_leaves pages j (next_row pages slots) e below (λ i k a b. let same = even (suc i) (suc k) a b in omega (arith, same)) lt
 
 -- so many rows were walked
-pub record Walking (pages : PageMap) (root : ℕ) (slots : List Slot) (ids : BTreeSet ℕ) (bottom : List Slot) (seen uneven : Bool) : Type 0 where
-  pub k : ℕ
+pub record Walking (pages : PageMap) (root : ℕ) (slots : List Slot) (ids : BTreeSet ℕ) (bottom : List Slot) (seen uneven : Bool) (k : ℕ) : Type 0 where
   pub at : slots ≡ row pages k (root_slot root ∷ [])
   pub count : (id : ℕ) → has ids id + reached pages id k (root_slot root ∷ []) ≡ held pages id
   pub unseen : seen ≡ false → (i : ℕ) → i < k → HasLeaf pages (row pages i (root_slot root ∷ [])) → ⊥
@@ -191,9 +190,8 @@ pub record Walking (pages : PageMap) (root : ℕ) (slots : List Slot) (ids : BTr
   pub odd : uneven ≡ true → (i : ℕ) × (j : ℕ) × (i < j) × HasLeaf pages (row pages i (root_slot root ∷ [])) × HasLeaf pages (row pages j (root_slot root ∷ []))
   pub last : (j : ℕ) → k ≡ suc j → (bottom ≡ row pages j (root_slot root ∷ [])) × (0 < length bottom)
 
-pub walking_none : (pages : PageMap) (root : ℕ) (ids : BTreeSet ℕ) (slots bottom : List Slot) → slots ≡ root_slot root ∷ [] → ((id : ℕ) → has ids id ≡ held pages id) → Walking pages root slots ids bottom false false
+pub walking_none : (pages : PageMap) (root : ℕ) (ids : BTreeSet ℕ) (slots bottom : List Slot) → slots ≡ root_slot root ∷ [] → ((id : ℕ) → has ids id ≡ held pages id) → Walking pages root slots ids bottom false false 0
 walking_none pages root ids slots bottom e all = record {
-  k = 0;
   at = e;
   count = λ id. omega (arith, all id);
   unseen = λ e i lt. absurd (omega (arith, lt));
@@ -203,8 +201,8 @@ walking_none pages root ids slots bottom e all = record {
   last = λ j e. absurd (omega (arith, e));
 }
 
-pub walking_some : (pages : PageMap) (root : ℕ) (slots bottom : List Slot) (ids : BTreeSet ℕ) (seen uneven : Bool) → Walking pages root slots ids bottom seen uneven → AreSome pages ids
-walking_some pages root slots bottom ids seen uneven w id = omega (arith, w.count id)
+pub walking_some : (pages : PageMap) (root : ℕ) (slots bottom : List Slot) (ids : BTreeSet ℕ) (seen uneven : Bool) (k : ℕ) → Walking pages root slots ids bottom seen uneven k → AreSome pages ids
+walking_some pages root slots bottom ids seen uneven k w id = omega (arith, w.count id)
 
 and_true : (a b : Bool) → (a && b) ≡ true → (a ≡ true) × (b ≡ true)
 and_true true b e = (refl, e)
@@ -214,22 +212,23 @@ and_not : (a b : Bool) → (a && b) ≡ false → (a ≡ false) ⊎ (b ≡ false
 and_not true b e = inr e
 and_not false b e = inl refl
 
-pub walking_more : (pages : PageMap) (root : ℕ) (slots bottom next : List Slot) (ids new : BTreeSet ℕ) (seen uneven leaf : Bool) → 0 < length slots → Walking pages root slots ids bottom seen uneven → IsPassed pages slots ids new next leaf
-    → Walking pages root next new slots (seen || leaf) (uneven || (seen && leaf))
-walking_more pages root slots bottom next ids new seen uneven leaf some w p =
+pub walking_more : (pages : PageMap) (root : ℕ) (slots bottom next : List Slot) (ids new : BTreeSet ℕ) (seen uneven leaf : Bool) (k : ℕ) → 0 < length slots → Walking pages root slots ids bottom seen uneven k → IsPassed pages slots ids new next leaf
+    → Walking pages root next new slots (seen || leaf) (uneven || (seen && leaf)) (k + 1)
+walking_more pages root slots bottom next ids new seen uneven leaf k some w p =
     let root_row : List Slot = root_slot root ∷ [] in
-    let none_here : leaf ≡ false → HasLeaf pages (row pages w.k root_row) → ⊥ = λ e has. omega (arith, has, ap (λ (t : List LeafAt). length t) (ap (leaves_among pages) (sym w.at) ∙ p.none e)) in
-    let some_here : leaf ≡ true → HasLeaf pages (row pages w.k root_row) = λ e. subst (λ (t : List Slot). HasLeaf pages t) w.at (p.some e) in
-    record {
-      k = suc w.k;
-      at = p.next_is ∙ ap (next_row pages) w.at ∙ sym (row_next pages w.k root_row);
-      count = λ id. omega (arith, p.taken id, w.count id, reached_next pages id w.k root_row, ap (times id) w.at);
-      unseen = λ e i lt has. let both = or_false seen leaf e in ⊎_elim (λ (is : i ≡ w.k). none_here both.1 (subst (λ (j : ℕ). HasLeaf pages (row pages j root_row)) is has)) (λ (ne : i ≡ w.k → ⊥). w.unseen both.0 i (omega (arith, lt, ne)) has) (cases_eq i w.k);
-      seen_one = λ e. ⊎_elim (λ s. let o = w.seen_one s in (o.0, omega (arith, o.1), o.2)) (λ l. (w.k, omega arith, some_here l)) (or_true seen leaf e);
-      even = λ e i j lt lt' a b. let both = or_false uneven (seen && leaf) e in evens pages root_row w.k seen leaf (and_not seen leaf both.1) none_here w.unseen (w.even both.0) i j lt lt' a b;
-      odd = λ e. ⊎_elim w.odd (λ both. let two = and_true seen leaf both in let o = w.seen_one two.0 in (o.0, w.k, o.1, o.2, some_here two.1)) (or_true uneven (seen && leaf) e);
-      last = λ j e. let is : w.k ≡ j = omega (arith, e) in (w.at ∙ ap (λ (i : ℕ). row pages i root_row) is, some);
-    }
+    let none_here : leaf ≡ false → HasLeaf pages (row pages k root_row) → ⊥ = λ e has. omega (arith, has, ap (λ (t : List LeafAt). length t) (ap (leaves_among pages) (sym w.at) ∙ p.none e)) in
+    let some_here : leaf ≡ true → HasLeaf pages (row pages k root_row) = λ e. subst (λ (t : List Slot). HasLeaf pages t) w.at (p.some e) in
+    let more : suc k ≡ k + 1 = omega arith in
+    subst (λ (n : ℕ). Walking pages root next new slots (seen || leaf) (uneven || (seen && leaf)) n) more
+    (record {
+      at = p.next_is ∙ ap (next_row pages) w.at ∙ sym (row_next pages k root_row);
+      count = λ id. omega (arith, p.taken id, w.count id, reached_next pages id k root_row, ap (times id) w.at);
+      unseen = λ e i lt has. let both = or_false seen leaf e in ⊎_elim (λ (is : i ≡ k). none_here both.1 (subst (λ (j : ℕ). HasLeaf pages (row pages j root_row)) is has)) (λ (ne : i ≡ k → ⊥). w.unseen both.0 i (omega (arith, lt, ne)) has) (cases_eq i k);
+      seen_one = λ e. ⊎_elim (λ s. let o = w.seen_one s in (o.0, omega (arith, o.1), o.2)) (λ l. (k, omega arith, some_here l)) (or_true seen leaf e);
+      even = λ e i j lt lt' a b. let both = or_false uneven (seen && leaf) e in evens pages root_row k seen leaf (and_not seen leaf both.1) none_here w.unseen (w.even both.0) i j lt lt' a b;
+      odd = λ e. ⊎_elim w.odd (λ both. let two = and_true seen leaf both in let o = w.seen_one two.0 in (o.0, k, o.1, o.2, some_here two.1)) (or_true uneven (seen && leaf) e);
+      last = λ j e. let is : k ≡ j = omega (arith, e) in (w.at ∙ ap (λ (i : ℕ). row pages i root_row) is, some);
+    })
   where
     evens : (pages : PageMap) (slots : List Slot) (k : ℕ) (seen leaf : Bool) → (seen ≡ false) ⊎ (leaf ≡ false) → (leaf ≡ false → HasLeaf pages (row pages k slots) → ⊥) → (seen ≡ false → (i : ℕ) → i < k → HasLeaf pages (row pages i slots) → ⊥)
         → ((i j : ℕ) → i < k → j < k → HasLeaf pages (row pages i slots) → HasLeaf pages (row pages j slots) → i ≡ j) → (i j : ℕ) → i < suc k → j < suc k → HasLeaf pages (row pages i slots) → HasLeaf pages (row pages j slots) → i ≡ j
@@ -242,39 +241,39 @@ walking_more pages root slots bottom next ids new seen uneven leaf some w p =
         (λ (nj : j ≡ k → ⊥). even i j (omega (arith, lt, ni)) (omega (arith, lt', nj)) a b) (cases_eq j k)) (cases_eq i k)
 
 -- a row that can't be taken out isn't one of a tree
-pub walking_stuck : (pages : PageMap) (root : ℕ) (slots bottom : List Slot) (ids : BTreeSet ℕ) (seen uneven : Bool) → Walking pages root slots ids bottom seen uneven → IsStuck ids slots → B3 pages root → ⊥
-walking_stuck pages root slots bottom ids seen uneven w stuck b =
-    stuck (λ id. omega (arith, reached_prefix pages id w.k b.0 (root_slot root ∷ []) b.1.ends, b.1.once id, w.count id, ap (times id) w.at))
+pub walking_stuck : (pages : PageMap) (root : ℕ) (slots bottom : List Slot) (ids : BTreeSet ℕ) (seen uneven : Bool) (k : ℕ) → Walking pages root slots ids bottom seen uneven k → IsStuck ids slots → B3 pages root → ⊥
+walking_stuck pages root slots bottom ids seen uneven k w stuck b =
+    stuck (λ id. omega (arith, reached_prefix pages id k b.0 (root_slot root ∷ []) b.1.ends, b.1.once id, w.count id, ap (times id) w.at))
 
-pub walking_left : (pages : PageMap) (root : ℕ) (slots bottom : List Slot) (ids : BTreeSet ℕ) (seen uneven : Bool) (id : ℕ) → Walking pages root slots ids bottom seen uneven → slots ≡ [] → has ids id ≡ 1 → B3 pages root → ⊥
-walking_left pages root slots bottom ids seen uneven id w none one b =
-    omega (arith, reached_prefix pages id b.0 w.k (root_slot root ∷ []) (sym w.at ∙ none), b.1.once id, w.count id, one)
+pub walking_left : (pages : PageMap) (root : ℕ) (slots bottom : List Slot) (ids : BTreeSet ℕ) (seen uneven : Bool) (k id : ℕ) → Walking pages root slots ids bottom seen uneven k → slots ≡ [] → has ids id ≡ 1 → B3 pages root → ⊥
+walking_left pages root slots bottom ids seen uneven k id w none one b =
+    omega (arith, reached_prefix pages id b.0 k (root_slot root ∷ []) (sym w.at ∙ none), b.1.once id, w.count id, one)
 
-pub walking_end : (pages : PageMap) (root : ℕ) (slots bottom : List Slot) (ids : BTreeSet ℕ) (seen uneven : Bool) → Walking pages root slots ids bottom seen uneven → slots ≡ [] → ((id : ℕ) → has ids id ≡ 0) → IsWalked pages root bottom uneven
-walking_end pages root slots bottom ids seen uneven w none all = go w.k refl
+pub walking_end : (pages : PageMap) (root : ℕ) (slots bottom : List Slot) (ids : BTreeSet ℕ) (seen uneven : Bool) (k : ℕ) → Walking pages root slots ids bottom seen uneven k → slots ≡ [] → ((id : ℕ) → has ids id ≡ 0) → IsWalked pages root bottom uneven k
+walking_end pages root slots bottom ids seen uneven k w none all = go k refl
   where
     root_row : List Slot
     root_row = root_slot root ∷ []
 
-    ends : row pages w.k (root_slot root ∷ []) ≡ []
+    ends : row pages k (root_slot root ∷ []) ≡ []
     ends = sym w.at ∙ none
 
-    within : (i : ℕ) → HasLeaf pages (row pages i (root_slot root ∷ [])) → i < w.k
-    within i has = ⊎_elim (λ (lt : i < w.k). lt) (λ (le : w.k ≤ i). absurd (omega (arith, has, ap (λ (t : List Slot). length (leaves_among pages t)) (row_past pages w.k i (root_slot root ∷ []) ends le)))) (cases_lt i w.k)
+    within : (i : ℕ) → HasLeaf pages (row pages i (root_slot root ∷ [])) → i < k
+    within i has = ⊎_elim (λ (lt : i < k). lt) (λ (le : k ≤ i). absurd (omega (arith, has, ap (λ (t : List Slot). length (leaves_among pages t)) (row_past pages k i (root_slot root ∷ []) ends le)))) (cases_lt i k)
 
-    reach : IsReached pages root w.k
+    reach : IsReached pages root k
     reach = record { ends = ends; once = λ id. omega (arith, all id, w.count id) }
 
     is_even : uneven ≡ false → B4 pages root
     is_even e i j a b = w.even e i j (within i a) (within j b) a b
 
-    go : (k : ℕ) → w.k ≡ k → IsWalked pages root bottom uneven
+    go : (n : ℕ) → k ≡ n → IsWalked pages root bottom uneven k
     go zero e = absurd (omega (arith, ap (λ (t : List Slot). length t) (ap (λ (i : ℕ). row pages i (root_slot root ∷ [])) (sym e) ∙ ends)))
     go (suc j) e =
         let l = w.last j e in
         record {
-          depth = w.k;
           reach = reach;
+          high = record { ends = ends; last = λ i f. let s = w.last i f in subst (λ (t : List Slot). 0 < length t) s.0 s.1 };
           even = is_even;
           odd = λ u b4. let o = w.odd u in omega (arith, o.2, b4 o.0 o.1 o.3 o.4);
           placed = λ id lt. omega (arith, lt, ap (times id) l.0, reached_next pages id j (root_slot root ∷ []), ap (λ (i : ℕ). reached pages id i (root_slot root ∷ [])) e, all id, w.count id, held_most pages id);

@@ -17,6 +17,7 @@ use Rattle.bt_rows.specs.Rows.{root_slot, leaves_in, leaves_among, times, held}
 use Rattle.bt_rows.specs.Rules.{B1, B2, B3, B4, B5, B6, B7, B8, IsReached}
 use Rattle.bt_rows.specs.Standing.{PagesStand, TreeStands, leaves_of}
 use Rattle.bt_check.specs.Collected.{IsCollected}
+use Rattle.bt_check.specs.Walks.{IsHigh}
 
 abbrev pub rule_b : ℕ → Rule
 rule_b number = record { letter = 66; number = number }
@@ -70,8 +71,9 @@ open_of rec.Memory = open_err.Memory
 abbrev pub Gathered : TreeHead → Bool → Map → BTreeSet ℕ → Bool → Type 0
 Gathered h index m ids within = B2 h index m × ((pages : PageMap) → AreHeld h m pages → IsCollected h m ids within pages)
 
--- a row has all leaves, and its pages are held
-pub record IsBottom (h : TreeHead) (index : Bool) (m : Map) (s : PagesStand h index m) (bottom : List Slot) : Type 0 where
+-- a row has all leaves, its pages are held, and so many rows are all
+pub record IsBottom (h : TreeHead) (index : Bool) (m : Map) (s : PagesStand h index m) (bottom : List Slot) (height : ℕ) : Type 0 where
+  pub high : IsHigh s.pages h.root height
   pub placed : (id : ℕ) → 0 < times id bottom → held s.pages id ≡ 1
   pub leaves : leaves_of s ≡ leaves_among s.pages bottom
 

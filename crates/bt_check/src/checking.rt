@@ -12,16 +12,16 @@ ghost use Rattle.bt_rows.specs.Orders.{before_by};
 ghost use Rattle.bt_rows.specs.Rules.{B1};
 ghost use Rattle.bt_rows.specs.Standing.{PagesStand, TreeStands};
 ghost use Rattle.bt_check.specs.Looks.{Looks};
-ghost use Rattle.bt_check.specs.Walks.{leaf_count};
+ghost use Rattle.bt_check.specs.Walks.{IsHigh, leaf_count};
 ghost use Rattle.bt_check.specs.Verdicts.{Breaks, BreaksEarly, Gathered, IsBottom, broken_at, open_of};
 
 use crate::collecting::{Collected, collect};
 use crate::leaves::{broken_rule, see_all};
-use crate::walking::walk;
+use crate::walking::{Walked, walk};
 use bt_page::{LIMIT_LEAST, LIMIT_MOST};
-use bt_rows::{Slot, TreeHead};
+use bt_rows::TreeHead;
 use std::alloc::Global;
-use tc_base::{Order, PAGE_END, Rule, Seq, Steps};
+use tc_base::{Order, PAGE_END, Rule, Steps};
 use tc_space::{OpenErr, RecErr, Records};
 
 fn broken(file: u32, number: u8) -> OpenErr
@@ -104,20 +104,20 @@ fn gather<R: Records>(
     Ok(collected)
 }
 
-// Checks the rules of pages, up to that of limits, and gives the bottom row.
+// Checks the rules of pages, up to that of limits, and gives the rows.
 fn check_pages<R: Records>(
     alloc: Global,
     store: &mut R,
     space: &mut R::S,
     head: &TreeHead,
     index: bool,
-) -> Result<Seq<Slot>, OpenErr>
+) -> Result<Walked, OpenErr>
     requires ready { IsReady R.S.Space (In R.S.Space R.file_of R.holds) store.old space.old }
-    ensures ok { IfOk result (λ bottom. (m : stored) → In R.S.Space R.file_of R.holds store.old space.old m → (s : PagesStand head.now index (get m)) × IsBottom head.now index (get m) s bottom) }
+    ensures ok { IfOk result (λ w. (m : stored) → In R.S.Space R.file_of R.holds store.old space.old m → (s : PagesStand head.now index (get m)) × IsBottom head.now index (get m) s w.bottom w.height) }
     ensures broken { IfErr result (λ e. BreaksEarly head.now index (R.file_of store.old) (In R.S.Space R.file_of R.holds store.old space.old) e) }
     ensures looks { Looks R.S.Space R.file_of R.holds R.region store.old store.new space.old space.new }
     ensures asks { (m : stored) → In R.S.Space R.file_of R.holds store.old space.old m → R.gets store.new ≤ R.gets store.old + 2 * len m }
-    ensures nodes { IfOk result (λ bottom. (m : stored) → In R.S.Space R.file_of R.holds store.old space.old m → R.gets store.new + leaf_count bottom ≤ R.gets store.old + 2 * len m) }
+    ensures nodes { IfOk result (λ w. (m : stored) → In R.S.Space R.file_of R.holds store.old space.old m → R.gets store.new + leaf_count w.bottom ≤ R.gets store.old + 2 * len m) }
     ensures cause { IsErrOf result OpenErr.Fault → Rose (R.S.faults space.old) (R.S.faults space.new) }
 {
     let file = store.file();
@@ -138,11 +138,43 @@ fn check_pages<R: Records>(
     if !within {
         return Err(broken(file, 5));
     }
-    Ok(walked.bottom)
+    Ok(walked)
 }
 
-/// Checks the rules of a tree in their order, each over the whole map before the next, with the keys in the order O. Where `index` is true the key `column` may be held besides.
-/// `Broken` names the store's file and the first rule that doesn't hold. Each page is read twice at most. Nothing is changed.
+/// Checks the rules of a tree in their order, each over the whole map before the next, with the keys in the order O, and answers how many rows of pages there are, at least 1, that of
+/// the leaves among them. Where `index` is true the key `column` may be held besides. `Broken` names the store's file and the first rule that doesn't hold. Each page is read twice at
+/// most. Nothing is changed.
+pub fn measure_tree<R: Records, O: Order>(
+    alloc: Global,
+    store: &mut R,
+    space: &mut R::S,
+    index: bool,
+) -> Result<u64, OpenErr>
+    requires ready { IsReady R.S.Space (In R.S.Space R.file_of R.holds) store.old space.old }
+    ensures some { IfOk result (λ height. 1 ≤ height) }
+    ensures stands { IfOk result (λ height. (m : stored) → In R.S.Space R.file_of R.holds store.old space.old m → (s : TreeStands (before_by O.cmp) (head_of (R.region store.old)) index (get m)) × IsHigh s.stand.pages (head_of (R.region store.old)).root height) }
+    ensures broken { IfErr result (λ e. Breaks (before_by O.cmp) (head_of (R.region store.old)) index (R.file_of store.old) (In R.S.Space R.file_of R.holds store.old space.old) e) }
+    ensures looks { Looks R.S.Space R.file_of R.holds R.region store.old store.new space.old space.new }
+    ensures asks { (m : stored) → In R.S.Space R.file_of R.holds store.old space.old m → R.gets store.new ≤ R.gets store.old + 2 * len m }
+    ensures cause { IsErrOf result OpenErr.Fault → Rose (R.S.faults space.old) (R.S.faults space.new) }
+{
+    let file = store.file();
+    let head = TreeHead::read(&store.opaque());
+    let walked = match check_pages(alloc, store, space, &head, index) {
+        Ok(walked) => walked,
+        Err(e) => return Err(e),
+    };
+    let seen = match see_all::<R, O>(alloc, store, space, &head, &walked.bottom) {
+        Ok(seen) => seen,
+        Err(e) => return Err(refusal(e)),
+    };
+    match broken_rule(&head, &seen) {
+        None => Ok(walked.height),
+        Some(number) => Err(broken(file, number)),
+    }
+}
+
+/// Checks the rules of a tree as `measure_tree` does, and answers nothing else.
 pub fn check_tree<R: Records, O: Order>(
     alloc: Global,
     store: &mut R,
@@ -156,18 +188,8 @@ pub fn check_tree<R: Records, O: Order>(
     ensures asks { (m : stored) → In R.S.Space R.file_of R.holds store.old space.old m → R.gets store.new ≤ R.gets store.old + 2 * len m }
     ensures cause { IsErrOf result OpenErr.Fault → Rose (R.S.faults space.old) (R.S.faults space.new) }
 {
-    let file = store.file();
-    let head = TreeHead::read(&store.opaque());
-    let bottom = match check_pages(alloc, store, space, &head, index) {
-        Ok(bottom) => bottom,
-        Err(e) => return Err(e),
-    };
-    let seen = match see_all::<R, O>(alloc, store, space, &head, &bottom) {
-        Ok(seen) => seen,
-        Err(e) => return Err(refusal(e)),
-    };
-    match broken_rule(&head, &seen) {
-        None => Ok(()),
-        Some(number) => Err(broken(file, number)),
+    match measure_tree::<R, O>(alloc, store, space, index) {
+        Ok(_) => Ok(()),
+        Err(e) => Err(e),
     }
 }

@@ -10,5 +10,5 @@ mod ordering;
 mod pages;
 mod walking;
 
-pub use checking::check_tree;
+pub use checking::{check_tree, measure_tree};
 pub use laws::trees_break_no_rule;

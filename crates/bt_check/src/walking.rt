@@ -23,11 +23,13 @@ use std::collections::BTreeSet;
 use tc_base::{Blob, PAGE_END, Seq};
 use tc_space::{RecErr, Records};
 
-/// The bottom row, and whether leaves stand in others too.
+/// The bottom row, whether leaves stand in others too, and how many rows there are.
 #[derive(Drop)]
 pub(crate) struct Walked {
     pub bottom: Seq<Slot>,
     pub uneven: bool,
+    pub height: u64,
+    pub ghost some: { 1 ≤ height },
 }
 
 pub(crate) fn copy_bound(alloc: Global, bound: &Option<Blob>) -> Result<Option<Blob>, AllocError>
@@ -137,7 +139,7 @@ pub(crate) fn walk<R: Records>(
     mut ids: BTreeSet<u64>,
 ) -> Result<Option<Walked>, RecErr>
     requires ready { IsReady R.S.Space (In R.S.Space R.file_of R.holds) store.old space.old }
-    ensures walked { IfOk result (λ o. (m : stored) → In R.S.Space R.file_of R.holds store.old space.old m → (h : the_head) (pages : PageMap) → AreHeld h (get m) pages → ((id : ℕ) → has ids id ≡ held pages id) → MatchOption o (B3 pages root → ⊥) (λ w. IsWalked pages root w.bottom w.uneven)) }
+    ensures walked { IfOk result (λ o. (m : stored) → In R.S.Space R.file_of R.holds store.old space.old m → (h : the_head) (pages : PageMap) → AreHeld h (get m) pages → ((id : ℕ) → has ids id ≡ held pages id) → MatchOption o (B3 pages root → ⊥) (λ w. IsWalked pages root w.bottom w.uneven w.height)) }
     ensures looks { Looks R.S.Space R.file_of R.holds R.region store.old store.new space.old space.new }
     ensures asks { R.gets store.new ≤ R.gets store.old + btree_set_len ids }
     ensures nodes { IfOk result (λ o. IfSome o (λ w. R.gets store.new + leaf_count w.bottom ≤ R.gets store.old + btree_set_len ids)) }
@@ -147,6 +149,8 @@ pub(crate) fn walk<R: Records>(
     let mut bottom = Seq::new(alloc);
     let mut seen = false;
     let mut uneven = false;
+    let _most = ids.len();
+    let mut height = 0;
     'rows: while row.len() > 0 {
         let mut next = Seq::new(alloc);
         let passed = match pass(alloc, store, space, &row, &mut ids, &mut next) {
@@ -160,9 +164,14 @@ pub(crate) fn walk<R: Records>(
         seen = seen | leaf;
         bottom = row;
         row = next;
+        height += 1;
     }
     if !is_empty(&ids) {
         return Ok(None);
     }
-    Ok(Some(Walked { bottom, uneven }))
+    Ok(Some(Walked {
+        bottom,
+        uneven,
+        height,
+    }))
 }

@@ -1,43 +1,41 @@
 -- The way down through the store.
-use Rattle.std.proofs.Common.{◌≡◌, ◌≢◌, ◌⊎◌, ℕ, zero, suc, ◌+◌, ◌-◌, ◌<◌, ◌≤◌, ◌^◌, min, List, [], ◌∷◌, ◌++◌, Bool, true, false, Option, Some, None, length, map, refl, sym, ap, ◌∙◌, subst, inl, inr, ⊎_elim, arith}
+use Rattle.std.proofs.Common.{◌≡◌, ◌⊎◌, ℕ, zero, suc, ◌+◌, ◌-◌, ◌<◌, ◌≤◌, ◌^◌, List, [], ◌∷◌, ◌++◌, Bool, true, false, Option, Some, None, length, map, refl, sym, ap, ◌∙◌, subst, inl, inr, ⊎_elim, arith}
 use Rattle.std.specs.Prelude.{Result, Err}
 use Rattle.std.specs.FinMap.{get}
-use Rattle.std.specs.List.{AllByRecursion, flat_map}
+use Rattle.std.specs.List.{AllByRecursion}
 use Rattle.std.proofs.lemmas.Grind.{flat_map-append}
 use Rattle.tc_base.specs.Maps.{Map}
 use Rattle.tc_base.specs.declared.seq.Pair.{Pair}
 use Rattle.tc_space.specs.Stores.{IsReady, Ticks}
 use Rattle.tc_space.specs.declared.space.Space.{Ghosts}
-use Rattle.bt_page.specs.Pages.{HasValue, LeafFits, leaf_bytes}
-use Rattle.bt_page.specs.Spelled.{Spells}
+use Rattle.bt_page.specs.Pages.{HasValue}
 use Rattle.bt_page.specs.declared.page.Leaf.{Leaf}
 use Rattle.bt_page.specs.declared.page.Node.{Node}
 use Rattle.bt_page.proofs.Written.{leaf_has_values}
 use Rattle.bt_rows.specs.declared.head.TreeHead.{TreeHead}
 use Rattle.bt_rows.specs.declared.page.LeafAt.{LeafAt}
-use Rattle.bt_rows.specs.declared.page.Page.{Page}
 use Rattle.bt_rows.specs.declared.page.Page.TheVariants.{Leaf as leaf_page, Node as node_page}
 use Rattle.bt_rows.specs.Between.{KeysAscend}
 use Rattle.bt_rows.specs.Orders.{Before, IsOrder}
-use Rattle.bt_rows.specs.Pages.{PageMap, IsPage, IsHeldAs}
-use Rattle.bt_rows.specs.Rules.{InOrder, item_pairs, leaf_pairs, pairs_of}
-use Rattle.bt_rows.specs.Levels.{NodeAt, leaf_slot}
+use Rattle.bt_rows.specs.Pages.{IsHeldAs}
+use Rattle.bt_rows.specs.Rules.{InOrder, leaf_pairs, pairs_of}
+use Rattle.bt_rows.specs.Levels.{leaf_slot}
 use Rattle.bt_page.specs.Keys.{key_of}
 use Rattle.bt_cache.specs.Effects.{CountsPage, Looks, unless}
 use Rattle.bt_cache.specs.Held.{Pages, Beside, HasPage, IsThere}
 use Rattle.bt_cache.specs.Shared.{IsSomeLeaf, IsSomeNode}
 use Rattle.bt_tree.specs.declared.tree.Tree.{Tree}
 use Rattle.bt_tree.specs.Costs.{ReadsPages, pages_refl, pages_then, looks_refl, looks_then}
-use Rattle.bt_tree.specs.Items.{IsLeafFor}
+use Rattle.bt_ways.specs.Items.{IsLeafFor}
 use Rattle.bt_tree.specs.Meaning.{Means}
-use Rattle.bt_tree.specs.Visits.{StaysTree, Visits, Asks, stays_then}
-use Rattle.bt_tree.specs.Searches.{IsRoute, child_at}
+use Rattle.bt_tree.specs.Visits.{StaysTree, Visits, stays_then}
+use Rattle.bt_ways.specs.Searches.{IsRoute, child_at}
 use Rattle.bt_tree.specs.Trees.{IsTree, HoldsPairs}
-use Rattle.bt_tree.specs.Ways.{Found}
-use Rattle.bt_tree.proofs.Keys.{order_behind, front_below, back_above}
+use Rattle.bt_ways.specs.Ways.{Found}
+use Rattle.bt_ways.proofs.Keys.{order_behind, front_below, back_above}
 use Rattle.bt_tree.proofs.Pages.{has_page, found_leaf}
-use Rattle.bt_tree.proofs.Rising.{keys_ascend}
-use Rattle.bt_tree.proofs.Walks.{Walk, AtNode, walk_start, walk_node, walk_step, walk_end}
+use Rattle.bt_ways.proofs.Rising.{keys_ascend}
+use Rattle.bt_ways.proofs.Walks.{Walk, AtNode, walk_start, walk_node, walk_step, walk_end}
 
 -- the same error of another call
 pub err_on : {T U E : Type 0} (e f : E) → ◌≡◌ {A = Result T E} (Err e) (Err f) → ◌≡◌ {A = Result U E} (Err e) (Err f)
@@ -72,36 +70,38 @@ module _ {V : Type 0} (file_of : V → ℕ) (region : V → List ℕ) (gets : V 
 
 -- ---- the walk through it
 
--- at the i-th row, the root's the first
-pub record Descends {S V O : Type 0} (s : Ghosts S) (file_of : V → ℕ) (holds : V → List ℕ → Map → Type 0) (region : V → List ℕ) (gets : V → ℕ) (before : Before) (key : List ℕ)
+-- at the i-th row, the root's the first; `by` is the order of the keys, or what stands in its place on the way to another place than a key's
+pub record Descends {S V O : Type 0} (s : Ghosts S) (file_of : V → ℕ) (holds : V → List ℕ → Map → Type 0) (region : V → List ℕ) (gets : V → ℕ) (before by : Before) (key : List ℕ)
     (t u : Tree V O) (path : List (ℕ × ℕ)) (old new : S) (steps steps' id i : ℕ) : Type 0 where
   pub from : 1 ≤ i
+  pub deep : length path + 1 ≡ i
   pub visits : Visits s file_of holds region gets (i - 1) t u steps steps' old new
   pub way : (m : Map) (is : IsTree before t.head t.height (get m)) → Beside s file_of holds (t.cache.pages, t.store) old m → (todo : ℕ) → todo + i ≡ t.height
-      → Walk before is.pages t.head.root key is.levels (map leaf_slot is.leaves) path id todo
+      → Walk by is.pages t.head.root key is.levels (map leaf_slot is.leaves) path id todo
 
-module _ {S V O : Type 0} (s : Ghosts S) (file_of : V → ℕ) (holds : V → List ℕ → Map → Type 0) (region : V → List ℕ) (gets : V → ℕ) (before : Before) (key : List ℕ) where
+module _ {S V O : Type 0} (s : Ghosts S) (file_of : V → ℕ) (holds : V → List ℕ → Map → Type 0) (region : V → List ℕ) (gets : V → ℕ) (before by : Before) (key : List ℕ) where
   pub descends_start : (t u : Tree V O) (path : List (ℕ × ℕ)) (space : S) (steps : ℕ) → s.sound space → StaysTree t u → u.cache.pages ≡ t.cache.pages → u.store ≡ t.store → path ≡ []
-      → Descends s file_of holds region gets before key t u path space space steps steps t.head.root 1
+      → Descends s file_of holds region gets before by key t u path space space steps steps t.head.root 1
   descends_start t u path space steps sound stays c v none = record {
     from = omega arith;
+    deep = omega (arith, ap length none);
     visits = record {
       looks = subst (λ (x : Pages). Looks s file_of holds t.cache.pages x t.store u.store space space) (sym c) (subst (λ (x : V). Looks s file_of holds t.cache.pages t.cache.pages t.store x space space) (sym v) (looks_refl s file_of holds t.cache.pages t.store space sound));
       pages = subst (λ (x : V). ReadsPages file_of region gets 0 t.store x steps steps) (sym v) (pages_refl file_of region gets t.store steps);
       stays = stays;
     };
     way = λ m is b todo e.
-        subst (λ (p : List (ℕ × ℕ)). Walk before is.pages t.head.root key is.levels (map leaf_slot is.leaves) p t.head.root todo) (sym none)
-        (subst (λ (n : ℕ). Walk before is.pages t.head.root key is.levels (map leaf_slot is.leaves) [] t.head.root n) (omega (arith, e, is.high))
-        (walk_start before is.pages t.head.root key is.leaves is.levels is.stands));
+        subst (λ (p : List (ℕ × ℕ)). Walk by is.pages t.head.root key is.levels (map leaf_slot is.leaves) p t.head.root todo) (sym none)
+        (subst (λ (n : ℕ). Walk by is.pages t.head.root key is.levels (map leaf_slot is.leaves) [] t.head.root n) (omega (arith, e, is.high))
+        (walk_start before by is.pages t.head.root key is.leaves is.levels is.stands));
   }
 
-  module _ (t u : Tree V O) (path : List (ℕ × ℕ)) (old new : S) (steps steps' id i : ℕ) (d : Descends s file_of holds region gets before key t u path old new steps steps' id i) where
+  module _ (t u : Tree V O) (path : List (ℕ × ℕ)) (old new : S) (steps steps' id i : ℕ) (d : Descends s file_of holds region gets before by key t u path old new steps steps' id i) where
     row_left : i < t.height → (t.height - (i + 1)) + 1 + i ≡ t.height
     row_left lt = omega (arith, lt)
 
     at_node : (m : Map) (is : IsTree before t.head t.height (get m)) → Beside s file_of holds (t.cache.pages, t.store) old m → i < t.height → AtNode is.pages is.levels id
-    at_node m is b lt = walk_node before is.pages t.head.root key is.levels (map leaf_slot is.leaves) path id (t.height - (i + 1)) (d.way m is b (suc (t.height - (i + 1))) (omega (arith, lt)))
+    at_node m is b lt = walk_node by is.pages t.head.root key is.levels (map leaf_slot is.leaves) path id (t.height - (i + 1)) (d.way m is b (suc (t.height - (i + 1))) (omega (arith, lt)))
 
     pub node_there : IsReady s (Means s file_of holds before) t old → i < t.height → IsThere s (Beside s file_of holds) IsSomeNode id (u.cache.pages, u.store) new
     node_there ready lt = λ told.
@@ -122,23 +122,24 @@ module _ {S V O : Type 0} (s : Ghosts S) (file_of : V → ℕ) (holds : V → Li
     pub descends_more : (w : Tree V O) (path' : List (ℕ × ℕ)) (new' : S) (steps'' id' place : ℕ) (read : Node) (held : Bool) → i < t.height → steps' < 2 ^ 64
         → Looks s file_of holds u.cache.pages w.cache.pages u.store w.store new new' → CountsPage file_of region gets held u.store w.store steps' steps'' → StaysTree u w
         → ((m : Map) (n : Node) → Beside s file_of holds (u.cache.pages, u.store) new m → HasPage m id (node_page n) → read ≡ n)
-        → (KeysAscend before read.entries → IsRoute before read.entries key place) → path' ≡ (id, place) ∷ path → id' ≡ child_at read.heir read.entries place
-        → Descends s file_of holds region gets before key t w path' old new' steps steps'' id' (i + 1)
+        → (KeysAscend before read.entries → IsRoute by read.entries key place) → path' ≡ (id, place) ∷ path → id' ≡ child_at read.heir read.entries place
+        → Descends s file_of holds region gets before by key t w path' old new' steps steps'' id' (i + 1)
     descends_more w path' new' steps'' id' place read held lt small looks counts stays is_read route p c = record {
       from = omega arith;
+      deep = omega (arith, ap length p, d.deep);
       visits = record {
         looks = looks_then s file_of holds _ _ _ _ _ _ _ _ _ d.visits.looks looks;
         pages = subst (λ (n : ℕ). ReadsPages file_of region gets n t.store w.store steps steps'') (omega (arith, d.from)) (pages_then file_of region gets (i - 1) 1 _ _ _ _ _ _ d.visits.pages (one_page file_of region gets held _ _ _ _ small counts));
         stays = stays_then t u w d.visits.stays stays;
       };
       way = λ m is b todo e.
-          let k : Walk before is.pages t.head.root key is.levels (map leaf_slot is.leaves) path id (suc todo) = d.way m is b (suc todo) (omega (arith, e)) in
-          let n : AtNode is.pages is.levels id = walk_node before is.pages t.head.root key is.levels (map leaf_slot is.leaves) path id todo k in
+          let k : Walk by is.pages t.head.root key is.levels (map leaf_slot is.leaves) path id (suc todo) = d.way m is b (suc todo) (omega (arith, e)) in
+          let n : AtNode is.pages is.levels id = walk_node by is.pages t.head.root key is.levels (map leaf_slot is.leaves) path id todo k in
           let same : read ≡ n.at.node = is_read m n.at.node (d.visits.looks.reads.means m b) (has_page t.head m is.pages id (node_page n.at.node) is.head is.held n.is) in
           let asc : KeysAscend before read.entries = subst (λ (x : Node). KeysAscend before x.entries) (sym same) (keys_ascend before is.pages t.head.root is.leaves is.levels n.above n.left n.at n.right n.under is.stands n.level) in
-          subst (λ (q : List (ℕ × ℕ)). Walk before is.pages t.head.root key is.levels (map leaf_slot is.leaves) q id' todo) (sym p)
-          (subst (λ (j : ℕ). Walk before is.pages t.head.root key is.levels (map leaf_slot is.leaves) ((id, place) ∷ path) j todo) (sym c)
-          (walk_step before is.pages t.head.root key is.levels (map leaf_slot is.leaves) path id todo k read place (n.is ∙ ap (λ (x : Node). Some (node_page x)) (sym same)) (route asc)));
+          subst (λ (q : List (ℕ × ℕ)). Walk by is.pages t.head.root key is.levels (map leaf_slot is.leaves) q id' todo) (sym p)
+          (subst (λ (j : ℕ). Walk by is.pages t.head.root key is.levels (map leaf_slot is.leaves) ((id, place) ∷ path) j todo) (sym c)
+          (walk_step by is.pages t.head.root key is.levels (map leaf_slot is.leaves) path id todo k read place (n.is ∙ ap (λ (x : Node). Some (node_page x)) (sym same)) (route asc)));
     }
 
     -- it stops in the middle, or at the leaf: no more rows than there are were read
@@ -154,17 +155,37 @@ module _ {S V O : Type 0} (s : Ghosts S) (file_of : V → ℕ) (holds : V → Li
     pub descends_done : i ≤ t.height → Visits s file_of holds region gets (t.height - 1) t u steps steps' old new
     descends_done le = record { looks = d.visits.looks; pages = most_pages file_of region gets (i - 1) (t.height - 1) _ _ _ _ (omega (arith, le)) d.visits.pages; stays = d.visits.stays }
 
-    pub descends_end : t.height ≤ i → i ≤ t.height → (m : Map) (is : IsTree before t.head t.height (get m)) → Beside s file_of holds (t.cache.pages, t.store) old m → Found before t.head.root key is.leaves is.levels path id
-    descends_end ge le m is b = walk_end before is.pages t.head.root key is.leaves is.levels path id (d.way m is b 0 (omega (arith, ge, le)))
+    pub descends_deep : t.height ≤ i → i ≤ t.height → length path + 1 ≡ t.height
+    descends_deep ge le = omega (arith, d.deep, ge, le)
+
+    pub descends_end : t.height ≤ i → i ≤ t.height → (m : Map) (is : IsTree before t.head t.height (get m)) → Beside s file_of holds (t.cache.pages, t.store) old m → Found by t.head.root key is.leaves is.levels path id
+    descends_end ge le m is b = walk_end by is.pages t.head.root key is.leaves is.levels path id (d.way m is b 0 (omega (arith, ge, le)))
 
 -- ---- the leaf at its end
 
-leaf_values : (m : Map) (id : ℕ) (l : Leaf) → HasPage m id (leaf_page l) → AllByRecursion HasValue l.items
+pub leaf_values : (m : Map) (id : ℕ) (l : Leaf) → HasPage m id (leaf_page l) → AllByRecursion HasValue l.items
 leaf_values m id l h = go (get m (key_of id)) h.page
   where
     go : (o : Option (List ℕ)) → IsHeldAs id o (Some (leaf_page l)) → AllByRecursion HasValue l.items
     go None x = absurd x
     go (Some bytes) x = leaf_has_values bytes l x.1
+
+-- a leaf that was found is the one where the key belongs
+pub belongs : (before : Before) → IsOrder before → (key : List ℕ) (h : TreeHead) (height : ℕ) (index : Bool) (m : Map) (ps : List Pair) (p : HoldsPairs before h height index (get m) ps) (path : List (ℕ × ℕ)) (id : ℕ) (f : Found before h.root key p.tree.leaves p.tree.levels path id)
+    → IsLeafFor before key ps f.leaf.leaf
+belongs before order key h height index m ps p path id f =
+    let is = found_leaf before p.tree.pages h.root key p.tree.leaves p.tree.levels path id p.tree.stands f in
+    let o : InOrder before (f.front ++ f.leaf ∷ f.back) = subst (λ (x : List LeafAt). InOrder before x) f.parts p.tree.stands.order in
+    let ob : InOrder before (f.leaf ∷ f.back) = order_behind before f.front (f.leaf ∷ f.back) o in
+    record {
+      ascends = ob.0.ascends;
+      some = leaf_values m id f.leaf.leaf (has_page h m p.tree.pages id (leaf_page f.leaf.leaf) p.tree.head p.tree.held is);
+      front = pairs_of f.front;
+      back = pairs_of f.back;
+      are = p.are ∙ ap pairs_of f.parts ∙ flat_map-append leaf_pairs f.front (f.leaf ∷ f.back);
+      low = front_below before order f.front f.back f.leaf key o f.low;
+      high = back_above before order f.back key ob.2 f.high;
+    }
 
 module _ {S V O : Type 0} (s : Ghosts S) (file_of : V → ℕ) (holds : V → List ℕ → Map → Type 0) (before : Before) (key : List ℕ) (t : Tree V O) (old : S) (path : List (ℕ × ℕ)) (id : ℕ)
     (found : (m : Map) (is : IsTree before t.head t.height (get m)) → Beside s file_of holds (t.cache.pages, t.store) old m → Found before t.head.root key is.leaves is.levels path id) where
@@ -189,18 +210,7 @@ module _ {S V O : Type 0} (s : Ghosts S) (file_of : V → ℕ) (holds : V → Li
       let is = found_leaf before pairs.tree.pages t.head.root key pairs.tree.leaves pairs.tree.levels path id pairs.tree.stands f in
       let page : HasPage m id (leaf_page f.leaf.leaf) = has_page t.head m pairs.tree.pages id (leaf_page f.leaf.leaf) pairs.tree.head pairs.tree.held is in
       let same : read ≡ f.leaf.leaf = is_read m f.leaf.leaf (looks.reads.means m b) page in
-      let o : InOrder before (f.front ++ f.leaf ∷ f.back) = subst (λ (x : List LeafAt). InOrder before x) f.parts pairs.tree.stands.order in
-      let ob : InOrder before (f.leaf ∷ f.back) = order_behind before f.front (f.leaf ∷ f.back) o in
-      subst (λ (l : Leaf). IsLeafFor before key ps l) (sym same)
-      (record {
-        ascends = ob.0.ascends;
-        some = leaf_values m id f.leaf.leaf page;
-        front = pairs_of f.front;
-        back = pairs_of f.back;
-        are = pairs.are ∙ ap pairs_of f.parts ∙ flat_map-append leaf_pairs f.front (f.leaf ∷ f.back);
-        low = front_below before order f.front f.back f.leaf key o f.low;
-        high = back_above before order f.back key ob.2 f.high;
-      })
+      subst (λ (l : Leaf). IsLeafFor before key ps l) (sym same) (belongs before order key t.head t.height t.index m ps pairs path id f)
 
 -- ---- a descent and then its leaf
 

@@ -1,9 +1,9 @@
 -- A key in the leaf where it belongs.
-use Rattle.std.proofs.Common.{◌≡◌, ℕ, ◌<◌, List, [], ◌∷◌, ◌++◌, Bool, true, false, Some, None, map, sym, ap, ◌∙◌, subst, append_assoc}
+use Rattle.std.proofs.Common.{◌≡◌, ℕ, List, ◌++◌, Bool, true, false, Some, None, map, sym, ap, ◌∙◌, subst, append_assoc}
 use Rattle.std.specs.Prelude.{slice_get}
 use Rattle.std.specs.FinMap.{get}
-use Rattle.std.specs.List.{AllByRecursion, flat_map}
-use Rattle.tc_base.specs.Lists.{pair, values}
+use Rattle.std.specs.List.{flat_map}
+use Rattle.tc_base.specs.Lists.{first, pair, values}
 use Rattle.tc_base.specs.Maps.{Map}
 use Rattle.tc_base.specs.declared.seq.Pair.{Pair}
 use Rattle.tc_space.specs.Frames.{Reads}
@@ -13,16 +13,16 @@ use Rattle.bt_page.specs.declared.page.Leaf.{Leaf}
 use Rattle.bt_rows.specs.declared.head.TreeHead.{TreeHead}
 use Rattle.bt_rows.specs.Orders.{Before, IsOrder}
 use Rattle.bt_rows.specs.Rules.{Ascends, item_pairs}
-use Rattle.bt_cache.specs.Effects.{Looks}
+use Rattle.bt_cache.specs.Held.{Beside}
 use Rattle.bt_tree.specs.declared.tree.Tree.{Tree}
-use Rattle.bt_tree.specs.Items.{IsLeafFor, item_in, item_of}
+use Rattle.bt_ways.specs.Items.{IsLeafFor, item_in, item_of}
 use Rattle.bt_tree.specs.Meaning.{Means}
 use Rattle.bt_tree.specs.Visits.{StaysTree, Visits, Asks}
-use Rattle.bt_tree.specs.Searches.{IsSpot}
+use Rattle.bt_ways.specs.Searches.{IsSpot}
 use Rattle.bt_tree.specs.Trees.{HoldsPairs}
-use Rattle.bt_tree.proofs.Keys.{all_join}
-use Rattle.bt_tree.proofs.Spots.{parts_at, own_at, own_miss, item_there}
-use Rattle.bt_tree.proofs.Values.{Parts, values_of_parts}
+use Rattle.bt_ways.proofs.Keys.{all_join}
+use Rattle.bt_ways.proofs.Spots.{parts_at, own_at, own_hit, own_miss, item_there}
+use Rattle.bt_ways.proofs.Values.{Parts, values_of_parts}
 
 module _ (before : Before) (order : IsOrder before) (key : List ℕ) (ps : List Pair) (leaf : Leaf) (place : ℕ) (l : IsLeafFor before key ps leaf) where
   parts_of : (hit : Bool) → IsSpot before leaf.items key place hit → (p : Parts before key ps) × (p.own ≡ own_at before order leaf.items place hit)
@@ -52,10 +52,16 @@ module _ (before : Before) (order : IsOrder before) (key : List ℕ) (ps : List 
   pub found_some : (x : Item) → (Ascends before leaf.items → IsSpot before leaf.items key place true) → slice_get leaf.items place ≡ Some x → Some x ≡ item_in key ps
   found_some x s is = sym (ap (item_of key) (values_at true (s l.ascends)) ∙ item_there before order key leaf.items place x l.some (s l.ascends) is)
 
+  pub first_none : (Ascends before leaf.items → IsSpot before leaf.items key place false) → None ≡ first ps key
+  first_none s = sym (ap (λ (vs : List (List ℕ)). slice_get vs 0) (values_at false (s l.ascends) ∙ own_miss before order leaf.items place))
+
+  pub first_some : (x : Item) → (Ascends before leaf.items → IsSpot before leaf.items key place true) → slice_get leaf.items place ≡ Some x → slice_get x.values 0 ≡ first ps key
+  first_some x s is = sym (ap (λ (vs : List (List ℕ)). slice_get vs 0) (values_at true (s l.ascends) ∙ own_hit before order leaf.items place x is))
+
 -- pages are looked at, and the numbers of the tree stay
 module _ {S V O : Type 0} (s : Ghosts S) (file_of : V → ℕ) (holds : V → List ℕ → Map → Type 0) (before : Before) (t u : Tree V O) (old new : S) where
-  tree_reads : Looks s file_of holds t.cache.pages u.cache.pages t.store u.store old new → StaysTree t u → Reads s (Means s file_of holds before) t u old new
-  tree_reads looks stays = record { now = looks.reads.now; touched = looks.reads.touched; sound = looks.reads.sound; means = means }
+  pub tree_reads : Reads s (Beside s file_of holds) (t.cache.pages, t.store) (u.cache.pages, u.store) old new → StaysTree t u → Reads s (Means s file_of holds before) t u old new
+  tree_reads reads stays = record { now = reads.now; touched = reads.touched; sound = reads.sound; means = means }
     where
       pairs_on : (m : Map) (ps : List Pair) → HoldsPairs before t.head t.height t.index (get m) ps → HoldsPairs before u.head u.height u.index (get m) ps
       pairs_on m ps p =
@@ -63,7 +69,7 @@ module _ {S V O : Type 0} (s : Ghosts S) (file_of : V → ℕ) (holds : V → Li
           (subst (λ (n : ℕ). HoldsPairs before t.head n u.index (get m) ps) (sym stays.height) (subst (λ (b : Bool). HoldsPairs before t.head t.height b (get m) ps) (sym stays.index) p))
 
       means : (ps : List Pair) → Means s file_of holds before t old ps → Means s file_of holds before u new ps
-      means ps h = let b = looks.reads.means h.1.0 ((h.0, h.1.1), h.1.2) in (b.0.0, (h.1.0, b.0.1, b.1, pairs_on h.1.0 ps h.1.3))
+      means ps h = let b = reads.means h.1.0 ((h.0, h.1.1), h.1.2) in (b.0.0, (h.1.0, b.0.1, b.1, pairs_on h.1.0 ps h.1.3))
 
   pub asks_of : (region : V → List ℕ) (gets : V → ℕ) (most steps steps' : ℕ) → Visits s file_of holds region gets most t u steps steps' old new → Asks s file_of holds region gets before most t u steps steps' old new
-  asks_of region gets most steps steps' v = record { reads = tree_reads v.looks v.stays; keeps = v.looks.keeps; pages = v.pages; stays = v.stays }
+  asks_of region gets most steps steps' v = record { reads = tree_reads v.looks.reads v.stays; keeps = v.looks.keeps; pages = v.pages; stays = v.stays }

@@ -1,5 +1,5 @@
 -- A tree of one leaf with no keys.
-use Rattle.std.proofs.Common.{◌≡◌, ◌≢◌, ◌⊎◌, ℕ, zero, suc, ◌+◌, ◌<◌, ◌≤◌, ◌^◌, List, [], ◌∷◌, Bool, true, false, Option, Some, None, IsSome, length, refl, sym, ap, ◌∙◌, subst, inl, inr, ⊎_elim, arith}
+use Rattle.std.proofs.Common.{◌≡◌, ◌≢◌, ◌⊎◌, ℕ, ◌+◌, List, [], ◌∷◌, Bool, true, false, Option, Some, None, length, refl, sym, ap, ◌∙◌, subst, inl, inr, ⊎_elim, arith}
 use Rattle.std.specs.Prelude.{if◌then◌else◌, ◌==◌, nat_lt}
 use Rattle.std.specs.FinMap.{get, insert, len, entries, get-entries, len-entries, find}
 use Rattle.std.specs.Ordering.{nat_cmp}
@@ -14,9 +14,8 @@ use Rattle.tc_space.specs.Frames.{In, Keeps, Reads, Refuses, Writes}
 use Rattle.tc_space.specs.Stores.{IsReady, Only}
 use Rattle.tc_space.specs.declared.space.Space.{Ghosts}
 use Rattle.tc_base.specs.Texts.{is_text}
-use Rattle.bt_page.specs.Keys.{node_offset, key_of}
-use Rattle.bt_page.specs.Pages.{leaf_bytes, LeafFits}
-use Rattle.bt_page.specs.Spelled.{Spells}
+use Rattle.bt_page.specs.Keys.{key_of}
+use Rattle.bt_page.specs.Pages.{leaf_bytes}
 use Rattle.bt_rows.specs.declared.head.TreeHead.{TreeHead}
 use Rattle.bt_rows.specs.declared.page.LeafAt.{LeafAt}
 use Rattle.bt_rows.specs.declared.page.Page.{Page}
@@ -25,14 +24,14 @@ use Rattle.bt_rows.specs.Orders.{Before}
 use Rattle.bt_rows.specs.Pages.{PageMap, IsGiven, IsPage, IsHeldAs, AreHeld}
 use Rattle.bt_rows.specs.Rows.{root_slot, times, held}
 use Rattle.bt_rows.specs.Rules.{B1, B2, B5, IsPageAt, IsWithin, column}
-use Rattle.bt_rows.specs.Levels.{NodeAt, Stands, leaf_slot}
+use Rattle.bt_rows.specs.Levels.{Stands}
 use Rattle.bt_cache.specs.Held.{Pages, AreSame, Beside}
 use Rattle.bt_cache.specs.declared.shared.SharedPage.{SharedPage}
 use Rattle.bt_cache.proofs.Kept.{insert_here, insert_other}
 use Rattle.bt_tree.specs.declared.tree.Tree.{Tree}
 use Rattle.bt_tree.specs.Making.{IsBare, IsNew, IsRefused, MayBe, lone_leaf}
 use Rattle.bt_tree.specs.Meaning.{Means}
-use Rattle.bt_tree.specs.Trees.{IsTree, HoldsPairs}
+use Rattle.bt_tree.specs.Trees.{HoldsPairs}
 
 none_held : (m : Map) → len m ≡ 0 → (q : List ℕ) → get m q ≡ None
 none_held m e q = get-entries m q ∙ ap (find (slice_cmp nat_cmp) q) (nil (entries m) (sym (len-entries m) ∙ e))

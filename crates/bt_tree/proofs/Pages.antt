@@ -1,21 +1,20 @@
 -- Pages of a tree in the store.
-use Rattle.std.proofs.Common.{◌≡◌, ◌⊎◌, ℕ, ◌+◌, ◌<◌, ◌≤◌, ◌^◌, List, [], ◌∷◌, ◌++◌, Option, Some, None, refl, sym, ap, ◌∙◌, subst, ⊎_elim, arith}
+use Rattle.std.proofs.Common.{◌≡◌, ℕ, List, ◌∷◌, Option, Some, None, sym, ap, ◌∙◌, subst, ⊎_elim, arith}
 use Rattle.std.specs.FinMap.{get}
 use Rattle.tc_base.specs.Maps.{Map}
 use Rattle.bt_page.specs.Keys.{key_of}
-use Rattle.bt_page.specs.declared.page.Leaf.{Leaf}
 use Rattle.bt_rows.specs.declared.head.TreeHead.{TreeHead}
 use Rattle.bt_rows.specs.declared.page.LeafAt.{LeafAt}
 use Rattle.bt_rows.specs.declared.page.Page.{Page}
-use Rattle.bt_rows.specs.declared.page.Page.TheVariants.{Leaf as leaf_page, Node as node_page}
+use Rattle.bt_rows.specs.declared.page.Page.TheVariants.{Leaf as leaf_page}
 use Rattle.bt_rows.specs.Orders.{Before}
 use Rattle.bt_rows.specs.Pages.{PageMap, IsGiven, IsHeldAs, AreHeld}
 use Rattle.bt_rows.specs.Rules.{B1}
 use Rattle.bt_rows.specs.Levels.{NodeAt, LeavesHeld, Stands}
 use Rattle.bt_rows.proofs.Held.{given_small, decided}
 use Rattle.bt_cache.specs.Held.{HasPage}
-use Rattle.bt_tree.specs.Ways.{Found}
-use Rattle.bt_tree.proofs.Rows.{leaves_part}
+use Rattle.bt_ways.specs.Ways.{Found}
+use Rattle.bt_ways.proofs.Rows.{leaves_part}
 
 none_some : (p : Page) → None ≡ Some p → ⊥
 none_some p e = cc

@@ -1,5 +1,5 @@
 -- A tree whose numbers are in its store's region.
-use Rattle.std.proofs.Common.{◌≡◌, ℕ, suc, List, [], ◌∷◌, ◌++◌, Bool, length, set, replicate, refl, sym, ap, ◌∙◌, subst, inl, inr, ⊎_elim}
+use Rattle.std.proofs.Common.{◌≡◌, ℕ, suc, List, ◌∷◌, ◌++◌, Bool, length, set, replicate, refl, sym, ap, ◌∙◌, subst, inl, inr, ⊎_elim}
 use Rattle.std.specs.FinMap.{get}
 use Rattle.tc_base.specs.Endian.{le_number, le_bytes}
 use Rattle.tc_base.specs.Files.{wrote}
@@ -21,7 +21,7 @@ use Rattle.bt_tree.specs.declared.tree.Tree.{Tree}
 use Rattle.bt_tree.specs.Filling.{SettlesFull}
 use Rattle.bt_tree.specs.Meaning.{Means, file_in}
 use Rattle.bt_tree.specs.Standing.{FileStands}
-use Rattle.bt_tree.specs.Trees.{IsTree, HoldsPairs}
+use Rattle.bt_tree.specs.Trees.{HoldsPairs}
 
 -- ---- the region
 

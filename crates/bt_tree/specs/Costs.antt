@@ -1,11 +1,11 @@
 -- What reading pages counts.
-use Rattle.std.specs.Prelude.{◌≡◌, ℕ, ◌+◌, ◌-◌, ◌^◌, ◌≤◌, ◌⊎◌, min, Bool, true, false, List}
-use Rattle.std.proofs.Common.{◌∙◌, refl, arith, inl, inr, ⊎_elim}
+use Rattle.std.specs.Prelude.{◌≡◌, ℕ, ◌+◌, ◌≤◌, List}
+use Rattle.std.proofs.Common.{◌∙◌, refl, arith, inl}
 use Rattle.tc_base.specs.Maps.{Map}
-use Rattle.tc_space.specs.Frames.{Keeps, Reads, keeps_refl, keeps_then, reads_refl, reads_then}
+use Rattle.tc_space.specs.Frames.{keeps_refl, keeps_then, reads_refl, reads_then}
 use Rattle.tc_space.specs.Stores.{Ticks, ticks_then}
 use Rattle.tc_space.specs.declared.space.Space.{Ghosts}
-use Rattle.bt_cache.specs.Effects.{CountsPage, Looks, unless}
+use Rattle.bt_cache.specs.Effects.{Looks}
 use Rattle.bt_cache.specs.Held.{Pages, Beside}
 
 -- at most so many pages are read: the counter rises by no more, and by at least as much as the store was asked

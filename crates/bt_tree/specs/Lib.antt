@@ -1,10 +1,14 @@
+pub mod Climbing
 pub mod Costs
 pub mod Filling
-pub mod Items
+pub mod Inserting
 pub mod Making
 pub mod Meaning
-pub mod Searches
+pub mod Opening
+pub mod Paging
+pub mod Parting
+pub mod Ranging
+pub mod Removing
 pub mod Standing
 pub mod Trees
-pub mod Ways
 pub mod Visits

@@ -1,5 +1,5 @@
 -- What a tree that is open means.
-use Rattle.std.specs.Prelude.{◌≡◌, ℕ, List}
+use Rattle.std.specs.Prelude.{ℕ, List}
 use Rattle.std.specs.FinMap.{get}
 use Rattle.tc_base.specs.Maps.{Map}
 use Rattle.tc_base.specs.declared.seq.Pair.{Pair}

@@ -1,13 +1,13 @@
 -- What a call that only reads does to a tree.
 use Rattle.std.specs.Prelude.{◌≡◌, ℕ, List}
-use Rattle.std.proofs.Common.{◌∙◌, refl}
+use Rattle.std.proofs.Common.{◌∙◌}
 use Rattle.tc_base.specs.Maps.{Map}
 use Rattle.tc_space.specs.Frames.{Keeps, Reads}
 use Rattle.tc_space.specs.declared.space.Space.{Ghosts}
 use Rattle.bt_rows.specs.Orders.{Before}
 use Rattle.bt_cache.specs.Effects.{Looks}
 use Rattle.bt_tree.specs.declared.tree.Tree.{Tree}
-use Rattle.bt_tree.specs.Costs.{ReadsPages, looks_then, pages_then}
+use Rattle.bt_tree.specs.Costs.{ReadsPages}
 use Rattle.bt_tree.specs.Meaning.{Means}
 
 -- the numbers of the tree stay

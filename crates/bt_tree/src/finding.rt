@@ -1,10 +1,11 @@
 //! A key with its values.
 ghost use Rattle.std.specs.Prelude.{◌≡◌, List, IfOk, IsErrOf};
+ghost use Rattle.tc_base.specs.Lists.{first};
 ghost use Rattle.tc_base.specs.declared.seq.Pair.{Pair};
 ghost use Rattle.tc_io.specs.Causes.{Rose};
 ghost use Rattle.tc_space.specs.Stores.{IsReady};
 ghost use Rattle.bt_rows.specs.Orders.{before_by};
-ghost use Rattle.bt_tree.specs.Items.{IsLeafFor, item_in};
+ghost use Rattle.bt_ways.specs.Items.{IsLeafFor, item_in};
 ghost use Rattle.bt_tree.specs.Meaning.{Means};
 ghost use Rattle.bt_tree.specs.Visits.{Asks};
 
@@ -13,7 +14,7 @@ use crate::searching::spot;
 use crate::tree::Tree;
 use bt_page::{Item, Leaf};
 use std::alloc::{AllocError, Global};
-use tc_base::{Order, Steps};
+use tc_base::{Blob, Order, Steps};
 use tc_space::{RecErr, Records};
 
 // A copy of the key and its values, if the leaf where it belongs has it.
@@ -25,6 +26,20 @@ fn copy_found<O: Order>(alloc: Global, leaf: &Leaf, key: &[u8]) -> Result<Option
         return Ok(None);
     }
     Ok(Some(copy_item(alloc, leaf.items.at(place))?))
+}
+
+// A copy of the key's first value, if the leaf where it belongs has the key.
+fn copy_first<O: Order>(alloc: Global, leaf: &Leaf, key: &[u8]) -> Result<Option<Blob>, AllocError>
+    ensures { IfOk result (λ found. (ps : List Pair) → IsLeafFor (before_by O.cmp) key.now ps leaf.now → found ≡ first ps key.now) }
+{
+    let (place, hit) = spot::<O>(leaf.items.as_slice(), key);
+    if !hit {
+        return Ok(None);
+    }
+    let Some(value) = leaf.items.at(place).values.as_slice().first() else {
+        return Ok(None);
+    };
+    Ok(Some(Blob::from_slice(alloc, value.as_slice())?))
 }
 
 impl<R: Records, O: Order> Tree<R, O> {
@@ -45,5 +60,23 @@ impl<R: Records, O: Order> Tree<R, O> {
             Err(e) => return Err(e),
         };
         Ok(copy_found::<O>(self.alloc, &leaf, key)?)
+    }
+
+    /// The first value of a key alone, as a copy; None where the key isn't held. It reads what `find` does.
+    pub fn first_value<L>(
+        &mut self,
+        space: &mut R::S,
+        key: &[u8],
+        steps: &mut Steps<L>,
+    ) -> Result<Option<Blob>, RecErr>
+        requires { IsReady R.S.Space (Means R.S.Space R.file_of R.holds (before_by O.cmp)) self.old space.old }
+        ensures value { IfOk result (λ found. (ps : List Pair) → Means R.S.Space R.file_of R.holds (before_by O.cmp) self.old space.old ps → found ≡ first ps key.now) }
+        ensures asks { Asks R.S.Space R.file_of R.holds R.region R.gets (before_by O.cmp) self.old.height self.old self.new steps.old steps.new space.old space.new }
+        ensures cause { (IsErrOf result RecErr.Fault → Rose (R.S.faults space.old) (R.S.faults space.new)) × (IsErrOf result RecErr.Full → ⊥) }
+    {
+        match self.leaf_for(space, key, steps) {
+            Ok(leaf) => Ok(copy_first::<O>(self.alloc, &leaf, key)?),
+            Err(e) => Err(e),
+        }
     }
 }

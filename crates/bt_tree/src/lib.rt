@@ -1,15 +1,31 @@
 //! The tree of keys and values over any map of records: pages of keys in order under nodes that lead to them.
 #![tactic(auto, using(tc_space::specs::Frames::keeps_refl, tc_space::specs::Frames::only_reads_refl))]
 
+mod changing;
+mod climbing;
 mod copying;
+mod cutting;
 mod descending;
+mod dropping;
 mod finding;
+mod inserting;
+mod laws;
 mod making;
 mod numbers;
+mod opening;
+mod paging;
+mod parting;
 mod path;
+mod pruning;
+mod ranging;
+mod removing;
 mod searching;
 mod settling;
+mod stretching;
+mod taking;
 mod tree;
+mod unlinking;
 
+pub use laws::settled_trees_open;
 pub use making::ROOM;
 pub use tree::Tree;

@@ -38,4 +38,11 @@ impl Path {
         self.steps.push((id, place))?;
         Ok(())
     }
+
+    /// Takes the lowest step out.
+    pub(crate) fn pop(&mut self) -> Option<(u64, usize)>
+        ensures { MatchOption result ((self.old ≡ []) × (self.new ≡ [])) (λ x. self.old ≡ x ∷ self.new) }
+    {
+        self.steps.pop()
+    }
 }

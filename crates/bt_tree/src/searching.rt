@@ -3,7 +3,7 @@ ghost use Rattle.std.specs.Prelude.{◌≡◌, ◌<◌, ◌≤◌, true, length}
 ghost use Rattle.bt_rows.specs.Between.{KeysAscend};
 ghost use Rattle.bt_rows.specs.Orders.{before_by};
 ghost use Rattle.bt_rows.specs.Rules.{Ascends};
-ghost use Rattle.bt_tree.specs.Searches.{IsPlace, IsRoute, IsSpot, child_at};
+ghost use Rattle.bt_ways.specs.Searches.{IsPlace, IsRoute, IsSpot, child_at};
 
 use bt_page::{Entry, Item, Node};
 use tc_base::Order;

@@ -6,7 +6,7 @@ ghost use Rattle.tc_base.specs.declared.seq.Pair.{Pair};
 ghost use Rattle.tc_io.specs.Causes.{Rose};
 ghost use Rattle.tc_space.specs.Changes.{same};
 ghost use Rattle.tc_space.specs.Frames.{In, Keeps, Refuses, Writes};
-ghost use Rattle.tc_space.specs.Stores.{IsReady, Only};
+ghost use Rattle.tc_space.specs.Stores.{FullBy, IsReady, Only};
 ghost use Rattle.bt_rows.specs.Heads.{head_of};
 ghost use Rattle.bt_rows.specs.Orders.{before_by};
 ghost use Rattle.bt_tree.specs.Filling.{SettlesFull};
@@ -16,7 +16,7 @@ ghost use Rattle.bt_tree.specs.Visits.{StaysTree};
 
 use crate::tree::Tree;
 use bt_rows::TreeHead;
-use tc_base::{Order, set_le};
+use tc_base::{Form, Order, set_le};
 use tc_space::{RecErr, Records};
 
 // Writes a number into the eight bytes at a place.
@@ -70,6 +70,23 @@ impl<R: Records, O: Order> Tree<R, O> {
         let opaque = region_of(&self.head);
         self.store.set_opaque(&opaque);
         match self.store.settle(space) {
+            Ok(()) => Ok(()),
+            Err(e) => Err(e),
+        }
+    }
+
+    /// Packs the store, in the form that it has or in the large one; the pairs stay. After a refusal the space isn't sound, or the file is as it was.
+    pub fn pack(&mut self, space: &mut R::S, form: Form) -> Result<(), RecErr>
+        requires { IsReady R.S.Space (Means R.S.Space R.file_of R.holds (before_by O.cmp)) self.old space.old }
+        ensures packed { OnOk result (Writes R.S.Space (Only (file_in R.file_of self.old)) (Means R.S.Space R.file_of R.holds (before_by O.cmp)) same self.old self.new space.old space.new) }
+        ensures refused { OnErr result (Refuses R.S.Space (Means R.S.Space R.file_of R.holds (before_by O.cmp)) self.old self.new space.old space.new) }
+        ensures full { IsErrOf result RecErr.Full → FullBy (In R.S.Space R.file_of R.holds) R.fills same self.old.store space.old space.new }
+        ensures keeps { Keeps R.S.Space space.old space.new }
+        ensures stays { StaysTree self.old self.new }
+        ensures file { file_in R.file_of self.new ≡ file_in R.file_of self.old }
+        ensures cause { IsErrOf result RecErr.Fault → Rose (R.S.faults space.old) (R.S.faults space.new) }
+    {
+        match self.store.pack(space, form) {
             Ok(()) => Ok(()),
             Err(e) => Err(e),
         }

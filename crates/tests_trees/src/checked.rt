@@ -7,10 +7,17 @@ use tc_base::{Lexical, Mode, Steps, set_le};
 use tc_space::{OpenErr, PutErr, Records};
 use tc_stores::{MemRecords, OneFile};
 
-type Store = MemRecords<OneFile>;
+pub(crate) type Store = MemRecords<OneFile>;
 
 // The numbers of a tree with limits 4 and 4.
-fn region(order: u8, root: u64, last: u64, leaves: u64, nodes: u64, pairs: u64) -> [u8; 128] {
+pub(crate) fn region(
+    order: u8,
+    root: u64,
+    last: u64,
+    leaves: u64,
+    nodes: u64,
+    pairs: u64,
+) -> [u8; 128] {
     let mut region = [0; 128];
     region[0] = order;
     set_le(&mut region, 8, 4, 4);
@@ -41,12 +48,12 @@ fn put(store: &mut Store, space: &mut OneFile, key: &[u8], bytes: &[u8]) -> Resu
 
 // Two leaves under a node, and a further record.
 #[derive(Clone, Copy)]
-struct Pages {
-    node: &'static [u8],
-    left: &'static [u8],
-    right: &'static [u8],
-    key: &'static [u8],
-    more: &'static [u8],
+pub(crate) struct Pages {
+    pub node: &'static [u8],
+    pub left: &'static [u8],
+    pub right: &'static [u8],
+    pub key: &'static [u8],
+    pub more: &'static [u8],
 }
 
 // A node over leaves 1 and 2, parted at `m`.
@@ -56,7 +63,7 @@ const LEFT: &[u8] = b"\0\x02\x01\x01\0a1";
 
 const RIGHT: &[u8] = b"\x01\0\x01\x01\x01m1\x012\x01\x01\0z3";
 
-fn tree() -> Pages {
+pub(crate) fn tree() -> Pages {
     Pages {
         node: NODE,
         left: LEFT,
@@ -66,15 +73,29 @@ fn tree() -> Pages {
     }
 }
 
+// A store of these pages, in file 3.
+pub(crate) fn filled(
+    alloc: Global,
+    space: &mut OneFile,
+    region: &[u8; 128],
+    pages: &Pages,
+) -> Result<Store, PutErr>
+    requires { space.old.sound ≡ true }
+    ensures { OnOk result (space.new.sound ≡ true) }
+{
+    let mut store: Store = MemRecords::new(alloc, 3);
+    put(&mut store, space, b"#1", pages.node)?;
+    put(&mut store, space, b"1", pages.left)?;
+    put(&mut store, space, b"2", pages.right)?;
+    put(&mut store, space, pages.key, pages.more)?;
+    store.set_opaque(region);
+    Ok(store)
+}
+
 // 0 where the rules hold, else the first that fails.
 fn checked(alloc: Global, region: &[u8; 128], index: bool, pages: &Pages) -> Result<u8, Fail> {
     let mut space = OneFile::new(alloc, b"")?;
-    let mut store: Store = MemRecords::new(alloc, 3);
-    put(&mut store, &mut space, b"#1", pages.node)?;
-    put(&mut store, &mut space, b"1", pages.left)?;
-    put(&mut store, &mut space, b"2", pages.right)?;
-    put(&mut store, &mut space, pages.key, pages.more)?;
-    store.set_opaque(region);
+    let mut store = filled(alloc, &mut space, region, pages)?;
     match check_tree::<Store, Lexical>(alloc, &mut store, &mut space, index) {
         Ok(()) => Ok(0),
         Err(OpenErr::Broken { file: 3, rule }) => Ok(rule.number),
@@ -82,7 +103,7 @@ fn checked(alloc: Global, region: &[u8; 128], index: bool, pages: &Pages) -> Res
     }
 }
 
-const ROOT: u64 = (1 << 48) + 1;
+pub(crate) const ROOT: u64 = (1 << 48) + 1;
 
 // The same with other numbers of the tree.
 fn with_numbers(alloc: Global, order: u8, last: u64, pairs: u64) -> Result<u8, Fail> {

@@ -14,15 +14,15 @@ returns-in_default-clause-broken g c = λ before. breaks_at before c.args.head.n
 
 pub returns-then-walked-clause-broken : goal.returns-then-walked-clause-broken
 returns-then-walked-clause-broken g c = λ before. breaks_at before c.args.head.now c.args.index _ _ c.broken-then-walked.result c.file-file.result 4 c.broken-then-walked.ensures c.file-file.ensures
-    (λ m i. fourth_broken c.args.head.now c.args.index (get m) c.in-Ok.collected.ids c.in-Ok.collected.within c.in-Ok.ensures.head (c.in-Ok.ensures.ok m i) before c.in-Some.walked.bottom c.in-Some.walked.uneven
+    (λ m i. fourth_broken c.args.head.now c.args.index (get m) c.in-Ok.collected.ids c.in-Ok.collected.within c.in-Ok.ensures.head (c.in-Ok.ensures.ok m i) before c.in-Some.walked.bottom c.in-Some.walked.uneven c.in-Some.walked.height
     (λ h pages a all. rw c.in-Some.is at (c.in-Ok-walk.ensures.walked m (c.in-Ok.ensures.looks.reads.means m i) h pages a all)) c.if-walked.true)
 
 pub returns-then-not-within-clause-broken : goal.returns-then-not-within-clause-broken
 returns-then-not-within-clause-broken g c = λ before. breaks_at before c.args.head.now c.args.index _ _ c.broken-then-not-within.result c.file-file.result 5 c.broken-then-not-within.ensures c.file-file.ensures
-    (λ m i. fifth_broken c.args.head.now c.args.index (get m) c.in-Ok.collected.ids c.in-Ok.collected.within c.in-Ok.ensures.head (c.in-Ok.ensures.ok m i) before c.in-Some.walked.bottom c.in-Some.walked.uneven
+    (λ m i. fifth_broken c.args.head.now c.args.index (get m) c.in-Ok.collected.ids c.in-Ok.collected.within c.in-Ok.ensures.head (c.in-Ok.ensures.ok m i) before c.in-Some.walked.bottom c.in-Some.walked.uneven c.in-Some.walked.height
     (λ h pages a all. rw c.in-Some.is at (c.in-Ok-walk.ensures.walked m (c.in-Ok.ensures.looks.reads.means m i) h pages a all)) c.if-walked.false c.if-not-within.true)
 
 pub returns-clause-ok : goal.returns-clause-ok
 returns-clause-ok g c = λ m i.
-    pages_stand c.args.head.now c.args.index (get m) c.in-Ok.collected.ids c.in-Ok.collected.within c.in-Ok.ensures.head (c.in-Ok.ensures.ok m i) c.in-Some.walked.bottom c.in-Some.walked.uneven
+    pages_stand c.args.head.now c.args.index (get m) c.in-Ok.collected.ids c.in-Ok.collected.within c.in-Ok.ensures.head (c.in-Ok.ensures.ok m i) c.in-Some.walked.bottom c.in-Some.walked.uneven c.in-Some.walked.height
     (λ h pages a all. rw c.in-Some.is at (c.in-Ok-walk.ensures.walked m (c.in-Ok.ensures.looks.reads.means m i) h pages a all)) c.if-walked.false c.if-not-within.false

@@ -1,4 +1,4 @@
-use Rattle.std.proofs.Common.{◌≡◌, ◌≤◌, ◌+◌, ℕ, btree_set_len}
+use Rattle.std.proofs.Common.{◌≡◌, ◌≤◌, ◌+◌, ℕ, length, btree_set_len}
 use Rattle.std.specs.FinMap.{get}
 use Rattle.tc_base.specs.Maps.{Map as stored}
 use Rattle.tc_space.specs.Frames.{In}
@@ -15,7 +15,9 @@ abbrev pub invariant-rows : goal.invariant-rows
 invariant-rows g l = record {
   looks : Looks g.R.S.Space g.R.Records.file_of g.R.Records.holds g.R.Records.region l.fn.store l.store l.fn.space l.space;
   nodes : g.R.Records.gets l.store + btree_set_len l.ids + leaf_count l.bottom ≤ g.R.Records.gets l.fn.store + btree_set_len l.fn.ids;
-  walking : (m : stored) → In g.R.S.Space g.R.Records.file_of g.R.Records.holds l.fn.store l.fn.space m → (h : TreeHead) (pages : PageMap) → AreHeld h (get m) pages → ((id : ℕ) → has l.fn.ids id ≡ held pages id) → Walking pages l.root l.row l.ids l.bottom l.seen l.uneven;
+  room : l.height + btree_set_len l.ids ≤ btree_set_len l.fn.ids;
+  some : length l.row ≤ 0 → 1 ≤ l.height;
+  walking : (m : stored) → In g.R.S.Space g.R.Records.file_of g.R.Records.holds l.fn.store l.fn.space m → (h : TreeHead) (pages : PageMap) → AreHeld h (get m) pages → ((id : ℕ) → has l.fn.ids id ≡ held pages id) → Walking pages l.root l.row l.ids l.bottom l.seen l.uneven l.height;
 }
 
 abbrev pub decreases-rows : goal.decreases-rows

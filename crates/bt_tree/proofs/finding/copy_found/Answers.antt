@@ -1,7 +1,6 @@
-use Rattle.std.proofs.Common.{◌≡◌, Some, None, true, false, sym, ap, ◌∙◌}
+use Rattle.std.proofs.Common.{Some, ap, ◌∙◌}
 use Rattle.bt_rows.specs.Orders.{before_by}
 use Rattle.bt_rows.proofs.Ordered.{orders_are_strict}
-use Rattle.bt_tree.specs.Searches.{IsSpot}
 use Rattle.bt_tree.proofs.Finds.{found_none, found_some}
 use Rattle.bt_tree.proofs.finding.copy_found.Goals as goal
 

@@ -1,4 +1,4 @@
-use Rattle.bt_tree.proofs.Spots.{child_behind}
+use Rattle.bt_ways.proofs.Spots.{child_behind}
 use Rattle.bt_tree.proofs.searching.child.Goals as goal
 
 pub returns : goal.returns

@@ -3,7 +3,7 @@ use Rattle.std.specs.Ordering.{is_le}
 use Rattle.std.proofs.lemmas.List.Sorted.{IsPartitionPoint-from_clause}
 use Rattle.bt_rows.specs.Orders.{before_by}
 use Rattle.bt_rows.proofs.Ordered.{orders_are_strict}
-use Rattle.bt_tree.proofs.Spots.{items_parted, after_parted, place_of}
+use Rattle.bt_ways.proofs.Spots.{items_parted, after_parted, place_of}
 use Rattle.bt_tree.proofs.searching.count_below.Goals as goal
 
 pub returns-clause-place : goal.returns-clause-place

@@ -2,7 +2,7 @@ use Rattle.std.proofs.Common.{rules, not}
 use Rattle.std.proofs.lemmas.List.Sorted.{IsPartitionPoint-from_clause}
 use Rattle.bt_rows.specs.Orders.{before_by}
 use Rattle.bt_rows.proofs.Ordered.{orders_are_strict}
-use Rattle.bt_tree.proofs.Spots.{entries_parted, route_of}
+use Rattle.bt_ways.proofs.Spots.{entries_parted, route_of}
 use Rattle.bt_tree.proofs.searching.route.Goals as goal
 
 pub returns-clause-route : goal.returns-clause-route

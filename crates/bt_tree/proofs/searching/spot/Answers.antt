@@ -3,7 +3,7 @@ use Rattle.tc_base.specs.Texts.{is_text}
 use Rattle.bt_page.specs.declared.page.Item.{Item}
 use Rattle.bt_rows.specs.Orders.{before_by}
 use Rattle.bt_rows.proofs.Ordered.{orders_are_strict}
-use Rattle.bt_tree.proofs.Spots.{spot_end, spot_compared}
+use Rattle.bt_ways.proofs.Spots.{spot_end, spot_compared}
 use Rattle.bt_tree.proofs.searching.spot.Goals as goal
 
 pub returns-then-place-items-clause-spot : goal.returns-then-place-items-clause-spot

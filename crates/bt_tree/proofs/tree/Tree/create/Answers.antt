@@ -1,4 +1,4 @@
-use Rattle.std.proofs.Common.{refl, sym, arith}
+use Rattle.std.proofs.Common.{refl}
 use Rattle.bt_rows.specs.Orders.{before_by}
 use Rattle.bt_tree.proofs.Descents.{err_on}
 use Rattle.bt_tree.proofs.Makes.{bare_ready, made, unmade, no_more}

@@ -1,4 +1,3 @@
-use Rattle.bt_rows.specs.Orders.{before_by}
 use Rattle.bt_tree.proofs.Finds.{asks_of}
 use Rattle.bt_tree.proofs.tree.Tree.find.Goals as goal
 

@@ -1,7 +1,7 @@
 use Rattle.std.proofs.Common.{◌<◌, ◌^◌, refl, arith}
 use Rattle.bt_rows.specs.Orders.{before_by}
 use Rattle.bt_rows.proofs.Ordered.{orders_are_strict}
-use Rattle.bt_tree.proofs.Descents.{looks_ready, leaf_there, leaf_is_for, visits_leaf, visits_all, err_on}
+use Rattle.bt_tree.proofs.Descents.{looks_ready, leaf_there, leaf_is_for, visits_leaf, visits_all}
 use Rattle.bt_tree.proofs.tree.Tree.leaf_for.Goals as goal
 
 pub leaf-requires-clause-ready : goal.leaf-requires-clause-ready

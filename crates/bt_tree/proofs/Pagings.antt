@@ -1,0 +1,356 @@
+-- Pages of a tree, read and written one by one.
+use Rattle.std.proofs.Common.{◌≡◌, ◌≢◌, ◌⊎◌, ℕ, ◌+◌, ◌<◌, ◌≤◌, ◌^◌, List, [], ◌∷◌, Bool, true, false, Option, Some, None, refl, sym, ap, ◌∙◌, subst, inl, inr, ⊎_elim, arith}
+use Rattle.std.specs.Prelude.{◌==◌}
+use Rattle.std.specs.FinMap.{get, insert}
+use Rattle.std.specs.List.{AllByRecursion}
+use Rattle.std.proofs.lemmas.Bool.{cases_eq}
+use Rattle.std.proofs.lemmas.Bool.Decides.{nat_tests}
+use Rattle.std.proofs.lemmas.Slice.Eq.{bytes_eq-Decides}
+use Rattle.tc_base.specs.Maps.{Map}
+use Rattle.tc_base.specs.Texts.{is_text}
+use Rattle.tc_base.specs.declared.kind.Mode.TheVariants.{Over}
+use Rattle.tc_space.specs.Changes.{put_in}
+use Rattle.tc_space.specs.Frames.{In, Keeps, Others, Writes, keeps_refl, keeps_then}
+use Rattle.tc_space.specs.Stores.{FullBy, IsReady, Only}
+use Rattle.tc_space.specs.declared.space.Space.{Ghosts}
+use Rattle.bt_page.specs.Keys.{node_offset, key_of}
+use Rattle.bt_page.specs.declared.page.Leaf.{Leaf}
+use Rattle.bt_page.specs.declared.page.Node.{Node}
+use Rattle.bt_page.proofs.IdKeys.{key_free}
+use Rattle.bt_rows.specs.declared.head.TreeHead.{TreeHead}
+use Rattle.bt_rows.specs.declared.page.LeafAt.{LeafAt}
+use Rattle.bt_rows.specs.declared.page.Page.{Page}
+use Rattle.bt_rows.specs.declared.page.Page.TheVariants.{Leaf as leaf_page, Node as node_page}
+use Rattle.bt_rows.specs.Pages.{PageMap, IsGiven, IsPage, IsHeldAs, AreHeld}
+use Rattle.bt_rows.specs.Rules.{B1, B2, IsPageAt, column}
+use Rattle.bt_rows.proofs.Held.{given_small, decided, column_free}
+use Rattle.bt_cache.specs.Effects.{Looks}
+use Rattle.bt_cache.specs.Held.{Pages, AreSame, Beside, HasPage, IsThere}
+use Rattle.bt_cache.specs.Shared.{IsSomeLeaf, IsSomeNode}
+use Rattle.bt_cache.proofs.Kept.{insert_here, insert_other}
+use Rattle.bt_ways.specs.Writes.{put_at, put_leaves}
+use Rattle.bt_tree.specs.declared.tree.Tree.{Tree}
+use Rattle.bt_tree.specs.Meaning.{file_in}
+use Rattle.bt_tree.specs.Paging.{Shows, HasLeafAt, HasNodeAt, IsLeafId, IsNodeId, LacksPage, GivenUp, page_bytes}
+use Rattle.bt_tree.proofs.Pages.{has_page}
+
+pub put_here : (pages : PageMap) (id : ℕ) (page : Page) → put_at id page pages id ≡ Some page
+put_here pages id page = let same : (id == id) ≡ true = grind (arith, nat_tests) in rw same refl
+
+pub put_other : (pages : PageMap) (id : ℕ) (page : Page) (other : ℕ) → (other ≡ id → ⊥) → put_at id page pages other ≡ pages other
+put_other pages id page other ne = let no : (other == id) ≡ false = grind (arith, nat_tests) in rw no refl
+
+pub some_leaf : (k l : Leaf) → ◌≡◌ {A = Option Page} (Some (leaf_page k)) (Some (leaf_page l)) → k ≡ l
+some_leaf k l e = cc
+
+pub some_node : (m n : Node) → ◌≡◌ {A = Option Page} (Some (node_page m)) (Some (node_page n)) → m ≡ n
+some_node m n e = cc
+
+pub leaf_node : (l : Leaf) (n : Node) → ◌≡◌ {A = Option Page} (Some (leaf_page l)) (Some (node_page n)) → ⊥
+leaf_node l n e = cc
+
+none_some : {X : Type 0} (x : X) → None ≡ Some x → ⊥
+none_some x e = cc
+
+pub put_all : (Q : ℕ → Option Page → Type 0) (pages : PageMap) (id : ℕ) (page : Page) → Q id (Some page) → ((j : ℕ) → (j ≡ id → ⊥) → Q j (pages j)) → (j : ℕ) → Q j (put_at id page pages j)
+put_all Q pages id page q all j = ⊎_elim
+    (λ (same : j ≡ id). subst (λ (i : ℕ). Q i (put_at id page pages i)) (sym same) (subst (λ (o : Option Page). Q id o) (sym (put_here pages id page)) q))
+    (λ (other : j ≡ id → ⊥). subst (λ (o : Option Page). Q j o) (sym (put_other pages id page j other)) (all j other))
+    (cases_eq j id)
+
+-- what holds of leaves that are put, and of all else, holds of each page
+puts_all : (Q : ℕ → Option Page → Type 0) (ls : List LeafAt) (pages : PageMap) → AllByRecursion (λ l. Q l.slot.id (Some (leaf_page l.leaf))) ls → ((j : ℕ) → Q j (pages j)) → (j : ℕ) → Q j (put_leaves ls pages j)
+puts_all Q [] pages a all j = all j
+puts_all Q (l ∷ ls) pages a all j = puts_all Q ls (put_at l.slot.id (leaf_page l.leaf) pages) a.1 (put_all Q pages l.slot.id (leaf_page l.leaf) a.0 (λ i other. all i)) j
+
+-- the first of them over what held of all else
+pub puts_over : (Q : ℕ → Option Page → Type 0) (pages : PageMap) (l : LeafAt) (ls : List LeafAt) → Q l.slot.id (Some (leaf_page l.leaf)) → AllByRecursion (λ l. Q l.slot.id (Some (leaf_page l.leaf))) ls → ((j : ℕ) → (j ≡ l.slot.id → ⊥) → Q j (pages j))
+    → (j : ℕ) → Q j (put_leaves (l ∷ ls) pages j)
+puts_over Q pages l ls q a all = puts_all Q ls (put_at l.slot.id (leaf_page l.leaf) pages) a (put_all Q pages l.slot.id (leaf_page l.leaf) q all)
+
+-- ---- a page comes under an id that was given
+
+module _ (h : TreeHead) (index : Bool) (m : Map) (pages : PageMap) (id : ℕ) (page : Page) (bytes : List ℕ) (head : B1 h) (given : IsGiven h id) (is : IsPage id bytes page) where
+  pub keys_put : B2 h index (get m) → B2 h index (get (insert m (key_of id) bytes))
+  keys_put rule key value e = go (is_text key (key_of id)) refl
+    where
+      some_same : (x y : List ℕ) → Some x ≡ Some y → x ≡ y
+      some_same x y e = cc
+
+      clash : (b : Bool) → b ≡ true → b ≡ false → ⊥
+      clash b e f = cc
+
+      go : (b : Bool) → is_text key (key_of id) ≡ b → IsPageAt h key value ⊎ ((index ≡ true) × (key ≡ column))
+      go true t =
+          let same : key ≡ key_of id = (bytes_eq-Decides key (key_of id)).0 t in
+          let here : Some bytes ≡ Some value = sym (insert_here m (key_of id) bytes) ∙ ap (get (insert m (key_of id) bytes)) (sym same) ∙ e in
+          inl (record { id = id; given = given; key_is = same; page = page; is = subst (λ (b : List ℕ). IsPage id b page) (some_same bytes value here) is })
+      go false f = rule key value (sym (insert_other m (key_of id) bytes key (λ same. absurd (clash (is_text key (key_of id)) ((bytes_eq-Decides key (key_of id)).1 same) f))) ∙ e)
+
+  pub held_put : AreHeld h (get m) pages → AreHeld h (get (insert m (key_of id) bytes)) (put_at id page pages)
+  held_put held = record {
+    given = λ j g. ⊎_elim (λ (same : j ≡ id). subst (λ (i : ℕ). IsHeldAs i (get (insert m (key_of id) bytes) (key_of i)) (put_at id page pages i)) (sym same) here) (λ (other : j ≡ id → ⊥). there j g other) (cases_eq j id);
+    others = λ j not. put_other pages id page j (λ same. absurd (not (subst (IsGiven h) (sym same) given))) ∙ held.others j not;
+  }
+    where
+      here : IsHeldAs id (get (insert m (key_of id) bytes) (key_of id)) (put_at id page pages id)
+      here =
+          subst (λ (o : Option (List ℕ)). IsHeldAs id o (put_at id page pages id)) (sym (insert_here m (key_of id) bytes))
+          (subst (λ (p : Option Page). IsHeldAs id (Some bytes) p) (sym (put_here pages id page)) is)
+
+      there : (j : ℕ) → IsGiven h j → (j ≡ id → ⊥) → IsHeldAs j (get (insert m (key_of id) bytes) (key_of j)) (put_at id page pages j)
+      there j g other =
+          let apart : key_of j ≢ key_of id = λ e. absurd (other (key_free j id (given_small h j head g) (given_small h id head given) e)) in
+          subst (λ (o : Option (List ℕ)). IsHeldAs j o (put_at id page pages j)) (sym (insert_other m (key_of id) bytes (key_of j) apart))
+          (subst (λ (p : Option Page). IsHeldAs j (get m (key_of j)) p) (sym (put_other pages id page j other)) (held.given j g))
+
+-- ---- further ids are given
+
+pub record Gives (h k : TreeHead) : Type 0 where
+  pub order : k.order ≡ h.order
+  pub leaf_limit : k.leaf_limit ≡ h.leaf_limit
+  pub node_limit : k.node_limit ≡ h.node_limit
+  pub leaves : h.leaf_ids ≤ k.leaf_ids
+  pub nodes : h.node_ids ≤ k.node_ids
+  pub leaves_small : h.leaf_ids < node_offset → k.leaf_ids < node_offset
+  pub nodes_small : h.node_ids < node_offset → k.node_ids < node_offset
+
+module _ (h k : TreeHead) (gives : Gives h k) where
+  pub given_more : (id : ℕ) → IsGiven h id → IsGiven k id
+  given_more id (inl g) = inl (g.0, omega (arith, g.1, gives.leaves))
+  given_more id (inr g) = inr (g.0, omega (arith, g.1, gives.nodes))
+
+  pub head_more : B1 h → B1 k
+  head_more b = record {
+    order = omega (arith, b.order, gives.order);
+    leaf_limit = (omega (arith, b.leaf_limit.0, gives.leaf_limit), omega (arith, b.leaf_limit.1, gives.leaf_limit));
+    node_limit = (omega (arith, b.node_limit.0, gives.node_limit), omega (arith, b.node_limit.1, gives.node_limit));
+    leaf_ids = gives.leaves_small b.leaf_ids;
+    node_ids = gives.nodes_small b.node_ids;
+  }
+
+  page_more : (key bytes : List ℕ) → IsPageAt h key bytes → IsPageAt k key bytes
+  page_more key bytes p = record { id = p.id; given = given_more p.id p.given; key_is = p.key_is; page = p.page; is = p.is }
+
+  module _ (index : Bool) (m : Map) (rule : B2 h index (get m)) where
+    pub keys_more : B2 k index (get m)
+    keys_more key bytes e = ⊎_elim (λ (p : IsPageAt h key bytes). inl (page_more key bytes p)) (λ (col : (index ≡ true) × (key ≡ column)). inr col) (rule key bytes e)
+
+    -- the key of an id that wasn't given isn't held
+    none_there : B1 h → (id : ℕ) → id < 2 ^ 49 → (IsGiven h id → ⊥) → (o : Option (List ℕ)) → get m (key_of id) ≡ o → o ≡ None
+    none_there b id small not None e = refl
+    none_there b id small not (Some bytes) e = absurd (⊎_elim
+        (λ (p : IsPageAt h (key_of id) bytes). not (subst (IsGiven h) (key_free p.id id (given_small h p.id b p.given) small (sym p.key_is)) p.given))
+        (λ (col : (index ≡ true) × (key_of id ≡ column)). column_free id small (sym col.1))
+        (rule (key_of id) bytes e))
+
+    pub held_more : B1 h → (pages : PageMap) → AreHeld h (get m) pages → AreHeld k (get m) pages
+    held_more b pages held = record {
+      given = λ id g. ⊎_elim (λ (was : IsGiven h id). held.given id was)
+          (λ (not : IsGiven h id → ⊥).
+          let none : get m (key_of id) ≡ None = none_there b id (given_small k id (head_more b) g) not (get m (key_of id)) refl in
+          subst (λ (o : Option (List ℕ)). IsHeldAs id o (pages id)) (sym none) (subst (λ (p : Option Page). IsHeldAs id None p) (sym (held.others id not)) tt))
+          (decided h id);
+      others = λ id not. held.others id (λ was. not (given_more id was));
+    }
+
+-- ---- a tree that shows pages
+
+module _ {S V O : Type 0} (s : Ghosts S) (file_of : V → ℕ) (holds : V → List ℕ → Map → Type 0) where
+  pub shown_beside : (t : Tree V O) (a : S) (pages : PageMap) → (h : Shows s file_of holds t a pages) → Beside s file_of holds (t.cache.pages, t.store) a h.1.records
+  shown_beside t a pages h = ((h.0, h.1.store), h.1.same)
+
+  pub ready_beside : (t : Tree V O) (a : S) → IsReady s (Shows s file_of holds) t a → IsReady s (Beside s file_of holds) (t.cache.pages, t.store) a
+  ready_beside t a ready = record { sound = ready.sound; held = λ told. let h = ready.held told in (h.1.1.records, shown_beside t a h.0 h.1) }
+
+  -- pages were looked at
+  pub looked_shows : (t u : Tree V O) (a b : S) → Looks s file_of holds t.cache.pages u.cache.pages t.store u.store a b → u.head ≡ t.head → u.index ≡ t.index
+      → (pages : PageMap) → Shows s file_of holds t a pages → Shows s file_of holds u b pages
+  looked_shows t u a b looks head index pages h =
+      let beside = looks.reads.means h.1.records (shown_beside t a pages h) in (
+        beside.0.0,
+        record {
+          records = h.1.records;
+          store = beside.0.1;
+          same = beside.1;
+          head = subst B1 (sym head) h.1.head;
+          keys = subst (λ (k : TreeHead). B2 k u.index (get h.1.records)) (sym head) (subst (λ (i : Bool). B2 t.head i (get h.1.records)) (sym index) h.1.keys);
+          held = subst (λ (k : TreeHead). AreHeld k (get h.1.records) pages) (sym head) h.1.held;
+        },
+      )
+
+  pub looked_ready : (t u : Tree V O) (a b : S) → Looks s file_of holds t.cache.pages u.cache.pages t.store u.store a b → u.head ≡ t.head → u.index ≡ t.index
+      → IsReady s (Shows s file_of holds) t a → IsReady s (Shows s file_of holds) u b
+  looked_ready t u a b looks head index ready = record { sound = looks.reads.sound; held = λ told. let h = ready.held told in (h.0, looked_shows t u a b looks head index h.0 h.1) }
+
+  -- the tree has other numbers, and all else stays
+  pub more_shows : (t u : Tree V O) (a : S) → u.store ≡ t.store → u.cache.pages ≡ t.cache.pages → u.index ≡ t.index → Gives t.head u.head
+      → (pages : PageMap) → Shows s file_of holds t a pages → Shows s file_of holds u a pages
+  more_shows t u a store cache index gives pages h = (
+    h.0,
+    record {
+      records = h.1.records;
+      store = subst (λ (v : V). holds v (s.now a (file_of v)) h.1.records) (sym store) h.1.store;
+      same = subst (λ (c : Pages). AreSame h.1.records c.entries) (sym cache) h.1.same;
+      head = head_more t.head u.head gives h.1.head;
+      keys = subst (λ (i : Bool). B2 u.head i (get h.1.records)) (sym index) (keys_more t.head u.head gives t.index h.1.records h.1.keys);
+      held = held_more t.head u.head gives t.index h.1.records h.1.keys h.1.head pages h.1.held;
+    },
+  )
+
+  pub more_ready : (t u : Tree V O) (a : S) → u.store ≡ t.store → u.cache.pages ≡ t.cache.pages → u.index ≡ t.index → Gives t.head u.head
+      → IsReady s (Shows s file_of holds) t a → IsReady s (Shows s file_of holds) u a
+  more_ready t u a store cache index gives ready = record { sound = ready.sound; held = λ told. let h = ready.held told in (h.0, more_shows t u a store cache index gives h.0 h.1) }
+
+  pub noted_ready : (t u : Tree V O) (a : S) (k : TreeHead) → u ≡ record t { head = k } → Gives t.head k → IsReady s (Shows s file_of holds) t a → IsReady s (Shows s file_of holds) u a
+  noted_ready t u a k noted gives ready =
+      more_ready t u a (ap (λ (x : Tree V O). x.store) noted) (ap (λ (x : Tree V O). x.cache.pages) noted) (ap (λ (x : Tree V O). x.index) noted) (subst (λ (x : TreeHead). Gives t.head x) (sym (ap (λ (x : Tree V O). x.head) noted)) gives) ready
+
+  -- a page was written
+  pub put_shows : (t u : Tree V O) (a b : S) (id : ℕ) (page : Page) → (s.tells → IsGiven t.head id) → IsPage id (page_bytes page) page
+      → Writes s (Only (file_of t.store)) (Beside s file_of holds) (put_in Over (key_of id) (page_bytes page)) (t.cache.pages, t.store) (u.cache.pages, u.store) a b → u.head ≡ t.head → u.index ≡ t.index
+      → Writes s (Only (file_in file_of t)) (Shows s file_of holds) (put_at id page) t u a b
+  put_shows t u a b id page given is writes head index = record {
+    sound = writes.sound;
+    others = writes.others;
+    means = λ pages h.
+        let m' : Map = insert h.1.records (key_of id) (page_bytes page) in
+        let beside = writes.means h.1.records (shown_beside t a pages h) in (
+          beside.0.0,
+          record {
+            records = m';
+            store = beside.0.1;
+            same = beside.1;
+            head = subst B1 (sym head) h.1.head;
+            keys = subst (λ (k : TreeHead). B2 k u.index (get m')) (sym head) (subst (λ (i : Bool). B2 t.head i (get m')) (sym index) (keys_put t.head t.index h.1.records pages id page (page_bytes page) h.1.head (given h.0) is h.1.keys));
+            held = subst (λ (k : TreeHead). AreHeld k (get m') (put_at id page pages)) (sym head) (held_put t.head t.index h.1.records pages id page (page_bytes page) h.1.head (given h.0) is h.1.held);
+          },
+        );
+  }
+
+-- ---- no room for a page
+
+module _ {S V : Type 0} (s : Ghosts S) (file_of : V → ℕ) (holds : V → List ℕ → Map → Type 0) (fills : V → S → Map → Map → Type 0) where
+  pub lacks_now : (v : V) (c : Pages) (old new : S) (id : ℕ) (page : Page) → IsReady s (Beside s file_of holds) (c, v) old → FullBy (In s file_of holds) fills (put_in Over (key_of id) (page_bytes page)) v old new
+      → LacksPage s file_of holds fills (λ p. p ≡ page) v old new
+  lacks_now v c old new id page ready full = record {
+    store = v;
+    moment = old;
+    refused = new;
+    id = id;
+    page = page;
+    file = refl;
+    since = keeps_refl s old;
+    held = λ told. let h = ready.held told in (h.0, h.1.0);
+    fine = refl;
+    by = full;
+    left = inl refl;
+  }
+
+  -- later on, and of a page of a wider sort
+  pub lacks_after : (P Q : Page → Type 0) (v w : V) (old mid new : S) → Keeps s old mid → file_of w ≡ file_of v → ((p : Page) → P p → Q p) → LacksPage s file_of holds fills P w mid new → LacksPage s file_of holds fills Q v old new
+  lacks_after P Q v w old mid new keeps file wider l = record {
+    store = l.store;
+    moment = l.moment;
+    refused = l.refused;
+    id = l.id;
+    page = l.page;
+    file = l.file ∙ file;
+    since = keeps_then s old mid l.moment keeps l.since;
+    held = l.held;
+    fine = wider l.page l.fine;
+    by = l.by;
+    left = l.left;
+  }
+
+  -- and the space was given up then
+  pub lacks_given_up : (P : Page → Type 0) (v : V) (old mid new : S) → GivenUp s mid new → LacksPage s file_of holds fills P v old mid → LacksPage s file_of holds fills P v old new
+  lacks_given_up P v old mid new up l = record {
+    store = l.store;
+    moment = l.moment;
+    refused = l.refused;
+    id = l.id;
+    page = l.page;
+    file = l.file;
+    since = l.since;
+    held = l.held;
+    fine = l.fine;
+    by = l.by;
+    left = ⊎_elim (λ (here : mid ≡ l.refused). inr (subst (λ (x : S). GivenUp s x new) here up))
+        (λ (before : GivenUp s l.refused mid). inr (record { flag = up.flag; keeps = keeps_then s l.refused mid new before.keeps up.keeps; files = λ told g. up.files told g ∙ before.files told g })) l.left;
+  }
+
+-- ---- a page by value
+
+module _ {S V : Type 0} (s : Ghosts S) (file_of : V → ℕ) (holds : V → List ℕ → Map → Type 0) where
+  pub forget_looks : (c d e : Pages) (v w : V) (a b : S) → Looks s file_of holds c d v w a b → ((m : Map) → AreSame m d.entries → AreSame m e.entries) → e.cap ≡ d.cap → Looks s file_of holds c e v w a b
+  forget_looks c d e v w a b looks same room = record {
+    reads = record {
+      now = looks.reads.now;
+      touched = looks.reads.touched;
+      sound = looks.reads.sound;
+      means = λ m h. let k = looks.reads.means m h in (k.0, same m k.1);
+    };
+    keeps = looks.keeps;
+    room = room ∙ looks.room;
+  }
+
+module _ {S V O : Type 0} (s : Ghosts S) (file_of : V → ℕ) (holds : V → List ℕ → Map → Type 0) (t : Tree V O) (a : S) (id : ℕ) where
+  pub leaf_is_there : HasLeafAt s file_of holds id t a → IsThere s (Beside s file_of holds) IsSomeLeaf id (t.cache.pages, t.store) a
+  leaf_is_there there = λ told.
+      let h = there told in
+      (h.2.1.records, leaf_page h.1, shown_beside s file_of holds t a h.0 h.2, has_page t.head h.2.1.records h.0 id (leaf_page h.1) h.2.1.head h.2.1.held h.3, (h.1, refl))
+
+  pub node_is_there : HasNodeAt s file_of holds id t a → IsThere s (Beside s file_of holds) IsSomeNode id (t.cache.pages, t.store) a
+  node_is_there there = λ told.
+      let h = there told in
+      (h.2.1.records, node_page h.1, shown_beside s file_of holds t a h.0 h.2, has_page t.head h.2.1.records h.0 id (node_page h.1) h.2.1.head h.2.1.held h.3, (h.1, refl))
+
+  pub leaf_read : (read : Leaf) → ((m : Map) (l : Leaf) → Beside s file_of holds (t.cache.pages, t.store) a m → HasPage m id (leaf_page l) → read ≡ l)
+      → (pages : PageMap) (l : Leaf) → Shows s file_of holds t a pages → pages id ≡ Some (leaf_page l) → read ≡ l
+  leaf_read read is pages l h e = is h.1.records l (shown_beside s file_of holds t a pages h) (has_page t.head h.1.records pages id (leaf_page l) h.1.head h.1.held e)
+
+  pub node_read : (read : Node) → ((m : Map) (n : Node) → Beside s file_of holds (t.cache.pages, t.store) a m → HasPage m id (node_page n) → read ≡ n)
+      → (pages : PageMap) (n : Node) → Shows s file_of holds t a pages → pages id ≡ Some (node_page n) → read ≡ n
+  node_read read is pages n h e = is h.1.records n (shown_beside s file_of holds t a pages h) (has_page t.head h.1.records pages id (node_page n) h.1.head h.1.held e)
+
+-- the sort of a page is that of its id
+pub leaf_given : (h : TreeHead) (m : Map) (pages : PageMap) (id : ℕ) (l : Leaf) → B1 h → AreHeld h (get m) pages → pages id ≡ Some (leaf_page l) → IsLeafId h id
+leaf_given h m pages id l head held is = ⊎_elim
+    (λ (g : IsGiven h id). go g (get m (key_of id)) (subst (λ (p : Option Page). IsHeldAs id (get m (key_of id)) p) is (held.given id g)))
+    (λ (not : IsGiven h id → ⊥). absurd (none_some (leaf_page l) (sym (held.others id not) ∙ is)))
+    (decided h id)
+  where
+    go : IsGiven h id → (o : Option (List ℕ)) → IsHeldAs id o (Some (leaf_page l)) → IsLeafId h id
+    go g None x = absurd x
+    go (inl g) (Some bytes) x = g
+    go (inr g) (Some bytes) x = absurd (omega (arith, g.0, x.0))
+
+pub node_given : (h : TreeHead) (m : Map) (pages : PageMap) (id : ℕ) (n : Node) → B1 h → AreHeld h (get m) pages → pages id ≡ Some (node_page n) → IsNodeId h id
+node_given h m pages id n head held is = ⊎_elim
+    (λ (g : IsGiven h id). go g (get m (key_of id)) (subst (λ (p : Option Page). IsHeldAs id (get m (key_of id)) p) is (held.given id g)))
+    (λ (not : IsGiven h id → ⊥). absurd (none_some (node_page n) (sym (held.others id not) ∙ is)))
+    (decided h id)
+  where
+    go : IsGiven h id → (o : Option (List ℕ)) → IsHeldAs id o (Some (node_page n)) → IsNodeId h id
+    go g None x = absurd x
+    go (inl g) (Some bytes) x = absurd (omega (arith, g.1, x.0, head.leaf_ids))
+    go (inr g) (Some bytes) x = g
+
+-- the next ids have no page
+pub leaf_fresh : (h : TreeHead) (m : Map) (pages : PageMap) (id : ℕ) → AreHeld h (get m) pages → h.leaf_ids < id → id < node_offset → pages id ≡ None
+leaf_fresh h m pages id held more small = held.others id (go)
+  where
+    go : IsGiven h id → ⊥
+    go (inl g) = omega (arith, g.1, more)
+    go (inr g) = omega (arith, g.0, small)
+
+pub node_fresh : (h : TreeHead) (m : Map) (pages : PageMap) (id : ℕ) → B1 h → AreHeld h (get m) pages → node_offset + h.node_ids < id → pages id ≡ None
+node_fresh h m pages id head held more = held.others id (go)
+  where
+    go : IsGiven h id → ⊥
+    go (inl g) = omega (arith, g.1, more, head.leaf_ids)
+    go (inr g) = omega (arith, g.1, more)
+
+pub others_at : {S : Type 0} (s : Ghosts S) (f g : ℕ) (a b : S) → f ≡ g → Others s (Only f) a b → Others s (Only g) a b
+others_at s f g a b e o = subst (λ (x : ℕ). Others s (Only x) a b) e o

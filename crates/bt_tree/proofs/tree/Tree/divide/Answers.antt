@@ -1,0 +1,30 @@
+use Rattle.std.proofs.Common.{inr}
+use Rattle.tc_space.specs.Stores.{ready_writes}
+use Rattle.bt_tree.proofs.Climbings.{divided, gives_node, lacks_lower, lacks_upper}
+use Rattle.bt_tree.proofs.Descents.{err_on}
+use Rattle.bt_tree.proofs.Pagings.{noted_ready}
+use Rattle.bt_tree.proofs.tree.Tree.divide.Goals as goal
+
+pub put_node-requires-clause-ready : goal.put_node-requires-clause-ready
+put_node-requires-clause-ready g c = noted_ready g.R.S.Space g.R.Records.file_of g.R.Records.holds c.args.self.now c.node_id.new.self c.args.space.now _ c.in-Ok.ensures.noted (gives_node c.args.self.now.head c.in-Ok.ensures.small) c.requires.ready
+
+pub returns-in-Err-put_node-clause-full : goal.returns-in-Err-put_node-clause-full
+returns-in-Err-put_node-clause-full g c = λ is.
+    inr (lacks_upper g.R.S.Space g.R.Records.file_of g.R.Records.holds g.R.Records.fills c.args.self.now c.node_id.new.self c.args.space.now c.put_node.new.space c.args.node.entries c.in_ok-front.front c.in_ok-front.back c.in_ok-front.up
+    c.in-Ok.ensures.noted c.in_ok-front.ensures.cut c.in_ok-front.ensures.half (c.in-Err-put_node.ensures.full (err_on _ _ is)))
+
+pub put_node-requires-2-clause-ready : goal.put_node-requires-2-clause-ready
+put_node-requires-2-clause-ready g c =
+    ready_writes g.R.S.Space _ _ _ _ _ _ _ c.in_default.ensures.put
+    (noted_ready g.R.S.Space g.R.Records.file_of g.R.Records.holds c.args.self.now c.node_id.new.self c.args.space.now _ c.in-Ok.ensures.noted (gives_node c.args.self.now.head c.in-Ok.ensures.small) c.requires.ready)
+
+pub returns-in-Ok-put_node-clause-divided : goal.returns-in-Ok-put_node-clause-divided
+returns-in-Ok-put_node-clause-divided g c =
+    divided g.R.S.Space g.R.Records.file_of g.R.Records.holds c.args.self.now c.node_id.new.self c.put_node.new.self c.put_node-2.new.self c.args.space.now c.put_node.new.space c.put_node-2.new.space c.args.id c.in-Ok.id c.args.node.heir
+    c.args.node.entries c.in_ok-front.front c.in_ok-front.back c.in_ok-front.up c.in_ok-above.above c.in-Ok.ensures.small c.in-Ok.ensures.noted c.in-Ok.ensures.given c.in_ok-front.ensures.cut c.in_ok-front.ensures.half c.in_ok-above.ensures
+    c.in_default.ensures.put c.in-Ok-put_node.ensures.put c.put_node.ensures.still.file
+
+pub returns-in-Err-put_node-2-clause-full : goal.returns-in-Err-put_node-2-clause-full
+returns-in-Err-put_node-2-clause-full g c = λ is.
+    inr (lacks_lower g.R.S.Space g.R.Records.file_of g.R.Records.holds g.R.Records.fills c.args.self.now c.node_id.new.self c.put_node.new.self c.args.space.now c.put_node.new.space c.put_node-2.new.space c.args.node.entries c.in_ok-front.front c.in_ok-front.back c.in_ok-front.up
+    c.in-Ok.ensures.noted c.in_ok-front.ensures.cut c.in_ok-front.ensures.half c.put_node.ensures.still.keeps c.put_node.ensures.still.file (c.in-Err-put_node-2.ensures.full (err_on _ _ is)))

@@ -1,0 +1,77 @@
+use Rattle.std.proofs.Common.{inl, inr, ⊎_elim}
+use Rattle.bt_rows.specs.Orders.{before_by}
+use Rattle.bt_rows.proofs.Ordered.{orders_are_strict}
+use Rattle.bt_tree.proofs.Descents.{err_on}
+use Rattle.bt_tree.proofs.Finds.{tree_reads}
+use Rattle.bt_tree.proofs.Inserts.{gains_kept, gains_spread, id_given, inserted_kept, inserted_spread, is_crowded, kept_over, lacks_leaf, lacks_piece, leaf_ready, means_ready, none_more, not_both, over_there, put_refused}
+use Rattle.bt_tree.proofs.Pagings.{lacks_given_up}
+use Rattle.bt_tree.proofs.tree.Tree.insert.Goals as goal
+
+pub returns-in-Err-clause-refused : goal.returns-in-Err-clause-refused
+returns-in-Err-clause-refused g c =
+    inr (tree_reads g.R.S.Space g.R.Records.file_of g.R.Records.holds (before_by g.O.Order.cmp) c.args.self.now c.take_pair.new.self c.args.space.now c.take_pair.new.space c.take_pair.ensures.looks.reads c.take_pair.ensures.stays)
+
+pub put_leaf-requires-clause-ready : goal.put_leaf-requires-clause-ready
+put_leaf-requires-clause-ready g c =
+    means_ready g.R.S.Space g.R.Records.file_of g.R.Records.holds (before_by g.O.Order.cmp) c.args.self.now c.take_pair.new.self c.args.space.now c.take_pair.new.space c.take_pair.ensures.looks c.take_pair.ensures.stays c.requires
+
+pub put_leaf-requires-clause-id : goal.put_leaf-requires-clause-id
+put_leaf-requires-clause-id g c =
+    id_given g.R.S.Space g.R.Records.file_of g.R.Records.holds g.O.Order.cmp g.met.O.Order.total (orders_are_strict g.O.Order.cmp g.met.O.Order.total g.met.O.Order.exact) c.args.last c.args.key.now c.args.value.now c.args.self.now c.take_pair.new.self c.args.space.now c.take_pair.new.space c.in-Ok.changed
+    c.take_pair.ensures.looks c.take_pair.ensures.stays c.take_pair.ensures.made.file c.in-Ok.ensures.taken c.requires
+
+pub returns-in-Err-put_leaf-clause-refused : goal.returns-in-Err-put_leaf-clause-refused
+returns-in-Err-put_leaf-clause-refused g c =
+    put_refused g.R.S.Space g.R.Records.file_of g.R.Records.holds (before_by g.O.Order.cmp) g.R.Records.region c.args.self.now c.take_pair.new.self c.put_leaf.new.self c.args.space.now c.take_pair.new.space c.put_leaf.new.space
+    c.take_pair.ensures.looks c.take_pair.ensures.stays c.put_leaf.ensures.still c.in-Err-put_leaf.ensures.refused
+
+pub returns-in-Err-put_leaf-clause-full : goal.returns-in-Err-put_leaf-clause-full
+returns-in-Err-put_leaf-clause-full g c = λ is.
+    inr (lacks_leaf g.R.S.Space g.R.Records.file_of g.R.Records.holds g.O.Order.cmp g.met.O.Order.total (orders_are_strict g.O.Order.cmp g.met.O.Order.total g.met.O.Order.exact) c.args.last c.args.key.now c.args.value.now c.args.self.now c.take_pair.new.self c.args.space.now c.take_pair.new.space c.in-Ok.changed
+    c.take_pair.ensures.looks c.take_pair.ensures.stays c.take_pair.ensures.made.file c.in-Ok.ensures.taken
+    g.R.Records.fills c.put_leaf.new.space (((rw c.as_slice.ensures at c.fits.ensures)).0 c.if-fits.true) (c.in-Err-put_leaf.ensures.full (err_on _ _ is)))
+
+pub returns-then-fits-clause-inserted : goal.returns-then-fits-clause-inserted
+returns-then-fits-clause-inserted g c =
+    inserted_kept g.R.S.Space g.R.Records.file_of g.R.Records.holds g.O.Order.cmp g.met.O.Order.total (orders_are_strict g.O.Order.cmp g.met.O.Order.total g.met.O.Order.exact) c.args.last c.args.key.now c.args.value.now c.args.self.now c.take_pair.new.self c.args.space.now c.take_pair.new.space c.in-Ok.changed
+    c.take_pair.ensures.looks c.take_pair.ensures.stays c.take_pair.ensures.made.file c.in-Ok.ensures.taken
+    c.put_leaf.new.self c.count_pair.new.self c.put_leaf.new.space c.count_pair.ensures g.R.Records.region (((rw c.as_slice.ensures at c.fits.ensures)).0 c.if-fits.true) c.in_default.ensures.put c.put_leaf.ensures.still
+
+pub returns-then-fits-clause-adds : goal.returns-then-fits-clause-adds
+returns-then-fits-clause-adds g c = inl (gains_kept c.args.self.now c.take_pair.new.self c.put_leaf.new.self c.count_pair.new.self _ c.take_pair.ensures.stays c.count_pair.ensures g.R.S.Space g.R.Records.file_of g.R.Records.region _ _ c.put_leaf.ensures.still)
+
+pub part-requires-clause-ready : goal.part-requires-clause-ready
+part-requires-clause-ready g c =
+    leaf_ready g.R.S.Space g.R.Records.file_of g.R.Records.holds g.O.Order.cmp g.met.O.Order.total (orders_are_strict g.O.Order.cmp g.met.O.Order.total g.met.O.Order.exact) c.args.last c.args.key.now c.args.value.now c.args.self.now c.take_pair.new.self c.args.space.now c.take_pair.new.space c.in-Ok.changed
+    c.take_pair.ensures.looks c.take_pair.ensures.stays c.take_pair.ensures.made.file c.in-Ok.ensures.taken c.requires
+
+pub part-requires-clause-over : goal.part-requires-clause-over
+part-requires-clause-over g c =
+    over_there g.R.S.Space g.R.Records.file_of g.R.Records.holds g.O.Order.cmp g.met.O.Order.total (orders_are_strict g.O.Order.cmp g.met.O.Order.total g.met.O.Order.exact) c.args.last c.args.key.now c.args.value.now c.args.self.now c.take_pair.new.self c.args.space.now c.take_pair.new.space c.in-Ok.changed
+    c.take_pair.ensures.looks c.take_pair.ensures.stays c.take_pair.ensures.made.file c.in-Ok.ensures.taken c.requires
+    (λ w. not_both _ ((rw c.as_slice.ensures at c.fits.ensures).1 w) c.if-fits.false)
+
+pub returns-clause-inserted : goal.returns-clause-inserted
+returns-clause-inserted g c =
+    inserted_spread g.R.S.Space g.R.Records.file_of g.R.Records.holds g.O.Order.cmp g.met.O.Order.total (orders_are_strict g.O.Order.cmp g.met.O.Order.total g.met.O.Order.exact) c.args.last c.args.key.now c.args.value.now c.args.self.now c.take_pair.new.self c.args.space.now c.take_pair.new.space c.in-Ok.changed
+    c.take_pair.ensures.looks c.take_pair.ensures.stays c.take_pair.ensures.made.file c.in-Ok.ensures.taken
+    c.part.new.self c.count_pair-2.new.self c.part.new.space c.count_pair-2.ensures c.part.ensures.widens.index c.part.ensures.widens.head c.in_default-part.ensures.parted
+
+pub returns-clause-adds : goal.returns-clause-adds
+returns-clause-adds g c =
+    inr (
+      gains_spread c.args.self.now c.take_pair.new.self c.part.new.self c.count_pair-2.new.self _ c.take_pair.ensures.stays c.count_pair-2.ensures g.R.S.Space g.R.Records.file_of g.R.Records.region _ _ c.in-Ok.ensures.deep c.part.ensures.widens,
+      is_crowded g.R.S.Space g.R.Records.file_of g.R.Records.holds g.O.Order.cmp g.met.O.Order.total (orders_are_strict g.O.Order.cmp g.met.O.Order.total g.met.O.Order.exact) c.args.last c.args.key.now c.args.value.now c.args.self.now c.take_pair.new.self c.args.space.now c.take_pair.new.space c.in-Ok.changed
+          c.take_pair.ensures.looks c.take_pair.ensures.stays c.take_pair.ensures.made.file c.in-Ok.ensures.taken
+          (λ w. not_both _ ((rw c.as_slice.ensures at c.fits.ensures).1 w) c.if-fits.false),
+    )
+
+pub returns-in-Err-part-clause-full : goal.returns-in-Err-part-clause-full
+returns-in-Err-part-clause-full g c = λ is.
+    ⊎_elim (λ used. inl (used, gains_spread c.args.self.now c.take_pair.new.self c.part.new.self c.part.new.self 0 c.take_pair.ensures.stays (none_more c.part.new.self) g.R.S.Space g.R.Records.file_of g.R.Records.region _ _ c.in-Ok.ensures.deep c.part.ensures.widens))
+    (λ lacks. inr (lacks_given_up g.R.S.Space g.R.Records.file_of g.R.Records.holds g.R.Records.fills _ _ _ _ _
+    (record { flag = c.spoil.ensures.spoiled; keeps = kept_over g.R.S.Space c.part.new.space c.spoil.new.self c.spoil.ensures.stays; files = c.spoil.ensures.now })
+    (lacks_piece g.R.S.Space g.R.Records.file_of g.R.Records.holds g.O.Order.cmp g.met.O.Order.total (orders_are_strict g.O.Order.cmp g.met.O.Order.total g.met.O.Order.exact) c.args.last c.args.key.now c.args.value.now c.args.self.now c.take_pair.new.self c.args.space.now c.take_pair.new.space c.in-Ok.changed
+    c.take_pair.ensures.looks c.take_pair.ensures.stays c.take_pair.ensures.made.file c.in-Ok.ensures.taken
+    g.R.Records.fills c.part.new.space lacks)))
+    (c.in-Err-part.ensures.full (err_on _ _ is))

@@ -1,0 +1,83 @@
+-- Entries that climb along the way that a tree has noted.
+use Rattle.std.specs.Prelude.{◌⊎◌, ◌≡◌, ℕ, ◌+◌, ◌≤◌, ◌/◌, List, [], ◌∷◌, ◌++◌, Some, None, length}
+use Rattle.std.specs.List.{AllByRecursion}
+use Rattle.tc_base.specs.Maps.{Map}
+use Rattle.tc_space.specs.Frames.{Keeps}
+use Rattle.tc_space.specs.declared.space.Space.{Ghosts}
+use Rattle.bt_page.specs.Limits.{NodeWithin}
+use Rattle.bt_page.specs.declared.page.Entry.{Entry}
+use Rattle.bt_page.specs.declared.page.Node.{Node}
+use Rattle.bt_rows.specs.declared.page.Page.{Page}
+use Rattle.bt_rows.specs.declared.page.Page.TheVariants.{Node as node_page}
+use Rattle.bt_rows.specs.declared.page.Slot.{Slot}
+use Rattle.bt_rows.specs.Pages.{PageMap}
+use Rattle.bt_ways.specs.Climbs.{ClimbsWith, IsHeldWay}
+use Rattle.bt_ways.specs.Ways.{Crumb, path_of}
+use Rattle.bt_ways.specs.Writes.{put_at}
+use Rattle.bt_tree.specs.declared.tree.Tree.{Tree}
+use Rattle.bt_tree.specs.Paging.{Shows}
+
+abbrev pub NodesWithin : ℕ → PageMap → Type 0
+NodesWithin limit pages = (id : ℕ) (n : Node) → pages id ≡ Some (node_page n) → NodeWithin limit n
+
+-- the way leads from the root to some place, along nodes that are held, and no node is above the limit
+pub record CanClimb (limit : ℕ) (pages : PageMap) (root : ℕ) (path : List (ℕ × ℕ)) : Type 0 where
+  pub crumbs : List Crumb
+  pub place : Slot
+  pub along : path ≡ path_of crumbs
+  pub way : IsHeldWay pages root crumbs place
+  pub within : NodesWithin limit pages
+
+abbrev pub ShowsWay : {S V O : Type 0} → Ghosts S → (V → ℕ) → (V → List ℕ → Map → Type 0) → Tree V O → S → PageMap → Type 0
+ShowsWay s file_of holds t space pages = Shows s file_of holds t space pages × CanClimb t.head.node_limit pages t.head.root t.path
+
+-- whatever it answers: so many ids of nodes are given at most, and so many rows come at most, under another root; all else that is told of the tree stays
+pub record Grows {S V O : Type 0} (s : Ghosts S) (file_of : V → ℕ) (region : V → List ℕ) (nodes rows : ℕ) (t u : Tree V O) (old new : S) : Type 0 where
+  pub keeps : Keeps s old new
+  pub file : file_of u.store ≡ file_of t.store
+  pub region_same : region u.store ≡ region t.store
+  pub index : u.index ≡ t.index
+  pub head : u.head ≡ record t.head { root = u.head.root; node_ids = u.head.node_ids }
+  pub nodes_least : t.head.node_ids ≤ u.head.node_ids
+  pub nodes_most : u.head.node_ids ≤ t.head.node_ids + nodes
+  pub rows_least : t.height ≤ u.height
+  pub rows_most : u.height ≤ t.height + rows
+
+-- a node is written as two: an entry in its middle goes on up under the id of the second, which no page had
+pub record Divided (id : ℕ) (node : Node) (above : List Entry) (old new : PageMap) : Type 0 where
+  pub second : ℕ
+  pub front : List Entry
+  pub up : Entry
+  pub back : List Entry
+  pub fresh : old second ≡ None
+  pub cut : node.entries ≡ front ++ up ∷ back
+  pub half : length front ≡ length node.entries / 2
+  pub are : new ≡ put_at id (node_page (record { heir = node.heir; entries = front })) (put_at second (node_page (record { heir = up.child; entries = back })) old)
+  pub above_is : above ≡ record { child = second; key = up.key } ∷ []
+
+-- a key is one of these
+abbrev pub IsAmong : {X : Type 0} → (X → List ℕ) → List ℕ → List X → Type 0
+IsAmong f key [] = ⊥
+IsAmong f key (x ∷ xs) = (f x ≡ key) ⊎ IsAmong f key xs
+
+abbrev pub entry_key : Entry → List ℕ
+entry_key e = e.key
+
+-- a key of an entry stood in a node among the pages
+pub record StoodIn (pages : PageMap) (key : List ℕ) : Type 0 where
+  pub id : ℕ
+  pub node : Node
+  pub is : pages id ≡ Some (node_page node)
+  pub among : IsAmong entry_key key node.entries
+
+-- a node of so many entries at most, whose keys are those of these
+abbrev pub IsNodeOf : ℕ → List Entry → Page → Type 0
+IsNodeOf most entries p = (n : Node) × (p ≡ node_page n) × (length n.entries ≤ most) × AllByRecursion (λ e. IsAmong entry_key e.key entries) n.entries
+
+-- a node within the limit, whose keys are those that are added or stood in a node
+abbrev pub IsKnownNode : ℕ → List Entry → PageMap → Page → Type 0
+IsKnownNode limit added pages p = (n : Node) × (p ≡ node_page n) × NodeWithin limit n × AllByRecursion (λ e. IsAmong entry_key e.key added ⊎ StoodIn pages e.key) n.entries
+
+-- the entries climbed
+abbrev pub Climbs : {V O : Type 0} → Tree V O → Tree V O → List Entry → PageMap → PageMap → Type 0
+Climbs t u added old new = ClimbsWith t.head.node_limit old new t.height u.height t.head.root u.head.root t.path added

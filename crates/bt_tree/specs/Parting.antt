@@ -1,0 +1,116 @@
+-- A leaf that is written as several.
+use Rattle.std.specs.Prelude.{◌≡◌, ◌⊎◌, ℕ, ◌+◌, ◌<◌, ◌≤◌, List, [], ◌∷◌, ◌++◌, Some, length, map, ◌==◌, if◌then◌else◌}
+use Rattle.std.specs.List.{AllByRecursion}
+use Rattle.tc_base.specs.Maps.{Map}
+use Rattle.tc_space.specs.Frames.{Keeps}
+use Rattle.tc_space.specs.declared.space.Space.{Ghosts}
+use Rattle.bt_page.specs.Limits.{NodeWithin}
+use Rattle.bt_page.specs.declared.page.Item.{Item}
+use Rattle.bt_page.specs.declared.page.Leaf.{Leaf}
+use Rattle.bt_rows.specs.declared.head.TreeHead.{TreeHead}
+use Rattle.bt_rows.specs.declared.page.LeafAt.{LeafAt}
+use Rattle.bt_rows.specs.declared.page.Page.{Page}
+use Rattle.bt_rows.specs.declared.page.Page.TheVariants.{Leaf as leaf_page, Node as node_page}
+use Rattle.bt_rows.specs.declared.page.Slot.{Slot}
+use Rattle.bt_rows.specs.Levels.{LeavesHeld}
+use Rattle.bt_rows.specs.Pages.{PageMap}
+use Rattle.bt_rows.specs.Rows.{first_id, last_id}
+use Rattle.bt_ways.specs.Changes.{ItemsWithin}
+use Rattle.bt_ways.specs.Climbs.{ClimbsWith}
+use Rattle.bt_ways.specs.Parts.{AreFresh, HasItems, Part, all_items, part_entry, parted, relinked, with_parts}
+use Rattle.bt_ways.specs.Writes.{put_at}
+use Rattle.bt_tree.specs.declared.tree.Tree.{Tree}
+use Rattle.bt_tree.specs.declared.parting.Laid.{Laid}
+use Rattle.bt_tree.specs.declared.parting.Parted.{Parted}
+use Rattle.bt_tree.specs.Climbing.{CanClimb, IsAmong, StoodIn}
+use Rattle.bt_tree.specs.Paging.{Shows}
+
+-- with these leaves at their ids, the last one last
+abbrev pub put_laid : List Laid → PageMap → PageMap
+put_laid [] pages = pages
+put_laid (l ∷ ls) pages = put_laid ls (put_at l.id (leaf_page l.leaf) pages)
+
+-- the page is one of these leaves
+abbrev pub IsLaid : List Laid → Page → Type 0
+IsLaid [] p = ⊥
+IsLaid (l ∷ ls) p = (p ≡ leaf_page l.leaf) ⊎ IsLaid ls p
+
+abbrev pub laid_at : ℕ → ℕ → ℕ → List Item → Laid
+laid_at id prev next items = record { id = id; leaf = record { prev = prev; next = next; items = items } }
+
+-- the leaves in the place of one, by their ids
+abbrev pub laid_parts : ℕ → ℕ → ℕ → List Item → List Part → List Laid
+laid_parts id prev next items [] = laid_at id prev next items ∷ []
+laid_parts id prev next items (p ∷ ps) = laid_at id prev p.id items ∷ laid_parts p.id id next p.items ps
+
+abbrev pub last_part : ℕ → List Part → ℕ
+last_part id [] = id
+last_part id (p ∷ ps) = last_part p.id ps
+
+-- the new leaves of a second and a third part, which may be empty, under the next ids
+abbrev pub parts_from : ℕ → List Item → List Item → List Part
+parts_from given second [] = record { id = given + 1; items = second } ∷ []
+parts_from given second (x ∷ third) = record { id = given + 1; items = second } ∷ record { id = given + 1 + 1; items = x ∷ third } ∷ []
+
+-- the leaves, the entries over the new ones, and the last one's id
+pub record ArePartsOf (id prev next : ℕ) (items : List Item) (parts : List Part) (p : Parted) : Type 0 where
+  pub leaves : p.leaves ≡ laid_parts id prev next items parts
+  pub added : p.added ≡ map part_entry parts
+  pub last : p.last ≡ last_part id parts
+
+-- the leaf behind, if there is one, has another before it
+pub record AddsBehind (next prev : ℕ) (pages : PageMap) (old new : List Laid) : Type 0 where
+  pub none : next ≡ 0 → new ≡ old
+  pub some : (l : Leaf) → (next ≡ 0 → ⊥) → pages next ≡ Some (leaf_page l) → new ≡ old ++ laid_at next prev l.next l.items ∷ []
+
+-- a leaf stands at an id and, if one is named, behind it, and the noted way may be climbed
+pub record AtLeaf (limit root : ℕ) (path : List (ℕ × ℕ)) (id next : ℕ) (pages : PageMap) : Type 0 where
+  pub was : Leaf
+  pub here : pages id ≡ Some (leaf_page was)
+  pub behind : (next ≡ 0 → ⊥) → (l : Leaf) × (pages next ≡ Some (leaf_page l))
+  pub way : CanClimb limit pages root path
+
+abbrev pub ShowsLeaf : {S V O : Type 0} → Ghosts S → (V → ℕ) → (V → List ℕ → Map → Type 0) → ℕ → ℕ → Tree V O → S → PageMap → Type 0
+ShowsLeaf s file_of holds id next t space pages = Shows s file_of holds t space pages × AtLeaf t.head.node_limit t.head.root t.path id next pages
+
+-- the leaf became several within the limits, whose entries have climbed
+pub record IsParted {V O : Type 0} (t u : Tree V O) (id : ℕ) (leaf : Leaf) (old new : PageMap) : Type 0 where
+  pub items : List Item
+  pub parts : List Part
+  pub whole : leaf.items ≡ all_items items parts
+  pub some : 0 < length items
+  pub have : AllByRecursion HasItems parts
+  pub within : ItemsWithin t.head.leaf_limit items
+  pub are_within : AllByRecursion (λ p. ItemsWithin t.head.leaf_limit p.items) parts
+  pub fresh : AreFresh old parts
+  pub given : AllByRecursion (λ p. 1 ≤ p.id) parts
+  pub last : u.head.last ≡ (if leaf.next == 0 then last_part id parts else t.head.last)
+  pub climbs : (s : Slot) (back : List LeafAt) → s.id ≡ id → LeavesHeld old back → leaf.next ≡ first_id back → (leaf.next ≡ 0 → back ≡ [])
+      → ClimbsWith t.head.node_limit (with_parts old (parted s leaf.prev leaf.next items parts) (relinked (last_id 0 (parted s leaf.prev leaf.next items parts)) back)) new
+      t.height u.height t.head.root u.head.root t.path (map part_entry parts)
+
+-- some of these, one behind the other
+abbrev pub IsStretch : {X : Type 0} → List X → List X → Type 0
+IsStretch {X} xs ys = (a : List X) × (b : List X) × (ys ≡ a ++ (xs ++ b))
+
+abbrev pub item_key : Item → List ℕ
+item_key x = x.key
+
+-- a part of the items that is within the limit, the items of the leaf behind, or a node within the limit, whose keys are those of items or stood in a node
+abbrev pub IsPiece : TreeHead → List Item → ℕ → PageMap → Page → Type 0
+IsPiece h items next pages (leaf_page l) = (ItemsWithin h.leaf_limit l.items × IsStretch l.items items) ⊎ ((k : Leaf) × (pages next ≡ Some (leaf_page k)) × (l.items ≡ k.items))
+IsPiece h items next pages (node_page n) = NodeWithin h.node_limit n × AllByRecursion (λ e. IsAmong item_key e.key items ⊎ StoodIn pages e.key) n.entries
+
+-- whatever it answers: so many ids of nodes are given at most, two of leaves and one row, under another root and another last leaf; all else that is told of the tree stays
+pub record Widens {S V O : Type 0} (s : Ghosts S) (file_of : V → ℕ) (region : V → List ℕ) (nodes : ℕ) (t u : Tree V O) (old new : S) : Type 0 where
+  pub keeps : Keeps s old new
+  pub file : file_of u.store ≡ file_of t.store
+  pub region_same : region u.store ≡ region t.store
+  pub index : u.index ≡ t.index
+  pub head : u.head ≡ record t.head { root = u.head.root; last = u.head.last; leaf_ids = u.head.leaf_ids; node_ids = u.head.node_ids }
+  pub leaves_least : t.head.leaf_ids ≤ u.head.leaf_ids
+  pub leaves_most : u.head.leaf_ids ≤ t.head.leaf_ids + 2
+  pub nodes_least : t.head.node_ids ≤ u.head.node_ids
+  pub nodes_most : u.head.node_ids ≤ t.head.node_ids + nodes
+  pub rows_least : t.height ≤ u.height
+  pub rows_most : u.height ≤ t.height + 1

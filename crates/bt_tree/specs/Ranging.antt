@@ -1,0 +1,106 @@
+-- The first pairs of a stretch of keys.
+use Rattle.std.specs.Prelude.{◌≡◌, ◌≢◌, ◌⊎◌, ℕ, ◌+◌, ◌≤◌, List, [], ◌∷◌, ◌++◌, map, take, drop, length, Bool, true, false, nat_lt, if◌then◌else◌}
+use Rattle.std.specs.FinMap.{get}
+use Rattle.std.specs.List.{AllByRecursion, flat_map}
+use Rattle.tc_base.specs.Lists.{pair}
+use Rattle.tc_base.specs.Maps.{Map}
+use Rattle.tc_base.specs.declared.order.Side.{Side}
+use Rattle.tc_base.specs.declared.order.Side.TheVariants as side
+use Rattle.tc_base.specs.declared.seq.Pair.{Pair}
+use Rattle.tc_space.specs.Changes.{inside, is_inside}
+use Rattle.tc_space.specs.Frames.{Keeps, Reads}
+use Rattle.tc_space.specs.Stores.{Ticks}
+use Rattle.tc_space.specs.declared.space.Space.{Ghosts}
+use Rattle.bt_page.specs.declared.page.Item.{Item}
+use Rattle.bt_page.specs.declared.page.Leaf.{Leaf}
+use Rattle.bt_rows.specs.declared.page.LeafAt.{LeafAt}
+use Rattle.bt_rows.specs.Orders.{Before}
+use Rattle.bt_rows.specs.Rules.{item_pairs, leaf_pairs}
+use Rattle.bt_cache.specs.Held.{Beside}
+use Rattle.bt_tree.specs.declared.tree.Tree.{Tree}
+use Rattle.bt_tree.specs.Meaning.{Means}
+use Rattle.bt_tree.specs.Trees.{HoldsPairs}
+use Rattle.bt_tree.specs.Visits.{StaysTree}
+
+-- ---- what is seen from outside
+
+-- nothing is written, the pairs stay, and the counter rises by at least as much as the store was asked
+pub record Scans {S V O : Type 0} (s : Ghosts S) (file_of : V → ℕ) (holds : V → List ℕ → Map → Type 0) (region : V → List ℕ) (gets : V → ℕ) (before : Before) (t u : Tree V O) (steps steps' : ℕ) (old new : S) : Type 0 where
+  pub reads : Reads s (Means s file_of holds before) t u old new
+  pub keeps : Keeps s old new
+  pub file : file_of u.store ≡ file_of t.store
+  pub region_same : region u.store ≡ region t.store
+  pub ticks : Ticks (gets t.store) (gets u.store) steps steps'
+  pub stays : StaysTree t u
+
+-- how many leaves hold a pair of the stretch
+abbrev pub leaves_inside : (List ℕ → Side) → List LeafAt → ℕ
+leaves_inside side [] = 0
+leaves_inside side (l ∷ ls) = (if nat_lt 0 (length (inside side (leaf_pairs l))) then 1 else 0) + leaves_inside side ls
+
+-- whatever tree was meant, the most pages that are read are its height, its leaves that hold a pair of the stretch, and one more; whatever a store tells, they are its height and as many as
+-- pairs are wanted
+pub record FewPages {S V O : Type 0} (s : Ghosts S) (file_of : V → ℕ) (holds : V → List ℕ → Map → Type 0) (before : Before) (side : List ℕ → Side) (max : ℕ) (t : Tree V O) (old : S) (steps steps' : ℕ) : Type 0 where
+  pub leaves : (m : Map) (ps : List Pair) (is : HoldsPairs before t.head t.height t.index (get m) ps) → Beside s file_of holds (t.cache.pages, t.store) old m → steps' ≤ steps + t.height + 1 + leaves_inside side is.tree.leaves
+  pub most : steps' ≤ steps + t.height + max
+
+-- ---- in one page
+
+abbrev pub is_front : Side → Bool
+is_front side.Before = true
+is_front side.Inside = false
+is_front side.After = false
+
+abbrev pub is_from : Side → Bool
+is_from side.Before = false
+is_from side.Inside = true
+is_from side.After = true
+
+-- the front end of a stretch, in place of a key: all that isn't in front of the stretch is above it
+abbrev pub start_of : (List ℕ → Side) → Before
+start_of side any key = is_from (side key)
+
+-- so many items are in front of a stretch, and the others aren't
+pub record IsStart (side : List ℕ → Side) (items : List Item) (place : ℕ) : Type 0 where
+  pub front : AllByRecursion (λ x. is_front (side x.key) ≡ true) (take place items)
+  pub others : AllByRecursion (λ x. is_from (side x.key) ≡ true) (drop place items)
+
+-- the first of these pairs isn't inside
+pub record StartsOutside (side : List ℕ → Side) (ps : List Pair) : Type 0 where
+  pub first : Pair
+  pub rest : List Pair
+  pub are : ps ≡ first ∷ rest
+  pub outside : is_inside (side first.key) ≡ false
+
+-- so many values of an item went in, all of them or as many as there was room for
+pub record IsFilled (max : ℕ) (item : Item) (old new : List Pair) (all : Bool) : Type 0 where
+  pub went : ℕ
+  pub grown : new ≡ old ++ map (pair item.key) (take went item.values)
+  pub whole : all ≡ true → take went item.values ≡ item.values
+  pub full : all ≡ false → max ≤ length new
+  pub room : length old ≤ max → length new ≤ max
+
+-- the pairs of items went in as long as they are inside and there was room
+pub record IsAdded (side : List ℕ → Side) (max : ℕ) (ps old new : List Pair) (all : Bool) : Type 0 where
+  pub went : List Pair
+  pub left : List Pair
+  pub are : ps ≡ went ++ left
+  pub inside : AllByRecursion (λ p. is_inside (side p.key) ≡ true) went
+  pub grown : new ≡ old ++ went
+  pub whole : all ≡ true → left ≡ []
+  pub ended : all ≡ false → (max ≤ length new) ⊎ StartsOutside side left
+  pub room : length old ≤ max → length new ≤ max
+
+-- of a leaf those inside went in, and the next leaf is told where there may be more
+pub record IsScanned (side : List ℕ → Side) (max : ℕ) (l : Leaf) (old new : List Pair) (next : ℕ) : Type 0 where
+  pub front : List Pair
+  pub went : List Pair
+  pub left : List Pair
+  pub are : flat_map item_pairs l.items ≡ front ++ (went ++ left)
+  pub skipped : AllByRecursion (λ p. is_front (side p.key) ≡ true) front
+  pub inside : AllByRecursion (λ p. is_inside (side p.key) ≡ true) went
+  pub from : AllByRecursion (λ p. is_from (side p.key) ≡ true) left
+  pub grown : new ≡ old ++ went
+  pub room : length old ≤ max → length new ≤ max
+  pub on : next ≢ 0 → (left ≡ []) × (next ≡ l.next)
+  pub ended : next ≡ 0 → (max ≤ length new) ⊎ (((left ≡ []) × (l.next ≡ 0)) ⊎ StartsOutside side left)

@@ -1,0 +1,158 @@
+//! Entries put into the nodes above a place.
+ghost use Rattle.std.specs.Prelude.{◌≡◌, ◌+◌, ◌-◌, ◌<◌, ◌≤◌, ◌/◌, ◌^◌, ◌⊎◌, ◌++◌, ◌∷◌, [], suc, length, take, drop, IfOk, OnOk, IsErrOf};
+ghost use Rattle.tc_io.specs.Causes.{Rose};
+ghost use Rattle.tc_space.specs.Stores.{IsReady, Only};
+ghost use Rattle.bt_rows.specs.Pages.{PageMap};
+ghost use Rattle.bt_ways.specs.Laws.{spliced};
+ghost use Rattle.bt_tree.specs.Climbing.{Climbs, Divided, Grows, IsKnownNode, IsNodeOf, ShowsWay};
+ghost use Rattle.bt_tree.specs.Meaning.{file_in};
+ghost use Rattle.bt_tree.specs.Paging.{IsNodeId, IsUsedUp, LacksPage, Shows, Turns};
+
+use crate::tree::Tree;
+use bt_page::{Entry, Node};
+use std::alloc::{AllocError, Global};
+use tc_base::{Order, Seq, Steps};
+use tc_space::{RecErr, Records};
+
+// Puts entries in behind so many.
+fn splice(entries: Seq<Entry>, place: usize, added: Seq<Entry>) -> Result<Seq<Entry>, AllocError>
+    requires { place ≤ length entries }
+    ensures { IfOk result (λ all. all ≡ spliced entries place added) }
+{
+    let mut all = entries.into_vec();
+    let mut back = all.split_off(place)?;
+    let mut added = added.into_vec();
+    all.append(&mut added)?;
+    all.append(&mut back)?;
+    Ok(Seq::from_vec(all))
+}
+
+// The entries in front of the middle one, that one, and those behind it.
+fn halves(entries: Seq<Entry>) -> Result<(Seq<Entry>, Entry, Seq<Entry>), AllocError>
+    ensures cut { IfOk result (λ h. entries ≡ h.0 ++ h.1 ∷ h.2) }
+    ensures half { IfOk result (λ h. length h.0 ≡ length entries / 2) }
+{
+    let mut front = entries.into_vec();
+    let at = front.len() / 2;
+    let mut back = front.split_off(at)?;
+    if back.is_empty() {
+        return Err(AllocError);
+    }
+    let up = back.remove(0);
+    Ok((Seq::from_vec(front), up, Seq::from_vec(back)))
+}
+
+// The one entry of a page.
+fn lone(alloc: Global, child: u64, entry: Entry) -> Result<Seq<Entry>, AllocError>
+    ensures { IfOk result (λ all. all ≡ record { child = child; key = entry.key } ∷ []) }
+{
+    let mut all = Seq::new(alloc);
+    let key = entry.key;
+    all.push(Entry { child, key })?;
+    Ok(all)
+}
+
+impl<R: Records, O: Order> Tree<R, O> {
+    // Writes a node as two, and gives the entry of the second.
+    fn divide(&mut self, space: &mut R::S, id: u64, node: Node) -> Result<Seq<Entry>, RecErr>
+        requires ready { IsReady R.S.Space (Shows R.S.Space R.file_of R.holds) self.old space.old }
+        requires id { R.S.tells → IsNodeId self.old.head id }
+        ensures divided { IfOk result (λ above. Turns R.S.Space (Only (file_in R.file_of self.old)) (Shows R.S.Space R.file_of R.holds) (Shows R.S.Space R.file_of R.holds) (Divided id node above) self.old self.new space.old space.new) }
+        ensures one { IfOk result (λ above. length above ≡ 1) }
+        ensures full { IsErrOf result RecErr.Full → IsUsedUp self.new.head ⊎ LacksPage R.S.Space R.file_of R.holds R.fills (IsNodeOf (length node.entries / 2) node.entries) self.old.store space.old space.new }
+        ensures grows { Grows R.S.Space R.file_of R.region 1 0 self.old self.new space.old space.new }
+        ensures way { (self.new.path ≡ self.old.path) × (self.new.head.root ≡ self.old.head.root) }
+        ensures cause { IsErrOf result RecErr.Fault → Rose (R.S.faults space.old) (R.S.faults space.new) }
+    {
+        let second = match self.node_id() {
+            Ok(id) => id,
+            Err(e) => return Err(e),
+        };
+        let (front, up, back) = halves(node.entries)?;
+        let upper = Node {
+            heir: up.child,
+            entries: back,
+        };
+        let above = lone(self.alloc, second, up)?;
+        if let Err(e) = self.put_node(space, second, upper) {
+            return Err(e);
+        }
+        let lower = Node {
+            heir: node.heir,
+            entries: front,
+        };
+        match self.put_node(space, id, lower) {
+            Ok(()) => Ok(above),
+            Err(e) => Err(e),
+        }
+    }
+
+    // Writes a new root over the old one.
+    fn grow(&mut self, space: &mut R::S, added: Seq<Entry>) -> Result<(), RecErr>
+        requires ready { IsReady R.S.Space (ShowsWay R.S.Space R.file_of R.holds) self.old space.old }
+        requires root { self.old.path ≡ [] }
+        requires few { length added ≤ 2 }
+        requires rows { self.old.height < 2 ^ 64 - 1 }
+        ensures climbed { OnOk result (Turns R.S.Space (Only (file_in R.file_of self.old)) (ShowsWay R.S.Space R.file_of R.holds) (Shows R.S.Space R.file_of R.holds) (Climbs self.old self.new added) self.old self.new space.old space.new) }
+        ensures full { IsErrOf result RecErr.Full → IsUsedUp self.new.head ⊎ LacksPage R.S.Space R.file_of R.holds R.fills (IsNodeOf 2 added) self.old.store space.old space.new }
+        ensures grows { Grows R.S.Space R.file_of R.region 1 1 self.old self.new space.old space.new }
+        ensures cause { IsErrOf result RecErr.Fault → Rose (R.S.faults space.old) (R.S.faults space.new) }
+    {
+        let id = match self.node_id() {
+            Ok(id) => id,
+            Err(e) => return Err(e),
+        };
+        let node = Node {
+            heir: self.head.root,
+            entries: added,
+        };
+        match self.put_node(space, id, node) {
+            Ok(()) => {
+                self.head.root = id;
+                self.height += 1;
+                Ok(())
+            }
+            Err(e) => Err(e),
+        }
+    }
+
+    /// Puts entries behind the place that the noted way leads to: into the lowest node of the way, which is written, as two where it grows beyond its limit, whose middle entry then goes on up; past the root
+    /// a new root is written. After a refusal some of it may have been written.
+    pub(crate) fn climb<L>(
+        &mut self,
+        space: &mut R::S,
+        added: Seq<Entry>,
+        steps: &mut Steps<L>,
+    ) -> Result<(), RecErr>
+        requires ready { IsReady R.S.Space (ShowsWay R.S.Space R.file_of R.holds) self.old space.old }
+        requires few { length added ≤ 2 }
+        requires rows { self.old.height < 2 ^ 64 - 1 }
+        ensures climbed { OnOk result (Turns R.S.Space (Only (file_in R.file_of self.old)) (ShowsWay R.S.Space R.file_of R.holds) (Shows R.S.Space R.file_of R.holds) (Climbs self.old self.new added) self.old self.new space.old space.new) }
+        ensures full { IsErrOf result RecErr.Full → IsUsedUp self.new.head ⊎ LacksPage R.S.Space R.file_of R.holds R.fills (λ p. (pages : PageMap) → ShowsWay R.S.Space R.file_of R.holds self.old space.old pages → IsKnownNode self.old.head.node_limit added pages p) self.old.store space.old space.new }
+        ensures grows { Grows R.S.Space R.file_of R.region (suc (length self.old.path)) 1 self.old self.new space.old space.new }
+        ensures cause { IsErrOf result RecErr.Fault → Rose (R.S.faults space.old) (R.S.faults space.new) }
+    {
+        let Some((id, place)) = self.path.pop() else {
+            return self.grow(space, added);
+        };
+        let node = match self.own_node(space, id, steps) {
+            Ok(node) => node,
+            Err(e) => return Err(e),
+        };
+        if place > node.entries.len() {
+            return Err(RecErr::Memory);
+        }
+        let node = Node {
+            heir: node.heir,
+            entries: splice(node.entries, place, added)?,
+        };
+        if node.entries.len() <= self.head.node_limit as usize {
+            return self.put_node(space, id, node);
+        }
+        let above = match self.divide(space, id, node) {
+            Ok(above) => above,
+            Err(e) => return Err(e),
+        };
+        self.climb(space, above, steps)
+    }
+}

@@ -1,0 +1,86 @@
+//! A tree that stands in a store, opened.
+ghost use Rattle.std.specs.Prelude.{◌≡◌, true, false, IfOk, IfErr, IsErrOf};
+ghost use Rattle.tc_io.specs.Causes.{Rose};
+ghost use Rattle.tc_space.specs.Frames.{In, OnlyReads};
+ghost use Rattle.tc_space.specs.Stores.{IsReady};
+ghost use Rattle.bt_rows.specs.Heads.{head_of};
+ghost use Rattle.bt_rows.specs.Orders.{before_by};
+ghost use Rattle.bt_check.specs.Verdicts.{Breaks};
+ghost use Rattle.bt_tree.specs.Opening.{IsOpened, IsOrdered};
+
+use crate::making::ROOM;
+use crate::path::Path;
+use crate::tree::Tree;
+use bt_cache::Cache;
+use bt_check::measure_tree;
+use bt_rows::TreeHead;
+use std::alloc::Global;
+use std::marker::PhantomData;
+use tc_base::Order;
+use tc_space::{OpenErr, Records};
+
+impl<R: Records + Drop, O: Order> Tree<R, O> {
+    // The tree that stands in a store; whether the record `column` may stand beside it is told.
+    fn open_as(
+        alloc: Global,
+        store: R,
+        space: &mut R::S,
+        index: bool,
+    ) -> Result<Tree<R, O>, OpenErr>
+        requires ready { IsReady R.S.Space (In R.S.Space R.file_of R.holds) store space.old }
+        requires order { IsOrdered O.CODE (head_of (R.region store)) }
+        ensures opened { IfOk result (λ t. IsOpened R.S.Space R.file_of R.holds R.region (before_by O.cmp) O.CODE index store t space.old space.new) }
+        ensures broken { IfErr result (λ e. Breaks (before_by O.cmp) (head_of (R.region store)) index (R.file_of store) (In R.S.Space R.file_of R.holds store space.old) e) }
+        ensures reads { OnlyReads R.S.Space space.old space.new }
+        ensures cause { IsErrOf result OpenErr.Fault → Rose (R.S.faults space.old) (R.S.faults space.new) }
+    {
+        let mut store = store;
+        let height = match measure_tree::<R, O>(alloc, &mut store, space, index) {
+            Ok(height) => height,
+            Err(e) => return Err(e),
+        };
+        let cache = Cache::new(alloc, ROOM)?;
+        let head = TreeHead::read(&store.opaque());
+        Ok(Tree {
+            alloc,
+            store,
+            cache,
+            head,
+            height,
+            index,
+            path: Path::new(alloc),
+            of: PhantomData,
+        })
+    }
+
+    /// The tree that stands in a store. Its rules are checked in their order, and `Broken` names the store's file and the first that doesn't hold; `Memory` is also of the room for pages in
+    /// memory. The order that the store's region tells is this one, or none. Nothing is written, and each page is read twice at most. After a refusal the store is gone.
+    pub fn open(alloc: Global, store: R, space: &mut R::S) -> Result<Tree<R, O>, OpenErr>
+        requires ready { IsReady R.S.Space (In R.S.Space R.file_of R.holds) store space.old }
+        requires order { IsOrdered O.CODE (head_of (R.region store)) }
+        ensures opened { IfOk result (λ t. IsOpened R.S.Space R.file_of R.holds R.region (before_by O.cmp) O.CODE false store t space.old space.new) }
+        ensures broken { IfErr result (λ e. Breaks (before_by O.cmp) (head_of (R.region store)) false (R.file_of store) (In R.S.Space R.file_of R.holds store space.old) e) }
+        ensures reads { OnlyReads R.S.Space space.old space.new }
+        ensures cause { IsErrOf result OpenErr.Fault → Rose (R.S.faults space.old) (R.S.faults space.new) }
+    {
+        match Tree::open_as(alloc, store, space, false) {
+            Ok(tree) => Ok(tree),
+            Err(e) => Err(e),
+        }
+    }
+
+    /// The same of an index file, where the record `column` may stand beside the pages.
+    pub fn open_index(alloc: Global, store: R, space: &mut R::S) -> Result<Tree<R, O>, OpenErr>
+        requires ready { IsReady R.S.Space (In R.S.Space R.file_of R.holds) store space.old }
+        requires order { IsOrdered O.CODE (head_of (R.region store)) }
+        ensures opened { IfOk result (λ t. IsOpened R.S.Space R.file_of R.holds R.region (before_by O.cmp) O.CODE true store t space.old space.new) }
+        ensures broken { IfErr result (λ e. Breaks (before_by O.cmp) (head_of (R.region store)) true (R.file_of store) (In R.S.Space R.file_of R.holds store space.old) e) }
+        ensures reads { OnlyReads R.S.Space space.old space.new }
+        ensures cause { IsErrOf result OpenErr.Fault → Rose (R.S.faults space.old) (R.S.faults space.new) }
+    {
+        match Tree::open_as(alloc, store, space, true) {
+            Ok(tree) => Ok(tree),
+            Err(e) => Err(e),
+        }
+    }
+}

@@ -1,0 +1,161 @@
+//! Single pages of a tree, read and written.
+ghost use Rattle.std.specs.Prelude.{◌≡◌, ◌+◌, ◌<◌, ◌≤◌, ◌^◌, ℕ, Some, IfOk, OnOk, OnErr, IsErrOf, IsTrue};
+ghost use Rattle.std.specs.List.{AllByRecursion};
+ghost use Rattle.tc_io.specs.Causes.{Rose};
+ghost use Rattle.tc_space.specs.Frames.{Refuses, Writes};
+ghost use Rattle.tc_space.specs.Stores.{IsReady, Only};
+ghost use Rattle.bt_page.specs.Keys.{node_offset};
+ghost use Rattle.bt_page.specs.Pages.{HasValue};
+ghost use Rattle.bt_page.specs.declared.page.Leaf.{Leaf as the_leaf};
+ghost use Rattle.bt_page.specs.declared.page.Node.{Node as the_node};
+ghost use Rattle.bt_rows.specs.Pages.{PageMap};
+ghost use Rattle.bt_rows.specs.declared.page.Page.TheVariants.{Leaf as leaf_page, Node as node_page};
+ghost use Rattle.bt_cache.specs.Effects.{Looks};
+ghost use Rattle.bt_cache.specs.Held.{Beside};
+ghost use Rattle.bt_ways.specs.Writes.{put_at};
+ghost use Rattle.bt_tree.specs.Meaning.{file_in};
+ghost use Rattle.bt_tree.specs.Paging.{HasLeafAt, HasNodeAt, IsLeafId, IsNodeId, IsUsedUp, LacksPage, Shows, StaysStill};
+
+use crate::copying::{copy_leaf, copy_node};
+use crate::tree::Tree;
+use bt_page::{Item, Leaf, Node};
+use std::rc::Rc;
+use tc_base::{Order, PAGE_END, Steps};
+use tc_space::{RecErr, Records};
+
+// Whether each item has a value.
+fn have_values(items: &[Item]) -> bool
+    ensures { IsTrue result → AllByRecursion HasValue items.now }
+{
+    for item in items {
+        if item.values.as_slice().is_empty() {
+            return false;
+        }
+    }
+    true
+}
+
+impl<R: Records, O: Order> Tree<R, O> {
+    /// The leaf of an id by value: one that the cache holds is taken out of it and isn't copied.
+    pub(crate) fn own_leaf<L>(
+        &mut self,
+        space: &mut R::S,
+        id: u64,
+        steps: &mut Steps<L>,
+    ) -> Result<Leaf, RecErr>
+        requires ready { IsReady R.S.Space (Shows R.S.Space R.file_of R.holds) self.old space.old }
+        requires there { HasLeafAt R.S.Space R.file_of R.holds id self.old space.old }
+        ensures leaf { IfOk result (λ read. (pages : PageMap) (l : the_leaf) → Shows R.S.Space R.file_of R.holds self.old space.old pages → pages id ≡ Some (leaf_page l) → read ≡ l) }
+        ensures looks { Looks R.S.Space R.file_of R.holds self.old.cache.pages self.new.cache.pages self.old.store self.new.store space.old space.new }
+        ensures still { StaysStill R.S.Space R.file_of R.region self.old self.new space.old space.new }
+        ensures cause { (IsErrOf result RecErr.Fault → Rose (R.S.faults space.old) (R.S.faults space.new)) × (IsErrOf result RecErr.Full → ⊥) }
+    {
+        let leaf = match self.cache.leaf(&mut self.store, space, id, steps) {
+            Ok(leaf) => leaf,
+            Err(e) => return Err(e),
+        };
+        self.cache.forget(id);
+        match Rc::try_unwrap(leaf) {
+            Ok(leaf) => Ok(leaf),
+            Err(shared) => Ok(copy_leaf(self.alloc, &shared)?),
+        }
+    }
+
+    /// The node of an id, as `own_leaf` gives a leaf.
+    pub(crate) fn own_node<L>(
+        &mut self,
+        space: &mut R::S,
+        id: u64,
+        steps: &mut Steps<L>,
+    ) -> Result<Node, RecErr>
+        requires ready { IsReady R.S.Space (Shows R.S.Space R.file_of R.holds) self.old space.old }
+        requires there { HasNodeAt R.S.Space R.file_of R.holds id self.old space.old }
+        ensures node { IfOk result (λ read. (pages : PageMap) (n : the_node) → Shows R.S.Space R.file_of R.holds self.old space.old pages → pages id ≡ Some (node_page n) → read ≡ n) }
+        ensures looks { Looks R.S.Space R.file_of R.holds self.old.cache.pages self.new.cache.pages self.old.store self.new.store space.old space.new }
+        ensures still { StaysStill R.S.Space R.file_of R.region self.old self.new space.old space.new }
+        ensures cause { (IsErrOf result RecErr.Fault → Rose (R.S.faults space.old) (R.S.faults space.new)) × (IsErrOf result RecErr.Full → ⊥) }
+    {
+        let node = match self.cache.node(&mut self.store, space, id, steps) {
+            Ok(node) => node,
+            Err(e) => return Err(e),
+        };
+        self.cache.forget(id);
+        match Rc::try_unwrap(node) {
+            Ok(node) => Ok(node),
+            Err(shared) => Ok(copy_node(self.alloc, &shared)?),
+        }
+    }
+
+    /// Writes a leaf under an id that was given. After a refusal the space isn't sound, or nothing has changed.
+    pub(crate) fn put_leaf(&mut self, space: &mut R::S, id: u64, leaf: Leaf) -> Result<(), RecErr>
+        requires ready { IsReady R.S.Space (Shows R.S.Space R.file_of R.holds) self.old space.old }
+        requires id { R.S.tells → IsLeafId self.old.head id }
+        ensures put { OnOk result (Writes R.S.Space (Only (file_in R.file_of self.old)) (Shows R.S.Space R.file_of R.holds) (put_at id (leaf_page leaf)) self.old self.new space.old space.new) }
+        ensures refused { OnErr result (Refuses R.S.Space (Beside R.S.Space R.file_of R.holds) (self.old.cache.pages, self.old.store) (self.new.cache.pages, self.new.store) space.old space.new) }
+        ensures full { IsErrOf result RecErr.Full → LacksPage R.S.Space R.file_of R.holds R.fills (λ p. p ≡ leaf_page leaf) self.old.store space.old space.new }
+        ensures still { StaysStill R.S.Space R.file_of R.region self.old self.new space.old space.new }
+        ensures cause { IsErrOf result RecErr.Fault → Rose (R.S.faults space.old) (R.S.faults space.new) }
+    {
+        // neither comes where the records are told
+        if id >= PAGE_END {
+            return Err(RecErr::Memory);
+        }
+        if !have_values(leaf.items.as_slice()) {
+            return Err(RecErr::Memory);
+        }
+        match self.cache.put_leaf(&mut self.store, space, id, leaf) {
+            Ok(()) => Ok(()),
+            Err(e) => Err(e),
+        }
+    }
+
+    /// Writes a node under an id that was given, as `put_leaf` writes a leaf.
+    pub(crate) fn put_node(&mut self, space: &mut R::S, id: u64, node: Node) -> Result<(), RecErr>
+        requires ready { IsReady R.S.Space (Shows R.S.Space R.file_of R.holds) self.old space.old }
+        requires id { R.S.tells → IsNodeId self.old.head id }
+        ensures put { OnOk result (Writes R.S.Space (Only (file_in R.file_of self.old)) (Shows R.S.Space R.file_of R.holds) (put_at id (node_page node)) self.old self.new space.old space.new) }
+        ensures refused { OnErr result (Refuses R.S.Space (Beside R.S.Space R.file_of R.holds) (self.old.cache.pages, self.old.store) (self.new.cache.pages, self.new.store) space.old space.new) }
+        ensures full { IsErrOf result RecErr.Full → LacksPage R.S.Space R.file_of R.holds R.fills (λ p. p ≡ node_page node) self.old.store space.old space.new }
+        ensures still { StaysStill R.S.Space R.file_of R.region self.old self.new space.old space.new }
+        ensures cause { IsErrOf result RecErr.Fault → Rose (R.S.faults space.old) (R.S.faults space.new) }
+    {
+        // it doesn't come where the records are told
+        if id < PAGE_END {
+            return Err(RecErr::Memory);
+        }
+        match self.cache.put_node(&mut self.store, space, id, node) {
+            Ok(()) => Ok(()),
+            Err(e) => Err(e),
+        }
+    }
+
+    /// The next id of a leaf, which no page has. An `Err`, which is Full, changes nothing.
+    pub(crate) fn leaf_id(&mut self) -> Result<u64, RecErr>
+        ensures given { IfOk result (λ id. id ≡ self.old.head.leaf_ids + 1) }
+        ensures small { IfOk result (λ id. id < node_offset) }
+        ensures noted { OnOk result (self.new ≡ record self.old { head = record self.old.head { leaf_ids = self.old.head.leaf_ids + 1 } }) }
+        ensures err { OnErr result ((self.new ≡ self.old) × (node_offset ≤ self.old.head.leaf_ids + 1)) }
+        ensures cause { IsErrOf result RecErr.Fault → ⊥ }
+    {
+        if self.head.leaf_ids >= PAGE_END - 1 {
+            return Err(RecErr::Full);
+        }
+        self.head.leaf_ids += 1;
+        Ok(self.head.leaf_ids)
+    }
+
+    /// The next id of a node, which no page has, with the 2^48 added to it. An `Err`, which is Full, changes nothing.
+    pub(crate) fn node_id(&mut self) -> Result<u64, RecErr>
+        ensures given { IfOk result (λ id. id ≡ node_offset + (self.old.head.node_ids + 1)) }
+        ensures small { OnOk result (self.old.head.node_ids + 1 < node_offset) }
+        ensures noted { OnOk result (self.new ≡ record self.old { head = record self.old.head { node_ids = self.old.head.node_ids + 1 } }) }
+        ensures err { OnErr result ((self.new ≡ self.old) × (node_offset ≤ self.old.head.node_ids + 1)) }
+        ensures cause { IsErrOf result RecErr.Fault → ⊥ }
+    {
+        if self.head.node_ids >= PAGE_END - 1 {
+            return Err(RecErr::Full);
+        }
+        self.head.node_ids += 1;
+        Ok(PAGE_END + self.head.node_ids)
+    }
+}

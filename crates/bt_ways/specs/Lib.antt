@@ -1,0 +1,9 @@
+pub mod Changes
+pub mod Climbs
+pub mod Items
+pub mod Laws
+pub mod Parts
+pub mod Removals
+pub mod Searches
+pub mod Ways
+pub mod Writes
