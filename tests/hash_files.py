@@ -145,12 +145,12 @@ def walked(records, root, apow, seen):
     return keys
 
 
-def read(content):
-    """The pairs of a file that is settled: no bytes behind its size, no free block at its end, and all free blocks that fit listed."""
+def read(content, wanted=0):
+    """The pairs of a file of a type that is settled: no bytes behind its size, no free block at its end, and all free blocks that fit listed."""
     check(len(content) >= HEAD and content.startswith(b"ToKyO CaBiNeT"), "L1")
     kind, _, apow, fpow, option = struct.unpack_from("<BBBBB", content, 32)
     buckets, count, size, first = struct.unpack_from("<QQQQ", content, 40)
-    check(kind == 0 and option in (0, 1) and first >= first_record(apow, fpow, option, buckets), "L1")
+    check(kind == wanted and option in (0, 1) and first >= first_record(apow, fpow, option, buckets), "L1")
     check(len(content) == size, "length")
     width, unit = 8 if option else 4, 2**apow
     records, free = blocks_of(content, first, size, unit, width)

@@ -1,0 +1,4 @@
+pub mod Filling
+pub mod Meaning
+pub mod Rising
+pub mod Stretches

@@ -1,0 +1,10 @@
+//! A list of pairs over one file, as a tree of pages over any map of records.
+#![tactic(auto, using(tc_space::specs::Frames::keeps_refl))]
+
+mod btree;
+mod multi;
+mod putting;
+mod stretch;
+
+pub use btree::Btree;
+pub use stretch::Stretch;
