@@ -278,21 +278,29 @@ fn hundred(tree: &mut Tree<Store, Lexical>, space: &mut OneFile, from: u64) -> R
     Ok(x)
 }
 
+fn key_of(x: u64) -> [u8; 2] {
+    [(x / 256 % 256) as u8, (x % 256) as u8]
+}
+
+fn value_of(x: u64) -> [u8; 1] {
+    [(x % 251) as u8]
+}
+
 // How many of the thousand keys are found with both values.
 fn found(tree: &mut Tree<Store, Lexical>, space: &mut OneFile) -> Result<u64, RecErr>
     requires { space.old.sound ≡ true }
 {
-    let mut n = 0;
+    let mut n: u64 = 0;
     for x in 0..1000 {
-        let key = [(x / 256) as u8, (x % 256) as u8];
-        let value = [(x % 251) as u8];
+        let key = key_of(x);
+        let value = value_of(x);
         let mut steps: Steps<()> = Steps::new();
         let item = match tree.find(space, &key, &mut steps) {
             Ok(item) => item,
             Err(e) => return Err(e),
         };
         if has(&item, &[&value, b"second"]) {
-            n += 1;
+            n = n.saturating_add(1);
         }
     }
     Ok(n)

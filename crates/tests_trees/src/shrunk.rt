@@ -184,7 +184,7 @@ fn other(x: u64) -> u64
 }
 
 fn key_of(x: u64) -> [u8; 2] {
-    [(x / 256) as u8, (x % 256) as u8]
+    [(x / 256 % 256) as u8, (x % 256) as u8]
 }
 
 // Puts four hundred keys, each with two values.
