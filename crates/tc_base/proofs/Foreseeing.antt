@@ -11,7 +11,7 @@ use Rattle.std.specs.Int.{w64, from_be_bytes}
 use Rattle.tc_base.specs.Fronts.{front_at, by_front, Foresees, AreZeros}
 
 -- the number of so many bytes more behind a number
-abbrev horner : ℕ → ℕ → List ℕ → ℕ
+abbrev pub horner : ℕ → ℕ → List ℕ → ℕ
 horner acc zero bytes = acc
 horner acc (suc n) [] = horner (acc * 256) n []
 horner acc (suc n) (b ∷ bytes) = horner (acc * 256 + b) n bytes
@@ -98,7 +98,7 @@ less_at at xs ys f g same lt = less (at + 8) 0 xs ys f g (omega (arith, same, lt
 greater_at : (at : ℕ) (xs ys : List ℕ) → IsBytes xs → IsBytes ys → horner 0 at xs ≡ horner 0 at ys → front_at at ys < front_at at xs → slice_cmp nat_cmp xs ys ≡ Greater
 greater_at at xs ys f g same lt = nat_list_cmp_total.antisymm xs ys ∙ ap ordering_reverse (less_at at ys xs g f (sym same) lt)
 
-same_at : (at : ℕ) (xs ys : List ℕ) → horner 0 at xs ≡ horner 0 at ys → front_at at xs ≡ front_at at ys → horner 0 (at + 8) xs ≡ horner 0 (at + 8) ys
+pub same_at : (at : ℕ) (xs ys : List ℕ) → horner 0 at xs ≡ horner 0 at ys → front_at at xs ≡ front_at at ys → horner 0 (at + 8) xs ≡ horner 0 (at + 8) ys
 same_at at xs ys same also = omega (arith, same, also, further at xs, further at ys)
 
 -- one number in front of what is decided later
@@ -159,6 +159,36 @@ last_at at xs ys f g same = ⊎_elim
 
 foreseen_last : (xs ys : List ℕ) → IsBytes xs → IsBytes ys → Foresees (nat_cmp (front_at 0 xs) (front_at 0 ys)) xs ys
 foreseen_last xs ys f g = last_at 0 xs ys f g refl
+
+-- where the numbers before a place are the same, and those from it on aren't, these decide
+pub decided_at : (at : ℕ) (xs ys : List ℕ) → IsBytes xs → IsBytes ys → horner 0 at xs ≡ horner 0 at ys → (front_at at xs ≡ front_at at ys → ⊥) → nat_cmp (front_at at xs) (front_at at ys) ≡ slice_cmp nat_cmp xs ys
+decided_at at xs ys f g same apart = ⊎_elim
+    (λ is. absurd (apart is))
+    (⊎_elim
+    (λ under. sym (nat_cmp_is _ _ Less under) ∙ sym (less_at at xs ys f g same under))
+    (λ over. sym (nat_cmp_is _ _ Greater over) ∙ sym (greater_at at xs ys f g same over)))
+    (cases_order (front_at at xs) (front_at at ys))
+
+cmp_suc : (a b : ℕ) → nat_cmp (suc a) (suc b) ≡ nat_cmp a b
+cmp_suc a b = ⊎_elim
+    (λ is. sym (nat_cmp_is (suc a) (suc b) Equal (omega (arith, is))) ∙ nat_cmp_is a b Equal is)
+    (⊎_elim
+    (λ under. sym (nat_cmp_is (suc a) (suc b) Less (omega (arith, under))) ∙ nat_cmp_is a b Less under)
+    (λ over. sym (nat_cmp_is (suc a) (suc b) Greater (omega (arith, over))) ∙ nat_cmp_is a b Greater over))
+    (cases_order a b)
+
+-- where the numbers before a place are the same, and one ends before it, the longer one is behind
+pub ended_at : (n acc : ℕ) (xs ys : List ℕ) → IsBytes xs → IsBytes ys → (n < length xs → n < length ys → ⊥) → horner acc n xs ≡ horner acc n ys → nat_cmp (length xs) (length ys) ≡ slice_cmp nat_cmp xs ys
+ended_at n acc [] [] f g end same = refl
+ended_at n acc [] (y ∷ ys) f g end same = sym (nat_cmp_is 0 (length (y ∷ ys)) Less (omega arith))
+ended_at n acc (x ∷ xs) [] f g end same = sym (nat_cmp_is (length (x ∷ xs)) 0 Greater (omega arith))
+ended_at zero acc (x ∷ xs) (y ∷ ys) f g end same = absurd (end (omega arith) (omega arith))
+ended_at (suc n) acc (x ∷ xs) (y ∷ ys) f g end same = ⊎_elim
+    (λ is. cmp_suc (length xs) (length ys) ∙ ended_at n (acc * 256 + x) xs ys (rest x xs f) (rest y ys g) (λ a b. end (omega (arith, a)) (omega (arith, b))) (subst (λ (z : ℕ). horner (acc * 256 + x) n xs ≡ horner (acc * 256 + z) n ys) (sym is) same) ∙ sym (behind_same x y (slice_cmp nat_cmp xs ys) is))
+    (⊎_elim
+    (λ under. absurd (omega (arith, same, below n (acc * 256 + x) (acc * 256 + y) xs ys (rest x xs f) (omega (arith, under)))))
+    (λ over. absurd (omega (arith, same, below n (acc * 256 + y) (acc * 256 + x) ys xs (rest y ys g) (omega (arith, over))))))
+    (cases_order x y)
 
 -- the same of bytes that lie in one of two places
 pub foreseen_of : (n : ℕ) (o : Ordering) (x y xs ys a b : List ℕ) → x ≡ xs → y ≡ ys → IsBytes x → IsBytes y → x ≡ a → y ≡ b → o ≡ by_front n 0 a b → Foresees o xs ys

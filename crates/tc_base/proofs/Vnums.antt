@@ -458,6 +458,10 @@ scanned_end i low scale b bytes few within is less h =
     let l : last bytes ≡ b = ap (λ (n : ℕ). get_or bytes n 0) t ∙ sym is in
     sym (at_end bytes (omega (arith, t)) (omega (arith, t)) ∙ rw (t, v, sym is) refl)
 
+-- a byte without its top bit is a number by itself
+pub scanned_one : (b : ℕ) (bytes : List ℕ) → 0 < length bytes → b ≡ get_or bytes 0 0 → b < 128 → Ok (b, 1) ≡ vnum_at bytes
+scanned_one b bytes within is less = ap (λ (v : ℕ). Ok (v, 1)) (omega arith) ∙ scanned_end 0 0 1 b bytes (omega arith) within is less (scanned_none bytes)
+
 -- ---- what a reader's answer says
 
 pub IfOk-found : (r : Result (ℕ × ℕ) NumErr) (bytes : List ℕ) → IsBytes bytes → r ≡ vnum_at bytes → IfOk r (λ x. (x.0 < 2 ^ 64) × (x.1 ≡ length (vnum x.0)) × (take x.1 bytes ≡ vnum x.0))

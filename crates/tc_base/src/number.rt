@@ -67,6 +67,20 @@ fn scan(bytes: &[u8]) -> Result<(u64, usize), NumErr>
     end(9, bytes[9], low, scale)
 }
 
+// The same: most numbers have one byte, which is read at once.
+fn scan_front(bytes: &[u8]) -> Result<(u64, usize), NumErr>
+    ensures read { result ≡ vnum_at bytes.now }
+    ensures within { IfOk result (λ x. x.1 ≤ length bytes.now) }
+{
+    if bytes.len() > 0 {
+        let b = bytes[0];
+        if b < 128 {
+            return Ok((u64::from(b), 1));
+        }
+    }
+    scan(bytes)
+}
+
 /// The number whose spelling stands at the front of the bytes, and how many bytes that is. Each number has one spelling,
 /// and none is the front of another's.
 pub fn read_vnum(bytes: &[u8]) -> Result<(u64, usize), NumErr>
@@ -77,11 +91,11 @@ pub fn read_vnum(bytes: &[u8]) -> Result<(u64, usize), NumErr>
     ensures wide { (result ≡ Err NumErr.Wide) ↔ IsWide bytes.now }
     ensures no_front { (m n : ℕ) (rest : List ℕ) → m < 2 ^ 64 → n < 2 ^ 64 → vnum n ≡ vnum m ++ rest → m ≡ n }
 {
-    scan(bytes)
+    scan_front(bytes)
 }
 
-/// The number whose spelling stands at the front of the bytes, and the bytes behind it.
-pub fn read_number(bytes: &[u8]) -> Result<(u64, &[u8]), NotWhole>
+// A number of more bytes than one, or none.
+fn read_long(bytes: &[u8]) -> Result<(u64, &[u8]), NotWhole>
     ensures { Gives (λ x. (x.0, x.1.now)) result (vnum_front bytes.now) }
 {
     match scan(bytes) {
@@ -90,6 +104,19 @@ pub fn read_number(bytes: &[u8]) -> Result<(u64, &[u8]), NotWhole>
         Err(NumErr::Second) => Err(NotWhole::Bad),
         Err(NumErr::Wide) => Err(NotWhole::Bad),
     }
+}
+
+/// The number whose spelling stands at the front of the bytes, and the bytes behind it.
+pub fn read_number(bytes: &[u8]) -> Result<(u64, &[u8]), NotWhole>
+    ensures { Gives (λ x. (x.0, x.1.now)) result (vnum_front bytes.now) }
+{
+    if bytes.len() > 0 {
+        let b = bytes[0];
+        if b < 128 {
+            return Ok((u64::from(b), &bytes[1..]));
+        }
+    }
+    read_long(bytes)
 }
 
 // The spelling in a buffer, and its length.
@@ -126,6 +153,9 @@ pub fn put_vnum(n: u64, into: &mut Blob) -> Result<(), AllocError>
     ensures ok { OnOk result (into.new ≡ into.old ++ vnum n) }
     ensures err { OnErr result (into.new ≡ into.old) }
 {
+    if n < 128 {
+        return into.push(n as u8);
+    }
     let (buffer, len) = spell(n);
     into.append(&buffer[..len])
 }
