@@ -84,6 +84,11 @@ fn store(
     ensures err { OnErr result (map.new ≡ map.old) }
 {
     let key = Key::from_slice(alloc, key)?;
+    if mode == Mode::Over {
+        // the old value isn't asked for
+        let _ = map.set(key, Blob::from_slice(alloc, value)?)?;
+        return Ok(true);
+    }
     let old = map.get(&key);
     if mode == Mode::Keep && old.is_some() {
         return Ok(false);
