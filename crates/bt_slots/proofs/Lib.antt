@@ -1,0 +1,9 @@
+pub mod Changes
+pub mod Leaves
+pub mod NodePlaces
+pub mod Pieces
+pub mod Places
+pub mod ReadBack
+pub mod Scanned
+pub mod Cuts
+pub mod Starts

@@ -1,0 +1,14 @@
+use Rattle.std.proofs.Common.{◌≡◌, List, [], length, ◌-◌}
+use Rattle.bt_page.specs.declared.page.Item.{Item}
+use Rattle.bt_page.specs.Pages.{ItemFits, item_bytes}
+use Rattle.bt_page.proofs.Runs.{Progress}
+use Rattle.bt_slots.specs.Slots.{starts_from}
+use Rattle.bt_slots.proofs.scanning.starts_of_items.Given as goal
+
+abbrev pub invariant-loop-rest : goal.invariant-loop-rest
+invariant-loop-rest l = record {
+  read : (xs : List Item) × (l.starts.items ≡ starts_from item_bytes (l.end - length l.items) xs) × Progress ItemFits item_bytes (λ all tail. tail ≡ []) l.items xs l.rest;
+}
+
+abbrev pub decreases-loop-rest : goal.decreases-loop-rest
+decreases-loop-rest l = length l.rest

@@ -1,0 +1,15 @@
+//! Pages of a tree as their bytes, beside the places where their items or entries begin: what is read of a page is read where it lies, and a change of a leaf moves bytes alone.
+#![tactic(auto)]
+
+mod building;
+mod changing;
+mod fronts;
+mod leaf;
+mod node;
+mod parts;
+mod scanning;
+mod sections;
+mod shifting;
+
+pub use leaf::SlottedLeaf;
+pub use node::SlottedNode;

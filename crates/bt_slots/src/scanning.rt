@@ -1,0 +1,211 @@
+//! Where the items or entries of a page begin.
+ghost use Rattle.std.specs.Prelude.{◌≡◌, ℕ, ◌-◌, ◌≤◌, ◌<◌, ◌++◌, ◌∷◌, List, length, drop, IfOk, IsErrOf, OnErr};
+ghost use Rattle.std.specs.List.{AllByRecursion, flat_map};
+ghost use Rattle.tc_base.specs.Reading.{Gives};
+ghost use Rattle.bt_page.specs.Fronts.{two_front, three_front};
+ghost use Rattle.bt_page.specs.Pages.{value_bytes, item_bytes, entry_bytes, leaf_bytes, node_bytes, SizeFits, ItemFits, EntryFits, LeafFits, NodeFits};
+ghost use Rattle.bt_page.specs.Spelled.{AtFront, NoneAt, Spells};
+ghost use Rattle.bt_page.specs.declared.page.Entry.{Entry as the_entry};
+ghost use Rattle.bt_page.specs.declared.page.Item.{Item as the_item};
+ghost use Rattle.bt_page.specs.declared.page.Leaf.{Leaf as the_leaf};
+ghost use Rattle.bt_page.specs.declared.page.Node.{Node as the_node};
+ghost use Rattle.bt_slots.specs.Slots.{IsLeafIn, IsNodeIn, starts_from};
+
+use crate::fronts::cut;
+use bt_page::PageErr;
+use std::alloc::Global;
+use tc_base::{NotWhole, read_number};
+
+#[tactic(auto, unfolding(bt_page::specs::Fronts::two_front))]
+fn two_of(bytes: &[u8]) -> Result<(u64, u64, &[u8]), NotWhole>
+    ensures { Gives (λ x. ((x.0, x.1), x.2.now)) result (two_front bytes.now) }
+{
+    let (a, rest) = read_number(bytes)?;
+    let (b, rest) = read_number(rest)?;
+    Ok((a, b, rest))
+}
+
+#[tactic(auto, unfolding(bt_page::specs::Fronts::three_front))]
+fn three_of(bytes: &[u8]) -> Result<(u64, u64, u64, &[u8]), NotWhole>
+    ensures { Gives (λ x. ((x.0, (x.1, x.2)), x.3.now)) result (three_front bytes.now) }
+{
+    let (a, rest) = read_number(bytes)?;
+    let (b, rest) = read_number(rest)?;
+    let (c, rest) = read_number(rest)?;
+    Ok((a, b, c, rest))
+}
+
+// What is behind so many bytes.
+fn behind(n: u64, bytes: &[u8]) -> Result<&[u8], PageErr>
+    ensures long { IfOk result (λ _. n ≤ length bytes.now) }
+    ensures found { IfOk result (λ rest. rest.now ≡ drop n bytes.now) }
+    ensures bad { OnErr result (length bytes.now < n) }
+{
+    if (bytes.len() as u64) < n {
+        return Err(PageErr::Bad);
+    }
+    Ok(cut(n, bytes).1)
+}
+
+fn behind_value(bytes: &[u8]) -> Result<&[u8], PageErr>
+    ensures found { IfOk result (λ rest. (v : List ℕ) × AtFront SizeFits value_bytes bytes.now v rest.now) }
+    ensures bad { OnErr result (NoneAt SizeFits value_bytes bytes.now) }
+{
+    let Ok((size, rest)) = read_number(bytes) else {
+        return Err(PageErr::Bad);
+    };
+    match behind(size, rest) {
+        Ok(rest) => Ok(rest),
+        Err(e) => Err(e),
+    }
+}
+
+// What is behind so many values.
+fn behind_values(n: u64, bytes: &[u8]) -> Result<&[u8], PageErr>
+    ensures found { IfOk result (λ rest. (more : List (List ℕ)) × (length more ≡ n) × AllByRecursion SizeFits more × (bytes.now ≡ flat_map value_bytes more ++ rest.now)) }
+    ensures bad { OnErr result ((more : List (List ℕ)) (rest : List ℕ) → length more ≡ n → AllByRecursion SizeFits more → bytes.now ≡ flat_map value_bytes more ++ rest → ⊥) }
+{
+    let mut rest = bytes;
+    for i in 0..n {
+        rest = match behind_value(rest) {
+            Ok(rest) => rest,
+            Err(e) => return Err(e),
+        };
+    }
+    Ok(rest)
+}
+
+// What is behind an item of whatever sizes.
+fn behind_any(bytes: &[u8]) -> Result<&[u8], PageErr>
+    ensures found { IfOk result (λ rest. (i : the_item) × AtFront ItemFits item_bytes bytes.now i rest.now) }
+    ensures bad { OnErr result (NoneAt ItemFits item_bytes bytes.now) }
+{
+    let Ok((key, first, more, rest)) = three_of(bytes) else {
+        return Err(PageErr::Bad);
+    };
+    let rest = match behind(key, rest) {
+        Ok(rest) => rest,
+        Err(e) => return Err(e),
+    };
+    let rest = match behind(first, rest) {
+        Ok(rest) => rest,
+        Err(e) => return Err(e),
+    };
+    match behind_values(more, rest) {
+        Ok(rest) => Ok(rest),
+        Err(e) => Err(e),
+    }
+}
+
+// What is behind an item with short texts and one value.
+fn behind_short<'a>(
+    key: u8,
+    first: u8,
+    bytes: &'a [u8],
+    texts: &'a [u8],
+) -> Result<&'a [u8], PageErr>
+    requires are { bytes.now ≡ key ∷ first ∷ 0 ∷ texts.now }
+    requires key { key < 128 }
+    requires first { first < 128 }
+    ensures found { IfOk result (λ rest. (i : the_item) × AtFront ItemFits item_bytes bytes.now i rest.now) }
+    ensures bad { OnErr result (NoneAt ItemFits item_bytes bytes.now) }
+{
+    match behind(u64::from(key) + u64::from(first), texts) {
+        Ok(rest) => Ok(rest),
+        Err(e) => Err(e),
+    }
+}
+
+fn behind_item(bytes: &[u8]) -> Result<&[u8], PageErr>
+    ensures found { IfOk result (λ rest. (i : the_item) × AtFront ItemFits item_bytes bytes.now i rest.now) }
+    ensures bad { OnErr result (NoneAt ItemFits item_bytes bytes.now) }
+{
+    // most items have short texts and one value
+    if let [key, first, 0, texts @ ..] = bytes {
+        if *key < 128 && *first < 128 {
+            return behind_short(*key, *first, bytes, texts);
+        }
+    }
+    behind_any(bytes)
+}
+
+fn behind_entry(bytes: &[u8]) -> Result<&[u8], PageErr>
+    ensures found { IfOk result (λ rest. (e : the_entry) × AtFront EntryFits entry_bytes bytes.now e rest.now) }
+    ensures bad { OnErr result (NoneAt EntryFits entry_bytes bytes.now) }
+{
+    let Ok((_child, size, rest)) = two_of(bytes) else {
+        return Err(PageErr::Bad);
+    };
+    match behind(size, rest) {
+        Ok(rest) => Ok(rest),
+        Err(e) => Err(e),
+    }
+}
+
+// Where each item begins in bytes that stand up to this place.
+fn starts_of_items(alloc: Global, end: usize, items: &[u8]) -> Result<Vec<usize>, PageErr>
+    requires { length items.now ≤ end }
+    ensures found { IfOk result (λ starts. (xs : List the_item) × (starts.items ≡ starts_from item_bytes (end - length items.now) xs) × AllByRecursion ItemFits xs × (items.now ≡ flat_map item_bytes xs)) }
+    ensures bad { IsErrOf result PageErr.Bad → (xs : List the_item) → AllByRecursion ItemFits xs → items.now ≡ flat_map item_bytes xs → ⊥ }
+{
+    let mut starts = Vec::with_capacity(alloc, 128)?;
+    let mut rest = items;
+    while !rest.is_empty() {
+        let Ok(()) = starts.push(end - rest.len()) else {
+            return Err(PageErr::Memory);
+        };
+        rest = match behind_item(rest) {
+            Ok(rest) => rest,
+            Err(e) => return Err(e),
+        };
+    }
+    Ok(starts)
+}
+
+/// Where each item begins in a leaf's bytes. Bad where they are no leaf's.
+pub(crate) fn item_starts(alloc: Global, bytes: &[u8]) -> Result<Vec<usize>, PageErr>
+    ensures found { IfOk result (λ starts. (l : the_leaf) × IsLeafIn bytes.now starts.items l) }
+    ensures bad { IsErrOf result PageErr.Bad → (l : the_leaf) → Spells LeafFits leaf_bytes bytes.now l → ⊥ }
+{
+    let Ok((_prev, _next, items)) = two_of(bytes) else {
+        return Err(PageErr::Bad);
+    };
+    match starts_of_items(alloc, bytes.len(), items) {
+        Ok(starts) => Ok(starts),
+        Err(e) => Err(e),
+    }
+}
+
+// Where each entry begins in bytes that stand up to this place.
+fn starts_of_entries(alloc: Global, end: usize, entries: &[u8]) -> Result<Vec<usize>, PageErr>
+    requires { length entries.now ≤ end }
+    ensures found { IfOk result (λ starts. (xs : List the_entry) × (starts.items ≡ starts_from entry_bytes (end - length entries.now) xs) × AllByRecursion EntryFits xs × (entries.now ≡ flat_map entry_bytes xs)) }
+    ensures bad { IsErrOf result PageErr.Bad → (xs : List the_entry) → AllByRecursion EntryFits xs → entries.now ≡ flat_map entry_bytes xs → ⊥ }
+{
+    let mut starts = Vec::with_capacity(alloc, 128)?;
+    let mut rest = entries;
+    while !rest.is_empty() {
+        let Ok(()) = starts.push(end - rest.len()) else {
+            return Err(PageErr::Memory);
+        };
+        rest = match behind_entry(rest) {
+            Ok(rest) => rest,
+            Err(e) => return Err(e),
+        };
+    }
+    Ok(starts)
+}
+
+/// Where each entry begins in a node's bytes. Bad where they are no node's.
+pub(crate) fn entry_starts(alloc: Global, bytes: &[u8]) -> Result<Vec<usize>, PageErr>
+    ensures found { IfOk result (λ starts. (n : the_node) × IsNodeIn bytes.now starts.items n) }
+    ensures bad { IsErrOf result PageErr.Bad → (n : the_node) → Spells NodeFits node_bytes bytes.now n → ⊥ }
+{
+    let Ok((_heir, entries)) = read_number(bytes) else {
+        return Err(PageErr::Bad);
+    };
+    match starts_of_entries(alloc, bytes.len(), entries) {
+        Ok(starts) => Ok(starts),
+        Err(e) => Err(e),
+    }
+}
