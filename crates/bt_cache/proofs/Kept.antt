@@ -1,5 +1,5 @@
 -- Pages that stay the store's.
-use Rattle.std.proofs.Common.{◌≡◌, ◌≢◌, ℕ, ◌<◌, ◌^◌, List, [], ◌∷◌, Option, Some, None, Bool, true, false, cond, nat_eq, refl, sym, ap, subst, ◌∙◌, arith}
+use Rattle.std.proofs.Common.{◌≡◌, ◌≢◌, ℕ, ◌<◌, ◌≤◌, ◌^◌, List, [], ◌∷◌, Option, Some, None, Bool, true, false, cond, nat_eq, refl, sym, ap, subst, ◌∙◌, arith}
 use Rattle.std.specs.declared.cmp.Ordering.TheVariants.{Less, Equal, Greater}
 use Rattle.std.specs.declared.cmp.Ordering.{Ordering}
 use Rattle.std.specs.Ordering.{nat_cmp, eq_by_cmp}
@@ -9,7 +9,11 @@ use Rattle.std.proofs.lemmas.Cmp.{tied_itself}
 use Rattle.std.proofs.lemmas.Bool.{eq-eqb}
 use Rattle.std.proofs.lemmas.Map.Lookups.{exact_bytes}
 use Rattle.tc_base.specs.Maps.{Map}
-use Rattle.bt_page.specs.Keys.{key_of}
+use Rattle.bt_page.specs.declared.page.Leaf.{Leaf}
+use Rattle.bt_page.specs.declared.page.Node.{Node}
+use Rattle.bt_page.specs.Keys.{key_of, node_offset}
+use Rattle.bt_page.specs.Pages.{LeafFits, NodeFits, leaf_bytes, node_bytes}
+use Rattle.bt_page.specs.Spelled.{Spells}
 use Rattle.bt_page.proofs.AtFronts.{leaf_only, node_only}
 use Rattle.bt_rows.specs.declared.page.Page.{Page}
 use Rattle.bt_rows.specs.declared.page.Page.TheVariants.{Leaf as leaf_page, Node as node_page}
@@ -65,6 +69,13 @@ page_one id bytes (leaf_page l) (leaf_page k) f g = ap leaf_page (leaf_only byte
 page_one id bytes (leaf_page l) (node_page n) f g = absurd (omega (arith, f.0, g.0))
 page_one id bytes (node_page n) (leaf_page l) f g = absurd (omega (arith, f.0, g.0))
 page_one id bytes (node_page n) (node_page k) f g = ap node_page (node_only bytes k n g.1 f.1)
+
+-- what was read of the bytes is their page
+pub leaf_one : (id : ℕ) (bytes : List ℕ) (l k : Leaf) (p : Page) → id < node_offset → Spells LeafFits leaf_bytes bytes l → k ≡ l → IsPage id bytes p → leaf_page k ≡ p
+leaf_one id bytes l k p low f is g = ap leaf_page is ∙ page_one id bytes (leaf_page l) p (low, f) g
+
+pub node_one : (id : ℕ) (bytes : List ℕ) (n k : Node) (p : Page) → node_offset ≤ id → Spells NodeFits node_bytes bytes n → k ≡ n → IsPage id bytes p → node_page k ≡ p
+node_one id bytes n k p high f is g = ap node_page is ∙ page_one id bytes (node_page n) p (high, f) g
 
 held_one : (id : ℕ) (o : Option (List ℕ)) (p q : Page) → IsHeldAs id o (Some p) → IsHeldAs id o (Some q) → p ≡ q
 held_one id None p q f g = absurd f

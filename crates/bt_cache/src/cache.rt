@@ -13,7 +13,7 @@ ghost use Rattle.bt_cache.specs.Shared.{IsAny, IsSomeLeaf, IsSomeNode};
 
 use crate::reading::read_page;
 use crate::shared::{SharedPage, empty_leaf, empty_node};
-use bt_page::{Leaf, Node};
+use bt_slots::{SlottedLeaf, SlottedNode};
 use lru::LruCache;
 use std::alloc::{AllocError, Global};
 use std::marker::PhantomData;
@@ -87,7 +87,7 @@ impl<R: Records> Cache<R> {
         space: &mut R::S,
         id: u64,
         steps: &mut Steps<L>,
-    ) -> Result<Rc<Leaf>, RecErr>
+    ) -> Result<Rc<SlottedLeaf>, RecErr>
         requires ready { IsReady R.S.Space (Beside R.S.Space R.file_of R.holds) (self.old.pages, store.old) space.old }
         requires there { IsThere R.S.Space (Beside R.S.Space R.file_of R.holds) IsSomeLeaf id (self.old.pages, store.old) space.old }
         ensures leaf { IfOk result (λ found. (m : Map) (l : the_leaf) → Beside R.S.Space R.file_of R.holds (self.old.pages, store.old) space.old m → HasPage m id (leaf_page l) → found.value ≡ l) }
@@ -113,7 +113,7 @@ impl<R: Records> Cache<R> {
         space: &mut R::S,
         id: u64,
         steps: &mut Steps<L>,
-    ) -> Result<Rc<Node>, RecErr>
+    ) -> Result<Rc<SlottedNode>, RecErr>
         requires ready { IsReady R.S.Space (Beside R.S.Space R.file_of R.holds) (self.old.pages, store.old) space.old }
         requires there { IsThere R.S.Space (Beside R.S.Space R.file_of R.holds) IsSomeNode id (self.old.pages, store.old) space.old }
         ensures node { IfOk result (λ found. (m : Map) (n : the_node) → Beside R.S.Space R.file_of R.holds (self.old.pages, store.old) space.old m → HasPage m id (node_page n) → found.value ≡ n) }

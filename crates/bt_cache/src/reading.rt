@@ -11,18 +11,19 @@ ghost use Rattle.bt_cache.specs.Held.{HasPage};
 ghost use Rattle.bt_cache.specs.Shared.{page_of};
 
 use crate::shared::{SharedPage, empty_page};
-use bt_page::{PageErr, page_key, read_leaf, read_node};
+use bt_page::{PageErr, page_key};
+use bt_slots::{SlottedLeaf, SlottedNode};
 use std::alloc::{AllocError, Global};
 use std::rc::Rc;
 use tc_base::{Blob, PAGE_END, Steps};
 use tc_space::{RecErr, Records};
 
 // The leaf that bytes are, an empty one where they are none's.
-fn parse_leaf(alloc: Global, id: u64, bytes: &[u8]) -> Result<SharedPage, AllocError>
+fn parse_leaf(alloc: Global, id: u64, bytes: Blob) -> Result<SharedPage, AllocError>
     requires { id < 2 ^ 48 }
-    ensures { IfOk result (λ s. (p : Page) → IsPage id bytes.now p → page_of s ≡ p) }
+    ensures { IfOk result (λ s. (p : Page) → IsPage id bytes p → page_of s ≡ p) }
 {
-    match read_leaf(alloc, bytes) {
+    match SlottedLeaf::read(alloc, bytes) {
         Ok(leaf) => Ok(SharedPage::Leaf(Rc::new(alloc, leaf)?)),
         Err(PageErr::Bad) => empty_page(alloc, true),
         Err(PageErr::Memory) => Err(AllocError),
@@ -30,19 +31,19 @@ fn parse_leaf(alloc: Global, id: u64, bytes: &[u8]) -> Result<SharedPage, AllocE
 }
 
 // The node that bytes are, an empty one where they are none's.
-fn parse_node(alloc: Global, id: u64, bytes: &[u8]) -> Result<SharedPage, AllocError>
+fn parse_node(alloc: Global, id: u64, bytes: Blob) -> Result<SharedPage, AllocError>
     requires { 2 ^ 48 ≤ id }
-    ensures { IfOk result (λ s. (p : Page) → IsPage id bytes.now p → page_of s ≡ p) }
+    ensures { IfOk result (λ s. (p : Page) → IsPage id bytes p → page_of s ≡ p) }
 {
-    match read_node(alloc, bytes) {
+    match SlottedNode::read(alloc, bytes) {
         Ok(node) => Ok(SharedPage::Node(Rc::new(alloc, node)?)),
         Err(PageErr::Bad) => empty_page(alloc, false),
         Err(PageErr::Memory) => Err(AllocError),
     }
 }
 
-fn parse(alloc: Global, id: u64, bytes: &[u8]) -> Result<SharedPage, AllocError>
-    ensures { IfOk result (λ s. (p : Page) → IsPage id bytes.now p → page_of s ≡ p) }
+fn parse(alloc: Global, id: u64, bytes: Blob) -> Result<SharedPage, AllocError>
+    ensures { IfOk result (λ s. (p : Page) → IsPage id bytes p → page_of s ≡ p) }
 {
     if id < PAGE_END {
         parse_leaf(alloc, id, bytes)
@@ -76,5 +77,5 @@ pub(crate) fn read_page<R: Records>(
     let Some(bytes) = found else {
         return Ok(empty_page(alloc, id < PAGE_END)?);
     };
-    Ok(parse(alloc, id, bytes.as_slice())?)
+    Ok(parse(alloc, id, bytes)?)
 }

@@ -3,6 +3,7 @@ ghost use Rattle.std.specs.Prelude.{◌≡◌, IfOk};
 ghost use Rattle.bt_cache.specs.Shared.{IsLeaf, IsNode, page_of};
 
 use bt_page::{Leaf, Node};
+use bt_slots::{SlottedLeaf, SlottedNode};
 use std::alloc::{AllocError, Global};
 use std::rc::Rc;
 use tc_base::Seq;
@@ -10,29 +11,25 @@ use tc_base::Seq;
 /// A page that the cache holds and whoever asked for it may hold too.
 #[derive(Drop)]
 pub enum SharedPage {
-    Leaf(Rc<Leaf>),
-    Node(Rc<Node>),
+    Leaf(Rc<SlottedLeaf>),
+    Node(Rc<SlottedNode>),
 }
 
-pub(crate) fn empty_leaf(alloc: Global) -> Result<Rc<Leaf>, AllocError> {
-    Ok(Rc::new(
-        alloc,
-        Leaf {
-            prev: 0,
-            next: 0,
-            items: Seq::new(alloc),
-        },
-    )?)
+pub(crate) fn empty_leaf(alloc: Global) -> Result<Rc<SlottedLeaf>, AllocError> {
+    let leaf = Leaf {
+        prev: 0,
+        next: 0,
+        items: Seq::new(alloc),
+    };
+    Ok(Rc::new(alloc, SlottedLeaf::of(alloc, &leaf)?)?)
 }
 
-pub(crate) fn empty_node(alloc: Global) -> Result<Rc<Node>, AllocError> {
-    Ok(Rc::new(
-        alloc,
-        Node {
-            heir: 0,
-            entries: Seq::new(alloc),
-        },
-    )?)
+pub(crate) fn empty_node(alloc: Global) -> Result<Rc<SlottedNode>, AllocError> {
+    let node = Node {
+        heir: 0,
+        entries: Seq::new(alloc),
+    };
+    Ok(Rc::new(alloc, SlottedNode::of(alloc, &node)?)?)
 }
 
 /// The page that is taken where none stands: an empty leaf or node.
@@ -46,7 +43,7 @@ pub(crate) fn empty_page(alloc: Global, is_leaf: bool) -> Result<SharedPage, All
 
 impl SharedPage {
     /// The leaf that it is; an empty one where it is none.
-    pub(crate) fn leaf(&self, alloc: Global) -> Result<Rc<Leaf>, AllocError>
+    pub(crate) fn leaf(&self, alloc: Global) -> Result<Rc<SlottedLeaf>, AllocError>
         ensures { IfOk result (λ l. IsLeaf (page_of self.now) l.value) }
     {
         match self {
@@ -56,7 +53,7 @@ impl SharedPage {
     }
 
     /// The node that it is; an empty one where it is none.
-    pub(crate) fn node(&self, alloc: Global) -> Result<Rc<Node>, AllocError>
+    pub(crate) fn node(&self, alloc: Global) -> Result<Rc<SlottedNode>, AllocError>
         ensures { IfOk result (λ n. IsNode (page_of self.now) n.value) }
     {
         match self {

@@ -1,6 +1,5 @@
 //! Pages written to a store, and taken out of it.
 ghost use Rattle.std.specs.Prelude.{◌≡◌, ◌<◌, ◌≤◌, ◌^◌, OnOk, OnErr, IsErrOf};
-ghost use Rattle.std.specs.List.{AllByRecursion};
 ghost use Rattle.tc_base.specs.Maps.{Map};
 ghost use Rattle.tc_base.specs.declared.kind.Mode.TheVariants.{Over};
 ghost use Rattle.tc_io.specs.Causes.{Rose};
@@ -8,7 +7,7 @@ ghost use Rattle.tc_space.specs.Changes.{out_of, put_in};
 ghost use Rattle.tc_space.specs.Frames.{In, Refuses, Writes};
 ghost use Rattle.tc_space.specs.Stores.{FullBy, IsReady, Only};
 ghost use Rattle.bt_page.specs.Keys.{key_of};
-ghost use Rattle.bt_page.specs.Pages.{HasValue, LeafFits, NodeFits, leaf_bytes, node_bytes};
+ghost use Rattle.bt_page.specs.Pages.{leaf_bytes, node_bytes};
 ghost use Rattle.bt_rows.specs.Pages.{IsPage};
 ghost use Rattle.bt_cache.specs.Effects.{Stays, rec_of};
 ghost use Rattle.bt_cache.specs.Held.{AreSame, Beside, ids};
@@ -17,7 +16,8 @@ ghost use Rattle.bt_cache.specs.Shared.{page_of};
 
 use crate::cache::Cache;
 use crate::shared::SharedPage;
-use bt_page::{Leaf, Node, page_key, write_leaf, write_node};
+use bt_page::page_key;
+use bt_slots::{SlottedLeaf, SlottedNode};
 use std::rc::Rc;
 use tc_base::{Blob, Mode, Steps};
 use tc_space::{PutErr, RecErr, Records};
@@ -67,33 +67,32 @@ impl<R: Records> Cache<R> {
         Ok(())
     }
 
-    /// Writes a leaf, each of whose items has a value, under an id of leaves. It is then the page used last, as behind `leaf`. Where the cache finds no room for it, which is `Memory`, nothing is
+    /// Writes a leaf under an id of leaves. It is then the page used last, as behind `leaf`. Where the cache finds no room for it, which is `Memory`, nothing is
     /// written. After a refusal the space isn't sound, or the store is as it was, and the list of pages may be shorter.
     pub fn put_leaf(
         &mut self,
         store: &mut R,
         space: &mut R::S,
         id: u64,
-        leaf: Leaf,
+        leaf: SlottedLeaf,
     ) -> Result<(), RecErr>
         requires ready { IsReady R.S.Space (Beside R.S.Space R.file_of R.holds) (self.old.pages, store.old) space.old }
         requires id { id < 2 ^ 48 }
-        requires values { AllByRecursion HasValue leaf.items }
         ensures put { OnOk result (Writes R.S.Space (Only (R.file_of store.old)) (Beside R.S.Space R.file_of R.holds) (put_in Over (key_of id) (leaf_bytes leaf)) (self.old.pages, store.old) (self.new.pages, store.new) space.old space.new) }
-        ensures fits { OnOk result (LeafFits leaf) }
         ensures list { OnOk result (ids self.new.pages ≡ used self.old.pages.cap id (ids self.old.pages)) }
         ensures refused { OnErr result (Refuses R.S.Space (Beside R.S.Space R.file_of R.holds) (self.old.pages, store.old) (self.new.pages, store.new) space.old space.new) }
         ensures full { IsErrOf result RecErr.Full → FullBy (In R.S.Space R.file_of R.holds) R.fills (put_in Over (key_of id) (leaf_bytes leaf)) store.old space.old space.new }
         ensures stays { Stays R.S.Space R.file_of R.region R.gets self.old.pages self.new.pages store.old store.new space.old space.new }
         ensures cause { IsErrOf result RecErr.Fault → Rose (R.S.faults space.old) (R.S.faults space.new) }
     {
-        let mut bytes = Blob::new(self.alloc);
-        write_leaf(&leaf, &mut bytes)?;
         let Ok(leaf) = Rc::new(self.alloc, leaf) else {
             return Err(RecErr::Memory);
         };
+        let Ok(held) = leaf.clone() else {
+            return Err(RecErr::Memory);
+        };
         let page = SharedPage::Leaf(leaf);
-        match self.put_page(store, space, id, page, bytes.as_slice()) {
+        match self.put_page(store, space, id, page, held.as_slice()) {
             Ok(()) => Ok(()),
             Err(e) => Err(e),
         }
@@ -105,25 +104,25 @@ impl<R: Records> Cache<R> {
         store: &mut R,
         space: &mut R::S,
         id: u64,
-        node: Node,
+        node: SlottedNode,
     ) -> Result<(), RecErr>
         requires ready { IsReady R.S.Space (Beside R.S.Space R.file_of R.holds) (self.old.pages, store.old) space.old }
         requires id { 2 ^ 48 ≤ id }
         ensures put { OnOk result (Writes R.S.Space (Only (R.file_of store.old)) (Beside R.S.Space R.file_of R.holds) (put_in Over (key_of id) (node_bytes node)) (self.old.pages, store.old) (self.new.pages, store.new) space.old space.new) }
-        ensures fits { OnOk result (NodeFits node) }
         ensures list { OnOk result (ids self.new.pages ≡ used self.old.pages.cap id (ids self.old.pages)) }
         ensures refused { OnErr result (Refuses R.S.Space (Beside R.S.Space R.file_of R.holds) (self.old.pages, store.old) (self.new.pages, store.new) space.old space.new) }
         ensures full { IsErrOf result RecErr.Full → FullBy (In R.S.Space R.file_of R.holds) R.fills (put_in Over (key_of id) (node_bytes node)) store.old space.old space.new }
         ensures stays { Stays R.S.Space R.file_of R.region R.gets self.old.pages self.new.pages store.old store.new space.old space.new }
         ensures cause { IsErrOf result RecErr.Fault → Rose (R.S.faults space.old) (R.S.faults space.new) }
     {
-        let mut bytes = Blob::new(self.alloc);
-        write_node(&node, &mut bytes)?;
         let Ok(node) = Rc::new(self.alloc, node) else {
             return Err(RecErr::Memory);
         };
+        let Ok(held) = node.clone() else {
+            return Err(RecErr::Memory);
+        };
         let page = SharedPage::Node(node);
-        match self.put_page(store, space, id, page, bytes.as_slice()) {
+        match self.put_page(store, space, id, page, held.as_slice()) {
             Ok(()) => Ok(()),
             Err(e) => Err(e),
         }

@@ -1,11 +1,13 @@
 -- A stretch of keys in one page.
-use Rattle.std.proofs.Common.{◌≡◌, ◌≢◌, ◌⊎◌, ℕ, zero, suc, ◌+◌, ◌<◌, ◌≤◌, List, [], ◌∷◌, ◌++◌, Bool, true, false, length, map, take, drop, get_or, refl, sym, ap, ◌∙◌, subst, inl, inr, ⊎_elim, arith, append_assoc, slice_index_or}
+use Rattle.std.proofs.Common.{◌≡◌, ◌≢◌, ◌⊎◌, ℕ, zero, suc, ◌+◌, ◌-◌, ◌<◌, ◌≤◌, List, [], ◌∷◌, ◌++◌, Bool, true, false, Some, length, map, take, drop, get_or, refl, sym, ap, ◌∙◌, subst, inl, inr, ⊎_elim, arith, append_assoc, length-append, length-drop, slice_index_or}
+use Rattle.std.specs.Prelude.{slice_get}
 use Rattle.std.specs.List.{AllByRecursion, flat_map}
 use Rattle.std.specs.List.Sorted.{IsPartitionedBy, IsPartitionPoint}
 use Rattle.std.specs.declared.cmp.Ordering.{Ordering}
 use Rattle.std.specs.Cmp.{IsTotalOrder}
 use Rattle.std.proofs.lemmas.Grind.{flat_map-append}
-use Rattle.std.proofs.lemmas.List.{append-nil, map-append, take_all, take_more, take-append-drop}
+use Rattle.std.proofs.lemmas.List.{append-nil, get_or-drop, map-append, take_all, take_more, take-append-drop}
+use Rattle.std.proofs.lemmas.Option.{get_or_from_slice_get}
 use Rattle.std.proofs.lemmas.Map.Lookups.{CmpEqualImpliesEq}
 use Rattle.tc_base.specs.Lists.{pair}
 use Rattle.tc_base.specs.Orders.{NeverFalls}
@@ -25,7 +27,7 @@ use Rattle.bt_tree.specs.Ranging.{is_front, is_from, start_of, IsAdded, IsFilled
 use Rattle.bt_ways.specs.Searches.{IsRoute}
 use Rattle.bt_ways.proofs.Keys.{all_items, all_join, all_pairs, all_part}
 use Rattle.bt_tree.proofs.Sorted.{le_of}
-use Rattle.bt_ways.proofs.Spots.{parted, entries_rise, items_rise}
+use Rattle.bt_ways.proofs.Spots.{parted, item_of_place, entries_rise, items_rise}
 use Rattle.bt_tree.proofs.Stretches.{front_rank, rank_on}
 
 not_from : (s : Side) → is_front s ≡ true → is_from s ≡ false
@@ -51,6 +53,21 @@ all_drop P (x ∷ xs) (suc n) h = all_drop P xs n (λ i d le lt. h (suc i) d (om
 
 pub some_behind : (xs : List Item) (n : ℕ) → AllByRecursion HasValue xs → AllByRecursion HasValue (drop n xs)
 some_behind xs n h = (all_part HasValue (take n xs) (drop n xs) (subst (λ (t : List Item). AllByRecursion HasValue t) (sym (take-append-drop n xs)) h)).1
+
+-- an item of one value goes in
+pub filled_one : (max : ℕ) (x : Item) (old : List Pair) (key value : List ℕ) → key ≡ x.key → Some value ≡ slice_get x.values 0 → length x.values ≤ 1 → length old < max → IsFilled max x old (old ++ pair key value ∷ []) true
+filled_one max x old key value named first few room = record {
+  went = 1;
+  grown = ap (λ (t : List Pair). old ++ t) (ap (λ (k : List ℕ). pair k value ∷ []) named ∙ ap (map (pair x.key)) (sym (ap (take 1) (lone x.values first few))));
+  whole = λ e. ap (take 1) (lone x.values first few) ∙ sym (lone x.values first few);
+  full = λ e. absurd cc;
+  room = λ le. omega (arith, room, length-append old (pair key value ∷ []));
+}
+  where
+    lone : (vs : List (List ℕ)) → Some value ≡ slice_get vs 0 → length vs ≤ 1 → vs ≡ value ∷ []
+    lone [] e le = absurd cc
+    lone (v ∷ []) e le = let same : value ≡ v = cc in ap (λ (w : List ℕ). w ∷ []) (sym same)
+    lone (v ∷ w ∷ vs) e le = absurd (omega (arith, le))
 
 module _ (cmp : List ℕ → List ℕ → Ordering) (total : IsTotalOrder cmp) (exact : CmpEqualImpliesEq cmp) (side : List ℕ → Side) (falls : NeverFalls cmp side) where
   kept : (x y : List ℕ) → before_by cmp x y ≡ true → is_front (side y) ≡ true → is_front (side x) ≡ true
@@ -162,6 +179,38 @@ module _ (side : List ℕ → Side) where
             leaves : (vs : List (List ℕ)) → 0 < length vs → StartsOutside side (map (pair x.key) vs ++ flat_map item_pairs (drop (i + 1) xs))
             leaves [] lt = absurd (omega (arith, lt))
             leaves (v ∷ vs) lt = record { first = pair x.key v; rest = map (pair x.key) vs ++ flat_map item_pairs (drop (i + 1) xs); are = refl; outside = out }
+
+    -- so many items from a place on went in whole
+    module _ (items : List Item) (old now : List Pair) (place i : ℕ) (from : place ≤ i) (a : Adding (drop place items) old (i - place) now) where
+      pub placed_all : length items ≤ i → IsAdded side max (flat_map item_pairs (drop place items)) old now true
+      placed_all end = adding_all (drop place items) old now (i - place) a (omega (arith, length-drop place items, end, from))
+
+      module _ (lt : i < length items) (key : List ℕ) (named : (x : Item) → slice_get items i ≡ Some x → key ≡ x.key) where
+        abbrev x : Item
+        x = (item_of_place items i lt).0
+
+        get : slice_get items i ≡ Some x
+        get = (item_of_place items i lt).1
+
+        at_it : x ≡ get_or (drop place items) (i - place) x
+        at_it = sym (get_or-drop place items (i - place) x ∙ ap (λ (k : ℕ). get_or items k x) (omega (arith, from)) ∙ get_or_from_slice_get items i x x get)
+
+        few : i - place < length (drop place items)
+        few = omega (arith, length-drop place items, lt, from)
+
+        at_key : (b : Bool) → is_inside (side key) ≡ b → is_inside (side x.key) ≡ b
+        at_key b e = ap (λ (k : List ℕ). is_inside (side k)) (sym (named x get)) ∙ e
+
+        pub placed_out : AllByRecursion HasValue (drop place items) → is_inside (side key) ≡ false → IsAdded side max (flat_map item_pairs (drop place items)) old now false
+        placed_out some out = adding_out (drop place items) old now (i - place) a x few at_it some (at_key false out)
+
+        module _ (now' : List Pair) (yes_inside : is_inside (side key) ≡ true) where
+          pub placed_full : ((x : Item) → slice_get items i ≡ Some x → IsFilled max x now now' false) → IsAdded side max (flat_map item_pairs (drop place items)) old now' false
+          placed_full f = adding_full (drop place items) old now (i - place) a x few at_it now' (at_key true yes_inside) (f x get)
+
+          pub placed_more : ((x : Item) → slice_get items i ≡ Some x → IsFilled max x now now' true) → Adding (drop place items) old (i + 1 - place) now'
+          placed_more f =
+              subst (λ (k : ℕ). Adding (drop place items) old k now') (omega (arith, from)) (adding_more (drop place items) old now (i - place) a x few at_it now' (at_key true yes_inside) (f x get))
 
     -- a leaf from its first item that isn't in front
     pub leaf_scanned : (l : Leaf) (place : ℕ) (old new : List Pair) (all : Bool) (next : ℕ) → IsStart side l.items place → IsAdded side max (flat_map item_pairs (drop place l.items)) old new all

@@ -442,24 +442,25 @@ module _ {S V O : Type 0} (s : Ghosts S) (file_of : V → ℕ) (holds : V → Li
 
 module _ {S V O : Type 0} (s : Ghosts S) (file_of : V → ℕ) (holds : V → List ℕ → Map → Type 0) (cmp : List ℕ → List ℕ → Ordering) (last : Bool) (key value : List ℕ) (t u : Tree V O) (a b : S) where
   -- a pair came among the items of the leaf that was read
-  pub takes_pair : (path path' : List (ℕ × ℕ)) → path' ≡ path → (id : ℕ) (read : Leaf) (items : List Item) (place : ℕ) (grown : Bool) → Looks s file_of holds t.cache.pages u.cache.pages t.store u.store a b → StaysTree t u
+  pub takes_pair : (path path' : List (ℕ × ℕ)) → path' ≡ path → (id : ℕ) (read new : Leaf) (place : ℕ) (grown : Bool) → Looks s file_of holds t.cache.pages u.cache.pages t.store u.store a b → StaysTree t u
       → ((m : Map) (is : IsTree (before_by cmp) t.head t.height (get m)) → Beside s file_of holds (t.cache.pages, t.store) a m → Found (before_by cmp) t.head.root key is.leaves is.levels path id)
       → ((pages : PageMap) (l : Leaf) → Shows s file_of holds u b pages → pages id ≡ Some (leaf_page l) → read ≡ l)
-      → (AreItems cmp read.items → IsChanged cmp last key value read.items items place grown)
+      → (new.prev ≡ read.prev) × (new.next ≡ read.next)
+      → (AreItems cmp read.items → IsChanged cmp last key value read.items new.items place grown)
       → (ps : List Pair) (h : Means s file_of holds (before_by cmp) t a ps)
-      → TakesPair cmp last key value h.1.3.tree path' (record { id = id; leaf = record { prev = read.prev; next = read.next; items = items }; place = place; grown = grown })
-  takes_pair path path' moved id read items place grown looks stays found is_read changed ps h =
+      → TakesPair cmp last key value h.1.3.tree path' (record { id = id; leaf = new; place = place; grown = grown })
+  takes_pair path path' moved id read new place grown looks stays found is_read links changed ps h =
       let p : HoldsPairs (before_by cmp) t.head t.height t.index (get h.1.0) ps = h.1.3 in
       let f = found h.1.0 p.tree ((h.0, h.1.1), h.1.2) in
       let is = found_leaf (before_by cmp) p.tree.pages t.head.root key p.tree.leaves p.tree.levels path id p.tree.stands f in
       let same : read ≡ f.leaf.leaf = is_read p.tree.pages f.leaf.leaf (means_looked s file_of holds (before_by cmp) t u a b looks stays ps h) is in
       let ob : InOrder (before_by cmp) (f.leaf ∷ f.back) = order_behind (before_by cmp) f.front (f.leaf ∷ f.back) (subst (λ (x : List LeafAt). InOrder (before_by cmp) x) f.parts p.tree.stands.order) in
       let are : AreItems cmp f.leaf.leaf.items = record { ascends = ob.0.ascends; some = leaf_values h.1.0 id f.leaf.leaf (has_page t.head h.1.0 p.tree.pages id (leaf_page f.leaf.leaf) p.tree.head p.tree.held is) } in
-      subst (λ (q : List (ℕ × ℕ)). TakesPair cmp last key value h.1.3.tree q (record { id = id; leaf = record { prev = read.prev; next = read.next; items = items }; place = place; grown = grown })) (sym moved) (record {
+      subst (λ (q : List (ℕ × ℕ)). TakesPair cmp last key value h.1.3.tree q (record { id = id; leaf = new; place = place; grown = grown })) (sym moved) (record {
         found = f;
-        prev = ap (λ (l : Leaf). l.prev) same;
-        next = ap (λ (l : Leaf). l.next) same;
-        changed = subst (λ (l : Leaf). IsChanged cmp last key value l.items items place grown) same (changed (subst (λ (l : Leaf). AreItems cmp l.items) (sym same) are));
+        prev = links.0 ∙ ap (λ (l : Leaf). l.prev) same;
+        next = links.1 ∙ ap (λ (l : Leaf). l.next) same;
+        changed = subst (λ (l : Leaf). IsChanged cmp last key value l.items new.items place grown) same (changed (subst (λ (l : Leaf). AreItems cmp l.items) (sym same) are));
       })
 
 -- t at the start, u once the leaf was changed, v once it is written, w in the end

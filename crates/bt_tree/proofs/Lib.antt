@@ -1,6 +1,7 @@
 pub mod Climbings
 pub mod Cuts
 pub mod Descents
+pub mod Dividers
 pub mod Droppings
 pub mod Finds
 pub mod Heights
@@ -14,9 +15,9 @@ pub mod Partings
 pub mod Prunings
 pub mod Ranges
 pub mod Removes
+pub mod Revaluings
 pub mod Scans
 pub mod Settles
-pub mod Sizes
 pub mod Sorted
 pub mod Stretches
 pub mod Unlinkings

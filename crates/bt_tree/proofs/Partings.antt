@@ -1,6 +1,6 @@
 -- A leaf that is written as several.
 use Rattle.std.proofs.Common.{◌≡◌, ◌⊎◌, ℕ, suc, ◌+◌, ◌-◌, ◌<◌, ◌≤◌, ◌^◌, List, [], ◌∷◌, ◌++◌, Option, Some, None, length, map, take, drop, refl, sym, ap, ◌∙◌, subst, inl, inr, ⊎_elim, arith, append_assoc, length-drop}
-use Rattle.std.specs.Prelude.{if◌then◌else◌, ◌==◌, slice_index_or}
+use Rattle.std.specs.Prelude.{if◌then◌else◌, ◌==◌, slice_get, slice_index_or}
 use Rattle.std.specs.List.{AllByRecursion, remove}
 use Rattle.std.proofs.lemmas.Bool.{cases_eq, cases_lt}
 use Rattle.std.proofs.lemmas.List.{append-nil, length-map, length-take-le, map-append}
@@ -213,6 +213,24 @@ from_some given second (x ∷ third) = (omega arith, omega arith)
 pub from_two : (given : ℕ) (second third : List Item) → 0 < length third → length (parts_from given second third) ≡ 2
 from_two given second [] lt = absurd (omega (arith, lt))
 from_two given second (x ∷ third) lt = refl
+
+-- the first key, as it is asked for
+pub first_asked : (items : List Item) (key : List ℕ) → 0 < length items → ((x : Item) → slice_get items 0 ≡ Some x → key ≡ x.key) → key ≡ first_key items
+first_asked [] key some is = absurd (omega (arith, some))
+first_asked (x ∷ items) key some is = is x refl
+
+pub one_given : {V O : Type 0} (t u : Tree V O) → u ≡ record t { head = record t.head { leaf_ids = t.head.leaf_ids + 1 } } → u.head.leaf_ids ≡ t.head.leaf_ids + 1
+one_given {V} {O} t u noted = ap (λ (v : Tree V O). v.head.leaf_ids) noted
+
+-- a third leaf behind two
+pub three_parts : (given id prev next : ℕ) (items second third : List Item) (a b : ℕ) (two p : Parted) → 0 < length third → a ≡ given + 1 → b ≡ given + 1 + 1 → ArePartsOf id prev b items (record { id = a; items = second } ∷ []) two
+    → p.leaves ≡ two.leaves ++ laid_at b a next third ∷ [] → p.added ≡ two.added ++ record { child = b; key = first_key third } ∷ [] → p.last ≡ b → ArePartsOf id prev next items (parts_from given second third) p
+three_parts given id prev next items second [] a b two p some ea eb made leaves added last = absurd (omega (arith, some))
+three_parts given id prev next items second (x ∷ third) a b two p some ea eb made leaves added last = record {
+  leaves = leaves ∙ ap (λ (ls : List Laid). ls ++ laid_at b a next (x ∷ third) ∷ []) made.leaves ∙ (λ k. laid_parts id prev next items (record { id = ea k; items = second } ∷ record { id = eb k; items = x ∷ third } ∷ []));
+  added = added ∙ ap (λ (es : List Entry). es ++ record { child = b; key = x.key } ∷ []) made.added ∙ (λ k. map part_entry (record { id = ea k; items = second } ∷ record { id = eb k; items = x ∷ third } ∷ []));
+  last = last ∙ eb;
+}
 
 pub from_items : (given : ℕ) (items second third : List Item) → all_items items (parts_from given second third) ≡ items ++ (second ++ third)
 from_items given items second [] = ap (λ (t : List Item). items ++ t) (sym (append-nil second))

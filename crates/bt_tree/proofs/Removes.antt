@@ -157,25 +157,26 @@ module _ {S V O : Type 0} (s : Ghosts S) (file_of : V → ℕ) (holds : V → Li
 
 -- t at the start, u once the leaf was read; its path may be noted elsewhere meanwhile
 module _ {S V O : Type 0} (s : Ghosts S) (file_of : V → ℕ) (holds : V → List ℕ → Map → Type 0) (cmp : List ℕ → List ℕ → Ordering) (all : Bool) (key : List ℕ) (t u : Tree V O) (a b : S) where
-  pub gives_pairs : (path path' : List (ℕ × ℕ)) (id : ℕ) (read : Leaf) (items : List Item) (count : ℕ) → path' ≡ path → Looks s file_of holds t.cache.pages u.cache.pages t.store u.store a b → StaysTree t u
+  pub gives_pairs : (path path' : List (ℕ × ℕ)) (id : ℕ) (read new : Leaf) (count : ℕ) → path' ≡ path → Looks s file_of holds t.cache.pages u.cache.pages t.store u.store a b → StaysTree t u
       → ((m : Map) (is : IsTree (before_by cmp) t.head t.height (get m)) → Beside s file_of holds (t.cache.pages, t.store) a m → Found (before_by cmp) t.head.root key is.leaves is.levels path id)
       → ((pages : PageMap) (l : Leaf) → Shows s file_of holds u b pages → pages id ≡ Some (leaf_page l) → read ≡ l)
-      → (AreItems cmp read.items → IsTaken cmp all key read.items items count)
+      → (new.prev ≡ read.prev) × (new.next ≡ read.next)
+      → (AreItems cmp read.items → IsTaken cmp all key read.items new.items count)
       → (ps : List Pair) (h : Means s file_of holds (before_by cmp) t a ps)
-      → GivesPairs cmp all key h.1.3.tree path' (record { id = id; leaf = record { prev = read.prev; next = read.next; items = items }; count = count })
-  gives_pairs path path' id read items count way looks stays found is_read taken ps h =
+      → GivesPairs cmp all key h.1.3.tree path' (record { id = id; leaf = new; count = count })
+  gives_pairs path path' id read new count way looks stays found is_read links taken ps h =
       let p : HoldsPairs (before_by cmp) t.head t.height t.index (get h.1.0) ps = h.1.3 in
       let f = found h.1.0 p.tree ((h.0, h.1.1), h.1.2) in
       let is = found_leaf (before_by cmp) p.tree.pages t.head.root key p.tree.leaves p.tree.levels path id p.tree.stands f in
       let same : read ≡ f.leaf.leaf = is_read p.tree.pages f.leaf.leaf (means_looked s file_of holds (before_by cmp) t u a b looks stays ps h) is in
       let ob : InOrder (before_by cmp) (f.leaf ∷ f.back) = order_behind (before_by cmp) f.front (f.leaf ∷ f.back) (subst (λ (x : List LeafAt). InOrder (before_by cmp) x) f.parts p.tree.stands.order) in
       let are : AreItems cmp f.leaf.leaf.items = record { ascends = ob.0.ascends; some = leaf_values h.1.0 id f.leaf.leaf (has_page t.head h.1.0 p.tree.pages id (leaf_page f.leaf.leaf) p.tree.head p.tree.held is) } in
-      subst (λ (q : List (ℕ × ℕ)). GivesPairs cmp all key p.tree q (record { id = id; leaf = record { prev = read.prev; next = read.next; items = items }; count = count })) (sym way)
+      subst (λ (q : List (ℕ × ℕ)). GivesPairs cmp all key p.tree q (record { id = id; leaf = new; count = count })) (sym way)
       (record {
         found = f;
-        prev = ap (λ (l : Leaf). l.prev) same;
-        next = ap (λ (l : Leaf). l.next) same;
-        taken = subst (λ (l : Leaf). IsTaken cmp all key l.items items count) same (taken (subst (λ (l : Leaf). AreItems cmp l.items) (sym same) are));
+        prev = links.0 ∙ ap (λ (l : Leaf). l.prev) same;
+        next = links.1 ∙ ap (λ (l : Leaf). l.next) same;
+        taken = subst (λ (l : Leaf). IsTaken cmp all key l.items new.items count) same (taken (subst (λ (l : Leaf). AreItems cmp l.items) (sym same) are));
       })
 
 pub stays_still : {S V O : Type 0} (s : Ghosts S) (file_of : V → ℕ) (region : V → List ℕ) (t u : Tree V O) (a b : S) → StaysStill s file_of region t u a b → StaysTree t u

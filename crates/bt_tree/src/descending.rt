@@ -15,7 +15,7 @@ ghost use Rattle.bt_ways.specs.Ways.{Found};
 
 use crate::searching::{child, route};
 use crate::tree::Tree;
-use bt_page::Leaf;
+use bt_slots::SlottedLeaf;
 use std::rc::Rc;
 use tc_base::{Order, Steps};
 use tc_space::{RecErr, Records};
@@ -42,7 +42,7 @@ impl<R: Records, O: Order> Tree<R, O> {
                 Ok(node) => node,
                 Err(e) => return Err(e),
             };
-            let place = route::<O>(node.entries.as_slice(), key);
+            let place = route::<O>(&node, key);
             self.path.push(id, place)?;
             id = child(&node, place);
         }
@@ -55,7 +55,7 @@ impl<R: Records, O: Order> Tree<R, O> {
         space: &mut R::S,
         key: &[u8],
         steps: &mut Steps<L>,
-    ) -> Result<Rc<Leaf>, RecErr>
+    ) -> Result<Rc<SlottedLeaf>, RecErr>
         requires { IsReady R.S.Space (Means R.S.Space R.file_of R.holds (before_by O.cmp)) self.old space.old }
         ensures leaf { IfOk result (λ leaf. (ps : List Pair) → Means R.S.Space R.file_of R.holds (before_by O.cmp) self.old space.old ps → IsLeafFor (before_by O.cmp) key.now ps leaf.value) }
         ensures visits { Visits R.S.Space R.file_of R.holds R.region R.gets self.old.height self.old self.new steps.old steps.new space.old space.new }

@@ -9,37 +9,42 @@ ghost use Rattle.bt_ways.specs.Items.{IsLeafFor, item_in};
 ghost use Rattle.bt_tree.specs.Meaning.{Means};
 ghost use Rattle.bt_tree.specs.Visits.{Asks};
 
-use crate::copying::copy_item;
 use crate::searching::spot;
 use crate::tree::Tree;
-use bt_page::{Item, Leaf};
+use bt_page::Item;
+use bt_slots::SlottedLeaf;
 use std::alloc::{AllocError, Global};
 use tc_base::{Blob, Order, Steps};
 use tc_space::{RecErr, Records};
 
 // A copy of the key and its values, if the leaf where it belongs has it.
-fn copy_found<O: Order>(alloc: Global, leaf: &Leaf, key: &[u8]) -> Result<Option<Item>, AllocError>
+fn copy_found<O: Order>(
+    alloc: Global,
+    leaf: &SlottedLeaf,
+    key: &[u8],
+) -> Result<Option<Item>, AllocError>
     ensures { IfOk result (λ found. (ps : List Pair) → IsLeafFor (before_by O.cmp) key.now ps leaf.now → found ≡ item_in key.now ps) }
 {
-    let (place, hit) = spot::<O>(leaf.items.as_slice(), key);
+    let (place, hit) = spot::<O>(leaf, key);
     if !hit {
         return Ok(None);
     }
-    Ok(Some(copy_item(alloc, leaf.items.at(place))?))
+    Ok(Some(leaf.item(alloc, place)?))
 }
 
 // A copy of the key's first value, if the leaf where it belongs has the key.
-fn copy_first<O: Order>(alloc: Global, leaf: &Leaf, key: &[u8]) -> Result<Option<Blob>, AllocError>
+fn copy_first<O: Order>(
+    alloc: Global,
+    leaf: &SlottedLeaf,
+    key: &[u8],
+) -> Result<Option<Blob>, AllocError>
     ensures { IfOk result (λ found. (ps : List Pair) → IsLeafFor (before_by O.cmp) key.now ps leaf.now → found ≡ first ps key.now) }
 {
-    let (place, hit) = spot::<O>(leaf.items.as_slice(), key);
+    let (place, hit) = spot::<O>(leaf, key);
     if !hit {
         return Ok(None);
     }
-    let Some(value) = leaf.items.at(place).values.as_slice().first() else {
-        return Ok(None);
-    };
-    Ok(Some(Blob::from_slice(alloc, value.as_slice())?))
+    Ok(Some(Blob::from_slice(alloc, leaf.first_value(place))?))
 }
 
 impl<R: Records, O: Order> Tree<R, O> {

@@ -12,17 +12,17 @@ ghost use Rattle.bt_tree.specs.Meaning.{Means, file_in};
 ghost use Rattle.bt_tree.specs.Visits.{StaysTree};
 
 use crate::changing::change;
-use crate::cutting::fits;
+use crate::cutting::leaf_fits;
 use crate::tree::Tree;
-use bt_page::Leaf;
+use bt_slots::SlottedLeaf;
 use tc_base::{Order, Steps};
 use tc_space::{RecErr, Records, Space};
 
 /// The leaf of an id with a pair more, or another value, at the item of a place.
-#[derive(Debug, Drop)]
+#[derive(Drop)]
 pub(crate) struct Changed {
     pub(crate) id: u64,
-    pub(crate) leaf: Leaf,
+    pub(crate) leaf: SlottedLeaf,
     pub(crate) place: usize,
     pub(crate) grown: bool,
 }
@@ -50,11 +50,11 @@ impl<R: Records, O: Order> Tree<R, O> {
             Ok(id) => id,
             Err(e) => return Err(e),
         };
-        let mut leaf = match self.own_leaf(space, id, steps) {
+        let leaf = match self.own_leaf(space, id, steps) {
             Ok(leaf) => leaf,
             Err(e) => return Err(e),
         };
-        let (place, grown) = change::<O>(self.alloc, &mut leaf.items, key, value, last)?;
+        let (leaf, place, grown) = change::<O>(self.alloc, leaf, key, value, last)?;
         Ok(Changed {
             id,
             leaf,
@@ -101,7 +101,7 @@ impl<R: Records, O: Order> Tree<R, O> {
             Err(e) => return Err(e),
         };
         let grown = changed.grown;
-        if fits(self.head.leaf_limit, changed.leaf.items.as_slice()) {
+        if leaf_fits(self.head.leaf_limit, &changed.leaf) {
             if let Err(e) = self.put_leaf(space, changed.id, changed.leaf) {
                 return Err(e);
             }

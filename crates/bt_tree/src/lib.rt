@@ -3,7 +3,6 @@
 
 mod changing;
 mod climbing;
-mod copying;
 mod cutting;
 mod descending;
 mod dropping;

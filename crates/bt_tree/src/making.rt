@@ -17,6 +17,7 @@ use crate::tree::Tree;
 use bt_cache::Cache;
 use bt_page::Leaf;
 use bt_rows::TreeHead;
+use bt_slots::SlottedLeaf;
 use std::alloc::Global;
 use std::marker::PhantomData;
 use tc_base::{Order, Seq};
@@ -70,6 +71,7 @@ impl<R: Records + Drop, O: Order> Tree<R, O> {
             next: 0,
             items: Seq::new(alloc),
         };
+        let leaf = SlottedLeaf::of(alloc, &leaf)?;
         match cache.put_leaf(&mut store, space, 1, leaf) {
             Ok(()) => Ok(Tree {
                 alloc,

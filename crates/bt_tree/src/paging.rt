@@ -1,11 +1,9 @@
 //! Single pages of a tree, read and written.
-ghost use Rattle.std.specs.Prelude.{◌≡◌, ◌+◌, ◌<◌, ◌≤◌, ◌^◌, ℕ, Some, IfOk, OnOk, OnErr, IsErrOf, IsTrue};
-ghost use Rattle.std.specs.List.{AllByRecursion};
+ghost use Rattle.std.specs.Prelude.{◌≡◌, ◌+◌, ◌<◌, ◌≤◌, ◌^◌, ℕ, Some, IfOk, OnOk, OnErr, IsErrOf};
 ghost use Rattle.tc_io.specs.Causes.{Rose};
 ghost use Rattle.tc_space.specs.Frames.{Refuses, Writes};
 ghost use Rattle.tc_space.specs.Stores.{IsReady, Only};
 ghost use Rattle.bt_page.specs.Keys.{node_offset};
-ghost use Rattle.bt_page.specs.Pages.{HasValue};
 ghost use Rattle.bt_page.specs.declared.page.Leaf.{Leaf as the_leaf};
 ghost use Rattle.bt_page.specs.declared.page.Node.{Node as the_node};
 ghost use Rattle.bt_rows.specs.Pages.{PageMap};
@@ -16,33 +14,21 @@ ghost use Rattle.bt_ways.specs.Writes.{put_at};
 ghost use Rattle.bt_tree.specs.Meaning.{file_in};
 ghost use Rattle.bt_tree.specs.Paging.{HasLeafAt, HasNodeAt, IsLeafId, IsNodeId, IsUsedUp, LacksPage, Shows, StaysStill};
 
-use crate::copying::{copy_leaf, copy_node};
 use crate::tree::Tree;
-use bt_page::{Item, Leaf, Node};
+use bt_page::Node;
+use bt_slots::{SlottedLeaf, SlottedNode};
 use std::rc::Rc;
 use tc_base::{Order, PAGE_END, Steps};
 use tc_space::{RecErr, Records};
 
-// Whether each item has a value.
-fn have_values(items: &[Item]) -> bool
-    ensures { IsTrue result → AllByRecursion HasValue items.now }
-{
-    for item in items {
-        if item.values.as_slice().is_empty() {
-            return false;
-        }
-    }
-    true
-}
-
 impl<R: Records, O: Order> Tree<R, O> {
-    /// The leaf of an id by value: one that the cache holds is taken out of it and isn't copied.
+    /// The leaf of an id by value, as its bytes: one that the cache holds is taken out of it and isn't copied.
     pub(crate) fn own_leaf<L>(
         &mut self,
         space: &mut R::S,
         id: u64,
         steps: &mut Steps<L>,
-    ) -> Result<Leaf, RecErr>
+    ) -> Result<SlottedLeaf, RecErr>
         requires ready { IsReady R.S.Space (Shows R.S.Space R.file_of R.holds) self.old space.old }
         requires there { HasLeafAt R.S.Space R.file_of R.holds id self.old space.old }
         ensures leaf { IfOk result (λ read. (pages : PageMap) (l : the_leaf) → Shows R.S.Space R.file_of R.holds self.old space.old pages → pages id ≡ Some (leaf_page l) → read ≡ l) }
@@ -57,11 +43,11 @@ impl<R: Records, O: Order> Tree<R, O> {
         self.cache.forget(id);
         match Rc::try_unwrap(leaf) {
             Ok(leaf) => Ok(leaf),
-            Err(shared) => Ok(copy_leaf(self.alloc, &shared)?),
+            Err(shared) => Ok(shared.copy(self.alloc)?),
         }
     }
 
-    /// The node of an id, as `own_leaf` gives a leaf.
+    /// The node of an id by its entries.
     pub(crate) fn own_node<L>(
         &mut self,
         space: &mut R::S,
@@ -75,19 +61,19 @@ impl<R: Records, O: Order> Tree<R, O> {
         ensures still { StaysStill R.S.Space R.file_of R.region self.old self.new space.old space.new }
         ensures cause { (IsErrOf result RecErr.Fault → Rose (R.S.faults space.old) (R.S.faults space.new)) × (IsErrOf result RecErr.Full → ⊥) }
     {
-        let node = match self.cache.node(&mut self.store, space, id, steps) {
-            Ok(node) => node,
-            Err(e) => return Err(e),
-        };
-        self.cache.forget(id);
-        match Rc::try_unwrap(node) {
-            Ok(node) => Ok(node),
-            Err(shared) => Ok(copy_node(self.alloc, &shared)?),
+        match self.cache.node(&mut self.store, space, id, steps) {
+            Ok(node) => Ok(node.to_node(self.alloc)?),
+            Err(e) => Err(e),
         }
     }
 
-    /// Writes a leaf under an id that was given. After a refusal the space isn't sound, or nothing has changed.
-    pub(crate) fn put_leaf(&mut self, space: &mut R::S, id: u64, leaf: Leaf) -> Result<(), RecErr>
+    /// Writes a leaf, as its bytes, under an id that was given. After a refusal the space isn't sound, or nothing has changed.
+    pub(crate) fn put_leaf(
+        &mut self,
+        space: &mut R::S,
+        id: u64,
+        leaf: SlottedLeaf,
+    ) -> Result<(), RecErr>
         requires ready { IsReady R.S.Space (Shows R.S.Space R.file_of R.holds) self.old space.old }
         requires id { R.S.tells → IsLeafId self.old.head id }
         ensures put { OnOk result (Writes R.S.Space (Only (file_in R.file_of self.old)) (Shows R.S.Space R.file_of R.holds) (put_at id (leaf_page leaf)) self.old self.new space.old space.new) }
@@ -96,13 +82,12 @@ impl<R: Records, O: Order> Tree<R, O> {
         ensures still { StaysStill R.S.Space R.file_of R.region self.old self.new space.old space.new }
         ensures cause { IsErrOf result RecErr.Fault → Rose (R.S.faults space.old) (R.S.faults space.new) }
     {
-        // neither comes where the records are told
+        // it doesn't come where the records are told
         if id >= PAGE_END {
             return Err(RecErr::Memory);
         }
-        if !have_values(leaf.items.as_slice()) {
-            return Err(RecErr::Memory);
-        }
+        // its bytes tell that the page has a spelling
+        let _bytes = leaf.as_slice();
         match self.cache.put_leaf(&mut self.store, space, id, leaf) {
             Ok(()) => Ok(()),
             Err(e) => Err(e),
@@ -123,6 +108,9 @@ impl<R: Records, O: Order> Tree<R, O> {
         if id < PAGE_END {
             return Err(RecErr::Memory);
         }
+        let node = SlottedNode::of(self.alloc, &node)?;
+        // its bytes tell that the page has a spelling
+        let _bytes = node.as_slice();
         match self.cache.put_node(&mut self.store, space, id, node) {
             Ok(()) => Ok(()),
             Err(e) => Err(e),

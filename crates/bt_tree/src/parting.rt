@@ -1,5 +1,5 @@
 //! A leaf that grew beyond its limits, written as two or three.
-ghost use Rattle.std.specs.Prelude.{◌≡◌, ◌+◌, ◌-◌, ◌<◌, ◌≤◌, ◌^◌, ◌⊎◌, ◌++◌, ◌∷◌, ◌==◌, [], suc, length, IfOk, OnOk, OnErr, IsErrOf, if◌then◌else◌};
+ghost use Rattle.std.specs.Prelude.{◌≡◌, ◌+◌, ◌-◌, ◌<◌, ◌≤◌, ◌^◌, ◌⊎◌, ◌++◌, ◌∷◌, ◌==◌, [], suc, length, take, drop, IfOk, OnOk, OnErr, IsErrOf, if◌then◌else◌};
 ghost use Rattle.std.specs.List.{AllByRecursion};
 ghost use Rattle.tc_io.specs.Causes.{Rose};
 ghost use Rattle.tc_space.specs.Frames.{Writes};
@@ -13,68 +13,62 @@ ghost use Rattle.bt_tree.specs.Meaning.{file_in};
 ghost use Rattle.bt_tree.specs.Paging.{HasLeafAt, IsLeafId, IsUsedUp, LacksPage, Shows, StaysStill, Turns};
 ghost use Rattle.bt_tree.specs.Parting.{AddsBehind, ArePartsOf, IsLaid, IsParted, IsPiece, ShowsLeaf, Widens, last_part, parts_from, put_laid};
 
-use crate::cutting::{cut_places, part_items};
+use crate::cutting::cut_places;
 use crate::tree::Tree;
-use bt_page::{Entry, Item, Leaf};
+use bt_page::Entry;
+use bt_slots::SlottedLeaf;
 use std::alloc::{AllocError, Global};
 use tc_base::{Blob, Order, Seq, Steps};
 use tc_space::{RecErr, Records};
 
 /// A leaf and its id.
-#[derive(Debug, Drop)]
+#[derive(Drop)]
 pub(crate) struct Laid {
     pub(crate) id: u64,
-    pub(crate) leaf: Leaf,
+    pub(crate) leaf: SlottedLeaf,
 }
 
 /// The leaves that one becomes, the entries over the new ones, and the id of the last.
-#[derive(Debug, Drop)]
+#[derive(Drop)]
 pub(crate) struct Parted {
     pub(crate) leaves: Seq<Laid>,
     pub(crate) added: Seq<Entry>,
     pub(crate) last: u64,
 }
 
-// The entry over a new leaf of these items.
-fn entry_over(alloc: Global, id: u64, items: &Seq<Item>) -> Result<Entry, AllocError>
-    ensures { IfOk result (λ e. e ≡ record { child = id; key = first_key items.now }) }
+// The entry over a new leaf.
+fn entry_over(alloc: Global, id: u64, leaf: &SlottedLeaf) -> Result<Entry, AllocError>
+    ensures { IfOk result (λ e. e ≡ record { child = id; key = first_key leaf.now.items }) }
 {
-    if items.len() == 0 {
+    if leaf.len() == 0 {
         return Err(AllocError);
     }
-    let key = Blob::from_slice(alloc, items.at(0).key.as_slice())?;
+    let key = Blob::from_slice(alloc, leaf.key(0))?;
     Ok(Entry { child: id, key })
 }
 
-// Two leaves in the place of one.
+// Two leaves of the items of one in front of a place and of those from there to another, before a leaf of this id.
 fn in_two(
     alloc: Global,
     id: u64,
-    prev: u64,
-    next: u64,
-    items: Seq<Item>,
+    leaf: &SlottedLeaf,
+    i: usize,
+    j: usize,
     second_id: u64,
-    second: Seq<Item>,
+    next: u64,
 ) -> Result<Parted, AllocError>
-    ensures { IfOk result (λ p. ArePartsOf id prev next items (record { id = second_id; items = second } ∷ []) p) }
+    requires { (i ≤ j) × (j ≤ length leaf.now.items) }
+    ensures { IfOk result (λ p. ArePartsOf id leaf.now.prev next (take i leaf.now.items) (record { id = second_id; items = take (j - i) (drop i leaf.now.items) } ∷ []) p) }
 {
     let mut leaves = Seq::new(alloc);
     let mut added = Seq::new(alloc);
+    let first = leaf.section(alloc, 0, i, leaf.prev(), second_id)?;
+    let second = leaf.section(alloc, i, j, id, next)?;
     added.push(entry_over(alloc, second_id, &second)?)?;
-    let leaf = Leaf {
-        prev,
-        next: second_id,
-        items,
-    };
-    leaves.push(Laid { id, leaf })?;
-    let leaf = Leaf {
-        prev: id,
-        next,
-        items: second,
-    };
+    leaves.push(Laid { id, leaf: first })?;
     leaves.push(Laid {
         id: second_id,
-        leaf,
+        leaf: second,
     })?;
     Ok(Parted {
         leaves,
@@ -83,26 +77,26 @@ fn in_two(
     })
 }
 
-// Three leaves in the place of one: two of which the second has the third behind it.
+// Three leaves in the place of one: two of which the second has the third behind it, and that of the items from a place on.
 fn in_three(
     alloc: Global,
     two: Parted,
+    leaf: &SlottedLeaf,
+    j: usize,
     second_id: u64,
-    next: u64,
     third_id: u64,
-    third: Seq<Item>,
 ) -> Result<Parted, AllocError>
-    ensures { IfOk result (λ p. (p.leaves ≡ two.leaves ++ record { id = third_id; leaf = record { prev = second_id; next = next; items = third } } ∷ []) × (p.added ≡ two.added ++ record { child = third_id; key = first_key third } ∷ []) × (p.last ≡ third_id)) }
+    requires { j ≤ length leaf.now.items }
+    ensures { IfOk result (λ p. (p.leaves ≡ two.leaves ++ record { id = third_id; leaf = record { prev = second_id; next = leaf.now.next; items = drop j leaf.now.items } } ∷ []) × (p.added ≡ two.added ++ record { child = third_id; key = first_key (drop j leaf.now.items) } ∷ []) × (p.last ≡ third_id)) }
 {
     let mut leaves = two.leaves;
     let mut added = two.added;
+    let third = leaf.section(alloc, j, leaf.len(), second_id, leaf.next())?;
     added.push(entry_over(alloc, third_id, &third)?)?;
-    let leaf = Leaf {
-        prev: second_id,
-        next,
-        items: third,
-    };
-    leaves.push(Laid { id: third_id, leaf })?;
+    leaves.push(Laid {
+        id: third_id,
+        leaf: third,
+    })?;
     Ok(Parted {
         leaves,
         added,
@@ -111,18 +105,11 @@ fn in_three(
 }
 
 impl<R: Records, O: Order> Tree<R, O> {
-    // The leaves that one becomes, under the next ids. The third may be empty, and isn't one then.
-    fn parts(
-        &mut self,
-        id: u64,
-        prev: u64,
-        next: u64,
-        items: Seq<Item>,
-        second: Seq<Item>,
-        third: Seq<Item>,
-    ) -> Result<Parted, RecErr>
-        ensures parts { IfOk result (λ p. ArePartsOf id prev next items (parts_from self.old.head.leaf_ids second third) p) }
-        ensures given { OnOk result (self.new.head.leaf_ids ≡ self.old.head.leaf_ids + length (parts_from self.old.head.leaf_ids second third)) }
+    // The leaves that one becomes where it is parted at two places, under the next ids. The third would be empty where the second place is the end, and isn't one then.
+    fn parts(&mut self, id: u64, leaf: SlottedLeaf, i: usize, j: usize) -> Result<Parted, RecErr>
+        requires { (i ≤ j) × (j ≤ length leaf.items) }
+        ensures parts { IfOk result (λ p. ArePartsOf id leaf.prev leaf.next (take i leaf.items) (parts_from self.old.head.leaf_ids (take (j - i) (drop i leaf.items)) (drop j leaf.items)) p) }
+        ensures given { OnOk result (self.new.head.leaf_ids ≡ self.old.head.leaf_ids + length (parts_from self.old.head.leaf_ids (take (j - i) (drop i leaf.items)) (drop j leaf.items))) }
         ensures small { OnOk result (self.new.head.leaf_ids < node_offset) }
         ensures noted { self.new ≡ record self.old { head = record self.old.head { leaf_ids = self.new.head.leaf_ids } } }
         ensures gains { (self.old.head.leaf_ids ≤ self.new.head.leaf_ids) × (self.new.head.leaf_ids ≤ self.old.head.leaf_ids + 2) }
@@ -133,15 +120,15 @@ impl<R: Records, O: Order> Tree<R, O> {
             Ok(id) => id,
             Err(e) => return Err(e),
         };
-        if third.len() == 0 {
-            return Ok(in_two(self.alloc, id, prev, next, items, second_id, second)?);
+        if j == leaf.len() {
+            return Ok(in_two(self.alloc, id, &leaf, i, j, second_id, leaf.next())?);
         }
         let third_id = match self.leaf_id() {
             Ok(id) => id,
             Err(e) => return Err(e),
         };
-        let two = in_two(self.alloc, id, prev, third_id, items, second_id, second)?;
-        Ok(in_three(self.alloc, two, second_id, next, third_id, third)?)
+        let two = in_two(self.alloc, id, &leaf, i, j, second_id, third_id)?;
+        Ok(in_three(self.alloc, two, &leaf, j, second_id, third_id)?)
     }
 
     // Adds the leaf behind, if there is one, with another before it.
@@ -163,11 +150,11 @@ impl<R: Records, O: Order> Tree<R, O> {
         if next == 0 {
             return Ok(leaves);
         }
-        let mut leaf = match self.own_leaf(space, next, steps) {
+        let leaf = match self.own_leaf(space, next, steps) {
             Ok(leaf) => leaf,
             Err(e) => return Err(e),
         };
-        leaf.prev = prev;
+        let leaf = leaf.with_prev(self.alloc, prev)?;
         let mut leaves = leaves;
         leaves.push(Laid { id: next, leaf })?;
         Ok(leaves)
@@ -207,7 +194,7 @@ impl<R: Records, O: Order> Tree<R, O> {
         &mut self,
         space: &mut R::S,
         id: u64,
-        leaf: Leaf,
+        leaf: SlottedLeaf,
         place: usize,
         steps: &mut Steps<L>,
     ) -> Result<(), RecErr>
@@ -220,16 +207,9 @@ impl<R: Records, O: Order> Tree<R, O> {
         ensures widens { Widens R.S.Space R.file_of R.region (suc (length self.old.path)) self.old self.new space.old space.new }
         ensures cause { IsErrOf result RecErr.Fault → Rose (R.S.faults space.old) (R.S.faults space.new) }
     {
-        let prev = leaf.prev;
-        let next = leaf.next;
-        let (i, j) = cut_places(
-            self.head.leaf_limit,
-            leaf.items.as_slice(),
-            place,
-            next == 0,
-        );
-        let (items, second, third) = part_items(leaf.items, i, j)?;
-        let parted = match self.parts(id, prev, next, items, second, third) {
+        let next = leaf.next();
+        let (i, j) = cut_places(self.head.leaf_limit, &leaf, place, next == 0);
+        let parted = match self.parts(id, leaf, i, j) {
             Ok(parted) => parted,
             Err(e) => return Err(e),
         };

@@ -15,6 +15,7 @@ ghost use Rattle.bt_tree.specs.Removing.{Cuts, IsLowered, IsRemnant, LacksRoom, 
 
 use crate::tree::Tree;
 use bt_page::Node;
+use bt_slots::SlottedNode;
 use tc_base::{Order, Seq, Steps};
 use tc_space::{RecErr, Records};
 
@@ -40,13 +41,13 @@ fn without_child(node: Node, place: usize) -> Node
 }
 
 // The heir of a node that has no other page below it.
-fn lone_heir(node: &Node) -> Option<u64>
+fn lone_heir(node: &SlottedNode) -> Option<u64>
     ensures { MatchOption result (0 < length node.now.entries) (λ heir. (node.now.entries ≡ []) × (heir ≡ node.now.heir)) }
 {
-    if node.entries.len() > 0 {
+    if node.len() > 0 {
         return None;
     }
-    Some(node.heir)
+    Some(node.heir())
 }
 
 impl<R: Records, O: Order> Tree<R, O> {

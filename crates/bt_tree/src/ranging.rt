@@ -52,7 +52,7 @@ impl<R: Records, O: Order> Tree<R, O> {
                 Ok(node) => node,
                 Err(e) => return Err(e),
             };
-            let place = route_to::<O, C>(node.entries.as_slice(), cut);
+            let place = route_to::<O, C>(&node, cut);
             id = child(&node, place);
         }
         Ok(id)

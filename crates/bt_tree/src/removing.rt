@@ -21,23 +21,23 @@ ghost use Rattle.bt_tree.specs.Visits.{StaysTree};
 use crate::searching::spot;
 use crate::taking::take_value;
 use crate::tree::Tree;
-use bt_page::Leaf;
+use bt_slots::SlottedLeaf;
 use tc_base::{Order, Steps};
 use tc_space::{RecErr, Records, Space};
 
 /// The leaf of an id without values that went, and how many they were.
-#[derive(Debug, Drop)]
+#[derive(Drop)]
 pub(crate) struct Lessened {
     pub(crate) id: u64,
-    pub(crate) leaf: Leaf,
+    pub(crate) leaf: SlottedLeaf,
     pub(crate) count: u64,
 }
 
 // Whether the leaf where a key belongs has it.
-fn has_key<O: Order>(leaf: &Leaf, key: &[u8]) -> bool
+fn has_key<O: Order>(leaf: &SlottedLeaf, key: &[u8]) -> bool
     ensures { (ps : List Pair) → IsLeafFor (before_by O.cmp) key.now ps leaf.now → result ≡ has_pair key.now ps }
 {
-    spot::<O>(leaf.items.as_slice(), key).1
+    spot::<O>(leaf, key).1
 }
 
 impl<R: Records, O: Order> Tree<R, O> {
@@ -87,20 +87,20 @@ impl<R: Records, O: Order> Tree<R, O> {
             Ok(false) => return Ok(None),
             Err(e) => return Err(e),
         }
-        let mut leaf = match self.own_leaf(space, id, steps) {
+        let leaf = match self.own_leaf(space, id, steps) {
             Ok(leaf) => leaf,
             Err(e) => return Err(e),
         };
-        let count = take_value::<O>(self.alloc, &mut leaf.items, key, all);
+        let (leaf, count) = take_value::<O>(self.alloc, leaf, key, all)?;
         Ok(Some(Lessened { id, leaf, count }))
     }
 
     // Whether the leaf of an id is to go: it has no items, and isn't the root.
-    fn is_spare(&self, id: u64, leaf: &Leaf) -> bool
+    fn is_spare(&self, id: u64, leaf: &SlottedLeaf) -> bool
         ensures kept { result ≡ false → (0 < length leaf.now.items) ⊎ (id ≡ self.now.head.root) }
         ensures bare { result ≡ true → leaf.now.items ≡ [] }
     {
-        leaf.items.len() == 0 && id != self.head.root
+        leaf.len() == 0 && id != self.head.root
     }
 
     // So many pairs less are counted.
@@ -139,8 +139,8 @@ impl<R: Records, O: Order> Tree<R, O> {
             self.uncount(count);
             return Ok(true);
         }
-        let prev = leaf.prev;
-        let next = leaf.next;
+        let prev = leaf.prev();
+        let next = leaf.next();
         if let Err(e) = self.vacate(space, id, prev, next, &mut steps) {
             space.spoil();
             return Err(e);

@@ -1,16 +1,20 @@
 //! Stretches of keys in one page.
-ghost use Rattle.std.specs.Prelude.{◌≡◌, ◌≢◌, ◌≤◌, ◌<◌, [], true, length, drop, IfOk};
+ghost use Rattle.std.specs.Prelude.{◌≡◌, ◌≢◌, ◌≤◌, ◌<◌, [], true, Some, slice_get, length, drop, IfOk};
 ghost use Rattle.std.specs.List.{AllByRecursion, flat_map};
 ghost use Rattle.tc_space.specs.Changes.{is_inside};
 ghost use Rattle.bt_page.specs.Pages.{HasValue};
+ghost use Rattle.bt_page.specs.declared.page.Item.{Item as the_item};
 ghost use Rattle.bt_rows.specs.Between.{KeysAscend};
 ghost use Rattle.bt_rows.specs.Orders.{before_by};
 ghost use Rattle.bt_rows.specs.Rules.{Ascends, item_pairs};
 ghost use Rattle.bt_tree.specs.Ranging.{IsAdded, IsFilled, IsScanned, IsStart, is_front, start_of};
 ghost use Rattle.bt_ways.specs.Searches.{IsRoute};
 
-use bt_page::{Entry, Item, Leaf};
+use crate::searching::{Divider, entries_in_front, items_in_front};
+use bt_page::Item;
+use bt_slots::{SlottedLeaf, SlottedNode};
 use std::alloc::{AllocError, Global};
+use std::marker::PhantomData;
 use tc_base::{Blob, Cut, Order, Pair, Pairs, Side};
 
 fn is_in_front<O: Order, C: Cut<O>>(cut: &C, key: &[u8]) -> bool
@@ -33,31 +37,47 @@ fn has<O: Order, C: Cut<O>>(cut: &C, key: &[u8]) -> bool
     }
 }
 
+// In front of a stretch.
+#[derive(Drop)]
+struct FrontOf<'a, C, O> {
+    cut: &'a C,
+    of: PhantomData<O>,
+}
+
+impl<'a, O: Order, C: Cut<O>> Divider for FrontOf<'a, C, O> {
+    ghost in_front = { λ divider key. is_front (C.side_of divider.cut.now key) };
+
+    fn is_front(&self, key: &[u8]) -> bool {
+        is_in_front::<O, C>(self.cut, key)
+    }
+}
+
 /// How many entries are in front of a stretch, where they ascend, by halves.
-pub(crate) fn route_to<O: Order, C: Cut<O>>(entries: &[Entry], cut: &C) -> usize
-    ensures within { result ≤ length entries.now }
-    ensures route { KeysAscend (before_by O.cmp) entries.now → IsRoute (start_of (C.side_of cut.now)) entries.now [] result }
+pub(crate) fn route_to<O: Order, C: Cut<O>>(node: &SlottedNode, cut: &C) -> usize
+    ensures within { result ≤ length node.now.entries }
+    ensures route { KeysAscend (before_by O.cmp) node.now.entries → IsRoute (start_of (C.side_of cut.now)) node.now.entries [] result }
 {
-    entries.partition_point(|entry| is_in_front::<O, C>(cut, entry.key.as_slice()))
+    let divider: FrontOf<'_, C, O> = FrontOf {
+        cut,
+        of: PhantomData,
+    };
+    entries_in_front(node, &divider)
 }
 
 // How many items are in front of a stretch, where they ascend, by halves.
-fn start<O: Order, C: Cut<O>>(items: &[Item], cut: &C) -> usize
-    ensures within { result ≤ length items.now }
-    ensures start { Ascends (before_by O.cmp) items.now → IsStart (C.side_of cut.now) items.now result }
+fn start<O: Order, C: Cut<O>>(leaf: &SlottedLeaf, cut: &C) -> usize
+    ensures within { result ≤ length leaf.now.items }
+    ensures start { Ascends (before_by O.cmp) leaf.now.items → IsStart (C.side_of cut.now) leaf.now.items result }
 {
-    items.partition_point(|item| is_in_front::<O, C>(cut, item.key.as_slice()))
-}
-
-fn behind(items: &[Item], place: usize) -> &[Item]
-    requires { place ≤ length items.now }
-    ensures { result.now ≡ drop place items.now }
-{
-    &items[place..]
+    let divider: FrontOf<'_, C, O> = FrontOf {
+        cut,
+        of: PhantomData,
+    };
+    items_in_front(leaf, &divider)
 }
 
 // Adds copies of an item's pairs while there are fewer than `max`, and answers whether all went in.
-fn add_item(alloc: Global, item: &Item, max: u64, pairs: &mut Pairs) -> Result<bool, AllocError>
+fn add_values(alloc: Global, item: &Item, max: u64, pairs: &mut Pairs) -> Result<bool, AllocError>
     ensures { IfOk result (λ all. IsFilled max item.now pairs.old pairs.new all) }
 {
     for value in item.values.as_slice() {
@@ -72,21 +92,47 @@ fn add_item(alloc: Global, item: &Item, max: u64, pairs: &mut Pairs) -> Result<b
     Ok(true)
 }
 
-// Adds copies of the pairs of items up to the first that isn't inside, while there are fewer than `max`, and answers whether all went in.
+// Adds copies of the pairs of the item at a place, as `add_values`.
+fn add_item(
+    alloc: Global,
+    leaf: &SlottedLeaf,
+    place: usize,
+    max: u64,
+    pairs: &mut Pairs,
+) -> Result<bool, AllocError>
+    requires { place < length leaf.now.items }
+    ensures { IfOk result (λ all. (x : the_item) → slice_get leaf.now.items place ≡ Some x → IsFilled max x pairs.old pairs.new all) }
+{
+    if leaf.count(place) > 1 {
+        return add_values(alloc, &leaf.item(alloc, place)?, max, pairs);
+    }
+    if pairs.len() as u64 >= max {
+        return Ok(false);
+    }
+    pairs.push(Pair {
+        key: Blob::from_slice(alloc, leaf.key(place))?,
+        value: Blob::from_slice(alloc, leaf.first_value(place))?,
+    })?;
+    Ok(true)
+}
+
+// Adds copies of the pairs of items from a place up to the first that isn't inside, while there are fewer than `max`, and answers whether all went in.
 fn add_items<O: Order, C: Cut<O>>(
     alloc: Global,
-    items: &[Item],
+    leaf: &SlottedLeaf,
+    place: usize,
     cut: &C,
     max: u64,
     pairs: &mut Pairs,
 ) -> Result<bool, AllocError>
-    ensures { IfOk result (λ all. AllByRecursion HasValue items.now → IsAdded (C.side_of cut.now) max (flat_map item_pairs items.now) pairs.old pairs.new all) }
+    requires { place ≤ length leaf.now.items }
+    ensures { IfOk result (λ all. AllByRecursion HasValue (drop place leaf.now.items) → IsAdded (C.side_of cut.now) max (flat_map item_pairs (drop place leaf.now.items)) pairs.old pairs.new all) }
 {
-    for item in items {
-        if !has::<O, C>(cut, item.key.as_slice()) {
+    for i in place..leaf.len() {
+        if !has::<O, C>(cut, leaf.key(i)) {
             return Ok(false);
         }
-        if !add_item(alloc, item, max, pairs)? {
+        if !add_item(alloc, leaf, i, max, pairs)? {
             return Ok(false);
         }
     }
@@ -96,7 +142,7 @@ fn add_items<O: Order, C: Cut<O>>(
 /// Adds copies of a leaf's pairs inside a stretch while there are fewer than `max`, and answers the id of the next leaf; 0 where no further pair is to be added.
 pub(crate) fn add_leaf<O: Order, C: Cut<O>>(
     alloc: Global,
-    leaf: &Leaf,
+    leaf: &SlottedLeaf,
     cut: &C,
     max: u64,
     pairs: &mut Pairs,
@@ -104,13 +150,12 @@ pub(crate) fn add_leaf<O: Order, C: Cut<O>>(
     ensures scanned { IfOk result (λ next. Ascends (before_by O.cmp) leaf.now.items → AllByRecursion HasValue leaf.now.items → IsScanned (C.side_of cut.now) max leaf.now pairs.old pairs.new next) }
     ensures room { IfOk result (λ next. next ≢ 0 → length pairs.new < max) }
 {
-    let items = leaf.items.as_slice();
-    let place = start::<O, C>(items, cut);
-    if !add_items::<O, C>(alloc, behind(items, place), cut, max, pairs)? {
+    let place = start::<O, C>(leaf, cut);
+    if !add_items::<O, C>(alloc, leaf, place, cut, max, pairs)? {
         return Ok(0);
     }
     if pairs.len() as u64 >= max {
         return Ok(0);
     }
-    Ok(leaf.next)
+    Ok(leaf.next())
 }

@@ -1,65 +1,29 @@
 //! Pairs that go out of a leaf.
-ghost use Rattle.std.specs.Prelude.{◌≡◌, ◌<◌, Some, set, slice_get, length, drop};
-ghost use Rattle.std.specs.List.{remove};
-ghost use Rattle.bt_page.specs.declared.page.Item.{Item as the_item};
+ghost use Rattle.std.specs.Prelude.{◌≡◌, IfOk};
 ghost use Rattle.bt_ways.specs.Changes.{AreItems, IsTaken};
 
 use crate::searching::spot;
-use bt_page::Item;
-use std::alloc::Global;
-use std::mem::replace;
-use tc_base::{Blobs, Order, Seq};
+use bt_slots::SlottedLeaf;
+use std::alloc::{AllocError, Global};
+use tc_base::Order;
 
-// The item at a place goes, with all its values.
-fn take_item(alloc: Global, items: &mut Seq<Item>, place: usize)
-    requires { place < length items.old }
-    ensures { items.new ≡ remove items.old place }
-{
-    let mut all = replace(items, Seq::new(alloc)).into_vec();
-    all.remove(place);
-    *items = Seq::from_vec(all);
-}
-
-// The first value goes.
-fn drop_first(alloc: Global, values: &mut Blobs)
-    requires { 0 < length values.old }
-    ensures { values.new ≡ drop 1 values.old }
-{
-    let mut all = replace(values, Blobs::new(alloc)).into_vec();
-    all.remove(0);
-    *values = Blobs::from_vec(all);
-}
-
-// The first value of the item at a place goes.
-fn take_first(alloc: Global, items: &mut [Item], place: usize)
-    requires inside { place < length items.old }
-    requires some { (was : the_item) → slice_get items.old place ≡ Some was → 0 < length was.values }
-    ensures { (was : the_item) → slice_get items.old place ≡ Some was → items.new ≡ set items.old place (record { key = was.key; values = drop 1 was.values }) }
-{
-    drop_first(alloc, &mut items[place].values);
-}
-
-/// Takes the first pair of a key out of the items of a leaf, or all its pairs; with the last one its item goes. Answers how many went, 0 where the key isn't held. It
-/// takes no memory.
+/// Takes the first pair of a key out of a leaf, or all its pairs; with the last one its item goes. Answers the leaf and how many went, 0 where the key isn't held.
 pub(crate) fn take_value<O: Order>(
     alloc: Global,
-    items: &mut Seq<Item>,
+    leaf: SlottedLeaf,
     key: &[u8],
     all: bool,
-) -> u64
-    ensures { AreItems O.cmp items.old → IsTaken O.cmp all key.now items.old items.new result }
+) -> Result<(SlottedLeaf, u64), AllocError>
+    ensures taken { AreItems O.cmp leaf.items → IfOk result (λ x. IsTaken O.cmp all key.now leaf.items x.0.items x.1) }
+    ensures links { IfOk result (λ x. (x.0.prev ≡ leaf.prev) × (x.0.next ≡ leaf.next)) }
 {
-    let (place, hit) = spot::<O>(items.as_slice(), key);
+    let (place, hit) = spot::<O>(&leaf, key);
     if !hit {
-        return 0;
+        return Ok((leaf, 0));
     }
-    let values = items.at(place).values.len();
+    let values = leaf.count(place);
     if !all && values > 1 {
-        let mut rest = replace(items, Seq::new(alloc)).into_vec();
-        take_first(alloc, &mut rest, place);
-        *items = Seq::from_vec(rest);
-        return 1;
+        return Ok((leaf.without_first(alloc, place)?, 1));
     }
-    take_item(alloc, items, place);
-    values as u64
+    Ok((leaf.without_item(alloc, place)?, values))
 }

@@ -11,6 +11,7 @@ ghost use Rattle.bt_tree.specs.Removing.{Becomes, IsRemnant, LacksRoom, Narrows,
 
 use crate::tree::Tree;
 use bt_page::Leaf;
+use bt_slots::SlottedLeaf;
 use tc_base::{Order, Seq, Steps};
 use tc_space::{RecErr, Records};
 
@@ -34,11 +35,11 @@ impl<R: Records, O: Order> Tree<R, O> {
             self.head.first = next;
             return Ok(());
         }
-        let mut leaf = match self.own_leaf(space, id, steps) {
+        let leaf = match self.own_leaf(space, id, steps) {
             Ok(leaf) => leaf,
             Err(e) => return Err(e),
         };
-        leaf.next = next;
+        let leaf = leaf.with_next(self.alloc, next)?;
         self.put_leaf(space, id, leaf)
     }
 
@@ -61,11 +62,11 @@ impl<R: Records, O: Order> Tree<R, O> {
             self.head.last = prev;
             return Ok(());
         }
-        let mut leaf = match self.own_leaf(space, id, steps) {
+        let leaf = match self.own_leaf(space, id, steps) {
             Ok(leaf) => leaf,
             Err(e) => return Err(e),
         };
-        leaf.prev = prev;
+        let leaf = leaf.with_prev(self.alloc, prev)?;
         self.put_leaf(space, id, leaf)
     }
 
@@ -137,6 +138,7 @@ impl<R: Records, O: Order> Tree<R, O> {
             next: 0,
             items: Seq::new(self.alloc),
         };
+        let leaf = SlottedLeaf::of(self.alloc, &leaf)?;
         match self.put_leaf(space, id, leaf) {
             Ok(()) => {
                 self.head.root = id;

@@ -7,58 +7,45 @@ use Rattle.std.proofs.lemmas.Slice.Eq.{bytes_eq-Decides}
 use Rattle.tc_base.specs.Texts.{is_text}
 use Rattle.std.specs.List.{AllByRecursion, flat_map}
 use Rattle.std.specs.List.Sorted.{IsPartitionedBy, IsPartitionPoint}
-use Rattle.std.specs.declared.cmp.Ordering.{Ordering}
-use Rattle.std.specs.declared.cmp.Ordering.TheVariants.{Less, Equal, Greater}
-use Rattle.std.specs.Ordering.{is_le, is_lt, ordering_reverse}
-use Rattle.std.specs.Cmp.{IsTotalOrder}
 use Rattle.tc_base.specs.declared.seq.Pair.{Pair}
 use Rattle.tc_base.specs.Lists.{pair}
 use Rattle.bt_page.specs.Pages.{HasValue}
 use Rattle.bt_page.specs.declared.page.Entry.{Entry}
 use Rattle.bt_page.specs.declared.page.Item.{Item}
 use Rattle.bt_rows.specs.Between.{KeysAscend}
-use Rattle.bt_rows.specs.Orders.{Before, IsOrder, before_by}
+use Rattle.bt_rows.specs.Orders.{Before, IsOrder}
 use Rattle.bt_rows.specs.Rules.{Ascends, item_pairs}
 use Rattle.bt_ways.specs.Items.{item_of}
 use Rattle.bt_ways.specs.Searches.{IsPlace, IsRoute, IsSpot, child_at}
 use Rattle.bt_ways.proofs.Keys.{either, clash, all_map, all_items}
 use Rattle.bt_ways.proofs.Values.{Parts}
 
+-- ---- what stands at a place
+
+pub got_at : {X : Type 0} (xs : List X) (i : ℕ) (d : X) → i < length xs → slice_get xs i ≡ Some (slice_index_or xs i d)
+got_at [] i d lt = absurd (omega (arith, lt))
+got_at (x ∷ xs) zero d lt = refl
+got_at (x ∷ xs) (suc i) d lt = got_at xs i d (omega (arith, lt))
+
+pub item_of_place : (xs : List Item) (i : ℕ) → i < length xs → (x : Item) × (slice_get xs i ≡ Some x)
+item_of_place xs i lt = (slice_index_or xs i (record { key = []; values = [] }), got_at xs i (record { key = []; values = [] }) lt)
+
 -- ---- the page behind so many entries
 
-some_same : (x y : Entry) → Some x ≡ Some y → x ≡ y
-some_same x y e = cc
+child_suc : (heir : ℕ) (entries : List Entry) (i child : ℕ) → i < length entries → ((e : Entry) → slice_get entries i ≡ Some e → child ≡ e.child) → child ≡ child_at heir entries (suc i)
+child_suc heir [] i child lt is = absurd (omega (arith, lt))
+child_suc heir (x ∷ xs) zero child lt is = is x refl
+child_suc heir (x ∷ xs) (suc i) child lt is = child_suc x.child xs i child (omega (arith, lt)) (λ e get. is e get)
 
-child_suc : (heir : ℕ) (entries : List Entry) (i : ℕ) (e : Entry) → slice_get entries i ≡ Some e → e.child ≡ child_at heir entries (suc i)
-child_suc heir [] i e is = absurd (cc)
-child_suc heir (x ∷ xs) zero e is = ap (λ (y : Entry). y.child) (some_same e x (sym is))
-child_suc heir (x ∷ xs) (suc i) e is = child_suc x.child xs i e is
-
-pub child_behind : (heir : ℕ) (entries : List Entry) (place : ℕ) (e : Entry) → place ≢ 0 → slice_get entries (place - 1) ≡ Some e → e.child ≡ child_at heir entries place
-child_behind heir entries place e ne is =
+pub child_behind : (heir : ℕ) (entries : List Entry) (place child : ℕ) → place ≢ 0 → place ≤ length entries → ((e : Entry) → slice_get entries (place - 1) ≡ Some e → child ≡ e.child) → child ≡ child_at heir entries place
+child_behind heir entries place child ne le is =
     let k : place ≡ suc (place - 1) = omega (arith, ne) in
-    subst (λ (q : ℕ). e.child ≡ child_at heir entries q) (sym k) (child_suc heir entries (place - 1) e is)
+    subst (λ (q : ℕ). child ≡ child_at heir entries q) (sym k) (child_suc heir entries (place - 1) child (omega (arith, ne, le)) is)
 
 -- ---- by halves
 
--- not up to a key is behind it
-after : (cmp : List ℕ → List ℕ → Ordering) → IsTotalOrder cmp → (key x : List ℕ) → not (is_le (cmp key x)) ≡ before_by cmp x key
-after cmp total key x = go (cmp key x) (cmp x key) (total.antisymm x key)
-  where
-    go : (o p : Ordering) → p ≡ ordering_reverse o → not (is_le o) ≡ is_lt p
-    go Less p e = rw e refl
-    go Equal p e = rw e refl
-    go Greater p e = rw e refl
-
-pub after_parted : (cmp : List ℕ → List ℕ → Ordering) → IsTotalOrder cmp → (key : List ℕ) (xs : List Item) → IsPartitionedBy (λ x. before_by cmp x.key key) xs → IsPartitionedBy (λ x. not (is_le (cmp key x.key))) xs
-after_parted cmp total key xs p i j d le lt h = after cmp total key (slice_index_or xs i d).key ∙ p i j d le lt (sym (after cmp total key (slice_index_or xs j d).key) ∙ h)
-
-pub place_of : (cmp : List ℕ → List ℕ → Ordering) → IsTotalOrder cmp → (key : List ℕ) (xs : List Item) (place : ℕ) → IsPartitionPoint (λ x. not (is_le (cmp key x.key)) ≡ true) (λ x. not (is_le (cmp key x.key)) ≡ false) xs place
-    → IsPlace (before_by cmp) xs key place
-place_of cmp total key xs place p = record {
-  low = λ i d lt. sym (after cmp total key (slice_index_or xs i d).key) ∙ p.0 i d (omega arith) lt;
-  high = λ d lt. sym (after cmp total key (slice_index_or xs place d).key) ∙ p.1 place d (omega arith) lt;
-}
+pub place_of : (before : Before) (key : List ℕ) (xs : List Item) (place : ℕ) → IsPartitionPoint (λ x. before x.key key ≡ true) (λ x. before x.key key ≡ false) xs place → IsPlace before xs key place
+place_of before key xs place p = record { low = λ i d lt. p.0 i d (omega arith) lt; high = λ d lt. p.1 place d (omega arith) lt }
 
 at_each : {X : Type 0} (P : X → Type 0) (xs : List X) → AllByRecursion P xs → (j : ℕ) (d : X) → j < length xs → P (slice_index_or xs j d)
 at_each P [] h j d lt = absurd (omega (arith, lt))
@@ -159,18 +146,13 @@ module _ (before : Before) (order : IsOrder before) where
         (either (before key (slice_index_or xs place d).key));
   }
 
-  any_default : (xs : List Item) (place : ℕ) (d e : Item) → place < length xs → slice_index_or xs place d ≡ slice_index_or xs place e
-  any_default [] place d e lt = absurd (omega (arith, lt))
-  any_default (x ∷ xs) zero d e lt = refl
-  any_default (x ∷ xs) (suc i) d e lt = any_default xs i d e (omega (arith, lt))
-
   -- where its key was compared
-  pub spot_compared : (key : List ℕ) (xs : List Item) (place : ℕ) (hit : Bool) (x : Item) → place < length xs → slice_index_or xs place x ≡ x → hit ≡ is_text x.key key
+  pub spot_compared : (key : List ℕ) (xs : List Item) (place : ℕ) (hit : Bool) (seen : List ℕ) → place < length xs → ((x : Item) → slice_get xs place ≡ Some x → seen ≡ x.key) → hit ≡ is_text seen key
       → IsPlace before xs key place → IsSpot before xs key place hit
-  spot_compared key xs place hit x lt at test point = spot_here key xs place hit lt
-      (λ d. let same : slice_index_or xs place d ≡ x = any_default xs place d x lt ∙ at in (
-        λ yes_hit. ap (λ (z : Item). z.key) same ∙ (bytes_eq-Decides x.key key).0 (sym test ∙ yes_hit),
-        λ no_hit same_key. absurd (clash hit (test ∙ (bytes_eq-Decides x.key key).1 (ap (λ (z : Item). z.key) (sym same) ∙ same_key)) no_hit),
+  spot_compared key xs place hit seen lt is test point = spot_here key xs place hit lt
+      (λ d. let same : seen ≡ (slice_index_or xs place d).key = is (slice_index_or xs place d) (got_at xs place d lt) in (
+        λ yes_hit. sym same ∙ (bytes_eq-Decides seen key).0 (sym test ∙ yes_hit),
+        λ no_hit same_key. absurd (clash hit (test ∙ (bytes_eq-Decides seen key).1 (same ∙ same_key)) no_hit),
       )) point
 
   -- ---- the items of one key in a leaf

@@ -2,6 +2,7 @@ ghost use Rattle.std.specs.Prelude.{◌≡◌, true, OnOk};
 
 use bt_cache::Cache;
 use bt_page::{Leaf, Node};
+use bt_slots::{SlottedLeaf, SlottedNode};
 use std::alloc::Global;
 use std::test::Fail;
 use tc_base::{Mode, PAGE_END, Seq, Steps};
@@ -33,7 +34,7 @@ fn leaf(
 {
     let mut steps: Steps<()> = Steps::new();
     match cache.leaf(store, space, id, &mut steps) {
-        Ok(leaf) => Ok((leaf.prev, steps.count())),
+        Ok(leaf) => Ok((leaf.prev(), steps.count())),
         Err(e) => Err(e),
     }
 }
@@ -50,7 +51,7 @@ fn node(
 {
     let mut steps: Steps<()> = Steps::new();
     match cache.node(store, space, id, &mut steps) {
-        Ok(node) => Ok((node.heir, steps.count())),
+        Ok(node) => Ok((node.heir(), steps.count())),
         Err(e) => Err(e),
     }
 }
@@ -69,6 +70,7 @@ fn put_pages(
         next: 0,
         items: Seq::new(alloc),
     };
+    let leaf = SlottedLeaf::of(alloc, &leaf)?;
     if let Err(e) = cache.put_leaf(store, space, 1, leaf) {
         return Err(e);
     }
@@ -76,6 +78,7 @@ fn put_pages(
         heir: 5,
         entries: Seq::new(alloc),
     };
+    let node = SlottedNode::of(alloc, &node)?;
     match cache.put_node(store, space, PAGE_END + 1, node) {
         Ok(()) => Ok(()),
         Err(e) => Err(e),

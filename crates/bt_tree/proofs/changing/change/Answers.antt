@@ -1,24 +1,45 @@
-use Rattle.std.proofs.Common.{◌≡◌, ap, length, length-set, rules, set, sym, ◌∙◌}
-use Rattle.std.proofs.lemmas.List.{take_at}
-use Rattle.bt_page.specs.declared.page.Item.{Item}
+use Rattle.std.proofs.Common.{ap, true, false, List, ℕ, ◌++◌, ◌∷◌, [], drop}
+use Rattle.bt_page.specs.declared.page.Leaf.{Leaf}
 use Rattle.bt_rows.proofs.Ordered.{orders_are_strict}
-use Rattle.bt_ways.specs.Changes.{values_with}
 use Rattle.bt_ways.proofs.Changing.{changed_new, changed_there}
+use Rattle.bt_tree.proofs.Revaluings.{same_links, still_inside}
 use Rattle.bt_tree.proofs.changing.change.Goals as goal
 
-pub returns-then-hit-clause-changed : goal.returns-then-hit-clause-changed
-returns-then-hit-clause-changed g c = λ are.
+pub returns-then-not-hit-clause-changed : goal.returns-then-not-hit-clause-changed
+returns-then-not-hit-clause-changed g c = λ are.
     let order = orders_are_strict g.O.Order.cmp g.met.O.Order.total g.met.O.Order.exact in
-    let spot = rw c.as_slice.ensures at (rw c.if-hit.true at c.spot-place.ensures.spot) in
-    let were : c.deref_mut.result.now ≡ c.args.items.now = search rules in
-    changed_there g.O.Order.cmp g.met.O.Order.total order c.args.last c.args.key.now c.args.value.now c.args.items.now _ are _ (spot are.ascends)
-    (λ was at.
-    let x : Item = record { key = was.key; values = values_with c.args.last c.args.value.now was.values } in
-    let is : c.change_at.new.items ≡ set c.args.items.now c.spot-place.result.0 x = rw were at (c.in_ok-change_at.ensures was (rw were at)) in
-    c.from_vec.ensures ∙ take_at c.change_at.new.items _ _ (ap length is ∙ length-set c.args.items.now c.spot-place.result.0 x ∙ ap length (sym were) ∙ c.deref_mut.ensures.len) ∙ is)
+    let spot = rw c.if-not-hit.true at c.spot-place.ensures.spot in
+    changed_new g.O.Order.cmp g.met.O.Order.total order c.args.last c.args.key.now c.args.value.now c.args.leaf.items _ are _ (spot are.ascends)
+    (ap (λ (l : Leaf). l.items) (c.in_ok-with_item.ensures))
+
+pub returns-then-last-clause-changed : goal.returns-then-last-clause-changed
+returns-then-last-clause-changed g c = λ are.
+    let order = orders_are_strict g.O.Order.cmp g.met.O.Order.total g.met.O.Order.exact in
+    let spot = rw c.if-not-hit.false at c.spot-place.ensures.spot in
+    rw c.if-last.true
+    (changed_there g.O.Order.cmp g.met.O.Order.total order true c.args.key.now c.args.value.now c.args.leaf.items _ are _ (spot are.ascends)
+    (λ was at. ap (λ (l : Leaf). l.items) (c.in_ok-with_value.ensures was at)))
+
+pub returns-then-last-clause-links : goal.returns-then-last-clause-links
+returns-then-last-clause-links g c =
+    same_links (λ (vs : List (List ℕ)). vs ++ c.args.value.now ∷ []) _ c.args.leaf _ (c.spot-place.ensures.inside c.if-not-hit.false) (c.in_ok-with_value.ensures)
+
+pub returns-then-last-clause-inside : goal.returns-then-last-clause-inside
+returns-then-last-clause-inside g c =
+    still_inside (λ (vs : List (List ℕ)). vs ++ c.args.value.now ∷ []) _ c.args.leaf _ (c.spot-place.ensures.inside c.if-not-hit.false) (c.in_ok-with_value.ensures)
 
 pub returns-clause-changed : goal.returns-clause-changed
 returns-clause-changed g c = λ are.
     let order = orders_are_strict g.O.Order.cmp g.met.O.Order.total g.met.O.Order.exact in
-    let spot = rw c.as_slice.ensures at (rw c.if-hit.false at c.spot-place.ensures.spot) in
-    changed_new g.O.Order.cmp g.met.O.Order.total order c.args.last c.args.key.now c.args.value.now c.args.items.now _ are _ (spot are.ascends) (search rules)
+    let spot = rw c.if-not-hit.false at c.spot-place.ensures.spot in
+    rw c.if-last.false
+    (changed_there g.O.Order.cmp g.met.O.Order.total order false c.args.key.now c.args.value.now c.args.leaf.items _ are _ (spot are.ascends)
+    (λ was at. ap (λ (l : Leaf). l.items) (c.in_ok-with_first.ensures was at)))
+
+pub returns-clause-links : goal.returns-clause-links
+returns-clause-links g c =
+    same_links (λ (vs : List (List ℕ)). c.args.value.now ∷ drop 1 vs) _ c.args.leaf _ (c.spot-place.ensures.inside c.if-not-hit.false) (c.in_ok-with_first.ensures)
+
+pub returns-clause-inside : goal.returns-clause-inside
+returns-clause-inside g c =
+    still_inside (λ (vs : List (List ℕ)). c.args.value.now ∷ drop 1 vs) _ c.args.leaf _ (c.spot-place.ensures.inside c.if-not-hit.false) (c.in_ok-with_first.ensures)

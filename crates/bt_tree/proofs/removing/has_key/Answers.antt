@@ -5,5 +5,5 @@ use Rattle.bt_tree.proofs.removing.has_key.Goals as goal
 
 pub returns : goal.returns
 returns g c = λ ps l.
-    let s = rw c.as_slice.ensures at c.spot.ensures.spot in
+    let s = c.spot.ensures.spot in
     has_hit (before_by g.O.Order.cmp) (orders_are_strict g.O.Order.cmp g.met.O.Order.total g.met.O.Order.exact) c.args.key.now ps c.args.leaf.now c.spot.result.0 c.spot.result.1 (s l.ascends) l

@@ -1,5 +1,6 @@
+use Rattle.std.proofs.Common.{◌-◌, drop}
 use Rattle.bt_tree.proofs.Cuts.{Adding}
 use Rattle.bt_tree.proofs.stretching.add_items.Given as goal
 
-abbrev pub invariant-loop-item : goal.invariant-loop-item
-invariant-loop-item g l = Adding (g.C.Cut.side_of l.cut) l.max l.items l.fn.pairs l.item-index l.pairs
+abbrev pub invariant-loop-i : goal.invariant-loop-i
+invariant-loop-i g l = Adding (g.C.Cut.side_of l.cut) l.max (drop l.place l.leaf.items) l.fn.pairs (l.i - l.place) l.pairs

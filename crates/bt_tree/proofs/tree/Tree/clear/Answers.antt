@@ -22,8 +22,8 @@ put_leaf-requires-clause-id g c = emptied_id g.R.S.Space g.R.Records.file_of g.R
 pub returns-in-Ok-clause-vacated : goal.returns-in-Ok-clause-vacated
 returns-in-Ok-clause-vacated g c =
     cleared g.R.S.Space g.R.Records.file_of g.R.Records.holds (before_by g.O.Order.cmp) c.args.id c.args.self.now c.drop_way.new.self c.args.space.now c.drop_way.new.space c.in_default.ensures.out c.in_default.ensures.narrows.keeps c.in_default.ensures.narrows.file c.in_default.ensures.same.0
-    c.put_leaf.new.self _ c.put_leaf.new.space (rw c.new.ensures at c.in-Ok.ensures.put) refl refl refl (record { order = refl; leaf_limit = refl; node_limit = refl; leaf_ids = refl; node_ids = refl }) refl refl refl refl
+    c.put_leaf.new.self _ c.put_leaf.new.space (rw (c.in_ok-leaf.ensures, c.new.ensures) at c.in-Ok.ensures.put) refl refl refl (record { order = refl; leaf_limit = refl; node_limit = refl; leaf_ids = refl; node_ids = refl }) refl refl refl refl
 
-pub returns-in-Err-put_leaf-clause-full : goal.returns-in-Err-put_leaf-clause-full
-returns-in-Err-put_leaf-clause-full g c = λ is.
-    emptied_full g.R.S.Space g.R.Records.file_of g.R.Records.holds (before_by g.O.Order.cmp) c.args.id c.args.self.now c.drop_way.new.self c.args.space.now c.drop_way.new.space c.in_default.ensures.out c.in_default.ensures.narrows.keeps c.in_default.ensures.narrows.file c.in_default.ensures.same.0 g.R.Records.fills c.put_leaf.new.space (rw c.new.ensures at (c.in-Err-put_leaf.ensures.full (err_on _ _ is)))
+pub returns-clause-full : goal.returns-clause-full
+returns-clause-full g c = λ is.
+    emptied_full g.R.S.Space g.R.Records.file_of g.R.Records.holds (before_by g.O.Order.cmp) c.args.id c.args.self.now c.drop_way.new.self c.args.space.now c.drop_way.new.space c.in_default.ensures.out c.in_default.ensures.narrows.keeps c.in_default.ensures.narrows.file c.in_default.ensures.same.0 g.R.Records.fills c.put_leaf.new.space (rw (c.in_ok-leaf.ensures, c.new.ensures) at (c.in-Err-put_leaf.ensures.full (err_on _ _ is)))

@@ -15,7 +15,7 @@ pub loop-i-preserved : goal.loop-i-preserved
 loop-i-preserved g c =
     let small : c.loop-i.steps < 2 ^ 64 = omega (arith, c.count-counted.type_inv, c.count-counted.ensures) in
     descends_more _ _ _ _ _ _ _ _ _ _ _ _ _ _ _ _ _ c.loop-i.invariant _ _ _ _ _ c.route-place.result c.in-Ok.node.value _ c.loop-i-test.true small c.in-Ok.ensures.looks c.in-Ok.ensures.counts
-    (record { head = refl; height = refl; index = refl }) c.in-Ok.ensures.node (rw c.deref.ensures at (rw c.as_slice.ensures at c.route-place.ensures.route)) c.in_ok-push.ensures (rw c.deref-in-loop-i.ensures at c.child-id.ensures)
+    (record { head = refl; height = refl; index = refl }) c.in-Ok.ensures.node (rw c.deref.ensures at c.route-place.ensures.route) c.in_ok-push.ensures (rw c.deref-in-loop-i.ensures at c.child-id.ensures)
 
 pub returns-in-Err-clause-visits : goal.returns-in-Err-clause-visits
 returns-in-Err-clause-visits g c =

@@ -16,7 +16,7 @@ loop-i-preserved g c =
     let small : c.loop-i.steps < 2 ^ 64 = omega (arith, c.count-counted.type_inv, c.count-counted.ensures) in (
       (c.loop-i.id, c.route_to-place.result) ∷ c.loop-i.invariant.0,
       descends_more _ _ _ _ _ _ _ _ _ _ _ _ _ _ _ _ _ c.loop-i.invariant.1 _ _ _ _ _ c.route_to-place.result c.in-Ok.node.value _ c.loop-i-test.true small c.in-Ok.ensures.looks c.in-Ok.ensures.counts
-          (record { head = refl; height = refl; index = refl }) c.in-Ok.ensures.node (rw c.deref.ensures at (rw c.as_slice.ensures at c.route_to-place.ensures.route)) refl (rw c.deref-in-loop-i.ensures at c.child-id.ensures),
+          (record { head = refl; height = refl; index = refl }) c.in-Ok.ensures.node (rw c.deref.ensures at c.route_to-place.ensures.route) refl (rw c.deref-in-loop-i.ensures at c.child-id.ensures),
     )
 
 pub returns-in-Err-clause-visits : goal.returns-in-Err-clause-visits

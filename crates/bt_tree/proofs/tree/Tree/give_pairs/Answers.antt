@@ -36,7 +36,7 @@ returns-clause-hit g c = λ ps h.
 
 pub returns-clause-given : goal.returns-clause-given
 returns-clause-given g c = λ ps h.
-    gives_pairs g.R.S.Space g.R.Records.file_of g.R.Records.holds g.O.Order.cmp c.args.all c.args.key.now c.args.self.now c.holds_key.new.self c.args.space.now c.holds_key.new.space c.descend.new.self.path _ c.in-Ok.id c.in-Ok-own_leaf.leaf c.take_value-count.new.items c.take_value-count.result
+    gives_pairs g.R.S.Space g.R.Records.file_of g.R.Records.holds g.O.Order.cmp c.args.all c.args.key.now c.args.self.now c.holds_key.new.self c.args.space.now c.holds_key.new.space c.descend.new.self.path _ c.in-Ok.id c.in-Ok-own_leaf.leaf c.in_ok-leaf.leaf c.in_ok-leaf.count
     (c.own_leaf.ensures.still.path ∙ c.holds_key.ensures.still.path)
     (looks_then g.R.S.Space g.R.Records.file_of g.R.Records.holds _ _ _ _ _ _ _ _ _ c.descend.ensures.visits.looks c.holds_key.ensures.looks)
-    (stays_then _ _ _ c.descend.ensures.visits.stays (stays_still g.R.S.Space g.R.Records.file_of g.R.Records.region _ _ _ _ c.holds_key.ensures.still)) c.in-Ok.ensures.found c.in-Ok-own_leaf.ensures.leaf c.take_value-count.ensures ps h
+    (stays_then _ _ _ c.descend.ensures.visits.stays (stays_still g.R.S.Space g.R.Records.file_of g.R.Records.region _ _ _ _ c.holds_key.ensures.still)) c.in-Ok.ensures.found c.in-Ok-own_leaf.ensures.leaf c.in_ok-leaf.ensures.links c.in_ok-leaf.ensures.taken ps h

@@ -29,16 +29,16 @@ pub returns-in-Err-put_leaf-clause-full : goal.returns-in-Err-put_leaf-clause-fu
 returns-in-Err-put_leaf-clause-full g c = λ is.
     inr (lacks_leaf g.R.S.Space g.R.Records.file_of g.R.Records.holds g.O.Order.cmp g.met.O.Order.total (orders_are_strict g.O.Order.cmp g.met.O.Order.total g.met.O.Order.exact) c.args.last c.args.key.now c.args.value.now c.args.self.now c.take_pair.new.self c.args.space.now c.take_pair.new.space c.in-Ok.changed
     c.take_pair.ensures.looks c.take_pair.ensures.stays c.take_pair.ensures.made.file c.in-Ok.ensures.taken
-    g.R.Records.fills c.put_leaf.new.space (((rw c.as_slice.ensures at c.fits.ensures)).0 c.if-fits.true) (c.in-Err-put_leaf.ensures.full (err_on _ _ is)))
+    g.R.Records.fills c.put_leaf.new.space (c.leaf_fits.ensures.0 c.if-leaf_fits.true) (c.in-Err-put_leaf.ensures.full (err_on _ _ is)))
 
-pub returns-then-fits-clause-inserted : goal.returns-then-fits-clause-inserted
-returns-then-fits-clause-inserted g c =
+pub returns-then-leaf_fits-clause-inserted : goal.returns-then-leaf_fits-clause-inserted
+returns-then-leaf_fits-clause-inserted g c =
     inserted_kept g.R.S.Space g.R.Records.file_of g.R.Records.holds g.O.Order.cmp g.met.O.Order.total (orders_are_strict g.O.Order.cmp g.met.O.Order.total g.met.O.Order.exact) c.args.last c.args.key.now c.args.value.now c.args.self.now c.take_pair.new.self c.args.space.now c.take_pair.new.space c.in-Ok.changed
     c.take_pair.ensures.looks c.take_pair.ensures.stays c.take_pair.ensures.made.file c.in-Ok.ensures.taken
-    c.put_leaf.new.self c.count_pair.new.self c.put_leaf.new.space c.count_pair.ensures g.R.Records.region (((rw c.as_slice.ensures at c.fits.ensures)).0 c.if-fits.true) c.in_default.ensures.put c.put_leaf.ensures.still
+    c.put_leaf.new.self c.count_pair.new.self c.put_leaf.new.space c.count_pair.ensures g.R.Records.region (c.leaf_fits.ensures.0 c.if-leaf_fits.true) c.in_default.ensures.put c.put_leaf.ensures.still
 
-pub returns-then-fits-clause-adds : goal.returns-then-fits-clause-adds
-returns-then-fits-clause-adds g c = inl (gains_kept c.args.self.now c.take_pair.new.self c.put_leaf.new.self c.count_pair.new.self _ c.take_pair.ensures.stays c.count_pair.ensures g.R.S.Space g.R.Records.file_of g.R.Records.region _ _ c.put_leaf.ensures.still)
+pub returns-then-leaf_fits-clause-adds : goal.returns-then-leaf_fits-clause-adds
+returns-then-leaf_fits-clause-adds g c = inl (gains_kept c.args.self.now c.take_pair.new.self c.put_leaf.new.self c.count_pair.new.self _ c.take_pair.ensures.stays c.count_pair.ensures g.R.S.Space g.R.Records.file_of g.R.Records.region _ _ c.put_leaf.ensures.still)
 
 pub part-requires-clause-ready : goal.part-requires-clause-ready
 part-requires-clause-ready g c =
@@ -49,7 +49,7 @@ pub part-requires-clause-over : goal.part-requires-clause-over
 part-requires-clause-over g c =
     over_there g.R.S.Space g.R.Records.file_of g.R.Records.holds g.O.Order.cmp g.met.O.Order.total (orders_are_strict g.O.Order.cmp g.met.O.Order.total g.met.O.Order.exact) c.args.last c.args.key.now c.args.value.now c.args.self.now c.take_pair.new.self c.args.space.now c.take_pair.new.space c.in-Ok.changed
     c.take_pair.ensures.looks c.take_pair.ensures.stays c.take_pair.ensures.made.file c.in-Ok.ensures.taken c.requires
-    (λ w. not_both _ ((rw c.as_slice.ensures at c.fits.ensures).1 w) c.if-fits.false)
+    (λ w. not_both _ (c.leaf_fits.ensures.1 w) c.if-leaf_fits.false)
 
 pub returns-clause-inserted : goal.returns-clause-inserted
 returns-clause-inserted g c =
@@ -63,7 +63,7 @@ returns-clause-adds g c =
       gains_spread c.args.self.now c.take_pair.new.self c.part.new.self c.count_pair-2.new.self _ c.take_pair.ensures.stays c.count_pair-2.ensures g.R.S.Space g.R.Records.file_of g.R.Records.region _ _ c.in-Ok.ensures.deep c.part.ensures.widens,
       is_crowded g.R.S.Space g.R.Records.file_of g.R.Records.holds g.O.Order.cmp g.met.O.Order.total (orders_are_strict g.O.Order.cmp g.met.O.Order.total g.met.O.Order.exact) c.args.last c.args.key.now c.args.value.now c.args.self.now c.take_pair.new.self c.args.space.now c.take_pair.new.space c.in-Ok.changed
           c.take_pair.ensures.looks c.take_pair.ensures.stays c.take_pair.ensures.made.file c.in-Ok.ensures.taken
-          (λ w. not_both _ ((rw c.as_slice.ensures at c.fits.ensures).1 w) c.if-fits.false),
+          (λ w. not_both _ (c.leaf_fits.ensures.1 w) c.if-leaf_fits.false),
     )
 
 pub returns-in-Err-part-clause-full : goal.returns-in-Err-part-clause-full

@@ -20,9 +20,9 @@ returns-clause-linked g c =
     on_ok_weaker c.put_leaf.result
     (λ put. link_put g.R.S.Space g.R.Records.file_of g.R.Records.holds c.args.id (with_next c.args.id c.args.next) (λ l. record { prev = l.prev; next = c.args.next; items = l.items }) (λ l pages is. next_put c.args.id c.args.next l pages is) (λ l. refl)
     c.args.self.now c.own_leaf.new.self c.args.space.now c.own_leaf.new.space c.if-id-eq0.false c.own_leaf.ensures.looks c.own_leaf.ensures.still.file c.own_leaf.ensures.still.head c.own_leaf.ensures.still.index c.in-Ok.leaf c.in-Ok.ensures.leaf c.put_leaf.new.self c.put_leaf.new.space put)
-    c.put_leaf.ensures.put
+    (rw c.in_ok-leaf.ensures at c.put_leaf.ensures.put)
 
 pub returns-clause-full : goal.returns-clause-full
 returns-clause-full g c = λ is.
     link_full g.R.S.Space g.R.Records.file_of g.R.Records.holds c.args.id (with_next c.args.id c.args.next) (λ l. record { prev = l.prev; next = c.args.next; items = l.items }) (λ l pages is. next_put c.args.id c.args.next l pages is) (λ l. refl)
-    c.args.self.now c.own_leaf.new.self c.args.space.now c.own_leaf.new.space c.if-id-eq0.false c.own_leaf.ensures.looks c.own_leaf.ensures.still.file c.own_leaf.ensures.still.head c.own_leaf.ensures.still.index c.in-Ok.leaf c.in-Ok.ensures.leaf g.R.Records.fills c.put_leaf.new.space (c.put_leaf.ensures.full is)
+    c.args.self.now c.own_leaf.new.self c.args.space.now c.own_leaf.new.space c.if-id-eq0.false c.own_leaf.ensures.looks c.own_leaf.ensures.still.file c.own_leaf.ensures.still.head c.own_leaf.ensures.still.index c.in-Ok.leaf c.in-Ok.ensures.leaf g.R.Records.fills c.put_leaf.new.space (rw c.in_ok-leaf.ensures at c.put_leaf.ensures.full is)

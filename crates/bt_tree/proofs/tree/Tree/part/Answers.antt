@@ -1,4 +1,4 @@
-use Rattle.std.proofs.Common.{inl, inr, ⊎_elim}
+use Rattle.std.proofs.Common.{◌-◌, drop, inl, inr, refl, take, ⊎_elim}
 use Rattle.bt_tree.proofs.Descents.{err_on}
 use Rattle.bt_tree.proofs.Partings.{added_few, behind_there, climb_ready, climb_rows, given_ready, ids_given, lacks_climb, lacks_laid, lay_ready, parts_turn, widens_climb, widens_lay}
 use Rattle.bt_tree.proofs.tree.Tree.part.Goals as goal
@@ -7,71 +7,71 @@ pub behind-requires-clause-ready : goal.behind-requires-clause-ready
 behind-requires-clause-ready g c = given_ready g.R.S.Space g.R.Records.file_of g.R.Records.holds c.args.self.now c.parts.new.self c.args.space.now c.args.id c.args.leaf c.requires.ready c.parts.ensures.noted c.parts.ensures.gains.0 c.in-Ok.ensures.small
 
 pub behind-requires-clause-there : goal.behind-requires-clause-there
-behind-requires-clause-there g c = behind_there g.R.S.Space g.R.Records.file_of g.R.Records.holds c.args.self.now c.parts.new.self c.args.space.now c.args.id c.args.leaf c.requires.ready c.parts.ensures.noted c.parts.ensures.gains.0 c.in-Ok.ensures.small
+behind-requires-clause-there g c = rw c.next-next.ensures (behind_there g.R.S.Space g.R.Records.file_of g.R.Records.holds c.args.self.now c.parts.new.self c.args.space.now c.args.id c.args.leaf c.requires.ready c.parts.ensures.noted c.parts.ensures.gains.0 c.in-Ok.ensures.small)
 
 pub lay-requires-clause-ready : goal.lay-requires-clause-ready
 lay-requires-clause-ready g c =
-    lay_ready g.R.S.Space g.R.Records.file_of g.R.Records.holds g.R.Records.region c.args.self.now c.parts.new.self c.behind.new.self c.follow.new.self c.args.space.now c.behind.new.space c.args.id c.args.leaf c.in_ok-items.items c.in_ok-items.second c.in_ok-items.third c.in-Ok.parted c.in-Ok-behind.leaves
-    c.requires.ready c.parts.ensures.noted c.in-Ok.ensures.given c.in-Ok.ensures.small c.in-Ok.ensures.parts c.in-Ok-behind.ensures.added c.behind.ensures.looks c.behind.ensures.still c.follow.ensures
+    lay_ready g.R.S.Space g.R.Records.file_of g.R.Records.holds g.R.Records.region c.args.self.now c.parts.new.self c.behind.new.self c.follow.new.self c.args.space.now c.behind.new.space c.args.id c.args.leaf (take c.cut_places-i.result.0 c.args.leaf.items) (take (c.cut_places-i.result.1 - c.cut_places-i.result.0) (drop c.cut_places-i.result.0 c.args.leaf.items)) (drop c.cut_places-i.result.1 c.args.leaf.items) c.in-Ok.parted c.in-Ok-behind.leaves
+    c.requires.ready c.parts.ensures.noted c.in-Ok.ensures.given c.in-Ok.ensures.small c.in-Ok.ensures.parts (rw c.next-next.ensures at c.in-Ok-behind.ensures.added) c.behind.ensures.looks c.behind.ensures.still (rw c.next-next.ensures at c.follow.ensures)
 
 pub lay-requires-clause-ids : goal.lay-requires-clause-ids
 lay-requires-clause-ids g c =
-    ids_given g.R.S.Space g.R.Records.file_of g.R.Records.holds g.R.Records.region c.args.self.now c.parts.new.self c.behind.new.self c.follow.new.self c.args.space.now c.behind.new.space c.args.id c.args.leaf c.in_ok-items.items c.in_ok-items.second c.in_ok-items.third c.in-Ok.parted c.in-Ok-behind.leaves
-    c.requires.ready c.parts.ensures.noted c.in-Ok.ensures.given c.in-Ok.ensures.small c.in-Ok.ensures.parts c.in-Ok-behind.ensures.added c.behind.ensures.looks c.behind.ensures.still c.follow.ensures
+    ids_given g.R.S.Space g.R.Records.file_of g.R.Records.holds g.R.Records.region c.args.self.now c.parts.new.self c.behind.new.self c.follow.new.self c.args.space.now c.behind.new.space c.args.id c.args.leaf (take c.cut_places-i.result.0 c.args.leaf.items) (take (c.cut_places-i.result.1 - c.cut_places-i.result.0) (drop c.cut_places-i.result.0 c.args.leaf.items)) (drop c.cut_places-i.result.1 c.args.leaf.items) c.in-Ok.parted c.in-Ok-behind.leaves
+    c.requires.ready c.parts.ensures.noted c.in-Ok.ensures.given c.in-Ok.ensures.small c.in-Ok.ensures.parts (rw c.next-next.ensures at c.in-Ok-behind.ensures.added) c.behind.ensures.looks c.behind.ensures.still (rw c.next-next.ensures at c.follow.ensures)
 
 pub returns-in-Err-lay-clause-full : goal.returns-in-Err-lay-clause-full
 returns-in-Err-lay-clause-full g c = λ is.
-    inr (lacks_laid g.R.S.Space g.R.Records.file_of g.R.Records.holds g.R.Records.region c.args.self.now c.parts.new.self c.behind.new.self c.follow.new.self c.args.space.now c.behind.new.space c.args.id c.args.leaf c.in_ok-items.items c.in_ok-items.second c.in_ok-items.third c.in-Ok.parted c.in-Ok-behind.leaves
-    c.requires.ready c.parts.ensures.noted c.in-Ok.ensures.given c.in-Ok.ensures.small c.in-Ok.ensures.parts c.in-Ok-behind.ensures.added c.behind.ensures.looks c.behind.ensures.still c.follow.ensures
-    g.R.Records.fills c.cut_places-i.result.0 c.cut_places-i.result.1 c.lay.new.space c.in_ok-items.ensures.0 c.in_ok-items.ensures.1 c.in_ok-items.ensures.2 (λ told. (rw c.as_slice.ensures at c.cut_places-i.ensures.cut) (c.requires.over told)) (c.in-Err-lay.ensures.full (err_on _ _ is)))
+    inr (lacks_laid g.R.S.Space g.R.Records.file_of g.R.Records.holds g.R.Records.region c.args.self.now c.parts.new.self c.behind.new.self c.follow.new.self c.args.space.now c.behind.new.space c.args.id c.args.leaf (take c.cut_places-i.result.0 c.args.leaf.items) (take (c.cut_places-i.result.1 - c.cut_places-i.result.0) (drop c.cut_places-i.result.0 c.args.leaf.items)) (drop c.cut_places-i.result.1 c.args.leaf.items) c.in-Ok.parted c.in-Ok-behind.leaves
+    c.requires.ready c.parts.ensures.noted c.in-Ok.ensures.given c.in-Ok.ensures.small c.in-Ok.ensures.parts (rw c.next-next.ensures at c.in-Ok-behind.ensures.added) c.behind.ensures.looks c.behind.ensures.still (rw c.next-next.ensures at c.follow.ensures)
+    g.R.Records.fills c.cut_places-i.result.0 c.cut_places-i.result.1 c.lay.new.space refl refl refl (λ told. c.cut_places-i.ensures.cut (c.requires.over told)) (c.in-Err-lay.ensures.full (err_on _ _ is)))
 
 pub returns-in-Err-lay-clause-widens : goal.returns-in-Err-lay-clause-widens
 returns-in-Err-lay-clause-widens g c =
-    widens_lay g.R.S.Space g.R.Records.file_of g.R.Records.holds g.R.Records.region c.args.self.now c.parts.new.self c.behind.new.self c.follow.new.self c.args.space.now c.behind.new.space c.args.id c.args.leaf c.in_ok-items.items c.in_ok-items.second c.in_ok-items.third c.in-Ok.parted c.in-Ok-behind.leaves
-    c.requires.ready c.parts.ensures.noted c.in-Ok.ensures.given c.in-Ok.ensures.small c.in-Ok.ensures.parts c.in-Ok-behind.ensures.added c.behind.ensures.looks c.behind.ensures.still c.follow.ensures
+    widens_lay g.R.S.Space g.R.Records.file_of g.R.Records.holds g.R.Records.region c.args.self.now c.parts.new.self c.behind.new.self c.follow.new.self c.args.space.now c.behind.new.space c.args.id c.args.leaf (take c.cut_places-i.result.0 c.args.leaf.items) (take (c.cut_places-i.result.1 - c.cut_places-i.result.0) (drop c.cut_places-i.result.0 c.args.leaf.items)) (drop c.cut_places-i.result.1 c.args.leaf.items) c.in-Ok.parted c.in-Ok-behind.leaves
+    c.requires.ready c.parts.ensures.noted c.in-Ok.ensures.given c.in-Ok.ensures.small c.in-Ok.ensures.parts (rw c.next-next.ensures at c.in-Ok-behind.ensures.added) c.behind.ensures.looks c.behind.ensures.still (rw c.next-next.ensures at c.follow.ensures)
     c.parts.ensures.gains c.lay.new.self c.lay.new.space c.lay.ensures.still
 
 pub climb-requires-clause-ready : goal.climb-requires-clause-ready
 climb-requires-clause-ready g c =
-    climb_ready g.R.S.Space g.R.Records.file_of g.R.Records.holds g.R.Records.region c.args.self.now c.parts.new.self c.behind.new.self c.follow.new.self c.args.space.now c.behind.new.space c.args.id c.args.leaf c.in_ok-items.items c.in_ok-items.second c.in_ok-items.third c.in-Ok.parted c.in-Ok-behind.leaves
-    c.requires.ready c.parts.ensures.noted c.in-Ok.ensures.given c.in-Ok.ensures.small c.in-Ok.ensures.parts c.in-Ok-behind.ensures.added c.behind.ensures.looks c.behind.ensures.still c.follow.ensures
+    climb_ready g.R.S.Space g.R.Records.file_of g.R.Records.holds g.R.Records.region c.args.self.now c.parts.new.self c.behind.new.self c.follow.new.self c.args.space.now c.behind.new.space c.args.id c.args.leaf (take c.cut_places-i.result.0 c.args.leaf.items) (take (c.cut_places-i.result.1 - c.cut_places-i.result.0) (drop c.cut_places-i.result.0 c.args.leaf.items)) (drop c.cut_places-i.result.1 c.args.leaf.items) c.in-Ok.parted c.in-Ok-behind.leaves
+    c.requires.ready c.parts.ensures.noted c.in-Ok.ensures.given c.in-Ok.ensures.small c.in-Ok.ensures.parts (rw c.next-next.ensures at c.in-Ok-behind.ensures.added) c.behind.ensures.looks c.behind.ensures.still (rw c.next-next.ensures at c.follow.ensures)
     c.lay.new.self c.lay.new.space c.in_default.ensures.laid c.lay.ensures.still
 
 pub climb-requires-clause-few : goal.climb-requires-clause-few
 climb-requires-clause-few g c =
-    added_few g.R.S.Space g.R.Records.file_of g.R.Records.holds g.R.Records.region c.args.self.now c.parts.new.self c.behind.new.self c.follow.new.self c.args.space.now c.behind.new.space c.args.id c.args.leaf c.in_ok-items.items c.in_ok-items.second c.in_ok-items.third c.in-Ok.parted c.in-Ok-behind.leaves
-    c.requires.ready c.parts.ensures.noted c.in-Ok.ensures.given c.in-Ok.ensures.small c.in-Ok.ensures.parts c.in-Ok-behind.ensures.added c.behind.ensures.looks c.behind.ensures.still c.follow.ensures
+    added_few g.R.S.Space g.R.Records.file_of g.R.Records.holds g.R.Records.region c.args.self.now c.parts.new.self c.behind.new.self c.follow.new.self c.args.space.now c.behind.new.space c.args.id c.args.leaf (take c.cut_places-i.result.0 c.args.leaf.items) (take (c.cut_places-i.result.1 - c.cut_places-i.result.0) (drop c.cut_places-i.result.0 c.args.leaf.items)) (drop c.cut_places-i.result.1 c.args.leaf.items) c.in-Ok.parted c.in-Ok-behind.leaves
+    c.requires.ready c.parts.ensures.noted c.in-Ok.ensures.given c.in-Ok.ensures.small c.in-Ok.ensures.parts (rw c.next-next.ensures at c.in-Ok-behind.ensures.added) c.behind.ensures.looks c.behind.ensures.still (rw c.next-next.ensures at c.follow.ensures)
 
 pub climb-requires-clause-rows : goal.climb-requires-clause-rows
 climb-requires-clause-rows g c =
-    climb_rows g.R.S.Space g.R.Records.file_of g.R.Records.holds g.R.Records.region c.args.self.now c.parts.new.self c.behind.new.self c.follow.new.self c.args.space.now c.behind.new.space c.args.id c.args.leaf c.in_ok-items.items c.in_ok-items.second c.in_ok-items.third c.in-Ok.parted c.in-Ok-behind.leaves
-    c.requires.ready c.parts.ensures.noted c.in-Ok.ensures.given c.in-Ok.ensures.small c.in-Ok.ensures.parts c.in-Ok-behind.ensures.added c.behind.ensures.looks c.behind.ensures.still c.follow.ensures
+    climb_rows g.R.S.Space g.R.Records.file_of g.R.Records.holds g.R.Records.region c.args.self.now c.parts.new.self c.behind.new.self c.follow.new.self c.args.space.now c.behind.new.space c.args.id c.args.leaf (take c.cut_places-i.result.0 c.args.leaf.items) (take (c.cut_places-i.result.1 - c.cut_places-i.result.0) (drop c.cut_places-i.result.0 c.args.leaf.items)) (drop c.cut_places-i.result.1 c.args.leaf.items) c.in-Ok.parted c.in-Ok-behind.leaves
+    c.requires.ready c.parts.ensures.noted c.in-Ok.ensures.given c.in-Ok.ensures.small c.in-Ok.ensures.parts (rw c.next-next.ensures at c.in-Ok-behind.ensures.added) c.behind.ensures.looks c.behind.ensures.still (rw c.next-next.ensures at c.follow.ensures)
     c.lay.new.self c.lay.new.space c.in_default.ensures.laid c.lay.ensures.still c.requires.rows
 
 pub returns-in-Ok-climb-clause-parted : goal.returns-in-Ok-climb-clause-parted
 returns-in-Ok-climb-clause-parted g c =
-    parts_turn g.R.S.Space g.R.Records.file_of g.R.Records.holds g.R.Records.region c.args.self.now c.parts.new.self c.behind.new.self c.follow.new.self c.args.space.now c.behind.new.space c.args.id c.args.leaf c.in_ok-items.items c.in_ok-items.second c.in_ok-items.third c.in-Ok.parted c.in-Ok-behind.leaves
-    c.requires.ready c.parts.ensures.noted c.in-Ok.ensures.given c.in-Ok.ensures.small c.in-Ok.ensures.parts c.in-Ok-behind.ensures.added c.behind.ensures.looks c.behind.ensures.still c.follow.ensures
-    c.lay.new.self c.lay.new.space c.in_default.ensures.laid c.lay.ensures.still c.cut_places-i.result.0 c.cut_places-i.result.1 c.in_ok-items.ensures.0 c.in_ok-items.ensures.1 c.in_ok-items.ensures.2 (λ told. (rw c.as_slice.ensures at c.cut_places-i.ensures.cut) (c.requires.over told))
+    parts_turn g.R.S.Space g.R.Records.file_of g.R.Records.holds g.R.Records.region c.args.self.now c.parts.new.self c.behind.new.self c.follow.new.self c.args.space.now c.behind.new.space c.args.id c.args.leaf (take c.cut_places-i.result.0 c.args.leaf.items) (take (c.cut_places-i.result.1 - c.cut_places-i.result.0) (drop c.cut_places-i.result.0 c.args.leaf.items)) (drop c.cut_places-i.result.1 c.args.leaf.items) c.in-Ok.parted c.in-Ok-behind.leaves
+    c.requires.ready c.parts.ensures.noted c.in-Ok.ensures.given c.in-Ok.ensures.small c.in-Ok.ensures.parts (rw c.next-next.ensures at c.in-Ok-behind.ensures.added) c.behind.ensures.looks c.behind.ensures.still (rw c.next-next.ensures at c.follow.ensures)
+    c.lay.new.self c.lay.new.space c.in_default.ensures.laid c.lay.ensures.still c.cut_places-i.result.0 c.cut_places-i.result.1 refl refl refl (λ told. c.cut_places-i.ensures.cut (c.requires.over told))
     c.climb.new.self c.climb.new.space c.in-Ok-climb.ensures.climbed c.climb.ensures.grows.head
 
 pub returns-in-Ok-climb-clause-widens : goal.returns-in-Ok-climb-clause-widens
 returns-in-Ok-climb-clause-widens g c =
-    widens_climb g.R.S.Space g.R.Records.file_of g.R.Records.holds g.R.Records.region c.args.self.now c.parts.new.self c.behind.new.self c.follow.new.self c.args.space.now c.behind.new.space c.args.id c.args.leaf c.in_ok-items.items c.in_ok-items.second c.in_ok-items.third c.in-Ok.parted c.in-Ok-behind.leaves
-    c.requires.ready c.parts.ensures.noted c.in-Ok.ensures.given c.in-Ok.ensures.small c.in-Ok.ensures.parts c.in-Ok-behind.ensures.added c.behind.ensures.looks c.behind.ensures.still c.follow.ensures
+    widens_climb g.R.S.Space g.R.Records.file_of g.R.Records.holds g.R.Records.region c.args.self.now c.parts.new.self c.behind.new.self c.follow.new.self c.args.space.now c.behind.new.space c.args.id c.args.leaf (take c.cut_places-i.result.0 c.args.leaf.items) (take (c.cut_places-i.result.1 - c.cut_places-i.result.0) (drop c.cut_places-i.result.0 c.args.leaf.items)) (drop c.cut_places-i.result.1 c.args.leaf.items) c.in-Ok.parted c.in-Ok-behind.leaves
+    c.requires.ready c.parts.ensures.noted c.in-Ok.ensures.given c.in-Ok.ensures.small c.in-Ok.ensures.parts (rw c.next-next.ensures at c.in-Ok-behind.ensures.added) c.behind.ensures.looks c.behind.ensures.still (rw c.next-next.ensures at c.follow.ensures)
     c.parts.ensures.gains c.lay.new.self c.lay.new.space c.lay.ensures.still c.climb.new.self c.climb.new.space c.climb.ensures.grows
 
 pub returns-in-Err-climb-clause-full : goal.returns-in-Err-climb-clause-full
 returns-in-Err-climb-clause-full g c = λ is.
     ⊎_elim (λ used. inl used)
-    (λ lacks. inr (lacks_climb g.R.S.Space g.R.Records.file_of g.R.Records.holds g.R.Records.region c.args.self.now c.parts.new.self c.behind.new.self c.follow.new.self c.args.space.now c.behind.new.space c.args.id c.args.leaf c.in_ok-items.items c.in_ok-items.second c.in_ok-items.third c.in-Ok.parted c.in-Ok-behind.leaves
-    c.requires.ready c.parts.ensures.noted c.in-Ok.ensures.given c.in-Ok.ensures.small c.in-Ok.ensures.parts c.in-Ok-behind.ensures.added c.behind.ensures.looks c.behind.ensures.still c.follow.ensures
+    (λ lacks. inr (lacks_climb g.R.S.Space g.R.Records.file_of g.R.Records.holds g.R.Records.region c.args.self.now c.parts.new.self c.behind.new.self c.follow.new.self c.args.space.now c.behind.new.space c.args.id c.args.leaf (take c.cut_places-i.result.0 c.args.leaf.items) (take (c.cut_places-i.result.1 - c.cut_places-i.result.0) (drop c.cut_places-i.result.0 c.args.leaf.items)) (drop c.cut_places-i.result.1 c.args.leaf.items) c.in-Ok.parted c.in-Ok-behind.leaves
+    c.requires.ready c.parts.ensures.noted c.in-Ok.ensures.given c.in-Ok.ensures.small c.in-Ok.ensures.parts (rw c.next-next.ensures at c.in-Ok-behind.ensures.added) c.behind.ensures.looks c.behind.ensures.still (rw c.next-next.ensures at c.follow.ensures)
     c.lay.new.self c.lay.new.space c.in_default.ensures.laid c.lay.ensures.still g.R.Records.fills c.cut_places-i.result.0 c.cut_places-i.result.1 c.climb.new.space
-    c.in_ok-items.ensures.0 c.in_ok-items.ensures.1 c.in_ok-items.ensures.2 (λ told. (rw c.as_slice.ensures at c.cut_places-i.ensures.cut) (c.requires.over told)) lacks))
+    refl refl refl (λ told. c.cut_places-i.ensures.cut (c.requires.over told)) lacks))
     (c.in-Err-climb.ensures.full (err_on _ _ is))
 
 pub returns-in-Err-climb-clause-widens : goal.returns-in-Err-climb-clause-widens
 returns-in-Err-climb-clause-widens g c =
-    widens_climb g.R.S.Space g.R.Records.file_of g.R.Records.holds g.R.Records.region c.args.self.now c.parts.new.self c.behind.new.self c.follow.new.self c.args.space.now c.behind.new.space c.args.id c.args.leaf c.in_ok-items.items c.in_ok-items.second c.in_ok-items.third c.in-Ok.parted c.in-Ok-behind.leaves
-    c.requires.ready c.parts.ensures.noted c.in-Ok.ensures.given c.in-Ok.ensures.small c.in-Ok.ensures.parts c.in-Ok-behind.ensures.added c.behind.ensures.looks c.behind.ensures.still c.follow.ensures
+    widens_climb g.R.S.Space g.R.Records.file_of g.R.Records.holds g.R.Records.region c.args.self.now c.parts.new.self c.behind.new.self c.follow.new.self c.args.space.now c.behind.new.space c.args.id c.args.leaf (take c.cut_places-i.result.0 c.args.leaf.items) (take (c.cut_places-i.result.1 - c.cut_places-i.result.0) (drop c.cut_places-i.result.0 c.args.leaf.items)) (drop c.cut_places-i.result.1 c.args.leaf.items) c.in-Ok.parted c.in-Ok-behind.leaves
+    c.requires.ready c.parts.ensures.noted c.in-Ok.ensures.given c.in-Ok.ensures.small c.in-Ok.ensures.parts (rw c.next-next.ensures at c.in-Ok-behind.ensures.added) c.behind.ensures.looks c.behind.ensures.still (rw c.next-next.ensures at c.follow.ensures)
     c.parts.ensures.gains c.lay.new.self c.lay.new.space c.lay.ensures.still c.climb.new.self c.climb.new.space c.climb.ensures.grows

@@ -10,7 +10,7 @@ put_leaf-requires-clause-ready g c = ready_beside g.R.S.Space g.R.Records.file_o
 pub returns-in-Ok-clause-put : goal.returns-in-Ok-clause-put
 returns-in-Ok-clause-put g c =
     put_shows g.R.S.Space g.R.Records.file_of g.R.Records.holds c.args.self.now _ c.args.space.now c.put_leaf.new.space c.args.id (leaf_page c.args.leaf) (λ told. inl (c.requires.id told))
-    (c.if-id-ge-PAGE_END.false, record { fits = c.in-Ok.ensures.fits; is = refl }) c.in-Ok.ensures.put refl refl
+    (c.if-id-ge-PAGE_END.false, record { fits = c.as_slice-bytes.ensures.fits; is = refl }) c.in-Ok.ensures.put refl refl
 
 pub returns-in-Err-clause-full : goal.returns-in-Err-clause-full
 returns-in-Err-clause-full g c = λ is.

@@ -48,8 +48,9 @@ returns-then-not-is_spare-clause-out g c =
 
 pub vacate-requires : goal.vacate-requires
 vacate-requires g c =
-    vacate_ready g.R.S.Space g.R.Records.file_of g.R.Records.holds g.O.Order.cmp g.met.O.Order.total (orders_are_strict g.O.Order.cmp g.met.O.Order.total g.met.O.Order.exact) c.args.all c.args.key.now c.args.self.now c.give_pairs.new.self c.args.space.now c.give_pairs.new.space
-    c.give_pairs.ensures.looks c.give_pairs.ensures.stays c.give_pairs.ensures.made.file c.in-Ok-Some.lessened (rw c.in-Ok-Some.field-0-is at c.in-Ok-Some.ensures.given) c.requires
+    rw (c.prev-prev.ensures, c.next-next.ensures)
+    (vacate_ready g.R.S.Space g.R.Records.file_of g.R.Records.holds g.O.Order.cmp g.met.O.Order.total (orders_are_strict g.O.Order.cmp g.met.O.Order.total g.met.O.Order.exact) c.args.all c.args.key.now c.args.self.now c.give_pairs.new.self c.args.space.now c.give_pairs.new.space
+    c.give_pairs.ensures.looks c.give_pairs.ensures.stays c.give_pairs.ensures.made.file c.in-Ok-Some.lessened (rw c.in-Ok-Some.field-0-is at c.in-Ok-Some.ensures.given) c.requires)
 
 pub returns-in-Err-vacate-clause-full : goal.returns-in-Err-vacate-clause-full
 returns-in-Err-vacate-clause-full g c = λ is.
@@ -57,11 +58,11 @@ returns-in-Err-vacate-clause-full g c = λ is.
     (record { flag = c.spoil.ensures.spoiled; keeps = kept_over g.R.S.Space c.vacate.new.space c.spoil.new.self c.spoil.ensures.stays; files = c.spoil.ensures.now })
     (vacate_full g.R.S.Space g.R.Records.file_of g.R.Records.holds g.O.Order.cmp g.met.O.Order.total (orders_are_strict g.O.Order.cmp g.met.O.Order.total g.met.O.Order.exact) c.args.all c.args.key.now c.args.self.now c.give_pairs.new.self c.args.space.now c.give_pairs.new.space
     c.give_pairs.ensures.looks c.give_pairs.ensures.stays c.give_pairs.ensures.made.file c.in-Ok-Some.lessened (rw c.in-Ok-Some.field-0-is at c.in-Ok-Some.ensures.given)
-    g.R.Records.fills c.vacate.new.space (c.in-Err-vacate.ensures.full (err_on _ _ is)))
+    g.R.Records.fills c.vacate.new.space ((rw (c.prev-prev.ensures, c.next-next.ensures) at c.in-Err-vacate.ensures.full) (err_on _ _ is)))
 
 pub returns-clause-out : goal.returns-clause-out
 returns-clause-out g c =
     takes_some g.R.S.Space _ (Means g.R.S.Space g.R.Records.file_of g.R.Records.holds (before_by g.O.Order.cmp)) c.args.key.now (removed g.O.Order.cmp c.args.all c.args.key.now) c.args.self.now _ c.args.space.now _ (rw c.in-Ok-Some.field-0-is at c.in-Ok-Some.ensures.hit)
     (leaf_gone g.R.S.Space g.R.Records.file_of g.R.Records.holds g.O.Order.cmp g.met.O.Order.total (orders_are_strict g.O.Order.cmp g.met.O.Order.total g.met.O.Order.exact) c.args.all c.args.key.now c.args.self.now c.give_pairs.new.self c.args.space.now c.give_pairs.new.space
     c.give_pairs.ensures.looks c.give_pairs.ensures.stays c.give_pairs.ensures.made.file c.in-Ok-Some.lessened (rw c.in-Ok-Some.field-0-is at c.in-Ok-Some.ensures.given)
-    g.R.Records.region (c.is_spare.ensures.bare c.if-not-is_spare.false) c.vacate.new.self c.uncount-2.new.self c.vacate.new.space c.in_default-vacate.ensures.vacated c.in_default-vacate.ensures.narrows c.uncount-2.ensures)
+    g.R.Records.region (c.is_spare.ensures.bare c.if-not-is_spare.false) c.vacate.new.self c.uncount-2.new.self c.vacate.new.space (rw (c.prev-prev.ensures, c.next-next.ensures) at c.in_default-vacate.ensures.vacated) c.in_default-vacate.ensures.narrows c.uncount-2.ensures)

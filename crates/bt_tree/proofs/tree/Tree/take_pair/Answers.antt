@@ -15,7 +15,7 @@ own_leaf-requires-clause-there g c =
 pub returns-clause-taken : goal.returns-clause-taken
 returns-clause-taken g c =
     takes_pair g.R.S.Space g.R.Records.file_of g.R.Records.holds g.O.Order.cmp c.args.last c.args.key.now c.args.value.now c.args.self.now c.descend.new.self c.args.space.now c.descend.new.space c.descend.new.self.path c.own_leaf.new.self.path c.own_leaf.ensures.still.path
-    c.in-Ok.id c.in-Ok-own_leaf.leaf c.change.new.items c.in_ok-place.place c.in_ok-place.grown c.descend.ensures.visits.looks c.descend.ensures.visits.stays c.in-Ok.ensures.found c.in-Ok-own_leaf.ensures.leaf c.in_ok-place.ensures.changed
+    c.in-Ok.id c.in-Ok-own_leaf.leaf c.in_ok-leaf.leaf c.in_ok-leaf.place c.in_ok-leaf.grown c.descend.ensures.visits.looks c.descend.ensures.visits.stays c.in-Ok.ensures.found c.in-Ok-own_leaf.ensures.leaf c.in_ok-leaf.ensures.links c.in_ok-leaf.ensures.changed
 
 pub returns-clause-looks : goal.returns-clause-looks
 returns-clause-looks g c = looks_then g.R.S.Space g.R.Records.file_of g.R.Records.holds _ _ _ _ _ _ _ _ _ c.descend.ensures.visits.looks c.own_leaf.ensures.looks

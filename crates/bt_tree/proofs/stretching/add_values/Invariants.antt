@@ -1,6 +1,6 @@
 use Rattle.std.proofs.Common.{◌≡◌, ◌≤◌, ◌++◌, length, map, take}
 use Rattle.tc_base.specs.Lists.{pair}
-use Rattle.bt_tree.proofs.stretching.add_item.Given as goal
+use Rattle.bt_tree.proofs.stretching.add_values.Given as goal
 
 abbrev pub invariant-loop-value : goal.invariant-loop-value
 invariant-loop-value l = record {
