@@ -1,4 +1,4 @@
-//! Pages of trees, their keys and the head of a tree against bytes worked out by hand, also as they are kept and changed in memory; the cache of pages.
+//! Pages of trees, their keys and the head of a tree against bytes worked out by hand; the cache of pages.
 #![tactic(auto)]
 
 #[cfg(test)]
@@ -7,5 +7,3 @@ mod cached;
 mod heads;
 #[cfg(test)]
 mod pages;
-#[cfg(test)]
-mod slotted;
