@@ -7,3 +7,5 @@ mod cached;
 mod heads;
 #[cfg(test)]
 mod pages;
+#[cfg(test)]
+mod slotted;
