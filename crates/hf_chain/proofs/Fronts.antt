@@ -10,7 +10,7 @@ use Rattle.std.proofs.lemmas.Cmp.{ranked}
 use Rattle.tc_base.specs.Hashes.{second}
 use Rattle.tc_base.specs.Vnum.{vnum}
 use Rattle.hf_head.specs.declared.head.Head.{Head}
-use Rattle.hf_head.specs.Heads.{unit, wide}
+use Rattle.hf_head.specs.Heads.{unit, wide, is_large}
 use Rattle.hf_block.specs.declared.block.Block.{Block}
 use Rattle.hf_block.specs.declared.block.Block.TheVariants.{Rec}
 use Rattle.hf_block.specs.declared.reading.BlockErr.{BlockErr}
@@ -23,6 +23,7 @@ use Rattle.hf_tree.specs.Links.{IsAt}
 use Rattle.hf_tree.proofs.Fields.{at_inside}
 use Rattle.hf_chain.specs.declared.heads.RecHead.{RecHead}
 use Rattle.hf_chain.specs.Heads.{head_of, head_size, HasRecord}
+use Rattle.hf_chain.specs.Facts.{IsInBounds}
 use Rattle.hf_chain.proofs.Pieces.{piece_of}
 
 -- what the reader of blocks answers on a record's front
@@ -42,6 +43,9 @@ head_small large u r is whole =
     let k = vnum_most (length r.key) (omega (arith, l, b)) in
     let v = vnum_most (length r.value) (omega (arith, l, b)) in
     omega (arith, k, v, is, wide_most large)
+
+pub in_bounds : (h : Head) (r : Record) (p : ℕ) (bytes : List ℕ) → HasRecord h r p bytes → IsInBounds r
+in_bounds h r p bytes has = (head_small (is_large h) (unit h) r has.wide has.is.whole, omega (arith, length-held r, has.is.whole.size.below))
 
 prefix : (a b front : List ℕ) → front ≡ take (length front) (a ++ b) → length a ≤ length front → IsPrefix a front
 prefix a b front is le = (drop (length a) front, sym (take-append-drop (length a) front) ∙ ap (λ (l : List ℕ). l ++ drop (length a) front) (sym e))

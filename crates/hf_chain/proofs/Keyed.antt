@@ -12,8 +12,8 @@ use Rattle.hf_head.specs.Heads.{unit}
 use Rattle.hf_tree.specs.Keys.{key_cmp}
 use Rattle.hf_chain.specs.declared.facts.Fact.{Fact}
 use Rattle.hf_chain.specs.declared.reaching.Item.{Item}
-use Rattle.hf_chain.specs.Facts.{IsFactOf}
-use Rattle.hf_chain.specs.Orders.{AreTrue, key_in, ComparesBy, IsBetweenBy}
+use Rattle.hf_chain.specs.Facts.{IsFactOf, front_of}
+use Rattle.hf_chain.specs.Orders.{AreTrue, HasKey, key_in, ComparesBy, IsBetweenBy}
 use Rattle.hf_chain.proofs.Fronts.{key_at, key_inside}
 use Rattle.hf_chain.proofs.Lists.{same_item}
 
@@ -34,7 +34,7 @@ unfolding key_cmp
 cmp_rest x y o same e = e ∙ ap (λ (z : Ordering). ordering_then z (ordering_then (nat_cmp (length x) (length y)) (slice_cmp nat_cmp x y))) same
 
 key_of : (h : Head) (x : Fact) (file : List ℕ) (w : IsFactOf h x file) → key_in x file ≡ w.r.key
-key_of h x file w = (λ i. take (w.is i).long (drop (w.is i).start file)) ∙ key_at (unit h) w.r x.place file w.has.is
+key_of h x file w = (λ i. take (w.is i).long (drop ((w.is i).place + (w.is i).ahead) file)) ∙ key_at (unit h) w.r x.place file w.has.is
 
 second_of : (h : Head) (x : Fact) (file : List ℕ) → IsFactOf h x file → x.second ≡ second (key_in x file)
 second_of h x file w = ap (λ (z : Fact). z.second) w.is ∙ ap second (sym (key_of h x file w))
@@ -42,8 +42,11 @@ second_of h x file w = ap (λ (z : Fact). z.second) w.is ∙ ap second (sym (key
 long_of : (h : Head) (x : Fact) (file : List ℕ) → IsFactOf h x file → x.long ≡ length (key_in x file)
 long_of h x file w = ap (λ (z : Fact). z.long) w.is ∙ ap length (sym (key_of h x file w))
 
-pub key_inside_file : (h : Head) (x : Fact) (file : List ℕ) → IsFactOf h x file → x.start + x.long ≤ length file
-key_inside_file h x file w = omega (arith, key_inside (unit h) w.r x.place file w.has.is, ap (λ (z : Fact). z.start) w.is, ap (λ (z : Fact). z.long) w.is)
+pub has_key : (h : Head) (x : Fact) (file : List ℕ) → IsFactOf h x file → HasKey x file
+has_key h x file w = record {
+  inside = omega (arith, key_inside (unit h) w.r x.place file w.has.is, ap (λ (z : Fact). z.ahead) w.is, ap (λ (z : Fact). z.long) w.is);
+  is = ap (λ (z : Fact). z.front) w.is ∙ ap front_of (sym (key_of h x file w));
+}
 
 pub by_second : (h : Head) (a b : Fact) (file : List ℕ) (o : Ordering) → IsFactOf h a file → IsFactOf h b file → o ≡ nat_cmp a.second b.second → o ≢ Equal → o ≡ key_cmp (key_in a file) (key_in b file)
 by_second h a b file o u w e ne = cmp_second (key_in a file) (key_in b file) o (e ∙ (λ i. nat_cmp (second_of h a file u i) (second_of h b file w i))) ne

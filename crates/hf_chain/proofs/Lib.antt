@@ -10,6 +10,7 @@ pub mod Lists
 pub mod FactRows
 pub mod Viewing
 pub mod Halving
+pub mod KeyFronts
 pub mod Keyed
 pub mod Findings
 pub mod Named

@@ -9,11 +9,11 @@ use Rattle.std.specs.Cmp.Lexicographic.{slice_cmp}
 use Rattle.std.proofs.lemmas.Cmp.{nat_cmp_total, nat_list_cmp_total, tied_itself}
 use Rattle.hf_tree.proofs.Orders.{three, slice_equal}
 
-cmp_shared : (a x y : List ℕ) → slice_cmp nat_cmp (a ++ x) (a ++ y) ≡ slice_cmp nat_cmp x y
+pub cmp_shared : (a x y : List ℕ) → slice_cmp nat_cmp (a ++ x) (a ++ y) ≡ slice_cmp nat_cmp x y
 cmp_shared [] x y = refl
 cmp_shared (e ∷ a) x y = let t : nat_cmp e e ≡ Equal = tied_itself nat_cmp_total e in rw t (cmp_shared a x y)
 
-cmp_front : (a b x y : List ℕ) → length a ≡ length b → slice_cmp nat_cmp a b ≢ Equal → slice_cmp nat_cmp (a ++ x) (b ++ y) ≡ slice_cmp nat_cmp a b
+pub cmp_front : (a b x y : List ℕ) → length a ≡ length b → slice_cmp nat_cmp a b ≢ Equal → slice_cmp nat_cmp (a ++ x) (b ++ y) ≡ slice_cmp nat_cmp a b
 cmp_front [] [] x y same ne = absurd (ne refl)
 cmp_front [] (e ∷ b) x y same ne = absurd (omega arith)
 cmp_front (e ∷ a) [] x y same ne = absurd (omega arith)

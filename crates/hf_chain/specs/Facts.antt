@@ -1,5 +1,5 @@
 -- The records of a file as a list of facts, one for each, in ascending place.
-use Rattle.std.specs.Prelude.{◌≡◌, ◌⊎◌, ℕ, zero, suc, ◌+◌, ◌*◌, ◌<◌, List, [], ◌∷◌, length, Option, Some, None, slice_get}
+use Rattle.std.specs.Prelude.{◌≡◌, ◌⊎◌, ℕ, zero, suc, ◌+◌, ◌-◌, ◌*◌, ◌^◌, ◌<◌, ◌≤◌, List, [], ◌∷◌, ◌++◌, length, take, replicate, Option, Some, None, slice_get}
 use Rattle.tc_base.specs.Hashes.{second}
 use Rattle.hf_head.specs.declared.head.Head.{Head}
 use Rattle.hf_head.specs.Heads.{unit}
@@ -9,9 +9,17 @@ use Rattle.hf_tree.specs.Links.{HasBlocks, entry_at, width}
 use Rattle.hf_chain.specs.declared.facts.Fact.{Fact}
 use Rattle.hf_chain.specs.Heads.{head_size, capped, HasRecord}
 
+-- the first 16 bytes of a key, with zeros behind a shorter one
+abbrev pub front_of : List ℕ → List ℕ
+front_of key = take 16 key ++ replicate (16 - length key) 0
+
 -- what the rules ask of a record at a place
 abbrev pub fact_of : Head → ℕ → Record → Fact
-fact_of h p r = record { place = p; left = capped (unit h * r.left); right = capped (unit h * r.right); bucket = bucket_of h.buckets r.key; second = second r.key; hash = r.hash; start = p + head_size r; long = length r.key }
+fact_of h p r = record { place = p; left = capped (unit h * r.left); right = capped (unit h * r.right); bucket = bucket_of h.buckets r.key; second = second r.key; hash = r.hash; ahead = head_size r; long = length r.key; front = front_of r.key }
+
+-- its head and key are no longer than those of any record
+abbrev pub IsInBounds : Record → Type 0
+IsInBounds r = (head_size r ≤ 40) × (length r.key < 2 ^ 32)
 
 -- those of the records among blocks
 abbrev pub facts_of : Head → ℕ → List Piece → List Fact

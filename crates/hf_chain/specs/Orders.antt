@@ -1,5 +1,5 @@
 -- Records compared by their keys in the file.
-use Rattle.std.specs.Prelude.{◌≡◌, ◌≢◌, ◌⊎◌, ◌<◌, ℕ, suc, List, take, drop, Some, slice_get}
+use Rattle.std.specs.Prelude.{◌≡◌, ◌≢◌, ◌⊎◌, ◌+◌, ◌<◌, ◌≤◌, ℕ, suc, List, length, take, drop, Some, slice_get}
 use Rattle.std.specs.declared.cmp.Ordering.{Ordering}
 use Rattle.std.specs.declared.cmp.Ordering.TheVariants.{Less, Greater}
 use Rattle.tc_base.specs.declared.kind.Rule.{Rule}
@@ -10,7 +10,7 @@ use Rattle.hf_chain.specs.declared.facts.Fact.{Fact}
 use Rattle.hf_chain.specs.declared.reaching.Item.{Item}
 use Rattle.hf_chain.specs.declared.judging.Verdict.{Verdict}
 use Rattle.hf_chain.specs.declared.judging.Verdict.TheVariants.{InOrder, Stray, Mixed}
-use Rattle.hf_chain.specs.Facts.{IsFactOf}
+use Rattle.hf_chain.specs.Facts.{IsFactOf, front_of}
 use Rattle.hf_chain.specs.Reaching.{IsHomeBy}
 
 -- each fact is that of a record in the file
@@ -19,7 +19,12 @@ AreTrue h facts file = (i : ℕ) (x : Fact) → slice_get facts i ≡ Some x →
 
 -- the key that a fact speaks of
 abbrev pub key_in : Fact → List ℕ → List ℕ
-key_in x file = take x.long (drop x.start file)
+key_in x file = take x.long (drop (x.place + x.ahead) file)
+
+-- that key lies in the file, and has the fact's front
+pub record HasKey (x : Fact) (file : List ℕ) : Type 0 where
+  pub inside : x.place + x.ahead + x.long ≤ length file
+  pub is : x.front ≡ front_of (key_in x file)
 
 -- a record's key compares so with that of the one with a number, if there is one
 abbrev pub ComparesBy : List Fact → Fact → ℕ → Ordering → List ℕ → Type 0

@@ -8,7 +8,7 @@ ghost use Rattle.hf_block.specs.Pieces.{Record, Piece};
 ghost use Rattle.hf_chain.specs.Heads.{head_of, head_size, HasRecord, IsRecordAt};
 ghost use Rattle.tc_window.specs.Windows.{Shows};
 ghost use Rattle.hf_chain.specs.Listing.{AreListed, WereListed};
-ghost use Rattle.hf_chain.specs.Facts.{fact_of, facts_of};
+ghost use Rattle.hf_chain.specs.Facts.{IsInBounds, fact_of, facts_of, front_of};
 ghost use Rattle.hf_chain.specs.Passes.{Looks};
 
 use crate::heads::{RecHead, head_in, place_named};
@@ -34,21 +34,36 @@ pub struct Fact {
     pub second: u8,
     /// The second hash that its head has.
     pub hash: u8,
-    /// The place of its key.
-    pub start: u64,
+    /// The bytes before its key.
+    pub ahead: u8,
     /// The bytes of its key.
-    pub long: u64,
+    pub long: u32,
+    /// The first 16 bytes of its key, with zeros behind a shorter one.
+    pub front: [u8; 16],
 }
 
 /// The facts of a file's records, in ascending place.
 pub type Facts = Seq<Fact>;
 
+// The first 16 bytes of a key, with zeros behind a shorter one.
+fn front_in(key: &[u8]) -> [u8; 16]
+    ensures { result ≡ front_of key.now }
+{
+    let count = key.len().min(16);
+    let mut front = [0; 16];
+    front[..count].copy_from_slice(&key[..count]);
+    front
+}
+
 // The fact of a record with this head and key.
 fn fact_in(head: &Head, place: u64, rec: &RecHead, key: &[u8]) -> Fact
     requires { IsValid head.now }
-    ensures { (r : Record) → rec.now ≡ head_of r → key.now ≡ r.key → place + head_size r < 2 ^ 64 → result ≡ fact_of head.now place r }
+    ensures { (r : Record) → rec.now ≡ head_of r → key.now ≡ r.key → IsInBounds r → result ≡ fact_of head.now place r }
 {
     let unit = head.unit();
+    // no record's head and key are longer
+    let ahead = rec.head.min(40);
+    let long = rec.key.min(u64::from(u32::MAX));
     Fact {
         place,
         left: place_named(unit, rec.left),
@@ -56,8 +71,9 @@ fn fact_in(head: &Head, place: u64, rec: &RecHead, key: &[u8]) -> Fact
         bucket: bucket_of(key, head.buckets),
         second: second_hash(key),
         hash: rec.hash,
-        start: place.saturating_add(rec.head),
-        long: rec.key,
+        ahead: ahead as u8,
+        long: long as u32,
+        front: front_in(key),
     }
 }
 
@@ -147,7 +163,7 @@ fn fact_at<S: Space>(
 }
 
 // How many bytes are read ahead.
-const AHEAD: u64 = 16384;
+const AHEAD: u64 = 65536;
 
 // Fewer bytes than so many may not hold a record's head and key.
 const FEW: usize = 256;

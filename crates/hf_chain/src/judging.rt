@@ -10,7 +10,7 @@ ghost use Rattle.hf_chain.specs.declared.reaching.Item.{Item};
 ghost use Rattle.hf_chain.specs.Facts.{IsFactOf};
 ghost use Rattle.hf_chain.specs.Reaching.{AreLow, IsHomeBy};
 ghost use Rattle.hf_chain.specs.declared.judging.Verdict.TheVariants.{InOrder as in_order};
-ghost use Rattle.hf_chain.specs.Orders.{AreTrue, ComparesBy, IsBetweenBy, Judged, key_in};
+ghost use Rattle.hf_chain.specs.Orders.{AreTrue, ComparesBy, HasKey, IsBetweenBy, Judged, key_in};
 
 use crate::comparing::compare_bytes;
 use crate::facts::{Fact, Facts};
@@ -133,25 +133,51 @@ fn order_of_bytes<S: Space>(
     Ok(Ordering::Equal)
 }
 
+// The place of a key's byte behind its front, where the file has one.
+fn behind_front(fact: &Fact, end: u64) -> u64
+    ensures { fact.now.place + fact.now.ahead + 16 ≤ end → result ≡ fact.now.place + fact.now.ahead + 16 }
+{
+    (fact.place.saturating_add(u64::from(fact.ahead) + 16)).min(end)
+}
+
+// The order of two keys of one length whose fronts are the same, by the bytes behind them.
+fn order_behind<S: Space>(space: &mut S, file: u32, a: &Fact, b: &Fact) -> Result<Ordering, Fault>
+    requires sound { S.sound space.old }
+    requires file { IsDataFile file }
+    requires same { (a.now.long ≡ b.now.long) × (a.now.front ≡ b.now.front) }
+    requires first { S.tells → HasKey a.now (S.now space.old file) }
+    requires second { S.tells → HasKey b.now (S.now space.old file) }
+    ensures order { IfOk result (λ o. S.tells → o ≡ slice_cmp nat_cmp (key_in a.now (S.now space.old file)) (key_in b.now (S.now space.old file))) }
+    ensures reads { OnlyReads S.Space space.old space.new }
+    ensures cause { HasCause (S.faults space.old) (S.faults space.new) result }
+{
+    if a.long <= 16 {
+        return Ok(Ordering::Equal);
+    }
+    let end = space.len(file);
+    let first = behind_front(a, end);
+    let second = behind_front(b, end);
+    order_of_bytes(space, file, first, second, u64::from(a.long - 16))
+}
+
 // The order of two keys of one length, by their bytes.
 fn order_of_keys<S: Space>(space: &mut S, file: u32, a: &Fact, b: &Fact) -> Result<Ordering, Fault>
     requires sound { S.sound space.old }
     requires file { IsDataFile file }
     requires same { a.now.long ≡ b.now.long }
-    requires first { S.tells → a.now.start + a.now.long ≤ length (S.now space.old file) }
-    requires second { S.tells → b.now.start + b.now.long ≤ length (S.now space.old file) }
+    requires first { S.tells → HasKey a.now (S.now space.old file) }
+    requires second { S.tells → HasKey b.now (S.now space.old file) }
     ensures order { IfOk result (λ o. S.tells → o ≡ slice_cmp nat_cmp (key_in a.now (S.now space.old file)) (key_in b.now (S.now space.old file))) }
     ensures reads { OnlyReads S.Space space.old space.new }
     ensures cause { HasCause (S.faults space.old) (S.faults space.new) result }
 {
-    // a key lies inside the file
-    let end = space.len(file);
-    let first = a.start.min(end);
-    let second = b.start.min(end);
-    order_of_bytes(space, file, first, second, a.long)
+    match a.front[..].cmp(&b.front[..]) {
+        Ordering::Equal => order_behind(space, file, a, b),
+        other => Ok(other),
+    }
 }
 
-// The order of the keys of two records. Keys are read only where their hashes and lengths are the same.
+// The order of the keys of two records. Keys are read only where their hashes, lengths and fronts are the same.
 fn order_of<S: Space>(
     space: &mut S,
     file: u32,
@@ -318,8 +344,8 @@ fn judge_all<S: Space>(
     }
 }
 
-/// What is found of all records that were reached, where those before `start` were judged. Keys are read where their hashes and lengths
-/// are the same.
+/// What is found of all records that were reached, where those before `start` were judged. Keys are read where their hashes, lengths and
+/// first 16 bytes are the same, and there is more of them.
 pub fn judge<S: Space>(
     space: &mut S,
     file: u32,

@@ -1,5 +1,5 @@
 //! Pages of a file that were read, kept in memory.
-ghost use Rattle.std.specs.Prelude.{◌≡◌, ℕ, ◌+◌, ◌*◌, ◌%◌, ◌^◌, ◌<◌, ◌≤◌, List, [], length, take, drop, IfSome, IsTrue};
+ghost use Rattle.std.specs.Prelude.{◌≡◌, ℕ, ◌+◌, ◌*◌, ◌%◌, ◌^◌, ◌<◌, ◌≤◌, List, [], length, take, drop, IfSome, IsTrue, OnOk};
 ghost use Rattle.tc_base.specs.Files.{wrote};
 ghost use Rattle.tc_realfs.specs.Changes.{PutsOver, SameOutside};
 
@@ -11,6 +11,9 @@ pub const PAGE: u64 = 4096;
 
 // A page stands in the slot of its number modulo this.
 const SLOTS: u64 = 16_384;
+
+// The bytes of a page, all of them zero.
+const ZEROS: [u8; PAGE as usize] = [0; PAGE as usize];
 
 // Where a place of the file lies: so many bytes behind the start of the page that is in this slot in this turn.
 #[derive(Clone, Copy)]
@@ -66,6 +69,18 @@ fn put_over(into: &mut Vec<u8>, at: usize, bytes: &[u8])
         return;
     };
     put_at(into, at, over);
+}
+
+// So many bytes, with zeros where there were fewer. They are copied, since filling takes a step for each.
+fn resize(room: &mut Vec<u8>, count: usize) -> Result<(), AllocError>
+    ensures { OnOk result (length room.new.items ≡ count) }
+{
+    room.truncate(count);
+    while room.len() < count {
+        let more = (count - room.len()).min(ZEROS.len());
+        room.extend_from_slice(&ZEROS[..more])?;
+    }
+    Ok(())
 }
 
 impl Page {
@@ -178,7 +193,7 @@ impl Pages {
         // a page that grows later takes no more
         let more = (PAGE as usize).saturating_sub(room.len());
         room.reserve_exact(more).ok()?;
-        room.resize(count, 0).ok()?;
+        resize(&mut room, count).ok()?;
         Some(room)
     }
 

@@ -5,7 +5,7 @@ use Rattle.hf_chain.specs.declared.heads.RecHead.{RecHead}
 use Rattle.hf_chain.specs.Heads.{head_size}
 use Rattle.tc_window.specs.Windows.{Shows}
 use Rattle.hf_chain.proofs.Viewing.{looks_on}
-use Rattle.hf_chain.proofs.Fronts.{key_at, key_inside}
+use Rattle.hf_chain.proofs.Fronts.{in_bounds, key_at, key_inside}
 use Rattle.tc_window.proofs.Viewing.{shows_at}
 use Rattle.hf_chain.proofs.facts.fact_behind.Goals as goal
 
@@ -28,7 +28,7 @@ returns-clause-fact g c = λ t r has.
     let start : c.saturating_add-start.result ≡ c.args.place + head_size r = omega (arith, c.saturating_add-start.ensures, ap (λ (x : RecHead). x.head) head, inside, c.head_at.ensures.long t) in
     let shown : Shows c.fill.new.self now = c.in_ok-fill.ensures.shows t (shows_at c.head_at.new.window f now (sym e) (c.in_ok-rec.ensures.shows t)) in
     let key : c.get.result.now ≡ r.key = c.get.ensures.shows now shown ∙ (λ i. take (head i).key (drop (start i) (e i))) ∙ key_at (unit c.args.head.now) r c.args.place f has.is in
-    c.fact_in.ensures r head key (omega (arith, inside, c.head_at.ensures.long t))
+    c.fact_in.ensures r head key (in_bounds c.args.head.now r c.args.place f has)
 
 pub returns-clause-looks : goal.returns-clause-looks
 returns-clause-looks g c = looks_on g.S.Space c.args.file c.head_at.new.space c.fill.new.space c.fill.new.self c.fill.ensures.reads c.requires.looks.data_file

@@ -1,14 +1,16 @@
-use Rattle.std.proofs.Common.{◌≡◌, ◌∙◌, ◌+◌, ◌*◌, arith, ap}
+use Rattle.std.proofs.Common.{◌≡◌, ◌∙◌, ◌*◌, length, arith, ap}
 use Rattle.tc_base.specs.Hashes.{second}
 use Rattle.hf_tree.specs.Keys.{bucket_of}
 use Rattle.hf_chain.specs.declared.heads.RecHead.{RecHead}
 use Rattle.hf_chain.specs.Heads.{capped, head_size}
+use Rattle.hf_chain.specs.Facts.{front_of}
 use Rattle.hf_chain.proofs.facts.fact_in.Goals as goal
 
 pub returns : goal.returns
 unfolding bucket_of
-returns c = λ r head key room.
-    let start : c.saturating_add.result ≡ c.args.place + head_size r = (let e = ap (λ (x : RecHead). x.head) head in omega (arith, e, room, c.saturating_add.ensures)) in
+returns c = λ r head key bounds.
+    let ahead : c.min-ahead.result ≡ head_size r = (let e = ap (λ (x : RecHead). x.head) head in omega (arith, e, bounds.0, c.min-ahead.ensures)) in
+    let long : c.min-long.result ≡ length r.key = (let e = ap (λ (x : RecHead). x.key) head in omega (arith, e, bounds.1, c.min-long.ensures, c.from.ensures)) in
     λ i. record {
       place = c.args.place;
       left = (c.place_named.ensures ∙ (λ j. capped (c.unit-unit.ensures j * (head j).left))) i;
@@ -16,6 +18,7 @@ returns c = λ r head key room.
       bucket = (c.bucket_of.ensures.value ∙ ap (bucket_of c.args.head.now.buckets) key) i;
       second = (c.second_hash.ensures ∙ ap second key) i;
       hash = (head i).hash;
-      start = start i;
-      long = (head i).key;
+      ahead = ahead i;
+      long = long i;
+      front = (c.front_in.ensures ∙ ap front_of key) i;
     }
