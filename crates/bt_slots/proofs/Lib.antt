@@ -1,6 +1,7 @@
 pub mod Changes
 pub mod Leaves
 pub mod NodePlaces
+pub mod Numbers
 pub mod Pieces
 pub mod Places
 pub mod ReadBack

@@ -1,11 +1,11 @@
 -- Where the entries of a node stand in its bytes.
-use Rattle.std.proofs.Common.{◌≡◌, ℕ, ◌+◌, ◌<◌, ◌≤◌, List, ◌++◌, length, take, drop, sym, ap, subst, ◌∙◌, arith, length-append}
+use Rattle.std.proofs.Common.{◌≡◌, ℕ, ◌+◌, ◌<◌, ◌≤◌, ◌^◌, List, ◌++◌, length, take, drop, sym, ap, subst, ◌∙◌, append_assoc, arith, length-append}
 use Rattle.std.specs.Prelude.{slice_get, Some}
 use Rattle.std.specs.List.{flat_map, slice_index_or}
 use Rattle.tc_base.specs.Vnum.{vnum}
 use Rattle.bt_page.specs.declared.page.Entry.{Entry}
 use Rattle.bt_page.specs.declared.page.Node.{Node}
-use Rattle.bt_page.specs.Pages.{NodeFits, entry_bytes, node_bytes}
+use Rattle.bt_page.specs.Pages.{EntryFits, NodeFits, two, entry_bytes, node_bytes}
 use Rattle.bt_page.specs.Spelled.{Spells}
 use Rattle.bt_page.proofs.AtFronts.{node_only}
 use Rattle.bt_slots.specs.Reads.{number_in, entry_in, node_in}
@@ -49,6 +49,11 @@ module _ (bytes starts : List ℕ) (n : Node) (h : IsNodeIn bytes starts n) wher
 -- the key and the page of an entry in front
 pub key_in : (i : ℕ) (n : Node) (e : Entry) (bytes rest : List ℕ) → NodeFits n → slice_get n.entries i ≡ Some e → bytes ≡ entry_bytes e ++ rest → (entry_in bytes).0.key ≡ e.key
 key_in i n e bytes rest fits is at = ap (λ (b : List ℕ). (entry_in b).0.key) at ∙ ap (λ (z : Entry × List ℕ). z.0.key) (entry_read e rest (held _ n.entries i e fits.entries is))
+
+-- a number stands in front of it
+pub entry_front : (e : Entry) (bytes rest : List ℕ) → EntryFits e → bytes ≡ entry_bytes e ++ rest → (n : ℕ) × (left : List ℕ) × (n < 2 ^ 64) × (bytes ≡ vnum n ++ left)
+unfolding entry_bytes
+entry_front e bytes rest fits at = (e.child, vnum (length e.key) ++ (e.key ++ rest), fits.child, at ∙ append_assoc (two e.child (length e.key)) e.key rest ∙ append_assoc (vnum e.child) (vnum (length e.key)) (e.key ++ rest))
 
 pub child_in : (i : ℕ) (n : Node) (e : Entry) (bytes rest : List ℕ) → NodeFits n → slice_get n.entries i ≡ Some e → bytes ≡ entry_bytes e ++ rest → (number_in bytes).0 ≡ e.child
 unfolding entry_in

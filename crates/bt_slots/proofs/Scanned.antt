@@ -1,5 +1,5 @@
 -- What a scan of a page's bytes finds.
-use Rattle.std.proofs.Common.{◌≡◌, ℕ, ◌+◌, ◌-◌, ◌<◌, ◌≤◌, List, [], ◌∷◌, ◌++◌, length, take, drop, refl, sym, ap, ◌∙◌, arith, length-append, inl, inr}
+use Rattle.std.proofs.Common.{◌≡◌, ℕ, ◌+◌, ◌-◌, ◌<◌, ◌≤◌, ◌^◌, List, [], ◌∷◌, ◌++◌, length, take, drop, refl, sym, ap, ◌∙◌, append_assoc, arith, length-append, inl, inr}
 use Rattle.std.specs.List.{AllByRecursion, flat_map}
 use Rattle.std.proofs.lemmas.Bool.{cases_lt}
 use Rattle.std.proofs.lemmas.List.{take-append-drop, length-take-le}
@@ -74,6 +74,14 @@ short_none k v bytes texts is f g few =
           let key_long : length (take k texts) ≡ k = taken_long k texts le in
           item_short_value bytes texts (take k texts) behind k v 0 front key_long both (omega (arith, few, ap length both, length-append (take k texts) behind, key_long))
     ]
+
+-- ---- entries with a short key
+
+pub short_front : (child size : ℕ) (bytes key : List ℕ) → child < 2 ^ 64 → size < 128 → bytes ≡ vnum child ++ size ∷ key → AtFront TwoFit two_bytes bytes (child, size) key
+short_front child size bytes key f g is = record {
+  fits = (f, omega (arith, g));
+  is = is ∙ sym (append_assoc (vnum child) (vnum size) key ∙ ap (λ (l : List ℕ). vnum child ++ (l ++ key)) (one_byte size g));
+}
 
 -- ---- pages
 

@@ -1,7 +1,8 @@
 //! Where the items or entries of a page begin.
-ghost use Rattle.std.specs.Prelude.{◌≡◌, ℕ, ◌-◌, ◌≤◌, ◌<◌, ◌++◌, ◌∷◌, List, length, drop, IfOk, IsErrOf, OnErr};
+ghost use Rattle.std.specs.Prelude.{◌≡◌, ℕ, ◌-◌, ◌≤◌, ◌<◌, ◌^◌, ◌++◌, ◌∷◌, List, [], length, take, drop, IfOk, IsErrOf, OnErr};
 ghost use Rattle.std.specs.List.{AllByRecursion, flat_map};
 ghost use Rattle.tc_base.specs.Reading.{Gives};
+ghost use Rattle.tc_base.specs.Vnum.{vnum};
 ghost use Rattle.bt_page.specs.Fronts.{two_front, three_front};
 ghost use Rattle.bt_page.specs.Pages.{value_bytes, item_bytes, entry_bytes, leaf_bytes, node_bytes, SizeFits, ItemFits, EntryFits, LeafFits, NodeFits};
 ghost use Rattle.bt_page.specs.Spelled.{AtFront, NoneAt, Spells};
@@ -11,9 +12,9 @@ ghost use Rattle.bt_page.specs.declared.page.Leaf.{Leaf as the_leaf};
 ghost use Rattle.bt_page.specs.declared.page.Node.{Node as the_node};
 ghost use Rattle.bt_slots.specs.Slots.{IsLeafIn, IsNodeIn, starts_from};
 
-use crate::fronts::cut;
+use crate::fronts::{cut, short_number};
 use bt_page::PageErr;
-use std::alloc::Global;
+use std::alloc::{AllocError, Global};
 use tc_base::{NotWhole, read_number};
 
 #[tactic(auto, unfolding(bt_page::specs::Fronts::two_front))]
@@ -76,6 +77,7 @@ fn behind_values(n: u64, bytes: &[u8]) -> Result<&[u8], PageErr>
 }
 
 // What is behind an item of whatever sizes.
+#[inline(never)]
 fn behind_any(bytes: &[u8]) -> Result<&[u8], PageErr>
     ensures found { IfOk result (λ rest. (i : the_item) × AtFront ItemFits item_bytes bytes.now i rest.now) }
     ensures bad { OnErr result (NoneAt ItemFits item_bytes bytes.now) }
@@ -129,7 +131,9 @@ fn behind_item(bytes: &[u8]) -> Result<&[u8], PageErr>
     behind_any(bytes)
 }
 
-fn behind_entry(bytes: &[u8]) -> Result<&[u8], PageErr>
+// What is behind an entry of whatever sizes.
+#[inline(never)]
+fn behind_any_entry(bytes: &[u8]) -> Result<&[u8], PageErr>
     ensures found { IfOk result (λ rest. (e : the_entry) × AtFront EntryFits entry_bytes bytes.now e rest.now) }
     ensures bad { OnErr result (NoneAt EntryFits entry_bytes bytes.now) }
 {
@@ -142,23 +146,75 @@ fn behind_entry(bytes: &[u8]) -> Result<&[u8], PageErr>
     }
 }
 
+// What is behind an entry with a short key.
+fn behind_key<'a>(size: u8, bytes: &'a [u8], key: &'a [u8]) -> Result<&'a [u8], PageErr>
+    requires are { (child : ℕ) × (child < 2 ^ 64) × (bytes.now ≡ vnum child ++ size ∷ key.now) }
+    requires size { size < 128 }
+    ensures found { IfOk result (λ rest. (e : the_entry) × AtFront EntryFits entry_bytes bytes.now e rest.now) }
+    ensures bad { OnErr result (NoneAt EntryFits entry_bytes bytes.now) }
+{
+    match behind(u64::from(size), key) {
+        Ok(rest) => Ok(rest),
+        Err(e) => Err(e),
+    }
+}
+
+fn behind_entry(bytes: &[u8]) -> Result<&[u8], PageErr>
+    ensures found { IfOk result (λ rest. (e : the_entry) × AtFront EntryFits entry_bytes bytes.now e rest.now) }
+    ensures bad { OnErr result (NoneAt EntryFits entry_bytes bytes.now) }
+{
+    // most entries have a short key
+    if let Some((_child, rest)) = short_number(bytes) {
+        if let [size, key @ ..] = rest {
+            if *size < 128 {
+                return behind_key(*size, bytes, key);
+            }
+        }
+    }
+    behind_any_entry(bytes)
+}
+
+// How many places are gathered before they are put behind the others.
+const ROW: usize = 128;
+
+// Notes a place behind the others and those that are gathered, and answers how many are gathered then.
+fn note(
+    starts: &mut Vec<usize>,
+    row: &mut [usize; ROW],
+    count: usize,
+    start: usize,
+) -> Result<usize, AllocError>
+    requires { count ≤ 128 }
+    ensures few { IfOk result (λ n. n ≤ 128) }
+    ensures noted { IfOk result (λ n. starts.new.items ++ take n row.new ≡ (starts.old.items ++ take count row.old) ++ start ∷ []) }
+{
+    if count < ROW {
+        row[count] = start;
+        return Ok(count + 1);
+    }
+    starts.extend_from_slice(row)?;
+    row[0] = start;
+    Ok(1)
+}
+
 // Where each item begins in bytes that stand up to this place.
 fn starts_of_items(alloc: Global, end: usize, items: &[u8]) -> Result<Vec<usize>, PageErr>
     requires { length items.now ≤ end }
     ensures found { IfOk result (λ starts. (xs : List the_item) × (starts.items ≡ starts_from item_bytes (end - length items.now) xs) × AllByRecursion ItemFits xs × (items.now ≡ flat_map item_bytes xs)) }
     ensures bad { IsErrOf result PageErr.Bad → (xs : List the_item) → AllByRecursion ItemFits xs → items.now ≡ flat_map item_bytes xs → ⊥ }
 {
-    let mut starts = Vec::with_capacity(alloc, 128)?;
+    let mut starts = Vec::with_capacity(alloc, ROW)?;
+    let mut row = [0; ROW];
+    let mut count = 0;
     let mut rest = items;
     while !rest.is_empty() {
-        let Ok(()) = starts.push(end - rest.len()) else {
-            return Err(PageErr::Memory);
-        };
+        count = note(&mut starts, &mut row, count, end - rest.len())?;
         rest = match behind_item(rest) {
             Ok(rest) => rest,
             Err(e) => return Err(e),
         };
     }
+    starts.extend_from_slice(&row[..count])?;
     Ok(starts)
 }
 
@@ -182,17 +238,18 @@ fn starts_of_entries(alloc: Global, end: usize, entries: &[u8]) -> Result<Vec<us
     ensures found { IfOk result (λ starts. (xs : List the_entry) × (starts.items ≡ starts_from entry_bytes (end - length entries.now) xs) × AllByRecursion EntryFits xs × (entries.now ≡ flat_map entry_bytes xs)) }
     ensures bad { IsErrOf result PageErr.Bad → (xs : List the_entry) → AllByRecursion EntryFits xs → entries.now ≡ flat_map entry_bytes xs → ⊥ }
 {
-    let mut starts = Vec::with_capacity(alloc, 128)?;
+    let mut starts = Vec::with_capacity(alloc, ROW)?;
+    let mut row = [0; ROW];
+    let mut count = 0;
     let mut rest = entries;
     while !rest.is_empty() {
-        let Ok(()) = starts.push(end - rest.len()) else {
-            return Err(PageErr::Memory);
-        };
+        count = note(&mut starts, &mut row, count, end - rest.len())?;
         rest = match behind_entry(rest) {
             Ok(rest) => rest,
             Err(e) => return Err(e),
         };
     }
+    starts.extend_from_slice(&row[..count])?;
     Ok(starts)
 }
 

@@ -4,5 +4,4 @@ use Rattle.bt_slots.proofs.fronts.entry_key.Goals as goal
 
 pub returns : goal.returns
 unfolding entry_in
-returns c =
-    c.cut.ensures.0 ∙ ap (λ (x : ℕ × List ℕ). take x.0 x.1) (c.number-size.ensures ∙ ap (λ (x : ℕ × List ℕ). number_in x.1) c.number.ensures)
+returns c = c.cut.ensures.0 ∙ ap (λ (x : ℕ × List ℕ). take x.0 x.1) (c.number-size.ensures ∙ ap number_in c.behind_number.ensures)

@@ -1,4 +1,4 @@
-use Rattle.std.proofs.Common.{◌≡◌, ◌∙◌, ◌++◌, ◌∷◌, [], ap, List, ℕ, sym, refl}
+use Rattle.std.proofs.Common.{◌≡◌, ◌∙◌, ◌++◌, ◌∷◌, [], ap, List, ℕ, arith, sym, refl}
 use Rattle.std.specs.List.{flat_map}
 use Rattle.std.proofs.lemmas.List.{append-nil}
 use Rattle.bt_page.specs.declared.page.Entry.{Entry}
@@ -12,22 +12,23 @@ abbrev Ends : List Entry → List ℕ → Type 0
 Ends all tail = tail ≡ []
 
 pub loop-rest-init : goal.loop-rest-init
-loop-rest-init c = record { read = ([], starts_none entry_bytes _ c.in_ok-starts.starts.items c.in_ok-starts.ensures.items, progress_start EntryFits entry_bytes Ends c.args.entries.now) }
+loop-rest-init c = record { few = omega arith; read = ([], starts_none entry_bytes _ _ (append-nil _ ∙ c.in_ok-starts.ensures.items), progress_start EntryFits entry_bytes Ends c.args.entries.now) }
 
 pub loop-rest-preserved : goal.loop-rest-preserved
 loop-rest-preserved c =
     let p = c.loop-rest.invariant.read in
-    let x = c.in-Ok-behind_entry.ensures.found in
+    let x = c.in-Ok.ensures.found in
     record {
+      few = c.in_ok-count.ensures.few;
       read = (
         p.0 ++ x.0 ∷ [],
-        starts_step entry_bytes c.args.end c.args.entries.now c.loop-rest.rest.now p.0 x.0 c.loop-rest.starts.items c.push.new.self.items p.1 p.2.is c.requires c.in-Ok.ensures.items,
-        progress_step EntryFits entry_bytes Ends c.args.entries.now p.0 c.loop-rest.rest.now x.0 c.in-Ok-behind_entry.rest.now entry_free p.2 x.1 (λ tail t e. some_left c.loop-rest.rest.now tail c.loop-rest-test.ensures t e),
+        starts_step entry_bytes c.args.end c.args.entries.now c.loop-rest.rest.now p.0 x.0 _ _ p.1 p.2.is c.requires c.in_ok-count.ensures.noted,
+        progress_step EntryFits entry_bytes Ends c.args.entries.now p.0 c.loop-rest.rest.now x.0 c.in-Ok.rest.now entry_free p.2 x.1 (λ tail t e. some_left c.loop-rest.rest.now tail c.loop-rest-test.ensures t e),
       );
     }
 
 pub loop-rest-smaller : goal.loop-rest-smaller
-loop-rest-smaller c = let x = c.in-Ok-behind_entry.ensures.found in entry_some c.loop-rest.rest.now c.in-Ok-behind_entry.rest.now x.0 x.1
+loop-rest-smaller c = let x = c.in-Ok.ensures.found in entry_some c.loop-rest.rest.now c.in-Ok.rest.now x.0 x.1
 
 pub returns-in-Err-clause-bad : goal.returns-in-Err-clause-bad
 returns-in-Err-clause-bad c = λ h all fit e.
@@ -37,4 +38,4 @@ returns-in-Err-clause-bad c = λ h all fit e.
 pub returns-clause-found : goal.returns-clause-found
 returns-clause-found c =
     let p = c.loop-rest.invariant.read in
-    (p.0, p.1, p.2.fits, p.2.is ∙ ap (λ (l : List ℕ). flat_map entry_bytes p.0 ++ l) (none_left c.loop-rest.rest.now c.loop-rest-test.ensures) ∙ append-nil _)
+    (p.0, c.in_ok-extend_from_slice.ensures.items ∙ p.1, p.2.fits, p.2.is ∙ ap (λ (l : List ℕ). flat_map entry_bytes p.0 ++ l) (none_left c.loop-rest.rest.now c.loop-rest-test.ensures) ∙ append-nil _)

@@ -1,4 +1,4 @@
-use Rattle.std.proofs.Common.{◌≡◌, List, [], length, ◌-◌}
+use Rattle.std.proofs.Common.{◌≡◌, List, [], ◌++◌, length, take, ◌-◌, ◌≤◌}
 use Rattle.bt_page.specs.declared.page.Item.{Item}
 use Rattle.bt_page.specs.Pages.{ItemFits, item_bytes}
 use Rattle.bt_page.proofs.Runs.{Progress}
@@ -7,7 +7,8 @@ use Rattle.bt_slots.proofs.scanning.starts_of_items.Given as goal
 
 abbrev pub invariant-loop-rest : goal.invariant-loop-rest
 invariant-loop-rest l = record {
-  read : (xs : List Item) × (l.starts.items ≡ starts_from item_bytes (l.end - length l.items) xs) × Progress ItemFits item_bytes (λ all tail. tail ≡ []) l.items xs l.rest;
+  few : l.count ≤ 128;
+  read : (xs : List Item) × (l.starts.items ++ take l.count l.row ≡ starts_from item_bytes (l.end - length l.items) xs) × Progress ItemFits item_bytes (λ all tail. tail ≡ []) l.items xs l.rest;
 }
 
 abbrev pub decreases-loop-rest : goal.decreases-loop-rest

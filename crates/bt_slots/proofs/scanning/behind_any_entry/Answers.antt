@@ -3,7 +3,7 @@ use Rattle.bt_page.specs.Fronts.{two_front}
 use Rattle.bt_page.proofs.Runs.{exact_found, exact_none_at}
 use Rattle.bt_page.proofs.AtFronts.{TwoFit, two_bytes, exact_two, entry_found, entry_none, entry_short}
 use Rattle.bt_slots.proofs.Scanned.{taken, taken_long}
-use Rattle.bt_slots.proofs.scanning.behind_entry.Goals as goal
+use Rattle.bt_slots.proofs.scanning.behind_any_entry.Goals as goal
 
 pub returns-in_default-clause-bad : goal.returns-in_default-clause-bad
 returns-in_default-clause-bad c = entry_none c.args.bytes.now (exact_none_at TwoFit two_bytes two_front exact_two c.args.bytes.now _ c.in_default.ensures)
