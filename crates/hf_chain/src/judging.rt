@@ -133,11 +133,12 @@ fn order_of_bytes<S: Space>(
     Ok(Ordering::Equal)
 }
 
-// The place of a key's byte behind its front, where the file has one.
+// The place behind a key's front, or `end` where that comes first.
 fn behind_front(fact: &Fact, end: u64) -> u64
     ensures { fact.now.place + fact.now.ahead + 16 ≤ end → result ≡ fact.now.place + fact.now.ahead + 16 }
 {
-    (fact.place.saturating_add(u64::from(fact.ahead) + 16)).min(end)
+    let place = fact.place.saturating_add(u64::from(fact.ahead) + 16);
+    place.min(end)
 }
 
 // The order of two keys of one length whose fronts are the same, by the bytes behind them.

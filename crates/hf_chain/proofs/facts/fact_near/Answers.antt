@@ -1,6 +1,5 @@
 use Rattle.std.proofs.Common.{◌≡◌, ◌∙◌, ◌+◌, ◌≤◌, ℕ, List, inr, length, take, drop, length-take, length-drop, arith, sym, ap}
 use Rattle.hf_head.specs.Heads.{unit, wide}
-use Rattle.hf_chain.specs.declared.heads.RecHead.{RecHead}
 use Rattle.hf_chain.specs.Heads.{head_of}
 use Rattle.hf_chain.proofs.Fronts.{front_cut, in_bounds, key_at, near_is}
 use Rattle.hf_chain.proofs.facts.fact_near.Goals as goal
