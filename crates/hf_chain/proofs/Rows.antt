@@ -5,7 +5,6 @@ use Rattle.tc_base.specs.Endian.{field, le_number}
 use Rattle.hf_head.specs.declared.head.Head.{Head}
 use Rattle.hf_head.specs.Heads.{IsValid, unit, wide, is_large}
 use Rattle.hf_block.specs.Pieces.{Piece}
-use Rattle.hf_layout.specs.Layout.{record_at}
 use Rattle.hf_tree.specs.Links.{entry_at, links_of, width}
 use Rattle.hf_tree.specs.Rules.{Links, Records}
 use Rattle.hf_chain.specs.declared.facts.Fact.{Fact}

@@ -41,7 +41,7 @@ impl Guesses {
         }
     }
 
-    /// Where in the list the record at a place is likely to stand: as the first of its stretch, or behind that one. There may be no such record.
+    /// Where in the list the record at a place is likely to stand: as the first of its stretch, or behind that. There may be no such record.
     pub fn likely(&self, facts: &Facts, place: u64) -> usize {
         step_on(facts, self.at(place), place)
     }

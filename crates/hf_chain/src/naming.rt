@@ -70,7 +70,7 @@ fn stands(facts: &Facts, i: usize, place: u64) -> bool
     facts.at(i).place == place
 }
 
-// The same as `search`, for which one record is looked at first.
+// The same as `search`, for which one record and the one behind it are looked at first.
 fn position(facts: &Facts, likely: usize, place: u64) -> Option<usize>
     ensures found { IfSome result (λ i. (x : Fact) × (slice_get facts.now i ≡ Some x) × (x.place ≡ place)) }
     ensures low { IfSome result (λ i. i + 1 < 2 ^ 64) }
@@ -78,6 +78,10 @@ fn position(facts: &Facts, likely: usize, place: u64) -> Option<usize>
 {
     if stands(facts, likely, place) {
         return Some(likely);
+    }
+    let next = likely.saturating_add(1);
+    if stands(facts, next, place) {
+        return Some(next);
     }
     search(facts, place)
 }

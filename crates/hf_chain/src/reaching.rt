@@ -1,16 +1,16 @@
 //! The records that the buckets reach, each once.
 ghost use Rattle.std.specs.Prelude.{◌≡◌, ℕ, ◌+◌, ◌-◌, ◌*◌, ◌^◌, ◌<◌, ◌≤◌, ◌++◌, [], ◌∷◌, List, IfOk, IfSome, IfNone, OnOk, IsErrOf, true, false, Some, slice_get, length, replicate};
 ghost use Rattle.tc_io.specs.Causes.{Rose};
-ghost use Rattle.tc_space.specs.Ranges.{IsDataFile};
 ghost use Rattle.tc_space.specs.Frames.{OnlyReads};
+ghost use Rattle.tc_window.specs.Windows.{Shows};
 ghost use Rattle.hf_block.specs.Pieces.{Piece};
 ghost use Rattle.hf_layout.specs.Layout.{record_at};
 ghost use Rattle.hf_tree.specs.Links.{links_of};
 ghost use Rattle.hf_tree.specs.Rules.{Links, Records, left, right};
 ghost use Rattle.hf_chain.specs.Entries.{AreRoots};
-ghost use Rattle.hf_chain.specs.Facts.{AreFacts, HasFacts};
+ghost use Rattle.hf_chain.specs.Facts.{AreFacts};
 ghost use Rattle.hf_chain.specs.Orders.{Judged};
-ghost use Rattle.hf_chain.specs.Passes.{HasBuckets, Looks};
+ghost use Rattle.hf_chain.specs.Passes.{Surveyed};
 ghost use Rattle.hf_chain.specs.Reaching.{AllReached, AreLow, AreRead, Follows, Grew, IsItem, IsNotOnce, Marked, NoneReached, Reach, Stops, all_seen, child_item};
 
 use crate::facts::Facts;
@@ -242,8 +242,21 @@ fn follow_all(
     Ok(true)
 }
 
-// Follows the entries of buckets from one of them on, which name these places, behind those of the buckets before them. For each there is a
-// guess.
+// Puts the places other than 0 in front, and gives how many these are. It doesn't branch on them.
+fn gather(places: &[u64], named: &mut [u64]) -> usize
+    requires { length places.now ≤ length named.old }
+    ensures { result ≤ length places.now }
+{
+    let mut count = 0;
+    for i in 0..places.len() {
+        named[count] = places[i];
+        count += (places[i] != 0) as usize;
+    }
+    count
+}
+
+// Follows the entries of buckets from one of them on, which name these places, behind those of the buckets before them. For each that names
+// one there is a guess.
 fn follow_roots(
     facts: &Facts,
     likely: &[usize],
@@ -253,7 +266,7 @@ fn follow_roots(
     marks: &mut [bool],
 ) -> Result<bool, AllocError>
     requires low { first + length places.now < 2 ^ 64 }
-    requires guessed { length likely.now ≡ length places.now }
+    requires guessed { length places.now ≤ length likely.now }
     requires long { length marks.old ≡ length facts.now }
     requires marked { Marked items.old marks.old }
     ensures marked { OnOk result (Marked items.new marks.new) }
@@ -261,18 +274,21 @@ fn follow_roots(
     ensures reached { IfOk result (λ is. is ≡ true → (links : Links) (records : Records) (n : ℕ) → AreRead links records facts.now → AreRoots links n first places.now → Reach links records n (all_seen facts.now items.old) first (2 * length items.old) → Reach links records n (all_seen facts.now items.new) (first + length places.now) (2 * length items.old)) }
     ensures stops { IfOk result (λ is. is ≡ false → (links : Links) (records : Records) (n : ℕ) → AreRead links records facts.now → AreRoots links n first places.now → Reach links records n (all_seen facts.now items.old) first (2 * length items.old) → IsNotOnce links records n) }
 {
+    let mut next = 0;
     for i in 0..places.len() {
         // most buckets of a sparse file are empty
         if places[i] == 0 {
             continue;
         }
+        let guess = likely[next];
+        next += 1;
         let root = Item {
             number: 0,
             bucket: first + i as u64,
             above: 0,
             below: 0,
         };
-        match follow(facts, likely[i], places[i], &root, items, marks) {
+        match follow(facts, guess, places[i], &root, items, marks) {
             Ok(true) => {}
             Ok(false) => return Ok(false),
             Err(e) => return Err(e),
@@ -300,9 +316,11 @@ fn reach_some(
     ensures stops { IfOk result (λ is. is ≡ false → (links : Links) (records : Records) (n : ℕ) → AreRead links records facts.now → AreRoots links n first places.now → Reach links records n (all_seen facts.now items.old) first (2 * length items.old) → IsNotOnce links records n) }
 {
     let start = items.len();
+    let mut named = [0; AT_ONCE];
     let mut likely = [0; AT_ONCE];
-    guesses.likely_all(facts, places, &mut likely[..places.len()]);
-    match follow_roots(facts, &likely[..places.len()], first, places, items, marks) {
+    let count = gather(places, &mut named);
+    guesses.likely_all(facts, &named[..count], &mut likely[..count]);
+    match follow_roots(facts, &likely, first, places, items, marks) {
         Ok(true) => follow_all(facts, guesses, start, items, marks),
         Ok(false) => Ok(false),
         Err(e) => Err(e),
@@ -334,9 +352,8 @@ fn reach_buckets<S: Space>(
     marks: &mut [bool],
     verdict: &mut Verdict,
 ) -> Result<bool, ReadErr>
-    requires looks { Looks S.Space space.old file window.old }
-    requires buckets { HasBuckets S.Space head.now space.old file }
-    requires facts { S.tells → HasFacts head.now (S.now space.old file) facts.now }
+    requires surveyed { Surveyed S.Space head.now space.old file facts.now }
+    requires shows { S.tells → Shows window.old (S.now space.old file) }
     requires none { NoneReached facts.now items.old marks.old }
     ensures marked { OnOk result (Marked items.new marks.new) }
     ensures reached { IfOk result (λ is. is ≡ true → S.tells → (ps : List Piece) → AreFacts head.now ps (S.now space.old file) facts.now → Reach (links_of head.now ps (S.now space.old file)) (record_at head.now.first ps) head.now.buckets (all_seen facts.now items.new) head.now.buckets (2 * length items.new)) }
@@ -386,9 +403,8 @@ fn reach_into<S: Space>(
     marks: &mut [bool],
     verdict: &mut Verdict,
 ) -> Result<bool, ReadErr>
-    requires looks { Looks S.Space space.old file window.old }
-    requires buckets { HasBuckets S.Space head.now space.old file }
-    requires facts { S.tells → HasFacts head.now (S.now space.old file) facts.now }
+    requires surveyed { Surveyed S.Space head.now space.old file facts.now }
+    requires shows { S.tells → Shows window.old (S.now space.old file) }
     requires none { NoneReached facts.now items.old marks.old }
     ensures low { OnOk result (AreLow (length facts.now) items.new) }
     ensures some { IfOk result (λ is. is ≡ true → S.tells → (ps : List Piece) → AreFacts head.now ps (S.now space.old file) facts.now → AllReached (links_of head.now ps (S.now space.old file)) (record_at head.now.first ps) head.now.buckets (all_seen facts.now items.new)) }
@@ -432,10 +448,7 @@ pub fn reach<S: Space>(
     facts: &Facts,
     guesses: &Guesses,
 ) -> Result<Option<Trees>, ReadErr>
-    requires sound { S.sound space.old }
-    requires file { IsDataFile file }
-    requires buckets { HasBuckets S.Space head.now space.old file }
-    requires facts { S.tells → HasFacts head.now (S.now space.old file) facts.now }
+    requires surveyed { Surveyed S.Space head.now space.old file facts.now }
     ensures low { IfOk result (λ found. IfSome found (λ all. AreLow (length facts.now) all.items)) }
     ensures judged { IfOk result (λ found. IfSome found (λ all. Judged S.tells facts.now all.items (length all.items) (S.now space.old file) all.verdict)) }
     ensures some { IfOk result (λ found. IfSome found (λ all. S.tells → (ps : List Piece) → AreFacts head.now ps (S.now space.old file) facts.now → AllReached (links_of head.now ps (S.now space.old file)) (record_at head.now.first ps) head.now.buckets (all_seen facts.now all.items))) }

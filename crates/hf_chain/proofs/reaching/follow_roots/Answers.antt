@@ -6,6 +6,7 @@ use Rattle.hf_chain.proofs.reaching.follow_roots.Goals as goal
 
 pub loop-i-init : goal.loop-i-init
 loop-i-init c = record {
+  next = omega arith;
   long = c.requires.long;
   marked = c.requires.marked;
   grew = grew_refl c.args.items.now;
@@ -14,6 +15,7 @@ loop-i-init c = record {
 
 pub loop-i-preserved-then-places-i-eq0 : goal.loop-i-preserved-then-places-i-eq0
 loop-i-preserved-then-places-i-eq0 c = record {
+  next = let n = c.loop-i.invariant.next in omega (arith, n);
   long = c.loop-i.invariant.long;
   marked = c.loop-i.invariant.marked;
   grew = c.loop-i.invariant.grew;
@@ -25,6 +27,7 @@ pub loop-i-preserved : goal.loop-i-preserved
 loop-i-preserved c =
     let follows = c.in-Ok-true.ensures.follows c.in-Ok-true.field-0-test in
     record {
+      next = let n = c.loop-i.invariant.next in omega (arith, n);
       long = omega (arith, c.loop-i.invariant.long, c.follow.auto.marks);
       marked = c.in-Ok-true.ensures.marked;
       grew = grew_then c.args.items.now c.loop-i.items c.follow.new.items c.loop-i.invariant.grew (followed_grew c.args.facts.now (get_or c.args.places.now c.loop-i.i 0) (root_item (c.args.first + c.loop-i.i) 0) c.loop-i.items c.follow.new.items follows);

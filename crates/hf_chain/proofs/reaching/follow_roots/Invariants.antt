@@ -1,4 +1,4 @@
-use Rattle.std.proofs.Common.{◌≡◌, ◌+◌, ◌*◌, ℕ, length}
+use Rattle.std.proofs.Common.{◌≡◌, ◌+◌, ◌*◌, ◌≤◌, ℕ, length}
 use Rattle.hf_tree.specs.Rules.{Links, Records}
 use Rattle.hf_chain.specs.Entries.{AreRoots}
 use Rattle.hf_chain.specs.Reaching.{Marked, Grew, AreRead, Reach, all_seen}
@@ -6,6 +6,7 @@ use Rattle.hf_chain.proofs.reaching.follow_roots.Given as goal
 
 abbrev pub invariant-loop-i : goal.invariant-loop-i
 invariant-loop-i l = record {
+  next : l.next ≤ l.i;
   long : length l.marks ≡ length l.facts;
   marked : Marked l.items l.marks;
   grew : Grew l.fn.items l.items;

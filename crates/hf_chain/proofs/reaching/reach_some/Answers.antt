@@ -1,4 +1,4 @@
-use Rattle.std.proofs.Common.{◌+◌, ◌*◌, length, arith, subst}
+use Rattle.std.proofs.Common.{◌+◌, length, arith, subst}
 use Rattle.hf_chain.specs.Reaching.{Reach, all_seen}
 use Rattle.hf_chain.proofs.Lists.{if_ok}
 use Rattle.hf_chain.proofs.Steps.{grew_then}
