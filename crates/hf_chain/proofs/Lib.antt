@@ -5,6 +5,7 @@ pub mod Descents
 pub mod Paying
 pub mod Differing
 pub mod Filling
+pub mod Rows
 pub mod Settings
 pub mod Lists
 pub mod FactRows

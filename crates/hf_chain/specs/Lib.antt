@@ -1,6 +1,7 @@
 pub mod Chains
 pub mod Costs
 pub mod Differs
+pub mod Entries
 pub mod Errors
 pub mod Facts
 pub mod Files

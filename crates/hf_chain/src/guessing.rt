@@ -1,5 +1,5 @@
 //! Guesses at which record stands at a place.
-ghost use Rattle.std.specs.Prelude.{◌<◌};
+ghost use Rattle.std.specs.Prelude.{◌≡◌, ◌<◌, length};
 
 use crate::facts::Facts;
 use std::alloc::{AllocError, Global};
@@ -22,14 +22,53 @@ fn stretch(place: u64, first: u64, shift: u32) -> usize
 }
 
 impl Guesses {
-    /// A guess at the record at a place, counted from 0. There may be no such record.
-    pub fn at(&self, place: u64) -> usize {
+    // The first record of the stretch that a place lies in, counted from 0. There may be no such record.
+    fn at(&self, place: u64) -> usize {
         let i = stretch(place, self.first, self.shift);
         if i < self.numbers.len() {
             self.numbers[i] as usize
         } else {
             0
         }
+    }
+
+    // The same for many places.
+    fn at_all(&self, places: &[u64], likely: &mut [usize])
+        requires { length likely.old ≡ length places.now }
+    {
+        for i in 0..places.len() {
+            likely[i] = self.at(places[i]);
+        }
+    }
+
+    /// Where in the list the record at a place is likely to stand: as the first of its stretch, or behind that. There may be no such record.
+    pub fn likely(&self, facts: &Facts, place: u64) -> usize {
+        step_on(facts, self.at(place), place)
+    }
+
+    /// The same for many places, which are looked for side by side: none waits for what another reads from memory.
+    pub fn likely_all(&self, facts: &Facts, places: &[u64], likely: &mut [usize])
+        requires { length likely.old ≡ length places.now }
+    {
+        self.at_all(places, likely);
+        step_on_all(facts, places, likely);
+    }
+}
+
+// The number of the record behind one, counted from 0, where that one stands before a place; else its own. It doesn't branch on what was read.
+fn step_on(facts: &Facts, i: usize, place: u64) -> usize {
+    if i >= facts.len() {
+        return i;
+    }
+    i + (facts.at(i).place < place) as usize
+}
+
+// The same for many places.
+fn step_on_all(facts: &Facts, places: &[u64], likely: &mut [usize])
+    requires { length likely.old ≡ length places.now }
+{
+    for i in 0..places.len() {
+        likely[i] = step_on(facts, likely[i], places[i]);
     }
 }
 

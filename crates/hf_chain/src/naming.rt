@@ -1,8 +1,11 @@
 //! The rule that each link names a record or none.
-ghost use Rattle.std.specs.Prelude.{◌≡◌, ℕ, ◌+◌, ◌^◌, ◌<◌, ◌≤◌, IfOk, IfSome, IfNone, OnOk, IsErrOf, Some, true, false, slice_get, length};
+ghost use Rattle.std.specs.Prelude.{◌≡◌, ℕ, ◌+◌, ◌*◌, ◌^◌, ◌<◌, ◌≤◌, IfOk, IfSome, IfNone, OnOk, IsErrOf, Some, true, false, slice_get, length};
+ghost use Rattle.tc_base.specs.Endian.{field, le_number};
 ghost use Rattle.tc_io.specs.Causes.{Rose};
 ghost use Rattle.tc_space.specs.Frames.{OnlyReads};
 ghost use Rattle.hf_chain.specs.declared.facts.Fact.{Fact};
+ghost use Rattle.hf_chain.specs.Heads.{capped};
+ghost use Rattle.hf_chain.specs.Entries.{AreEntries};
 ghost use Rattle.hf_chain.specs.Facts.{AllNamed, Ascend, HasBadChain, HasNamed, IsListedAt, Names, entry_place, spot};
 ghost use Rattle.hf_chain.specs.Passes.{HasBuckets, Looks};
 
@@ -67,35 +70,43 @@ fn stands(facts: &Facts, i: usize, place: u64) -> bool
     facts.at(i).place == place
 }
 
-// The same as `search`, for which the guess and the record behind it are looked at first.
-fn position(facts: &Facts, guesses: &Guesses, place: u64) -> Option<usize>
+// The same as `search`, for which one record and the one behind it are looked at first.
+fn position(facts: &Facts, likely: usize, place: u64) -> Option<usize>
     ensures found { IfSome result (λ i. (x : Fact) × (slice_get facts.now i ≡ Some x) × (x.place ≡ place)) }
     ensures low { IfSome result (λ i. i + 1 < 2 ^ 64) }
     ensures none { IfNone result (Ascend facts.now → IsListedAt facts.now place → ⊥) }
 {
-    let guess = guesses.at(place);
-    if stands(facts, guess, place) {
-        return Some(guess);
+    if stands(facts, likely, place) {
+        return Some(likely);
     }
-    let next = guess.saturating_add(1);
+    let next = likely.saturating_add(1);
     if stands(facts, next, place) {
         return Some(next);
     }
     search(facts, place)
 }
 
-/// The number of the record that a link names with a place, 0 for none; or nothing where that is no record.
-pub fn resolve(facts: &Facts, guesses: &Guesses, place: u64) -> Option<u64>
+/// The number of the record that a link names with a place, 0 for none; or nothing where that is no record. Where in the list it is likely
+/// to stand is only a guess.
+pub fn resolve(facts: &Facts, likely: usize, place: u64) -> Option<u64>
     ensures some { IfSome result (λ n. (n ≤ length facts.now) × (spot facts.now n ≡ place)) }
     ensures none { IfNone result (Ascend facts.now → Names facts.now place → ⊥) }
 {
     if place == 0 {
         return Some(0);
     }
-    match position(facts, guesses, place) {
+    match position(facts, likely, place) {
         Some(i) => Some(i as u64 + 1),
         None => None,
     }
+}
+
+// The same, where no guess was made yet.
+fn resolve_alone(facts: &Facts, guesses: &Guesses, place: u64) -> Option<u64>
+    ensures some { IfSome result (λ n. (n ≤ length facts.now) × (spot facts.now n ≡ place)) }
+    ensures none { IfNone result (Ascend facts.now → Names facts.now place → ⊥) }
+{
+    resolve(facts, guesses.likely(facts, place), place)
 }
 
 // Whether both chains of a record name a record or none.
@@ -103,8 +114,8 @@ fn has_named(facts: &Facts, guesses: &Guesses, fact: &Fact) -> bool
     ensures yes { result ≡ true → HasNamed facts.now fact.now }
     ensures no { result ≡ false → Ascend facts.now → HasNamed facts.now fact.now → ⊥ }
 {
-    match resolve(facts, guesses, fact.left) {
-        Some(_) => match resolve(facts, guesses, fact.right) {
+    match resolve_alone(facts, guesses, fact.left) {
+        Some(_) => match resolve_alone(facts, guesses, fact.right) {
             Some(_) => true,
             None => false,
         },
@@ -126,8 +137,45 @@ pub fn chains_named(facts: &Facts, guesses: &Guesses) -> bool
     true
 }
 
-/// The place that a bucket's entry names. Entries are read many at a time.
-pub fn entry<S: Space>(
+// The places that entries name, which stand one behind the other.
+fn decode(unit: u64, width: usize, bytes: &[u8], places: &mut [u64])
+    requires unit { unit ≤ 2 ^ 16 }
+    requires width { (1 ≤ width) × (width ≤ 8) }
+    requires long { length bytes.now ≡ width * length places.old }
+    ensures { (i : ℕ) (p : ℕ) → slice_get places.new i ≡ Some p → p ≡ capped (unit * le_number (field (width * i) width bytes.now)) }
+{
+    for i in 0..places.len() {
+        places[i] = place_named(unit, get_le(bytes, width * i, width));
+    }
+}
+
+/// The places that the entries of buckets name, from one bucket on. They are read at once.
+pub fn entries<S: Space>(
+    space: &mut S,
+    file: u32,
+    head: &Head,
+    first: u64,
+    window: &mut Window,
+    places: &mut [u64],
+) -> Result<(), ReadErr>
+    requires looks { Looks S.Space space.old file window.old }
+    requires buckets { HasBuckets S.Space head.now space.old file }
+    requires low { first + length places.old ≤ head.now.buckets }
+    ensures places { OnOk result (S.tells → AreEntries head.now first places.new (S.now space.old file)) }
+    ensures looks { OnOk result (Looks S.Space space.new file window.new) }
+    ensures reads { OnlyReads S.Space space.old space.new }
+    ensures cause { IsErrOf result ReadErr.Fault → Rose (S.faults space.old) (S.faults space.new) }
+{
+    let width = head.width();
+    let at = 256 + width * first;
+    let count = width as usize * places.len();
+    window.fill(space, file, at, count)?;
+    decode(head.unit(), width as usize, window.get(at, count), places);
+    Ok(())
+}
+
+// The place that a bucket's entry names.
+fn entry<S: Space>(
     space: &mut S,
     file: u32,
     head: &Head,
@@ -142,11 +190,9 @@ pub fn entry<S: Space>(
     ensures reads { OnlyReads S.Space space.old space.new }
     ensures cause { IsErrOf result ReadErr.Fault → Rose (S.faults space.old) (S.faults space.new) }
 {
-    let width = head.width();
-    let at = 256 + width * bucket;
-    window.fill(space, file, at, width as usize)?;
-    let n = get_le(window.get(at, width as usize), 0, width as usize);
-    Ok(place_named(head.unit(), n))
+    let mut places = [0];
+    entries(space, file, head, bucket, window, &mut places)?;
+    Ok(places[0])
 }
 
 /// Whether each bucket's entry names a record or none.
@@ -167,7 +213,7 @@ pub fn entries_named<S: Space>(
 {
     for bucket in 0..head.buckets {
         let place = entry(space, file, head, bucket, window)?;
-        match resolve(facts, guesses, place) {
+        match resolve_alone(facts, guesses, place) {
             Some(_) => {}
             None => return Ok(false),
         }

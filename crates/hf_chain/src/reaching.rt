@@ -1,23 +1,22 @@
 //! The records that the buckets reach, each once.
-ghost use Rattle.std.specs.Prelude.{◌≡◌, ℕ, ◌+◌, ◌*◌, ◌<◌, ◌≤◌, ◌++◌, [], ◌∷◌, List, IfOk, IfSome, IfNone, OnOk, IsErrOf, true, false, Some, slice_get, length, replicate};
+ghost use Rattle.std.specs.Prelude.{◌≡◌, ℕ, ◌+◌, ◌-◌, ◌*◌, ◌^◌, ◌<◌, ◌≤◌, ◌++◌, [], ◌∷◌, List, IfOk, IfSome, IfNone, OnOk, IsErrOf, true, false, Some, slice_get, length, replicate};
 ghost use Rattle.tc_io.specs.Causes.{Rose};
-ghost use Rattle.tc_space.specs.Ranges.{IsDataFile};
 ghost use Rattle.tc_space.specs.Frames.{OnlyReads};
+ghost use Rattle.tc_window.specs.Windows.{Shows};
 ghost use Rattle.hf_block.specs.Pieces.{Piece};
 ghost use Rattle.hf_layout.specs.Layout.{record_at};
-ghost use Rattle.hf_tree.specs.declared.parent.Parent.TheVariants.{Bucket};
 ghost use Rattle.hf_tree.specs.Links.{links_of};
 ghost use Rattle.hf_tree.specs.Rules.{Links, Records, left, right};
-ghost use Rattle.hf_chain.specs.Heads.{capped};
-ghost use Rattle.hf_chain.specs.Facts.{AreFacts, HasFacts};
+ghost use Rattle.hf_chain.specs.Entries.{AreRoots};
+ghost use Rattle.hf_chain.specs.Facts.{AreFacts};
 ghost use Rattle.hf_chain.specs.Orders.{Judged};
-ghost use Rattle.hf_chain.specs.Passes.{HasBuckets, Looks};
+ghost use Rattle.hf_chain.specs.Passes.{Surveyed};
 ghost use Rattle.hf_chain.specs.Reaching.{AllReached, AreLow, AreRead, Follows, Grew, IsItem, IsNotOnce, Marked, NoneReached, Reach, Stops, all_seen, child_item};
 
 use crate::facts::Facts;
 use crate::guessing::Guesses;
 use crate::judging::{Verdict, judge};
-use crate::naming::{entry, resolve};
+use crate::naming::{entries, resolve};
 use hf_head::Head;
 use std::alloc::{AllocError, Global};
 use tc_base::Seq;
@@ -63,7 +62,7 @@ fn add(items: &mut Items, marks: &mut [bool], item: Item) -> Result<bool, AllocE
 // is no record, or one that was reached before.
 fn follow(
     facts: &Facts,
-    guesses: &Guesses,
+    likely: usize,
     place: u64,
     from: &Item,
     items: &mut Items,
@@ -76,7 +75,7 @@ fn follow(
     ensures follows { IfOk result (λ is. is ≡ true → Follows facts.now place from.now items.old items.new) }
     ensures stops { IfOk result (λ is. is ≡ false → Stops facts.now place items.old) }
 {
-    let number = match resolve(facts, guesses, place) {
+    let number = match resolve(facts, likely, place) {
         Some(number) => number,
         None => return Ok(false),
     };
@@ -116,10 +115,12 @@ fn right_of(item: &Item) -> Item
     }
 }
 
-// Follows both chains of a record that was reached, behind those of the records before it.
+// Follows both chains of a record that was reached, behind those of the records before it. Where in the list the records that they name are
+// likely to stand is only a guess.
 fn follow_both(
     facts: &Facts,
-    guesses: &Guesses,
+    left: usize,
+    right: usize,
     k: usize,
     items: &mut Items,
     marks: &mut [bool],
@@ -134,11 +135,83 @@ fn follow_both(
 {
     let item = *items.at(k);
     let fact = *facts.at((item.number - 1) as usize);
-    match follow(facts, guesses, fact.left, &left_of(&item), items, marks) {
-        Ok(true) => follow(facts, guesses, fact.right, &right_of(&item), items, marks),
+    match follow(facts, left, fact.left, &left_of(&item), items, marks) {
+        Ok(true) => follow(facts, right, fact.right, &right_of(&item), items, marks),
         Ok(false) => Ok(false),
         Err(e) => Err(e),
     }
+}
+
+// How many links are looked for side by side.
+const AT_ONCE: usize = 256;
+
+// The places that the chains of records name, from one of them to before another, two for each.
+fn chains_of(facts: &Facts, items: &Items, from: usize, to: usize, places: &mut [u64])
+    requires there { (from ≤ to) × (to ≤ length items.now) }
+    requires long { length places.old ≡ 2 * (to - from) }
+    requires low { AreLow (length facts.now) items.now }
+{
+    for k in from..to {
+        let fact = *facts.at((items.at(k).number - 1) as usize);
+        places[2 * (k - from)] = fact.left;
+        places[2 * (k - from) + 1] = fact.right;
+    }
+}
+
+// Follows the chains of records, from one of them to before another, behind those of the records before them. For each chain there is a guess.
+fn follow_row(
+    facts: &Facts,
+    likely: &[usize],
+    from: usize,
+    to: usize,
+    items: &mut Items,
+    marks: &mut [bool],
+) -> Result<bool, AllocError>
+    requires there { (from ≤ to) × (to ≤ length items.old) }
+    requires guessed { length likely.now ≡ 2 * (to - from) }
+    requires long { length marks.old ≡ length facts.now }
+    requires marked { Marked items.old marks.old }
+    ensures marked { OnOk result (Marked items.new marks.new) }
+    ensures grew { IfOk result (λ is. is ≡ true → Grew items.old items.new) }
+    ensures reached { IfOk result (λ is. is ≡ true → (links : Links) (records : Records) (n roots : ℕ) → AreRead links records facts.now → Reach links records n (all_seen facts.now items.old) roots (2 * from) → Reach links records n (all_seen facts.now items.new) roots (2 * to)) }
+    ensures stops { IfOk result (λ is. is ≡ false → (links : Links) (records : Records) (n roots : ℕ) → AreRead links records facts.now → Reach links records n (all_seen facts.now items.old) roots (2 * from) → IsNotOnce links records n) }
+{
+    for k in from..to {
+        let left = likely[2 * (k - from)];
+        let right = likely[2 * (k - from) + 1];
+        match follow_both(facts, left, right, k, items, marks) {
+            Ok(true) => {}
+            Ok(false) => return Ok(false),
+            Err(e) => return Err(e),
+        }
+    }
+    Ok(true)
+}
+
+// The same, with the guesses made first.
+fn follow_some(
+    facts: &Facts,
+    guesses: &Guesses,
+    from: usize,
+    to: usize,
+    items: &mut Items,
+    marks: &mut [bool],
+) -> Result<bool, AllocError>
+    requires few { to - from ≤ 128 }
+    requires there { (from ≤ to) × (to ≤ length items.old) }
+    requires long { length marks.old ≡ length facts.now }
+    requires marked { Marked items.old marks.old }
+    ensures marked { OnOk result (Marked items.new marks.new) }
+    ensures grew { IfOk result (λ is. is ≡ true → Grew items.old items.new) }
+    ensures reached { IfOk result (λ is. is ≡ true → (links : Links) (records : Records) (n roots : ℕ) → AreRead links records facts.now → Reach links records n (all_seen facts.now items.old) roots (2 * from) → Reach links records n (all_seen facts.now items.new) roots (2 * to)) }
+    ensures stops { IfOk result (λ is. is ≡ false → (links : Links) (records : Records) (n roots : ℕ) → AreRead links records facts.now → Reach links records n (all_seen facts.now items.old) roots (2 * from) → IsNotOnce links records n) }
+{
+    let mut places = [0; AT_ONCE];
+    let mut likely = [0; AT_ONCE];
+    let links = 2 * (to - from);
+    chains_of(facts, items, from, to, &mut places[..links]);
+    guesses.likely_all(facts, &places[..links], &mut likely[..links]);
+    follow_row(facts, &likely[..links], from, to, items, marks)
 }
 
 // Follows the chains of all records that are reached, from one of them on.
@@ -159,8 +232,9 @@ fn follow_all(
 {
     let mut k = start;
     while k < items.len() {
-        match follow_both(facts, guesses, k, items, marks) {
-            Ok(true) => k += 1,
+        let to = k + (items.len() - k).min(AT_ONCE / 2);
+        match follow_some(facts, guesses, k, to, items, marks) {
+            Ok(true) => k = to,
             Ok(false) => return Ok(false),
             Err(e) => return Err(e),
         }
@@ -168,30 +242,85 @@ fn follow_all(
     Ok(true)
 }
 
-// Follows the entry of a bucket, which names a place, and all chains of its tree, behind those of the buckets before it.
-fn reach_bucket(
+// Puts the places other than 0 in front, and gives how many these are. It doesn't branch on them.
+fn gather(places: &[u64], named: &mut [u64]) -> usize
+    requires { length places.now ≤ length named.old }
+    ensures { result ≤ length places.now }
+{
+    let mut count = 0;
+    for i in 0..places.len() {
+        named[count] = places[i];
+        count += (places[i] != 0) as usize;
+    }
+    count
+}
+
+// Follows the entries of buckets from one of them on, which name these places, behind those of the buckets before them. For each that names
+// one there is a guess.
+fn follow_roots(
     facts: &Facts,
-    guesses: &Guesses,
-    bucket: u64,
-    place: u64,
+    likely: &[usize],
+    first: u64,
+    places: &[u64],
     items: &mut Items,
     marks: &mut [bool],
 ) -> Result<bool, AllocError>
+    requires low { first + length places.now < 2 ^ 64 }
+    requires guessed { length places.now ≤ length likely.now }
     requires long { length marks.old ≡ length facts.now }
     requires marked { Marked items.old marks.old }
     ensures marked { OnOk result (Marked items.new marks.new) }
     ensures grew { IfOk result (λ is. is ≡ true → Grew items.old items.new) }
-    ensures reached { IfOk result (λ is. is ≡ true → (links : Links) (records : Records) (n : ℕ) → AreRead links records facts.now → bucket < n → place ≡ capped (links (Bucket bucket)) → Reach links records n (all_seen facts.now items.old) bucket (2 * length items.old) → Reach links records n (all_seen facts.now items.new) (bucket + 1) (2 * length items.new)) }
-    ensures stops { IfOk result (λ is. is ≡ false → (links : Links) (records : Records) (n : ℕ) → AreRead links records facts.now → bucket < n → place ≡ capped (links (Bucket bucket)) → Reach links records n (all_seen facts.now items.old) bucket (2 * length items.old) → IsNotOnce links records n) }
+    ensures reached { IfOk result (λ is. is ≡ true → (links : Links) (records : Records) (n : ℕ) → AreRead links records facts.now → AreRoots links n first places.now → Reach links records n (all_seen facts.now items.old) first (2 * length items.old) → Reach links records n (all_seen facts.now items.new) (first + length places.now) (2 * length items.old)) }
+    ensures stops { IfOk result (λ is. is ≡ false → (links : Links) (records : Records) (n : ℕ) → AreRead links records facts.now → AreRoots links n first places.now → Reach links records n (all_seen facts.now items.old) first (2 * length items.old) → IsNotOnce links records n) }
+{
+    let mut next = 0;
+    for i in 0..places.len() {
+        // most buckets of a sparse file are empty
+        if places[i] == 0 {
+            continue;
+        }
+        let guess = likely[next];
+        next += 1;
+        let root = Item {
+            number: 0,
+            bucket: first + i as u64,
+            above: 0,
+            below: 0,
+        };
+        match follow(facts, guess, places[i], &root, items, marks) {
+            Ok(true) => {}
+            Ok(false) => return Ok(false),
+            Err(e) => return Err(e),
+        }
+    }
+    Ok(true)
+}
+
+// Follows the entries of some buckets, which name these places, and then all chains of their trees, behind those of the buckets before them.
+fn reach_some(
+    facts: &Facts,
+    guesses: &Guesses,
+    first: u64,
+    places: &[u64],
+    items: &mut Items,
+    marks: &mut [bool],
+) -> Result<bool, AllocError>
+    requires low { first + length places.now < 2 ^ 64 }
+    requires few { length places.now ≤ 256 }
+    requires long { length marks.old ≡ length facts.now }
+    requires marked { Marked items.old marks.old }
+    ensures marked { OnOk result (Marked items.new marks.new) }
+    ensures grew { IfOk result (λ is. is ≡ true → Grew items.old items.new) }
+    ensures reached { IfOk result (λ is. is ≡ true → (links : Links) (records : Records) (n : ℕ) → AreRead links records facts.now → AreRoots links n first places.now → Reach links records n (all_seen facts.now items.old) first (2 * length items.old) → Reach links records n (all_seen facts.now items.new) (first + length places.now) (2 * length items.new)) }
+    ensures stops { IfOk result (λ is. is ≡ false → (links : Links) (records : Records) (n : ℕ) → AreRead links records facts.now → AreRoots links n first places.now → Reach links records n (all_seen facts.now items.old) first (2 * length items.old) → IsNotOnce links records n) }
 {
     let start = items.len();
-    let root = Item {
-        number: 0,
-        bucket,
-        above: 0,
-        below: 0,
-    };
-    match follow(facts, guesses, place, &root, items, marks) {
+    let mut named = [0; AT_ONCE];
+    let mut likely = [0; AT_ONCE];
+    let count = gather(places, &mut named);
+    guesses.likely_all(facts, &named[..count], &mut likely[..count]);
+    match follow_roots(facts, &likely, first, places, items, marks) {
         Ok(true) => follow_all(facts, guesses, start, items, marks),
         Ok(false) => Ok(false),
         Err(e) => Err(e),
@@ -211,7 +340,7 @@ fn all_marked(marks: &[bool]) -> bool
     true
 }
 
-// Follows the entries of all buckets, each with its tree, and judges what each reaches.
+// Follows the entries of all buckets, some at a time with their trees, and judges what those reach.
 fn reach_buckets<S: Space>(
     space: &mut S,
     file: u32,
@@ -223,9 +352,8 @@ fn reach_buckets<S: Space>(
     marks: &mut [bool],
     verdict: &mut Verdict,
 ) -> Result<bool, ReadErr>
-    requires looks { Looks S.Space space.old file window.old }
-    requires buckets { HasBuckets S.Space head.now space.old file }
-    requires facts { S.tells → HasFacts head.now (S.now space.old file) facts.now }
+    requires surveyed { Surveyed S.Space head.now space.old file facts.now }
+    requires shows { S.tells → Shows window.old (S.now space.old file) }
     requires none { NoneReached facts.now items.old marks.old }
     ensures marked { OnOk result (Marked items.new marks.new) }
     ensures reached { IfOk result (λ is. is ≡ true → S.tells → (ps : List Piece) → AreFacts head.now ps (S.now space.old file) facts.now → Reach (links_of head.now ps (S.now space.old file)) (record_at head.now.first ps) head.now.buckets (all_seen facts.now items.new) head.now.buckets (2 * length items.new)) }
@@ -235,10 +363,14 @@ fn reach_buckets<S: Space>(
     ensures cause { IsErrOf result ReadErr.Fault → Rose (S.faults space.old) (S.faults space.new) }
 {
     *verdict = Verdict::InOrder;
-    for bucket in 0..head.buckets {
-        let place = entry(space, file, head, bucket, window)?;
+    let mut room = [0; AT_ONCE];
+    let mut first = 0;
+    while first < head.buckets {
+        let count = (head.buckets - first).min(AT_ONCE as u64) as usize;
+        let places = &mut room[..count];
+        entries(space, file, head, first, window, places)?;
         let start = items.len();
-        match reach_bucket(facts, guesses, bucket, place, items, marks) {
+        match reach_some(facts, guesses, first, places, items, marks) {
             Ok(true) => {}
             Ok(false) => return Ok(false),
             Err(e) => return Err(ReadErr::from(e)),
@@ -247,6 +379,7 @@ fn reach_buckets<S: Space>(
             Ok(found) => *verdict = found,
             Err(e) => return Err(ReadErr::from(e)),
         }
+        first += count as u64;
     }
     Ok(true)
 }
@@ -270,9 +403,8 @@ fn reach_into<S: Space>(
     marks: &mut [bool],
     verdict: &mut Verdict,
 ) -> Result<bool, ReadErr>
-    requires looks { Looks S.Space space.old file window.old }
-    requires buckets { HasBuckets S.Space head.now space.old file }
-    requires facts { S.tells → HasFacts head.now (S.now space.old file) facts.now }
+    requires surveyed { Surveyed S.Space head.now space.old file facts.now }
+    requires shows { S.tells → Shows window.old (S.now space.old file) }
     requires none { NoneReached facts.now items.old marks.old }
     ensures low { OnOk result (AreLow (length facts.now) items.new) }
     ensures some { IfOk result (λ is. is ≡ true → S.tells → (ps : List Piece) → AreFacts head.now ps (S.now space.old file) facts.now → AllReached (links_of head.now ps (S.now space.old file)) (record_at head.now.first ps) head.now.buckets (all_seen facts.now items.new)) }
@@ -307,7 +439,7 @@ pub struct Trees {
 }
 
 /// The records of a file, where each link names one of them or none and the buckets reach each of them once, and what is found of them; else
-/// nothing. A bucket's tree is followed and judged before the next bucket's.
+/// nothing. The trees of some buckets are followed and judged before those of the next.
 pub fn reach<S: Space>(
     alloc: Global,
     space: &mut S,
@@ -316,10 +448,7 @@ pub fn reach<S: Space>(
     facts: &Facts,
     guesses: &Guesses,
 ) -> Result<Option<Trees>, ReadErr>
-    requires sound { S.sound space.old }
-    requires file { IsDataFile file }
-    requires buckets { HasBuckets S.Space head.now space.old file }
-    requires facts { S.tells → HasFacts head.now (S.now space.old file) facts.now }
+    requires surveyed { Surveyed S.Space head.now space.old file facts.now }
     ensures low { IfOk result (λ found. IfSome found (λ all. AreLow (length facts.now) all.items)) }
     ensures judged { IfOk result (λ found. IfSome found (λ all. Judged S.tells facts.now all.items (length all.items) (S.now space.old file) all.verdict)) }
     ensures some { IfOk result (λ found. IfSome found (λ all. S.tells → (ps : List Piece) → AreFacts head.now ps (S.now space.old file) facts.now → AllReached (links_of head.now ps (S.now space.old file)) (record_at head.now.first ps) head.now.buckets (all_seen facts.now all.items))) }

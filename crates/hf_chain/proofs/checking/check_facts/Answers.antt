@@ -6,8 +6,15 @@ use Rattle.hf_chain.proofs.Named.{fits}
 use Rattle.hf_chain.proofs.Judged.{same_rule, some_of, none_of, facts_inside, link_broken_at, judged_hold, judged_broken}
 use Rattle.hf_chain.proofs.checking.check_facts.Goals as goal
 
-pub reach-requires-clause-buckets : goal.reach-requires-clause-buckets
-reach-requires-clause-buckets g c = record { valid = c.requires.head; inside = λ t. facts_inside c.args.head.now (g.S.Space.now c.args.space.now c.args.file) c.args.facts.now (c.requires.facts t) }
+pub reach-requires : goal.reach-requires
+reach-requires g c = record {
+  surveyed = record {
+    sound = c.requires.sound;
+    data_file = c.requires.file;
+    buckets = record { valid = c.requires.head; inside = λ t. facts_inside c.args.head.now (g.S.Space.now c.args.space.now c.args.file) c.args.facts.now (c.requires.facts t) };
+    read = c.requires.facts;
+  };
+}
 
 pub returns-in-Ok-Some-clause-hold : goal.returns-in-Ok-Some-clause-hold
 returns-in-Ok-Some-clause-hold g c = on_ok_weaker c.conclude.result (λ hold t ps a.

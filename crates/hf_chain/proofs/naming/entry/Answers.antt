@@ -1,5 +1,6 @@
-use Rattle.hf_chain.proofs.Viewing.{looks_on}
+use Rattle.std.proofs.Common.{arith}
+use Rattle.hf_chain.proofs.Rows.{entry_alone}
 use Rattle.hf_chain.proofs.naming.entry.Goals as goal
 
-pub returns-clause-looks : goal.returns-clause-looks
-returns-clause-looks g c = looks_on g.S.Space c.args.file c.args.space.now c.fill.new.space c.fill.new.self c.fill.ensures.reads c.requires.looks.data_file (λ t. c.in_ok-fill.ensures.shows t (c.requires.looks.shows t))
+pub returns-clause-place : goal.returns-clause-place
+returns-clause-place g c = λ t. entry_alone c.args.head.now c.args.bucket c.entries.new.places (g.S.Space.now c.args.space.now c.args.file) (omega (arith, c.entries.auto.places)) (c.in_ok-entries.ensures.places t)

@@ -11,11 +11,11 @@ loop-k-smaller c = omega (arith, few_items c.loop-k.items c.loop-k.marks c.loop-
 
 pub loop-k-preserved : goal.loop-k-preserved
 loop-k-preserved c = record {
-  long = omega (arith, c.loop-k.invariant.long, c.follow_both.auto.marks);
+  long = omega (arith, c.loop-k.invariant.long, c.follow_some.auto.marks);
   marked = c.in-Ok-true.ensures.marked;
   most = let g = c.in-Ok-true.ensures.grew c.in-Ok-true.field-0-test in omega (arith, g.long);
-  grew = grew_then c.args.items.now c.loop-k.items c.follow_both.new.items c.loop-k.invariant.grew (c.in-Ok-true.ensures.grew c.in-Ok-true.field-0-test);
-  reached = λ links records n roots read r. subst (λ d. Reach links records n (all_seen c.args.facts.now c.follow_both.new.items) roots d) (omega arith) (c.in-Ok-true.ensures.reached c.in-Ok-true.field-0-test links records n roots read (c.loop-k.invariant.reached links records n roots read r));
+  grew = grew_then c.args.items.now c.loop-k.items c.follow_some.new.items c.loop-k.invariant.grew (c.in-Ok-true.ensures.grew c.in-Ok-true.field-0-test);
+  reached = λ links records n roots read r. c.in-Ok-true.ensures.reached c.in-Ok-true.field-0-test links records n roots read (c.loop-k.invariant.reached links records n roots read r);
 }
 
 pub returns-in-Ok-false-clause-stops : goal.returns-in-Ok-false-clause-stops

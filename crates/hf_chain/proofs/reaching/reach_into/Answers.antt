@@ -20,7 +20,7 @@ returns-in-Ok-true-clause-some g c = λ is t ps a.
     let records = record_at c.args.head.now.first ps in
     let most : 2 * length (all_seen c.args.facts.now c.reach_buckets.new.items) ≤ 2 * length c.reach_buckets.new.items = omega (arith, map_long (seen c.args.facts.now) c.reach_buckets.new.items) in
     let r = c.in-Ok-true.ensures.reached c.in-Ok-true.field-0-test t ps a in
-    let whole = whole_reach links records c.args.head.now.buckets c.args.facts.now (are_read c.args.head.now ps (g.S.Space.now c.args.space.now c.args.file) c.args.facts.now c.requires.buckets.valid a) c.reach_buckets.new.items c.reach_buckets.new.marks (omega (arith, c.requires.none.long, c.reach_buckets.auto.marks)) c.in-Ok-true.ensures.marked (c.all_marked.ensures.yes is) in
+    let whole = whole_reach links records c.args.head.now.buckets c.args.facts.now (are_read c.args.head.now ps (g.S.Space.now c.args.space.now c.args.file) c.args.facts.now c.requires.surveyed.buckets.valid a) c.reach_buckets.new.items c.reach_buckets.new.marks (omega (arith, c.requires.none.long, c.reach_buckets.auto.marks)) c.in-Ok-true.ensures.marked (c.all_marked.ensures.yes is) in
     record {
       names = all_named links records c.args.head.now.buckets (all_seen c.args.facts.now c.reach_buckets.new.items) (2 * length c.reach_buckets.new.items) r most whole;
       whole = record { is = record { done = 2 * length c.reach_buckets.new.items; all = most; is = r }; whole = whole };
@@ -32,5 +32,5 @@ returns-in-Ok-true-clause-none g c = λ is t ps a names once.
     let records = record_at c.args.head.now.first ps in
     let most : 2 * length (all_seen c.args.facts.now c.reach_buckets.new.items) ≤ 2 * length c.reach_buckets.new.items = omega (arith, map_long (seen c.args.facts.now) c.reach_buckets.new.items) in
     let w = c.all_marked.ensures.no is in
-    not_whole links records c.args.head.now.buckets c.args.facts.now (are_read c.args.head.now ps (g.S.Space.now c.args.space.now c.args.file) c.args.facts.now c.requires.buckets.valid a) c.reach_buckets.new.items c.reach_buckets.new.marks w.0 (bare c.args.head.now ps (g.S.Space.now c.args.space.now c.args.file) c.args.facts.now c.requires.buckets.valid a) (omega (arith, c.requires.none.long, c.reach_buckets.auto.marks)) c.in-Ok-true.ensures.marked
+    not_whole links records c.args.head.now.buckets c.args.facts.now (are_read c.args.head.now ps (g.S.Space.now c.args.space.now c.args.file) c.args.facts.now c.requires.surveyed.buckets.valid a) c.reach_buckets.new.items c.reach_buckets.new.marks w.0 (bare c.args.head.now ps (g.S.Space.now c.args.space.now c.args.file) c.args.facts.now c.requires.surveyed.buckets.valid a) (omega (arith, c.requires.none.long, c.reach_buckets.auto.marks)) c.in-Ok-true.ensures.marked
     (record { done = 2 * length c.reach_buckets.new.items; all = most; is = c.in-Ok-true.ensures.reached c.in-Ok-true.field-0-test t ps a }) w.1 w.2 once
