@@ -131,8 +131,8 @@ fn check_facts<S: Space>(
 
 /// Checks the rules of links and records, each over the whole file before the next: each link names a record or none, the buckets reach each
 /// record once, each record is at home, each bucket's tree is in order, and the head has the number of records. `Broken` names the first that
-/// doesn't hold. The list of blocks is what `walk` gives. Each record's head and key are read once, many at a time; keys that have
-/// their second hash and length in common are read again to be compared.
+/// doesn't hold. The list of blocks is what `walk` gives. Each record's head and key are read once, many at a time; keys of more
+/// than 16 bytes that have their second hash, length and first 16 bytes in common are read again to be compared.
 pub fn check<S: Space>(
     alloc: Global,
     space: &mut S,
