@@ -15,7 +15,7 @@ pub(crate) fn with_room(alloc: Global, len: usize) -> Result<Blob, AllocError>
     Ok(Blob::from_vec(Vec::with_capacity(alloc, len)?))
 }
 
-/// The bytes with an item in the place of those from one place to another, with room for some more.
+/// The bytes with an item in the place of those from one place to another.
 pub(crate) fn with_item(
     alloc: Global,
     bytes: &[u8],
@@ -29,53 +29,16 @@ pub(crate) fn with_item(
     ensures key { SizeFits parts.entry.key.now }
     ensures first { SizeFits parts.entry.first.now }
 {
-    let room = bytes.len() + bytes.len() / 4;
-    let mut all = with_room(alloc, room.saturating_add(room_for(parts)))?;
+    let room = bytes
+        .len()
+        .saturating_add(parts.first.len())
+        .saturating_add(parts.key.len())
+        .saturating_add(30);
+    let mut all = with_room(alloc, room)?;
     all.append(&bytes[..from])?;
     put_parts(parts, &mut all)?;
     all.append(&bytes[to..])?;
     Ok(all)
-}
-
-// No fewer bytes than an item has, but for its further values.
-fn room_for(parts: Parts<'_>) -> usize {
-    parts
-        .first
-        .len()
-        .saturating_add(parts.key.len())
-        .saturating_add(30)
-}
-
-// The bytes with an item among them, those in front of it where they are.
-fn put_among(alloc: Global, bytes: Vec<u8>, at: usize, parts: Parts<'_>) -> Result<Blob, AllocError>
-    requires { at ≤ length bytes.items }
-    ensures { IfOk result (λ b. b ≡ spliced at at (parts_bytes parts.entry.key.now parts.entry.first.now parts.entry.more parts.entry.further.now) bytes.items) }
-{
-    let behind = Vec::from_slice(alloc, &bytes[at..])?;
-    let mut all = Blob::from_vec(bytes);
-    all.truncate(at);
-    put_parts(parts, &mut all)?;
-    all.append(behind.as_slice())?;
-    Ok(all)
-}
-
-/// The bytes with an item at a place among them. Where there is room for it, those in front of it aren't copied.
-pub(crate) fn put_item(
-    alloc: Global,
-    bytes: Blob,
-    at: usize,
-    parts: Parts<'_>,
-) -> Result<Blob, AllocError>
-    requires { at ≤ length bytes }
-    ensures bytes { IfOk result (λ b. b ≡ spliced at at (parts_bytes parts.entry.key.now parts.entry.first.now parts.entry.more parts.entry.further.now) bytes) }
-    ensures key { SizeFits parts.entry.key.now }
-    ensures first { SizeFits parts.entry.first.now }
-{
-    let bytes = bytes.into_vec();
-    if bytes.capacity() - bytes.len() < room_for(parts) {
-        return with_item(alloc, bytes.as_slice(), at, at, parts);
-    }
-    put_among(alloc, bytes, at, parts)
 }
 
 // Adds the bytes of an item with a value behind its others. An `Err` may have added some.

@@ -5,7 +5,7 @@ ghost use Rattle.bt_page.specs.declared.page.Item.{Item as the_item};
 ghost use Rattle.bt_slots.specs.Changes.{HasItemAt};
 ghost use Rattle.bt_slots.specs.Slots.{HasValuesAt, with_items};
 
-use crate::building::{put_item, with_item, with_value, without};
+use crate::building::{with_item, with_value, without};
 use crate::leaf::SlottedLeaf;
 use crate::parts::{Parts, without_first};
 use crate::shifting::{inserted, removed, shift_behind};
@@ -25,15 +25,14 @@ impl SlottedLeaf {
         ensures { IfOk result (λ l. l ≡ with_items self (take place self.items ++ record { key = key.now; values = value.now ∷ [] } ∷ drop place self.items)) }
     {
         let from = self.start(place);
-        let behind = self.bytes.len() - from;
         let parts = Parts {
             key,
             first: value,
             more: 0,
             further: &key[..0],
         };
-        let bytes = put_item(alloc, self.bytes, from, parts)?;
-        let to = bytes.len() - behind;
+        let bytes = with_item(alloc, self.bytes.as_slice(), from, from, parts)?;
+        let to = bytes.len() - (self.bytes.len() - from);
         let starts = inserted(self.starts, place, from, to)?;
         Ok(SlottedLeaf { bytes, starts })
     }
