@@ -7,6 +7,7 @@ use Rattle.std.specs.List.{All, AllByRecursion, flat_map, remove}
 use Rattle.bt_page.specs.declared.page.Item.{Item}
 use Rattle.bt_page.specs.declared.page.Leaf.{Leaf}
 use Rattle.bt_page.specs.Pages.{two, item_bytes, leaf_bytes, ItemFits, LeafFits}
+use Rattle.bt_page.proofs.Runs.{all_with}
 use Rattle.bt_slots.specs.Changes.{shifted, MayShift, spliced, HasItemAt}
 use Rattle.bt_slots.specs.Reads.{leaf_in}
 use Rattle.bt_slots.specs.Slots.{IsLeafIn, bytes_before, starts_from, with_items}
@@ -148,6 +149,22 @@ module _ (l : Leaf) (place : ℕ) (y : Item) (old starts new : List ℕ) (h : Is
       ∙ ap (λ (n : ℕ). take (place + 1) starts ++ map (shifted n e) (drop (place + 1) starts)) is
       ∙ ap (λ (xs : List ℕ). xs ++ map (shifted (bytes_before l (place + 1)) e) (drop (place + 1) starts)) (put_front l place y old starts h lt)
       ∙ append_assoc (take place starts) (starts_from item_bytes (bytes_before l place) (y ∷ [])) (map (shifted (bytes_before l (place + 1)) e) (drop (place + 1) starts))))
+
+-- ---- an item behind the others
+
+pub last_is_leaf : (l : Leaf) (y : Item) (old starts parts new news : List ℕ) → IsLeafIn old starts l → ItemFits y → new ≡ old ++ parts → parts ≡ flat_map item_bytes (y ∷ []) → news ≡ starts ++ length old ∷ [] → IsLeafIn new news (with_items l (l.items ++ y ∷ []))
+unfolding leaf_bytes starts_from
+last_is_leaf l y old starts parts new news h fits is row begin =
+    let at : ℕ = length (two l.prev l.next) in
+    let long : length old ≡ at + length (flat_map item_bytes l.items) = ap length h.is ∙ length-append (two l.prev l.next) (flat_map item_bytes l.items) in
+    record {
+      fits = record { prev = h.fits.prev; next = h.fits.next; items = all_with ItemFits l.items y h.fits.items fits };
+      is = is
+          ∙ (λ k. h.is k ++ row k)
+          ∙ append_assoc (two l.prev l.next) (flat_map item_bytes l.items) (flat_map item_bytes (y ∷ []))
+          ∙ ap (λ (bs : List ℕ). two l.prev l.next ++ bs) (sym (flat_map-append item_bytes l.items (y ∷ [])));
+      begin = begin ∙ (λ k. h.begin k ++ long k ∷ []) ∙ sym (starts_joined item_bytes at l.items (y ∷ []));
+    }
 
 -- ---- an item more, and one less
 

@@ -1,10 +1,12 @@
 pub mod Changes
 pub mod Leaves
 pub mod NodePlaces
+pub mod NodeChanges
 pub mod Numbers
 pub mod Pieces
 pub mod Places
 pub mod ReadBack
+pub mod Rows
 pub mod Scanned
 pub mod Cuts
 pub mod Starts

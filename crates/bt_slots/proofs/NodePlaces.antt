@@ -35,7 +35,7 @@ module _ (bytes starts : List ℕ) (n : Node) (h : IsNodeIn bytes starts n) wher
   unfolding node_bytes
   heir_at = number_at n.heir bytes (flat_map entry_bytes n.entries) h.fits.heir h.is
 
-  entry_start : (i d : ℕ) → i < length n.entries → slice_index_or starts i d ≡ length (vnum n.heir) + length (flat_map entry_bytes (take i n.entries))
+  pub entry_start : (i d : ℕ) → i < length n.entries → slice_index_or starts i d ≡ length (vnum n.heir) + length (flat_map entry_bytes (take i n.entries))
   entry_start i d lt = ap (λ (xs : List ℕ). slice_index_or xs i d) h.begin ∙ start_is entry_bytes (length (vnum n.heir)) n.entries i d lt
 
   pub entry_within : (i d : ℕ) → i < length n.entries → slice_index_or starts i d ≤ length bytes

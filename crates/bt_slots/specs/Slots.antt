@@ -29,6 +29,10 @@ pub record IsNodeIn (bytes starts : List ℕ) (n : Node) : Type 0 where
   pub is : bytes ≡ node_bytes n
   pub begin : starts ≡ starts_from entry_bytes (length (vnum n.heir)) n.entries
 
+-- where a node's entry at a place begins, or would come
+abbrev pub entries_before : Node → ℕ → ℕ
+entries_before n place = length (vnum n.heir) + length (flat_map entry_bytes (take place n.entries))
+
 -- an item's key, its first value, how many further values it has, and their bytes
 pub record ArePartsOf (i : Item) (key first : List ℕ) (more : ℕ) (further : List ℕ) : Type 0 where
   pub others : List (List ℕ)

@@ -15,6 +15,22 @@ pub(crate) fn with_room(alloc: Global, len: usize) -> Result<Blob, AllocError>
     Ok(Blob::from_vec(Vec::with_capacity(alloc, len)?))
 }
 
+/// Adds the bytes of an item of one value. An `Err` may have added some.
+pub(crate) fn put_item(key: &[u8], value: &[u8], into: &mut Blob) -> Result<(), AllocError>
+    ensures bytes { OnOk result (into.new ≡ into.old ++ parts_bytes key.now value.now 0 []) }
+    ensures key { SizeFits key.now }
+    ensures first { SizeFits value.now }
+{
+    let _sizes = (key.len(), value.len());
+    let parts = Parts {
+        key,
+        first: value,
+        more: 0,
+        further: &key[..0],
+    };
+    put_parts(parts, into)
+}
+
 /// The bytes with an item in the place of those from one place to another.
 pub(crate) fn with_item(
     alloc: Global,

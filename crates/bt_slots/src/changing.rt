@@ -5,7 +5,7 @@ ghost use Rattle.bt_page.specs.declared.page.Item.{Item as the_item};
 ghost use Rattle.bt_slots.specs.Changes.{HasItemAt};
 ghost use Rattle.bt_slots.specs.Slots.{HasValuesAt, with_items};
 
-use crate::building::{with_item, with_value, without};
+use crate::building::{put_item, with_item, with_value, without};
 use crate::leaf::SlottedLeaf;
 use crate::parts::{Parts, without_first};
 use crate::shifting::{inserted, removed, shift_behind};
@@ -13,8 +13,8 @@ use std::alloc::{AllocError, Global};
 use tc_base::Blob;
 
 impl SlottedLeaf {
-    /// The leaf with a key and a value more at a place.
-    pub fn with_item(
+    // The leaf with an item more at a place, as a copy.
+    fn with_item_within(
         self,
         alloc: Global,
         place: usize,
@@ -35,6 +35,37 @@ impl SlottedLeaf {
         let to = bytes.len() - (self.bytes.len() - from);
         let starts = inserted(self.starts, place, from, to)?;
         Ok(SlottedLeaf { bytes, starts })
+    }
+
+    // The leaf with an item more behind the others, which stay where they are.
+    fn with_last(self, key: &[u8], value: &[u8]) -> Result<SlottedLeaf, AllocError>
+        ensures { IfOk result (λ l. l ≡ with_items self (self.items ++ record { key = key.now; values = value.now ∷ [] } ∷ [])) }
+    {
+        let SlottedLeaf {
+            mut bytes,
+            mut starts,
+        } = self;
+        let start = bytes.len();
+        put_item(key, value, &mut bytes)?;
+        starts.push(start)?;
+        Ok(SlottedLeaf { bytes, starts })
+    }
+
+    /// The leaf with a key and a value more at a place.
+    pub fn with_item(
+        self,
+        alloc: Global,
+        place: usize,
+        key: &[u8],
+        value: &[u8],
+    ) -> Result<SlottedLeaf, AllocError>
+        requires { place ≤ length self.items }
+        ensures { IfOk result (λ l. l ≡ with_items self (take place self.items ++ record { key = key.now; values = value.now ∷ [] } ∷ drop place self.items)) }
+    {
+        if place == self.len() {
+            return self.with_last(key, value);
+        }
+        self.with_item_within(alloc, place, key, value)
     }
 
     // The leaf with the bytes of one whose item at a place is another.

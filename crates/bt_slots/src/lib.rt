@@ -1,8 +1,9 @@
-//! Pages of a tree as their bytes, beside the places where their items or entries begin: what is read of a page is read where it lies, and a change of a leaf moves bytes alone.
+//! Pages of a tree as their bytes, beside the places where their items or entries begin: what is read of a page is read where it lies, and a change moves bytes alone.
 #![tactic(auto)]
 
 mod building;
 mod changing;
+mod entries;
 mod fronts;
 mod leaf;
 mod node;

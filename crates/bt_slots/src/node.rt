@@ -17,8 +17,8 @@ use tc_base::Blob;
 /// A node as its bytes, with the places where its entries begin. A contract sees the node.
 #[derive(Drop)]
 pub struct SlottedNode {
-    bytes: Blob,
-    starts: Vec<usize>,
+    pub(crate) bytes: Blob,
+    pub(crate) starts: Vec<usize>,
 }
 
 impl Model for SlottedNode {
@@ -66,6 +66,15 @@ impl SlottedNode {
             Ok(node) => Ok(node),
             Err(_) => Err(AllocError),
         }
+    }
+
+    pub fn copy(&self, alloc: Global) -> Result<SlottedNode, AllocError>
+        ensures { IfOk result (λ n. n ≡ self.now) }
+    {
+        Ok(SlottedNode {
+            bytes: Blob::from_slice(alloc, self.bytes.as_slice())?,
+            starts: Vec::from_slice(alloc, self.starts.as_slice())?,
+        })
     }
 
     /// Its bytes.

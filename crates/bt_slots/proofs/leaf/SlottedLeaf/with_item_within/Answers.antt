@@ -3,7 +3,7 @@ use Rattle.bt_slots.proofs.Changes.{new_item, parts_row}
 use Rattle.bt_slots.proofs.Leaves.{kept_leaf, pieced, starts_within, more_within, more_may, more_is_leaf}
 use Rattle.bt_slots.proofs.ReadBack.{leaf_made}
 use Rattle.bt_slots.proofs.Places.{seen, starts_count}
-use Rattle.bt_slots.proofs.leaf.SlottedLeaf.with_item.Goals as goal
+use Rattle.bt_slots.proofs.leaf.SlottedLeaf.with_item_within.Goals as goal
 
 pub with_item-requires-clause-from : goal.with_item-requires-clause-from
 with_item-requires-clause-from c =
