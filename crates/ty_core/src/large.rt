@@ -85,6 +85,9 @@ impl Large {
         ensures err { OnErr result ((self.new ≡ self.old) × (behind.new.items ≡ behind.old.items)) }
     {
         let left = self.size - self.value.len();
+        if bytes.len() <= left {
+            return self.value.append(bytes);
+        }
         let (own, rest) = bytes.split_at(left.min(bytes.len()));
         let len = behind.len();
         behind.extend_from_slice(rest)?;

@@ -9,6 +9,9 @@ use std::io::Read;
 /// So many bytes are read by one call of the system.
 pub const ROOM: usize = 65_536;
 
+// So many bytes of them are cleared at once.
+const PIECE: usize = 4096;
+
 /// A buffer that is filled by one read and given out in pieces of at most 4,096 bytes. It takes no memory before its first read.
 #[derive(Drop)]
 pub struct Ahead {
@@ -38,8 +41,12 @@ impl Ahead {
 
     /// Takes the memory that a read needs. An `Err` changes nothing.
     pub fn reserve(&mut self) -> Result<(), AllocError> {
-        if self.bytes.len() < ROOM {
-            self.bytes.resize(ROOM, 0)?;
+        if self.bytes.len() >= ROOM {
+            return Ok(());
+        }
+        self.bytes.reserve(ROOM)?;
+        for _ in 0..ROOM / PIECE {
+            self.bytes.extend_from_slice(&[0; PIECE])?;
         }
         Ok(())
     }

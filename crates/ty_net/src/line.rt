@@ -136,15 +136,31 @@ impl Line {
         ensures { MayHear result }
     {
         if self.ahead.is_empty() {
-            if !self.is_streaming || self.ahead.reserve().is_err() {
-                return self.read_once(into);
-            }
-            self.read_ahead();
+            return self.read_more(into);
         }
+        self.give(into)
+    }
+
+    // The next of the bytes that were read ahead.
+    fn give(&mut self, into: &mut [u8; 4096]) -> Heard
+        ensures { MayHear result }
+    {
         match self.ahead.give(into) {
             0 => self.nothing(),
             count => Heard::Bytes(count),
         }
+    }
+
+    // The next bytes where none were read ahead, which is seldom where many follow one another.
+    #[inline(never)]
+    fn read_more(&mut self, into: &mut [u8; 4096]) -> Heard
+        ensures { MayHear result }
+    {
+        if !self.is_streaming || self.ahead.reserve().is_err() {
+            return self.read_once(into);
+        }
+        self.read_ahead();
+        self.give(into)
     }
 
     fn nothing(&self) -> Heard

@@ -59,12 +59,19 @@ impl Roster {
         self.conns.contains(&number)
     }
 
+    // Whether no more input comes of it.
+    fn has_ended(&self, number: u32) -> bool
+        ensures { result ≡ false → has self.now.ended.items number ≡ false }
+    {
+        !self.ended.is_empty() && self.ended.contains(&number)
+    }
+
     /// Whether more may come of it. It is looked for at that place first.
     pub fn hears(&self, at: usize, number: u32) -> bool
         ensures open { result ≡ true → has self.now.conns.items number ≡ true }
         ensures goes_on { result ≡ true → has self.now.ended.items number ≡ false }
     {
-        self.is_open(at, number) && !self.ended.contains(&number)
+        self.is_open(at, number) && !self.has_ended(number)
     }
 
     /// No more input comes of it. An `Err` changes nothing.

@@ -3,14 +3,14 @@ ghost use Rattle.std.specs.Prelude.{◌≡◌, ◌≤◌, ◌<◌, ◌+◌, ◌+
 ghost use Rattle.tc_io.specs.Causes.{HasCause};
 ghost use Rattle.ty_net.specs.Finds.{Given, Took, SameNumbers};
 
-use crate::faults::fault;
+use crate::faults::{Failed, fault};
 use crate::roster::Roster;
 use crate::sockets::{Found, Of, Sockets, address_of};
 use mio::net::TcpStream;
 use std::alloc::Global;
 use std::net::Net;
+use std::rt;
 use std::time::{Duration, Instant};
-use std::{io, rt};
 use tc_base::Fault;
 use tc_io::{At, Dialled, Ev, Sent, Wire};
 
@@ -105,20 +105,23 @@ fn welcome<R: rt::Clock>(
 }
 
 // What is ready of those connections, with no question to the system but the calls themselves.
+#[inline(always)]
 fn hear(
     of: Of,
     sockets: &mut Sockets,
     roster: &mut Roster,
     paused: &[u32],
     into: &mut [u8; 4096],
-) -> io::Result<Option<Ev>>
+) -> Result<Option<Ev>, Failed>
     ensures ok { IfOk result (λ took. Took roster.old.conns.items roster.new.conns.items roster.old.ended.items roster.new.ended.items roster.old.given roster.new.given paused.now took) }
     ensures err { OnErr result (SameNumbers roster.old roster.new) }
 {
     match sockets.hear(of, roster, paused, into) {
         Found::Bytes(number, n) => Ok(Some(Ev::Read(number, n))),
         Found::End(number) => {
-            roster.end(number)?;
+            let Ok(()) = roster.end(number) else {
+                return Err(Failed);
+            };
             Ok(Some(Ev::Ended(number)))
         }
         Found::Nothing => Ok(None),
@@ -126,13 +129,14 @@ fn hear(
 }
 
 // A connection that opens, behind what ended before it came.
+#[inline(never)]
 fn arrive<R: rt::Clock>(
     rt: &R,
     sockets: &mut Sockets,
     roster: &mut Roster,
     paused: &[u32],
     into: &mut [u8; 4096],
-) -> io::Result<Option<Ev>>
+) -> Result<Option<Ev>, Failed>
     ensures ok { IfOk result (λ took. Took roster.old.conns.items roster.new.conns.items roster.old.ended.items roster.new.ended.items roster.old.given roster.new.given paused.now took) }
     ensures err { OnErr result (SameNumbers roster.old roster.new) }
 {
@@ -154,13 +158,14 @@ fn arrive<R: rt::Clock>(
 }
 
 // An event that is ready. Connections are accepted before reads, but not twice in a row.
+#[inline(always)]
 fn take<R: rt::Clock>(
     rt: &R,
     sockets: &mut Sockets,
     roster: &mut Roster,
     paused: &[u32],
     into: &mut [u8; 4096],
-) -> io::Result<Option<Ev>>
+) -> Result<Option<Ev>, Failed>
     ensures ok { IfOk result (λ took. Took roster.old.conns.items roster.new.conns.items roster.old.ended.items roster.new.ended.items roster.old.given roster.new.given paused.now took) }
     ensures err { OnErr result (SameNumbers roster.old roster.new) }
 {
@@ -179,13 +184,14 @@ fn take<R: rt::Clock>(
 
 // An event that is ready, once the system was asked where that is due. Where there is none, what was taken is written, but for connections that are about
 // to get more; else it waits, so that replies are written in a row, whose first alone may have to wake a peer.
+#[inline(always)]
 fn look<R: rt::Clock>(
     rt: &R,
     sockets: &mut Sockets,
     roster: &mut Roster,
     paused: &[u32],
     into: &mut [u8; 4096],
-) -> io::Result<Option<Ev>>
+) -> Result<Option<Ev>, Failed>
     ensures ok { IfOk result (λ took. Took roster.old.conns.items roster.new.conns.items roster.old.ended.items roster.new.ended.items roster.old.given roster.new.given paused.now took) }
     ensures err { OnErr result (SameNumbers roster.old roster.new) }
 {

@@ -1,8 +1,9 @@
 //! The listening socket and those of the connections, over one poll.
-ghost use Rattle.std.specs.Prelude.{◌<◌, length, IfSome};
-ghost use Rattle.tc_io.specs.Lines.{CanTake};
+ghost use Rattle.std.specs.Prelude.{◌≡◌, ◌<◌, false, length, IfSome};
+ghost use Rattle.tc_io.specs.Lines.{CanTake, has};
 ghost use Rattle.ty_net.specs.Finds.{MayFind};
 
+use crate::faults::Failed;
 use crate::leaving::Leaving;
 use crate::line::{Heard, Line};
 use crate::roster::Roster;
@@ -153,9 +154,12 @@ impl Sockets {
     }
 
     /// Asks the system what is ready, and waits so long for it.
-    pub fn ask<R: rt::Clock>(&mut self, rt: &R, wait: Duration) -> io::Result<()> {
+    #[inline(never)]
+    pub fn ask<R: rt::Clock>(&mut self, rt: &R, wait: Duration) -> Result<(), Failed> {
         self.turns = 0;
-        self.poll.poll(&mut self.events, Some(wait))?;
+        let Ok(_) = self.poll.poll(&mut self.events, Some(wait)) else {
+            return Err(Failed);
+        };
         for event in self.events.iter() {
             if event.token().0 == LISTENER {
                 self.may_accept = true;
@@ -373,6 +377,16 @@ impl Sockets {
     }
 }
 
+// Whether that number is among those that wait. They ascend, so one of them is found by halves.
+fn is_paused(paused: &[u32], number: u32) -> bool
+    ensures { result ≡ false → has paused.now number ≡ false }
+{
+    if paused.is_empty() {
+        return false;
+    }
+    paused.binary_search(&number).is_ok() || paused.contains(&number)
+}
+
 // What one line gives, where it may. Its number is likely to stand at that place of the roster.
 fn hear_line(
     line: &mut Line,
@@ -388,11 +402,7 @@ fn hear_line(
         return Found::Nothing;
     }
     let number = line.number();
-    // numbers ascend, so one that waits is found by halves
-    if paused.binary_search(&number).is_ok() {
-        return Found::Nothing;
-    }
-    if !roster.hears(at, number) || paused.contains(&number) {
+    if is_paused(paused, number) || !roster.hears(at, number) {
         return Found::Nothing;
     }
     match line.read(into) {
