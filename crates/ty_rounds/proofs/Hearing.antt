@@ -32,6 +32,10 @@ reads p q bytes k session conn gone ended extra h = record {
   extra = h.extra ∙ sym extra;
 }
 
+-- the same, and then it was noted whether it stirs
+pub reads_settled : (p q : Peer) (session : Queue) (stirs : Bool) (bytes : List ℕ) (k : Client) → session ≡ queue (p.session.unread ++ bytes) p.session.waiting → q ≡ record p { session = session; stirs = stirs } → Holds p k → Holds q (with_read bytes k)
+reads_settled p q session stirs bytes k came is h = subst (λ (z : Peer). Holds z (with_read bytes k)) (sym is) (reads p (record p { session = session; stirs = stirs }) bytes k came refl refl refl refl h)
+
 pub same_long : (ps : List Peer) (ks : List Client) → AllHold ps ks → length ks ≡ length ps
 same_long [] [] a = refl
 same_long [] (k ∷ ks) a = absurd a

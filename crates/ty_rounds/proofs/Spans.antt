@@ -12,7 +12,7 @@ use Rattle.ty_rounds.specs.Peers.{waiting_numbers}
 use Rattle.ty_rounds.specs.Ready.{IsCalm, IsQuiet}
 use Rattle.ty_rounds.specs.Sending.{DeliversFront}
 use Rattle.ty_rounds.specs.Serving.{Halfway}
-use Rattle.ty_rounds.specs.Spans.{Adds, IsSpan}
+use Rattle.ty_rounds.specs.Spans.{Adds, AddsStirring, IsSpan}
 use Rattle.ty_rounds.specs.declared.peer.Peer.{Peer}
 use Rattle.ty_rounds.specs.declared.span.Span.{Span}
 use Rattle.ty_rounds.proofs.ClosingLaws.{FrontClear, clear_more, one_stays}
@@ -85,6 +85,14 @@ set_other (x ∷ ps) zero (suc j) q p away is = is
 set_other (x ∷ ps) (suc i) zero q p away is = is
 set_other (x ∷ ps) (suc i) (suc j) q p away is = set_other ps i j q p (λ e. away (ap suc e)) is
 
+-- at the place itself it is the new one
+set_here : (ps : List Peer) (i j : ℕ) (q p : Peer) → j ≡ i → i < length ps → p ≡ get_or (set ps i q) j p → p ≡ q
+set_here [] i j q p same lt is = absurd (omega (arith, lt))
+set_here (x ∷ ps) zero zero q p same lt is = is
+set_here (x ∷ ps) zero (suc j) q p same lt is = absurd (omega (arith, same))
+set_here (x ∷ ps) (suc i) zero q p same lt is = absurd (omega (arith, same))
+set_here (x ∷ ps) (suc i) (suc j) q p same lt is = set_here ps i j q p (omega (arith, same)) (omega (arith, lt)) is
+
 -- one at a place that was added changed
 pub span_set : (s t : Span) (ps : List Peer) (i : ℕ) (q : Peer) → i < length ps → Adds s t i → IsCalm q → IsSpan s ps → IsSpan t (set ps i q)
 span_set s t ps i q lt a calm h = record {
@@ -97,6 +105,27 @@ span_set s t ps i q lt a calm h = record {
     go : (j : ℕ) (p : Peer) → j < length (set ps i q) → p ≡ get_or (set ps i q) j p → p.stirs ≡ true → (b : Bool) → nat_eq j i ≡ b → (t.from ≤ j) × (j < t.to)
     go j p below is stirs true e = let same = eqb-true j i e in (omega (arith, same, a.there.0), omega (arith, same, a.there.1))
     go j p below is stirs false e = let o = h.all j p (omega (arith, below, set_long ps i q)) (set_other ps i j q p (ne_of j i e) is) stirs in a.keeps j o.0 o.1
+
+-- one that doesn't stir changed
+span_still : (s : Span) (ps : List Peer) (i : ℕ) (q : Peer) → q.stirs ≡ false → i < length ps → IsCalm q → IsSpan s ps → IsSpan s (set ps i q)
+span_still s ps i q still lt calm h = record {
+  ordered = h.ordered;
+  within = omega (arith, h.within, set_long ps i q);
+  calm = each_set IsCalm ps i q calm h.calm;
+  all = λ j p below is stirs. go j p below is stirs (nat_eq j i) refl;
+}
+  where
+    go : (j : ℕ) (p : Peer) → j < length (set ps i q) → p ≡ get_or (set ps i q) j p → p.stirs ≡ true → (b : Bool) → nat_eq j i ≡ b → (s.from ≤ j) × (j < s.to)
+    go j p below is stirs true e = absurd (let f = set_here ps i j q p (eqb-true j i e) lt is in let g = ap (λ (z : Peer). z.stirs) f in cc)
+    go j p below is stirs false e = h.all j p (omega (arith, below, set_long ps i q)) (set_other ps i j q p (ne_of j i e) is) stirs
+
+-- one changed, whose place was added where it stirs
+pub span_settled : (s t : Span) (ps : List Peer) (i : ℕ) (q : Peer) → i < length ps → AddsStirring s t i q.stirs → IsCalm q → IsSpan s ps → IsSpan t (set ps i q)
+span_settled s t ps i q lt a calm h = go q.stirs refl
+  where
+    go : (b : Bool) → q.stirs ≡ b → IsSpan t (set ps i q)
+    go true e = span_set s t ps i q lt (a.more e) calm h
+    go false e = subst (λ (z : Span). IsSpan z (set ps i q)) (sym (a.same e)) (span_still s ps i q e lt calm h)
 
 -- one in the span changed
 pub span_inside : (s : Span) (ps : List Peer) (i : ℕ) (q : Peer) → i < length ps → s.from ≤ i → i < s.to → IsCalm q → IsSpan s ps → IsSpan s (set ps i q)

@@ -1,5 +1,5 @@
 -- Where the connections that stir stand.
-use Rattle.std.specs.Prelude.{◌≡◌, ◌≤◌, ◌<◌, ℕ, true, List, length, get_or, Option}
+use Rattle.std.specs.Prelude.{◌≡◌, ◌≤◌, ◌<◌, ℕ, Bool, false, true, List, length, get_or, Option}
 use Rattle.std.specs.Option.{ForSome}
 use Rattle.ty_rounds.specs.Ready.{Each, IsCalm}
 use Rattle.ty_rounds.specs.declared.peer.Peer.{Peer}
@@ -21,3 +21,8 @@ pub record Adds (s t : Span) (place : ℕ) : Type 0 where
   pub there : (t.from ≤ place) × (place < t.to)
   pub keeps : (i : ℕ) → s.from ≤ i → i < s.to → (t.from ≤ i) × (i < t.to)
   pub within : (n : ℕ) → s.to ≤ n → place < n → t.to ≤ n
+
+-- the same span, or a place more where what stands there stirs
+pub record AddsStirring (s t : Span) (place : ℕ) (stirs : Bool) : Type 0 where
+  pub more : stirs ≡ true → Adds s t place
+  pub same : stirs ≡ false → t ≡ s

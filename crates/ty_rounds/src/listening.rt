@@ -96,8 +96,8 @@ fn take_read(
     let p = &mut peers[i];
     let _front = p.session.look();
     p.session.push(bytes)?;
-    p.stirs = true;
-    span.add(i);
+    p.settle();
+    span.add_stirring(i, p.stirs);
     Ok(())
 }
 

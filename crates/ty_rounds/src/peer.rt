@@ -118,13 +118,28 @@ impl Peer {
         self.is_over()
     }
 
+    // Whether it waits or is over.
+    fn is_busy(&self) -> bool
+        ensures { result ≡ (waits self.now || is_over self.now) }
+    {
+        if self.gone || self.extra {
+            return true;
+        }
+        if !self.all_taken() {
+            return true;
+        }
+        match self.session.look() {
+            Front::Whole(_) => true,
+            Front::Part => self.ended,
+            Front::Bad => true,
+        }
+    }
+
     /// Notes whether a turn that brings it no event has anything to do for it.
     pub fn settle(&mut self)
         ensures { self.new ≡ record self.old { stirs = waits self.old || is_over self.old } }
     {
-        let waits = self.waits();
-        let over = self.is_over();
-        self.stirs = waits | over;
+        self.stirs = self.is_busy();
     }
 }
 

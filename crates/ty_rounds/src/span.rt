@@ -1,7 +1,7 @@
 //! Where the connections stand that a turn has anything to do for.
 ghost use Rattle.std.specs.Prelude.{◌<◌, ◌-◌, ◌^◌};
 ghost use Rattle.ty_rounds.specs.Ready.{Each, IsCalm};
-ghost use Rattle.ty_rounds.specs.Spans.{Adds, IsSpan, MayBeSpan};
+ghost use Rattle.ty_rounds.specs.Spans.{Adds, AddsStirring, IsSpan, MayBeSpan};
 
 use crate::peer::Peer;
 
@@ -38,6 +38,16 @@ impl Span {
         }
     }
 
+    /// One place more where what stands there stirs.
+    pub fn add_stirring(&mut self, place: usize, stirs: bool)
+        requires { place < 2 ^ 64 - 1 }
+        ensures { AddsStirring self.old self.new place stirs }
+    {
+        if stirs {
+            self.add(place);
+        }
+    }
+
     // Without the first places, where nothing stirs at them.
     fn without_front(self, peers: &[Peer]) -> Span
         requires { IsSpan self peers.now }
@@ -63,11 +73,14 @@ impl Span {
     }
 
     /// No more places than it takes for those that stir.
-    pub fn narrowed(self, peers: &[Peer]) -> Span
-        requires { IsSpan self peers.now }
-        ensures { IsSpan result peers.now }
+    pub fn narrow(&mut self, peers: &[Peer])
+        requires { IsSpan self.old peers.now }
+        ensures { IsSpan self.new peers.now }
     {
-        self.without_front(peers).without_back(peers)
+        if self.from >= self.to {
+            return;
+        }
+        *self = self.without_front(peers).without_back(peers);
     }
 }
 

@@ -101,7 +101,7 @@ fn finish<W: Wire>(wire: &mut W, peers: &mut Vec<Peer>, span: &mut Span) -> Resu
         Ok(()) => {}
         Err(_) => return Err(TurnErr::Wire),
     }
-    *span = span.narrowed(peers);
+    span.narrow(peers);
     Ok(())
 }
 
