@@ -1,4 +1,4 @@
-//! Searches in one page, by halves.
+//! Searches in one page.
 ghost use Rattle.std.specs.Prelude.{◌≡◌, ◌<◌, ◌≤◌, true, false, length};
 ghost use Rattle.std.specs.List.Sorted.{IsPartitionedBy, IsPartitionPoint};
 ghost use Rattle.bt_rows.specs.Between.{KeysAscend};
@@ -52,8 +52,8 @@ impl<'a, O: Order> Divider for UpTo<'a, O> {
     }
 }
 
-/// How many items are in front, where those come first.
-pub(crate) fn items_in_front<D: Divider>(leaf: &SlottedLeaf, divider: &D) -> usize
+// How many items are in front, where those come first, by halves.
+fn items_by_halves<D: Divider>(leaf: &SlottedLeaf, divider: &D) -> usize
     ensures within { result ≤ length leaf.now.items }
     ensures parted { IsPartitionedBy (λ x. D.in_front divider.now x.key) leaf.now.items → IsPartitionPoint (λ x. D.in_front divider.now x.key ≡ true) (λ x. D.in_front divider.now x.key ≡ false) leaf.now.items result }
 {
@@ -70,8 +70,21 @@ pub(crate) fn items_in_front<D: Divider>(leaf: &SlottedLeaf, divider: &D) -> usi
     low
 }
 
-/// How many entries are in front, where those come first.
-pub(crate) fn entries_in_front<D: Divider>(node: &SlottedNode, divider: &D) -> usize
+/// How many items are in front, where those come first.
+pub(crate) fn items_in_front<D: Divider>(leaf: &SlottedLeaf, divider: &D) -> usize
+    ensures within { result ≤ length leaf.now.items }
+    ensures parted { IsPartitionedBy (λ x. D.in_front divider.now x.key) leaf.now.items → IsPartitionPoint (λ x. D.in_front divider.now x.key ≡ true) (λ x. D.in_front divider.now x.key ≡ false) leaf.now.items result }
+{
+    let len = leaf.len();
+    // keys that come in ascending order belong behind the last one
+    if len > 0 && divider.is_front(leaf.key(len - 1)) {
+        return len;
+    }
+    items_by_halves(leaf, divider)
+}
+
+// How many entries are in front, where those come first, by halves.
+fn entries_by_halves<D: Divider>(node: &SlottedNode, divider: &D) -> usize
     ensures within { result ≤ length node.now.entries }
     ensures parted { IsPartitionedBy (λ x. D.in_front divider.now x.key) node.now.entries → IsPartitionPoint (λ x. D.in_front divider.now x.key ≡ true) (λ x. D.in_front divider.now x.key ≡ false) node.now.entries result }
 {
@@ -86,6 +99,19 @@ pub(crate) fn entries_in_front<D: Divider>(node: &SlottedNode, divider: &D) -> u
         }
     }
     low
+}
+
+/// How many entries are in front, where those come first.
+pub(crate) fn entries_in_front<D: Divider>(node: &SlottedNode, divider: &D) -> usize
+    ensures within { result ≤ length node.now.entries }
+    ensures parted { IsPartitionedBy (λ x. D.in_front divider.now x.key) node.now.entries → IsPartitionPoint (λ x. D.in_front divider.now x.key ≡ true) (λ x. D.in_front divider.now x.key ≡ false) node.now.entries result }
+{
+    let len = node.len();
+    // keys that come in ascending order belong behind the last one
+    if len > 0 && divider.is_front(node.key(len - 1)) {
+        return len;
+    }
+    entries_by_halves(node, divider)
 }
 
 /// How many entries are not above a key, where they ascend.

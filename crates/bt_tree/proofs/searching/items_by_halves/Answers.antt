@@ -1,7 +1,7 @@
 use Rattle.std.proofs.Common.{arith, rules}
 use Rattle.bt_page.specs.declared.page.Item.{Item}
 use Rattle.bt_tree.proofs.Dividers.{halves_up, halves_down}
-use Rattle.bt_tree.proofs.searching.items_in_front.Goals as goal
+use Rattle.bt_tree.proofs.searching.items_by_halves.Goals as goal
 
 pub loop-low-preserved-then-is_front : goal.loop-low-preserved-then-is_front
 loop-low-preserved-then-is_front g c =
