@@ -1,7 +1,8 @@
 -- Entries put into the nodes above a place, page by page.
-use Rattle.std.proofs.Common.{◌≡◌, ℕ, suc, ◌+◌, ◌<◌, ◌≤◌, ◌/◌, List, [], ◌∷◌, ◌++◌, Option, Some, None, length, take, drop, refl, sym, ap, ◌∙◌, subst, arith, append_assoc, length-append, ◌⊎◌, inl, inr, ⊎_elim}
-use Rattle.std.proofs.lemmas.List.{take-append-drop}
-use Rattle.std.specs.List.{AllByRecursion}
+use Rattle.std.proofs.Common.{◌≡◌, ℕ, suc, ◌+◌, ◌-◌, ◌<◌, ◌≤◌, ◌/◌, List, [], ◌∷◌, ◌++◌, Option, Some, None, length, take, drop, refl, sym, ap, ◌∙◌, subst, arith, append_assoc, length-append, ◌⊎◌, inl, inr, ⊎_elim}
+use Rattle.std.proofs.lemmas.List.{take-append-drop, take_all, drop_more, length-drop}
+use Rattle.std.specs.Prelude.{slice_get}
+use Rattle.std.specs.List.{AllByRecursion, slice_index_or}
 use Rattle.tc_base.specs.Maps.{Map}
 use Rattle.tc_space.specs.Frames.{Keeps, Writes, keeps_refl, keeps_then, others_then}
 use Rattle.tc_space.specs.Stores.{IsReady, Only}
@@ -21,11 +22,29 @@ use Rattle.bt_ways.specs.Writes.{put_at}
 use Rattle.bt_ways.proofs.Climbing.{node_parts, node_takes, root_grows}
 use Rattle.bt_ways.proofs.Keys.{all_map, all_part}
 use Rattle.bt_ways.proofs.HeldWays.{WayAbove, way_node, way_parted}
+use Rattle.bt_ways.proofs.Spots.{got_at}
 use Rattle.bt_tree.specs.declared.tree.Tree.{Tree}
 use Rattle.bt_tree.specs.Climbing.{CanClimb, Climbs, Divided, Grows, IsAmong, IsKnownNode, IsNodeOf, ShowsWay, StoodIn, entry_key}
 use Rattle.bt_tree.specs.Meaning.{file_in}
 use Rattle.bt_tree.specs.Paging.{HasNodeAt, IsNodeId, LacksPage, Shows, StaysStill, Turns}
 use Rattle.bt_tree.proofs.Pagings.{Gives, lacks_after, looked_shows, more_shows, node_fresh, node_given, others_at, put_all, some_node}
+
+-- a list is what is in front of a place, the one there and what is behind it
+pub cut_around : (xs front back : List Entry) (i n child : ℕ) (key : List ℕ) → i < length xs → n ≡ length xs → ((e : Entry) → slice_get xs i ≡ Some e → child ≡ e.child) → ((e : Entry) → slice_get xs i ≡ Some e → key ≡ e.key)
+    → front ≡ take (i - 0) (drop 0 xs) → back ≡ take (n - (i + 1)) (drop (i + 1) xs) → xs ≡ front ++ record { child = child; key = key } ∷ back
+cut_around xs front back i n child key lt en ec ek ef eb =
+    let e : Entry = record { child = child; key = key } in
+    let at = got_at xs i e lt in
+    let same : e ≡ slice_index_or xs i e = λ k. record { child = ec (slice_index_or xs i e) at k; key = ek (slice_index_or xs i e) at k } in
+    let behind : drop i xs ≡ e ∷ drop (i + 1) xs = drop_more xs i e lt ∙ ap (λ (z : Entry). z ∷ drop (i + 1) xs) (sym same) in
+    let whole : i - 0 ≡ i = omega arith in
+    let before : front ≡ take i xs = ef ∙ ap (λ (m : ℕ). take m xs) whole in
+    let rest : back ≡ drop (i + 1) xs = eb ∙ take_all (n - (i + 1)) (drop (i + 1) xs) (omega (arith, en, length-drop (i + 1) xs)) in
+    sym (take-append-drop i xs) ∙ (λ k. sym before k ++ behind k) ∙ ap (λ (l : List Entry). front ++ e ∷ l) (sym rest)
+
+-- a node that took the entries of an equal list
+pub took_same : (n m : Node) (place : ℕ) (xs ys : List Entry) → m ≡ record { heir = n.heir; entries = spliced n.entries place xs } → xs ≡ ys → m ≡ record { heir = n.heir; entries = spliced n.entries place ys }
+took_same n m place xs ys is same = is ∙ ap (λ (zs : List Entry). record { heir = n.heir; entries = spliced n.entries place zs }) same
 
 -- one id of a node more
 pub gives_node : (h : TreeHead) → h.node_ids + 1 < node_offset → Gives h (record h { node_ids = h.node_ids + 1 })

@@ -10,36 +10,51 @@ ghost use Rattle.bt_tree.specs.Paging.{IsNodeId, IsUsedUp, LacksPage, Shows, Tur
 
 use crate::tree::Tree;
 use bt_page::{Entry, Node};
+use bt_slots::SlottedNode;
 use std::alloc::{AllocError, Global};
-use tc_base::{Order, Seq, Steps};
+use tc_base::{Blob, Order, Seq, Steps};
 use tc_space::{RecErr, Records};
 
 // Puts entries in behind so many.
-fn splice(entries: Seq<Entry>, place: usize, added: Seq<Entry>) -> Result<Seq<Entry>, AllocError>
-    requires { place ≤ length entries }
-    ensures { IfOk result (λ all. all ≡ spliced entries place added) }
+fn splice(
+    alloc: Global,
+    node: SlottedNode,
+    place: usize,
+    added: &[Entry],
+) -> Result<SlottedNode, AllocError>
+    requires { place ≤ length node.entries }
+    ensures { IfOk result (λ n. n ≡ record { heir = node.heir; entries = spliced node.entries place added.now }) }
 {
-    let mut all = entries.into_vec();
-    let mut back = all.split_off(place)?;
-    let mut added = added.into_vec();
-    all.append(&mut added)?;
-    all.append(&mut back)?;
-    Ok(Seq::from_vec(all))
+    // the last one first, so that each comes to the same place
+    let mut all = node;
+    let mut left = added.len();
+    while left > 0 {
+        left -= 1;
+        let entry = &added[left];
+        all = all.with_entry(alloc, place, entry.child, entry.key.as_slice())?;
+    }
+    Ok(all)
 }
 
-// The entries in front of the middle one, that one, and those behind it.
-fn halves(entries: Seq<Entry>) -> Result<(Seq<Entry>, Entry, Seq<Entry>), AllocError>
-    ensures cut { IfOk result (λ h. entries ≡ h.0 ++ h.1 ∷ h.2) }
-    ensures half { IfOk result (λ h. length h.0 ≡ length entries / 2) }
+// A node of the entries in front of the middle one, that one, and a node of those behind it under its page.
+fn halves(
+    alloc: Global,
+    node: &SlottedNode,
+) -> Result<(SlottedNode, Entry, SlottedNode), AllocError>
+    ensures cut { IfOk result (λ h. node.now.entries ≡ h.0.entries ++ h.1 ∷ h.2.entries) }
+    ensures half { IfOk result (λ h. length h.0.entries ≡ length node.now.entries / 2) }
+    ensures heir { IfOk result (λ h. h.0.heir ≡ node.now.heir) }
+    ensures child { IfOk result (λ h. h.2.heir ≡ h.1.child) }
 {
-    let mut front = entries.into_vec();
-    let at = front.len() / 2;
-    let mut back = front.split_off(at)?;
-    if back.is_empty() {
+    let at = node.len() / 2;
+    if at == node.len() {
         return Err(AllocError);
     }
-    let up = back.remove(0);
-    Ok((Seq::from_vec(front), up, Seq::from_vec(back)))
+    let child = node.child(at);
+    let key = Blob::from_slice(alloc, node.key(at))?;
+    let front = node.section(alloc, 0, at, node.heir())?;
+    let back = node.section(alloc, at + 1, node.len(), child)?;
+    Ok((front, Entry { child, key }, back))
 }
 
 // The one entry of a page.
@@ -54,7 +69,7 @@ fn lone(alloc: Global, child: u64, entry: Entry) -> Result<Seq<Entry>, AllocErro
 
 impl<R: Records, O: Order> Tree<R, O> {
     // Writes a node as two, and gives the entry of the second.
-    fn divide(&mut self, space: &mut R::S, id: u64, node: Node) -> Result<Seq<Entry>, RecErr>
+    fn divide(&mut self, space: &mut R::S, id: u64, node: SlottedNode) -> Result<Seq<Entry>, RecErr>
         requires ready { IsReady R.S.Space (Shows R.S.Space R.file_of R.holds) self.old space.old }
         requires id { R.S.tells → IsNodeId self.old.head id }
         ensures divided { IfOk result (λ above. Turns R.S.Space (Only (file_in R.file_of self.old)) (Shows R.S.Space R.file_of R.holds) (Shows R.S.Space R.file_of R.holds) (Divided id node above) self.old self.new space.old space.new) }
@@ -68,19 +83,11 @@ impl<R: Records, O: Order> Tree<R, O> {
             Ok(id) => id,
             Err(e) => return Err(e),
         };
-        let (front, up, back) = halves(node.entries)?;
-        let upper = Node {
-            heir: up.child,
-            entries: back,
-        };
+        let (lower, up, upper) = halves(self.alloc, &node)?;
         let above = lone(self.alloc, second, up)?;
         if let Err(e) = self.put_node(space, second, upper) {
             return Err(e);
         }
-        let lower = Node {
-            heir: node.heir,
-            entries: front,
-        };
         match self.put_node(space, id, lower) {
             Ok(()) => Ok(above),
             Err(e) => Err(e),
@@ -106,6 +113,7 @@ impl<R: Records, O: Order> Tree<R, O> {
             heir: self.head.root,
             entries: added,
         };
+        let node = SlottedNode::of(self.alloc, &node)?;
         match self.put_node(space, id, node) {
             Ok(()) => {
                 self.head.root = id;
@@ -139,14 +147,11 @@ impl<R: Records, O: Order> Tree<R, O> {
             Ok(node) => node,
             Err(e) => return Err(e),
         };
-        if place > node.entries.len() {
+        if place > node.len() {
             return Err(RecErr::Memory);
         }
-        let node = Node {
-            heir: node.heir,
-            entries: splice(node.entries, place, added)?,
-        };
-        if node.entries.len() <= self.head.node_limit as usize {
+        let node = splice(self.alloc, node, place, added.as_slice())?;
+        if node.len() <= self.head.node_limit as usize {
             return self.put_node(space, id, node);
         }
         let above = match self.divide(space, id, node) {

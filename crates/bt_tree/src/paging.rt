@@ -15,7 +15,6 @@ ghost use Rattle.bt_tree.specs.Meaning.{file_in};
 ghost use Rattle.bt_tree.specs.Paging.{HasLeafAt, HasNodeAt, IsLeafId, IsNodeId, IsUsedUp, LacksPage, Shows, StaysStill};
 
 use crate::tree::Tree;
-use bt_page::Node;
 use bt_slots::{SlottedLeaf, SlottedNode};
 use std::rc::Rc;
 use tc_base::{Order, PAGE_END, Steps};
@@ -47,13 +46,13 @@ impl<R: Records, O: Order> Tree<R, O> {
         }
     }
 
-    /// The node of an id by its entries.
+    /// The node of an id by value, as `own_leaf` gives a leaf.
     pub(crate) fn own_node<L>(
         &mut self,
         space: &mut R::S,
         id: u64,
         steps: &mut Steps<L>,
-    ) -> Result<Node, RecErr>
+    ) -> Result<SlottedNode, RecErr>
         requires ready { IsReady R.S.Space (Shows R.S.Space R.file_of R.holds) self.old space.old }
         requires there { HasNodeAt R.S.Space R.file_of R.holds id self.old space.old }
         ensures node { IfOk result (λ read. (pages : PageMap) (n : the_node) → Shows R.S.Space R.file_of R.holds self.old space.old pages → pages id ≡ Some (node_page n) → read ≡ n) }
@@ -61,9 +60,14 @@ impl<R: Records, O: Order> Tree<R, O> {
         ensures still { StaysStill R.S.Space R.file_of R.region self.old self.new space.old space.new }
         ensures cause { (IsErrOf result RecErr.Fault → Rose (R.S.faults space.old) (R.S.faults space.new)) × (IsErrOf result RecErr.Full → ⊥) }
     {
-        match self.cache.node(&mut self.store, space, id, steps) {
-            Ok(node) => Ok(node.to_node(self.alloc)?),
-            Err(e) => Err(e),
+        let node = match self.cache.node(&mut self.store, space, id, steps) {
+            Ok(node) => node,
+            Err(e) => return Err(e),
+        };
+        self.cache.forget(id);
+        match Rc::try_unwrap(node) {
+            Ok(node) => Ok(node),
+            Err(shared) => Ok(shared.copy(self.alloc)?),
         }
     }
 
@@ -94,8 +98,13 @@ impl<R: Records, O: Order> Tree<R, O> {
         }
     }
 
-    /// Writes a node under an id that was given, as `put_leaf` writes a leaf.
-    pub(crate) fn put_node(&mut self, space: &mut R::S, id: u64, node: Node) -> Result<(), RecErr>
+    /// Writes a node, as its bytes, under an id that was given, as `put_leaf` writes a leaf.
+    pub(crate) fn put_node(
+        &mut self,
+        space: &mut R::S,
+        id: u64,
+        node: SlottedNode,
+    ) -> Result<(), RecErr>
         requires ready { IsReady R.S.Space (Shows R.S.Space R.file_of R.holds) self.old space.old }
         requires id { R.S.tells → IsNodeId self.old.head id }
         ensures put { OnOk result (Writes R.S.Space (Only (file_in R.file_of self.old)) (Shows R.S.Space R.file_of R.holds) (put_at id (node_page node)) self.old self.new space.old space.new) }
@@ -108,7 +117,6 @@ impl<R: Records, O: Order> Tree<R, O> {
         if id < PAGE_END {
             return Err(RecErr::Memory);
         }
-        let node = SlottedNode::of(self.alloc, &node)?;
         // its bytes tell that the page has a spelling
         let _bytes = node.as_slice();
         match self.cache.put_node(&mut self.store, space, id, node) {

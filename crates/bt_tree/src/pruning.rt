@@ -68,16 +68,18 @@ impl<R: Records, O: Order> Tree<R, O> {
             Ok(node) => node,
             Err(e) => return Err(e),
         };
-        if node.entries.len() == 0 {
+        if node.len() == 0 {
             if let Err(e) = self.drop_page(space, id) {
                 return Err(e);
             }
             return self.prune(space, steps);
         }
-        if place > node.entries.len() {
+        if place > node.len() {
             return Err(RecErr::Memory);
         }
-        self.put_node(space, id, without_child(node, place))
+        let node = without_child(node.to_node(self.alloc)?, place);
+        let node = SlottedNode::of(self.alloc, &node)?;
+        self.put_node(space, id, node)
     }
 
     // The heir of the node of an id, where no other page is below it.

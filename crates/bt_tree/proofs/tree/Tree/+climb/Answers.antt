@@ -1,9 +1,10 @@
 use Rattle.std.proofs.Common.{rules, ◌≡◌, ◌-◌, ◌<◌, ◌≤◌, ◌^◌, ◌∙◌, length, refl, sym, ap, inl, inr, ⊎_elim, arith}
 use Rattle.std.proofs.lemmas.Result.{on_ok_weaker}
 use Rattle.tc_space.specs.Stores.{IsReady}
+use Rattle.bt_page.specs.declared.page.Node.{Node}
 use Rattle.bt_rows.specs.declared.head.TreeHead.{TreeHead}
 use Rattle.bt_tree.specs.Climbing.{ShowsWay}
-use Rattle.bt_tree.proofs.Climbings.{climbed_on, climbs_end, end_ready, lacks_above, lacks_end, lacks_half, lacks_whole, node_at, on_ready, read_ready, step_given, took, way_ready}
+use Rattle.bt_tree.proofs.Climbings.{climbed_on, climbs_end, end_ready, lacks_above, lacks_end, lacks_half, lacks_whole, node_at, on_ready, read_ready, step_given, took, took_same, way_ready}
 use Rattle.bt_tree.proofs.Descents.{err_on}
 use Rattle.bt_tree.proofs.tree.Tree.+climb.Goals as goal
 
@@ -40,15 +41,15 @@ returns-then-len-self-clause-climbed g t c =
     on_ok_weaker c.put_node.result
     (λ f. took g.R.S.Space g.R.Records.file_of g.R.Records.holds g.R.Records.region c.args.self.now _ c.own_node.new.self c.args.space.now c.own_node.new.space c.in-Some.id c.in-Some.place refl refl refl refl refl c.in-Some.ensures
     c.own_node.ensures.looks c.own_node.ensures.still c.in-Ok.node c.in-Ok.ensures.node c.args.added c.requires.few c.put_node.new.self c.put_node.new.space
-    (omega (arith, c.if-len-self.true, c.len.ensures, ap length c.in_ok-splice.ensures, limit)) f c.put_node.ensures.still.height c.put_node.ensures.still.head)
-    (rw c.in_ok-splice.ensures at c.put_node.ensures.put)
+    (omega (arith, c.if-len-self.true, c.len.ensures, ap (λ (n : Node). length n.entries) (took_same c.in-Ok.node c.in_ok-node.node c.in-Some.place c.as_slice.result.now c.args.added c.in_ok-node.ensures c.as_slice.ensures), limit)) f c.put_node.ensures.still.height c.put_node.ensures.still.head)
+    (rw (took_same c.in-Ok.node c.in_ok-node.node c.in-Some.place c.as_slice.result.now c.args.added c.in_ok-node.ensures c.as_slice.ensures) at c.put_node.ensures.put)
 
 pub returns-then-len-self-clause-full : goal.returns-then-len-self-clause-full
 returns-then-len-self-clause-full g t c = λ is.
     let limit : c.own_node.new.self.head.node_limit ≡ c.args.self.now.head.node_limit = ap (λ (x : TreeHead). x.node_limit) c.own_node.ensures.still.head in
     inr (lacks_whole g.R.S.Space g.R.Records.file_of g.R.Records.holds g.R.Records.region c.args.self.now _ c.own_node.new.self c.args.space.now c.own_node.new.space c.in-Some.id c.in-Some.place refl refl refl refl refl c.in-Some.ensures
     c.own_node.ensures.looks c.own_node.ensures.still c.in-Ok.node c.in-Ok.ensures.node c.args.added c.requires.few g.R.Records.fills c.put_node.new.space
-    (omega (arith, c.if-len-self.true, c.len.ensures, ap length c.in_ok-splice.ensures, limit)) ((rw c.in_ok-splice.ensures at c.put_node.ensures.full) is))
+    (omega (arith, c.if-len-self.true, c.len.ensures, ap (λ (n : Node). length n.entries) (took_same c.in-Ok.node c.in_ok-node.node c.in-Some.place c.as_slice.result.now c.args.added c.in_ok-node.ensures c.as_slice.ensures), limit)) ((rw (took_same c.in-Ok.node c.in_ok-node.node c.in-Some.place c.as_slice.result.now c.args.added c.in_ok-node.ensures c.as_slice.ensures) at c.put_node.ensures.full) is))
 
 pub divide-requires-clause-ready : goal.divide-requires-clause-ready
 divide-requires-clause-ready g t c =
@@ -65,13 +66,13 @@ returns-in-Err-divide-clause-full g t c = λ is.
     ⊎_elim (λ used. inl used)
     (λ lacks. inr (lacks_half g.R.S.Space g.R.Records.file_of g.R.Records.holds g.R.Records.region c.args.self.now _ c.own_node.new.self c.args.space.now c.own_node.new.space c.in-Some.id c.in-Some.place refl refl refl refl refl c.in-Some.ensures
     c.own_node.ensures.looks c.own_node.ensures.still c.in-Ok.node c.in-Ok.ensures.node c.args.added c.requires.few g.R.Records.fills c.divide.new.space lacks))
-    ((rw c.in_ok-splice.ensures at c.in-Err-divide.ensures.full) (err_on _ _ is))
+    ((rw (took_same c.in-Ok.node c.in_ok-node.node c.in-Some.place c.as_slice.result.now c.args.added c.in_ok-node.ensures c.as_slice.ensures) at c.in-Err-divide.ensures.full) (err_on _ _ is))
 
 pub climb-requires : goal.climb-requires
 climb-requires g t c κs within =
     let ready : IsReady g.R.S.Space (ShowsWay g.R.S.Space g.R.Records.file_of g.R.Records.holds) c.divide.new.self c.divide.new.space =
     on_ready g.R.S.Space g.R.Records.file_of g.R.Records.holds g.R.Records.region c.args.self.now _ c.own_node.new.self c.args.space.now c.own_node.new.space c.in-Some.id c.in-Some.place refl refl refl refl refl c.in-Some.ensures
-    c.own_node.ensures.looks c.own_node.ensures.still c.in-Ok.node c.in-Ok.ensures.node c.args.added c.requires.few c.divide.new.self c.divide.new.space c.in-Ok-divide.above (rw c.in_ok-splice.ensures at c.in-Ok-divide.ensures.divided)
+    c.own_node.ensures.looks c.own_node.ensures.still c.in-Ok.node c.in-Ok.ensures.node c.args.added c.requires.few c.divide.new.self c.divide.new.space c.in-Ok-divide.above (rw (took_same c.in-Ok.node c.in_ok-node.node c.in-Some.place c.as_slice.result.now c.args.added c.in_ok-node.ensures c.as_slice.ensures) at c.in-Ok-divide.ensures.divided)
     c.divide.ensures.grows c.divide.ensures.way c.requires.ready in
     let few : length c.in-Ok-divide.above ≤ 2 = omega (arith, c.in-Ok-divide.ensures.one) in
     let rows : c.divide.new.self.height < 2 ^ 64 - 1 = omega (arith, c.divide.ensures.grows.rows_most, c.own_node.ensures.still.height, c.requires.rows) in
@@ -82,7 +83,7 @@ pub returns-clause-climbed : goal.returns-clause-climbed
 returns-clause-climbed g t c =
     on_ok_weaker c.climb.result
     (λ f. climbed_on g.R.S.Space g.R.Records.file_of g.R.Records.holds g.R.Records.region c.args.self.now _ c.own_node.new.self c.args.space.now c.own_node.new.space c.in-Some.id c.in-Some.place refl refl refl refl refl c.in-Some.ensures
-    c.own_node.ensures.looks c.own_node.ensures.still c.in-Ok.node c.in-Ok.ensures.node c.args.added c.requires.few c.divide.new.self c.divide.new.space c.in-Ok-divide.above (rw c.in_ok-splice.ensures at c.in-Ok-divide.ensures.divided)
+    c.own_node.ensures.looks c.own_node.ensures.still c.in-Ok.node c.in-Ok.ensures.node c.args.added c.requires.few c.divide.new.self c.divide.new.space c.in-Ok-divide.above (rw (took_same c.in-Ok.node c.in_ok-node.node c.in-Some.place c.as_slice.result.now c.args.added c.in_ok-node.ensures c.as_slice.ensures) at c.in-Ok-divide.ensures.divided)
     c.divide.ensures.grows c.divide.ensures.way c.climb.new.self c.climb.new.space f)
     c.climb.ensures.climbed
 
@@ -90,6 +91,6 @@ pub returns-clause-full : goal.returns-clause-full
 returns-clause-full g t c = λ is.
     ⊎_elim (λ used. inl used)
     (λ lacks. inr (lacks_above g.R.S.Space g.R.Records.file_of g.R.Records.holds g.R.Records.region c.args.self.now _ c.own_node.new.self c.args.space.now c.own_node.new.space c.in-Some.id c.in-Some.place refl refl refl refl refl c.in-Some.ensures
-    c.own_node.ensures.looks c.own_node.ensures.still c.in-Ok.node c.in-Ok.ensures.node c.args.added c.requires.few c.divide.new.self c.divide.new.space c.in-Ok-divide.above (rw c.in_ok-splice.ensures at c.in-Ok-divide.ensures.divided)
+    c.own_node.ensures.looks c.own_node.ensures.still c.in-Ok.node c.in-Ok.ensures.node c.args.added c.requires.few c.divide.new.self c.divide.new.space c.in-Ok-divide.above (rw (took_same c.in-Ok.node c.in_ok-node.node c.in-Some.place c.as_slice.result.now c.args.added c.in_ok-node.ensures c.as_slice.ensures) at c.in-Ok-divide.ensures.divided)
     c.divide.ensures.grows c.divide.ensures.way g.R.Records.fills c.climb.new.space lacks))
     (c.climb.ensures.full is)

@@ -1,7 +1,9 @@
-use Rattle.std.proofs.Common.{rules, refl, sym, ◌∙◌, arith}
+use Rattle.std.proofs.Common.{rules, refl, sym, ap, ◌∙◌, arith}
 use Rattle.std.proofs.lemmas.Result.{on_ok_weaker}
 use Rattle.tc_space.specs.Frames.{keeps_then}
 use Rattle.tc_space.specs.Stores.{IsReady}
+use Rattle.bt_page.specs.declared.page.Node.{Node}
+use Rattle.bt_ways.specs.Removals.{without_place}
 use Rattle.bt_tree.specs.Climbing.{ShowsWay}
 use Rattle.bt_tree.proofs.Descents.{err_on}
 use Rattle.bt_tree.proofs.Prunings.{above_ready, drop_full, gone_full, lost_full, lowest_given, lowest_id, lowest_there, read_ready, some_long, way_end, way_gone, way_lost, way_ready}
@@ -66,14 +68,16 @@ put_node-requires-clause-id g t c =
 
 pub returns-clause-cut : goal.returns-clause-cut
 returns-clause-cut g t c =
+    let whole = c.in_ok-node.ensures ∙ c.without_child-node.ensures ∙ ap (λ (n : Node). without_place c.in-Some.place n) c.in_ok-to_node.ensures in
     on_ok_weaker c.put_node.result
     (λ put. way_lost g.R.S.Space g.R.Records.file_of g.R.Records.holds c.args.self.now _ c.own_node.new.self c.args.space.now c.own_node.new.space c.in-Some.id c.in-Some.place _ c.in-Some.ensures refl refl refl refl
     c.own_node.ensures.looks c.own_node.ensures.still.file c.own_node.ensures.still.head c.own_node.ensures.still.index c.in-Ok.node c.in-Ok.ensures.node
     (some_long c.in-Ok.node.entries c.len.result c.len.ensures c.if-len-eq0.false) (omega (arith, c.if-place-len.false, c.len-2.ensures)) c.put_node.new.self c.put_node.new.space put)
-    (rw c.without_child.ensures at c.put_node.ensures.put)
+    (rw whole at c.put_node.ensures.put)
 
 pub returns-clause-full : goal.returns-clause-full
 returns-clause-full g t c = λ is.
+    let whole = c.in_ok-node.ensures ∙ c.without_child-node.ensures ∙ ap (λ (n : Node). without_place c.in-Some.place n) c.in_ok-to_node.ensures in
     lost_full g.R.S.Space g.R.Records.file_of g.R.Records.holds c.args.self.now _ c.own_node.new.self c.args.space.now c.own_node.new.space c.in-Some.id c.in-Some.place _ c.in-Some.ensures refl refl refl refl
     c.own_node.ensures.looks c.own_node.ensures.still.file c.own_node.ensures.still.head c.own_node.ensures.still.index c.in-Ok.node c.in-Ok.ensures.node
-    (some_long c.in-Ok.node.entries c.len.result c.len.ensures c.if-len-eq0.false) (omega (arith, c.if-place-len.false, c.len-2.ensures)) g.R.Records.fills c.put_node.new.space (rw c.without_child.ensures at (c.put_node.ensures.full is))
+    (some_long c.in-Ok.node.entries c.len.result c.len.ensures c.if-len-eq0.false) (omega (arith, c.if-place-len.false, c.len-2.ensures)) g.R.Records.fills c.put_node.new.space (rw whole at (c.put_node.ensures.full is))

@@ -1,4 +1,4 @@
-use Rattle.std.proofs.Common.{inr}
+use Rattle.std.proofs.Common.{◌≡◌, inr}
 use Rattle.tc_space.specs.Stores.{ready_writes}
 use Rattle.bt_tree.proofs.Climbings.{divided, gives_node, lacks_lower, lacks_upper}
 use Rattle.bt_tree.proofs.Descents.{err_on}
@@ -10,8 +10,8 @@ put_node-requires-clause-ready g c = noted_ready g.R.S.Space g.R.Records.file_of
 
 pub returns-in-Err-put_node-clause-full : goal.returns-in-Err-put_node-clause-full
 returns-in-Err-put_node-clause-full g c = λ is.
-    inr (lacks_upper g.R.S.Space g.R.Records.file_of g.R.Records.holds g.R.Records.fills c.args.self.now c.node_id.new.self c.args.space.now c.put_node.new.space c.args.node.entries c.in_ok-front.front c.in_ok-front.back c.in_ok-front.up
-    c.in-Ok.ensures.noted c.in_ok-front.ensures.cut c.in_ok-front.ensures.half (c.in-Err-put_node.ensures.full (err_on _ _ is)))
+    inr (lacks_upper g.R.S.Space g.R.Records.file_of g.R.Records.holds g.R.Records.fills c.args.self.now c.node_id.new.self c.args.space.now c.put_node.new.space c.args.node.entries c.in_ok-lower.lower.entries c.in_ok-lower.upper.entries c.in_ok-lower.up
+    c.in-Ok.ensures.noted c.in_ok-lower.ensures.cut c.in_ok-lower.ensures.half (c.in-Err-put_node.ensures.full (err_on _ _ is)))
 
 pub put_node-requires-2-clause-ready : goal.put_node-requires-2-clause-ready
 put_node-requires-2-clause-ready g c =
@@ -20,11 +20,13 @@ put_node-requires-2-clause-ready g c =
 
 pub returns-in-Ok-put_node-clause-divided : goal.returns-in-Ok-put_node-clause-divided
 returns-in-Ok-put_node-clause-divided g c =
+    let low : c.in_ok-lower.lower ≡ record { heir = c.args.node.heir; entries = c.in_ok-lower.lower.entries } = λ i. record { heir = c.in_ok-lower.ensures.heir i; entries = c.in_ok-lower.lower.entries } in
+    let high : c.in_ok-lower.upper ≡ record { heir = c.in_ok-lower.up.child; entries = c.in_ok-lower.upper.entries } = λ i. record { heir = c.in_ok-lower.ensures.child i; entries = c.in_ok-lower.upper.entries } in
     divided g.R.S.Space g.R.Records.file_of g.R.Records.holds c.args.self.now c.node_id.new.self c.put_node.new.self c.put_node-2.new.self c.args.space.now c.put_node.new.space c.put_node-2.new.space c.args.id c.in-Ok.id c.args.node.heir
-    c.args.node.entries c.in_ok-front.front c.in_ok-front.back c.in_ok-front.up c.in_ok-above.above c.in-Ok.ensures.small c.in-Ok.ensures.noted c.in-Ok.ensures.given c.in_ok-front.ensures.cut c.in_ok-front.ensures.half c.in_ok-above.ensures
-    c.in_default.ensures.put c.in-Ok-put_node.ensures.put c.put_node.ensures.still.file
+    c.args.node.entries c.in_ok-lower.lower.entries c.in_ok-lower.upper.entries c.in_ok-lower.up c.in_ok-above.above c.in-Ok.ensures.small c.in-Ok.ensures.noted c.in-Ok.ensures.given c.in_ok-lower.ensures.cut c.in_ok-lower.ensures.half c.in_ok-above.ensures
+    (rw high at c.in_default.ensures.put) (rw low at c.in-Ok-put_node.ensures.put) c.put_node.ensures.still.file
 
-pub returns-in-Err-put_node-2-clause-full : goal.returns-in-Err-put_node-2-clause-full
-returns-in-Err-put_node-2-clause-full g c = λ is.
-    inr (lacks_lower g.R.S.Space g.R.Records.file_of g.R.Records.holds g.R.Records.fills c.args.self.now c.node_id.new.self c.put_node.new.self c.args.space.now c.put_node.new.space c.put_node-2.new.space c.args.node.entries c.in_ok-front.front c.in_ok-front.back c.in_ok-front.up
-    c.in-Ok.ensures.noted c.in_ok-front.ensures.cut c.in_ok-front.ensures.half c.put_node.ensures.still.keeps c.put_node.ensures.still.file (c.in-Err-put_node-2.ensures.full (err_on _ _ is)))
+pub returns-clause-full : goal.returns-clause-full
+returns-clause-full g c = λ is.
+    inr (lacks_lower g.R.S.Space g.R.Records.file_of g.R.Records.holds g.R.Records.fills c.args.self.now c.node_id.new.self c.put_node.new.self c.args.space.now c.put_node.new.space c.put_node-2.new.space c.args.node.entries c.in_ok-lower.lower.entries c.in_ok-lower.upper.entries c.in_ok-lower.up
+    c.in-Ok.ensures.noted c.in_ok-lower.ensures.cut c.in_ok-lower.ensures.half c.put_node.ensures.still.keeps c.put_node.ensures.still.file (c.in-Err-put_node-2.ensures.full (err_on _ _ is)))

@@ -10,9 +10,9 @@ put_node-requires-clause-ready g c = ready_beside g.R.S.Space g.R.Records.file_o
 pub returns-in-Ok-clause-put : goal.returns-in-Ok-clause-put
 returns-in-Ok-clause-put g c =
     put_shows g.R.S.Space g.R.Records.file_of g.R.Records.holds c.args.self.now _ c.args.space.now c.put_node.new.space c.args.id (node_page c.args.node) (λ told. inr (c.requires.id told))
-    (c.if-id-lt-PAGE_END.false, record { fits = rw c.in_ok-node.ensures at c.as_slice-bytes.ensures.fits; is = refl }) (rw c.in_ok-node.ensures at c.in-Ok.ensures.put) refl refl
+    (c.if-id-lt-PAGE_END.false, record { fits = c.as_slice-bytes.ensures.fits; is = refl }) c.in-Ok.ensures.put refl refl
 
-pub returns-clause-full : goal.returns-clause-full
-returns-clause-full g c = λ is.
+pub returns-in-Err-clause-full : goal.returns-in-Err-clause-full
+returns-in-Err-clause-full g c = λ is.
     lacks_now g.R.S.Space g.R.Records.file_of g.R.Records.holds g.R.Records.fills c.args.self.now.store c.args.self.now.cache.pages c.args.space.now c.put_node.new.space c.args.id (node_page c.args.node)
-    (ready_beside g.R.S.Space g.R.Records.file_of g.R.Records.holds c.args.self.now c.args.space.now c.requires.ready) (rw c.in_ok-node.ensures at (c.in-Err.ensures.full (err_on _ _ is)))
+    (ready_beside g.R.S.Space g.R.Records.file_of g.R.Records.holds c.args.self.now c.args.space.now c.requires.ready) (c.in-Err.ensures.full (err_on _ _ is))
