@@ -1,7 +1,7 @@
 -- A leaf in which some items in a row are others, as its bytes and the places where its items begin.
-use Rattle.std.proofs.Common.{◌≡◌, ℕ, ◌+◌, ◌-◌, ◌<◌, ◌≤◌, ◌^◌, List, [], ◌∷◌, ◌++◌, length, map, take, drop, set, get_or, sym, ap, subst, ◌∙◌, append_assoc, arith, add-one, length-append}
+use Rattle.std.proofs.Common.{◌≡◌, ℕ, ◌+◌, ◌-◌, ◌<◌, ◌≤◌, ◌^◌, List, [], ◌∷◌, ◌++◌, length, map, take, drop, set, get_or, refl, sym, ap, subst, ◌∙◌, append_assoc, arith, add-one, length-append}
 use Rattle.std.proofs.lemmas.Grind.{flat_map-append}
-use Rattle.std.proofs.lemmas.List.{take-append-drop, take_at, drop_at, take_more, set_split}
+use Rattle.std.proofs.lemmas.List.{take_more, set_split}
 use Rattle.std.proofs.lemmas.List.Elements.{All-from_recursion, recursion_from_All, All-append, All-take, All-drop}
 use Rattle.std.specs.List.{All, AllByRecursion, flat_map, remove}
 use Rattle.bt_page.specs.declared.page.Item.{Item}
@@ -13,54 +13,27 @@ use Rattle.bt_slots.specs.Reads.{leaf_in}
 use Rattle.bt_slots.specs.Slots.{IsLeafIn, bytes_before, starts_from, with_items}
 use Rattle.bt_slots.proofs.Places.{run_later, starts_count, before_within}
 use Rattle.bt_slots.proofs.ReadBack.{leaf_made}
-use Rattle.bt_slots.proofs.Starts.{start_is, starts_joined, starts_taken, starts_dropped, starts_moved, may_move}
+use Rattle.bt_slots.proofs.Rows.{row_bytes, row_long, those_spliced, those_long, those_starts, those_end, those_may}
+use Rattle.bt_slots.proofs.Starts.{start_is, starts_joined}
 
--- what comes in front of an item
-abbrev before : Leaf → ℕ → List ℕ
-before l i = two l.prev l.next ++ flat_map item_bytes (take i l.items)
-
-before_long : (l : Leaf) (i : ℕ) → length (before l i) ≡ bytes_before l i
-before_long l i = length-append (two l.prev l.next) (flat_map item_bytes (take i l.items))
-
-parted : (l : Leaf) (i : ℕ) → leaf_bytes l ≡ before l i ++ flat_map item_bytes (drop i l.items)
+pub leaf_row : (l : Leaf) (bytes : List ℕ) → bytes ≡ leaf_bytes l → bytes ≡ row_bytes item_bytes (two l.prev l.next) l.items
 unfolding leaf_bytes
-parted l i =
-    ap (λ (xs : List Item). two l.prev l.next ++ flat_map item_bytes xs) (sym (take-append-drop i l.items))
-    ∙ ap (λ (bs : List ℕ). two l.prev l.next ++ bs) (flat_map-append item_bytes (take i l.items) (drop i l.items))
-    ∙ sym (append_assoc (two l.prev l.next) (flat_map item_bytes (take i l.items)) (flat_map item_bytes (drop i l.items)))
-
-pub bytes_taken : (l : Leaf) (i : ℕ) → take (bytes_before l i) (leaf_bytes l) ≡ before l i
-bytes_taken l i = ap (take (bytes_before l i)) (parted l i) ∙ take_at (before l i) (flat_map item_bytes (drop i l.items)) (bytes_before l i) (before_long l i)
-
-pub bytes_dropped : (l : Leaf) (i : ℕ) → drop (bytes_before l i) (leaf_bytes l) ≡ flat_map item_bytes (drop i l.items)
-bytes_dropped l i = ap (drop (bytes_before l i)) (parted l i) ∙ drop_at (before l i) (flat_map item_bytes (drop i l.items)) (bytes_before l i) (before_long l i)
+leaf_row l bytes is = is
 
 pub leaf_long : (l : Leaf) (i : ℕ) → length (leaf_bytes l) ≡ bytes_before l i + length (flat_map item_bytes (drop i l.items))
-leaf_long l i = ap length (parted l i) ∙ length-append (before l i) (flat_map item_bytes (drop i l.items)) ∙ ap (λ (n : ℕ). n + length (flat_map item_bytes (drop i l.items))) (before_long l i)
+leaf_long l i = ap length (leaf_row l (leaf_bytes l) refl) ∙ row_long item_bytes (two l.prev l.next) l.items i
 
 -- the leaf with others in the place of the items from one place to another
 abbrev pub with_row : Leaf → ℕ → ℕ → List Item → Leaf
 with_row l i j mid = with_items l (take i l.items ++ (mid ++ drop j l.items))
 
-row_bytes : (l : Leaf) (i j : ℕ) (mid : List Item) → leaf_bytes (with_row l i j mid) ≡ before l i ++ (flat_map item_bytes mid ++ flat_map item_bytes (drop j l.items))
-unfolding leaf_bytes
-row_bytes l i j mid =
-    ap (λ (bs : List ℕ). two l.prev l.next ++ bs)
-    (flat_map-append item_bytes (take i l.items) (mid ++ drop j l.items)
-    ∙ ap (λ (bs : List ℕ). flat_map item_bytes (take i l.items) ++ bs) (flat_map-append item_bytes mid (drop j l.items)))
-    ∙ sym (append_assoc (two l.prev l.next) (flat_map item_bytes (take i l.items)) (flat_map item_bytes mid ++ flat_map item_bytes (drop j l.items)))
-
 pub row_spliced : (l : Leaf) (i j : ℕ) (mid : List Item) (new : List ℕ) → new ≡ flat_map item_bytes mid → spliced (bytes_before l i) (bytes_before l j) new (leaf_bytes l) ≡ leaf_bytes (with_row l i j mid)
-row_spliced l i j mid new is =
-    let t = bytes_taken l i in
-    let d = bytes_dropped l j in
-    (λ k. t k ++ (is k ++ d k)) ∙ sym (row_bytes l i j mid)
+unfolding leaf_bytes
+row_spliced l i j mid new is = those_spliced item_bytes (two l.prev l.next) l.items i j mid new is
 
-pub row_long : (l : Leaf) (i j : ℕ) (mid : List Item) → length (leaf_bytes (with_row l i j mid)) ≡ bytes_before l i + (length (flat_map item_bytes mid) + length (flat_map item_bytes (drop j l.items)))
-row_long l i j mid =
-    ap length (row_bytes l i j mid)
-    ∙ length-append (before l i) (flat_map item_bytes mid ++ flat_map item_bytes (drop j l.items))
-    ∙ (let a = before_long l i in let b = length-append (flat_map item_bytes mid) (flat_map item_bytes (drop j l.items)) in λ k. a k + b k)
+pub row_length : (l : Leaf) (i j : ℕ) (mid : List Item) → length (leaf_bytes (with_row l i j mid)) ≡ bytes_before l i + (length (flat_map item_bytes mid) + length (flat_map item_bytes (drop j l.items)))
+unfolding leaf_bytes
+row_length l i j mid = those_long item_bytes (two l.prev l.next) l.items i j mid
 
 row_fits : (l : Leaf) (i j : ℕ) (mid : List Item) → LeafFits l → AllByRecursion ItemFits mid → LeafFits (with_row l i j mid)
 row_fits l i j mid f g = record {
@@ -74,38 +47,22 @@ row_fits l i j mid f g = record {
     all : All ItemFits l.items
     all = All-from_recursion ItemFits l.items f.items
 
--- where the items of the new leaf begin: those in front as they did, and those behind as they come to stand
-row_starts : (l : Leaf) (i j e : ℕ) (mid : List Item) (starts : List ℕ) → starts ≡ starts_from item_bytes (length (two l.prev l.next)) l.items → e ≡ bytes_before l i + length (flat_map item_bytes mid)
-    → starts_from item_bytes (length (two l.prev l.next)) (take i l.items ++ (mid ++ drop j l.items)) ≡ take i starts ++ (starts_from item_bytes (bytes_before l i) mid ++ map (shifted (bytes_before l j) e) (drop j starts))
-row_starts l i j e mid starts is end =
-    let at : ℕ = length (two l.prev l.next) in
-    let front : take i starts ≡ starts_from item_bytes at (take i l.items) = ap (take i) is ∙ starts_taken item_bytes at l.items i in
-    let back : map (shifted (bytes_before l j) e) (drop j starts) ≡ starts_from item_bytes (bytes_before l i + length (flat_map item_bytes mid)) (drop j l.items) =
-    ap (λ (xs : List ℕ). map (shifted (bytes_before l j) e) (drop j xs)) is
-    ∙ ap (map (shifted (bytes_before l j) e)) (starts_dropped item_bytes at l.items j)
-    ∙ starts_moved item_bytes (bytes_before l j) e (drop j l.items)
-    ∙ ap (λ (n : ℕ). starts_from item_bytes n (drop j l.items)) end in
-    starts_joined item_bytes at (take i l.items) (mid ++ drop j l.items)
-    ∙ ap (λ (xs : List ℕ). starts_from item_bytes at (take i l.items) ++ xs) (starts_joined item_bytes (bytes_before l i) mid (drop j l.items))
-    ∙ (λ k. sym front k ++ (starts_from item_bytes (bytes_before l i) mid ++ sym back k))
-
 pub row_is_leaf : (l : Leaf) (i j e : ℕ) (mid : List Item) (old starts new news : List ℕ) → IsLeafIn old starts l → AllByRecursion ItemFits mid → new ≡ leaf_bytes (with_row l i j mid) → e ≡ bytes_before l i + length (flat_map item_bytes mid)
     → news ≡ take i starts ++ (starts_from item_bytes (bytes_before l i) mid ++ map (shifted (bytes_before l j) e) (drop j starts)) → IsLeafIn new news (with_row l i j mid)
 row_is_leaf l i j e mid old starts new news h fits is end begin = record {
   fits = row_fits l i j mid h.fits fits;
   is = is;
-  begin = begin ∙ sym (row_starts l i j e mid starts h.begin end);
+  begin = begin ∙ sym (those_starts item_bytes (two l.prev l.next) l.items i j mid e starts h.begin end);
 }
 
 -- the end of the new items, found from the sizes of all bytes
 pub row_end : (l : Leaf) (i j : ℕ) (mid : List Item) (old new : List ℕ) → old ≡ leaf_bytes l → new ≡ leaf_bytes (with_row l i j mid) → length new - (length old - bytes_before l j) ≡ bytes_before l i + length (flat_map item_bytes mid)
-row_end l i j mid old new eo en = omega (arith, ap length eo, ap length en, leaf_long l j, row_long l i j mid)
+row_end l i j mid old new eo en = those_end item_bytes (two l.prev l.next) l.items i j mid old new (leaf_row l old eo) (leaf_row (with_row l i j mid) new en)
 
 pub row_may : (l : Leaf) (i j e : ℕ) (mid : List Item) (old starts new : List ℕ) → IsLeafIn old starts l → new ≡ leaf_bytes (with_row l i j mid) → e ≡ bytes_before l i + length (flat_map item_bytes mid) → length new < 2 ^ 64
     → All (MayShift (bytes_before l j) e) (drop j starts)
 row_may l i j e mid old starts new h is end within =
-    subst (All (MayShift (bytes_before l j) e)) (sym (ap (drop j) h.begin ∙ starts_dropped item_bytes (length (two l.prev l.next)) l.items j))
-    (may_move item_bytes (bytes_before l j) e (drop j l.items) (omega (arith, ap length is, row_long l i j mid, end, within)))
+    those_may item_bytes (two l.prev l.next) l.items i j mid old new (leaf_row l old h.is) (leaf_row (with_row l i j mid) new is) e starts h.begin end within
 
 -- what is kept of a leaf is a leaf's
 pub kept_leaf : (bytes starts : List ℕ) (l : Leaf) → IsLeafIn bytes starts l → IsLeafIn bytes starts (leaf_in (length starts) bytes)
@@ -134,7 +91,7 @@ module _ (l : Leaf) (place : ℕ) (y : Item) (old starts new : List ℕ) (h : Is
   pub put_within : (at : ℕ) → at ≡ bytes_before l (place + 1) → (at ≤ length old) × (length old - at ≤ length new)
   put_within at is =
       let a = leaf_long l (place + 1) in
-      let b = row_long l place (place + 1) (y ∷ []) in
+      let b = row_length l place (place + 1) (y ∷ []) in
       (omega (arith, is, ap length h.is, a), omega (arith, is, ap length h.is, a, ap length row, b))
 
   pub put_may : (at e : ℕ) → at ≡ bytes_before l (place + 1) → e ≡ length new - (length old - at) → length new < 2 ^ 64 → All (MayShift at e) (drop (place + 1) starts)
@@ -173,7 +130,7 @@ module _ (l : Leaf) (place : ℕ) (y : Item) (old starts new : List ℕ) (h : Is
   pub more_within : (at : ℕ) → at ≡ bytes_before l place → (at ≤ length old) × (length old - at ≤ length new)
   more_within at e =
       let a = leaf_long l place in
-      let b = row_long l place place (y ∷ []) in
+      let b = row_length l place place (y ∷ []) in
       (omega (arith, e, ap length h.is, a), omega (arith, e, ap length h.is, a, ap length is, b))
 
   more_end : (at e : ℕ) → at ≡ bytes_before l place → e ≡ length new - (length old - at) → e ≡ bytes_before l place + length (flat_map item_bytes (y ∷ []))
@@ -191,7 +148,7 @@ module _ (l : Leaf) (place : ℕ) (y : Item) (old starts new : List ℕ) (h : Is
 
 module _ (l : Leaf) (place : ℕ) (old starts new : List ℕ) (h : IsLeafIn old starts l) (is : new ≡ leaf_bytes (with_row l place (place + 1) [])) where
   less_long : length new ≤ length old
-  less_long = omega (arith, ap length is, row_long l place (place + 1) [], ap length h.is, leaf_long l (place + 1), run_later item_bytes l.items place)
+  less_long = omega (arith, ap length is, row_length l place (place + 1) [], ap length h.is, leaf_long l (place + 1), run_later item_bytes l.items place)
 
   pub less_may : (from to : ℕ) → from ≡ bytes_before l (place + 1) → to ≡ bytes_before l place → length old < 2 ^ 64 → All (MayShift from to) (drop (place + 1) starts)
   less_may from to ef et within =
