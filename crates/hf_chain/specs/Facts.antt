@@ -17,7 +17,7 @@ front_of key = take 16 key ++ replicate (16 - length key) 0
 abbrev pub fact_of : Head → ℕ → Record → Fact
 fact_of h p r = record { place = p; left = capped (unit h * r.left); right = capped (unit h * r.right); bucket = bucket_of h.buckets r.key; second = second r.key; hash = r.hash; ahead = head_size r; long = length r.key; front = front_of r.key }
 
--- its head and key are no longer than those of any record
+-- its head and key are as short as those of every record
 abbrev pub IsInBounds : Record → Type 0
 IsInBounds r = (head_size r ≤ 40) × (length r.key < 2 ^ 32)
 
