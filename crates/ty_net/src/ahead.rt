@@ -7,9 +7,9 @@ use std::io;
 use std::io::Read;
 
 /// So many bytes are read by one call of the system.
-pub const ROOM: usize = 65_536;
+pub const ROOM: usize = 131_072;
 
-// So many bytes of them are cleared at once.
+// So many bytes are given out at once, and cleared at once before the first read.
 const PIECE: usize = 4096;
 
 /// A buffer that is filled by one read and given out in pieces of at most 4,096 bytes. It takes no memory before its first read.
@@ -37,6 +37,11 @@ impl Ahead {
         ensures { result ≡ nat_eq self.now.from self.now.to }
     {
         self.from == self.to
+    }
+
+    /// So many pieces can be given out with bytes left behind them.
+    pub fn pieces(&self) -> usize {
+        (self.to - self.from).saturating_sub(1) / PIECE
     }
 
     /// Takes the memory that a read needs. An `Err` changes nothing.

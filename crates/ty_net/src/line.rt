@@ -91,6 +91,11 @@ impl Line {
         self.is_readable || !self.ahead.is_empty()
     }
 
+    /// So many pieces that were read ahead it gives, and has bytes left behind them.
+    pub fn pieces_ahead(&self) -> usize {
+        self.ahead.pieces()
+    }
+
     /// Whether its end was told, and stands behind what wasn't read yet.
     pub fn is_closing(&self) -> bool {
         self.is_closing
@@ -141,8 +146,8 @@ impl Line {
         self.give(into)
     }
 
-    // The next of the bytes that were read ahead.
-    fn give(&mut self, into: &mut [u8; 4096]) -> Heard
+    /// The next of the bytes that were read ahead.
+    pub fn give(&mut self, into: &mut [u8; 4096]) -> Heard
         ensures { MayHear result }
     {
         match self.ahead.give(into) {

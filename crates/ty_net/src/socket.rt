@@ -260,6 +260,9 @@ impl<'a, R: Net + rt::Clock> Wire for SocketWire<'a, R> {
         let Some(sockets) = self.sockets.as_mut() else {
             return Ok(Ev::Quiet);
         };
+        if let Some((number, n)) = sockets.go_on(&self.roster, paused, into) {
+            return Ok(Ev::Read(number, n));
+        }
         match look(self.rt, sockets, &mut self.roster, paused, into) {
             Ok(Some(ev)) => return Ok(ev),
             Ok(None) => {}

@@ -2,6 +2,7 @@
 ghost use Rattle.std.specs.Prelude.{◌≡◌, ◌<◌, false, length, IfSome};
 ghost use Rattle.tc_io.specs.Lines.{CanTake, has};
 ghost use Rattle.ty_net.specs.Finds.{MayFind};
+ghost use Rattle.ty_net.specs.declared.sockets.Found.TheVariants.{Bytes};
 
 use crate::faults::Failed;
 use crate::leaving::Leaving;
@@ -23,11 +24,12 @@ const LISTENER: usize = usize::MAX;
 // So many events of the system are taken in at once: more than there are sockets.
 const EVENTS: usize = 256;
 
-// So many turns go by between two questions to the system, where there is always something ready.
-const TURNS_MOST: u32 = 64;
+// So many halves of turns go by between two questions to the system, where there is always something ready. A turn that gives bytes read
+// ahead is short and counts as a half.
+const HALVES_MOST: u32 = 128;
 
 // So many go by where nothing is ready, but requests wait to be served.
-const BUSY_TURNS_MOST: u32 = 8;
+const BUSY_HALVES_MOST: u32 = 16;
 
 // So many turns a reply waits at most, to be written in a row with others.
 const HELD_MOST: u32 = 64;
@@ -57,8 +59,8 @@ pub struct Sockets {
     leaving: Leaving,
     // where the next search begins
     cursor: usize,
-    // so many turns since the system was asked
-    turns: u32,
+    // so many halves of turns since the system was asked
+    halves: u32,
     // a connection may wait to be accepted
     may_accept: bool,
     // the last accept found no descriptor
@@ -73,6 +75,10 @@ pub struct Sockets {
     held: u32,
     // where the last line was found
     found_at: usize,
+    // so many turns more, which are counted already, one line alone gives anything, of what was read ahead
+    streak: u32,
+    // where it stands
+    streak_at: usize,
 }
 
 /// The first address of a host.
@@ -131,7 +137,7 @@ impl Sockets {
             lines: Vec::new(alloc),
             leaving: Leaving::new(alloc),
             cursor: 0,
-            turns: 0,
+            halves: 0,
             may_accept: true,
             is_starved: false,
             just_opened: false,
@@ -139,24 +145,26 @@ impl Sockets {
             owing: Stretch::none(),
             held: 0,
             found_at: 0,
+            streak: 0,
+            streak_at: 0,
         })
     }
 
     /// Whether the system is to be asked although something is ready.
     pub fn is_due(&mut self) -> bool {
-        self.turns = self.turns.saturating_add(1);
-        self.turns > TURNS_MOST
+        self.halves = self.halves.saturating_add(2);
+        self.halves > HALVES_MOST
     }
 
     /// Whether the system is to be asked although there are requests to serve.
     pub fn is_due_while_busy(&self) -> bool {
-        self.turns >= BUSY_TURNS_MOST
+        self.halves >= BUSY_HALVES_MOST
     }
 
     /// Asks the system what is ready, and waits so long for it.
     #[inline(never)]
     pub fn ask<R: rt::Clock>(&mut self, rt: &R, wait: Duration) -> Result<(), Failed> {
-        self.turns = 0;
+        self.halves = 0;
         let Ok(_) = self.poll.poll(&mut self.events, Some(wait)) else {
             return Err(Failed);
         };
@@ -279,11 +287,57 @@ impl Sockets {
             Interest::READABLE.add(Interest::WRITABLE),
         )?;
         self.lines.push(line)?;
+        self.streak = 0;
         self.just_opened = true;
         if is_readable {
             self.ready = self.ready.saturating_add(1);
         }
         Ok(())
+    }
+
+    // The line at this place gave a piece that was read ahead, and has so many more. Where it alone gives anything a streak begins.
+    fn gave_piece(&mut self, at: usize, pieces: usize) {
+        self.halves = self.halves.saturating_sub(1);
+        if self.ready != 1 || self.may_accept || !self.owing.is_none() {
+            return;
+        }
+        let left = HALVES_MOST.saturating_sub(self.halves);
+        self.streak = left.min(u32::try_from(pieces).unwrap_or(left));
+        self.streak_at = at;
+        self.halves = self.halves.saturating_add(self.streak);
+    }
+
+    /// The next bytes of a streak, which ends where there are none.
+    pub fn go_on(
+        &mut self,
+        roster: &Roster,
+        paused: &[u32],
+        into: &mut [u8; 4096],
+    ) -> Option<(u32, usize)>
+        ensures { IfSome result (λ x. MayFind roster.now.conns.items roster.now.ended.items paused.now (Bytes x.0 x.1)) }
+    {
+        if self.streak == 0 {
+            return None;
+        }
+        let left = self.streak - 1;
+        self.streak = 0;
+        if !paused.is_empty() {
+            return None;
+        }
+        let at = self.streak_at;
+        let line = self.lines.get_mut(at)?;
+        let number = line.number();
+        if !roster.hears(at, number) {
+            return None;
+        }
+        match line.give(into) {
+            Heard::Bytes(n) => {
+                self.streak = left;
+                Some((number, n))
+            }
+            Heard::End => None,
+            Heard::Nothing => None,
+        }
     }
 
     /// The next connection that gives something, of those that may.
@@ -308,6 +362,7 @@ impl Sockets {
             }
             left = left.saturating_sub(1);
             let found = hear_line(line, at, of, roster, paused, into);
+            let pieces = line.pieces_ahead();
             if !line.is_readable() {
                 self.ready = self.ready.saturating_sub(1);
             }
@@ -315,6 +370,9 @@ impl Sockets {
                 Found::Nothing => {}
                 found => {
                     self.just_opened = false;
+                    if pieces > 0 {
+                        self.gave_piece(at, pieces);
+                    }
                     return found;
                 }
             }
@@ -333,6 +391,7 @@ impl Sockets {
         }
         self.found_at = at;
         self.owing.add(at);
+        self.streak = 0;
         Some(line.offer(bytes))
     }
 
@@ -366,6 +425,7 @@ impl Sockets {
             return;
         };
         let line = self.lines.remove(i);
+        self.streak = 0;
         if line.is_readable() {
             self.ready = self.ready.saturating_sub(1);
         }
