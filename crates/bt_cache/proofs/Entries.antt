@@ -74,6 +74,14 @@ module _ {X : Type 0} where
     | false ↦ λ t h. let on = found_is id es e h in (on.0, omega (arith, on.1), λ P a. on.2 P a.1, on.3)
   ]) refl h
 
+  -- a value that is found has what holds of all
+  pub looked_up : (P : ℕ × X → Type 0) (id : ℕ) (es : List (ℕ × X)) (x : X) → lookup (nat_eq id) es ≡ Some x → AllByRecursion P es → P (id, x)
+  looked_up P id [] x h a = absurd cc
+  looked_up P id (f ∷ es) x h a = (elim (nat_eq id f.0) as (λ b. nat_eq id f.0 ≡ b → cond b (Some f.1) (lookup (nat_eq id) es) ≡ Some x → P (id, x)) [
+    | true ↦ λ t h. let same : f.1 ≡ x = cc in subst (λ (k : ℕ). P (k, x)) (sym (eqb-true id f.0 t)) (subst (λ (y : X). P (f.0, y)) same a.0)
+    | false ↦ λ t h. looked_up P id es x h a.1
+  ]) refl h
+
   pub has_found : (id : ℕ) (es : List (ℕ × X)) → is_some (lookup (nat_eq id) es) ≡ has id (keys_of es)
   has_found id [] = refl
   has_found id (e ∷ es) = elim (nat_eq id e.0) as (λ b. is_some (cond b (Some e.1) (lookup (nat_eq id) es)) ≡ (b || has id (keys_of es))) [

@@ -1,7 +1,7 @@
 -- What uses of pages leave of a cache and its store.
 use Rattle.std.proofs.Common.{◌≡◌, ℕ, ◌+◌, ◌-◌, ◌^◌, List, [], ◌∷◌, Option, Some, None, Bool, true, false, nat_eq, refl, sym, ap, subst, ◌∙◌, inl, inr, ⊎_elim}
 use Rattle.std.specs.Prelude.{is_some, min, slice_get}
-use Rattle.std.specs.Map.{lookup, lookup_entry}
+use Rattle.std.specs.Map.{lookup, lookup_entry, remove_entry}
 use Rattle.lru.specs.LruCache.{lru_cache, IsValid, promoted, put_entries}
 use Rattle.tc_base.specs.Maps.{Map}
 use Rattle.tc_space.specs.Frames.{In, Reads}
@@ -13,7 +13,7 @@ use Rattle.bt_cache.specs.Shared.{page_of, IsAny}
 use Rattle.bt_cache.specs.Ids.{has, used}
 use Rattle.bt_cache.specs.Held.{Pages, ids, HasPage, AreSame, Beside, IsThere}
 use Rattle.bt_cache.specs.Effects.{AsksOnce, CountsPage, unless}
-use Rattle.bt_cache.proofs.Entries.{Fronts, Promotes, promotes, put_front, has_found, found_is}
+use Rattle.bt_cache.proofs.Entries.{Fronts, Promotes, all_left, looked_up, promotes, put_front, has_found, found_is}
 use Rattle.bt_cache.proofs.Kept.{one_page}
 
 fronts_same : (m : Map) (c : Pages) (id : ℕ) (x : SharedPage) (es : List (ℕ × SharedPage)) → Fronts c id x es → HasPage m id (page_of x) → AreSame m c.entries → AreSame m es
@@ -99,6 +99,23 @@ asked_hit b n t = sym (ap (λ (d : Bool). unless d n) t)
 
 pub asked_miss : (b : Bool) (n n' : ℕ) → b ≡ false → n' ≡ min (n + 1) (2 ^ 64 - 1) → n' ≡ unless b n
 asked_miss b n n' f e = e ∙ sym (ap (λ (d : Bool). unless d n) f)
+
+-- ---- a page that is taken out of the list
+
+module _ (c c' : Pages) (id : ℕ) (found : Option SharedPage) (value : found ≡ lookup (nat_eq id) c.entries) (new : c' ≡ lru_cache (remove_entry (nat_eq id) c.entries) c.cap) where
+  pub taken_has : (o : Option SharedPage) → found ≡ o → has id (ids c) ≡ is_some o
+  taken_has o e = sym (has_found id c.entries) ∙ ap is_some (sym value ∙ e)
+
+  pub taken_page : (m : Map) (x : SharedPage) (p : Page) → found ≡ Some x → AreSame m c.entries → HasPage m id p → page_of x ≡ p
+  taken_page m x p e a h = one_page m id (page_of x) p (looked_up (λ e. HasPage m e.0 (page_of e.1)) id c.entries x (sym value ∙ e) a) h
+
+  pub taken_reads : {S V : Type 0} (s : Ghosts S) (file_of : V → ℕ) (holds : V → List ℕ → Map → Type 0) (v v' : V) (a b : S) → Reads s (In s file_of holds) v v' a b → Reads s (Beside s file_of holds) (c, v) (c', v') a b
+  taken_reads s file_of holds v v' a b r = record {
+    now = r.now;
+    touched = r.touched;
+    sound = r.sound;
+    means = λ m h. (r.means m h.0, subst (λ (k : Pages). AreSame m k.entries) (sym new) (all_left (λ e. HasPage m e.0 (page_of e.1)) id c.entries h.1));
+  }
 
 -- ---- the page in front
 

@@ -5,11 +5,12 @@ ghost use Rattle.tc_io.specs.Causes.{Rose};
 ghost use Rattle.tc_space.specs.Stores.{IsReady};
 ghost use Rattle.bt_page.specs.declared.page.Leaf.{Leaf as the_leaf};
 ghost use Rattle.bt_page.specs.declared.page.Node.{Node as the_node};
+ghost use Rattle.bt_rows.specs.declared.page.Page.{Page};
 ghost use Rattle.bt_rows.specs.declared.page.Page.TheVariants.{Leaf as leaf_page, Node as node_page};
 ghost use Rattle.bt_cache.specs.Effects.{CountsPage, Looks, unless};
 ghost use Rattle.bt_cache.specs.Held.{Beside, HasPage, IsThere, ids};
-ghost use Rattle.bt_cache.specs.Ids.{has, used};
-ghost use Rattle.bt_cache.specs.Shared.{IsAny, IsSomeLeaf, IsSomeNode};
+ghost use Rattle.bt_cache.specs.Ids.{has, used, without};
+ghost use Rattle.bt_cache.specs.Shared.{IsAny, IsSomeLeaf, IsSomeNode, page_of};
 
 use crate::reading::read_page;
 use crate::shared::{SharedPage, empty_leaf, empty_node};
@@ -19,7 +20,7 @@ use std::alloc::{AllocError, Global};
 use std::marker::PhantomData;
 use std::num::NonZeroUsize;
 use std::rc::Rc;
-use tc_base::Steps;
+use tc_base::{Blob, Steps};
 use tc_space::{RecErr, Records};
 
 /// The pages of a store that were used last, each as the store has it.
@@ -27,6 +28,8 @@ use tc_space::{RecErr, Records};
 pub struct Cache<R> {
     pub(crate) alloc: Global,
     pub(crate) pages: LruCache<u64, SharedPage>,
+    /// Room for the key of a page.
+    pub(crate) key: Blob,
     of: PhantomData<R>,
 }
 
@@ -43,6 +46,7 @@ impl<R: Records> Cache<R> {
         Ok(Cache {
             alloc,
             pages: LruCache::new(alloc, room)?,
+            key: Blob::new(alloc),
             of: PhantomData,
         })
     }
@@ -104,6 +108,56 @@ impl<R: Records> Cache<R> {
             return Ok(empty_leaf(self.alloc)?);
         };
         Ok(page.leaf(self.alloc)?)
+    }
+
+    // The page of an id, which isn't among those that are held then.
+    fn take<L>(
+        &mut self,
+        store: &mut R,
+        space: &mut R::S,
+        id: u64,
+        steps: &mut Steps<L>,
+    ) -> Result<SharedPage, RecErr>
+        requires { IsReady R.S.Space (Beside R.S.Space R.file_of R.holds) (self.old.pages, store.old) space.old }
+        ensures page { IfOk result (λ s. (m : Map) (p : Page) → Beside R.S.Space R.file_of R.holds (self.old.pages, store.old) space.old m → HasPage m id p → page_of s ≡ p) }
+        ensures list { ids self.new.pages ≡ without id (ids self.old.pages) }
+        ensures looks { Looks R.S.Space R.file_of R.holds self.old.pages self.new.pages store.old store.new space.old space.new }
+        ensures counts { CountsPage R.file_of R.region R.gets (has id (ids self.old.pages)) store.old store.new steps.old steps.new }
+        ensures asked { OnOk result (R.gets store.new ≡ unless (has id (ids self.old.pages)) (R.gets store.old)) }
+        ensures cause { (IsErrOf result RecErr.Fault → Rose (R.S.faults space.old) (R.S.faults space.new)) × (IsErrOf result RecErr.Full → ⊥) }
+    {
+        let _count = self.pages.len();
+        if let Some(page) = self.pages.pop(&id) {
+            return Ok(page);
+        }
+        steps.tick();
+        match read_page(self.alloc, store, space, id) {
+            Ok(page) => Ok(page),
+            Err(e) => Err(e),
+        }
+    }
+
+    /// The leaf of an id, as `leaf` gives it, taken out of the list: it isn't held then, and who gets it may be the only one that has it, and change it without copying it.
+    pub fn take_leaf<L>(
+        &mut self,
+        store: &mut R,
+        space: &mut R::S,
+        id: u64,
+        steps: &mut Steps<L>,
+    ) -> Result<Rc<SlottedLeaf>, RecErr>
+        requires { IsReady R.S.Space (Beside R.S.Space R.file_of R.holds) (self.old.pages, store.old) space.old }
+        ensures leaf { IfOk result (λ found. (m : Map) (l : the_leaf) → Beside R.S.Space R.file_of R.holds (self.old.pages, store.old) space.old m → HasPage m id (leaf_page l) → found.value ≡ l) }
+        ensures list { ids self.new.pages ≡ without id (ids self.old.pages) }
+        ensures looks { Looks R.S.Space R.file_of R.holds self.old.pages self.new.pages store.old store.new space.old space.new }
+        ensures counts { CountsPage R.file_of R.region R.gets (has id (ids self.old.pages)) store.old store.new steps.old steps.new }
+        ensures asked { OnOk result (R.gets store.new ≡ unless (has id (ids self.old.pages)) (R.gets store.old)) }
+        ensures cause { (IsErrOf result RecErr.Fault → Rose (R.S.faults space.old) (R.S.faults space.new)) × (IsErrOf result RecErr.Full → ⊥) }
+    {
+        let page = match self.take(store, space, id, steps) {
+            Ok(page) => page,
+            Err(e) => return Err(e),
+        };
+        Ok(page.into_leaf(self.alloc)?)
     }
 
     /// The node of an id, as `leaf` gives a leaf.

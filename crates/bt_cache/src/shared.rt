@@ -52,6 +52,16 @@ impl SharedPage {
         }
     }
 
+    /// The leaf that it is, handed on; an empty one where it is none.
+    pub(crate) fn into_leaf(self, alloc: Global) -> Result<Rc<SlottedLeaf>, AllocError>
+        ensures { IfOk result (λ l. IsLeaf (page_of self) l.value) }
+    {
+        match self {
+            SharedPage::Leaf(leaf) => Ok(leaf),
+            SharedPage::Node(_) => empty_leaf(alloc),
+        }
+    }
+
     /// The node that it is; an empty one where it is none.
     pub(crate) fn node(&self, alloc: Global) -> Result<Rc<SlottedNode>, AllocError>
         ensures { IfOk result (λ n. IsNode (page_of self.now) n.value) }

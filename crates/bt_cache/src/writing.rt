@@ -19,7 +19,7 @@ use crate::shared::SharedPage;
 use bt_page::page_key;
 use bt_slots::{SlottedLeaf, SlottedNode};
 use std::rc::Rc;
-use tc_base::{Blob, Mode, Steps};
+use tc_base::{Mode, Steps};
 use tc_space::{PutErr, RecErr, Records};
 
 // Why a put that keeps nothing was refused: that a key is held is no cause.
@@ -53,14 +53,14 @@ impl<R: Records> Cache<R> {
         ensures stays { Stays R.S.Space R.file_of R.region R.gets self.old.pages self.new.pages store.old store.new space.old space.new }
         ensures cause { IsErrOf result RecErr.Fault → Rose (R.S.faults space.old) (R.S.faults space.new) }
     {
-        let mut key = Blob::new(self.alloc);
-        page_key(id, &mut key)?;
+        self.key.clear();
+        page_key(id, &mut self.key)?;
         let _count = self.pages.len();
         let Ok(_) = self.pages.put(id, page) else {
             return Err(RecErr::Memory);
         };
         let mut steps: Steps<R> = Steps::new();
-        if let Err(e) = store.put(space, key.as_slice(), bytes, Mode::Over, &mut steps) {
+        if let Err(e) = store.put(space, self.key.as_slice(), bytes, Mode::Over, &mut steps) {
             let _back = self.pages.pop(&id);
             return Err(refusal(e));
         }
@@ -138,10 +138,10 @@ impl<R: Records> Cache<R> {
         ensures stays { Stays R.S.Space R.file_of R.region R.gets self.old.pages self.new.pages store.old store.new space.old space.new }
         ensures cause { IsErrOf result RecErr.Fault → Rose (R.S.faults space.old) (R.S.faults space.new) }
     {
-        let mut key = Blob::new(self.alloc);
-        page_key(id, &mut key)?;
+        self.key.clear();
+        page_key(id, &mut self.key)?;
         let mut steps: Steps<R> = Steps::new();
-        if let Err(e) = store.out(space, key.as_slice(), &mut steps) {
+        if let Err(e) = store.out(space, self.key.as_slice(), &mut steps) {
             return Err(e);
         }
         let _count = self.pages.len();

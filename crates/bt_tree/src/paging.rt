@@ -35,11 +35,10 @@ impl<R: Records, O: Order> Tree<R, O> {
         ensures still { StaysStill R.S.Space R.file_of R.region self.old self.new space.old space.new }
         ensures cause { (IsErrOf result RecErr.Fault → Rose (R.S.faults space.old) (R.S.faults space.new)) × (IsErrOf result RecErr.Full → ⊥) }
     {
-        let leaf = match self.cache.leaf(&mut self.store, space, id, steps) {
+        let leaf = match self.cache.take_leaf(&mut self.store, space, id, steps) {
             Ok(leaf) => leaf,
             Err(e) => return Err(e),
         };
-        self.cache.forget(id);
         match Rc::try_unwrap(leaf) {
             Ok(leaf) => Ok(leaf),
             Err(shared) => Ok(shared.copy(self.alloc)?),

@@ -2,10 +2,12 @@
 //! of the list costs the size of the whole.
 #![tactic(auto, using(tc_space::specs::Frames::keeps_refl, tc_space::specs::Frames::reads_refl, tc_space::specs::Frames::others_refl))]
 
+mod cells;
 mod lists;
 mod multi;
 mod one_file;
 mod records;
+mod rows;
 mod values;
 
 pub use multi::MemMulti;

@@ -4,18 +4,18 @@ ghost use Rattle.std.specs.FinMap.{empty, get, keys};
 ghost use Rattle.tc_base.specs.declared.kind.Mode.TheVariants.{Keep};
 ghost use Rattle.tc_space.specs.Changes.{is_in, out_of, put_in};
 
+use crate::cells::Cells;
 use crate::values::given;
 use std::alloc::{AllocError, Global};
 use std::marker::PhantomData;
 use tc_base::{Blob, Blobs, Form, Key, Mode, Steps};
-use tc_maps::Bytemap;
 use tc_space::{PutErr, RecErr, Records, Space};
 
 /// A map in memory that leaves the file it is given alone.
 #[derive(Drop)]
 pub struct MemRecords<S> {
     alloc: Global,
-    map: Bytemap,
+    map: Cells,
     file: u32,
     region: [u8; 128],
     gets: u64,
@@ -31,7 +31,7 @@ impl<S> MemRecords<S> {
     {
         MemRecords {
             alloc,
-            map: Bytemap::new(alloc),
+            map: Cells::new(alloc),
             file,
             region: [0; 128],
             gets: 0,
@@ -41,7 +41,7 @@ impl<S> MemRecords<S> {
 }
 
 // A copy of the value of a key.
-fn value_of(alloc: Global, map: &Bytemap, key: &[u8]) -> Result<Option<Blob>, AllocError>
+fn value_of(alloc: Global, map: &Cells, key: &[u8]) -> Result<Option<Blob>, AllocError>
     ensures { IfOk result (λ o. o ≡ get map.now key.now) }
 {
     let key = Key::from_slice(alloc, key)?;
@@ -63,8 +63,9 @@ fn copies_of(alloc: Global, keys: &[Key]) -> Result<Blobs, AllocError>
 }
 
 // A map's keys, in order.
-fn keys_of(alloc: Global, map: &Bytemap) -> Result<Blobs, AllocError>
-    ensures { IfOk result (λ found. found ≡ keys map.now) }
+fn keys_of(alloc: Global, map: &mut Cells) -> Result<Blobs, AllocError>
+    ensures keys { IfOk result (λ found. found ≡ keys map.old) }
+    ensures same { map.new ≡ map.old }
 {
     let found = map.keys(alloc)?;
     copies_of(alloc, found.as_slice())
@@ -73,7 +74,7 @@ fn keys_of(alloc: Global, map: &Bytemap) -> Result<Blobs, AllocError>
 // Gives a key a value. False where it is held and is to be kept. An `Err` changes nothing.
 fn store(
     alloc: Global,
-    map: &mut Bytemap,
+    map: &mut Cells,
     key: &[u8],
     value: &[u8],
     mode: Mode,
@@ -83,23 +84,23 @@ fn store(
     ensures exists { IfOk result (λ b. b ≡ false → (mode ≡ Keep) × IsSome (get map.old key.now) × (map.new ≡ map.old)) }
     ensures err { OnErr result (map.new ≡ map.old) }
 {
-    let key = Key::from_slice(alloc, key)?;
     if mode == Mode::Over {
         // the old value isn't asked for
-        let _ = map.set(key, Blob::from_slice(alloc, value)?)?;
+        map.put(key, value)?;
         return Ok(true);
     }
+    let key = Key::from_slice(alloc, key)?;
     let old = map.get(&key);
     if mode == Mode::Keep && old.is_some() {
         return Ok(false);
     }
     let value = given(alloc, old, value, mode)?;
-    let _ = map.set(key, value)?;
+    map.set(key, value)?;
     Ok(true)
 }
 
 // Takes a key out, where it is held.
-fn take_out(alloc: Global, map: &mut Bytemap, key: &[u8]) -> Result<bool, AllocError>
+fn take_out(alloc: Global, map: &mut Cells, key: &[u8]) -> Result<bool, AllocError>
     ensures held { IfOk result (λ b. b ≡ is_in key.now map.old) }
     ensures out { IfOk result (λ b. b ≡ true → map.new ≡ out_of key.now map.old) }
     ensures none { IfOk result (λ b. b ≡ false → map.new ≡ map.old) }
@@ -180,7 +181,7 @@ impl<S: Space> Records for MemRecords<S> {
     }
 
     fn keys<L>(&mut self, space: &mut S, steps: &mut Steps<L>) -> Result<Blobs, RecErr> {
-        let Ok(keys) = keys_of(self.alloc, &self.map) else {
+        let Ok(keys) = keys_of(self.alloc, &mut self.map) else {
             return Err(RecErr::Memory);
         };
         Ok(keys)

@@ -39,6 +39,23 @@ fn leaf(
     }
 }
 
+// The same of a leaf that is taken out of the list.
+fn taken(
+    cache: &mut Cache<Store>,
+    store: &mut Store,
+    space: &mut OneFile,
+    id: u64,
+) -> Result<(u64, u64), RecErr>
+    requires { space.old.sound ≡ true }
+    ensures { OnOk result (space.new.sound ≡ true) }
+{
+    let mut steps: Steps<()> = Steps::new();
+    match cache.take_leaf(store, space, id, &mut steps) {
+        Ok(leaf) => Ok((leaf.prev(), steps.count())),
+        Err(e) => Err(e),
+    }
+}
+
 // The heir of a node, and the steps to it.
 fn node(
     cache: &mut Cache<Store>,
@@ -131,6 +148,9 @@ fn pages_are_written_and_dropped(rt: HostRuntime) -> Result<(), Fail> {
         node(&mut cache, &mut store, &mut space, PAGE_END + 1),
         Ok((5, 0))
     );
+    assert_eq!(&rt; taken(&mut cache, &mut store, &mut space, 1), Ok((7, 0)));
+    assert_eq!(&rt; taken(&mut cache, &mut store, &mut space, 1), Ok((7, 1)));
+    assert_eq!(&rt; leaf(&mut cache, &mut store, &mut space, 1), Ok((7, 1)));
     cache.forget(PAGE_END + 1);
     assert_eq!(&rt;
         node(&mut cache, &mut store, &mut space, PAGE_END + 1),

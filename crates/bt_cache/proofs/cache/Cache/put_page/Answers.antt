@@ -15,7 +15,7 @@ returns-in-Err-clause-refused g c =
 pub returns-clause-put : goal.returns-clause-put
 returns-clause-put g c =
     put_writes g.R.S.Space g.R.Records.file_of g.R.Records.holds _ c.args.self.now.pages c.put.new.self c.args.id c.args.page _ c.args.bytes.now c.args.store.now c.put-2.new.self c.args.space.now c.put-2.new.space
-    c.ranges.id.fits (c.as_slice.ensures ∙ c.in_ok-page_key.ensures.ok ∙ ap (λ (l : List ℕ). l ++ key_of c.args.id) c.new-key.ensures) c.requires.page c.len-count.ensures.valid c.in-Ok.ensures.entries c.in_default-put.ensures.put
+    c.ranges.id.fits (c.as_slice.ensures ∙ c.in_ok-page_key.ensures.ok ∙ ap (λ (l : List ℕ). l ++ key_of c.args.id) c.clear.ensures) c.requires.page c.len-count.ensures.valid c.in-Ok.ensures.entries c.in_default-put.ensures.put
 
 pub returns-clause-list : goal.returns-clause-list
 returns-clause-list g c = put_list c.args.self.now.pages c.put.new.self c.args.id c.args.page c.len-count.ensures.valid c.in-Ok.ensures.entries
