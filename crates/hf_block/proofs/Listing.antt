@@ -11,7 +11,7 @@ pub whole-append : (unit : ℕ) (ps qs : List Piece) → AllWhole unit ps → Al
 whole-append unit [] qs h k = k
 whole-append unit (p ∷ ps) qs h k = (h.0, whole-append unit ps qs h.1 k)
 
-widths-append : (w : ℕ) (ps qs : List Piece) → AllHaveWidth w ps → AllHaveWidth w qs → AllHaveWidth w (ps ++ qs)
+pub widths-append : (w : ℕ) (ps qs : List Piece) → AllHaveWidth w ps → AllHaveWidth w qs → AllHaveWidth w (ps ++ qs)
 widths-append w [] qs h k = k
 widths-append w (p ∷ ps) qs h k = (h.0, widths-append w ps qs h.1 k)
 

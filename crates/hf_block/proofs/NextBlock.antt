@@ -1,5 +1,5 @@
 -- The next block, from its head.
-use Rattle.std.proofs.Common.{◌≡◌, ◌∙◌, ◌⊎◌, inl, inr, ℕ, ◌+◌, ◌*◌, ◌-◌, ◌^◌, ◌<◌, ◌≤◌, Bool, true, false, List, [], ◌∷◌, ◌++◌, length, take, drop, Result, Ok, refl, sym, ap, subst, arith, append_assoc, length-append, length-drop}
+use Rattle.std.proofs.Common.{◌≡◌, ◌∙◌, ◌⊎◌, inl, inr, ℕ, ◌+◌, ◌*◌, ◌-◌, ◌^◌, ◌<◌, ◌≤◌, List, [], ◌∷◌, ◌++◌, length, take, drop, Result, Ok, refl, sym, ap, subst, arith, append_assoc, length-append, length-drop}
 use Rattle.std.proofs.lemmas.List.{take_at, drop_at, take-append-drop, length-take-le}
 use Rattle.std.proofs.lemmas.Bool.{cases_lt}
 use Rattle.std.proofs.Math.Nat.{mod-eq_of_lt}
@@ -11,7 +11,7 @@ use Rattle.hf_block.specs.declared.block.Block.TheVariants.{Rec, Free}
 use Rattle.hf_block.specs.declared.reading.BlockErr.{BlockErr}
 use Rattle.hf_block.specs.Heads.{rec_head, free_head, head_bytes, Fits, IsPrefix}
 use Rattle.hf_block.specs.Pieces.{Record, Piece, held, free, spell, size_of, is_free, IsSize, IsWhole, HasWidth, spell_all, IsFilled}
-use Rattle.hf_block.specs.Walks.{total, is_free_block, IsNext}
+use Rattle.hf_block.specs.Walks.{total, is_free_block, block_of, HasNext}
 use Rattle.hf_block.proofs.Blocking.{vnum_most}
 use Rattle.hf_block.proofs.Padding.{length-rec_head, length-held}
 
@@ -27,13 +27,14 @@ three_parts a b c r =
 
 -- ---- from a head to a block
 
-pub record Cut (w unit n : ℕ) (kind : Bool) (bytes : List ℕ) : Type 0 where
+pub record Cut (w unit n : ℕ) (b : Block) (bytes : List ℕ) : Type 0 where
   pub piece : Piece
   pub whole : IsWhole unit piece
   pub width : HasWidth w piece
   pub is : take n bytes ≡ spell piece
   pub size : size_of piece ≡ n
-  pub of_kind : is_free piece ≡ kind
+  pub of_kind : is_free piece ≡ is_free_block b
+  pub head : b ≡ block_of piece
 
 length-free_head : (size : ℕ) → length (free_head size) ≡ 5
 unfolding free_head
@@ -42,7 +43,7 @@ length-free_head size = omega (arith, length-le_bytes 4 size)
 sized : (unit n : ℕ) (p : Piece) → size_of p ≡ n → IsSize unit n → IsSize unit (size_of p)
 sized unit n p e h = subst (λ (m : ℕ). IsSize unit m) (sym e) h
 
-cut_rec : (w unit hash left right pad key value head : ℕ) (bytes : List ℕ) → Fits w (Rec hash left right pad key value head) → IsPrefix (rec_head w hash left right pad key value) bytes → IsSize unit (head + key + value + pad) → head + key + value + pad ≤ length bytes → Cut w unit (head + key + value + pad) false bytes
+cut_rec : (w unit hash left right pad key value head : ℕ) (bytes : List ℕ) → Fits w (Rec hash left right pad key value head) → IsPrefix (rec_head w hash left right pad key value) bytes → IsSize unit (head + key + value + pad) → head + key + value + pad ≤ length bytes → Cut w unit (head + key + value + pad) (Rec hash left right pad key value head) bytes
 unfolding spell
 cut_rec w unit hash left right pad key value head bytes fits pre is le =
     let h : List ℕ = rec_head w hash left right pad key value in
@@ -68,9 +69,10 @@ cut_rec w unit hash left right pad key value head bytes fits pre is le =
       is = spelled;
       size = size;
       of_kind = refl;
+      head = λ i. Rec hash left right (sym pl i) (sym kl i) (sym vl i) ((fits.6 ∙ (λ j. 4 + 2 * w + length (vnum (sym kl j)) + length (vnum (sym vl j)))) i);
     }
 
-cut_free : (w unit size : ℕ) (bytes : List ℕ) → 5 ≤ unit → Fits w (Free size) → IsPrefix (free_head size) bytes → IsSize unit size → size ≤ length bytes → Cut w unit size true bytes
+cut_free : (w unit size : ℕ) (bytes : List ℕ) → 5 ≤ unit → Fits w (Free size) → IsPrefix (free_head size) bytes → IsSize unit size → size ≤ length bytes → Cut w unit size (Free size) bytes
 unfolding spell
 cut_free w unit size bytes some fits pre is le =
     let rest : List ℕ = pre.0 in
@@ -80,7 +82,7 @@ cut_free w unit size bytes some fits pre is le =
     let spelled : take size bytes ≡ spell (free size tail) =
     ap (λ (l : List ℕ). take size l) pre.1 ∙ take_behind (free_head size) rest size (size - 5) (omega (arith, hl, large)) in
     let long : size_of (free size tail) ≡ size = sym (ap length spelled) ∙ length-take-le size bytes le in
-    record { piece = free size tail; whole = record { fits = long; size = sized unit size (free size tail) long is }; width = tt; is = spelled; size = long; of_kind = refl }
+    record { piece = free size tail; whole = record { fits = long; size = sized unit size (free size tail) long is }; width = tt; is = spelled; size = long; of_kind = refl; head = refl }
   where
     aligned_large : (unit size : ℕ) → 5 ≤ unit → IsSize unit size → 5 ≤ size
     aligned_large unit size some is = elim (cases_lt size unit) [
@@ -88,15 +90,11 @@ cut_free w unit size bytes some fits pre is le =
       | inr more ↦ omega (arith, some, more)
     ]
 
-pub cut : (w unit : ℕ) (b : Block) (bytes : List ℕ) → 5 ≤ unit → Fits w b → IsPrefix (head_bytes w b) bytes → IsSize unit (total b) → total b ≤ length bytes → Cut w unit (total b) (is_free_block b) bytes
+pub cut : (w unit : ℕ) (b : Block) (bytes : List ℕ) → 5 ≤ unit → Fits w b → IsPrefix (head_bytes w b) bytes → IsSize unit (total b) → total b ≤ length bytes → Cut w unit (total b) b bytes
 cut w unit (Rec hash left right pad key value head) bytes some fits pre is le = cut_rec w unit hash left right pad key value head bytes fits pre is le
 cut w unit (Free size) bytes some fits pre is le = cut_free w unit size bytes some fits pre is le
 
 -- ---- from a block to its head
-
-abbrev pub block_of : Piece → Block
-block_of (held r) = Rec r.hash r.left r.right (length r.pad) (length r.key) (length r.value) (4 + 2 * r.wide + length (vnum (length r.key)) + length (vnum (length r.value)))
-block_of (free size tail) = Free size
 
 pub record Headed (w : ℕ) (p : Piece) : Type 0 where
   pub fits : Fits w (block_of p)
@@ -155,12 +153,12 @@ first_is : (wide unit : ℕ) (r : Result Block BlockErr) (bytes front : List ℕ
 first_is wide unit r bytes front most again part enough q qs filled =
     again (block_of q) (headed wide unit q most filled.whole.0 filled.widths.0).fits (front_headed wide unit q (spell_all qs) bytes front most filled.whole.0 filled.widths.0 filled.is part enough)
 
-pub is_next : (wide unit : ℕ) (b : Block) (bytes front : List ℕ) → wide ≤ 8 → 5 ≤ unit → Again wide front (Ok b) → Fits wide b → IsPrefix (head_bytes wide b) front → front ≡ take (length front) bytes → (length front ≡ length bytes) ⊎ (40 ≤ length front) → IsSize unit (total b) → total b ≤ length bytes → IsNext wide unit (total b) (is_free_block b) bytes
+pub is_next : (wide unit : ℕ) (b : Block) (bytes front : List ℕ) → wide ≤ 8 → 5 ≤ unit → Again wide front (Ok b) → Fits wide b → IsPrefix (head_bytes wide b) front → front ≡ take (length front) bytes → (length front ≡ length bytes) ⊎ (40 ≤ length front) → IsSize unit (total b) → total b ≤ length bytes → HasNext wide unit (total b) b bytes
 is_next wide unit b bytes front most some again fits pre part enough is le =
     let whole : bytes ≡ head_bytes wide b ++ (pre.0 ++ drop (length front) bytes) =
     sym (take-append-drop (length front) bytes) ∙ ap (λ (l : List ℕ). l ++ drop (length front) bytes) (sym part ∙ pre.1) ∙ append_assoc (head_bytes wide b) pre.0 (drop (length front) bytes) in
     let c = cut wide unit b bytes some fits (pre.0 ++ drop (length front) bytes, whole) is le in
-    record { piece = c.piece; whole = c.whole; width = c.width; is = c.is; size = c.size; kind = c.of_kind; rest = behind }
+    record { next = record { piece = c.piece; whole = c.whole; width = c.width; is = c.is; size = c.size; kind = c.of_kind; rest = behind }; head = c.head }
   where
     behind : (ps : List Piece) → IsFilled wide unit bytes ps → (qs : List Piece) × IsFilled wide unit (drop (total b) bytes) qs
     behind [] filled = absurd (omega (arith, ap length filled.is, is.some, le))

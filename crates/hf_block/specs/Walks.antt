@@ -1,13 +1,14 @@
 -- What a walk over blocks has listed.
-use Rattle.std.specs.Prelude.{◌≡◌, ◌⊎◌, ℕ, ◌+◌, ◌-◌, ◌<◌, ◌≤◌, Bool, true, false, List, ◌++◌, length, take, drop}
+use Rattle.std.specs.Prelude.{◌≡◌, ◌⊎◌, ℕ, ◌+◌, ◌-◌, ◌*◌, ◌<◌, ◌≤◌, Bool, true, false, List, ◌++◌, length, take, drop}
 use Rattle.tc_base.specs.declared.kind.Rule.{Rule}
+use Rattle.tc_base.specs.Vnum.{vnum}
 use Rattle.tc_space.specs.Ranges.{IsDataFile}
 use Rattle.tc_space.specs.declared.space.Space.{Ghosts}
 use Rattle.hf_block.specs.declared.block.Block.{Block}
 use Rattle.hf_block.specs.declared.block.Block.TheVariants.{Rec, Free}
 use Rattle.hf_block.specs.declared.block.BlockAt.{BlockAt}
 use Rattle.hf_block.specs.Rows.{StandInRow}
-use Rattle.hf_block.specs.Pieces.{Piece, IsWhole, AllWhole, HasWidth, AllHaveWidth, IsFilled, spell, size_of, is_free, spell_all, placed}
+use Rattle.hf_block.specs.Pieces.{Piece, held, free, IsWhole, AllWhole, HasWidth, AllHaveWidth, IsFilled, spell, size_of, is_free, spell_all, placed}
 
 -- the space may be used, and a data file has at least so many bytes where they are told
 pub record HoldsUpTo {S : Type 0} (s : Ghosts S) (space : S) (file end : ℕ) : Type 0 where
@@ -66,3 +67,13 @@ pub record IsNext (wide unit n : ℕ) (free : Bool) (bytes : List ℕ) : Type 0 
   pub size : size_of piece ≡ n
   pub kind : is_free piece ≡ free
   pub rest : (ps : List Piece) → IsFilled wide unit bytes ps → (qs : List Piece) × IsFilled wide unit (drop n bytes) qs
+
+-- the head of a block
+abbrev pub block_of : Piece → Block
+block_of (held r) = Rec r.hash r.left r.right (length r.pad) (length r.key) (length r.value) (4 + 2 * r.wide + length (vnum (length r.key)) + length (vnum (length r.value)))
+block_of (free size tail) = Free size
+
+-- the same of a block with that head
+pub record HasNext (wide unit n : ℕ) (b : Block) (bytes : List ℕ) : Type 0 where
+  pub next : IsNext wide unit n (is_free_block b) bytes
+  pub head : b ≡ block_of next.piece

@@ -7,7 +7,7 @@ ghost use Rattle.hf_head.specs.Heads.{IsValid, is_large, wide, unit as head_unit
 ghost use Rattle.hf_block.specs.Heads.{Fits};
 ghost use Rattle.hf_block.specs.Pieces.{Piece, IsFilled, IsSize, placed};
 ghost use Rattle.hf_block.specs.Rows.{StandInRow};
-ghost use Rattle.hf_block.specs.Walks.{GoesOn, HoldsUpTo, IsChunk, IsNext, NoneFill, Walked, between, is_free_block, total};
+ghost use Rattle.hf_block.specs.Walks.{GoesOn, HasNext, HoldsUpTo, IsChunk, NoneFill, Walked, between, is_free_block, total};
 ghost use Rattle.tc_space.specs.Frames.{OnlyReads};
 
 use crate::block::{Block, BlockAt, Blocks};
@@ -56,15 +56,15 @@ pub const WHOLE_BLOCKS: Rule = Rule {
     number: 3,
 };
 
-// The size of a block whose head this is, if a block may have it, and whether it is free.
-fn measure(block: &Block, unit: u64, large: bool) -> Option<(u64, bool)>
+// The bytes of the block whose head this is, where a block of a file with that unit may have so many.
+fn measure(block: &Block, unit: u64, large: bool) -> Option<u64>
     requires fits { Fits (wide large) block.now }
     requires unit { 1 ≤ unit }
-    ensures some { IfSome result (λ m. (m.0 ≡ total block.now) × (m.1 ≡ is_free_block block.now) × IsSize unit m.0) }
+    ensures some { IfSome result (λ n. (n ≡ total block.now) × IsSize unit n) }
     ensures none { IfNone result (IsSize unit (total block.now) → ⊥) }
 {
-    let (size, free) = match block {
-        Block::Free { size } => (*size, true),
+    let size = match block {
+        Block::Free { size } => *size,
         Block::Rec {
             pad,
             key,
@@ -75,35 +75,46 @@ fn measure(block: &Block, unit: u64, large: bool) -> Option<(u64, bool)>
             if *key >= 1 << 32 || *value >= 1 << 32 {
                 return None;
             }
-            (*head + *key + *value + u64::from(*pad), false)
+            *head + *key + *value + u64::from(*pad)
         }
     };
     if size % unit != 0 || size >= 1 << 32 {
         return None;
     }
-    Some((size, free))
+    Some(size)
 }
 
-// The size of the block whose first bytes these are, and whether it is free, where so many bytes are left up to the end.
-fn one_block(front: &[u8], left: u64, unit: u64, large: bool) -> Option<(u64, bool)>
+/// The block whose first bytes these are, and how many it has, where so many bytes are left up to the end: `None` exactly where no whole block
+/// with such chains stands there. Of a block of 40 bytes and more the first 40 are enough.
+pub fn next_block(front: &[u8], left: u64, unit: u64, large: bool) -> Option<(u64, Block)>
     requires some { 0 < length front.now }
     requires within { length front.now ≤ left }
     requires enough { (length front.now ≡ left) ⊎ (40 ≤ length front.now) }
     requires unit { 5 ≤ unit }
     ensures some { IfSome result (λ m. IsSize unit m.0 × (m.0 ≤ left)) }
-    ensures next { IfSome result (λ m. (bytes : List ℕ) → front.now ≡ take (length front.now) bytes → length bytes ≡ left → IsNext (wide large) unit m.0 m.1 bytes) }
+    ensures next { IfSome result (λ m. (bytes : List ℕ) → front.now ≡ take (length front.now) bytes → length bytes ≡ left → HasNext (wide large) unit m.0 m.1 bytes) }
     ensures none { IfNone result ((bytes : List ℕ) → front.now ≡ take (length front.now) bytes → length bytes ≡ left → (ps : List Piece) → IsFilled (wide large) unit bytes ps → ⊥) }
 {
     let Ok(block) = read_block(front, large) else {
         return None;
     };
-    let Some((size, free)) = measure(&block, unit, large) else {
+    let Some(size) = measure(&block, unit, large) else {
         return None;
     };
     if size > left {
         return None;
     }
-    Some((size, free))
+    Some((size, block))
+}
+
+// Whether it is the head of a free block.
+fn is_free(block: &Block) -> bool
+    ensures { result ≡ is_free_block block.now }
+{
+    match block {
+        Block::Rec { .. } => false,
+        Block::Free { .. } => true,
+    }
 }
 
 // Lists the blocks of a chunk of bytes from place `at` on, and answers where the next block begins. The last block may end
@@ -127,14 +138,14 @@ fn walk_chunk(
     let len = chunk.len() as u64;
     let mut next = at;
     while next - at < len && (len - (next - at) >= 40 || at + len == end) {
-        let Some((size, free)) = one_block(&chunk[(next - at) as usize..], end - next, unit, large)
-        else {
+        let front = &chunk[(next - at) as usize..];
+        let Some((size, block)) = next_block(front, end - next, unit, large) else {
             return Err(WalkErr::Broken(WHOLE_BLOCKS));
         };
         list.push(BlockAt {
             place: next,
             size,
-            free,
+            free: is_free(&block),
         })?;
         next += size;
     }

@@ -1,13 +1,13 @@
 -- What was found of the records that were reached, of more of them and in a space that reads as it did.
-use Rattle.std.proofs.Common.{◌≡◌, ◌∙◌, ℕ, ◌<◌, List, [], length, sym, ap, subst, arith, Some}
+use Rattle.std.proofs.Common.{◌≡◌, ◌∙◌, inl, inr, ℕ, ◌+◌, List, [], ◌++◌, length, refl, sym, subst, arith, Some}
 use Rattle.std.specs.Prelude.{slice_get}
 use Rattle.hf_chain.specs.declared.facts.Fact.{Fact}
 use Rattle.hf_chain.specs.declared.reaching.Item.{Item}
 use Rattle.hf_chain.specs.declared.judging.Verdict.{Verdict}
 use Rattle.hf_chain.specs.declared.judging.Verdict.TheVariants.{InOrder, Stray, Mixed}
-use Rattle.hf_chain.specs.Reaching.{Grew, IsHomeBy}
-use Rattle.hf_chain.specs.Orders.{IsBetweenBy, HasMixed, Judged}
-use Rattle.hf_chain.proofs.Lists.{get_some, same_item}
+use Rattle.hf_chain.specs.Reaching.{IsHomeBy}
+use Rattle.hf_chain.specs.Orders.{IsBetweenBy, HasMixed, HasStray, Judged}
+use Rattle.hf_chain.proofs.Lists.{get_before, get_behind, get_either, get_low}
 
 in_order_stray : InOrder ≡ Stray → ⊥
 in_order_stray e = cc
@@ -19,26 +19,12 @@ stray_mixed : Stray ≡ Mixed → ⊥
 stray_mixed e = cc
 
 -- none was reached
-pub judged_none : (tells : Type 0) (facts : List Fact) (items : List Item) (file : List ℕ) (v : Verdict) → items ≡ [] → v ≡ InOrder → Judged tells facts items (length items) file v
-judged_none tells facts items file v none is = record {
-  home = λ ne k x low. absurd (omega (arith, low, ap length none));
-  stray = λ e. absurd (in_order_stray (sym is ∙ e));
-  between = λ e t k x low. absurd (omega (arith, low, ap length none));
-  mixed = λ e. absurd (in_order_mixed (sym is ∙ e));
-}
-
-old_item : (old new : List Item) (k : ℕ) (x : Item) → Grew old new → k < length old → slice_get new k ≡ Some x → slice_get old k ≡ Some x
-old_item old new k x g low at =
-    let w = get_some old k low in
-    let s : w.0 ≡ x = same_item (slice_get new k) w.0 x (g.same k w.0 w.1) at in
-    w.1 ∙ ap (λ (z : Item). Some z) s
-
-pub judged_grew : (tells : Type 0) (facts : List Fact) (old new : List Item) (count : ℕ) (file : List ℕ) (v : Verdict) → count ≡ length old → Grew old new → Judged tells facts old (length old) file v → Judged tells facts new count file v
-judged_grew tells facts old new count file v is g j = record {
-  home = λ ne k x low at. let less : k < length old = omega (arith, low, is) in j.home ne k x less (old_item old new k x g less at);
-  stray = λ e. let w = j.stray e in (w.0, w.1, g.same w.0 w.1 w.2, w.3);
-  between = λ e t k x low at. let less : k < length old = omega (arith, low, is) in j.between e t k x less (old_item old new k x g less at);
-  mixed = λ e t. let w = j.mixed e t in (w.0, w.1, g.same w.0 w.1 w.2, w.3);
+pub judged_none : (tells : Type 0) (facts : List Fact) (file : List ℕ) → Judged tells facts [] 0 file InOrder
+judged_none tells facts file = record {
+  home = λ ne k x low. absurd (omega (arith, low));
+  stray = λ e. absurd (in_order_stray e);
+  between = λ e t k x low. absurd (omega (arith, low));
+  mixed = λ e. absurd (in_order_mixed e);
 }
 
 pub judged_at : (tells : Type 0) (facts : List Fact) (items : List Item) (count : ℕ) (now old : List ℕ) (v : Verdict) → (tells → now ≡ old) → Judged tells facts items count now v → Judged tells facts items count old v
@@ -74,3 +60,35 @@ found_in_order tells facts items file home between = record {
   between = λ e t k x low at. between t k x at;
   mixed = λ e. absurd (in_order_mixed e);
 }
+
+-- ---- of these records and others before them
+
+stray_behind : (facts : List Fact) (others items : List Item) → HasStray facts items → HasStray facts (others ++ items)
+stray_behind facts others items w = (length others + w.0, w.1, get_behind others items w.0 ∙ w.2, w.3)
+
+mixed_behind : (facts : List Fact) (others items : List Item) (file : List ℕ) → HasMixed facts items file → HasMixed facts (others ++ items) file
+mixed_behind facts others items file w = (length others + w.0, w.1, get_behind others items w.0 ∙ w.2, w.3)
+
+-- what is true of each of the others and of each of these
+each_of : (P : Item → Type 0) (others items : List Item) → ((k : ℕ) (x : Item) → slice_get others k ≡ Some x → P x) → ((k : ℕ) (x : Item) → slice_get items k ≡ Some x → P x) → (k : ℕ) (x : Item) → slice_get (others ++ items) k ≡ Some x → P x
+each_of P others items old new k x at = elim (get_either others items k x at) [ inl o ↦ old k x o | inr o ↦ new o.0 x o.1 ]
+
+module _ (tells : Type 0) (facts : List Fact) (others items : List Item) (file : List ℕ) where
+  pub after_order : (v : Verdict) → Judged tells facts items (length items) file v → Judged tells facts others (length others) file InOrder → Judged tells facts (others ++ items) (length (others ++ items)) file v
+  after_order v now old = record {
+    home = λ ne k x low. each_of (λ z. IsHomeBy facts z) others items (λ i y at. old.home in_order_stray i y (get_low others i y at) at) (λ i y at. now.home ne i y (get_low items i y at) at) k x;
+    stray = λ e. stray_behind facts others items (now.stray e);
+    between = λ e t k x low. each_of (λ z. IsBetweenBy facts z file) others items (λ i y at. old.between refl t i y (get_low others i y at) at) (λ i y at. now.between e t i y (get_low items i y at) at) k x;
+    mixed = λ e t. mixed_behind facts others items file (now.mixed e t);
+  }
+
+  pub after_stray : Judged tells facts others (length others) file Stray → Judged tells facts (others ++ items) (length (others ++ items)) file Stray
+  after_stray old = let n = old.stray refl in found_stray tells facts (others ++ items) file n.0 n.1 (get_before others items n.0 n.1 n.2) n.3
+
+  pub after_mixed : ((k : ℕ) (x : Item) → slice_get items k ≡ Some x → IsHomeBy facts x) → Judged tells facts others (length others) file Mixed → Judged tells facts (others ++ items) (length (others ++ items)) file Mixed
+  after_mixed home old = found_mixed tells facts (others ++ items) file
+      (each_of (λ z. IsHomeBy facts z) others items (λ i y at. old.home (λ e. stray_mixed (sym e)) i y (get_low others i y at) at) home)
+      (λ t. let n = old.mixed refl t in (n.0, n.1, get_before others items n.0 n.1 n.2, n.3))
+
+  pub stray_after : HasStray facts items → Judged tells facts (others ++ items) (length (others ++ items)) file Stray
+  stray_after w = let n = stray_behind facts others items w in found_stray tells facts (others ++ items) file n.0 n.1 n.2 n.3

@@ -17,4 +17,7 @@ pub mod Findings
 pub mod Named
 pub mod Followed
 pub mod Steps
+pub mod Batches
+pub mod Batched
 pub mod Judged
+pub mod Surveyed

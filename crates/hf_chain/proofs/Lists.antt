@@ -1,6 +1,6 @@
 -- Items of lists by place.
 use Rattle.std.proofs.Common.{◌≡◌, ◌∙◌, ◌⊎◌, inl, inr, ℕ, zero, suc, ◌+◌, ◌<◌, List, [], ◌∷◌, ◌++◌, length, refl, sym, ap, arith, Option, Some, None, Result, Ok, Err, length-append}
-use Rattle.std.specs.Prelude.{slice_get, map, IfOk}
+use Rattle.std.specs.Prelude.{slice_get, map, IfOk, OnOk}
 
 pub get_low : {A : Type 0} (xs : List A) (i : ℕ) (x : A) → slice_get xs i ≡ Some x → i < length xs
 get_low [] i x h = absurd (let e : None ≡ Some x = h in cc)
@@ -59,7 +59,27 @@ get_some [] i low = absurd (omega (arith, low))
 get_some (x ∷ xs) zero low = (x, refl)
 get_some (x ∷ xs) (suc i) low = get_some xs i (omega (arith, low))
 
+-- ---- two lists, one behind the other
+
+pub get_before : {A : Type 0} (xs ys : List A) (i : ℕ) (x : A) → slice_get xs i ≡ Some x → slice_get (xs ++ ys) i ≡ Some x
+get_before [] ys i x h = absurd (let e : None ≡ Some x = h in cc)
+get_before (y ∷ xs) ys zero x h = h
+get_before (y ∷ xs) ys (suc i) x h = get_before xs ys i x h
+
+pub get_behind : {A : Type 0} (xs ys : List A) (i : ℕ) → slice_get (xs ++ ys) (length xs + i) ≡ slice_get ys i
+get_behind [] ys i = ap (slice_get ys) (omega arith)
+get_behind (y ∷ xs) ys i = let e : suc (length xs) + i ≡ suc (length xs + i) = omega arith in ap (slice_get (y ∷ (xs ++ ys))) e ∙ get_behind xs ys i
+
+pub get_either : {A : Type 0} (xs ys : List A) (i : ℕ) (x : A) → slice_get (xs ++ ys) i ≡ Some x → (slice_get xs i ≡ Some x) ⊎ ((j : ℕ) × (slice_get ys j ≡ Some x))
+get_either [] ys i x h = inr (i, h)
+get_either (y ∷ xs) ys zero x h = inl h
+get_either (y ∷ xs) ys (suc i) x h = get_either xs ys i x h
+
 -- what is true of a result is so of another thing that follows from it
 pub if_ok : {A E : Type 0} {P Q : A → Type 0} (r : Result A E) → ((x : A) → P x → Q x) → IfOk r P → IfOk r Q
 if_ok (Ok x) f h = f x h
 if_ok (Err e) f h = tt
+
+pub if_ok_with : {A E M : Type 0} {P Q : A → Type 0} (r : Result A E) → OnOk r M → ((x : A) → M → P x → Q x) → IfOk r P → IfOk r Q
+if_ok_with (Ok x) m f h = f x m h
+if_ok_with (Err e) m f h = tt

@@ -10,7 +10,7 @@ use Rattle.hf_chain.specs.declared.facts.Fact.{Fact}
 use Rattle.hf_chain.specs.declared.reaching.Item.{Item}
 use Rattle.hf_chain.specs.Heads.{capped}
 use Rattle.hf_chain.specs.Facts.{Ascend, Names, IsListedAt, spot, place_in}
-use Rattle.hf_chain.specs.Reaching.{Reached, Reach, code, root, child, IsIn, root_item, child_item, numbered, seen, all_seen, IsItem, Grew, AreLow, trues, Marked, Follows, Stops, AreRead, IsAllReached, IsNotOnce}
+use Rattle.hf_chain.specs.Reaching.{Reached, Reach, code, root, child, IsIn, root_item, child_item, numbered, seen, all_seen, IsItem, AreLow, trues, Marked, Follows, Stops, AreRead, IsAllReached, IsNotOnce}
 use Rattle.hf_chain.proofs.Lists.{get_low, get_front, get_end, long, which, same_item, get_map, got_map, map_push, map_long, get_some}
 use Rattle.hf_chain.proofs.Followed.{child_place, child_bucket, code_same, code_low, bucket_none, chain_none, not_reached, pushed, bucket_twice, chain_twice}
 
@@ -88,15 +88,6 @@ followed_long facts p from items new (inr o) = omega (arith, ap length o.4, long
 pub followed_at : (facts : List Fact) (p : ℕ) (from : Item) (items new : List Item) (k : ℕ) (y : Item) → Follows facts p from items new → slice_get items k ≡ Some y → slice_get new k ≡ Some y
 followed_at facts p from items new k y (inl o) at = ap (λ (l : List Item). slice_get l k) o.1 ∙ at
 followed_at facts p from items new k y (inr o) at = ap (λ (l : List Item). slice_get l k) o.4 ∙ get_front items (numbered from o.0) k (get_low items k y at) ∙ at
-
-pub grew_refl : (items : List Item) → Grew items items
-grew_refl items = record { long = omega arith; same = λ k x at. at }
-
-pub grew_then : (old mid new : List Item) → Grew old mid → Grew mid new → Grew old new
-grew_then old mid new a b = record { long = omega (arith, a.long, b.long); same = λ k x at. b.same k x (a.same k x at) }
-
-pub followed_grew : (facts : List Fact) (p : ℕ) (from : Item) (items new : List Item) → Follows facts p from items new → Grew items new
-followed_grew facts p from items new f = record { long = followed_long facts p from items new f; same = λ k y at. followed_at facts p from items new k y f at }
 
 module _ (links : Links) (records : Records) (n : ℕ) (facts : List Fact) (read : AreRead links records facts) where
   spot_same : (m l : ℕ) → 0 < m → m ≤ length facts → 0 < l → l ≤ length facts → spot facts m ≡ spot facts l → m ≡ l

@@ -1,3 +1,4 @@
+pub mod Batches
 pub mod Chains
 pub mod Costs
 pub mod Differs
@@ -13,3 +14,5 @@ pub mod Listing
 pub mod Orders
 pub mod Passes
 pub mod Reaching
+pub mod Surveys
+pub mod Trees

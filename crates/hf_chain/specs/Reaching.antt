@@ -84,11 +84,6 @@ all_seen facts items = map (seen facts) items
 abbrev pub IsItem : List Item → ℕ → Type 0
 IsItem items n = (k : ℕ) × (x : Item) × (slice_get items k ≡ Some x) × (x.number ≡ n)
 
--- more were reached behind those
-pub record Grew (old new : List Item) : Type 0 where
-  pub long : length old ≤ length new
-  pub same : (k : ℕ) (x : Item) → slice_get old k ≡ Some x → slice_get new k ≡ Some x
-
 -- each number is one of so many records
 abbrev pub AreLow : ℕ → List Item → Type 0
 AreLow n items = (k : ℕ) (x : Item) → slice_get items k ≡ Some x → (0 < x.number) × (x.number ≤ n) × (x.above ≤ n) × (x.below ≤ n)
@@ -154,12 +149,6 @@ pub record AllReached (links : Links) (records : Records) (n : ℕ) (items : Lis
 -- that isn't so, of links that name a record or none
 abbrev pub IsNotOnce : Links → Records → ℕ → Type 0
 IsNotOnce links records n = NamesRecords links records n → ReachedOnce links records n → ⊥
-
--- none is reached yet, and there is a mark for each record
-pub record NoneReached (facts : List Fact) (items : List Item) (marks : List Bool) : Type 0 where
-  pub none : items ≡ []
-  pub long : length marks ≡ length facts
-  pub marked : Marked items marks
 
 -- what the fact of an item says: it is in its key's bucket, and has its key's second hash
 abbrev pub IsHomeBy : List Fact → Item → Type 0

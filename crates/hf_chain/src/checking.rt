@@ -15,7 +15,7 @@ ghost use Rattle.hf_chain.specs.Orders.{Refutes};
 ghost use Rattle.hf_chain.specs.Reaching.{IsNotOnce};
 ghost use Rattle.hf_chain.specs.Listing.{AreListed, WereListed, AllHold, Breaks};
 
-use crate::facts::{Facts, read_facts};
+use crate::facts::Facts;
 use crate::guessing::{Guesses, guess};
 use crate::judging::Verdict;
 use crate::naming::{chains_named, entries_named};
@@ -99,8 +99,11 @@ fn broken_link<S: Space>(
     Ok(ONCE)
 }
 
-// The rules of links and records, where these are the facts of all records.
-fn check_facts<S: Space>(
+/// Checks the rules of links and records, each over the whole file before the next: each link names a record or none, the buckets reach each
+/// record once, each record is at home, each bucket's tree is in order, and the head has the number of records. `Broken` names the first that
+/// doesn't hold. The facts are what `survey_blocks` finds. Keys of more than 16 bytes that have
+/// their second hash, length and first 16 bytes in common are read again to be compared.
+pub fn check<S: Space>(
     alloc: Global,
     space: &mut S,
     file: u32,
@@ -120,37 +123,11 @@ fn check_facts<S: Space>(
         return Err(WalkErr::Memory);
     };
     match reach(alloc, space, file, head, facts, &guesses) {
-        Ok(Some(trees)) => conclude(head, facts, trees.verdict),
+        Ok(Some(verdict)) => conclude(head, facts, verdict),
         Ok(None) => match broken_link(alloc, space, file, head, facts, &guesses) {
             Ok(rule) => Err(WalkErr::Broken(rule)),
             Err(e) => Err(walk_err(e)),
         },
-        Err(e) => Err(walk_err(e)),
-    }
-}
-
-/// Checks the rules of links and records, each over the whole file before the next: each link names a record or none, the buckets reach each
-/// record once, each record is at home, each bucket's tree is in order, and the head has the number of records. `Broken` names the first that
-/// doesn't hold. The list of blocks is what `walk` gives. Each record's head and key are read once, many at a time; keys of more
-/// than 16 bytes that have their second hash, length and first 16 bytes in common are read again to be compared.
-pub fn check<S: Space>(
-    alloc: Global,
-    space: &mut S,
-    file: u32,
-    head: &Head,
-    blocks: &Blocks,
-) -> Result<(), WalkErr>
-    requires sound { S.sound space.old }
-    requires file { IsDataFile file }
-    requires head { IsValid head.now }
-    requires listed { S.tells → WereListed head.now (S.now space.old file) blocks.now }
-    ensures hold { OnOk result (S.tells → (ps : List Piece) → AreListed head.now ps (S.now space.old file) blocks.now → AllHold head.now ps (S.now space.old file)) }
-    ensures broken { (rule : Rule) → result ≡ Err (WalkErr.Broken rule) → S.tells → (ps : List Piece) → AreListed head.now ps (S.now space.old file) blocks.now → Breaks head.now ps (S.now space.old file) rule }
-    ensures reads { OnlyReads S.Space space.old space.new }
-    ensures cause { IsErrOf result WalkErr.Fault → Rose (S.faults space.old) (S.faults space.new) }
-{
-    match read_facts(alloc, space, file, head, blocks) {
-        Ok(facts) => check_facts(alloc, space, file, head, &facts),
         Err(e) => Err(walk_err(e)),
     }
 }

@@ -1,5 +1,5 @@
 //! The rules that each record is at home, and that each bucket's tree is in order.
-ghost use Rattle.std.specs.Prelude.{◌≡◌, ◌↔◌, ℕ, ◌+◌, ◌^◌, ◌<◌, ◌≤◌, List, IfOk, IsTrue, true, false, Some, slice_get, length, take, drop};
+ghost use Rattle.std.specs.Prelude.{◌≡◌, ◌↔◌, ℕ, ◌+◌, ◌^◌, ◌<◌, ◌≤◌, ◌++◌, List, IfOk, IsTrue, true, false, Some, slice_get, length, take, drop};
 ghost use Rattle.std.specs.Ordering.{nat_cmp};
 ghost use Rattle.std.specs.Cmp.Lexicographic.{slice_cmp};
 ghost use Rattle.tc_io.specs.Causes.{HasCause};
@@ -9,7 +9,6 @@ ghost use Rattle.hf_tree.specs.Keys.{key_cmp};
 ghost use Rattle.hf_chain.specs.declared.reaching.Item.{Item};
 ghost use Rattle.hf_chain.specs.Facts.{IsFactOf};
 ghost use Rattle.hf_chain.specs.Reaching.{AreLow, IsHomeBy};
-ghost use Rattle.hf_chain.specs.declared.judging.Verdict.TheVariants.{InOrder as in_order};
 ghost use Rattle.hf_chain.specs.Orders.{AreTrue, ComparesBy, HasKey, IsBetweenBy, Judged, key_in};
 
 use crate::comparing::compare_bytes;
@@ -44,14 +43,13 @@ fn is_home(facts: &Facts, item: &Item) -> bool
     fact.hash == fact.second
 }
 
-// Whether each record that was reached is in its key's bucket, and has its key's second hash, as those before `start` are.
-fn all_home(facts: &Facts, items: &Items, start: usize) -> bool
+// Whether each of these records is in its key's bucket, and has its key's second hash.
+fn all_home(facts: &Facts, items: &Items) -> bool
     requires low { AreLow (length facts.now) items.now }
-    requires front { (k : ℕ) (x : Item) → k < start → slice_get items.now k ≡ Some x → IsHomeBy facts.now x }
     ensures yes { result ≡ true → (k : ℕ) (x : Item) → slice_get items.now k ≡ Some x → IsHomeBy facts.now x }
     ensures no { result ≡ false → (k : ℕ) × (x : Item) × (slice_get items.now k ≡ Some x) × (IsHomeBy facts.now x → ⊥) }
 {
-    for k in start..items.len() {
+    for k in 0..items.len() {
         let item = *items.at(k);
         if !is_home(facts, &item) {
             return false;
@@ -286,27 +284,24 @@ fn is_between<S: Space>(
     }
 }
 
-// Whether each record that was reached is above the one that it hangs left of, and below the one that it hangs right of, as those before
-// `start` are.
+// Whether each of these records is above the one that it hangs left of, and below the one that it hangs right of.
 fn all_between<S: Space>(
     space: &mut S,
     file: u32,
     head: &Head,
     facts: &Facts,
     items: &Items,
-    start: usize,
 ) -> Result<bool, Fault>
     requires sound { S.sound space.old }
     requires file { IsDataFile file }
     requires low { AreLow (length facts.now) items.now }
     requires all { S.tells → AreTrue head.now facts.now (S.now space.old file) }
-    requires front { S.tells → (k : ℕ) (x : Item) → k < start → slice_get items.now k ≡ Some x → IsBetweenBy facts.now x (S.now space.old file) }
     ensures yes { IfOk result (λ is. is ≡ true → S.tells → (k : ℕ) (x : Item) → slice_get items.now k ≡ Some x → IsBetweenBy facts.now x (S.now space.old file)) }
     ensures no { IfOk result (λ is. is ≡ false → S.tells → (k : ℕ) × (x : Item) × (slice_get items.now k ≡ Some x) × (IsBetweenBy facts.now x (S.now space.old file) → ⊥)) }
     ensures reads { OnlyReads S.Space space.old space.new }
     ensures cause { HasCause (S.faults space.old) (S.faults space.new) result }
 {
-    for k in start..items.len() {
+    for k in 0..items.len() {
         let item = *items.at(k);
         match is_between(space, file, head, facts, &item) {
             Ok(true) => {}
@@ -317,59 +312,55 @@ fn all_between<S: Space>(
     Ok(true)
 }
 
-// The same as `judge`, where all those before were in order.
+// What is found of these records alone.
 fn judge_all<S: Space>(
     space: &mut S,
     file: u32,
     head: &Head,
     facts: &Facts,
     items: &Items,
-    start: usize,
 ) -> Result<Verdict, Fault>
     requires sound { S.sound space.old }
     requires file { IsDataFile file }
     requires low { AreLow (length facts.now) items.now }
     requires all { S.tells → AreTrue head.now facts.now (S.now space.old file) }
-    requires front { Judged S.tells facts.now items.now start (S.now space.old file) in_order }
     ensures judged { IfOk result (Judged S.tells facts.now items.now (length items.now) (S.now space.old file)) }
     ensures reads { OnlyReads S.Space space.old space.new }
     ensures cause { HasCause (S.faults space.old) (S.faults space.new) result }
 {
-    if !all_home(facts, items, start) {
+    if !all_home(facts, items) {
         return Ok(Verdict::Stray);
     }
-    match all_between(space, file, head, facts, items, start) {
+    match all_between(space, file, head, facts, items) {
         Ok(true) => Ok(Verdict::InOrder),
         Ok(false) => Ok(Verdict::Mixed),
         Err(e) => Err(e),
     }
 }
 
-/// What is found of all records that were reached, where those before `start` were judged. Keys are read where their hashes, lengths and
-/// first 16 bytes are the same, and there is more of them.
+/// What is found of all records that were reached, which are these and others before them, of which that was found. Keys are read where
+/// their hashes, lengths and first 16 bytes are the same, and there is more of them.
 pub fn judge<S: Space>(
     space: &mut S,
     file: u32,
     head: &Head,
     facts: &Facts,
     items: &Items,
-    start: usize,
     before: Verdict,
 ) -> Result<Verdict, Fault>
     requires sound { S.sound space.old }
     requires file { IsDataFile file }
     requires low { AreLow (length facts.now) items.now }
     requires all { S.tells → AreTrue head.now facts.now (S.now space.old file) }
-    requires front { Judged S.tells facts.now items.now start (S.now space.old file) before }
-    ensures judged { IfOk result (Judged S.tells facts.now items.now (length items.now) (S.now space.old file)) }
+    ensures judged { IfOk result (λ found. (others : List Item) → Judged S.tells facts.now others (length others) (S.now space.old file) before → Judged S.tells facts.now (others ++ items.now) (length (others ++ items.now)) (S.now space.old file) found) }
     ensures reads { OnlyReads S.Space space.old space.new }
     ensures cause { HasCause (S.faults space.old) (S.faults space.new) result }
 {
     match before {
-        Verdict::InOrder => judge_all(space, file, head, facts, items, start),
+        Verdict::InOrder => judge_all(space, file, head, facts, items),
         Verdict::Stray => Ok(Verdict::Stray),
         Verdict::Mixed => {
-            if all_home(facts, items, start) {
+            if all_home(facts, items) {
                 return Ok(Verdict::Mixed);
             }
             Ok(Verdict::Stray)

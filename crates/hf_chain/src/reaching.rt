@@ -2,16 +2,15 @@
 ghost use Rattle.std.specs.Prelude.{◌≡◌, ℕ, ◌+◌, ◌-◌, ◌*◌, ◌^◌, ◌<◌, ◌≤◌, ◌++◌, [], ◌∷◌, List, IfOk, IfSome, IfNone, OnOk, IsErrOf, true, false, Some, slice_get, length, replicate};
 ghost use Rattle.tc_io.specs.Causes.{Rose};
 ghost use Rattle.tc_space.specs.Frames.{OnlyReads};
-ghost use Rattle.tc_window.specs.Windows.{Shows};
 ghost use Rattle.hf_block.specs.Pieces.{Piece};
 ghost use Rattle.hf_layout.specs.Layout.{record_at};
 ghost use Rattle.hf_tree.specs.Links.{links_of};
-ghost use Rattle.hf_tree.specs.Rules.{Links, Records, left, right};
-ghost use Rattle.hf_chain.specs.Entries.{AreRoots};
+ghost use Rattle.hf_tree.specs.Rules.{left, right};
+ghost use Rattle.hf_chain.specs.Batches.{AreMarked, ChainsOn, ChainsStop, FollowsOn, RootsOn, RootsStop, StayMarked, StopsOn, TreesOn, TreesStop};
 ghost use Rattle.hf_chain.specs.Facts.{AreFacts};
-ghost use Rattle.hf_chain.specs.Orders.{Judged};
 ghost use Rattle.hf_chain.specs.Passes.{Surveyed};
-ghost use Rattle.hf_chain.specs.Reaching.{AllReached, AreLow, AreRead, Follows, Grew, IsItem, IsNotOnce, Marked, NoneReached, Reach, Stops, all_seen, child_item};
+ghost use Rattle.hf_chain.specs.Reaching.{AreLow, IsItem, IsNotOnce, Marked, child_item};
+ghost use Rattle.hf_chain.specs.Trees.{WereJudged};
 
 use crate::facts::Facts;
 use crate::guessing::Guesses;
@@ -35,19 +34,18 @@ pub struct Item {
     pub below: u64,
 }
 
-/// The records that were reached, in the order in which they were.
+/// Records that were reached, in the order in which they were.
 pub type Items = Seq<Item>;
 
-// Adds a record to those reached, and marks it; false where it was reached before.
+// Adds a record to those reached, and marks it; false where it was reached before, by these buckets or others.
 fn add(items: &mut Items, marks: &mut [bool], item: Item) -> Result<bool, AllocError>
     requires number { (0 < item.number) × (item.number ≤ length marks.old) }
     requires above { item.above ≤ length marks.old }
     requires below { item.below ≤ length marks.old }
-    requires marked { Marked items.old marks.old }
-    ensures marked { OnOk result (Marked items.new marks.new) }
-    ensures longer { OnOk result (length items.old ≤ length items.new) }
-    ensures fresh { IfOk result (λ is. is ≡ true → (items.new ≡ items.old ++ item ∷ []) × (IsItem items.old item.number → ⊥)) }
-    ensures twice { IfOk result (λ is. is ≡ false → IsItem items.old item.number) }
+    requires marked { AreMarked items.old marks.old }
+    ensures marked { OnOk result (StayMarked items.old marks.old items.new marks.new) }
+    ensures fresh { IfOk result (λ is. is ≡ true → (items.new ≡ items.old ++ item ∷ []) × ((before : List Item) → Marked (before ++ items.old) marks.old → IsItem (before ++ items.old) item.number → ⊥)) }
+    ensures twice { IfOk result (λ is. is ≡ false → (before : List Item) → Marked (before ++ items.old) marks.old → IsItem (before ++ items.old) item.number) }
 {
     let i = (item.number - 1) as usize;
     if marks[i] {
@@ -70,10 +68,10 @@ fn follow(
 ) -> Result<bool, AllocError>
     requires long { length marks.old ≡ length facts.now }
     requires low { (from.now.above ≤ length facts.now) × (from.now.below ≤ length facts.now) }
-    requires marked { Marked items.old marks.old }
-    ensures marked { OnOk result (Marked items.new marks.new) }
-    ensures follows { IfOk result (λ is. is ≡ true → Follows facts.now place from.now items.old items.new) }
-    ensures stops { IfOk result (λ is. is ≡ false → Stops facts.now place items.old) }
+    requires marked { AreMarked items.old marks.old }
+    ensures marked { OnOk result (StayMarked items.old marks.old items.new marks.new) }
+    ensures follows { IfOk result (λ is. is ≡ true → FollowsOn facts.now place from.now items.old marks.old items.new) }
+    ensures stops { IfOk result (λ is. is ≡ false → StopsOn facts.now place items.old marks.old) }
 {
     let number = match resolve(facts, likely, place) {
         Some(number) => number,
@@ -127,11 +125,9 @@ fn follow_both(
 ) -> Result<bool, AllocError>
     requires there { k < length items.old }
     requires long { length marks.old ≡ length facts.now }
-    requires marked { Marked items.old marks.old }
-    ensures marked { OnOk result (Marked items.new marks.new) }
-    ensures grew { IfOk result (λ is. is ≡ true → Grew items.old items.new) }
-    ensures reached { IfOk result (λ is. is ≡ true → (links : Links) (records : Records) (n roots : ℕ) → AreRead links records facts.now → Reach links records n (all_seen facts.now items.old) roots (2 * k) → Reach links records n (all_seen facts.now items.new) roots (2 * k + 2)) }
-    ensures stops { IfOk result (λ is. is ≡ false → (links : Links) (records : Records) (n roots : ℕ) → AreRead links records facts.now → Reach links records n (all_seen facts.now items.old) roots (2 * k) → IsNotOnce links records n) }
+    requires marked { AreMarked items.old marks.old }
+    ensures reached { IfOk result (λ is. is ≡ true → ChainsOn facts.now items.old marks.old items.new marks.new k (k + 1)) }
+    ensures stops { IfOk result (λ is. is ≡ false → ChainsStop facts.now items.old marks.old k) }
 {
     let item = *items.at(k);
     let fact = *facts.at((item.number - 1) as usize);
@@ -170,11 +166,9 @@ fn follow_row(
     requires there { (from ≤ to) × (to ≤ length items.old) }
     requires guessed { length likely.now ≡ 2 * (to - from) }
     requires long { length marks.old ≡ length facts.now }
-    requires marked { Marked items.old marks.old }
-    ensures marked { OnOk result (Marked items.new marks.new) }
-    ensures grew { IfOk result (λ is. is ≡ true → Grew items.old items.new) }
-    ensures reached { IfOk result (λ is. is ≡ true → (links : Links) (records : Records) (n roots : ℕ) → AreRead links records facts.now → Reach links records n (all_seen facts.now items.old) roots (2 * from) → Reach links records n (all_seen facts.now items.new) roots (2 * to)) }
-    ensures stops { IfOk result (λ is. is ≡ false → (links : Links) (records : Records) (n roots : ℕ) → AreRead links records facts.now → Reach links records n (all_seen facts.now items.old) roots (2 * from) → IsNotOnce links records n) }
+    requires marked { AreMarked items.old marks.old }
+    ensures reached { IfOk result (λ is. is ≡ true → ChainsOn facts.now items.old marks.old items.new marks.new from to) }
+    ensures stops { IfOk result (λ is. is ≡ false → ChainsStop facts.now items.old marks.old from) }
 {
     for k in from..to {
         let left = likely[2 * (k - from)];
@@ -200,11 +194,9 @@ fn follow_some(
     requires few { to - from ≤ 128 }
     requires there { (from ≤ to) × (to ≤ length items.old) }
     requires long { length marks.old ≡ length facts.now }
-    requires marked { Marked items.old marks.old }
-    ensures marked { OnOk result (Marked items.new marks.new) }
-    ensures grew { IfOk result (λ is. is ≡ true → Grew items.old items.new) }
-    ensures reached { IfOk result (λ is. is ≡ true → (links : Links) (records : Records) (n roots : ℕ) → AreRead links records facts.now → Reach links records n (all_seen facts.now items.old) roots (2 * from) → Reach links records n (all_seen facts.now items.new) roots (2 * to)) }
-    ensures stops { IfOk result (λ is. is ≡ false → (links : Links) (records : Records) (n roots : ℕ) → AreRead links records facts.now → Reach links records n (all_seen facts.now items.old) roots (2 * from) → IsNotOnce links records n) }
+    requires marked { AreMarked items.old marks.old }
+    ensures reached { IfOk result (λ is. is ≡ true → ChainsOn facts.now items.old marks.old items.new marks.new from to) }
+    ensures stops { IfOk result (λ is. is ≡ false → ChainsStop facts.now items.old marks.old from) }
 {
     let mut places = [0; AT_ONCE];
     let mut likely = [0; AT_ONCE];
@@ -214,23 +206,19 @@ fn follow_some(
     follow_row(facts, &likely[..links], from, to, items, marks)
 }
 
-// Follows the chains of all records that are reached, from one of them on.
+// Follows the chains of all these records, and of those that they reach.
 fn follow_all(
     facts: &Facts,
     guesses: &Guesses,
-    start: usize,
     items: &mut Items,
     marks: &mut [bool],
 ) -> Result<bool, AllocError>
-    requires there { start ≤ length items.old }
     requires long { length marks.old ≡ length facts.now }
-    requires marked { Marked items.old marks.old }
-    ensures marked { OnOk result (Marked items.new marks.new) }
-    ensures grew { IfOk result (λ is. is ≡ true → Grew items.old items.new) }
-    ensures reached { IfOk result (λ is. is ≡ true → (links : Links) (records : Records) (n roots : ℕ) → AreRead links records facts.now → Reach links records n (all_seen facts.now items.old) roots (2 * start) → Reach links records n (all_seen facts.now items.new) roots (2 * length items.new)) }
-    ensures stops { IfOk result (λ is. is ≡ false → (links : Links) (records : Records) (n roots : ℕ) → AreRead links records facts.now → Reach links records n (all_seen facts.now items.old) roots (2 * start) → IsNotOnce links records n) }
+    requires marked { AreMarked items.old marks.old }
+    ensures reached { IfOk result (λ is. is ≡ true → ChainsOn facts.now items.old marks.old items.new marks.new 0 (length items.new)) }
+    ensures stops { IfOk result (λ is. is ≡ false → ChainsStop facts.now items.old marks.old 0) }
 {
-    let mut k = start;
+    let mut k = 0;
     while k < items.len() {
         let to = k + (items.len() - k).min(AT_ONCE / 2);
         match follow_some(facts, guesses, k, to, items, marks) {
@@ -268,11 +256,9 @@ fn follow_roots(
     requires low { first + length places.now < 2 ^ 64 }
     requires guessed { length places.now ≤ length likely.now }
     requires long { length marks.old ≡ length facts.now }
-    requires marked { Marked items.old marks.old }
-    ensures marked { OnOk result (Marked items.new marks.new) }
-    ensures grew { IfOk result (λ is. is ≡ true → Grew items.old items.new) }
-    ensures reached { IfOk result (λ is. is ≡ true → (links : Links) (records : Records) (n : ℕ) → AreRead links records facts.now → AreRoots links n first places.now → Reach links records n (all_seen facts.now items.old) first (2 * length items.old) → Reach links records n (all_seen facts.now items.new) (first + length places.now) (2 * length items.old)) }
-    ensures stops { IfOk result (λ is. is ≡ false → (links : Links) (records : Records) (n : ℕ) → AreRead links records facts.now → AreRoots links n first places.now → Reach links records n (all_seen facts.now items.old) first (2 * length items.old) → IsNotOnce links records n) }
+    requires marked { AreMarked items.old marks.old }
+    ensures reached { IfOk result (λ is. is ≡ true → RootsOn facts.now first places.now items.old marks.old items.new marks.new (length places.now)) }
+    ensures stops { IfOk result (λ is. is ≡ false → RootsStop facts.now first places.now items.old marks.old) }
 {
     let mut next = 0;
     for i in 0..places.len() {
@@ -297,7 +283,7 @@ fn follow_roots(
     Ok(true)
 }
 
-// Follows the entries of some buckets, which name these places, and then all chains of their trees, behind those of the buckets before them.
+// Follows the entries of some buckets, which name these places, and then all chains of their trees; the list of records is empty before.
 fn reach_some(
     facts: &Facts,
     guesses: &Guesses,
@@ -309,19 +295,17 @@ fn reach_some(
     requires low { first + length places.now < 2 ^ 64 }
     requires few { length places.now ≤ 256 }
     requires long { length marks.old ≡ length facts.now }
-    requires marked { Marked items.old marks.old }
-    ensures marked { OnOk result (Marked items.new marks.new) }
-    ensures grew { IfOk result (λ is. is ≡ true → Grew items.old items.new) }
-    ensures reached { IfOk result (λ is. is ≡ true → (links : Links) (records : Records) (n : ℕ) → AreRead links records facts.now → AreRoots links n first places.now → Reach links records n (all_seen facts.now items.old) first (2 * length items.old) → Reach links records n (all_seen facts.now items.new) (first + length places.now) (2 * length items.new)) }
-    ensures stops { IfOk result (λ is. is ≡ false → (links : Links) (records : Records) (n : ℕ) → AreRead links records facts.now → AreRoots links n first places.now → Reach links records n (all_seen facts.now items.old) first (2 * length items.old) → IsNotOnce links records n) }
+    requires none { items.old ≡ [] }
+    requires marked { AreMarked items.old marks.old }
+    ensures reached { IfOk result (λ is. is ≡ true → TreesOn facts.now first places.now marks.old items.new marks.new) }
+    ensures stops { IfOk result (λ is. is ≡ false → TreesStop facts.now first places.now marks.old) }
 {
-    let start = items.len();
     let mut named = [0; AT_ONCE];
     let mut likely = [0; AT_ONCE];
     let count = gather(places, &mut named);
     guesses.likely_all(facts, &named[..count], &mut likely[..count]);
     match follow_roots(facts, &likely, first, places, items, marks) {
-        Ok(true) => follow_all(facts, guesses, start, items, marks),
+        Ok(true) => follow_all(facts, guesses, items, marks),
         Ok(false) => Ok(false),
         Err(e) => Err(e),
     }
@@ -340,48 +324,58 @@ fn all_marked(marks: &[bool]) -> bool
     true
 }
 
-// Follows the entries of all buckets, some at a time with their trees, and judges what those reach.
+// The list of no records, in the memory of another.
+fn emptied(items: Items) -> Items
+    ensures { result ≡ [] }
+{
+    let mut rest = items.into_vec();
+    rest.clear();
+    Items::from_vec(rest)
+}
+
+// Follows the entries of all buckets, some at a time with their trees, and judges what those reach; nothing where a link names what is no
+// record, or not each record is reached once. Only the marks last from some buckets to the next.
 fn reach_buckets<S: Space>(
+    alloc: Global,
     space: &mut S,
     file: u32,
     head: &Head,
     facts: &Facts,
     guesses: &Guesses,
-    window: &mut Window,
-    items: &mut Items,
     marks: &mut [bool],
-    verdict: &mut Verdict,
-) -> Result<bool, ReadErr>
+) -> Result<Option<Verdict>, ReadErr>
     requires surveyed { Surveyed S.Space head.now space.old file facts.now }
-    requires shows { S.tells → Shows window.old (S.now space.old file) }
-    requires none { NoneReached facts.now items.old marks.old }
-    ensures marked { OnOk result (Marked items.new marks.new) }
-    ensures reached { IfOk result (λ is. is ≡ true → S.tells → (ps : List Piece) → AreFacts head.now ps (S.now space.old file) facts.now → Reach (links_of head.now ps (S.now space.old file)) (record_at head.now.first ps) head.now.buckets (all_seen facts.now items.new) head.now.buckets (2 * length items.new)) }
-    ensures judged { IfOk result (λ is. is ≡ true → Judged S.tells facts.now items.new (length items.new) (S.now space.old file) verdict.new) }
-    ensures stops { IfOk result (λ is. is ≡ false → S.tells → (ps : List Piece) → AreFacts head.now ps (S.now space.old file) facts.now → IsNotOnce (links_of head.now ps (S.now space.old file)) (record_at head.now.first ps) head.now.buckets) }
+    requires unset { marks.old ≡ replicate (length facts.now) false }
+    ensures some { IfOk result (λ found. IfSome found (λ verdict. WereJudged S.tells head.now (S.now space.old file) facts.now verdict)) }
+    ensures none { IfOk result (λ found. IfNone found (S.tells → (ps : List Piece) → AreFacts head.now ps (S.now space.old file) facts.now → IsNotOnce (links_of head.now ps (S.now space.old file)) (record_at head.now.first ps) head.now.buckets)) }
     ensures reads { OnlyReads S.Space space.old space.new }
     ensures cause { IsErrOf result ReadErr.Fault → Rose (S.faults space.old) (S.faults space.new) }
 {
-    *verdict = Verdict::InOrder;
+    let mut window = Window::new(alloc);
+    let mut items = Items::new(alloc);
+    let mut verdict = Verdict::InOrder;
     let mut room = [0; AT_ONCE];
     let mut first = 0;
     while first < head.buckets {
         let count = (head.buckets - first).min(AT_ONCE as u64) as usize;
         let places = &mut room[..count];
-        entries(space, file, head, first, window, places)?;
-        let start = items.len();
-        match reach_some(facts, guesses, first, places, items, marks) {
+        entries(space, file, head, first, &mut window, places)?;
+        items = emptied(items);
+        match reach_some(facts, guesses, first, places, &mut items, marks) {
             Ok(true) => {}
-            Ok(false) => return Ok(false),
+            Ok(false) => return Ok(None),
             Err(e) => return Err(ReadErr::from(e)),
         }
-        match judge(space, file, head, facts, items, start, *verdict) {
-            Ok(found) => *verdict = found,
+        match judge(space, file, head, facts, &items, verdict) {
+            Ok(found) => verdict = found,
             Err(e) => return Err(ReadErr::from(e)),
         }
         first += count as u64;
     }
-    Ok(true)
+    if all_marked(marks) {
+        return Ok(Some(verdict));
+    }
+    Ok(None)
 }
 
 // A mark for each of so many records, none of them set.
@@ -391,55 +385,8 @@ fn unmarked(alloc: Global, count: usize) -> Result<Vec<bool>, AllocError>
     Ok(vec![in alloc; false; count]?)
 }
 
-// Whether each link names a record or none, and the buckets reach each record once; those reached are added.
-fn reach_into<S: Space>(
-    space: &mut S,
-    file: u32,
-    head: &Head,
-    facts: &Facts,
-    guesses: &Guesses,
-    window: &mut Window,
-    items: &mut Items,
-    marks: &mut [bool],
-    verdict: &mut Verdict,
-) -> Result<bool, ReadErr>
-    requires surveyed { Surveyed S.Space head.now space.old file facts.now }
-    requires shows { S.tells → Shows window.old (S.now space.old file) }
-    requires none { NoneReached facts.now items.old marks.old }
-    ensures low { OnOk result (AreLow (length facts.now) items.new) }
-    ensures some { IfOk result (λ is. is ≡ true → S.tells → (ps : List Piece) → AreFacts head.now ps (S.now space.old file) facts.now → AllReached (links_of head.now ps (S.now space.old file)) (record_at head.now.first ps) head.now.buckets (all_seen facts.now items.new)) }
-    ensures judged { IfOk result (λ is. is ≡ true → Judged S.tells facts.now items.new (length items.new) (S.now space.old file) verdict.new) }
-    ensures none { IfOk result (λ is. is ≡ false → S.tells → (ps : List Piece) → AreFacts head.now ps (S.now space.old file) facts.now → IsNotOnce (links_of head.now ps (S.now space.old file)) (record_at head.now.first ps) head.now.buckets) }
-    ensures reads { OnlyReads S.Space space.old space.new }
-    ensures cause { IsErrOf result ReadErr.Fault → Rose (S.faults space.old) (S.faults space.new) }
-{
-    match reach_buckets(
-        space, file, head, facts, guesses, window, items, marks, verdict,
-    ) {
-        Ok(true) => Ok(all_marked(marks)),
-        Ok(false) => Ok(false),
-        Err(e) => Err(e),
-    }
-}
-
-// No records, with room for so many.
-fn room_for(alloc: Global, count: usize) -> Result<Items, AllocError>
-    ensures { IfOk result (λ items. items ≡ []) }
-{
-    let items = Vec::with_capacity(alloc, count)?;
-    Ok(Items::from_vec(items))
-}
-
-/// The records of a file that the buckets reach.
-#[derive(Drop)]
-pub struct Trees {
-    pub items: Items,
-    /// What is found of them.
-    pub verdict: Verdict,
-}
-
-/// The records of a file, where each link names one of them or none and the buckets reach each of them once, and what is found of them; else
-/// nothing. The trees of some buckets are followed and judged before those of the next.
+/// What is found of the records of a file, where each link names one of them or none and the buckets reach each of them once; else nothing.
+/// The trees of some buckets are followed and judged before those of the next.
 pub fn reach<S: Space>(
     alloc: Global,
     space: &mut S,
@@ -447,32 +394,13 @@ pub fn reach<S: Space>(
     head: &Head,
     facts: &Facts,
     guesses: &Guesses,
-) -> Result<Option<Trees>, ReadErr>
+) -> Result<Option<Verdict>, ReadErr>
     requires surveyed { Surveyed S.Space head.now space.old file facts.now }
-    ensures low { IfOk result (λ found. IfSome found (λ all. AreLow (length facts.now) all.items)) }
-    ensures judged { IfOk result (λ found. IfSome found (λ all. Judged S.tells facts.now all.items (length all.items) (S.now space.old file) all.verdict)) }
-    ensures some { IfOk result (λ found. IfSome found (λ all. S.tells → (ps : List Piece) → AreFacts head.now ps (S.now space.old file) facts.now → AllReached (links_of head.now ps (S.now space.old file)) (record_at head.now.first ps) head.now.buckets (all_seen facts.now all.items))) }
+    ensures some { IfOk result (λ found. IfSome found (λ verdict. WereJudged S.tells head.now (S.now space.old file) facts.now verdict)) }
     ensures none { IfOk result (λ found. IfNone found (S.tells → (ps : List Piece) → AreFacts head.now ps (S.now space.old file) facts.now → IsNotOnce (links_of head.now ps (S.now space.old file)) (record_at head.now.first ps) head.now.buckets)) }
     ensures reads { OnlyReads S.Space space.old space.new }
     ensures cause { IsErrOf result ReadErr.Fault → Rose (S.faults space.old) (S.faults space.new) }
 {
-    let mut window = Window::new(alloc);
-    let mut items = room_for(alloc, facts.len())?;
     let mut marks = unmarked(alloc, facts.len())?;
-    let mut verdict = Verdict::InOrder;
-    match reach_into(
-        space,
-        file,
-        head,
-        facts,
-        guesses,
-        &mut window,
-        &mut items,
-        &mut marks,
-        &mut verdict,
-    ) {
-        Ok(true) => Ok(Some(Trees { items, verdict })),
-        Ok(false) => Ok(None),
-        Err(e) => Err(e),
-    }
+    reach_buckets(alloc, space, file, head, facts, guesses, &mut marks)
 }

@@ -33,7 +33,7 @@ impl Pool {
     ghost use Rattle.hf_pool.specs.Multiples.{LieWithin};
     ghost use Rattle.hf_pool.specs.Joins.{FrontJoined, BackJoined, GivesBack};
     ghost use Rattle.hf_pool.specs.Trims.{Trimmed};
-    ghost use Rattle.hf_block.specs.Rows.{StandInRow, IsListed};
+    ghost use Rattle.hf_block.specs.Rows.{StandApart, IsListed, HaveSameFree};
     ghost use Rattle.hf_pool.specs.Sections.{InOrder, pairs, section_bytes};
 
     /// The size up to which the file has blocks.
@@ -202,7 +202,8 @@ impl Pool {
         }
     }
 
-    /// The free blocks of a list of blocks that stand one after the other from `first` up to `size`, multiples of a unit.
+    /// The free blocks of a list of blocks that stand apart, in ascending place, from `first` up to `size`, a multiple of the unit. Blocks that aren't free
+    /// may be left out.
     pub fn build(
         alloc: Global,
         blocks: &Blocks,
@@ -211,12 +212,12 @@ impl Pool {
         size: u64,
     ) -> Result<Pool, AllocError>
         requires unit { 5 ≤ unit }
-        requires first { first % unit ≡ 0 }
-        requires blocks { StandInRow unit first size blocks.now }
+        requires size { size % unit ≡ 0 }
+        requires blocks { StandApart unit first size blocks.now }
         ensures free { IfOk result (λ pool. (q t : ℕ) → IsThere (frees pool) q t ↔ IsListed blocks.now q t) }
         ensures size { IfOk result (λ pool. pool.size ≡ size) }
         ensures unit { IfOk result (λ pool. pool.unit ≡ unit) }
-        ensures laid { IfOk result (λ pool. (pieces : List Piece) (bytes : List ℕ) → size ≤ length bytes → AreBlocks unit (between first size bytes) pieces → blocks.now ≡ placed first pieces → LaidOut unit first size pieces (frees pool) none bytes) }
+        ensures laid { IfOk result (λ pool. (pieces : List Piece) (bytes : List ℕ) → size ≤ length bytes → AreBlocks unit (between first size bytes) pieces → HaveSameFree blocks.now (placed first pieces) → LaidOut unit first size pieces (frees pool) none bytes) }
     {
         let _ = first;
         let mut index = Index::new(alloc);

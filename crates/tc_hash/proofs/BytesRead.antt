@@ -19,7 +19,8 @@ use Rattle.hf_chain.specs.declared.facts.Fact.{Fact}
 use Rattle.hf_chain.specs.Facts.{fact_of, facts_of}
 use Rattle.hf_chain.specs.Heads.{HasRecord, IsRecordAt}
 use Rattle.hf_chain.specs.Listing.{AreListed}
-use Rattle.hf_chain.proofs.FactRows.{Held_, ReadSo, read_start, read_free, read_held, read_all, stands}
+use Rattle.hf_chain.proofs.FactRows.{stands}
+use Rattle.tc_hash.proofs.BlockRows.{Held_, ReadSo, read_start, read_free, read_held, read_all}
 use Rattle.tc_hash.specs.Listed.{bytes_in, bytes_of}
 use Rattle.tc_hash.proofs.Keyed.{AreSingle, behind, map_of, map_same, not_behind, tail_single}
 

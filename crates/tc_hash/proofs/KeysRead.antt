@@ -16,7 +16,8 @@ use Rattle.hf_chain.specs.Facts.{fact_of, facts_of}
 use Rattle.hf_chain.specs.Heads.{HasRecord, IsRecordAt}
 use Rattle.hf_chain.specs.Listing.{AreListed}
 use Rattle.hf_chain.specs.Orders.{key_in}
-use Rattle.hf_chain.proofs.FactRows.{Held_, ReadSo, read_start, read_free, read_held, read_all, stands}
+use Rattle.hf_chain.proofs.FactRows.{stands}
+use Rattle.tc_hash.proofs.BlockRows.{Held_, ReadSo, read_start, read_free, read_held, read_all}
 use Rattle.hf_chain.proofs.Fronts.{key_at}
 use Rattle.hf_chain.proofs.Lists.{map_push}
 use Rattle.tc_hash.specs.Holding.{HasMap}

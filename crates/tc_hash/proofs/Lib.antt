@@ -21,6 +21,7 @@ pub mod Asking
 pub mod Records
 pub mod Ordered
 pub mod Stored
+pub mod BlockRows
 pub mod KeysRead
 pub mod BytesRead
 pub mod Cleared

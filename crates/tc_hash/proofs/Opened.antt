@@ -13,6 +13,7 @@ use Rattle.hf_block.specs.declared.block.BlockAt.{BlockAt}
 use Rattle.hf_block.specs.declared.walking.WalkErr.{WalkErr}
 use Rattle.hf_block.specs.declared.walking.WalkErr.TheVariants as walk
 use Rattle.hf_block.specs.Pieces.{AreBlocks, Piece, placed}
+use Rattle.hf_block.specs.Rows.{HaveSameFree}
 use Rattle.hf_block.specs.Walks.{between}
 use Rattle.hf_layout.specs.Frees.{Frees, none}
 use Rattle.hf_layout.specs.Layout.{record_at, frees_of, LaidOut}
@@ -22,10 +23,14 @@ use Rattle.hf_pool.specs.Pools.{frees as frees_in}
 use Rattle.hf_tree.specs.Links.{HasBlocks, links_of, width}
 use Rattle.hf_tree.specs.Rules.{rule_l}
 use Rattle.hf_tree.specs.Standing.{IsMapOf, Opens, StandsFor}
-use Rattle.hf_chain.specs.Listing.{AllHold, AreListed, WereListed}
+use Rattle.hf_chain.specs.declared.surveying.Survey.{Survey}
+use Rattle.hf_chain.specs.Facts.{AreFacts}
+use Rattle.hf_chain.specs.Listing.{AllHold}
 use Rattle.hf_chain.specs.Listing.{Breaks as Breaks_}
+use Rattle.hf_chain.specs.Surveys.{IsSurvey, WasSurveyed}
+use Rattle.hf_chain.proofs.Surveyed.{same_listed}
 use Rattle.tc_hash.specs.Holding.{Holds, IsHeld}
-use Rattle.tc_hash.specs.Opening.{Breaks, FillsUp, HasHead, HasListed, IsBroken, IsNoList, IsRead, WasRead, bad_links, bad_section, broken_at, open_of}
+use Rattle.tc_hash.specs.Opening.{Breaks, FillsUp, HasHead, IsBroken, IsNoList, IsRead, WasRead, bad_links, bad_section, broken_at, open_of}
 use Rattle.tc_hash.specs.Sections.{IsListOf, section_of}
 use Rattle.tc_hash.specs.Standing.{StandsWith}
 use Rattle.tc_hash.proofs.Keyed.{frees_same, list_same, map_of, map_of_is, map_same, map_of-len, single}
@@ -100,30 +105,26 @@ fills_blocks h ps bytes fills on within = record { on = on; within = within; fil
 pub listed_opens : (kind : ℕ) (h : Head) (ps : List Piece) (bytes : List ℕ) → HasHead kind bytes h → HasBlocks h h.size ps bytes → Opens kind bytes h ps
 listed_opens kind h ps bytes head blocks = record { long = head.long; valid = head.valid; spells = head.spells; kind_is = head.kind_is; blocks = blocks }
 
-pub were_listed : (h : Head) (bytes : List ℕ) (blocks : List BlockAt) → IsValid h → HasListed h bytes blocks → WereListed h bytes blocks
-were_listed h bytes blocks v l = record { pieces = l.pieces; is = record { has = fills_blocks h l.pieces bytes l.fills v.numbers.size_least l.long; listed = l.listed } }
-
 -- a rule of links that is broken
-pub links_break : (tells : Type 0) (file : ℕ) (h : Head) (bytes : List ℕ) (blocks : List BlockAt) (w : WalkErr) (e : OpenErr) → e ≡ open_of file w → IsValid h → (tells → HasHead h.kind bytes h) → (tells → HasListed h bytes blocks)
-    → ((rule : Rule) → w ≡ walk.Broken rule → tells → (ps : List Piece) → AreListed h ps bytes blocks → Breaks_ h ps bytes rule) → Breaks tells h.kind file bytes e
-links_break tells file h bytes blocks w e is v head listed why = breaks_walk tells h.kind file bytes w e is (λ rule named t.
-    let l = were_listed h bytes blocks v (listed t) in
-    bad_links h l.pieces rule (listed_opens h.kind h l.pieces bytes (head t) l.is.has) (why rule named t l.pieces l.is))
+pub links_break : (tells : Type 0) (file : ℕ) (h : Head) (bytes : List ℕ) (s : Survey) (w : WalkErr) (e : OpenErr) → e ≡ open_of file w → IsValid h → (tells → HasHead h.kind bytes h) → (tells → WasSurveyed h bytes s)
+    → ((rule : Rule) → w ≡ walk.Broken rule → tells → (ps : List Piece) → AreFacts h ps bytes s.facts → Breaks_ h ps bytes rule) → Breaks tells h.kind file bytes e
+links_break tells file h bytes s w e is v head listed why = breaks_walk tells h.kind file bytes w e is (λ rule named t.
+    let l = listed t in
+    bad_links h l.pieces rule (listed_opens h.kind h l.pieces bytes (head t) l.is.facts.has) (why rule named t l.pieces l.is.facts))
 
 -- all rules hold
-pub all_read : (h : Head) (frees : Frees) (bytes : List ℕ) (blocks : List BlockAt) → IsValid h → HasHead h.kind bytes h → HasListed h bytes blocks → ((ps : List Piece) → AreListed h ps bytes blocks → AllHold h ps bytes)
-    → ((ps : List Piece) → AreListed h ps bytes blocks → LaidOut (unit h) h.first h.size ps frees none bytes) → IsListOf (unit h) frees (section_of h bytes) → WasRead h.kind bytes h frees
-all_read h frees bytes blocks v head listed hold laid list =
-    let l = were_listed h bytes blocks v listed in
-    (l.pieces, record { opens = listed_opens h.kind h l.pieces bytes head l.is.has; hold = hold l.pieces l.is; laid = laid l.pieces l.is; list = list })
+pub all_read : (h : Head) (frees : Frees) (bytes : List ℕ) (s : Survey) → IsValid h → HasHead h.kind bytes h → WasSurveyed h bytes s → ((ps : List Piece) → AreFacts h ps bytes s.facts → AllHold h ps bytes)
+    → ((ps : List Piece) → IsSurvey h ps bytes s → LaidOut (unit h) h.first h.size ps frees none bytes) → IsListOf (unit h) frees (section_of h bytes) → WasRead h.kind bytes h frees
+all_read h frees bytes s v head listed hold laid list =
+    (listed.pieces, record { opens = listed_opens h.kind h listed.pieces bytes head listed.is.facts.has; hold = hold listed.pieces listed.is.facts; laid = laid listed.pieces listed.is; list = list })
 
 -- the section is no list
-pub section_breaks : (tells : Type 0) (file : ℕ) (h : Head) (frees : Frees) (bytes : List ℕ) (blocks : List BlockAt) (e : OpenErr) → e ≡ broken_at file 9 → IsValid h → (tells → HasHead h.kind bytes h) → (tells → HasListed h bytes blocks)
-    → (tells → (ps : List Piece) → AreListed h ps bytes blocks → AllHold h ps bytes) → (tells → (ps : List Piece) → AreListed h ps bytes blocks → LaidOut (unit h) h.first h.size ps frees none bytes)
+pub section_breaks : (tells : Type 0) (file : ℕ) (h : Head) (frees : Frees) (bytes : List ℕ) (s : Survey) (e : OpenErr) → e ≡ broken_at file 9 → IsValid h → (tells → HasHead h.kind bytes h) → (tells → WasSurveyed h bytes s)
+    → (tells → (ps : List Piece) → AreFacts h ps bytes s.facts → AllHold h ps bytes) → (tells → (ps : List Piece) → IsSurvey h ps bytes s → LaidOut (unit h) h.first h.size ps frees none bytes)
     → (tells → IsListOf (unit h) frees (section_of h bytes) → ⊥) → Breaks tells h.kind file bytes e
-section_breaks tells file h frees bytes blocks e is v head listed hold laid other = breaks_by tells h.kind file 9 bytes e is (λ t.
-    let l = were_listed h bytes blocks v (listed t) in
-    bad_section h l.pieces (listed_opens h.kind h l.pieces bytes (head t) l.is.has) (hold t l.pieces l.is)
+section_breaks tells file h frees bytes s e is v head listed hold laid other = breaks_by tells h.kind file 9 bytes e is (λ t.
+    let l = listed t in
+    bad_section h l.pieces (listed_opens h.kind h l.pieces bytes (head t) l.is.facts.has) (hold t l.pieces l.is.facts)
     (λ list. other t (list_same (unit h) (frees_of h.first l.pieces) frees (section_of h bytes) (λ q. sym (frees_same (unit h) h.first h.size l.pieces frees bytes (laid t l.pieces l.is) q)) list)))
 
 -- ---- a head
@@ -148,14 +149,15 @@ fault_no_list tells file u frees section e is f rule named = absurd (let s : ope
 pub memory_no_list : (tells : Type 0) (file u : ℕ) (frees : Frees) (section : List ℕ) (e : OpenErr) → e ≡ open_err.Memory → IsNoList tells file u frees section e
 memory_no_list tells file u frees section e is f rule named = absurd (let s : open_err.Memory ≡ open_err.Broken f rule = sym is ∙ named in cc)
 
-pub no_list_breaks : (tells : Type 0) (file : ℕ) (h : Head) (frees : Frees) (bytes : List ℕ) (blocks : List BlockAt) (e : OpenErr) → IsNoList tells file (unit h) frees (section_of h bytes) e → IsValid h → (tells → HasHead h.kind bytes h) → (tells → HasListed h bytes blocks)
-    → (tells → (ps : List Piece) → AreListed h ps bytes blocks → AllHold h ps bytes) → (tells → (ps : List Piece) → AreListed h ps bytes blocks → LaidOut (unit h) h.first h.size ps frees none bytes) → Breaks tells h.kind file bytes e
-no_list_breaks tells file h frees bytes blocks e is v head listed hold laid f rule named = let w = is f rule named in section_breaks tells file h frees bytes blocks e w.0 v head listed hold laid w.1 f rule named
+pub no_list_breaks : (tells : Type 0) (file : ℕ) (h : Head) (frees : Frees) (bytes : List ℕ) (s : Survey) (e : OpenErr) → IsNoList tells file (unit h) frees (section_of h bytes) e → IsValid h → (tells → HasHead h.kind bytes h) → (tells → WasSurveyed h bytes s)
+    → (tells → (ps : List Piece) → AreFacts h ps bytes s.facts → AllHold h ps bytes) → (tells → (ps : List Piece) → IsSurvey h ps bytes s → LaidOut (unit h) h.first h.size ps frees none bytes) → Breaks tells h.kind file bytes e
+no_list_breaks tells file h frees bytes s e is v head listed hold laid f rule named = let w = is f rule named in section_breaks tells file h frees bytes s e w.0 v head listed hold laid w.1 f rule named
 
--- the pool of listed blocks
-pub laid_listed : (h : Head) (u : ℕ) (frees : Frees) (bytes : List ℕ) (blocks : List BlockAt) → u ≡ unit h → ((ps : List Piece) (bs : List ℕ) → h.size ≤ length bs → AreBlocks u (between h.first h.size bs) ps → blocks ≡ placed h.first ps → LaidOut u h.first h.size ps frees none bs) → (ps : List Piece) → AreListed h ps bytes blocks → LaidOut (unit h) h.first h.size ps frees none bytes
-laid_listed h u frees bytes blocks same laid ps l =
-    subst (λ (n : ℕ). LaidOut n h.first h.size ps frees none bytes) same (laid ps bytes l.has.within (subst (λ (n : ℕ). AreBlocks n (between h.first h.size bytes) ps) (sym same) l.has.filled) l.listed)
+-- the pool of the free blocks that were found
+pub laid_surveyed : (h : Head) (u : ℕ) (frees : Frees) (bytes : List ℕ) (s : Survey) → u ≡ unit h → ((ps : List Piece) (bs : List ℕ) → h.size ≤ length bs → AreBlocks u (between h.first h.size bs) ps → HaveSameFree s.frees (placed h.first ps) → LaidOut u h.first h.size ps frees none bs) → (ps : List Piece) → IsSurvey h ps bytes s → LaidOut (unit h) h.first h.size ps frees none bytes
+laid_surveyed h u frees bytes s same laid ps l =
+    let has = l.facts.has in
+    subst (λ (n : ℕ). LaidOut n h.first h.size ps frees none bytes) same (laid ps bytes has.within (subst (λ (n : ℕ). AreBlocks n (between h.first h.size bytes) ps) (sym same) has.filled) (subst (λ (bs : List BlockAt). HaveSameFree bs (placed h.first ps)) (sym l.frees) (same_listed h.first ps)))
 
 -- of a head with that type
 pub breaks_kind : (tells : Type 0) (k kind file : ℕ) (old new : List ℕ) (e : OpenErr) → k ≡ kind → (tells → new ≡ old) → Breaks tells k file new e → Breaks tells kind file old e

@@ -8,9 +8,9 @@ use Rattle.hf_block.specs.declared.block.Block.{Block}
 use Rattle.hf_block.specs.Fronts.{block_front}
 use Rattle.hf_block.specs.Heads.{head_bytes, rec_head, free_head}
 use Rattle.hf_block.specs.Pieces.{Record, Piece, held, free, spell, size_of, IsWhole, AllWhole, HasWidth, AllHaveWidth, IsFilled, spell_all}
-use Rattle.hf_block.specs.Walks.{between, total}
+use Rattle.hf_block.specs.Walks.{between, total, block_of}
 use Rattle.hf_block.proofs.Blocking.{whole, wide_most}
-use Rattle.hf_block.proofs.NextBlock.{block_of, headed}
+use Rattle.hf_block.proofs.NextBlock.{headed}
 use Rattle.hf_layout.specs.Layout.{HaveWidth, piece_at, record_of}
 use Rattle.hf_layout.proofs.Places.{here, later}
 use Rattle.hf_layout.proofs.Shares.{ends_within}

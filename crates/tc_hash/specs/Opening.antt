@@ -3,8 +3,7 @@ use Rattle.std.specs.Prelude.{◌≡◌, ℕ, ◌<◌, ◌≤◌, List, length, 
 use Rattle.tc_base.specs.declared.kind.Rule.{Rule}
 use Rattle.hf_head.specs.declared.head.Head.{Head}
 use Rattle.hf_head.specs.Heads.{IsValid, Spells, unit}
-use Rattle.hf_block.specs.declared.block.BlockAt.{BlockAt}
-use Rattle.hf_block.specs.Pieces.{Piece, IsFilled, placed}
+use Rattle.hf_block.specs.Pieces.{Piece, IsFilled}
 use Rattle.hf_block.specs.Walks.{between}
 use Rattle.hf_block.specs.declared.walking.WalkErr.{WalkErr}
 use Rattle.hf_block.specs.declared.walking.WalkErr.TheVariants as walk
@@ -70,13 +69,6 @@ pub record IsRead (kind : ℕ) (bytes : List ℕ) (h : Head) (ps : List Piece) (
 
 abbrev pub WasRead : ℕ → List ℕ → Head → Frees → Type 0
 WasRead kind bytes h frees = (ps : List Piece) × IsRead kind bytes h ps frees
-
--- whole blocks fill the file up, and this is their list
-pub record HasListed (h : Head) (bytes : List ℕ) (blocks : List BlockAt) : Type 0 where
-  pub pieces : List Piece
-  pub fills : FillsUp h bytes pieces
-  pub long : h.size ≤ length bytes
-  pub listed : blocks ≡ placed h.first pieces
 
 -- a refusal that names a rule names the last one, and the section is no list
 abbrev pub IsNoList : Type 0 → ℕ → ℕ → Frees → List ℕ → OpenErr → Type 0

@@ -7,23 +7,23 @@ ghost use Rattle.tc_space.specs.Frames.{OnlyReads};
 ghost use Rattle.tc_space.specs.Ranges.{IsDataFile};
 ghost use Rattle.hf_head.specs.Heads.{IsValid, Spells, head_in, unit};
 ghost use Rattle.hf_block.specs.Pieces.{Piece, placed};
-ghost use Rattle.hf_block.specs.Rows.{StandInRow};
+ghost use Rattle.hf_block.specs.Rows.{StandApart};
 ghost use Rattle.hf_block.specs.Walks.{HoldsUpTo};
 ghost use Rattle.hf_layout.specs.Frees.{none};
 ghost use Rattle.hf_layout.specs.Layout.{LaidOut, frees_of};
 ghost use Rattle.hf_pool.specs.Pools.{frees};
 ghost use Rattle.hf_tree.specs.Standing.{StandsFor};
-ghost use Rattle.hf_chain.specs.Listing.{AllHold, AreListed};
+ghost use Rattle.hf_chain.specs.Surveys.{WasSurveyed};
 ghost use Rattle.tc_hash.specs.Holding.{Holds};
 ghost use Rattle.tc_hash.specs.Sections.{IsListOf, section_of};
 ghost use Rattle.tc_hash.specs.Settling.{section_len};
 ghost use Rattle.tc_hash.specs.Standing.{StandsWith};
-ghost use Rattle.tc_hash.specs.Opening.{Breaks, HasHead, HasHeadIn, FillsUp, HasListed, IsNoList, WasRead, broken_at, open_of};
+ghost use Rattle.tc_hash.specs.Opening.{Breaks, HasHead, HasHeadIn, IsNoList, WasRead, broken_at, open_of};
 
 use crate::hash::Hash;
 use crate::section::{is_list, read_section, section_size};
-use hf_block::{Blocks, WalkErr, walk};
-use hf_chain::check;
+use hf_block::WalkErr;
+use hf_chain::{Survey, check, survey_blocks};
 use hf_head::Head;
 use hf_pool::Pool;
 use std::alloc::Global;
@@ -110,16 +110,16 @@ fn load_head<S: Space>(space: &mut S, file: u32, kind: u8) -> Result<Head, OpenE
     }
 }
 
-// The blocks of the file: the second and the third rule.
+// What stands in the file: the second and the third rule.
 fn read_blocks<S: Space>(
     alloc: Global,
     space: &mut S,
     file: u32,
     head: &Head,
-) -> Result<Blocks, OpenErr>
+) -> Result<Survey, OpenErr>
     requires head { HasHeadIn S.Space space.old file head.now }
-    ensures row { IfOk result (λ blocks. StandInRow (unit head.now) head.now.first head.now.size blocks) }
-    ensures listed { IfOk result (λ blocks. S.tells → HasListed head.now (S.now space.old file) blocks) }
+    ensures apart { IfOk result (λ s. StandApart (unit head.now) head.now.first head.now.size s.frees) }
+    ensures found { IfOk result (λ s. S.tells → WasSurveyed head.now (S.now space.old file) s) }
     ensures broken { IfErr result (λ e. Breaks S.tells head.now.kind file (S.now space.old file) e) }
     ensures reads { OnlyReads S.Space space.old space.new }
     ensures cause { IsErrOf result OpenErr.Fault → Rose (S.faults space.old) (S.faults space.new) }
@@ -129,8 +129,8 @@ fn read_blocks<S: Space>(
     if len < size {
         return Err(broken(file, 2));
     }
-    match walk(alloc, space, file, head) {
-        Ok(blocks) => Ok(blocks),
+    match survey_blocks(alloc, space, file, head) {
+        Ok(found) => Ok(found),
         Err(e) => Err(refusal(file, e)),
     }
 }
@@ -194,17 +194,17 @@ struct Parts {
     pool: Pool,
 }
 
-// The free blocks of the file, once the blocks are listed: the other rules.
+// The free blocks of the file, once all blocks were passed: the other rules.
 fn read_pool<S: Space>(
     alloc: Global,
     space: &mut S,
     file: u32,
     head: &Head,
-    blocks: &Blocks,
+    found: &Survey,
 ) -> Result<Pool, OpenErr>
     requires head { HasHeadIn S.Space space.old file head.now }
-    requires row { StandInRow (unit head.now) head.now.first head.now.size blocks.now }
-    requires listed { S.tells → HasListed head.now (S.now space.old file) blocks.now }
+    requires apart { StandApart (unit head.now) head.now.first head.now.size found.now.frees }
+    requires found { S.tells → WasSurveyed head.now (S.now space.old file) found.now }
     ensures unit { IfOk result (λ pool. pool.unit ≡ unit head.now) }
     ensures size { IfOk result (λ pool. pool.size ≡ head.now.size) }
     ensures read { IfOk result (λ pool. S.tells → WasRead head.now.kind (S.now space.old file) head.now (frees pool)) }
@@ -212,11 +212,11 @@ fn read_pool<S: Space>(
     ensures reads { OnlyReads S.Space space.old space.new }
     ensures cause { IsErrOf result OpenErr.Fault → Rose (S.faults space.old) (S.faults space.new) }
 {
-    match check(alloc, space, file, head, blocks) {
+    match check(alloc, space, file, head, &found.facts) {
         Ok(()) => {}
         Err(e) => return Err(refusal(file, e)),
     }
-    let Ok(pool) = Pool::build(alloc, blocks, head.unit(), head.first, head.size) else {
+    let Ok(pool) = Pool::build(alloc, &found.frees, head.unit(), head.first, head.size) else {
         return Err(OpenErr::Memory);
     };
     match check_section(alloc, space, file, head, &pool) {
@@ -241,11 +241,11 @@ fn read_parts<S: Space>(alloc: Global, space: &mut S, file: u32, kind: u8) -> Re
         Ok(head) => head,
         Err(e) => return Err(e),
     };
-    let blocks = match read_blocks(alloc, space, file, &head) {
-        Ok(blocks) => blocks,
+    let found = match read_blocks(alloc, space, file, &head) {
+        Ok(found) => found,
         Err(e) => return Err(e),
     };
-    match read_pool(alloc, space, file, &head, &blocks) {
+    match read_pool(alloc, space, file, &head, &found) {
         Ok(pool) => Ok(Parts { head, pool }),
         Err(e) => Err(e),
     }

@@ -1,5 +1,5 @@
 ghost use Rattle.std.specs.Prelude.{◌≡◌, true, IfOk, OnOk};
-ghost use Rattle.hf_block.specs.Rows.{StandInRow};
+ghost use Rattle.hf_block.specs.Rows.{StandApart};
 
 use hf_block::{BlockAt, Blocks};
 use hf_pool::Pool;
@@ -9,21 +9,23 @@ use tc_base::Blob;
 use tc_space::{RecErr, Space};
 use tc_stores::OneFile;
 
-fn block(place: u64, size: u64, free: bool) -> BlockAt
-    ensures { result ≡ record { place = place; size = size; free = free } }
+fn free(place: u64, size: u64) -> BlockAt
+    ensures { result ≡ record { place = place; size = size; free = true } }
 {
-    BlockAt { place, size, free }
+    BlockAt {
+        place,
+        size,
+        free: true,
+    }
 }
 
-// A free block, a record, a free block and a record.
-fn four(alloc: Global) -> Result<Blocks, AllocError>
-    ensures { IfOk result (λ blocks. StandInRow 16 336 432 blocks) }
+// Two free blocks; the records behind them are left out.
+fn two(alloc: Global) -> Result<Blocks, AllocError>
+    ensures { IfOk result (λ blocks. StandApart 16 336 432 blocks) }
 {
     let mut blocks = Blocks::new(alloc);
-    blocks.push(block(336, 32, true))?;
-    blocks.push(block(368, 32, false))?;
-    blocks.push(block(400, 16, true))?;
-    blocks.push(block(416, 16, false))?;
+    blocks.push(free(336, 32))?;
+    blocks.push(free(400, 16))?;
     Ok(blocks)
 }
 
@@ -68,7 +70,7 @@ fn zeros(bytes: &[u8]) -> bool {
 
 #[test]
 fn blocks_are_taken_and_given(rt: HostRuntime) -> Result<(), Fail> {
-    let blocks = four(rt.alloc())?;
+    let blocks = two(rt.alloc())?;
     let mut pool = Pool::build(rt.alloc(), &blocks, 16, 336, 432)?;
     let mut space = OneFile::new(rt.alloc(), &[1; 432])?;
     let bytes = section(rt.alloc(), &pool)?;
@@ -114,7 +116,7 @@ fn blocks_are_taken_and_given(rt: HostRuntime) -> Result<(), Fail> {
 
 #[test]
 fn free_blocks_at_the_end_are_dropped(rt: HostRuntime) -> Result<(), Fail> {
-    let blocks = four(rt.alloc())?;
+    let blocks = two(rt.alloc())?;
     let mut pool = Pool::build(rt.alloc(), &blocks, 16, 336, 432)?;
     let mut space = OneFile::new(rt.alloc(), &[1; 432])?;
     pool.trim();

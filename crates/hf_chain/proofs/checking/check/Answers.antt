@@ -1,14 +1,36 @@
+use Rattle.std.proofs.Common.{subst}
 use Rattle.std.proofs.lemmas.Result.{on_ok_weaker}
-use Rattle.hf_chain.proofs.Judged.{facts_at_now, all_hold_at, all_broken_at}
+use Rattle.tc_base.specs.declared.kind.Rule.{Rule}
+use Rattle.hf_chain.specs.Listing.{Breaks}
+use Rattle.hf_chain.proofs.Named.{fits}
+use Rattle.hf_chain.proofs.Judged.{same_rule, some_of, none_of, facts_inside, link_broken_at, judged_hold, judged_broken}
 use Rattle.hf_chain.proofs.checking.check.Goals as goal
 
-pub check_facts-requires-clause-facts : goal.check_facts-requires-clause-facts
-check_facts-requires-clause-facts g c = λ t.
-    let w = c.requires.listed t in
-    facts_at_now c.args.head.now c.in-Ok.facts (g.S.Space.now c.read_facts.new.space c.args.file) (g.S.Space.now c.args.space.now c.args.file) (c.read_facts.ensures.reads.files t c.args.file) (record { pieces = w.pieces; is = record { has = w.is.has; is = c.in-Ok.ensures.facts t w.pieces w.is } })
+pub reach-requires : goal.reach-requires
+reach-requires g c = record {
+  surveyed = record {
+    sound = c.requires.sound;
+    data_file = c.requires.file;
+    buckets = record { valid = c.requires.head; inside = λ t. facts_inside c.args.head.now (g.S.Space.now c.args.space.now c.args.file) c.args.facts.now (c.requires.facts t) };
+    read = c.requires.facts;
+  };
+}
 
-pub returns-in-Ok-clause-hold : goal.returns-in-Ok-clause-hold
-returns-in-Ok-clause-hold g c = on_ok_weaker c.check_facts.result (λ hold t ps listed. all_hold_at c.args.head.now c.in-Ok.facts (g.S.Space.now c.read_facts.new.space c.args.file) (g.S.Space.now c.args.space.now c.args.file) (c.read_facts.ensures.reads.files t c.args.file) (hold t) ps (record { has = listed.has; is = c.in-Ok.ensures.facts t ps listed })) c.check_facts.ensures.hold
+pub returns-in-Ok-Some-clause-hold : goal.returns-in-Ok-Some-clause-hold
+returns-in-Ok-Some-clause-hold g c = on_ok_weaker c.conclude.result (λ hold t ps a.
+    let w = some_of c.in-Ok-Some.field-0 c.in-Ok-Some.verdict _ c.in-Ok-Some.field-0-is c.in-Ok-Some.ensures.some in
+    let all = w.all t ps a in
+    let fit = fits c.args.head.now ps (g.S.Space.now c.args.space.now c.args.file) c.args.facts.now c.requires.head a all.names in
+    judged_hold c.args.head.now ps (g.S.Space.now c.args.space.now c.args.file) c.args.facts.now w.items c.requires.head a fit all.whole w.low g.S.Space.tells c.in-Ok-Some.verdict w.judged t hold.0 hold.1) c.conclude.ensures.hold
 
-pub returns-in-Ok-clause-broken : goal.returns-in-Ok-clause-broken
-returns-in-Ok-clause-broken g c = λ rule is t ps listed. all_broken_at c.args.head.now c.in-Ok.facts rule (g.S.Space.now c.read_facts.new.space c.args.file) (g.S.Space.now c.args.space.now c.args.file) (c.read_facts.ensures.reads.files t c.args.file) (c.check_facts.ensures.broken rule is t) ps (record { has = listed.has; is = c.in-Ok.ensures.facts t ps listed })
+pub returns-in-Ok-Some-clause-broken : goal.returns-in-Ok-Some-clause-broken
+returns-in-Ok-Some-clause-broken g c = λ rule is t ps a.
+    let w = some_of c.in-Ok-Some.field-0 c.in-Ok-Some.verdict _ c.in-Ok-Some.field-0-is c.in-Ok-Some.ensures.some in
+    let all = w.all t ps a in
+    let fit = fits c.args.head.now ps (g.S.Space.now c.args.space.now c.args.file) c.args.facts.now c.requires.head a all.names in
+    judged_broken c.args.head.now ps (g.S.Space.now c.args.space.now c.args.file) c.args.facts.now w.items c.requires.head a fit all.whole w.low g.S.Space.tells c.in-Ok-Some.verdict w.judged t rule (c.conclude.ensures.broken rule is)
+
+pub returns-in-Ok-broken_link-clause-broken : goal.returns-in-Ok-broken_link-clause-broken
+returns-in-Ok-broken_link-clause-broken g c = λ rule is t ps a. subst (λ (r : Rule). Breaks c.args.head.now ps (g.S.Space.now c.args.space.now c.args.file) r) (same_rule c.in-Ok-broken_link.rule rule is)
+    (link_broken_at c.args.head.now c.args.facts.now c.in-Ok-broken_link.rule (g.S.Space.now c.reach.new.space c.args.file) (g.S.Space.now c.args.space.now c.args.file) (c.reach.ensures.reads.files t c.args.file) (c.in-Ok-broken_link.ensures.broken t) ps a
+    (none_of c.in-Ok-None.field-0 _ c.in-Ok-None.field-0-is c.in-Ok-None.ensures.none t ps a))

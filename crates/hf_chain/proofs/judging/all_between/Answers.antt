@@ -11,7 +11,7 @@ use Rattle.hf_chain.proofs.judging.all_between.Goals as goal
 pub loop-k-init : goal.loop-k-init
 loop-k-init g c = record {
   reads = only_reads_refl g.S.Space c.args.space.now c.requires.sound;
-  yes = c.requires.front;
+  yes = λ t k x low. absurd (omega (arith, low));
 }
 
 pub is_between-requires-clause-low : goal.is_between-requires-clause-low

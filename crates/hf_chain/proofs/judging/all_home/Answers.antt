@@ -8,7 +8,7 @@ use Rattle.hf_chain.proofs.Keyed.{not_both}
 use Rattle.hf_chain.proofs.judging.all_home.Goals as goal
 
 pub loop-k-init : goal.loop-k-init
-loop-k-init c = c.requires.front
+loop-k-init c = λ k x low. absurd (omega (arith, low))
 
 pub is_home-requires : goal.is_home-requires
 is_home-requires c = let l = c.requires.low c.loop-k.k c.at.result.now c.at.ensures in record { low = (l.0, l.1) }

@@ -1,13 +1,6 @@
-use Rattle.std.proofs.Common.{refl}
 use Rattle.tc_space.specs.Frames.{only_reads_refl}
 use Rattle.hf_chain.proofs.Findings.{found_stray, found_mixed, found_in_order}
 use Rattle.hf_chain.proofs.judging.judge_all.Goals as goal
-
-pub all_home-requires-clause-front : goal.all_home-requires-clause-front
-all_home-requires-clause-front g c = c.requires.front.home (λ e. cc)
-
-pub all_between-requires-clause-front : goal.all_between-requires-clause-front
-all_between-requires-clause-front g c = c.requires.front.between refl
 
 pub returns-then-not-all_home-clause-judged : goal.returns-then-not-all_home-clause-judged
 returns-then-not-all_home-clause-judged g c =

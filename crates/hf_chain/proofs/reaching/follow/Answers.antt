@@ -1,16 +1,27 @@
 use Rattle.std.proofs.Common.{◌∙◌, inl, inr, sym, ap, arith, refl}
 use Rattle.hf_chain.specs.Facts.{spot}
+use Rattle.hf_chain.proofs.Batches.{pushed_behind, stay_refl}
 use Rattle.hf_chain.proofs.Lists.{if_ok}
 use Rattle.hf_chain.proofs.reaching.follow.Goals as goal
 
+pub returns-in-None-clause-marked : goal.returns-in-None-clause-marked
+returns-in-None-clause-marked c = stay_refl c.args.items.now c.args.marks.now
+
+pub returns-then-number-eq0-clause-marked : goal.returns-then-number-eq0-clause-marked
+returns-then-number-eq0-clause-marked c = stay_refl c.args.items.now c.args.marks.now
+
 pub returns-in-None-clause-stops : goal.returns-in-None-clause-stops
-returns-in-None-clause-stops c = λ is. inl c.in-None.ensures.none
+returns-in-None-clause-stops c = λ is. record { is = λ before m. inl c.in-None.ensures.none }
 
 pub returns-then-number-eq0-clause-follows : goal.returns-then-number-eq0-clause-follows
-returns-then-number-eq0-clause-follows c = λ is. inl (sym c.in-Some.ensures.some.1 ∙ ap (spot c.args.facts.now) c.if-number-eq0.true, refl)
+returns-then-number-eq0-clause-follows c = λ is. record { is = λ before m. inl (sym c.in-Some.ensures.some.1 ∙ ap (spot c.args.facts.now) c.if-number-eq0.true, refl) }
 
 pub returns-clause-follows : goal.returns-clause-follows
-returns-clause-follows c = if_ok c.add.result (λ new fresh is. let f = fresh is in inr (c.in-Some.number, omega (arith, c.if-number-eq0.false), c.in-Some.ensures.some.0, c.in-Some.ensures.some.1, f.0, f.1)) c.add.ensures.fresh
+returns-clause-follows c = if_ok c.add.result (λ new fresh is. let f = fresh is in record {
+  is = λ before m. inr (c.in-Some.number, omega (arith, c.if-number-eq0.false), c.in-Some.ensures.some.0, c.in-Some.ensures.some.1, pushed_behind before c.args.items.now c.add.new.items _ f.0, f.1 before m);
+}) c.add.ensures.fresh
 
 pub returns-clause-stops : goal.returns-clause-stops
-returns-clause-stops c = if_ok c.add.result (λ new twice is. inr (c.in-Some.number, omega (arith, c.if-number-eq0.false), c.in-Some.ensures.some.0, c.in-Some.ensures.some.1, twice is)) c.add.ensures.twice
+returns-clause-stops c = if_ok c.add.result (λ new twice is. record {
+  is = λ before m. inr (c.in-Some.number, omega (arith, c.if-number-eq0.false), c.in-Some.ensures.some.0, c.in-Some.ensures.some.1, twice is before m);
+}) c.add.ensures.twice

@@ -1,25 +1,27 @@
-use Rattle.std.proofs.Common.{arith, subst}
-use Rattle.hf_chain.specs.Reaching.{Reach, all_seen}
-use Rattle.hf_chain.proofs.Steps.{few_items, grew_refl, grew_then}
+use Rattle.std.proofs.Common.{refl, arith, length}
+use Rattle.hf_chain.proofs.Batches.{chains_none, chains_stop, chains_then, chains_to, few_marked, still_marked}
 use Rattle.hf_chain.proofs.reaching.follow_all.Goals as goal
 
 pub loop-k-init : goal.loop-k-init
-loop-k-init c = record { long = c.requires.long; marked = c.requires.marked; most = c.requires.there; grew = grew_refl c.args.items.now; reached = λ links records n roots read r. r }
+loop-k-init c = record { long = c.requires.long; most = omega arith; chains = chains_none c.args.facts.now c.args.items.now c.args.marks.now 0 }
 
 pub loop-k-smaller : goal.loop-k-smaller
-loop-k-smaller c = omega (arith, few_items c.loop-k.items c.loop-k.marks c.loop-k.invariant.marked, c.loop-k.invariant.long)
+loop-k-smaller c = omega (arith, few_marked c.loop-k.items c.loop-k.marks (still_marked c.args.items.now c.args.marks.now c.loop-k.items c.loop-k.marks c.requires.marked c.loop-k.invariant.chains.marked), c.loop-k.invariant.long)
+
+pub follow_some-requires-clause-marked : goal.follow_some-requires-clause-marked
+follow_some-requires-clause-marked c = still_marked c.args.items.now c.args.marks.now c.loop-k.items c.loop-k.marks c.requires.marked c.loop-k.invariant.chains.marked
 
 pub loop-k-preserved : goal.loop-k-preserved
-loop-k-preserved c = record {
-  long = omega (arith, c.loop-k.invariant.long, c.follow_some.auto.marks);
-  marked = c.in-Ok-true.ensures.marked;
-  most = let g = c.in-Ok-true.ensures.grew c.in-Ok-true.field-0-test in omega (arith, g.long);
-  grew = grew_then c.args.items.now c.loop-k.items c.follow_some.new.items c.loop-k.invariant.grew (c.in-Ok-true.ensures.grew c.in-Ok-true.field-0-test);
-  reached = λ links records n roots read r. c.in-Ok-true.ensures.reached c.in-Ok-true.field-0-test links records n roots read (c.loop-k.invariant.reached links records n roots read r);
-}
+loop-k-preserved c =
+    let on = c.in-Ok-true.ensures.reached c.in-Ok-true.field-0-test in
+    record {
+      long = omega (arith, c.loop-k.invariant.long, c.follow_some.auto.marks);
+      most = omega (arith, on.long);
+      chains = chains_then c.args.facts.now c.args.items.now c.args.marks.now c.loop-k.items c.loop-k.marks 0 c.loop-k.k c.loop-k.invariant.chains c.follow_some.new.items c.follow_some.new.marks _ _ refl on;
+    }
 
 pub returns-in-Ok-false-clause-stops : goal.returns-in-Ok-false-clause-stops
-returns-in-Ok-false-clause-stops c = λ is links records n roots read r. c.in-Ok-false.ensures.stops c.in-Ok-false.field-0-test links records n roots read (c.loop-k.invariant.reached links records n roots read r)
+returns-in-Ok-false-clause-stops c = λ is. chains_stop c.args.facts.now c.args.items.now c.args.marks.now c.loop-k.items c.loop-k.marks 0 c.loop-k.k c.loop-k.invariant.chains (c.in-Ok-false.ensures.stops c.in-Ok-false.field-0-test)
 
 pub returns-clause-reached : goal.returns-clause-reached
-returns-clause-reached c = λ is links records n roots read r. subst (λ d. Reach links records n (all_seen c.args.facts.now c.loop-k.items) roots d) (omega (arith, c.loop-k-test.false, c.loop-k.invariant.most)) (c.loop-k.invariant.reached links records n roots read r)
+returns-clause-reached c = λ is. chains_to c.args.facts.now c.args.items.now c.args.marks.now c.loop-k.items c.loop-k.marks 0 c.loop-k.k c.loop-k.invariant.chains (length c.loop-k.items) (omega (arith, c.loop-k-test.false, c.loop-k.invariant.most))

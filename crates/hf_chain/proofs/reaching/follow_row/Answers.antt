@@ -1,24 +1,24 @@
-use Rattle.std.proofs.Common.{arith, subst}
-use Rattle.hf_chain.specs.Reaching.{Reach, all_seen}
-use Rattle.hf_chain.proofs.Steps.{grew_refl, grew_then}
+use Rattle.std.proofs.Common.{◌+◌, arith}
+use Rattle.hf_chain.proofs.Batches.{chains_none, chains_stop, chains_then, chains_to, still_marked}
 use Rattle.hf_chain.proofs.reaching.follow_row.Goals as goal
 
 pub loop-k-init : goal.loop-k-init
-loop-k-init c = record { long = c.requires.long; marked = c.requires.marked; grew = grew_refl c.args.items.now; reached = λ links records n roots read r. r }
+loop-k-init c = record { long = c.requires.long; chains = chains_none c.args.facts.now c.args.items.now c.args.marks.now c.args.from }
 
 pub follow_both-requires-clause-there : goal.follow_both-requires-clause-there
-follow_both-requires-clause-there c = omega (arith, c.requires.there.1, c.loop-k.invariant.grew.long)
+follow_both-requires-clause-there c = omega (arith, c.requires.there.1, c.loop-k.invariant.chains.long)
+
+pub follow_both-requires-clause-marked : goal.follow_both-requires-clause-marked
+follow_both-requires-clause-marked c = still_marked c.args.items.now c.args.marks.now c.loop-k.items c.loop-k.marks c.requires.marked c.loop-k.invariant.chains.marked
 
 pub loop-k-preserved : goal.loop-k-preserved
 loop-k-preserved c = record {
   long = omega (arith, c.loop-k.invariant.long, c.follow_both.auto.marks);
-  marked = c.in-Ok-true.ensures.marked;
-  grew = grew_then c.args.items.now c.loop-k.items c.follow_both.new.items c.loop-k.invariant.grew (c.in-Ok-true.ensures.grew c.in-Ok-true.field-0-test);
-  reached = λ links records n roots read r. subst (λ d. Reach links records n (all_seen c.args.facts.now c.follow_both.new.items) roots d) (omega arith) (c.in-Ok-true.ensures.reached c.in-Ok-true.field-0-test links records n roots read (c.loop-k.invariant.reached links records n roots read r));
+  chains = chains_then c.args.facts.now c.args.items.now c.args.marks.now c.loop-k.items c.loop-k.marks c.args.from c.loop-k.k c.loop-k.invariant.chains c.follow_both.new.items c.follow_both.new.marks (c.loop-k.k + 1) _ (omega arith) (c.in-Ok-true.ensures.reached c.in-Ok-true.field-0-test);
 }
 
 pub returns-in-Ok-false-clause-stops : goal.returns-in-Ok-false-clause-stops
-returns-in-Ok-false-clause-stops c = λ is links records n roots read r. c.in-Ok-false.ensures.stops c.in-Ok-false.field-0-test links records n roots read (c.loop-k.invariant.reached links records n roots read r)
+returns-in-Ok-false-clause-stops c = λ is. chains_stop c.args.facts.now c.args.items.now c.args.marks.now c.loop-k.items c.loop-k.marks c.args.from c.loop-k.k c.loop-k.invariant.chains (c.in-Ok-false.ensures.stops c.in-Ok-false.field-0-test)
 
 pub returns-clause-reached : goal.returns-clause-reached
-returns-clause-reached c = λ is links records n roots read r. subst (λ d. Reach links records n (all_seen c.args.facts.now c.loop-k.items) roots d) (omega arith) (c.loop-k.invariant.reached links records n roots read r)
+returns-clause-reached c = λ is. chains_to c.args.facts.now c.args.items.now c.args.marks.now c.loop-k.items c.loop-k.marks c.args.from c.loop-k.k c.loop-k.invariant.chains c.args.to (omega arith)

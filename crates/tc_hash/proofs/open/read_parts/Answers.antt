@@ -1,7 +1,8 @@
 use Rattle.std.proofs.Common.{◌∙◌, ℕ, List, sym, subst}
 use Rattle.tc_space.specs.Frames.{only_reads_then}
 use Rattle.hf_pool.specs.Pools.{frees}
-use Rattle.tc_hash.specs.Opening.{HasHead, HasListed, WasRead}
+use Rattle.hf_chain.specs.Surveys.{WasSurveyed}
+use Rattle.tc_hash.specs.Opening.{HasHead, WasRead}
 use Rattle.tc_hash.proofs.Opened.{breaks_kind}
 use Rattle.tc_hash.proofs.open.read_parts.Goals as goal
 
@@ -26,8 +27,8 @@ read_pool-requires-clause-head g c = record {
   is = λ t. subst (λ (k : ℕ). HasHead k (g.S.Space.now c.read_blocks.new.space c.args.file) c.in-Ok.head) (sym c.in-Ok.ensures.valid.1) (subst (λ (l : List ℕ). HasHead c.args.kind l c.in-Ok.head) (sym (c.in-Ok-read_blocks.ensures.reads.files t c.args.file ∙ c.in-Ok.ensures.reads.files t c.args.file)) (c.in-Ok.ensures.head t));
 }
 
-pub read_pool-requires-clause-listed : goal.read_pool-requires-clause-listed
-read_pool-requires-clause-listed g c = λ t. subst (λ (l : List ℕ). HasListed c.in-Ok.head l c.in-Ok-read_blocks.blocks) (sym (c.in-Ok-read_blocks.ensures.reads.files t c.args.file)) (c.in-Ok-read_blocks.ensures.listed t)
+pub read_pool-requires-clause-found : goal.read_pool-requires-clause-found
+read_pool-requires-clause-found g c = λ t. subst (λ (l : List ℕ). WasSurveyed c.in-Ok.head l c.in-Ok-read_blocks.found) (sym (c.in-Ok-read_blocks.ensures.reads.files t c.args.file)) (c.in-Ok-read_blocks.ensures.found t)
 
 pub returns-clause-broken : goal.returns-clause-broken
 returns-clause-broken g c = breaks_kind g.S.Space.tells c.in-Ok.head.kind c.args.kind c.args.file (g.S.Space.now c.args.space.now c.args.file) (g.S.Space.now c.read_blocks.new.space c.args.file) c.in-Err-read_pool.e c.in-Ok.ensures.valid.1 (λ t. c.in-Ok-read_blocks.ensures.reads.files t c.args.file ∙ c.in-Ok.ensures.reads.files t c.args.file) c.in-Err-read_pool.ensures.broken

@@ -1,22 +1,29 @@
-use Rattle.std.proofs.Common.{ℕ, ◌^◌, ◌≤◌, List, length, refl, sym, ap, subst, arith, lit<}
+use Rattle.std.proofs.Common.{◌≡◌, ℕ, ◌%◌, ◌^◌, ◌≤◌, List, length, refl, sym, ap, subst, arith, lit<}
 use Rattle.std.proofs.Math.Nat.{pow-le-pow_right}
 use Rattle.hf_head.specs.Heads.{unit}
+use Rattle.hf_block.specs.Rows.{StandApart}
 use Rattle.hf_pool.specs.Pools.{frees}
 use Rattle.tc_hash.specs.Sections.{IsListOf, section_of}
-use Rattle.tc_hash.proofs.Opened.{all_read, breaks_memory, err_is, laid_listed, links_break, no_list_breaks, were_listed}
+use Rattle.tc_hash.proofs.Opened.{all_read, breaks_memory, err_is, laid_surveyed, links_break, no_list_breaks}
 use Rattle.tc_hash.proofs.open.read_pool.Goals as goal
 
-pub check-requires-clause-listed : goal.check-requires-clause-listed
-check-requires-clause-listed g c = λ t. were_listed c.args.head.now (g.S.Space.now c.args.space.now c.args.file) c.args.blocks.now c.requires.head.valid (c.requires.listed t)
+pub check-requires-clause-facts : goal.check-requires-clause-facts
+check-requires-clause-facts g c = λ t. let w = c.requires.found t in record { pieces = w.pieces; is = w.is.facts }
 
 pub returns-in-Err-clause-broken : goal.returns-in-Err-clause-broken
-returns-in-Err-clause-broken g c = links_break g.S.Space.tells c.args.file c.args.head.now (g.S.Space.now c.args.space.now c.args.file) c.args.blocks.now c.in-Err.e c.refusal.result c.refusal.ensures c.requires.head.valid c.requires.head.is c.requires.listed
+returns-in-Err-clause-broken g c = links_break g.S.Space.tells c.args.file c.args.head.now (g.S.Space.now c.args.space.now c.args.file) c.args.found.now c.in-Err.e c.refusal.result c.refusal.ensures c.requires.head.valid c.requires.head.is c.requires.found
     (λ rule named t ps l. c.in-Err.ensures.broken rule (err_is c.in-Err.e rule named) t ps l)
 
 pub build-requires-clause-unit : goal.build-requires-clause-unit
 build-requires-clause-unit g c =
     let p : 2 ^ 4 ≤ 2 ^ c.args.head.now.apow = pow-le-pow_right (lit< tt) c.requires.head.valid.powers.0 in
     omega (arith, p, c.unit.ensures)
+
+pub build-requires-clause-size : goal.build-requires-clause-size
+build-requires-clause-size g c = subst (λ (u : ℕ). c.args.head.now.size % u ≡ 0) (sym c.unit.ensures) c.requires.head.valid.numbers.size_aligned
+
+pub build-requires-clause-blocks : goal.build-requires-clause-blocks
+build-requires-clause-blocks g c = subst (λ (u : ℕ). StandApart u c.args.head.now.first c.args.head.now.size c.args.found.now.frees) (sym c.unit.ensures) c.requires.apart
 
 pub returns-in_default-clause-broken : goal.returns-in_default-clause-broken
 returns-in_default-clause-broken g c = breaks_memory g.S.Space.tells c.args.head.now.kind c.args.file (g.S.Space.now c.args.space.now c.args.file) _ refl
@@ -25,18 +32,18 @@ pub check_section-requires-clause-holds : goal.check_section-requires-clause-hol
 check_section-requires-clause-holds g c = record {
   sound = c.in-Ok.ensures.reads.is_sound;
   data_file = c.requires.head.data_file;
-  inside = λ t. omega (arith, c.requires.head.valid.numbers.size_least, (c.requires.listed t).long, ap length (c.in-Ok.ensures.reads.files t c.args.file));
+  inside = λ t. omega (arith, c.requires.head.valid.numbers.size_least, (c.requires.found t).is.facts.has.within, ap length (c.in-Ok.ensures.reads.files t c.args.file));
 }
 
 pub returns-in-Ok-check_section-clause-read : goal.returns-in-Ok-check_section-clause-read
 returns-in-Ok-check_section-clause-read g c = λ t.
     let file : List ℕ = g.S.Space.now c.args.space.now c.args.file in
-    all_read c.args.head.now (frees c.in-Ok-build.pool) file c.args.blocks.now c.requires.head.valid (c.requires.head.is t) (c.requires.listed t) (c.in-Ok.ensures.hold t) (laid_listed c.args.head.now c.unit.result (frees c.in-Ok-build.pool) file c.args.blocks.now c.unit.ensures c.in-Ok-build.ensures.laid)
+    all_read c.args.head.now (frees c.in-Ok-build.pool) file c.args.found.now c.requires.head.valid (c.requires.head.is t) (c.requires.found t) (c.in-Ok.ensures.hold t) (laid_surveyed c.args.head.now c.unit.result (frees c.in-Ok-build.pool) file c.args.found.now c.unit.ensures c.in-Ok-build.ensures.laid)
     (subst (λ (l : List ℕ). IsListOf (unit c.args.head.now) (frees c.in-Ok-build.pool) (section_of c.args.head.now l)) (c.in-Ok.ensures.reads.files t c.args.file) (c.in-Ok-check_section.ensures.list t))
 
 pub returns-in-Err-check_section-clause-broken : goal.returns-in-Err-check_section-clause-broken
 returns-in-Err-check_section-clause-broken g c =
     let file : List ℕ = g.S.Space.now c.args.space.now c.args.file in
-    no_list_breaks g.S.Space.tells c.args.file c.args.head.now (frees c.in-Ok-build.pool) file c.args.blocks.now c.in-Err-check_section.e
+    no_list_breaks g.S.Space.tells c.args.file c.args.head.now (frees c.in-Ok-build.pool) file c.args.found.now c.in-Err-check_section.e
     (λ f rule named. let w = c.in-Err-check_section.ensures.other f rule named in (w.0, λ t l. w.1 t (subst (λ (x : List ℕ). IsListOf (unit c.args.head.now) (frees c.in-Ok-build.pool) (section_of c.args.head.now x)) (sym (c.in-Ok.ensures.reads.files t c.args.file)) l)))
-    c.requires.head.valid c.requires.head.is c.requires.listed c.in-Ok.ensures.hold (λ t. laid_listed c.args.head.now c.unit.result (frees c.in-Ok-build.pool) file c.args.blocks.now c.unit.ensures c.in-Ok-build.ensures.laid)
+    c.requires.head.valid c.requires.head.is c.requires.found c.in-Ok.ensures.hold (λ t. laid_surveyed c.args.head.now c.unit.result (frees c.in-Ok-build.pool) file c.args.found.now c.unit.ensures c.in-Ok-build.ensures.laid)

@@ -1,4 +1,4 @@
-use Rattle.std.proofs.Common.{◌∙◌, inl, inr, ℕ, ◌+◌, ◌%◌, List, length, refl, ap, subst, arith}
+use Rattle.std.proofs.Common.{◌∙◌, inl, ℕ, ◌+◌, ◌%◌, List, length, refl, ap, arith}
 use Rattle.hf_head.specs.Heads.{is_large, unit}
 use Rattle.hf_block.proofs.Blocking.{wide_most}
 use Rattle.hf_block.proofs.FreeHeads.{some_room}
@@ -7,7 +7,6 @@ use Rattle.hf_block.specs.Written.{block_len}
 use Rattle.hf_tree.specs.Links.{width}
 use Rattle.hf_pool.specs.Pools.{frees}
 use Rattle.tc_hash.specs.Changing.{record_in}
-use Rattle.tc_hash.specs.Moves.{HasNoRoom}
 use Rattle.tc_hash.proofs.Differ.{edits_then}
 use Rattle.tc_hash.proofs.Puts.{may_hang, rehung, put_done}
 use Rattle.tc_hash.proofs.Room.{err_as}

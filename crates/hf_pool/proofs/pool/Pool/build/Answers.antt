@@ -1,11 +1,12 @@
-use Rattle.std.proofs.Common.{ℕ, ◌+◌, List, false, get_or, sym, subst}
+use Rattle.std.proofs.Common.{ℕ, ◌+◌, List, false, get_or, refl, sym, subst}
 use Rattle.std.specs.BTreeMap as tree
 use Rattle.std.specs.Ordering.{nat_cmp}
 use Rattle.std.proofs.lemmas.List.{get_or_default}
 use Rattle.hf_block.specs.declared.block.BlockAt.{BlockAt}
 use Rattle.hf_pool.specs.declared.index.Index.{Index}
 use Rattle.hf_block.specs.Rows.{IsListed}
-use Rattle.hf_pool.proofs.Building.{Built, row_end, row_aligned, all_multiples, all_within, next_is, absent, built_skip, built_more, built_all}
+use Rattle.hf_block.specs.Pieces.{placed}
+use Rattle.hf_pool.proofs.Building.{Built, apart_end, all_multiples, all_within, next_is, absent, built_skip, built_more, built_all}
 use Rattle.hf_layout.proofs.Listed.{listed_pool}
 use Rattle.hf_pool.proofs.pool.Pool.build.Goals as goal
 use Rattle.hf_pool.proofs.pool.Pool.build.Goals.{then-block+in_ok-insert, else-block}
@@ -16,7 +17,7 @@ insert-requires-clause-absent c =
     let i : ℕ = c.loop-block.block-index in
     let b : BlockAt = get_or bs i (record { place = 0; size = 0; free = false }) in
     let v = c.loop-block.invariant in
-    let n = next_is c.args.unit c.args.size i bs b v.at c.loop-block-test.true (get_or_default bs i (record { place = 0; size = 0; free = false }) b c.loop-block-test.true) v.row in
+    let n = next_is c.args.unit c.args.size i bs b v.at c.loop-block-test.true (get_or_default bs i (record { place = 0; size = 0; free = false }) b c.loop-block-test.true) v.apart in
     absent c.args.unit v.at b.place (λ (q : ℕ). tree.get nat_cmp c.loop-block.index.by_place q) n.0 v.sizes v.below
 
 pub loop-block-preserved : goal.loop-block-preserved
@@ -40,14 +41,13 @@ returns-clause-free c = λ q t.
     (λ there. subst (λ (l : List BlockAt). IsListed l q t) c.as_slice-block-items.ensures (all.0 there), λ k. all.1 (subst (λ (l : List BlockAt). IsListed l q t) (sym c.as_slice-block-items.ensures) k))
 
 pub returns-clause-laid : goal.returns-clause-laid
-returns-clause-laid c = λ pieces bytes within filled is.
-    listed_pool c.args.unit c.args.first c.args.size pieces c.args.blocks.now (λ (q : ℕ). tree.get nat_cmp c.loop-block.index.by_place q) bytes c.requires.unit (row_end c.args.unit c.args.first c.args.size c.args.blocks.now c.requires.blocks) within filled is (returns-clause-free c)
+returns-clause-laid c = λ pieces bytes within filled same.
+    let free = returns-clause-free c in
+    listed_pool c.args.unit c.args.first c.args.size pieces (placed c.args.first pieces) (λ (q : ℕ). tree.get nat_cmp c.loop-block.index.by_place q) bytes c.requires.unit (apart_end c.args.unit c.args.first c.args.size c.args.blocks.now c.requires.blocks) within filled refl
+    (λ q t. (λ there. (same q t).0 ((free q t).0 there), λ k. (free q t).1 ((same q t).1 k)))
 
 pub invariant_of-result-clause-multiples : goal.invariant_of-result-clause-multiples
 invariant_of-result-clause-multiples c = all_multiples c.args.unit c.args.size c.loop-block.block-index c.as_slice-block-items.result.now (λ (q : ℕ). tree.get nat_cmp c.loop-block.index.by_place q) c.loop-block.invariant
-
-pub invariant_of-result-clause-aligned : goal.invariant_of-result-clause-aligned
-invariant_of-result-clause-aligned c = row_aligned c.args.unit c.args.first c.args.size c.args.blocks.now c.requires.first c.requires.blocks
 
 pub invariant_of-result-clause-within : goal.invariant_of-result-clause-within
 invariant_of-result-clause-within c = all_within c.args.unit c.args.size c.loop-block.block-index c.as_slice-block-items.result.now (λ (q : ℕ). tree.get nat_cmp c.loop-block.index.by_place q) c.loop-block.invariant

@@ -1,11 +1,11 @@
-use Rattle.std.proofs.Common.{◌≡◌, ◌∙◌, ◌⊎◌, ℕ, ◌≤◌, Bool, inl, inr, sym, subst, ap, arith}
+use Rattle.std.proofs.Common.{◌≡◌, ◌∙◌, ◌⊎◌, ℕ, ◌≤◌, inl, inr, sym, subst, ap, arith}
 use Rattle.hf_block.specs.declared.block.Block.{Block}
 use Rattle.hf_head.specs.Heads.{wide}
 use Rattle.hf_block.specs.Pieces.{IsSize}
-use Rattle.hf_block.specs.Walks.{total, IsNext}
+use Rattle.hf_block.specs.Walks.{total, HasNext}
 use Rattle.hf_block.proofs.Blocking.{wide_most}
 use Rattle.hf_block.proofs.NextBlock.{is_next, no_blocks}
-use Rattle.hf_block.proofs.walking.one_block.Goals as goal
+use Rattle.hf_block.proofs.walking.next_block.Goals as goal
 
 -- the condition on the front, of bytes of that length
 enough : (n left long : ℕ) → long ≡ left → (n ≡ left) ⊎ (40 ≤ n) → (n ≡ long) ⊎ (40 ≤ n)
@@ -30,5 +30,5 @@ pub returns-clause-next : goal.returns-clause-next
 returns-clause-next c = λ bytes part long.
     let m = c.in-Some.ensures.some in
     let n = is_next (wide c.args.large) c.args.unit c.in-Ok.block bytes c.args.front.now (wide_most c.args.large) c.requires.unit (λ b fits pre. sym c.in-Ok.is ∙ c.read_block.ensures.again b fits pre) c.in-Ok.ensures.found.0 c.in-Ok.ensures.found.1 part (enough _ c.args.left _ long c.requires.enough)
-    (subst (λ (k : ℕ). IsSize c.args.unit k) m.0 m.2) (omega (arith, m.0, long, c.if-size-left.false)) in
-    subst (λ (k : ℕ). IsNext (wide c.args.large) c.args.unit k c.in-Some.free bytes) (sym m.0) (subst (λ (f : Bool). IsNext (wide c.args.large) c.args.unit (total c.in-Ok.block) f bytes) (sym m.1) n)
+    (subst (λ (k : ℕ). IsSize c.args.unit k) m.0 m.1) (omega (arith, m.0, long, c.if-size-left.false)) in
+    subst (λ (k : ℕ). HasNext (wide c.args.large) c.args.unit k c.in-Ok.block bytes) (sym m.0) n

@@ -1,0 +1,18 @@
+//! Both hashes of a key at once.
+ghost use Rattle.std.specs.Prelude.{◌≡◌, ◌≤◌};
+ghost use Rattle.tc_base.specs.Hashes.{bucket, second};
+
+/// The bucket of a key among that many, and its second hash. They are taken in one pass, one from the front and the other from the back, so
+/// that neither waits for the other.
+pub fn hashes_of(key: &[u8], buckets: u64) -> (u64, u8)
+    requires { 1 ≤ buckets }
+    ensures { (result.0 ≡ bucket key.now buckets) × (result.1 ≡ second key.now) }
+{
+    let mut front: u64 = 19_780_211;
+    let mut back: u32 = 751;
+    for i in 0..key.len() {
+        front = front.wrapping_mul(37).wrapping_add(u64::from(key[i]));
+        back = back.wrapping_mul(31) ^ u32::from(key[key.len() - 1 - i]);
+    }
+    (front % buckets, (back % 256) as u8)
+}

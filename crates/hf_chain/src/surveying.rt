@@ -1,0 +1,283 @@
+//! One pass over the blocks of a file.
+ghost use Rattle.std.specs.Prelude.{◌≡◌, ℕ, ◌+◌, ◌-◌, ◌*◌, ◌<◌, ◌≤◌, List, [], length, take, drop, true, false, IfOk, IfSome, IfNone, OnOk, IsErrOf, Err};
+ghost use Rattle.tc_base.specs.declared.kind.Rule.{Rule};
+ghost use Rattle.tc_io.specs.Causes.{Rose};
+ghost use Rattle.tc_space.specs.Ranges.{IsDataFile};
+ghost use Rattle.tc_space.specs.Frames.{OnlyReads};
+ghost use Rattle.hf_head.specs.Heads.{IsValid, unit};
+ghost use Rattle.hf_block.specs.Pieces.{Record, Piece, held, IsFilled, IsSize};
+ghost use Rattle.hf_block.specs.Rows.{StandApart};
+ghost use Rattle.hf_block.specs.Walks.{HasNext, IsChunk, NoneFill, between, block_of, is_free_block};
+ghost use Rattle.hf_tree.specs.Links.{width};
+ghost use Rattle.hf_chain.specs.Heads.{head_of};
+ghost use Rattle.hf_chain.specs.Passes.{Looks};
+ghost use Rattle.hf_chain.specs.Surveys.{Added, Passed, Stand, WasSurveyed, WentOn};
+
+use crate::facts::{Facts, fact_behind, fact_in};
+use crate::heads::RecHead;
+use crate::reads::walk_err;
+use hf_block::{Block, BlockAt, Blocks, WHOLE_BLOCKS, WalkErr, next_block};
+use hf_head::Head;
+use std::alloc::{AllocError, Global};
+use tc_space::Space;
+use tc_window::Window;
+
+/// What a pass over the blocks of a file finds.
+#[derive(Drop)]
+pub struct Survey {
+    /// What the rules ask of its records, in ascending place.
+    pub facts: Facts,
+    /// Its free blocks, in ascending place.
+    pub frees: Blocks,
+}
+
+// The head of a record; of a free block, none.
+fn rec_of(block: &Block) -> Option<RecHead>
+    ensures some { IfSome result (λ x. (is_free_block block.now ≡ false) × ((r : Record) → block.now ≡ block_of (held r) → x ≡ head_of r)) }
+    ensures none { IfNone result (is_free_block block.now ≡ true) }
+{
+    match block {
+        Block::Rec {
+            hash,
+            left,
+            right,
+            pad,
+            key,
+            value,
+            head,
+        } => Some(RecHead {
+            hash: *hash,
+            left: *left,
+            right: *right,
+            pad: *pad,
+            key: *key,
+            value: *value,
+            head: *head,
+        }),
+        Block::Free { .. } => None,
+    }
+}
+
+// The key behind a record's head, where all of it is among the record's first bytes.
+fn key_of<'a>(front: &'a [u8], rec: &RecHead) -> Option<&'a [u8]>
+    ensures { IfSome result (λ key. (rec.now.head + rec.now.key ≤ length front.now) × (key.now ≡ take rec.now.key (drop rec.now.head front.now))) }
+{
+    let len = front.len() as u64;
+    if rec.head > len || rec.key > len - rec.head {
+        return None;
+    }
+    let start = rec.head as usize;
+    Some(&front[start..start + rec.key as usize])
+}
+
+// Adds a block whose first bytes these are to what was found. False, and nothing is added, where its key isn't among them.
+fn take_block(
+    head: &Head,
+    place: u64,
+    front: &[u8],
+    size: u64,
+    block: &Block,
+    found: &mut Survey,
+) -> Result<bool, AllocError>
+    requires { IsValid head.now }
+    ensures added { IfOk result (λ is. is ≡ true → Added head.now place size block.now front.now found.old found.new) }
+    ensures same { IfOk result (λ is. is ≡ false → found.new ≡ found.old) }
+{
+    let Some(rec) = rec_of(block) else {
+        found.frees.push(BlockAt {
+            place,
+            size,
+            free: true,
+        })?;
+        return Ok(true);
+    };
+    let Some(key) = key_of(front, &rec) else {
+        return Ok(false);
+    };
+    let fact = fact_in(head, place, &rec, key);
+    found.facts.push(fact)?;
+    Ok(true)
+}
+
+// Adds the blocks of a chunk of bytes from place `at` on to what was found, up to the first whose key isn't all in the chunk, and answers where
+// the next block begins. The last block may end behind the chunk.
+fn survey_chunk(head: &Head, chunk: &[u8], at: u64, found: &mut Survey) -> Result<u64, WalkErr>
+    requires head { IsValid head.now }
+    requires chunk { IsChunk at (length chunk.now) head.now.size }
+    ensures on { IfOk result (λ next. (at ≤ next) × (next ≤ head.now.size) × (Stand head.now at found.old → Stand head.now next found.new)) }
+    ensures passed { IfOk result (λ next. (bytes : List ℕ) → chunk.now ≡ take (length chunk.now) bytes → at + length bytes ≡ head.now.size → Passed head.now at next bytes found.old found.new) }
+    ensures rule { (rule : Rule) → result ≡ Err (WalkErr.Broken rule) → rule ≡ WHOLE_BLOCKS }
+    ensures broken { (rule : Rule) → result ≡ Err (WalkErr.Broken rule) → (bytes : List ℕ) → chunk.now ≡ take (length chunk.now) bytes → at + length bytes ≡ head.now.size → (ps : List Piece) → IsFilled (width head.now) (unit head.now) bytes ps → ⊥ }
+    ensures no_fault { IsErrOf result WalkErr.Fault → ⊥ }
+{
+    let len = chunk.len() as u64;
+    let end = head.size;
+    let unit = head.unit();
+    let large = head.is_large();
+    let mut next = at;
+    while next - at < len && (len - (next - at) >= 40 || at + len == end) {
+        let front = &chunk[(next - at) as usize..];
+        let Some((size, block)) = next_block(front, end - next, unit, large) else {
+            return Err(WalkErr::Broken(WHOLE_BLOCKS));
+        };
+        if !take_block(head, next, front, size, &block, found)? {
+            return Ok(next);
+        }
+        next += size;
+    }
+    Ok(next)
+}
+
+// Adds a block to what was found, whose head is read already and whose key may be long.
+fn take_long<S: Space>(
+    space: &mut S,
+    file: u32,
+    head: &Head,
+    place: u64,
+    size: u64,
+    block: &Block,
+    window: &mut Window,
+    found: &mut Survey,
+) -> Result<(), WalkErr>
+    requires looks { Looks S.Space space.old file window.old }
+    requires head { IsValid head.now }
+    requires next { S.tells → HasNext (width head.now) (unit head.now) size block.now (between place head.now.size (S.now space.old file)) }
+    requires within { (place + size ≤ head.now.size) × (S.tells → head.now.size ≤ length (S.now space.old file)) }
+    ensures stand { OnOk result (IsSize (unit head.now) size → Stand head.now place found.old → Stand head.now (place + size) found.new) }
+    ensures passed { OnOk result (S.tells → Passed head.now place (place + size) (between place head.now.size (S.now space.old file)) found.old found.new) }
+    ensures looks { OnOk result (Looks S.Space space.new file window.new) }
+    ensures reads { OnlyReads S.Space space.old space.new }
+    ensures err { ((rule : Rule) → result ≡ Err (WalkErr.Broken rule) → ⊥) × (IsErrOf result WalkErr.Fault → Rose (S.faults space.old) (S.faults space.new)) }
+{
+    let None = rec_of(block) else {
+        return match fact_behind(space, file, head, place, window) {
+            Ok(fact) => {
+                found.facts.push(fact)?;
+                Ok(())
+            }
+            Err(e) => Err(walk_err(e)),
+        };
+    };
+    found.frees.push(BlockAt {
+        place,
+        size,
+        free: true,
+    })?;
+    Ok(())
+}
+
+// Adds one block to what was found, whose key may be long, and answers where it ends.
+fn survey_one<S: Space>(
+    space: &mut S,
+    file: u32,
+    head: &Head,
+    at: u64,
+    window: &mut Window,
+    found: &mut Survey,
+) -> Result<u64, WalkErr>
+    requires looks { Looks S.Space space.old file window.old }
+    requires head { IsValid head.now }
+    requires within { (at < head.now.size) × (S.tells → head.now.size ≤ length (S.now space.old file)) }
+    ensures on { IfOk result (λ next. WentOn S.tells head.now at next (S.now space.old file) found.old found.new) }
+    ensures looks { OnOk result (Looks S.Space space.new file window.new) }
+    ensures broken { (rule : Rule) → result ≡ Err (WalkErr.Broken rule) → NoneFill S.tells (width head.now) (unit head.now) (between at head.now.size (S.now space.old file)) rule }
+    ensures reads { OnlyReads S.Space space.old space.new }
+    ensures cause { IsErrOf result WalkErr.Fault → Rose (S.faults space.old) (S.faults space.new) }
+{
+    let left = head.size - at;
+    let count = left.min(40) as usize;
+    match window.fill(space, file, at, count) {
+        Ok(()) => {}
+        Err(e) => return Err(walk_err(e)),
+    }
+    let front = window.get(at, count);
+    let Some((size, block)) = next_block(front, left, head.unit(), head.is_large()) else {
+        return Err(WalkErr::Broken(WHOLE_BLOCKS));
+    };
+    match take_long(space, file, head, at, size, &block, window, found) {
+        Ok(()) => Ok(at + size),
+        Err(e) => Err(e),
+    }
+}
+
+// How many bytes are read at once.
+const AT_ONCE: u64 = 65536;
+
+// Adds the blocks of so many bytes from place `at` on, one at least, to what was found, and answers where the next begins.
+fn survey_on<S: Space>(
+    space: &mut S,
+    file: u32,
+    head: &Head,
+    at: u64,
+    window: &mut Window,
+    found: &mut Survey,
+) -> Result<u64, WalkErr>
+    requires looks { Looks S.Space space.old file window.old }
+    requires head { IsValid head.now }
+    requires within { (at < head.now.size) × (S.tells → head.now.size ≤ length (S.now space.old file)) }
+    ensures on { IfOk result (λ next. WentOn S.tells head.now at next (S.now space.old file) found.old found.new) }
+    ensures looks { OnOk result (Looks S.Space space.new file window.new) }
+    ensures broken { (rule : Rule) → result ≡ Err (WalkErr.Broken rule) → NoneFill S.tells (width head.now) (unit head.now) (between at head.now.size (S.now space.old file)) rule }
+    ensures reads { OnlyReads S.Space space.old space.new }
+    ensures cause { IsErrOf result WalkErr.Fault → Rose (S.faults space.old) (S.faults space.new) }
+{
+    let count = (head.size - at).min(AT_ONCE) as usize;
+    match window.fill(space, file, at, count) {
+        Ok(()) => {}
+        Err(e) => return Err(walk_err(e)),
+    }
+    match survey_chunk(head, window.get(at, count), at, found) {
+        Ok(next) => {
+            if next > at {
+                return Ok(next);
+            }
+            survey_one(space, file, head, at, window, found)
+        }
+        Err(e) => Err(e),
+    }
+}
+
+// Nothing was found yet. There is room for the head's number of records, but for no more than may stand in the file.
+fn nothing_yet(alloc: Global, head: &Head) -> Result<Survey, AllocError>
+    requires { IsValid head.now }
+    ensures { IfOk result (λ s. (s.facts ≡ []) × (s.frees ≡ [])) }
+{
+    let most = head.size.saturating_sub(head.first) / head.unit();
+    let room = head.records.min(most) as usize;
+    let facts = Vec::with_capacity(alloc, room)?;
+    Ok(Survey {
+        facts: Facts::from_vec(facts),
+        frees: Blocks::new(alloc),
+    })
+}
+
+/// What stands from the head's first block to its file size: what the rules ask of each record, and the free blocks, whatever the space tells. It
+/// reads those bytes once, many at a time, and a key that reaches far a second time. `Broken` comes exactly where whole blocks don't stand
+/// there one after the other.
+pub fn survey_blocks<S: Space>(
+    alloc: Global,
+    space: &mut S,
+    file: u32,
+    head: &Head,
+) -> Result<Survey, WalkErr>
+    requires sound { S.sound space.old }
+    requires file { IsDataFile file }
+    requires head { IsValid head.now }
+    requires inside { S.tells → head.now.size ≤ length (S.now space.old file) }
+    ensures apart { IfOk result (λ s. StandApart (unit head.now) head.now.first head.now.size s.frees) }
+    ensures found { IfOk result (λ s. S.tells → WasSurveyed head.now (S.now space.old file) s) }
+    ensures broken { (rule : Rule) → result ≡ Err (WalkErr.Broken rule) → NoneFill S.tells (width head.now) (unit head.now) (between head.now.first head.now.size (S.now space.old file)) rule }
+    ensures reads { OnlyReads S.Space space.old space.new }
+    ensures cause { IsErrOf result WalkErr.Fault → Rose (S.faults space.old) (S.faults space.new) }
+{
+    let mut window = Window::new(alloc);
+    let mut found = nothing_yet(alloc, head)?;
+    let mut at = head.first;
+    while at < head.size {
+        match survey_on(space, file, head, at, &mut window, &mut found) {
+            Ok(next) => at = next,
+            Err(e) => return Err(e),
+        }
+    }
+    Ok(found)
+}
