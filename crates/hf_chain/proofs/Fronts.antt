@@ -22,7 +22,7 @@ use Rattle.hf_tree.specs.Keys.{key_cmp}
 use Rattle.hf_tree.specs.Links.{IsAt}
 use Rattle.hf_tree.proofs.Fields.{at_inside}
 use Rattle.hf_chain.specs.declared.heads.RecHead.{RecHead}
-use Rattle.hf_chain.specs.Heads.{head_of, head_size, HasRecord}
+use Rattle.hf_chain.specs.Heads.{head_of, head_block, head_size, HasRecord}
 use Rattle.hf_chain.specs.Facts.{IsInBounds}
 use Rattle.hf_chain.proofs.Pieces.{piece_of}
 
@@ -96,6 +96,9 @@ heads_same res hash left right pad key value head r is at =
     let g : value ≡ length r.value = cc in
     let h : head ≡ head_size r = cc in
     λ i. record { hash = a i; left = b i; right = c i; pad = d i; key = f i; value = g i; head = h i }
+
+pub head_is : (x : RecHead) (b : Block) (r : Record) → b ≡ head_block x → b ≡ block_of r → x ≡ head_of r
+head_is x b r is at = heads_same (Ok b) x.hash x.left x.right x.pad x.key x.value x.head r (ap (λ (z : Block). Ok z) is) (ap (λ (z : Block). Ok z) at)
 
 -- the front that is read
 pub front_cut : (n at : ℕ) (u : ℕ) (r : Record) (bytes front : List ℕ) (a : IsAt u r at bytes) → front ≡ take n (drop at bytes) → at + n ≤ length bytes → (at + n ≡ length bytes) ⊎ (40 ≤ n) → IsCut r a.rest front

@@ -3,6 +3,8 @@ use Rattle.std.specs.Prelude.{◌≡◌, ℕ, ◌+◌, ◌*◌, ◌-◌, ◌^◌
 use Rattle.tc_base.specs.Vnum.{vnum}
 use Rattle.hf_head.specs.declared.head.Head.{Head}
 use Rattle.hf_head.specs.Heads.{unit}
+use Rattle.hf_block.specs.declared.block.Block.{Block}
+use Rattle.hf_block.specs.declared.block.Block.TheVariants.{Rec}
 use Rattle.hf_block.specs.Pieces.{Record}
 use Rattle.hf_tree.specs.Links.{IsAt, width}
 use Rattle.hf_chain.specs.declared.heads.RecHead.{RecHead}
@@ -13,6 +15,10 @@ head_size r = 4 + 2 * r.wide + length (vnum (length r.key)) + length (vnum (leng
 
 abbrev pub head_of : Record → RecHead
 head_of r = record { hash = r.hash; left = r.left; right = r.right; pad = length r.pad; key = length r.key; value = length r.value; head = head_size r }
+
+-- the block with that head
+abbrev pub head_block : RecHead → Block
+head_block x = Rec x.hash x.left x.right x.pad x.key x.value x.head
 
 -- a record with chains of the file's width stands there
 pub record HasRecord (h : Head) (r : Record) (at : ℕ) (bytes : List ℕ) : Type 0 where

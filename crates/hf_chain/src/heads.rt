@@ -1,13 +1,14 @@
 //! Heads of records, and entries of buckets, as they stand in a file.
-ghost use Rattle.std.specs.Prelude.{◌≡◌, ℕ, ◌+◌, ◌*◌, ◌-◌, ◌^◌, ◌<◌, ◌≤◌, ◌⊎◌, ◌++◌, List, length, take, IfOk, OnOk};
+ghost use Rattle.std.specs.Prelude.{◌≡◌, ℕ, ◌+◌, ◌*◌, ◌-◌, ◌^◌, ◌<◌, ◌≤◌, ◌⊎◌, ◌++◌, List, length, take, true, IfOk, IfSome, IfNone, OnOk};
 ghost use Rattle.tc_io.specs.Causes.{HasCause};
 ghost use Rattle.tc_space.specs.Ranges.{IsDataFile};
 ghost use Rattle.tc_space.specs.Frames.{OnlyReads};
 ghost use Rattle.hf_head.specs.Heads.{wide};
 ghost use Rattle.hf_head.specs.Layout.{number_at};
 ghost use Rattle.hf_block.specs.Pieces.{Record, held, spell, IsWhole};
+ghost use Rattle.hf_block.specs.Walks.{is_free_block};
 ghost use Rattle.hf_tree.specs.Links.{width, entry_at};
-ghost use Rattle.hf_chain.specs.Heads.{head_of, HasRecord, capped};
+ghost use Rattle.hf_chain.specs.Heads.{head_of, head_block, HasRecord, capped};
 ghost use Rattle.hf_chain.specs.Fronts.{FitsLinks, IsEnough};
 
 use hf_block::{Block, read_block};
@@ -51,24 +52,13 @@ fn no_head() -> RecHead
     }
 }
 
-/// The head at the front of bytes; of none, zeros.
-pub fn head_in(front: &[u8], large: bool) -> RecHead
-    ensures head { (u : ℕ) (r : Record) (more : List ℕ) → r.wide ≡ wide large → IsWhole u (held r) → front.now ≡ take (length front.now) (spell (held r) ++ more) → (length front.now ≡ length (spell (held r) ++ more)) ⊎ (40 ≤ length front.now) → result ≡ head_of r }
-    ensures chains { (result.left < 256 ^ wide large) × (result.right < 256 ^ wide large) }
-    ensures small { result.head ≤ 40 }
+/// The head of a block that is a record; of a free block, none.
+pub fn rec_of(block: &Block) -> Option<RecHead>
+    ensures some { IfSome result (λ x. block.now ≡ head_block x) }
+    ensures none { IfNone result (is_free_block block.now ≡ true) }
 {
-    match read_block(front, large) {
-        Ok(
-            Block::Rec {
-                hash,
-                left,
-                right,
-                pad,
-                key,
-                value,
-                head,
-            },
-        ) => RecHead {
+    match block {
+        Block::Rec {
             hash,
             left,
             right,
@@ -76,8 +66,30 @@ pub fn head_in(front: &[u8], large: bool) -> RecHead
             key,
             value,
             head,
+        } => Some(RecHead {
+            hash: *hash,
+            left: *left,
+            right: *right,
+            pad: *pad,
+            key: *key,
+            value: *value,
+            head: *head,
+        }),
+        Block::Free { .. } => None,
+    }
+}
+
+/// The head at the front of bytes; of none, zeros.
+pub fn head_in(front: &[u8], large: bool) -> RecHead
+    ensures head { (u : ℕ) (r : Record) (more : List ℕ) → r.wide ≡ wide large → IsWhole u (held r) → front.now ≡ take (length front.now) (spell (held r) ++ more) → (length front.now ≡ length (spell (held r) ++ more)) ⊎ (40 ≤ length front.now) → result ≡ head_of r }
+    ensures chains { (result.left < 256 ^ wide large) × (result.right < 256 ^ wide large) }
+    ensures small { result.head ≤ 40 }
+{
+    match read_block(front, large) {
+        Ok(block) => match rec_of(&block) {
+            Some(rec) => rec,
+            None => no_head(),
         },
-        Ok(Block::Free { .. }) => no_head(),
         Err(_) => no_head(),
     }
 }

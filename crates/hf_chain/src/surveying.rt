@@ -5,16 +5,15 @@ ghost use Rattle.tc_io.specs.Causes.{Rose};
 ghost use Rattle.tc_space.specs.Ranges.{IsDataFile};
 ghost use Rattle.tc_space.specs.Frames.{OnlyReads};
 ghost use Rattle.hf_head.specs.Heads.{IsValid, unit};
-ghost use Rattle.hf_block.specs.Pieces.{Record, Piece, held, IsFilled, IsSize};
+ghost use Rattle.hf_block.specs.Pieces.{Piece, IsFilled, IsSize};
 ghost use Rattle.hf_block.specs.Rows.{StandApart};
-ghost use Rattle.hf_block.specs.Walks.{HasNext, IsChunk, NoneFill, between, block_of, is_free_block};
+ghost use Rattle.hf_block.specs.Walks.{HasNext, IsChunk, NoneFill, between};
 ghost use Rattle.hf_tree.specs.Links.{width};
-ghost use Rattle.hf_chain.specs.Heads.{head_of};
 ghost use Rattle.hf_chain.specs.Passes.{Looks};
 ghost use Rattle.hf_chain.specs.Surveys.{Added, Passed, Stand, WasSurveyed, WentOn};
 
 use crate::facts::{Facts, fact_behind, fact_in};
-use crate::heads::RecHead;
+use crate::heads::{RecHead, rec_of};
 use crate::reads::walk_err;
 use hf_block::{Block, BlockAt, Blocks, WHOLE_BLOCKS, WalkErr, next_block};
 use hf_head::Head;
@@ -29,33 +28,6 @@ pub struct Survey {
     pub facts: Facts,
     /// Its free blocks, in ascending place.
     pub frees: Blocks,
-}
-
-// The head of a record; of a free block, none.
-fn rec_of(block: &Block) -> Option<RecHead>
-    ensures some { IfSome result (λ x. (is_free_block block.now ≡ false) × ((r : Record) → block.now ≡ block_of (held r) → x ≡ head_of r)) }
-    ensures none { IfNone result (is_free_block block.now ≡ true) }
-{
-    match block {
-        Block::Rec {
-            hash,
-            left,
-            right,
-            pad,
-            key,
-            value,
-            head,
-        } => Some(RecHead {
-            hash: *hash,
-            left: *left,
-            right: *right,
-            pad: *pad,
-            key: *key,
-            value: *value,
-            head: *head,
-        }),
-        Block::Free { .. } => None,
-    }
 }
 
 // The key behind a record's head, where all of it is among the record's first bytes.
