@@ -84,8 +84,8 @@ fn measure(block: &Block, unit: u64, large: bool) -> Option<u64>
     Some(size)
 }
 
-/// The block whose first bytes these are, and how many it has, where so many bytes are left up to the end: `None` exactly where no whole block
-/// with such chains stands there. Of a block of 40 bytes and more the first 40 are enough.
+/// The block whose first bytes these are, and how many it has, where so many bytes are left up to the end: a whole block stands there then.
+/// `None` only where whole blocks with such chains don't fill the bytes up to the end. The first 40 bytes are enough.
 pub fn next_block(front: &[u8], left: u64, unit: u64, large: bool) -> Option<(u64, Block)>
     requires some { 0 < length front.now }
     requires within { length front.now ≤ left }
