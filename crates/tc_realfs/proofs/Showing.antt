@@ -202,9 +202,39 @@ shown_but from until first end now old new is far so s gone = record {
 }
 
 -- bytes read in two parts
-pub joined : (at : ℕ) (into first second a b file : List ℕ) → into ≡ first ++ second → a ≡ take (length first) (drop at file) → b ≡ take (length second) (drop (at + length first) file) → a ++ b ≡ take (length into) (drop at file)
-joined at into first second a b file is front behind =
+pub joined : (at here : ℕ) (into first second a b file : List ℕ) → into ≡ first ++ second → length first ≡ here → a ≡ take (length first) (drop at file) → b ≡ take (length second) (drop (at + here) file) → a ++ b ≡ take (length into) (drop at file)
+joined at here into first second a b file is long front behind =
     (λ i. front i ++ behind i)
+    ∙ ap (λ n. take (length first) (drop at file) ++ take (length second) (drop (at + n) file)) (sym long)
     ∙ ap (λ (l : List ℕ). take (length first) (drop at file) ++ take (length second) l) (sym (drop-drop (length first) at file))
     ∙ sym (take-add (length first) (length second) (drop at file))
     ∙ ap (λ n. take n (drop at file)) (sym (ap length is ∙ length-append first second))
+
+-- the front of bytes that were read
+pub read_front : (start n : ℕ) (bytes front file : List ℕ) → front ≡ take n bytes → length front ≡ n → n ≤ length bytes → bytes ≡ take (length bytes) (drop start file) → front ≡ take (length front) (drop start file)
+read_front start n bytes front file is long le e =
+    is
+    ∙ ap (λ (l : List ℕ). take n l) e
+    ∙ take-take n (length bytes) (drop start file) le
+    ∙ ap (λ m. take m (drop start file)) (sym long)
+
+read_from : (start k : ℕ) (bytes file : List ℕ) → k ≤ length bytes → bytes ≡ take (length bytes) (drop start file) → drop k bytes ≡ take (length bytes - k) (drop (start + k) file)
+read_from start k bytes file le e =
+    let parts : length bytes ≡ k + (length bytes - k) = omega arith in
+    ap (λ (l : List ℕ). drop k l) (e ∙ ap (λ m. take m (drop start file)) parts)
+    ∙ drop-take k (length bytes - k) (drop start file)
+    ∙ ap (λ (l : List ℕ). take (length bytes - k) l) (drop-drop k start file)
+
+-- the bytes behind it
+pub read_behind : (start k : ℕ) (bytes behind file : List ℕ) → behind ≡ drop k bytes → k ≤ length bytes → bytes ≡ take (length bytes) (drop start file) → behind ≡ take (length behind) (drop (start + k) file)
+read_behind start k bytes behind file is le e =
+    is
+    ∙ read_from start k bytes file le e
+    ∙ ap (λ m. take m (drop (start + k) file)) (sym (ap length is ∙ length-drop k bytes))
+
+-- bytes from the middle of those
+pub read_within : (start at n : ℕ) (bytes file : List ℕ) → start ≤ at → at + n ≤ start + length bytes → bytes ≡ take (length bytes) (drop start file) → take n (drop (at - start) bytes) ≡ take n (drop at file)
+read_within start at n bytes file low high e =
+    ap (λ (l : List ℕ). take n l) (read_from start (at - start) bytes file (omega arith) e)
+    ∙ take-take n (length bytes - (at - start)) (drop (start + (at - start)) file) (omega arith)
+    ∙ ap (λ m. take n (drop m file)) (omega arith)

@@ -1,5 +1,5 @@
 //! Calls on a file whose pages are kept.
-ghost use Rattle.std.specs.Prelude.{◌≡◌, ℕ, ◌+◌, ◌^◌, ◌<◌, ◌≤◌, List, length, take, drop, Option, Some, OnOk, OnErr};
+ghost use Rattle.std.specs.Prelude.{◌≡◌, ℕ, ◌+◌, ◌%◌, ◌^◌, ◌<◌, ◌≤◌, List, length, take, drop, Option, Some, OnOk, OnErr};
 ghost use Rattle.tc_base.specs.Files.{wrote};
 ghost use Rattle.tc_realfs.specs.Changes.{SameOutside};
 ghost use Rattle.tc_realfs.specs.Paging.{Shows};
@@ -9,72 +9,114 @@ use std::fs::File;
 use std::io;
 use std::os::unix::fs::FileExt;
 
-/// What bytes are read from.
+/// What bytes are read from. A read gives it away, so who is given one reads once at most.
 pub trait Source {
     /// Its bytes, where it tells them.
     ghost bytes: { Self → Option (List ℕ) };
 
     /// Fills bytes with its own from a place on.
-    fn read_at(&self, at: u64, into: &mut [u8]) -> io::Result<()>
-        ensures { OnOk result ((file : List ℕ) → bytes self.now ≡ Some file → into.new ≡ take (length into.old) (drop at file)) };
+    fn read_at(self, at: u64, into: &mut [u8]) -> io::Result<()>
+        ensures { OnOk result ((file : List ℕ) → bytes self ≡ Some file → into.new ≡ take (length into.old) (drop at file)) };
 }
 
-impl Source for File {
+impl<'a> Source for &'a File {
     ghost use Rattle.std.specs.Prelude.{None};
 
     ghost bytes = { λ _. None };
 
-    fn read_at(&self, at: u64, into: &mut [u8]) -> io::Result<()> {
+    fn read_at(self, at: u64, into: &mut [u8]) -> io::Result<()> {
         self.read_exact_at(into, at)
     }
 }
 
-// Fills bytes that lie in one page. A page that isn't there is read whole, if there is memory for it.
-fn read_part<S: Source>(
+// Fills bytes with those from a place on, of bytes that stand at a place before it.
+fn take_from(start: u64, bytes: &[u8], at: u64, into: &mut [u8])
+    requires behind { start ≤ at }
+    requires inside { at + length into.old ≤ start + length bytes.now }
+    ensures { (file : List ℕ) → bytes.now ≡ take (length bytes.now) (drop start file) → into.new ≡ take (length into.old) (drop at file) }
+{
+    let skip = (at - start) as usize;
+    into.copy_from_slice(&bytes[skip..skip + into.len()]);
+}
+
+// Fills bytes of a page that isn't kept. It is read whole, if there is memory for it.
+fn read_one<S: Source>(
     pages: &mut Pages,
-    source: &S,
+    source: S,
     len: u64,
     at: u64,
     into: &mut [u8],
 ) -> io::Result<()>
-    ensures bytes { OnOk result ((file : List ℕ) → S.bytes source.now ≡ Some file → Shows pages.old file → into.new ≡ take (length into.old) (drop at file)) }
-    ensures shows { (file : List ℕ) → S.bytes source.now ≡ Some file → Shows pages.old file → Shows pages.new file }
+    requires page { at % 4096 + length into.old ≤ 4096 }
+    requires inside { at + length into.old ≤ len }
+    ensures bytes { OnOk result ((file : List ℕ) → S.bytes source ≡ Some file → into.new ≡ take (length into.old) (drop at file)) }
+    ensures shows { (file : List ℕ) → S.bytes source ≡ Some file → Shows pages.old file → Shows pages.new file }
 {
-    if into.is_empty() || pages.copy(at, into) {
-        return Ok(());
-    }
     let number = at / PAGE;
     let start = number * PAGE;
-    let count = len.saturating_sub(start).min(PAGE) as usize;
-    if let Some(mut room) = pages.room(number, count) {
-        source.read_at(start, &mut room)?;
-        pages.fill(number, room);
-        if pages.copy(at, into) {
-            return Ok(());
-        }
-    }
-    source.read_at(at, into)
+    let count = (len - start).min(PAGE) as usize;
+    let Some(mut room) = pages.room(number, count) else {
+        return source.read_at(at, into);
+    };
+    source.read_at(start, &mut room)?;
+    take_from(start, &room, at, into);
+    pages.fill(number, room);
+    Ok(())
 }
 
-/// Fills bytes with those from a place on of a file of a length. Less than a page is read of the pages that it lies in, by one call for each that isn't there.
-pub fn read<S: Source>(
+// Fills bytes of two pages of which none is kept. Both are read whole, and kept if there is memory for them.
+fn read_both<S: Source>(
     pages: &mut Pages,
-    source: &S,
+    source: S,
+    len: u64,
+    at: u64,
+    into: &mut [u8],
+) -> io::Result<()>
+    requires short { length into.old ≤ 4096 }
+    requires crosses { 4096 < at % 4096 + length into.old }
+    requires inside { at + length into.old ≤ len }
+    ensures bytes { OnOk result ((file : List ℕ) → S.bytes source ≡ Some file → into.new ≡ take (length into.old) (drop at file)) }
+    ensures shows { (file : List ℕ) → S.bytes source ≡ Some file → Shows pages.old file → Shows pages.new file }
+{
+    let number = at / PAGE;
+    let start = number * PAGE;
+    let count = (len - start).min(2 * PAGE) as usize;
+    let mut room = [0; 2 * PAGE as usize];
+    let both = &mut room[..count];
+    source.read_at(start, both)?;
+    take_from(start, both, at, into);
+    let (first, second) = both.split_at(PAGE as usize);
+    pages.keep(number, first);
+    pages.keep(number + 1, second);
+    Ok(())
+}
+
+/// Fills bytes with those from a place on of a file of a length, by one call at most. Less than a page is read of the pages that it lies in, of which those
+/// that aren't there are read whole.
+pub fn read<S: Source + Drop>(
+    pages: &mut Pages,
+    source: S,
     len: u64,
     at: u64,
     into: &mut [u8],
 ) -> io::Result<()>
     requires inside { at + length into.old < 2 ^ 64 }
-    ensures bytes { OnOk result ((file : List ℕ) → S.bytes source.now ≡ Some file → Shows pages.old file → into.new ≡ take (length into.old) (drop at file)) }
-    ensures shows { (file : List ℕ) → S.bytes source.now ≡ Some file → Shows pages.old file → Shows pages.new file }
+    ensures bytes { OnOk result ((file : List ℕ) → S.bytes source ≡ Some file → Shows pages.old file → into.new ≡ take (length into.old) (drop at file)) }
+    ensures shows { (file : List ℕ) → S.bytes source ≡ Some file → Shows pages.old file → Shows pages.new file }
 {
-    if into.len() as u64 >= PAGE {
+    let end = at + into.len() as u64;
+    if into.len() as u64 >= PAGE || end > len {
         return source.read_at(at, into);
     }
     let here = into.len().min((PAGE - at % PAGE) as usize);
+    let next = at + here as u64;
     let (first, second) = into.split_at_mut(here);
-    read_part(pages, source, len, at, first)?;
-    read_part(pages, source, len, at + here as u64, second)
+    match (pages.copy(at, first), pages.copy(next, second)) {
+        (true, true) => Ok(()),
+        (true, false) => read_one(pages, source, len, next, second),
+        (false, true) => read_one(pages, source, len, at, first),
+        (false, false) => read_both(pages, source, len, at, into),
+    }
 }
 
 /// Writes all the bytes from a place on. After an error any of them may be there.

@@ -159,10 +159,14 @@ impl Pages {
         }
     }
 
-    /// Fills bytes with those from a place on. Answers whether they are there, all in one page.
+    /// Fills bytes with those from a place on. Answers whether they are there, all in one page; none always are.
     pub fn copy(&self, at: u64, into: &mut [u8]) -> bool
-        ensures { IsTrue result → (file : List ℕ) → Shows self.now file → into.new ≡ take (length into.old) (drop at file) }
+        ensures none { length into.old ≡ 0 → IsTrue result }
+        ensures bytes { IsTrue result → (file : List ℕ) → Shows self.now file → into.new ≡ take (length into.old) (drop at file) }
     {
+        if into.is_empty() {
+            return true;
+        }
         let spot = Spot::of(at);
         let Some(page) = self.slots.get(spot.slot) else {
             return false;
@@ -210,6 +214,18 @@ impl Pages {
             turn: number / SLOTS,
             bytes,
         };
+    }
+
+    /// Keeps a copy of the bytes of a page, if there is memory for it.
+    pub fn keep(&mut self, number: u64, bytes: &[u8])
+        requires short { length bytes.now ≤ 4096 }
+        ensures { (file : List ℕ) → bytes.now ≡ take (length bytes.now) (drop (number * 4096) file) → Shows self.old file → Shows self.new file }
+    {
+        let Some(mut room) = self.room(number, bytes.len()) else {
+            return;
+        };
+        room.copy_from_slice(bytes);
+        self.fill(number, room);
     }
 
     // Brings in what was written from a place on in one page.
