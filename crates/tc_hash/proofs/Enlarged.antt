@@ -21,14 +21,15 @@ use Rattle.hf_layout.specs.Layout.{LaidOut}
 use Rattle.hf_head.specs.declared.head.Head.{Head}
 use Rattle.hf_head.specs.Heads.{Spells, spelled, unit}
 use Rattle.hf_pool.specs.declared.pool.Pool.{Pool}
-use Rattle.hf_pool.specs.Pools.{frees as frees_in, TakesFree, Grows}
+use Rattle.hf_pool.specs.Pools.{frees as frees_in}
 use Rattle.tc_hash.specs.Creating.{IsNew}
 use Rattle.tc_hash.specs.Fields.{HasFields}
 use Rattle.tc_hash.specs.Holding.{Holds}
 use Rattle.tc_hash.specs.declared.hash.Hash.{Hash}
 use Rattle.tc_hash.specs.Keeping.{file_of, holds, size_in, GivesValue, LacksRoom, StaysOpen}
 use Rattle.tc_hash.specs.Moves.{IsRefusedFor}
-use Rattle.tc_hash.specs.Packing.{AllIn, ArePairs, LacksEnd, LacksOne, Takes, fills_enlarging, with_pairs}
+use Rattle.tc_hash.specs.Allocating.{Takes}
+use Rattle.tc_hash.specs.Packing.{AllIn, ArePairs, LacksEnd, LacksOne, fills_enlarging, with_pairs}
 use Rattle.tc_hash.proofs.Cleared.{may_be}
 use Rattle.tc_hash.proofs.Created.{create_brought, new_bytes, new_fields}
 use Rattle.tc_hash.proofs.Maps.{insert_here, insert_other, other_test, same_or_not}
@@ -95,12 +96,9 @@ in_all m (q ∷ ps) (suc i) p e all = in_all m ps i p e all.1
 -- ---- the pool
 
 -- a pool without free blocks stays so
-pub still_nothing : (old new : Pool) → Takes old new → ((q : ℕ) → frees_in old q ≡ None) → (q : ℕ) → frees_in new q ≡ None
-still_nothing old new takes nothing q = go takes.took
-  where
-    go : ((found : ℕ) × TakesFree old new takes.size takes.place found) ⊎ Grows old new takes.size takes.place → frees_in new q ≡ None
-    go (inl w) = absurd (let e : None ≡ Some w.0 = sym (nothing takes.place) ∙ w.1.best.there in cc)
-    go (inr g) = g.same q ∙ nothing q
+pub still_nothing : (size place : ℕ) (old new : Pool) → Takes size place old new → ((q : ℕ) → frees_in old q ≡ None) → (q : ℕ) → frees_in new q ≡ None
+still_nothing size place old new (inl w) nothing q = absurd (let e : None ≡ Some w.0 = sym (nothing place) ∙ w.1.best.there in cc)
+still_nothing size place old new (inr g) nothing q = g.same q ∙ nothing q
 
 -- ---- the file made anew
 

@@ -3,13 +3,11 @@ use Rattle.std.proofs.Common.{◌≡◌, ◌≢◌, ◌∙◌, inl, inr, ℕ, �
 use Rattle.std.proofs.lemmas.Bool.{cases_eq, eq-eqb, ne_eqb}
 use Rattle.std.specs.declared.cmp.Ordering.TheVariants.{Equal}
 use Rattle.std.specs.FinMap.{get, remove}
-use Rattle.tc_base.specs.Vnum.{vnum}
 use Rattle.tc_base.specs.Maps.{Map}
 use Rattle.hf_head.specs.declared.head.Head.{Head}
 use Rattle.hf_head.specs.Heads.{IsValid, unit}
 use Rattle.hf_block.specs.Heads.{free_head}
 use Rattle.hf_block.specs.Pieces.{Record, Piece, held, size_of}
-use Rattle.hf_block.proofs.Padding.{length-held}
 use Rattle.hf_layout.specs.Frees.{Frees, without, none}
 use Rattle.hf_layout.specs.Layout.{record_at, frees_of, HasBlock, LaidOut, TakesBack}
 use Rattle.hf_layout.proofs.Chains.{front_stays, places_are_aligned}
@@ -22,7 +20,7 @@ use Rattle.hf_tree.specs.declared.parent.Parent.TheVariants.{Bucket, Left, Right
 use Rattle.hf_tree.specs.declared.parent.Found.TheVariants.{Here}
 use Rattle.hf_tree.specs.Keys.{Key, key_cmp}
 use Rattle.hf_tree.specs.Views.{Besides, owner, with_key}
-use Rattle.hf_tree.specs.Links.{width, entry, left_of, right_of, key_of, links_of, view_of, unlinked}
+use Rattle.hf_tree.specs.Links.{width, entry, left_of, right_of, key_of, links_of, view_of}
 use Rattle.hf_tree.specs.Standing.{IsMapOf}
 use Rattle.hf_tree.proofs.Orders.{three, same_key, equal_same}
 use Rattle.hf_tree.proofs.Off.{holds_off}
@@ -33,18 +31,7 @@ use Rattle.tc_hash.specs.Moves.{IsWithin, IsGiven}
 use Rattle.tc_hash.proofs.Finding.{HasHere, here_record, has_blocks}
 use Rattle.tc_hash.proofs.Fronts.{array_same}
 use Rattle.tc_hash.proofs.Maps.{remove_here, remove_other}
-use Rattle.tc_hash.proofs.Puts.{Alike, was, is_now}
-
--- the bytes of a record whose links alone changed are as many
-pub same_size : (r s : Record) → unlinked r ≡ unlinked s → size_of (held r) ≡ size_of (held s)
-same_size r s e =
-    let w = ap (λ (z : Record). z.wide) e in
-    let k = ap (λ (z : Record). length z.key) e in
-    let val = ap (λ (z : Record). length z.value) e in
-    let p = ap (λ (z : Record). length z.pad) e in
-    let kk = ap (λ (z : Record). length (vnum (length z.key))) e in
-    let vv = ap (λ (z : Record). length (vnum (length z.value))) e in
-    omega (arith, length-held r, length-held s)
+use Rattle.tc_hash.proofs.Puts.{Alike, is_now, same_size, was}
 
 -- a block that isn't the pool's may be given back
 pub is_within : (unit first end : ℕ) (ps : List Piece) (free lent : Frees) (at size : ℕ) (bytes : List ℕ) → first % unit ≡ 0 → LaidOut unit first end ps free lent bytes → HasBlock first ps at size → free at ≡ None → IsWithin unit end free at size (length bytes)

@@ -1,14 +1,16 @@
 -- A new key put: a record is written where none was, and hung in the gap of its key.
-use Rattle.std.proofs.Common.{◌≡◌, ◌≢◌, ◌∙◌, inl, inr, ℕ, ◌*◌, ◌≤◌, ◌^◌, List, refl, sym, ap, arith, Option, Some, None, Bool, cond}
+use Rattle.std.proofs.Common.{◌≡◌, ◌≢◌, ◌∙◌, inl, inr, ℕ, ◌*◌, ◌≤◌, ◌^◌, List, length, refl, sym, ap, arith, Option, Some, None, Bool, cond}
 use Rattle.std.specs.Prelude.{option_map}
 use Rattle.std.proofs.lemmas.Bool.{cases_eq, eq-eqb, ne_eqb}
 use Rattle.std.specs.declared.cmp.Ordering.TheVariants.{Less, Equal, Greater}
 use Rattle.std.specs.FinMap.{get, insert}
 use Rattle.tc_base.specs.Hashes.{second}
 use Rattle.tc_base.specs.Maps.{Map}
+use Rattle.tc_base.specs.Vnum.{vnum}
 use Rattle.hf_head.specs.declared.head.Head.{Head}
 use Rattle.hf_head.specs.Heads.{IsValid, unit}
-use Rattle.hf_block.specs.Pieces.{Record, Piece}
+use Rattle.hf_block.specs.Pieces.{Record, Piece, held, size_of}
+use Rattle.hf_block.proofs.Padding.{length-held}
 use Rattle.hf_layout.specs.Frees.{Frees, none}
 use Rattle.hf_layout.specs.Layout.{record_at, HaveWidth, LaidOut}
 use Rattle.hf_tree.specs.declared.parent.Parent.{Parent}
@@ -24,6 +26,7 @@ use Rattle.hf_tree.proofs.Off.{holds_off_same, seek_look}
 use Rattle.hf_tree.proofs.Ways.{key_is}
 use Rattle.hf_tree.proofs.Fields.{blocks_of}
 use Rattle.hf_chain.specs.Chains.{CanHang, MayHang, Rehung}
+use Rattle.tc_hash.specs.Allocating.{HoldsAt}
 use Rattle.tc_hash.specs.Holding.{HasMap, IsSearched}
 use Rattle.tc_hash.specs.Moves.{Added}
 use Rattle.tc_hash.proofs.Maps.{insert_here, insert_other}
@@ -48,6 +51,17 @@ was old now kept p s at = alike old p s (old p) refl (sym (kept p) ∙ ap (optio
 
 pub is_now : (old now : ℕ → Option Record) → AreKept old now → (p : ℕ) (s : Record) → old p ≡ Some s → Alike now p s
 is_now old now kept p s at = alike now p s (now p) refl (kept p ∙ ap (option_map unlinked) at)
+
+-- the bytes of a record whose links alone changed are as many
+pub same_size : (r s : Record) → unlinked r ≡ unlinked s → size_of (held r) ≡ size_of (held s)
+same_size r s e =
+    let w = ap (λ (z : Record). z.wide) e in
+    let k = ap (λ (z : Record). length z.key) e in
+    let val = ap (λ (z : Record). length z.value) e in
+    let p = ap (λ (z : Record). length z.pad) e in
+    let kk = ap (λ (z : Record). length (vnum (length z.key))) e in
+    let vv = ap (λ (z : Record). length (vnum (length z.value))) e in
+    omega (arith, length-held r, length-held s)
 
 -- ---- a record more
 
@@ -168,18 +182,25 @@ module _ (h : Head) (end end' : ℕ) (free free' : Frees) (place : ℕ) (r : Rec
 
   pub put_done : (m : Map) (g : HasMap h end free m before) (a : Added (unit h) h.first end' g.pieces free' place r before middle) → end' ≤ 2 ^ 40
       → ((e : ℕ) (qs : List Piece) (f lent : Frees) (places : Key → Option ℕ) (k : Key) → LaidOut (unit h) h.first e qs f lent middle → HaveWidth (width h) h.first qs → CanHang (view_of h qs middle) h.buckets places k place to → Rehung h e qs f lent (with_key places k (Some place)) 1 middle bytes)
-      → HasMap h end' free' (insert m key r.value) bytes
+      → HoldsAt h end' free' (insert m key r.value) key place (size_of (held r)) bytes
   put_done m g a short hung =
       let widths = added_widths h end' g.pieces free' place r before middle v a wide g.is.widths in
       let x = hung end' a.now.pieces free' none g.places key a.now.is widths (can_hang h end' g.pieces free' place r before middle v a g.places key to g.is.hang.holds (gap_in m g) its hash left right) in
+      let here = is_now (record_at h.first a.now.pieces) (record_at h.first x.pieces) x.kept place r (added_here h end' g.pieces free' place r before middle v a) in
       record {
-        pieces = x.pieces;
-        places = with_key g.places key (Some place);
-        is = record {
-          laid = x.is;
-          widths = x.widths;
-          hang = record { holds = x.holds; all = all_placed h end' g.pieces free' place r before middle v a (record_at h.first x.pieces) x.kept g.places key to g.is.hang (gap_in m g) its };
-          map = map_with h end' g.pieces free' place r before middle v a (record_at h.first x.pieces) x.kept g.places key to g.is.hang (gap_in m g) its m g.is.map;
+        has = record {
+          pieces = x.pieces;
+          places = with_key g.places key (Some place);
+          is = record {
+            laid = x.is;
+            widths = x.widths;
+            hang = record { holds = x.holds; all = all_placed h end' g.pieces free' place r before middle v a (record_at h.first x.pieces) x.kept g.places key to g.is.hang (gap_in m g) its };
+            map = map_with h end' g.pieces free' place r before middle v a (record_at h.first x.pieces) x.kept g.places key to g.is.hang (gap_in m g) its m g.is.map;
+          };
+          short = short;
         };
-        short = short;
+        r = here.rec;
+        there = here.at;
+        key_is = here.key ∙ its;
+        size_is = same_size here.rec r here.same;
       }

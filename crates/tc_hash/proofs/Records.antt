@@ -25,10 +25,12 @@ use Rattle.hf_tree.specs.declared.parent.Found.{Found}
 use Rattle.hf_tree.specs.declared.parent.Found.TheVariants.{Here, Gap}
 use Rattle.hf_tree.specs.Keys.{Key}
 use Rattle.tc_hash.specs.declared.hash.Hash.{Hash}
+use Rattle.tc_hash.specs.Allocating.{HoldsAt}
 use Rattle.tc_hash.specs.Asking.{value_most}
 use Rattle.tc_hash.specs.Changing.{MayChange}
 use Rattle.tc_hash.specs.Holding.{HasMap, Holds, IsReadable, IsSearched}
 use Rattle.tc_hash.specs.Keeping.{file_of, holds}
+use Rattle.tc_hash.specs.Moves.{IsBlockAt}
 use Rattle.tc_hash.proofs.Finding.{here_record, gap_none}
 use Rattle.tc_hash.proofs.Valid.{is_data, is_valid}
 
@@ -103,6 +105,11 @@ searched_as h key bytes f to e s = subst (λ (x : Found). IsSearched h key x byt
 module _ (h : Head) (end : ℕ) (free : Frees) (m : Map) (bytes : List ℕ) (key : Key) (v : IsValid h) (g : HasMap h end free m bytes) (at : ℕ) (from : Parent) (s : IsSearched h key (Here at from) bytes) where
   pub record_there : IsRecordAt h at bytes
   record_there = let it = here_record h end g.pieces free g.places m bytes key v g.is at from s in record { r = it.r; has = it.has }
+
+  pub stood : (size : ℕ) → IsBlockAt h at size bytes → HoldsAt h end free m key at size bytes
+  stood size block =
+      let it = here_record h end g.pieces free g.places m bytes key v g.is at from s in
+      record { has = g; r = it.r; there = it.is; key_is = it.key_is; size_is = sym (block.is it.r it.has) }
 
   pub is_there : IsSome (get m key)
   is_there = subst IsSome (sym (here_record h end g.pieces free g.places m bytes key v g.is at from s).value_is) refl

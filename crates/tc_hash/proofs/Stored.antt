@@ -1,5 +1,5 @@
 -- Values given to keys, made of steps.
-use Rattle.std.proofs.Common.{◌≡◌, ◌∙◌, inl, inr, ℕ, ◌+◌, ◌≤◌, List, [], ◌++◌, length, refl, sym, ap, subst, arith, Option, None}
+use Rattle.std.proofs.Common.{◌≡◌, ◌∙◌, inl, inr, ℕ, ◌+◌, ◌<◌, ◌≤◌, List, [], ◌++◌, length, refl, sym, ap, subst, arith, Option, None, Some}
 use Rattle.std.specs.FinMap.{get, insert, remove}
 use Rattle.tc_base.specs.Maps.{Map}
 use Rattle.tc_base.specs.declared.kind.Mode.{Mode}
@@ -22,12 +22,13 @@ use Rattle.tc_hash.specs.Holding.{HasMap, IsSearched}
 use Rattle.tc_hash.proofs.Finding.{here_record}
 use Rattle.std.specs.Prelude.{unwrap_or}
 use Rattle.tc_hash.specs.declared.hash.Hash.{Hash}
+use Rattle.tc_hash.specs.Allocating.{Allocates, HoldsAt, Stands, Takes}
 use Rattle.tc_hash.specs.Costs.{Edits}
-use Rattle.tc_hash.specs.Keeping.{file_of, holds, size_in, GivesValue, LacksBlock, LacksRoom, StaysOpen, TakesRecord, WantsBlock}
+use Rattle.tc_hash.specs.Keeping.{file_of, holds, size_in, GivesValue, IsPlaced, LacksBlock, LacksRoom, StaysOpen, TakesRecord, WantsBlock}
 use Rattle.tc_hash.specs.Moves.{IsRefusedFor}
 use Rattle.tc_hash.specs.Packing.{fills_any}
 use Rattle.tc_hash.proofs.Differ.{edits_after, edits_more, edits_then}
-use Rattle.tc_hash.proofs.Maps.{insert_again, insert_here}
+use Rattle.tc_hash.proofs.Maps.{insert_again, insert_here, remove_here}
 use Rattle.tc_hash.proofs.Records.{reads_only, writes_after}
 
 -- a key that isn't held is given the same value in each mode
@@ -41,6 +42,7 @@ module _ {S : Type 0} (s : Ghosts S) where
   gives_more mode key value most more v v' a b le g = record {
     writes = g.writes;
     edits = λ m w. (let n : ℕ = size_in v key (put_value mode (get m key) value) in edits_more s v.file (n + most) (n + more) a b (omega (arith, le)) (g.edits m w));
+    placed = g.placed;
   }
 
   -- what was read before
@@ -50,6 +52,15 @@ module _ {S : Type 0} (s : Ghosts S) where
       record {
         writes = reads_writes s (In s file_of holds) (Only (file_of v)) (put_in mode key value) v v v' a b c reads g.writes;
         edits = λ m w. edits_after s v.file (size_in v key (put_value mode (get m key) value) + most) a b c r (g.edits m (reads.means m w));
+        placed = λ m w.
+            let p = g.placed m (reads.means m w) in
+            record {
+              was = p.was;
+              stood = subst (λ (l : List ℕ). Stands v.head v.pool.size (frees v.pool) m key l p.was) (r.files w.0 v.file) p.stood;
+              place = p.place;
+              allocates = p.allocates;
+              stands = p.stands;
+            };
       }
 
   pub lacks_after : (mode : Mode) (key value : List ℕ) (v : Hash S) (a b c : S) → OnlyReads s a b → LacksBlock s mode key value v b c → LacksBlock s mode key value v a c
@@ -64,6 +75,7 @@ module _ {S : Type 0} (s : Ghosts S) where
       others = g.writes.others;
     };
     edits = λ m w. subst (λ (y : List ℕ). Edits s v.file (size_in v key y + most) a b) (each m w) (g.edits m w);
+    placed = λ m w. subst (λ (y : List ℕ). IsPlaced s key (size_in v key y) m (insert m key y) v v' a b) (each m w) (g.placed m w);
   }
 
   pub lacks_as : (mode : Mode) (key value x : List ℕ) (v : Hash S) (a b : S) → ((m : Map) → In s file_of holds v a m → x ≡ put_value mode (get m key) value) → LacksBlock s Over key x v a b → LacksBlock s mode key value v a b
@@ -105,6 +117,13 @@ module _ {S : Type 0} (s : Ghosts S) where
       let all = gives_as mode key value value 512 v v' a c (λ m w. put_fresh mode (get m key) value (none m w)) (gives_more Over key value 13 512 v v' a c (omega arith) (gives_after Over key value 13 v v' a b c r g)) in
       (record { writes = all.writes; absent = λ keep m w. none m w }, all)
 
+  -- a key that was held was given a value, over the one that it had or behind it
+  pub puts_held : (mode done : Mode) (key value : List ℕ) (v v' : Hash S) (a b : S) → mode ≡ done → (done ≡ Keep → ⊥) → GivesValue s done key value 34 v v' a b
+      → Puts s (Only (file_of v)) (In s file_of holds) mode (value_in key) (put_in mode key value) v v' a b × GivesValue s mode key value 512 v v' a b
+  puts_held mode done key value v v' a b e over g =
+      let all = subst (λ (x : Mode). GivesValue s x key value 512 v v' a b) (sym e) (gives_more done key value 34 512 v v' a b (omega arith) g) in
+      (record { writes = all.writes; absent = λ keep. absurd (over (sym e ∙ keep)) }, all)
+
   pub lacks_fresh : (mode : Mode) (key value : List ℕ) (v : Hash S) (a c : S) → ((m : Map) → In s file_of holds v a m → get m key ≡ None) → (s.tells → LacksRoom s v c (size_in v key value)) → LacksBlock s mode key value v a c
   lacks_fresh mode key value v a c none l = lacks_as mode key value value v a c (λ m w. put_fresh mode (get m key) value (none m w)) (lacks_room key value v a c l)
 
@@ -113,8 +132,17 @@ module _ {S : Type 0} (s : Ghosts S) where
   pub sized_same : (key value : List ℕ) (v v' : Hash S) → v'.head ≡ v.head → size_in v' key value ≡ size_in v key value
   sized_same key value v v' e = ap (λ (h : Head). block_len (width h) key value (unit h)) e
 
-  pub gives_again : (key value : List ℕ) (v w u : Hash S) (a b c : S) → w.file ≡ v.file → TakesRecord s key v w a b → GivesValue s Over key value 13 w u b c → GivesValue s Over key value 34 v u a c
-  gives_again key value v w u a b c same t g = record {
+  -- a key that isn't held gets a block from the pool as it is
+  takes_fresh : (key : List ℕ) (size : ℕ) (m n : Map) (v v' : Hash S) (a b : S) → get m key ≡ None → (p : IsPlaced s key size m n v v' a b) → Takes size p.place v.pool v'.pool
+  takes_fresh key size m n v v' a b none p = go p.was p.stood p.allocates
+    where
+      go : (was : Option (ℕ × ℕ)) → Stands v.head v.pool.size (frees v.pool) m key (s.now a v.file) was → Allocates size p.place was v.pool v'.pool → Takes size p.place v.pool v'.pool
+      go None stands takes = takes
+      go (Some is) at takes = absurd (let e : None ≡ Some at.r.value = sym none ∙ (at.has.is.map key at.r.value).1 (is.0, at.r, at.there, at.key_is, refl) in cc)
+
+  pub gives_again : (key value : List ℕ) (at size : ℕ) (v w u : Hash S) (a b c : S) → w.file ≡ v.file → size < size_in v key value → ((m : Map) → In s file_of holds v a m → HoldsAt v.head v.pool.size (frees v.pool) m key at size (s.now a v.file))
+      → TakesRecord s key at size v w a b → GivesValue s Over key value 13 w u b c → GivesValue s Over key value 34 v u a c
+  gives_again key value at size v w u a b c same few stood t g = record {
     writes = record {
       sound = g.writes.sound;
       means = λ m h. subst (λ (x : Map). In s file_of holds u c x) (insert_again m key value) (g.writes.means (remove m key) (t.writes.means m h));
@@ -124,13 +152,33 @@ module _ {S : Type 0} (s : Ghosts S) where
         let n : ℕ = size_in v key value in
         let e = subst (λ (k : ℕ). Edits s w.file (k + 13) b c) (sized_same key value v w t.head) (g.edits (remove m key) (t.writes.means m h)) in
         edits_then s v.file 21 (n + 13) (n + 34) a b c (omega arith) t.edits (subst (λ (f : ℕ). Edits s f (n + 13) b c) same e);
+    placed = λ m h.
+        let k : Map = remove m key in
+        let long = sized_same key value v w t.head in
+        let p = g.placed k (t.writes.means m h) in
+        record {
+          was = Some (at, size);
+          stood = stood m h;
+          place = p.place;
+          allocates = inr (record {
+            few = few;
+            middle = w.pool;
+            gives = t.gives;
+            takes = subst (λ (n : ℕ). Takes n p.place w.pool u.pool) long (takes_fresh key (size_in w key value) k (insert k key value) w u b c (remove_here m key) p);
+          });
+          stands =
+              subst (λ (x : Map). HoldsAt v.head u.pool.size (frees u.pool) x key p.place (size_in v key value) (s.now c v.file)) (insert_again m key value)
+              (subst (λ (f : ℕ). HoldsAt v.head u.pool.size (frees u.pool) (insert k key value) key p.place (size_in v key value) (s.now c f)) same
+              (subst (λ (n : ℕ). HoldsAt v.head u.pool.size (frees u.pool) (insert k key value) key p.place n (s.now c w.file)) long
+              (subst (λ (x : Head). HoldsAt x u.pool.size (frees u.pool) (insert k key value) key p.place (size_in w key value) (s.now c w.file)) t.head p.stands)));
+        };
   }
 
-  pub lacks_again : (key value : List ℕ) (v w : Hash S) (a b c : S) → w.file ≡ v.file → TakesRecord s key v w a b → (s.tells → LacksRoom s w c (size_in w key value)) → LacksBlock s Over key value v a c
-  lacks_again key value v w a b c same t l = record {
+  pub lacks_again : (key value : List ℕ) (at size : ℕ) (v w : Hash S) (a b c : S) → w.file ≡ v.file → TakesRecord s key at size v w a b → (s.tells → LacksRoom s w c (size_in w key value)) → LacksBlock s Over key value v a c
+  lacks_again key value at size v w a b c same t l = record {
     wants = λ m h. record {
       pool = w.pool;
-      since = inr t.gives;
+      since = inr (at, size, t.gives);
       refused =
           subst (λ (x : Head). IsRefusedFor x w.pool.size (frees w.pool) (s.limit c v.file) (length (s.now c v.file)) (s.log_full c) (block_len (width x) key value (unit x))) t.head
           (subst (λ (f : ℕ). IsRefusedFor w.head w.pool.size (frees w.pool) (s.limit c f) (length (s.now c f)) (s.log_full c) (size_in w key value)) same (l h.0));

@@ -34,6 +34,7 @@ use Rattle.hf_tree.specs.Views.{Holds}
 use Rattle.hf_tree.specs.Links.{width, entry, left_of, right_of, key_of, links_of, view_of}
 use Rattle.hf_tree.specs.Standing.{IsMapOf}
 use Rattle.hf_tree.proofs.Orders.{three, same_key, equal_same}
+use Rattle.tc_hash.specs.Allocating.{HoldsAt}
 use Rattle.tc_hash.specs.Holding.{HasMap}
 use Rattle.tc_space.specs.Ranges.{Passes}
 use Rattle.tc_hash.specs.Costs.{FewDiffer}
@@ -338,18 +339,24 @@ module _ (h : Head) (end : ℕ) (free free' : Frees) (m : Map) (key : Key) (at :
             insert_other m key r.value k off ∙ (g.is.map k val).1 (x.0, x.1, is, x.3, x.4))
       ]
 
-  pub over_done : HasMap h end free' (insert m key r.value) bytes
+  pub over_done : HoldsAt h end free' (insert m key r.value) key at (size_of (held r)) bytes
   over_done = record {
-    pieces = o.pieces;
-    places = g.places;
-    is = record {
-      laid = o.is;
-      widths = λ q s is. elim (cases_eq q at) [
-        | inl e ↦ (let f : Some r ≡ Some s = sym put_here ∙ ap (record_at h.first o.pieces) (sym e) ∙ is in let i : r ≡ s = cc in sym (ap (λ (z : Record). z.wide) i) ∙ wide)
-        | inr ne ↦ g.is.widths q s (sym (put_off q ne) ∙ is)
-      ];
-      hang = record { holds = subst (λ z. Holds z h.buckets g.places) (sym views_same) g.is.hang.holds; all = all_placed };
-      map = map_with;
+    has = record {
+      pieces = o.pieces;
+      places = g.places;
+      is = record {
+        laid = o.is;
+        widths = λ q s is. elim (cases_eq q at) [
+          | inl e ↦ (let f : Some r ≡ Some s = sym put_here ∙ ap (record_at h.first o.pieces) (sym e) ∙ is in let i : r ≡ s = cc in sym (ap (λ (z : Record). z.wide) i) ∙ wide)
+          | inr ne ↦ g.is.widths q s (sym (put_off q ne) ∙ is)
+        ];
+        hang = record { holds = subst (λ z. Holds z h.buckets g.places) (sym views_same) g.is.hang.holds; all = all_placed };
+        map = map_with;
+      };
+      short = g.short;
     };
-    short = g.short;
+    r = r;
+    there = put_here;
+    key_is = its;
+    size_is = refl;
   }

@@ -1,5 +1,6 @@
 -- What the steps of a put and of an out ask for, and what they make of the map.
-use Rattle.std.specs.Prelude.{◌≡◌, ◌⊎◌, ℕ, ◌+◌, ◌^◌, ◌<◌, ◌≤◌, List, length}
+use Rattle.std.specs.Prelude.{◌≡◌, ℕ, ◌+◌, ◌^◌, ◌<◌, ◌≤◌, List, length}
+use Rattle.std.specs.FinMap.{insert}
 use Rattle.tc_base.specs.Maps.{Map}
 use Rattle.tc_space.specs.Ranges.{IsDataFile}
 use Rattle.tc_space.specs.declared.space.Space.{Ghosts}
@@ -16,7 +17,8 @@ use Rattle.hf_tree.specs.Links.{width}
 use Rattle.hf_chain.specs.Chains.{CanName}
 use Rattle.hf_chain.specs.declared.heads.RecHead.{RecHead}
 use Rattle.hf_pool.specs.declared.pool.Pool.{Pool}
-use Rattle.hf_pool.specs.Pools.{frees, GoesBack, Grows, TakesFree}
+use Rattle.hf_pool.specs.Pools.{frees, GoesBack}
+use Rattle.tc_hash.specs.Allocating.{HoldsAt, Takes}
 use Rattle.tc_hash.specs.Costs.{Edits}
 use Rattle.tc_hash.specs.Holding.{HasMap, HasSome, IsSearched}
 use Rattle.tc_hash.specs.Moves.{Added, IsBlockAt, IsGiven, IsHeadOf, IsWithin}
@@ -34,6 +36,12 @@ pub record MapsBy {S : Type 0} (s : Ghosts S) (file : ℕ) (h : Head) (f : Map �
   pub sound : s.sound after
   pub map : s.tells → (m : Map) → HasMap h old.size (frees old) m (s.now before file) → HasMap h new.size (frees new) (f m) (s.now after file)
   pub edits : Edits s file most before after
+
+-- a key was given a value in whatever map is held: its record stands at a place, in the block of its bytes, and besides that so many bytes differ at most
+pub record PutsAt {S : Type 0} (s : Ghosts S) (file : ℕ) (h : Head) (key : Key) (value : List ℕ) (place most : ℕ) (old new : Pool) (before after : S) : Type 0 where
+  pub sound : s.sound after
+  pub map : s.tells → (m : Map) → HasMap h old.size (frees old) m (s.now before file) → HoldsAt h new.size (frees new) (insert m key value) key place (block_len (width h) key value (unit h)) (s.now after file)
+  pub edits : Edits s file (block_len (width h) key value (unit h) + most) before after
 
 -- ---- the bytes of a record
 
@@ -70,7 +78,7 @@ pub record AddsRecord {S : Type 0} (s : Ghosts S) (file : ℕ) (h : Head) (bytes
   pub added : s.tells → (r : Record) (ps : List Piece) → bytes ≡ spell (held r) → IsWhole (unit h) (held r) → LaidOut (unit h) h.first old.size ps (frees old) none (s.now before file) → Added (unit h) h.first new.size ps (frees new) place r (s.now before file) (s.now after file)
   pub named : CanName h place
   pub low : new.size ≤ 2 ^ 40
-  pub taken : ((found : ℕ) × TakesFree old new (length bytes) place found) ⊎ Grows old new (length bytes) place
+  pub taken : Takes (length bytes) place old new
   pub edits : Edits s file (length bytes + 5) before after
 
 -- the space may be used, and a block of a file may be given back

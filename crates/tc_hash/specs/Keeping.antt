@@ -1,5 +1,5 @@
 -- What a hash file that is held open keeps, and what calls on its records do.
-use Rattle.std.specs.Prelude.{◌≡◌, ◌⊎◌, ℕ, ◌+◌, List, length, Some}
+use Rattle.std.specs.Prelude.{◌≡◌, ◌⊎◌, ℕ, ◌+◌, List, length, Option, Some}
 use Rattle.std.specs.FinMap.{get}
 use Rattle.tc_base.specs.Maps.{Map}
 use Rattle.tc_base.specs.declared.kind.Mode.{Mode}
@@ -13,6 +13,7 @@ use Rattle.hf_tree.specs.Links.{width}
 use Rattle.hf_pool.specs.declared.pool.Pool.{Pool}
 use Rattle.hf_pool.specs.Pools.{frees}
 use Rattle.tc_hash.specs.declared.hash.Hash.{Hash}
+use Rattle.tc_hash.specs.Allocating.{Allocates, HoldsAt, Stands}
 use Rattle.tc_hash.specs.Costs.{Edits}
 use Rattle.tc_hash.specs.Holding.{Holds}
 use Rattle.tc_hash.specs.Moves.{Gives, IsRefusedFor}
@@ -60,7 +61,7 @@ LacksRoom s h space size = IsRefusedFor h.head h.pool.size (frees h.pool) (s.lim
 -- no block of so many bytes was to be had from the free blocks, or from those and one that was given back before; or the undo log is full
 pub record WantsBlock {S : Type 0} (s : Ghosts S) (h : Hash S) (space : S) (size : ℕ) : Type 0 where
   pub pool : Pool
-  pub since : (pool ≡ h.pool) ⊎ Gives h.pool pool
+  pub since : (pool ≡ h.pool) ⊎ ((at : ℕ) × (long : ℕ) × Gives at long h.pool pool)
   pub refused : IsRefusedFor h.head pool.size (frees pool) (s.limit space h.file) (length (s.now space h.file)) (s.log_full space) size
 
 -- the block was that of a record of this map
@@ -74,17 +75,26 @@ pub record WantsRoom {S : Type 0} (s : Ghosts S) (h : Hash S) (space : S) (m : M
 abbrev pub fills : {S : Type 0} → Ghosts S → Hash S → S → Map → Map → Type 0
 fills s h space m new = s.log_full space ⊎ WantsRoom s h space new
 
--- a key's record was taken out
-pub record TakesRecord {S : Type 0} (s : Ghosts S) (key : List ℕ) (v v' : Hash S) (old new : S) : Type 0 where
+-- a key's record was taken out, whose block of so many bytes stood there
+pub record TakesRecord {S : Type 0} (s : Ghosts S) (key : List ℕ) (at size : ℕ) (v v' : Hash S) (old new : S) : Type 0 where
   pub writes : Writes s (Only (file_of v)) (In s file_of holds) (out_of key) v v' old new
   pub edits : Edits s v.file 21 old new
-  pub gives : Gives v.pool v'.pool
+  pub gives : Gives at size v.pool v'.pool
   pub head : v'.head ≡ v.head
 
--- a key was given a value, alone or behind the one that it had: besides its block at most so many bytes differ
+-- the record of a key that was put into a map stands at a place, in a block of so many bytes, which comes from the pool by what the key's record had before
+pub record IsPlaced {S : Type 0} (s : Ghosts S) (key : List ℕ) (size : ℕ) (m n : Map) (v v' : Hash S) (old new : S) : Type 0 where
+  pub was : Option (ℕ × ℕ)
+  pub stood : Stands v.head v.pool.size (frees v.pool) m key (s.now old v.file) was
+  pub place : ℕ
+  pub allocates : Allocates size place was v.pool v'.pool
+  pub stands : HoldsAt v.head v'.pool.size (frees v'.pool) n key place size (s.now new v.file)
+
+-- a key was given a value, alone or behind the one that it had: its record stands in the least block that holds it, and besides that at most so many bytes differ
 pub record GivesValue {S : Type 0} (s : Ghosts S) (mode : Mode) (key value : List ℕ) (most : ℕ) (v v' : Hash S) (old new : S) : Type 0 where
   pub writes : Writes s (Only (file_of v)) (In s file_of holds) (put_in mode key value) v v' old new
   pub edits : (m : Map) → In s file_of holds v old m → Edits s v.file (size_in v key (put_value mode (get m key) value) + most) old new
+  pub placed : (m : Map) → In s file_of holds v old m → IsPlaced s key (size_in v key (put_value mode (get m key) value)) m (put_in mode key value m) v v' old new
 
 -- the block for that record wasn't to be had
 pub record LacksBlock {S : Type 0} (s : Ghosts S) (mode : Mode) (key value : List ℕ) (v : Hash S) (old new : S) : Type 0 where

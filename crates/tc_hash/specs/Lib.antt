@@ -1,4 +1,5 @@
 pub mod Costs
+pub mod Allocating
 pub mod Asking
 pub mod Filling
 pub mod Moves

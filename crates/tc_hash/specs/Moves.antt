@@ -52,11 +52,9 @@ pub record IsGiven (tells : Type 0) (old new : Frees) (at size : ℕ) (bytes byt
   pub back : GivesBack old new at size start total
   pub marked_so : tells → bytes' ≡ marked start total bytes
 
--- a pool to which some block was given back
-pub record Gives (old new : Pool) : Type 0 where
+-- a pool to which a block of so many bytes was given back
+pub record Gives (at long : ℕ) (old new : Pool) : Type 0 where
   pub size : new.size ≡ old.size
-  pub at : ℕ
-  pub long : ℕ
   pub start : ℕ
   pub total : ℕ
   pub back : GivesBack (frees old) (frees new) at long start total

@@ -13,8 +13,7 @@ use Rattle.hf_block.specs.Pieces.{Piece}
 use Rattle.hf_block.specs.Written.{block_len}
 use Rattle.hf_layout.specs.Frees.{Frees}
 use Rattle.hf_layout.specs.Layout.{frees_of}
-use Rattle.hf_pool.specs.declared.pool.Pool.{Pool}
-use Rattle.hf_pool.specs.Pools.{frees, TakesFree, Grows}
+use Rattle.hf_pool.specs.Pools.{frees}
 use Rattle.hf_tree.specs.Links.{HasBlocks, width}
 use Rattle.tc_hash.specs.declared.hash.Hash.{Hash}
 use Rattle.tc_hash.specs.Creating.{HasNoRoom, IsNew}
@@ -71,12 +70,6 @@ with_pairs m [] = m
 with_pairs m (p ∷ ps) = with_pairs (insert m p.key p.value) ps
 
 -- ---- room
-
--- a pool from which a block was taken
-pub record Takes (old new : Pool) : Type 0 where
-  pub size : ℕ
-  pub place : ℕ
-  pub took : ((found : ℕ) × TakesFree old new size place found) ⊎ Grows old new size place
 
 -- no block was to be had for a record in a file that has no free blocks
 pub record LacksEnd {S : Type 0} (s : Ghosts S) (h : Head) (file : ℕ) (space : S) (key value : List ℕ) : Type 0 where

@@ -1,6 +1,5 @@
 //! A key given a value.
 ghost use Rattle.std.specs.Prelude.{◌≡◌, ℕ, ◌+◌, ◌%◌, ◌^◌, ◌<◌, ◌≤◌, List, length, OnOk, OnErr, IsErrOf, IsTrue, None, false};
-ghost use Rattle.std.specs.FinMap.{insert};
 ghost use Rattle.tc_io.specs.Causes.{Rose};
 ghost use Rattle.tc_space.specs.Ranges.{IsDataFile};
 ghost use Rattle.tc_space.specs.Effects.{Outcome};
@@ -13,10 +12,10 @@ ghost use Rattle.hf_layout.specs.Layout.{HasBlock, LaidOut};
 ghost use Rattle.hf_tree.specs.Links.{width};
 ghost use Rattle.hf_tree.specs.declared.parent.Found.TheVariants.{Gap};
 ghost use Rattle.hf_pool.specs.Pools.{frees};
-ghost use Rattle.tc_hash.specs.Changing.{FitsInto, HasRecordOf, MapsBy, MayChange};
+ghost use Rattle.tc_hash.specs.Allocating.{Shortens, Takes};
+ghost use Rattle.tc_hash.specs.Changing.{FitsInto, HasRecordOf, MayChange, PutsAt};
 ghost use Rattle.tc_hash.specs.Costs.{Edits};
 ghost use Rattle.tc_hash.specs.Holding.{IsSearched};
-ghost use Rattle.tc_hash.specs.Packing.{Takes};
 ghost use Rattle.tc_hash.specs.Moves.{IsRefusedFor, MayReplace, Replaced};
 
 use crate::adding::add_record;
@@ -43,8 +42,8 @@ pub fn put_new<S: Space>(
 ) -> Result<(), RecErr>
     requires may { MayChange S.Space space.old file head.now pool.old }
     requires gap { S.tells → IsSearched head.now key.now (Gap to.now) (S.now space.old file) }
-    ensures put { OnOk result (MapsBy S.Space file head.now (λ m. insert m key.now value.now) (block_len (width head.now) key.now value.now (unit head.now) + 13) pool.old pool.new space.old space.new) }
-    ensures pool { (pool.new.unit ≡ pool.old.unit) × OnOk result (Takes pool.old pool.new) }
+    ensures put { OnOk result ((place : ℕ) × PutsAt S.Space file head.now key.now value.now place 13 pool.old pool.new space.old space.new × Takes (block_len (width head.now) key.now value.now (unit head.now)) place pool.old pool.new) }
+    ensures unit { pool.new.unit ≡ pool.old.unit }
     ensures refused { OnErr result (S.flag space.new ≡ false) }
     ensures writes { OnlyWrites S.Space space.old space.new }
     ensures full { IsErrOf result RecErr.Full → S.tells → IsRefusedFor head.now pool.old.size (frees pool.old) (S.limit space.old file) (length (S.now space.new file)) (S.log_full space.new) (block_len (width head.now) key.now value.now (unit head.now)) }
@@ -86,7 +85,7 @@ fn write_over<S: Space>(
     requires always { (S.sound space.old) × IsDataFile file }
     requires may { S.tells → MayReplace pool.old.unit pool.old.size (frees pool.old) at old bytes.now (S.now space.old file) }
     ensures over { OnOk result (S.tells → (first : ℕ) (ps : List Piece) (r : Record) → first % pool.old.unit ≡ 0 → bytes.now ≡ spell (held r) → IsWhole pool.old.unit (held r) → LaidOut pool.old.unit first pool.old.size ps (frees pool.old) none (S.now space.old file) → HasBlock first ps at old → frees pool.old at ≡ None → Replaced pool.old.unit first pool.old.size ps (frees pool.new) at r (S.now space.old file) (S.now space.new file)) }
-    ensures pool { (pool.new.unit ≡ pool.old.unit) × OnOk result (pool.new.size ≡ pool.old.size) }
+    ensures pool { (pool.new.unit ≡ pool.old.unit) × OnOk result (Shortens (length bytes.now) at old pool.old pool.new) }
     ensures edits { OnOk result (Edits S.Space file (length bytes.now + 5) space.old space.new) }
     ensures outcome { Outcome S.sound S.flag result space.new }
     ensures writes { OnlyWrites S.Space space.old space.new }
@@ -128,7 +127,7 @@ pub fn put_over<S: Space>(
     requires may { MayChange S.Space space.old file head.now pool.old }
     requires here { S.tells → HasRecordOf head.now key.now rec.now at old (S.now space.old file) }
     requires fits { FitsInto head.now key.now value.now rec.now old }
-    ensures put { OnOk result (MapsBy S.Space file head.now (λ m. insert m key.now value.now) (block_len (width head.now) key.now value.now (unit head.now) + 5) pool.old pool.new space.old space.new) }
+    ensures put { OnOk result (PutsAt S.Space file head.now key.now value.now at 5 pool.old pool.new space.old space.new × Shortens (block_len (width head.now) key.now value.now (unit head.now)) at old pool.old pool.new) }
     ensures unit { pool.new.unit ≡ pool.old.unit }
     ensures refused { OnErr result (S.flag space.new ≡ false) }
     ensures writes { OnlyWrites S.Space space.old space.new }

@@ -29,7 +29,7 @@ impl<S: Space> Hash<S> {
     ) -> Result<(), RecErr>
         requires ready { IsReady S.Space (In S.Space file_of holds) self.old space.old }
         requires here { S.tells → IsSearched self.old.head key.now (Here at from.now) (S.now space.old self.old.file) × IsBlockAt self.old.head at size (S.now space.old self.old.file) }
-        ensures taken { OnOk result (TakesRecord S.Space key.now self.old self.new space.old space.new) }
+        ensures taken { OnOk result (TakesRecord S.Space key.now at size self.old self.new space.old space.new) }
         ensures refused { OnErr result (Refuses S.Space (In S.Space file_of holds) self.old self.new space.old space.new) }
         ensures full { IsErrOf result RecErr.Full → S.tells → S.log_full space.new }
         ensures keeps { Keeps S.Space space.old space.new }

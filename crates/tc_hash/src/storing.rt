@@ -15,11 +15,11 @@ ghost use Rattle.hf_tree.specs.declared.parent.Parent.{Parent};
 ghost use Rattle.hf_tree.specs.declared.parent.Found.TheVariants.{Gap, Here};
 ghost use Rattle.hf_tree.specs.Links.{width};
 ghost use Rattle.hf_chain.specs.Heads.{head_of, HasRecord, IsHeadAt};
+ghost use Rattle.tc_hash.specs.Allocating.{Takes};
 ghost use Rattle.tc_hash.specs.Changing.{FitsInto, HasRecordOf};
 ghost use Rattle.tc_hash.specs.Costs.{Edits};
 ghost use Rattle.tc_hash.specs.Holding.{IsSearched};
 ghost use Rattle.tc_hash.specs.Keeping.{file_of, holds, size_in, GivesValue, LacksBlock, LacksRoom, StaysOpen};
-ghost use Rattle.tc_hash.specs.Packing.{Takes};
 ghost use Rattle.tc_hash.specs.Moves.{IsBlockAt, IsHeadOf};
 
 use crate::hash::Hash;
@@ -71,7 +71,7 @@ impl<S: Space> Hash<S> {
         requires ready { IsReady S.Space (In S.Space file_of holds) self.old space.old }
         requires gap { S.tells → IsSearched self.old.head key.now (Gap to.now) (S.now space.old self.old.file) }
         ensures put { OnOk result (GivesValue S.Space Over key.now value.now 13 self.old self.new space.old space.new) }
-        ensures takes { OnOk result (Takes self.old.pool self.new.pool) }
+        ensures takes { OnOk result ((place : ℕ) × Takes (size_in self.old key.now value.now) place self.old.pool self.new.pool) }
         ensures outcome { Outcome S.sound S.flag result space.new }
         ensures full { IsErrOf result RecErr.Full → S.tells → LacksRoom S.Space self.old space.new (size_in self.old key.now value.now) }
         ensures keeps { Keeps S.Space space.old space.new }
@@ -111,7 +111,7 @@ impl<S: Space> Hash<S> {
     ) -> Result<(), RecErr>
         requires ready { IsReady S.Space (In S.Space file_of holds) self.old space.old }
         ensures put { OnOk result (GivesValue S.Space Over key.now value.now 13 self.old self.new space.old space.new) }
-        ensures takes { OnOk result (Takes self.old.pool self.new.pool) }
+        ensures takes { OnOk result ((place : ℕ) × Takes (size_in self.old key.now value.now) place self.old.pool self.new.pool) }
         ensures outcome { Outcome S.sound S.flag result space.new }
         ensures full { IsErrOf result RecErr.Full → S.tells → LacksRoom S.Space self.old space.new (size_in self.old key.now value.now) }
         ensures keeps { Keeps S.Space space.old space.new }
@@ -148,7 +148,7 @@ impl<S: Space> Hash<S> {
         size: u64,
         steps: &mut Steps<L>,
     ) -> Result<(), RecErr>
-        requires ready { IsReady S.Space (In S.Space file_of holds) self.old space.old }
+        requires always { IsReady S.Space (In S.Space file_of holds) self.old space.old × (size < size_in self.old key.now value.now) }
         requires here { S.tells → IsSearched self.old.head key.now (Here at from.now) (S.now space.old self.old.file) × IsBlockAt self.old.head at size (S.now space.old self.old.file) }
         ensures put { OnOk result (GivesValue S.Space Over key.now value.now 34 self.old self.new space.old space.new) }
         ensures refused { OnErr result (Refuses S.Space (In S.Space file_of holds) self.old self.new space.old space.new) }
@@ -339,9 +339,11 @@ impl<S: Space> Hash<S> {
         }
     }
 
-    /// Gives a key a value; `Exists` comes exactly with `Keep` on a held key, and changes nothing. A record is written over the old one where its
-    /// block is large enough; else that block is given back and a new one taken. Besides the block at most 512 bytes of the file differ. It is full only
-    /// where no block was to be had for this record, or where the undo log is. After a refusal the space isn't sound, or nothing has changed.
+    /// Gives a key a value; `Exists` comes exactly with `Keep` on a held key, and changes nothing. The record stands in the least block that holds it.
+    /// It is written over the old one where that one's block is large enough, whose rest is given back; else that block is given back whole and another is
+    /// taken: the least free one that is large enough, at the lowest place among equals, or, where none is, one at the end, by which alone the file size
+    /// grows. Besides the block at most 512 bytes of the file differ. It is full only where no block was to be had for this record, or where the undo log
+    /// is. After a refusal the space isn't sound, or nothing has changed.
     pub fn put<L>(
         &mut self,
         space: &mut S,

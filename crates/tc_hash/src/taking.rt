@@ -31,7 +31,7 @@ pub fn take_out<S: Space, L>(
     requires may { MayChange S.Space space.old file head.now pool.old }
     requires here { S.tells → IsSearched head.now key.now (Here at from.now) (S.now space.old file) × IsBlockAt head.now at size (S.now space.old file) }
     ensures out { OnOk result (MapsBy S.Space file head.now (out_of key.now) 21 pool.old pool.new space.old space.new) }
-    ensures pool { (pool.new.unit ≡ pool.old.unit) × OnOk result (Gives pool.old pool.new) }
+    ensures pool { (pool.new.unit ≡ pool.old.unit) × OnOk result (Gives at size pool.old pool.new) }
     ensures refused { OnErr result ((S.flag space.new ≡ false) ⊎ (OnlyReads S.Space space.old space.new × (pool.new ≡ pool.old))) }
     ensures keeps { Keeps S.Space space.old space.new }
     ensures rises { steps.old ≤ steps.new }

@@ -1,14 +1,16 @@
 use Rattle.std.proofs.Common.{◌≡◌, ◌∙◌, ℕ, ◌%◌, List, length, refl, sym, ap, subst, arith}
 use Rattle.std.specs.FinMap.{insert}
 use Rattle.hf_head.specs.Heads.{unit}
-use Rattle.hf_block.specs.Pieces.{Record, held, IsWhole}
+use Rattle.hf_block.specs.Pieces.{Record, held, size_of, IsWhole}
+use Rattle.hf_block.specs.Written.{block_len}
 use Rattle.hf_chain.specs.declared.heads.RecHead.{RecHead}
 use Rattle.hf_layout.proofs.Standing.{record_is_block}
 use Rattle.hf_layout.specs.Frees.{Frees, none}
 use Rattle.hf_layout.specs.Layout.{LaidOut}
 use Rattle.hf_pool.specs.Pools.{frees}
+use Rattle.hf_tree.specs.Links.{width}
+use Rattle.tc_hash.specs.Allocating.{HoldsAt, Shortens}
 use Rattle.tc_hash.specs.Changing.{record_in}
-use Rattle.tc_hash.specs.Holding.{HasMap}
 use Rattle.tc_hash.specs.Moves.{MayReplace, Replaced}
 use Rattle.tc_hash.proofs.Differ.{edits_more}
 use Rattle.tc_hash.proofs.Finding.{here_record}
@@ -62,16 +64,22 @@ returns-in-Ok-write_over-clause-put g c =
     let same = c.requires.may.unit_is in
     let r : Record = record_in h rec.hash rec.left rec.right key c.args.value.now in
     let are = c.in-Ok.ensures.bytes in
-    record {
-      sound = c.in-Ok-write_over.ensures.outcome.ok;
-      map = λ t n m.
-          let has = c.requires.here t in
-          let it = here_record h end m.pieces free m.places n before key v m.is c.args.at has.here.0 has.here.1 in
-          let b = record_is_block (unit h) h.first end c.args.at m.pieces free none before it.r m.is.laid it.is in
-          let head = has.head.is it.r it.has in
-          let done = c.in-Ok-write_over.ensures.over t h.first m.pieces r (subst (λ (u : ℕ). h.first % u ≡ 0) (sym same) v.numbers.first_aligned) (c.as_slice.ensures ∙ are.is) (subst (λ (u : ℕ). IsWhole u (held r)) (sym same) are.whole) (subst (λ (u : ℕ). LaidOut u h.first end m.pieces free none before) (sym same) m.is.laid) (b.0.0, b.0.1, b.0.2 ∙ sym (has.block.is it.r it.has)) b.1 in
-          let o = subst (λ (u : ℕ). Replaced u h.first end m.pieces free' c.args.at r before after) same done in
-          subst (λ (x : ℕ). HasMap h x free' (insert n key c.args.value.now) after) (sym c.in-Ok-write_over.ensures.pool.1)
-          (over_done h end free free' n key c.args.at r before after v m it o refl (ap (λ (z : RecHead). z.hash) head) (ap (λ (z : RecHead). z.left) head) (ap (λ (z : RecHead). z.right) head) refl);
-      edits = edits_more g.S.Space c.args.file _ _ c.args.space.now c.write_over.new.space (omega (arith, ap length c.as_slice.ensures, are.long)) c.in-Ok-write_over.ensures.edits;
-    }
+    let long : ℕ = block_len (width h) key c.args.value.now (unit h) in
+    let long_as : length c.as_slice.result.now ≡ long = ap length c.as_slice.ensures ∙ are.long in
+    let short = c.in-Ok-write_over.ensures.pool.1 in (
+      record {
+        sound = c.in-Ok-write_over.ensures.outcome.ok;
+        map = λ t n m.
+            let has = c.requires.here t in
+            let it = here_record h end m.pieces free m.places n before key v m.is c.args.at has.here.0 has.here.1 in
+            let b = record_is_block (unit h) h.first end c.args.at m.pieces free none before it.r m.is.laid it.is in
+            let head = has.head.is it.r it.has in
+            let done = c.in-Ok-write_over.ensures.over t h.first m.pieces r (subst (λ (u : ℕ). h.first % u ≡ 0) (sym same) v.numbers.first_aligned) (c.as_slice.ensures ∙ are.is) (subst (λ (u : ℕ). IsWhole u (held r)) (sym same) are.whole) (subst (λ (u : ℕ). LaidOut u h.first end m.pieces free none before) (sym same) m.is.laid) (b.0.0, b.0.1, b.0.2 ∙ sym (has.block.is it.r it.has)) b.1 in
+            let o = subst (λ (u : ℕ). Replaced u h.first end m.pieces free' c.args.at r before after) same done in
+            subst (λ (k : ℕ). HoldsAt h c.write_over.new.pool.size free' (insert n key c.args.value.now) key c.args.at k after) (sym (ap length are.is) ∙ are.long)
+            (subst (λ (x : ℕ). HoldsAt h x free' (insert n key c.args.value.now) key c.args.at (size_of (held r)) after) (sym short.end)
+            (over_done h end free free' n key c.args.at r before after v m it o refl (ap (λ (z : RecHead). z.hash) head) (ap (λ (z : RecHead). z.left) head) (ap (λ (z : RecHead). z.right) head) refl));
+        edits = edits_more g.S.Space c.args.file _ _ c.args.space.now c.write_over.new.space (omega (arith, long_as)) c.in-Ok-write_over.ensures.edits;
+      },
+      subst (λ (k : ℕ). Shortens k c.args.at c.args.old c.args.pool.now c.write_over.new.pool) long_as short,
+    )

@@ -1,4 +1,4 @@
-use Rattle.std.proofs.Common.{◌∙◌, ℕ, ◌+◌, ◌-◌, List, length, sym, ap, subst, arith}
+use Rattle.std.proofs.Common.{◌∙◌, ℕ, ◌+◌, ◌-◌, List, length, refl, sym, ap, subst, arith}
 use Rattle.tc_base.specs.Files.{wrote}
 use Rattle.hf_layout.specs.Frees.{Frees}
 use Rattle.hf_pool.specs.Pools.{frees, GoesBack}
@@ -29,6 +29,20 @@ returns-then-size-old-clause-edits g c =
     (edits_wrote g.S.Space c.args.file c.args.at size c.args.bytes.now c.args.space.now c.write_at.new.space
     (λ t. (let k = c.requires.may t in omega (arith, over_inside c.args.pool.now.unit k.first c.args.pool.now.size k.pieces (frees c.args.pool.now) c.args.at c.args.old k.r (g.S.Space.now c.args.space.now c.args.file) k.aligned k.laid k.block k.unpooled k.whole)))
     (omega arith) c.in-Ok.ensures.wrote)
+
+pub returns-then-size-old-clause-pool : goal.returns-then-size-old-clause-pool
+returns-then-size-old-clause-pool g c = (refl, record { end = refl; whole = λ le q. refl; rest = λ lt. absurd (omega (arith, lt, c.if-size-old.true)) })
+
+pub returns-in-Ok-give_back-clause-pool : goal.returns-in-Ok-give_back-clause-pool
+returns-in-Ok-give_back-clause-pool g c =
+    let gave = c.in-Ok-give_back.ensures.given in (
+      c.give_back.ensures.unit,
+      record {
+        end = gave.same_size;
+        whole = λ le q. absurd (omega (arith, le, c.if-size-old.false));
+        rest = λ lt. record { size = gave.same_size; start = gave.given.start; total = gave.given.total; back = gave.given.back };
+      },
+    )
 
 pub give_back-requires : goal.give_back-requires
 give_back-requires g c =

@@ -72,7 +72,7 @@ returns-in-Ok-give_back-clause-out g c =
 pub returns-in-Ok-give_back-clause-pool : goal.returns-in-Ok-give_back-clause-pool
 returns-in-Ok-give_back-clause-pool g c =
     let gave = c.in-Ok-give_back.ensures.given in
-    (c.give_back.ensures.unit, record { size = gave.same_size; at = c.args.at; long = c.args.size; start = gave.given.start; total = gave.given.total; back = gave.given.back })
+    (c.give_back.ensures.unit, record { size = gave.same_size; start = gave.given.start; total = gave.given.total; back = gave.given.back })
 
 pub returns-in-Ok-give_back-clause-keeps : goal.returns-in-Ok-give_back-clause-keeps
 returns-in-Ok-give_back-clause-keeps g c = keeps_then g.S.Space c.args.space.now c.unhang.new.space c.give_back.new.space c.in-Ok.ensures.keeps c.in-Ok-give_back.ensures.writes.keeps

@@ -18,7 +18,7 @@ returns-in-Err-clause-full g c = λ full t. record {
 pub loop-i-preserved : goal.loop-i-preserved
 loop-i-preserved g c = record {
   writes = put_more g.S.Space c.args.self.now c.loop-i.self c.put_again.new.self c.args.space.now c.loop-i.space c.put_again.new.space c.args.pairs.now c.loop-i.i c.at-pair.result.now _ _ c.as_slice.ensures c.as_slice-in-loop-i.ensures c.at-pair.ensures c.loop-i.invariant.stays c.loop-i.invariant.writes c.in-Ok.ensures.put;
-  nothing = still_nothing c.loop-i.self.pool c.put_again.new.self.pool c.in-Ok.ensures.takes c.loop-i.invariant.nothing;
+  nothing = still_nothing _ c.in-Ok.ensures.takes.0 c.loop-i.self.pool c.put_again.new.self.pool c.in-Ok.ensures.takes.1 c.loop-i.invariant.nothing;
   keeps = keeps_then g.S.Space c.args.space.now c.loop-i.space c.put_again.new.space c.loop-i.invariant.keeps c.put_again.ensures.keeps;
   stays = stays_then c.args.self.now c.loop-i.self c.put_again.new.self c.loop-i.invariant.stays c.put_again.ensures.stays;
 }
