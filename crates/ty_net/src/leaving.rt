@@ -8,26 +8,27 @@ use std::time::{Duration, Instant};
 // So many of them at most; beyond, the oldest is given up.
 const MOST: usize = 64;
 
-// So many seconds a peer has to end its side, once all is written for it.
-const LINGER: u64 = 2;
-
-// So many seconds it has to take what is written for it.
+// So many seconds a peer has for the system to take what is written for it.
 const PATIENCE: u64 = 30;
 
-// So many reads of 4,096 bytes are dropped of each.
-const READS_MOST: u32 = 256;
+// So many seconds it has to end its side, once the system took all.
+const LINGER: u64 = 2;
+
+// So many bytes are dropped of each, by reads of 4,096.
+const DROPPED_MOST: usize = 1_048_576;
 
 #[derive(Drop)]
 struct Leaver {
     line: Line,
-    reads_left: u32,
-    // none where the clock can't be read
+    // so many bytes more may be dropped
+    left: usize,
+    // since it was closed, or all was written; none where the clock can't be read
     since: Option<Instant>,
 }
 
 impl Leaver {
-    // Writes what is owed, and then reads and drops what comes. Answers whether the peer isn't through yet.
-    fn goes_on(&mut self) -> bool {
+    // Writes what is owed, and then reads and drops what has come. Answers whether the peer isn't through yet.
+    fn goes_on<R: rt::Clock>(&mut self, rt: &R) -> bool {
         self.line.flush();
         if self.line.is_gone() {
             return false;
@@ -38,24 +39,30 @@ impl Leaver {
         if self.line.has_ended() {
             return false;
         }
-        self.line.shut_writing();
-        for _ in 0..self.reads_left {
-            self.reads_left = self.reads_left.saturating_sub(1);
-            if !self.line.drops_input() {
-                break;
-            }
+        if !self.line.is_shut() {
+            self.line.shut_writing();
+            self.since = Instant::now(rt).ok();
         }
-        !self.line.has_ended() && self.reads_left > 0
+        self.drop_input();
+        !self.line.has_ended() && self.left > 0
     }
 
-    fn is_late<R: rt::Clock>(&self, rt: &R) -> bool {
+    // Asks the system nothing where it told of no bytes.
+    fn drop_input(&mut self) {
+        for _ in 0..DROPPED_MOST / 4096 {
+            match self.line.drop_input() {
+                0 => break,
+                count => self.left = self.left.saturating_sub(count),
+            }
+        }
+    }
+
+    fn is_late(&self, now: Instant) -> bool {
         let Some(since) = self.since else {
             return true;
         };
-        let Ok(past) = since.elapsed(rt) else {
-            return true;
-        };
-        past > Duration::from_secs(if self.line.owes() { PATIENCE } else { LINGER })
+        let most = if self.line.owes() { PATIENCE } else { LINGER };
+        now.duration_since(since) > Duration::from_secs(most)
     }
 }
 
@@ -80,11 +87,14 @@ impl Leaving {
     pub fn add<R: rt::Clock>(&mut self, rt: &R, line: Line) {
         let mut leaver = Leaver {
             line,
-            reads_left: READS_MOST,
-            since: Instant::now(rt).ok(),
+            left: DROPPED_MOST,
+            since: None,
         };
-        if !leaver.goes_on() {
+        if !leaver.goes_on(rt) {
             return;
+        }
+        if leaver.line.owes() {
+            leaver.since = Instant::now(rt).ok();
         }
         if self.leavers.len() >= MOST {
             let _ = self.leavers.remove(0);
@@ -101,10 +111,16 @@ impl Leaving {
         }
     }
 
-    /// Lets those go whose peers are through or late.
+    /// Lets those go whose peers are through or late. The clock is read once, where any are left.
     pub fn tend<R: rt::Clock>(&mut self, rt: &R) {
-        self.leavers
-            .retain_mut(|leaver| leaver.goes_on() && !leaver.is_late(rt));
+        self.leavers.retain_mut(|leaver| leaver.goes_on(rt));
+        if self.leavers.is_empty() {
+            return;
+        }
+        match Instant::now(rt) {
+            Ok(now) => self.leavers.retain_mut(|leaver| !leaver.is_late(now)),
+            Err(_) => self.leavers.clear(),
+        }
     }
 
     /// Lets all go.

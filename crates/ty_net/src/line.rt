@@ -229,22 +229,33 @@ impl Line {
         }
     }
 
-    /// Reads bytes and drops them. Answers whether more may follow.
-    pub fn drops_input(&mut self) -> bool {
+    /// Reads bytes and drops them, where the system told of any. Answers how many.
+    pub fn drop_input(&mut self) -> usize {
+        if !self.is_readable || self.has_ended {
+            return 0;
+        }
         let mut into = [0; 4096];
         match self.stream.read(&mut into) {
-            Ok(count) => self.was_read(count, 4096),
-            Err(e) => self.was_refused(e.kind()),
+            Ok(count) => {
+                self.was_read(count, 4096);
+                count
+            }
+            Err(e) => {
+                self.was_refused(e.kind());
+                0
+            }
         }
-        self.is_readable && !self.has_ended
+    }
+
+    /// Whether its peer was told that nothing more comes.
+    pub fn is_shut(&self) -> bool {
+        self.is_shut
     }
 
     /// Tells the peer that nothing more comes.
     pub fn shut_writing(&mut self) {
-        if !self.is_shut {
-            self.is_shut = true;
-            let _ = self.stream.shutdown(Shutdown::Write);
-        }
+        self.is_shut = true;
+        let _ = self.stream.shutdown(Shutdown::Write);
     }
 
     // One write of what was taken, or of `bytes` where nothing was.
