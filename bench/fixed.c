@@ -29,7 +29,9 @@ int main(int argc, char **argv) {
       at += 10 + k + v;
     } else {
       int size;
-      free(tcfdbget2(db, input + at + 6, k, &size));
+      void *found = tcfdbget2(db, input + at + 6, k, &size);
+      if (!found) return 4;
+      free(found);
       at += 6 + k;
     }
   }
