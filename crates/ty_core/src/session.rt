@@ -18,9 +18,13 @@ use tc_space::{RecErr, Space};
 use ty_base::Base;
 use ty_wire::Front;
 
+// The room of at most so many bytes is used again.
+const ROOM_KEPT: usize = 65_536;
+
 /// The bytes of a connection that no request took yet, and those that wait to be sent to it. Both queues are seen as lists.
 #[derive(Drop)]
 pub struct Session {
+    alloc: Global,
     unread: Unread,
     waiting: Blob,
     // so many of them were taken
@@ -38,12 +42,24 @@ impl Model for Session {
     ghost invariant = { λ s. s.taken ≤ length s.waiting };
 }
 
+// Drops all bytes. The room of many is given back, that of few is used again.
+fn empty(alloc: Global, waiting: &mut Blob)
+    ensures { waiting.new ≡ [] }
+{
+    if waiting.len() > ROOM_KEPT {
+        *waiting = Blob::new(alloc);
+    } else {
+        waiting.clear();
+    }
+}
+
 impl Session {
     /// Nothing came and nothing waits.
     pub fn new(alloc: Global) -> Session
         ensures { result ≡ queue [] [] }
     {
         Session {
+            alloc,
             unread: Unread::new(alloc),
             waiting: Blob::new(alloc),
             taken: 0,
@@ -73,13 +89,13 @@ impl Session {
         &self.waiting.as_slice()[self.taken..]
     }
 
-    /// Drops that many bytes at the front of those that wait.
+    /// Drops that many bytes at the front of those that wait. Where none are left of more than 65,536, their room is given back.
     pub fn taken(&mut self, n: usize)
         requires { n ≤ length self.old.waiting }
         ensures { self.new ≡ queue self.old.unread (drop n self.old.waiting) }
     {
         if n == self.waiting.len() - self.taken {
-            self.waiting.clear();
+            empty(self.alloc, &mut self.waiting);
             self.taken = 0;
         } else {
             self.taken += n;
