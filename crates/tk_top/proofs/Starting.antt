@@ -17,6 +17,6 @@ ready_at {S} {B} {W} s g holds b base a x ps same none opened conns ready untouc
   untouched = untouched;
   none_over = refl;
   unread = tt;
-  waiting = λ t. tt;
+  waiting = tt;
   calm = tt;
 }))

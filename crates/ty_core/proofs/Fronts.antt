@@ -1,5 +1,5 @@
 -- A request at the front, by its reading and by its spelling.
-use Rattle.std.proofs.Common.{◌≡◌, ℕ, ◌≤◌, Bool, true, false, List, [], ◌∷◌, ◌++◌, length, take, drop, sym, ap, subst, ◌∙◌, arith, length-append, refl}
+use Rattle.std.proofs.Common.{◌≡◌, ℕ, ◌≤◌, Bool, true, false, List, [], ◌∷◌, ◌++◌, length, take, drop, sym, ap, subst, ◌∙◌, arith, length-append, length-drop, refl}
 use Rattle.std.proofs.lemmas.Bool.{eqb-true}
 use Rattle.std.proofs.lemmas.List.{append_cancel_right, drop-append-le, take-append-drop}
 use Rattle.tc_base.proofs.Exact.{same_whole}
@@ -115,5 +115,6 @@ pub front_behind : {S B : Type 0} (s : Ghosts S) (holds : B → Files → Conten
 front_behind s holds replica logs d b b' a a' w w' u v u' v' waiting old new taken same left is le f = record {
   request = f.request;
   takes = subst (λ (l : List ℕ). TakesOff f.request d l u') same (subst (λ (l : List ℕ). TakesOff f.request d v l) left f.takes);
+  few = let more = f.few in omega (arith, more, le, length-drop taken new, length-drop taken old, ap length is);
   serves = λ c h. let x = f.serves c h in (x.0, x.1, serves_behind replica logs f.request d c x.0 w w' waiting old new taken is le x.2);
 }

@@ -1,5 +1,5 @@
 -- A put whose value is gathered apart, by its spelling and by its reading.
-use Rattle.std.proofs.Common.{◌≡◌, ◌⊎◌, inl, inr, ℕ, ◌+◌, ◌-◌, ◌<◌, ◌≤◌, List, [], ◌∷◌, ◌++◌, length, take, drop, replicate, refl, sym, ap, subst, ◌∙◌, arith, append_assoc, length-append, Ok, Err}
+use Rattle.std.proofs.Common.{◌≡◌, inl, inr, ℕ, ◌+◌, ◌-◌, ◌<◌, ◌≤◌, List, [], ◌∷◌, ◌++◌, length, take, drop, replicate, refl, sym, ap, subst, ◌∙◌, arith, append_assoc, length-append, Ok, Err}
 use Rattle.std.proofs.Math.Nat.{eq-or-lt_of_le}
 use Rattle.std.proofs.Math.Seq.{take-append_seam}
 use Rattle.std.proofs.lemmas.List.{append-nil, length-replicate, take-append-drop}
@@ -14,7 +14,6 @@ use Rattle.tc_base.specs.Reading.{size_at, bytes_at}
 use Rattle.tc_base.proofs.Exact.{IsBytes-rest}
 use Rattle.tc_base.proofs.ExactFields.{exact_size, exact_bytes}
 use Rattle.ty_wire.specs.declared.reading.Front.TheVariants.{Whole, Part}
-use Rattle.ty_wire.specs.Prefixes.{IsPrefix, IsPart}
 use Rattle.ty_wire.specs.Reading.{request_at}
 use Rattle.ty_wire.specs.Spelling.{spelling, Fits}
 use Rattle.ty_wire.specs.Taking.{Takes, IsRead}

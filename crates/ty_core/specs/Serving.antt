@@ -1,5 +1,5 @@
 -- What serving the request at the front of the unread bytes does.
-use Rattle.std.specs.Prelude.{◌≡◌, ◌≤◌, ℕ, Bool, List, ◌++◌, ◌||◌, ◌&&◌, length, drop, Ok, Option, Some, None, if◌then◌else◌}
+use Rattle.std.specs.Prelude.{◌≡◌, ◌≤◌, ◌+◌, ℕ, Bool, List, ◌++◌, ◌||◌, ◌&&◌, length, drop, Ok, Option, Some, None, if◌then◌else◌}
 use Rattle.tc_base.specs.Files.{Files}
 use Rattle.tc_base.specs.declared.request.Request.{Request}
 use Rattle.tc_base.specs.declared.request.Request.TheVariants.{Repl}
@@ -19,6 +19,11 @@ use Rattle.ty_core.specs.declared.taking.Taken.{Taken}
 abbrev pub feed_of : Request → Option Feed
 feed_of (Repl timestamp server) = Some (record { above = timestamp; server = server })
 feed_of _ = None
+
+-- the most bytes that a reply has, where this feed is asked for: none where one is
+abbrev pub reply_most : Option Feed → ℕ
+reply_most None = 67108864
+reply_most (Some feed) = 0
 
 -- the bytes of a request that updated, where they are asked for
 abbrev pub update_of : Bool → Request → Step → Option (List ℕ)
@@ -55,10 +60,11 @@ pub record Serves (replica logs : Bool) (r : Request) (d : Served) (c c' : Conte
   pub commits : d.commits ≡ (is_updated r (apply replica r c w) || is_optimize r)
   pub update : d.update ≡ update_of logs r (apply replica r c w)
 
--- the request at the front was served: whatever was held, what it makes of that is held now
+-- the request at the front was served: whatever was held, what it makes of that is held now. At most one reply more waits, whatever is told
 pub record ServesFront {S B : Type 0} (s : Ghosts S) (holds : B → Files → Contents → Type 0) (replica logs : Bool) (d : Served) (base base' : B) (old new : S) (w w' : Walk) (unread unread' waiting waiting' : List ℕ) : Type 0 where
   pub request : Request
   pub takes : TakesOff request d unread unread'
+  pub few : length waiting' ≤ length waiting + reply_most d.feeds
   pub serves : (c : Contents) → Held s holds base old c → (e : Contents) × Held s holds base' new e × Serves replica logs request d c e w w' waiting waiting'
 
 -- a limit is reached, where the request at the front may write, between contents and what it makes of them

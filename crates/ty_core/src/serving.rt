@@ -9,10 +9,10 @@ ghost use Rattle.ty_wire.specs.Prefixes.{IsPrefix};
 ghost use Rattle.ty_base.specs.Holding.{Declines, FillsBy, Held, IsReady, Leaves};
 ghost use Rattle.ty_base.specs.Holding as holding;
 ghost use Rattle.tc_model.specs.Packing.{is_optimize};
-ghost use Rattle.ty_core.specs.Serving.{FillsFront, IsTaken, ServesFront, feed_of};
+ghost use Rattle.ty_core.specs.Serving.{FillsFront, IsTaken, ServesFront, feed_of, reply_most};
 
 use crate::taking::{Taken, if_updating};
-use tc_base::{Blob, Reply, Request};
+use tc_base::{Blob, REPLY_MOST, Reply, Request};
 use tc_model::{Applied, Walk};
 use tc_space::{RecErr, Space};
 use ty_base::Base;
@@ -67,6 +67,16 @@ fn asked_feed(request: &Request) -> Option<Feed>
     }
 }
 
+// The most bytes that its reply may have: none where a feed is asked for.
+fn most_of(feeds: &Option<Feed>) -> usize
+    ensures { result ≡ reply_most feeds.now }
+{
+    match feeds {
+        Some(_) => 0,
+        None => REPLY_MOST,
+    }
+}
+
 // What was copied, where it is kept.
 fn kept(copied: Option<Blob>, keeps: bool) -> Option<Blob>
     ensures { result ≡ (if keeps then copied else None) }
@@ -105,7 +115,9 @@ pub fn answer<B: Base>(
     }
 }
 
-/// Serves a request that was taken off. Where its bytes were asked for, those of one that updates are given back.
+/// Serves a request that was taken off. Where its bytes were asked for, those of one that updates are given back. A reply that is longer
+/// than any may be, which none is whose files are told, is want of memory.
+#[tactic(auto, using(crate::proofs::Fronts::still_inside, tc_space::specs::Frames::keeps_then, tc_space::specs::Frames::keeps_refl))]
 pub fn serve_taken<B: Base>(
     taken: Taken,
     waiting: &mut Blob,
@@ -126,10 +138,15 @@ pub fn serve_taken<B: Base>(
     let Taken { request, copied } = taken;
     let packs = is_packing(&request);
     let feeds = asked_feed(&request);
+    let before = waiting.len();
     let applied = match answer(base, space, request, walk, replica, waiting) {
         Ok(applied) => applied,
         Err(e) => return Err(e),
     };
+    if waiting.len() - before > most_of(&feeds) {
+        space.spoil();
+        return Err(RecErr::Memory);
+    }
     let update = kept(copied, applied.updated);
     Ok(Served {
         commits: applied.updated | packs,

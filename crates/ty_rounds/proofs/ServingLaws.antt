@@ -1,6 +1,6 @@
 -- Serving one connection, and all of them.
 use Rattle.std.proofs.Common.{◌≡◌, ◌≤◌, ◌<◌, ◌+◌, ℕ, zero, suc, Bool, true, false, not, cond, List, [], ◌∷◌, ◌++◌, length, get_or, set, refl, sym, ap, subst, ◌∙◌, arith, append_assoc, length-append, eq-eqb, Ok, Err}
-use Rattle.std.specs.Prelude.{◌&&◌, ◌||◌, nat_eq, Some, None}
+use Rattle.std.specs.Prelude.{◌&&◌, ◌||◌, nat_eq, Option, Some, None}
 use Rattle.std.proofs.lemmas.List.{append-nil}
 use Rattle.std.proofs.lemmas.Bool.{ne_eqb, eqb-true, or_parts}
 use Rattle.tc_base.specs.Files.{Files}
@@ -17,12 +17,11 @@ use Rattle.ty_wire.specs.Spelling.{reply_bytes, spelling}
 use Rattle.tc_model.specs.Contents.{Contents, Walk}
 use Rattle.tc_model.specs.Apply.{Step, apply}
 use Rattle.ty_core.specs.Queues.{Queue}
-use Rattle.ty_core.specs.Serving.{Serves, ServesFront, TakesOff, feed_of}
+use Rattle.ty_core.specs.Serving.{Serves, ServesFront, TakesOff, feed_of, reply_most}
 use Rattle.ty_core.specs.declared.serving.Feed.{Feed}
 use Rattle.ty_core.specs.declared.serving.Served.{Served}
 use Rattle.ty_world.specs.Frames.{is_whole}
 use Rattle.ty_world.specs.World.{Client, served, front_of, is_ready, all_sent, round_one, round_all, owed_for, repl_reply}
-use Rattle.ty_world.proofs.Owed.{owed_small}
 use Rattle.ty_rounds.specs.Peers.{numbers, all_taken}
 use Rattle.ty_rounds.specs.Ready.{FewUnread, FewWaiting}
 use Rattle.ty_rounds.specs.Holding.{Holds, AllHold, RoundsTo}
@@ -254,15 +253,6 @@ still_ready s holds logs d base base' old new w w' unread unread' waiting waitin
 pub fewer_unread : (p p' : Peer) (q : Queue) (r : Request) (d : Served) → TakesOff r d p.session.unread q.unread → OwesRepl (record p { session = q }) p' r → FewUnread p → FewUnread p'
 fewer_unread p p' q r d t o few = omega (arith, few, ap length t.spelled, length-append (spelling r) q.unread, ap (λ (z : Queue). length z.unread) o.session)
 
-pub few_waiting : {S B : Type 0} (s : Ghosts S) (holds : B → Files → Contents → Type 0) (d : Served) (base base' : B) (old new : S) (w w' : Walk) (p p' : Peer) (q : Queue) → IsReady s holds base old → (f : ServesFront s holds false false d base base' old new w w' p.session.unread q.unread p.session.waiting q.waiting) → all_taken p ≡ true → OwesRepl (record p { session = q }) p' f.request → s.tells → FewWaiting p → FewWaiting p'
-few_waiting s holds d base base' old new w w' p p' q is f none o t few =
-    let h = is.held t in
-    let x = f.serves h.0 (t, h.1) in
-    let st = apply false f.request h.0 w in
-    let m = owed_small f.request h.0 w in
-    let e : length p.session.waiting ≡ 0 = eqb-true (length p.session.waiting) 0 none in
-    omega (arith, m, e, ap (λ (z : Queue). length z.waiting) o.session, length-append q.waiting (repl_reply f.request), ap length x.2.waiting_is, length-append p.session.waiting (reply_bytes st.reply), length-append (reply_bytes st.reply) (repl_reply f.request))
-
 pub repl_some : (r : Request) (feed : Feed) → Some feed ≡ feed_of r → repl_reply r ≡ 1 ∷ []
 repl_some (Repl timestamp server) feed e = refl
 repl_some _ feed e = absurd cc
@@ -270,3 +260,12 @@ repl_some _ feed e = absurd cc
 pub repl_none : (r : Request) → None ≡ feed_of r → repl_reply r ≡ []
 repl_none (Repl timestamp server) e = absurd cc
 repl_none _ e = refl
+
+-- a reply that is no longer than any may be waits, or the one byte of a repl
+pub few_waiting : (p p' : Peer) (q : Queue) (r : Request) (d : Served) → d.feeds ≡ feed_of r → length q.waiting ≤ length p.session.waiting + reply_most d.feeds → all_taken p ≡ true → OwesRepl (record p { session = q }) p' r → FewWaiting p → FewWaiting p'
+few_waiting p p' q r d feeds few none o h =
+    omega (arith, few, go d.feeds feeds, eqb-true (length p.session.waiting) 0 none, ap (λ (z : Queue). length z.waiting) o.session, length-append q.waiting (repl_reply r))
+  where
+    go : (f : Option Feed) → f ≡ feed_of r → reply_most f + length (repl_reply r) ≤ 67108864
+    go None e = omega (arith, ap length (repl_none r e))
+    go (Some feed) e = omega (arith, ap length (repl_some r feed e))

@@ -376,7 +376,7 @@ module _ {S B W : Type 0} (s : space.Ghosts S) (g : wire.Ghosts W) (holds : B â†
         none_over = f.finishes.few.0;
         unread = f.finishes.few.1.unread (f.rounds.unread (few.unread is.unread));
         calm = f.finishes.few.2;
-        waiting = Î» t. f.finishes.few.1.waiting (f.rounds.waiting t (few.waiting (is.waiting t)));
+        waiting = f.finishes.few.1.waiting (f.rounds.waiting (few.waiting is.waiting));
       }
 
   -- ---- a limit was reached

@@ -46,6 +46,5 @@ pub record IsReady {S B W : Type 0} (s : space.Ghosts S) (g : wire.Ghosts W) (ho
   pub untouched : s.touched space ≡ false
   pub none_over : NoneOver ps
   pub unread : Each FewUnread ps
-  -- where the answers are told
-  pub waiting : s.tells → Each FewWaiting ps
+  pub waiting : Each FewWaiting ps
   pub calm : Each IsCalm ps

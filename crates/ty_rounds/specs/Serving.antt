@@ -56,7 +56,7 @@ FillsIn fills w ev bytes = FillsAt fills w.contents w.walk (heard (map unstopped
 pub record Rounds {S B : Type 0} (s : space.Ghosts S) (holds : B → Files → Contents → Type 0) (commits : Bool) (base base' : B) (old new : S) (w w' : Walk) (ps ps' : List Peer) : Type 0 where
   pub numbers : numbers ps' ≡ numbers ps
   pub unread : Each FewUnread ps → Each FewUnread ps'
-  pub waiting : s.tells → Each FewWaiting ps → Each FewWaiting ps'
+  pub waiting : Each FewWaiting ps → Each FewWaiting ps'
   pub calm : Each IsCalm ps'
   pub each : (c : Contents) → Held s holds base old c → (ks : List Client) → AllHold ps ks → RoundsTo commits (Held s holds base' new) w' ps' (round_all c w ks)
   pub ready : holding.IsReady s holds base' new
@@ -66,7 +66,7 @@ pub record Rounds {S B : Type 0} (s : space.Ghosts S) (holds : B → Files → C
 pub record ServesReady {S B : Type 0} (s : space.Ghosts S) (holds : B → Files → Contents → Type 0) (commits : Bool) (base base' : B) (old new : S) (w w' : Walk) (p p' : Peer) : Type 0 where
   pub conn : p'.conn ≡ p.conn
   pub unread : FewUnread p → FewUnread p'
-  pub waiting : s.tells → FewWaiting p → FewWaiting p'
+  pub waiting : FewWaiting p → FewWaiting p'
   pub calm : IsCalm p'
   pub each : (c : Contents) → Held s holds base old c → ServesOne commits c (Held s holds base' new) w w' p p'
   pub ready : holding.IsReady s holds base' new

@@ -119,7 +119,7 @@ fn is_shut(ev: Ev) -> bool
 }
 
 /// One turn: an event, one request of each connection that is ready, a commit where anything is to be kept, then sends and
-/// closings. A connection holds at most 33,558,528 unread bytes after it, and at most one reply of 67,108,864.
+/// closings. A connection holds at most 33,558,528 unread bytes after it, and at most one reply of 67,108,864, over any space.
 ///
 /// `Memory`, `Full` and `Volume` come before anything was sent, and what a stop leaves is then what was kept before the round or
 /// after it; `Wire` comes behind the commit too. After an `Err` the server is to be dropped, and the space to be opened again.

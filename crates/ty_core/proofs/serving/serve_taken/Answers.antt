@@ -9,6 +9,7 @@ pub returns-clause-served : goal.returns-clause-served
 returns-clause-served g c = λ logs unread rest k. record {
   request = c.args.taken.request;
   takes = taken_off c.args.taken logs unread rest _ k c.asked_feed-feeds.ensures;
+  few = search rules;
   serves = λ d h. let x = c.in-Ok.ensures.applied d h in (
     x.contents,
     x.holds,

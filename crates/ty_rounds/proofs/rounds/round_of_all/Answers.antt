@@ -12,7 +12,7 @@ pub loop-i-init : goal.loop-i-init
 loop-i-init g c = record {
   numbers = refl;
   unread = λ h. h;
-  waiting = λ t h. h;
+  waiting = λ h. h;
   calm = c.requires.calm;
   round = λ d h ks a. skip_front _ c.args.span c.args.peers.now.items c.requires.calm (round_steps false d _ _ _ _ c.args.peers.now.items ks) (begin _ d _ _ ks h a);
   ready = c.requires.ready;
@@ -28,7 +28,7 @@ loop-i-preserved g c = let s = g.B.S.Space in
     record {
       numbers = numbers_kept _ _ c.index_mut-p.result.now _ (search rules) (search rules) one.conn ∙ i.numbers;
       unread = λ h. let few = i.unread h in each_set FewUnread _ _ _ (one.unread (each_at FewUnread _ c.loop-i.i c.index_mut-p.result.now (search rules) (search rules) few)) few;
-      waiting = λ t h. let few = i.waiting t h in each_set FewWaiting _ _ _ (one.waiting t (each_at FewWaiting _ c.loop-i.i c.index_mut-p.result.now (search rules) (search rules) few)) few;
+      waiting = λ h. let few = i.waiting h in each_set FewWaiting _ _ _ (one.waiting (each_at FewWaiting _ c.loop-i.i c.index_mut-p.result.now (search rules) (search rules) few)) few;
       calm = span_inside c.args.span _ c.loop-i.i _ (search rules) (search rules) (search rules) one.calm i.calm;
       round = λ d h ks a. more_is _ c.loop-i.commits c.in-Ok.one d _ _ _ _ _ _ _ ks _ c.index_mut-p.result.now c.serve_one.new.p is (i.round d h ks a) (search rules) (search rules) one.each;
       ready = one.ready;

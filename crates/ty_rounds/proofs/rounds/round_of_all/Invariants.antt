@@ -14,7 +14,7 @@ abbrev pub invariant-loop-i : goal.invariant-loop-i
 invariant-loop-i g l = let s = g.B.S.Space in let holds = g.B.Base.holds in record {
   numbers : numbers l.peers.items ≡ numbers l.fn.peers.items;
   unread : Each FewUnread l.fn.peers.items → Each FewUnread l.peers.items;
-  waiting : s.tells → Each FewWaiting l.fn.peers.items → Each FewWaiting l.peers.items;
+  waiting : Each FewWaiting l.fn.peers.items → Each FewWaiting l.peers.items;
   calm : IsSpan l.fn.span l.peers.items;
   round : (c : Contents) → Held s holds l.fn.base l.fn.space c → (ks : List Client) → AllHold l.fn.peers.items ks → Halfway l.commits c (Held s holds l.base l.space) l.fn.walk l.walk l.fn.peers.items l.peers.items l.i ks;
   ready : IsReady s holds l.base l.space;

@@ -10,7 +10,7 @@ pub returns-then-not-p-clause-served : goal.returns-then-not-p-clause-served
 returns-then-not-p-clause-served g c = record {
   conn = refl;
   unread = λ h. h;
-  waiting = λ t h. h;
+  waiting = λ h. h;
   calm = c.requires.calm;
   each = λ d h. none_idle _ d _ c.args.p.now _ h refl (quiet_none c.args.p.now (c.requires.calm (search rules)));
   ready = c.requires.ready;
@@ -21,7 +21,7 @@ pub returns-then-p-clause-served : goal.returns-then-p-clause-served
 returns-then-p-clause-served g c = record {
   conn = refl;
   unread = λ h. h;
-  waiting = λ t h. h;
+  waiting = λ h. h;
   calm = c.requires.calm;
   each = λ d h. gone_idle _ d _ _ h (search rules);
   ready = c.requires.ready;
@@ -32,7 +32,7 @@ pub returns-then-not-all_taken-clause-served : goal.returns-then-not-all_taken-c
 returns-then-not-all_taken-clause-served g c = record {
   conn = refl;
   unread = λ h. h;
-  waiting = λ t h. h;
+  waiting = λ h. h;
   calm = c.requires.calm;
   each = λ d h. waits_idle _ d _ c.args.p.now _ h refl (search rules);
   ready = c.requires.ready;
@@ -43,7 +43,7 @@ pub returns-then-not-has_whole-clause-served : goal.returns-then-not-has_whole-c
 returns-then-not-has_whole-clause-served g c = record {
   conn = refl;
   unread = λ h. h;
-  waiting = λ t h. h;
+  waiting = λ h. h;
   calm = c.requires.calm;
   each = λ d h. none_idle _ d _ c.args.p.now _ h refl (search rules);
   ready = c.requires.ready;
@@ -54,7 +54,7 @@ pub returns-clause-served : goal.returns-clause-served
 returns-clause-served g c = let s = c.in-Ok.ensures.served in let o = c.in_ok-owe_repl.ensures.owes s.request s.takes.feeds in record {
   conn = o.conn;
   unread = fewer_unread c.args.p.now c.owe_repl.new.p c.serve.new.self s.request c.in-Ok.served s.takes o;
-  waiting = few_waiting g.B.S.Space g.B.Base.holds c.in-Ok.served _ _ _ _ _ _ c.args.p.now c.owe_repl.new.p c.serve.new.self c.requires.ready s (search rules) o;
+  waiting = few_waiting c.args.p.now c.owe_repl.new.p c.serve.new.self s.request c.in-Ok.served s.takes.feeds s.few (search rules) o;
   calm = calm_stirs c.owe_repl.new.p (o.stirs ∙ search rules);
   each = λ d h. let x = s.serves d h in one_served _ d x.0 _ _ c.args.p.now c.owe_repl.new.p c.serve.new.self s.request c.in-Ok.served (search rules) (search rules) s.takes x.2 o x.1;
   ready = still_ready g.B.S.Space g.B.Base.holds false c.in-Ok.served _ _ _ _ _ _ _ _ _ _ _ c.requires.ready s c.in-Ok.ensures.leaves;
