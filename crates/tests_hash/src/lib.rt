@@ -4,6 +4,8 @@
 #[cfg(test)]
 mod calls;
 #[cfg(test)]
+mod moving;
+#[cfg(test)]
 mod packing;
 #[cfg(test)]
 mod records;

@@ -1,50 +1,10 @@
-ghost use Rattle.std.specs.Prelude.{◌≡◌, ◌≤◌, ◌^◌, true, OnOk};
-
-use crate::calls::{get, out, put};
+use crate::calls::{bytes_at, created, get, out, pack, put};
 use std::alloc::Global;
 use std::test::Fail;
 use tc_base::{Form, Mode};
 use tc_hash::Hash;
 use tc_space::{PutErr, RecErr, Space};
 use tc_stores::OneFile;
-
-// An empty file with some buckets and a unit of 16.
-fn created(
-    alloc: Global,
-    space: &mut OneFile,
-    buckets: u64,
-    large: bool,
-) -> Result<Hash<OneFile>, RecErr>
-    requires space { space.old.sound ≡ true }
-    requires some { 1 ≤ buckets }
-    requires few { buckets ≤ 2 ^ 38 }
-    ensures { OnOk result (space.new.sound ≡ true) }
-{
-    Hash::create(alloc, space, 0, 0, 4, 0, buckets, large)
-}
-
-// Packs the file, and settles it.
-fn pack(hash: &mut Hash<OneFile>, space: &mut OneFile, form: Form) -> Result<(), RecErr>
-    requires { space.old.sound ≡ true }
-    ensures { OnOk result (space.new.sound ≡ true) }
-{
-    match hash.pack(space, form) {
-        Ok(()) => {}
-        Err(e) => return Err(e),
-    }
-    match hash.settle(space) {
-        Ok(()) => Ok(()),
-        Err(e) => Err(e),
-    }
-}
-
-// So many bytes of the file from a place on; fewer where it ends.
-fn bytes_at(space: &OneFile, at: usize, count: usize) -> &[u8] {
-    let all = space.bytes();
-    let from = at.min(all.len());
-    let to = from.saturating_add(count).min(all.len());
-    if from <= to { &all[from..to] } else { &[] }
-}
 
 #[test]
 fn a_packed_record_moves_to_the_front(rt: HostRuntime) -> Result<(), Fail> {

@@ -1,20 +1,11 @@
 ghost use Rattle.std.specs.Prelude.{◌≡◌, true, IfOk, OnOk};
 
-use crate::calls::{get, out, put};
-use std::alloc::Global;
+use crate::calls::{bytes_at, created, get, out, put, settle};
 use std::test::Fail;
 use tc_base::{Blob, Blobs, Mode, Steps};
 use tc_hash::Hash;
 use tc_space::{PutErr, RecErr};
 use tc_stores::OneFile;
-
-// An empty file with three buckets and a unit of 16.
-fn created(alloc: Global, space: &mut OneFile) -> Result<Hash<OneFile>, RecErr>
-    requires { space.old.sound ≡ true }
-    ensures { OnOk result (space.new.sound ≡ true) }
-{
-    Hash::create(alloc, space, 0, 0, 4, 0, 3, false)
-}
 
 fn len(hash: &mut Hash<OneFile>, space: &mut OneFile, key: &[u8]) -> Result<Option<u64>, RecErr>
     requires { space.old.sound ≡ true }
@@ -38,24 +29,6 @@ fn keys(hash: &mut Hash<OneFile>, space: &mut OneFile) -> Result<Blobs, RecErr>
     }
 }
 
-fn settle(hash: &mut Hash<OneFile>, space: &mut OneFile) -> Result<(), RecErr>
-    requires { space.old.sound ≡ true }
-    ensures { OnOk result (space.new.sound ≡ true) }
-{
-    match hash.settle(space) {
-        Ok(()) => Ok(()),
-        Err(e) => Err(e),
-    }
-}
-
-// So many bytes of the file from a place on; fewer where it ends.
-fn bytes_at(space: &OneFile, at: usize, count: usize) -> &[u8] {
-    let all = space.bytes();
-    let from = at.min(all.len());
-    let to = from.saturating_add(count).min(all.len());
-    if from <= to { &all[from..to] } else { &[] }
-}
-
 fn is(found: &Option<Blob>, value: &[u8]) -> bool {
     match found {
         Some(there) => there.as_slice() == value,
@@ -66,7 +39,7 @@ fn is(found: &Option<Blob>, value: &[u8]) -> bool {
 #[test]
 fn a_record_stands_in_its_bucket(rt: HostRuntime) -> Result<(), Fail> {
     let mut space = OneFile::new(rt.alloc(), &[])?;
-    let mut hash = created(rt.alloc(), &mut space)?;
+    let mut hash = created(rt.alloc(), &mut space, 3, false)?;
     put(&mut hash, &mut space, b"a", b"1", Mode::Over)?;
     settle(&mut hash, &mut space)?;
     assert_eq!(&rt;
@@ -86,7 +59,7 @@ fn a_record_stands_in_its_bucket(rt: HostRuntime) -> Result<(), Fail> {
 #[test]
 fn a_key_hangs_below_another(rt: HostRuntime) -> Result<(), Fail> {
     let mut space = OneFile::new(rt.alloc(), &[])?;
-    let mut hash = created(rt.alloc(), &mut space)?;
+    let mut hash = created(rt.alloc(), &mut space, 3, false)?;
     put(&mut hash, &mut space, b"a", b"1", Mode::Over)?;
     put(&mut hash, &mut space, b"d", b"4", Mode::Over)?;
     assert_eq!(&rt;
@@ -111,7 +84,7 @@ fn a_key_hangs_below_another(rt: HostRuntime) -> Result<(), Fail> {
 #[test]
 fn a_block_is_given_back_and_taken_again(rt: HostRuntime) -> Result<(), Fail> {
     let mut space = OneFile::new(rt.alloc(), &[])?;
-    let mut hash = created(rt.alloc(), &mut space)?;
+    let mut hash = created(rt.alloc(), &mut space, 3, false)?;
     put(&mut hash, &mut space, b"a", b"1", Mode::Over)?;
     put(&mut hash, &mut space, b"b", b"2", Mode::Over)?;
     assert_eq!(&rt; hash.size(), 368);
@@ -135,7 +108,7 @@ fn a_block_is_given_back_and_taken_again(rt: HostRuntime) -> Result<(), Fail> {
 #[test]
 fn a_value_is_kept_joined_or_replaced(rt: HostRuntime) -> Result<(), Fail> {
     let mut space = OneFile::new(rt.alloc(), &[])?;
-    let mut hash = created(rt.alloc(), &mut space)?;
+    let mut hash = created(rt.alloc(), &mut space, 3, false)?;
     put(&mut hash, &mut space, b"a", b"one", Mode::Keep)?;
     put(&mut hash, &mut space, b"a", b", two", Mode::Cat)?;
     put(&mut hash, &mut space, b"new", b"value", Mode::Cat)?;
@@ -169,7 +142,7 @@ fn a_value_is_kept_joined_or_replaced(rt: HostRuntime) -> Result<(), Fail> {
 #[test]
 fn keys_come_in_order(rt: HostRuntime) -> Result<(), Fail> {
     let mut space = OneFile::new(rt.alloc(), &[])?;
-    let mut hash = created(rt.alloc(), &mut space)?;
+    let mut hash = created(rt.alloc(), &mut space, 3, false)?;
     put(&mut hash, &mut space, b"pear", b"1", Mode::Over)?;
     put(&mut hash, &mut space, b"apple", b"2", Mode::Over)?;
     put(&mut hash, &mut space, b"app", b"3", Mode::Over)?;
