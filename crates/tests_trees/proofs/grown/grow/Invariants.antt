@@ -1,5 +1,0 @@
-use Rattle.std.proofs.Common.{◌≡◌, true}
-use Rattle.tests_trees.proofs.grown.grow.Given as goal
-
-abbrev pub invariant-loop-i : goal.invariant-loop-i
-invariant-loop-i l = l.space.sound ≡ true
