@@ -20,6 +20,8 @@ mod hashed;
 #[cfg(test)]
 mod logs;
 #[cfg(test)]
+mod peers;
+#[cfg(test)]
 mod played;
 #[cfg(test)]
 mod requests;
