@@ -1,11 +1,12 @@
 //! Commands: what each makes of a file, what it prints, and how it ends.
 use crate::fixed::{head, two};
-use crate::hashed::{FREED, HUNG, LARGE, Made, NEW, ONE, PACKED, TWO, file_of, is_like, one};
-use crate::played::{Ended, alone, joined, ran_over, volume_of, words};
+use crate::hashed::{
+    FREED, HUNG, LARGE, Made, NEW, ONE, PACKED, STRAY, TWO, file_of, is_like, one,
+};
+use crate::played::{Ended, alone, joined, ran_over, ran_to, volume_of, words};
 use std::alloc::{AllocError, Global};
 use std::test::Fail;
-use tc_io::{MemSink, MemVolume, StepClock};
-use tk_top::run;
+use tc_io::{MemSink, MemVolume};
 
 /// A run of these words, with no wire to speak of.
 pub fn commanded(alloc: Global, texts: &[&str], vol: MemVolume) -> Result<Ended, AllocError> {
@@ -298,14 +299,28 @@ fn commands_print_what_a_file_has(rt: HostRuntime) -> Result<(), Fail> {
     Ok(())
 }
 
-// The record of `a` is named by the wrong bucket: each command but those that want no file says which rule it breaks.
+// Whether a command over a file ends so with that line, prints nothing, and leaves the file as it was.
+fn is_ended(
+    alloc: Global,
+    texts: &[&str],
+    file: &[u8],
+    status: u8,
+    line: &[u8],
+) -> Result<bool, AllocError> {
+    let end = commanded(alloc, texts, volume_of(alloc, file)?)?;
+    Ok(
+        end.status == status
+            && end.line.bytes() == line
+            && end.out.bytes().is_empty()
+            && end.vol.bytes(0) == file,
+    )
+}
+
+// Each command but those that want no file says which rule a file breaks.
 #[test]
 fn a_broken_file_is_named(rt: HostRuntime) -> Result<(), Fail> {
-    let alloc = rt.alloc();
-    let mut file = one(alloc)?;
-    assert!(rt; file.len() > 260);
-    file[256] = 0;
-    file[260] = 0x15;
+    let file = file_of(rt.alloc(), &STRAY)?;
+    let line = b"tokyo: broken: file 0 rule L6\n";
     let named: [&[&str]; 6] = [
         &["hash", "inform", "h.tch"],
         &["hash", "put", "h.tch", "a", "2"],
@@ -315,83 +330,122 @@ fn a_broken_file_is_named(rt: HostRuntime) -> Result<(), Fail> {
         &["hash", "optimize", "h.tch"],
     ];
     for texts in named {
-        let end = commanded(alloc, texts, volume_of(alloc, &file)?)?;
-        assert_eq!(rt; end.status, 4);
-        assert_eq!(rt;
-            end.line.bytes(),
-            b"tokyo: broken: file 0 rule L6\n".as_slice()
-        );
-        assert_eq!(rt; end.out.bytes().len(), 0);
-        assert!(rt; end.vol.bytes(0) == file.as_slice());
-    }
-    let refused: [&[&str]; 2] = [&["hash", "create", "h.tch"], &["drill", "0", "1", "h.tch"]];
-    for texts in refused {
-        let end = commanded(alloc, texts, volume_of(alloc, &file)?)?;
-        assert_eq!(rt; end.status, 2);
-        assert_eq!(rt; end.line.bytes(), b"tokyo: refused\n".as_slice());
-        assert!(rt; end.vol.bytes(0) == file.as_slice());
+        assert!(&rt; is_ended(rt.alloc(), texts, &file, 4, line)?, "{:?}", texts);
     }
     Ok(())
+}
+
+// Those are refused by its length alone.
+#[test]
+fn a_broken_file_is_not_opened(rt: HostRuntime) -> Result<(), Fail> {
+    let file = file_of(rt.alloc(), &STRAY)?;
+    let line = b"tokyo: refused\n";
+    let refused: [&[&str]; 2] = [&["hash", "create", "h.tch"], &["drill", "0", "1", "h.tch"]];
+    for texts in refused {
+        assert!(&rt; is_ended(rt.alloc(), texts, &file, 2, line)?, "{:?}", texts);
+    }
+    Ok(())
+}
+
+// A command on a fixed-length file, how it ends, and what it prints.
+#[derive(Drop)]
+struct Command {
+    texts: &'static [&'static str],
+    status: u8,
+    printed: &'static [u8],
+}
+
+const COMMANDS: &[Command] = &[
+    Command {
+        texts: &["fixed", "create", "f.tcf", "3"],
+        status: 0,
+        printed: b"",
+    },
+    Command {
+        texts: &["fixed", "put", "f.tcf", "1", "abcdef"],
+        status: 0,
+        printed: b"",
+    },
+    Command {
+        texts: &["fixed", "put", "f.tcf", "next", ""],
+        status: 0,
+        printed: b"",
+    },
+    Command {
+        texts: &["fixed", "list", "-pv", "f.tcf"],
+        status: 0,
+        printed: b"1\tabc\n2\t\n",
+    },
+    Command {
+        texts: &["fixed", "inform", "f.tcf"],
+        status: 0,
+        printed: b"type: fixed-length\nrecord number: 2\nsize: 5\nwidth: 3\ngreatest id: 2\nfile size: 264\n",
+    },
+    Command {
+        texts: &["fixed", "get", "f.tcf", "3"],
+        status: 2,
+        printed: b"",
+    },
+    Command {
+        texts: &["fixed", "optimize", "f.tcf"],
+        status: 0,
+        printed: b"",
+    },
+];
+
+// Whether these commands, one behind the other, end and print so, and leave that file.
+fn leave(alloc: Global, commands: &[Command], file: &[u8]) -> Result<bool, AllocError> {
+    let mut vol = MemVolume::new(alloc)?;
+    for command in commands.iter() {
+        let end = commanded(alloc, command.texts, vol)?;
+        if end.status != command.status || end.out.bytes() != command.printed {
+            return Ok(false);
+        }
+        vol = end.vol;
+    }
+    Ok(vol.bytes(0) == file)
 }
 
 // A fixed-length file made, filled and read.
 #[test]
 fn commands_work_on_fixed_lengths(rt: HostRuntime) -> Result<(), Fail> {
-    let alloc = rt.alloc();
-    let end = commanded(
-        alloc,
-        &["fixed", "create", "f.tcf", "3"],
-        MemVolume::new(alloc)?,
-    )?;
-    assert_eq!(rt; end.status, 0);
-    assert!(rt; end.vol.bytes(0) == head(0, [0, 1], 0, 0).as_slice());
-    let end = commanded(alloc, &["fixed", "put", "f.tcf", "1", "abcdef"], end.vol)?;
-    assert_eq!(rt; end.status, 0);
-    let end = commanded(alloc, &["fixed", "put", "f.tcf", "next", ""], end.vol)?;
-    assert_eq!(rt; end.status, 0);
-    assert!(rt; end.vol.bytes(0) == two(alloc)?.as_slice());
-    let end = commanded(alloc, &["fixed", "list", "-pv", "f.tcf"], end.vol)?;
-    assert_eq!(rt; end.out.bytes(), b"1\tabc\n2\t\n".as_slice());
-    let end = commanded(alloc, &["fixed", "inform", "f.tcf"], end.vol)?;
-    assert_eq!(rt;
-        end.out.bytes(),
-        b"type: fixed-length\nrecord number: 2\nsize: 5\nwidth: 3\ngreatest id: 2\nfile size: 264\n".as_slice()
-    );
-    let end = commanded(alloc, &["fixed", "get", "f.tcf", "3"], end.vol)?;
-    assert_eq!(rt; end.status, 2);
-    let end = commanded(alloc, &["fixed", "optimize", "f.tcf"], end.vol)?;
-    assert_eq!(rt; end.status, 0);
-    assert!(rt; end.vol.bytes(0) == two(alloc)?.as_slice());
+    let file = two(rt.alloc())?;
+    assert!(&rt; leave(rt.alloc(), &COMMANDS[..1], &head(0, [0, 1], 0, 0))?);
+    assert!(&rt; leave(rt.alloc(), &COMMANDS[..3], &file)?);
+    assert!(&rt; leave(rt.alloc(), COMMANDS, &file)?);
     Ok(())
+}
+
+// Whether a drill in a database of each kind prints that.
+fn is_printed(
+    alloc: Global,
+    seed: &'static str,
+    count: &'static str,
+    printed: &[u8],
+) -> Result<bool, AllocError> {
+    for name in ["*", "+", "h.tch"] {
+        let end = commanded(alloc, &["drill", seed, count, name], MemVolume::new(alloc)?)?;
+        if end.status != 0 || end.out.bytes() != printed {
+            return Ok(false);
+        }
+    }
+    Ok(true)
 }
 
 #[test]
 fn drills_print_what_came_of_them(rt: HostRuntime) -> Result<(), Fail> {
-    let alloc = rt.alloc();
-    let lists: [([&str; 3], &[u8]); 3] = [
-        (
-            ["drill", "0", "1"],
-            b"requests 1 ok 1 refused 0 records 1 size 8\n",
-        ),
-        (
-            ["drill", "1", "1"],
-            b"requests 1 ok 0 refused 1 records 0 size 0\n",
-        ),
-        (
-            ["drill", "5", "0"],
-            b"requests 0 ok 0 refused 0 records 0 size 0\n",
-        ),
+    let lists: [(&'static str, &'static str, &'static [u8]); 3] = [
+        ("0", "1", b"requests 1 ok 1 refused 0 records 1 size 8\n"),
+        ("1", "1", b"requests 1 ok 0 refused 1 records 0 size 0\n"),
+        ("5", "0", b"requests 0 ok 0 refused 0 records 0 size 0\n"),
     ];
-    for (texts, printed) in lists {
-        for name in ["*", "+", "h.tch"] {
-            let end = commanded(
-                alloc,
-                &[texts[0], texts[1], texts[2], name],
-                MemVolume::new(alloc)?,
-            )?;
-            assert_eq!(rt; end.status, 0);
-            assert_eq!(rt; end.out.bytes(), printed);
-        }
+    for (seed, count, printed) in lists {
+        assert!(&rt;
+            is_printed(rt.alloc(), seed, count, printed)?,
+            "{} {}",
+            seed,
+            count
+        );
     }
     Ok(())
 }
@@ -424,28 +478,24 @@ fn a_long_drill_in_files(rt: HostRuntime) -> Result<(), Fail> {
     Ok(())
 }
 
+// A sink whose first call fails.
+fn refusing(alloc: Global) -> Result<MemSink, AllocError> {
+    let mut calls = Vec::new(alloc);
+    calls.push(1)?;
+    let mut sink = MemSink::new(alloc);
+    sink.fail_at(calls);
+    Ok(sink)
+}
+
 // A sink that takes nothing ends a command as a wire would.
 #[test]
 fn what_is_printed_may_be_refused(rt: HostRuntime) -> Result<(), Fail> {
     let alloc = rt.alloc();
-    let mut calls = Vec::new(alloc);
-    calls.push(1)?;
-    let mut out = MemSink::new(alloc);
-    out.fail_at(calls);
-    let mut err = MemSink::new(alloc);
-    let mut wire = alone(alloc, b"", 1)?;
-    let mut clock = StepClock::new(7, 0);
-    let ran = run(
-        alloc,
-        &words(alloc, &["hash", "get", "h.tch", "a"])?,
-        volume_of(alloc, &one(alloc)?)?,
-        &mut wire,
-        &mut out,
-        &mut err,
-        &mut clock,
-    );
-    assert_eq!(rt; ran.status, 7);
-    assert_eq!(rt; err.bytes(), b"tokyo: wire fault\n".as_slice());
+    let order = words(alloc, &["hash", "get", "h.tch", "a"])?;
+    let vol = volume_of(alloc, &one(alloc)?)?;
+    let end = ran_to(alloc, &order, vol, alone(alloc, b"", 1)?, refusing(alloc)?);
+    assert_eq!(rt; end.status, 7);
+    assert_eq!(rt; end.line.bytes(), b"tokyo: wire fault\n".as_slice());
     Ok(())
 }
 

@@ -1,5 +1,7 @@
 //! Many connections, what their sends answer, and calls that fail.
-use crate::played::{FOUND, GET, PUT, Step, crowded, joined, ran, script, taking_one, words};
+use crate::played::{
+    Ended, FOUND, GET, PUT, Step, crowded, joined, ran, script, taking_one, words,
+};
 use std::alloc::{AllocError, Global};
 use std::test::Fail;
 use tc_io::{MemWire, Sent};
@@ -84,6 +86,21 @@ fn connections_are_served_in_rounds(rt: HostRuntime) -> Result<(), Fail> {
     Ok(())
 }
 
+// Whether the run ends with 0 and so many are sent all, where the send of a number is answered so.
+fn sends(
+    alloc: Global,
+    order: &Vec<String>,
+    pair: &Pair,
+    number: u64,
+    answer: Sent,
+    whole: u64,
+) -> Result<bool, AllocError> {
+    let mut wire = script(alloc, pair.steps, 4096)?;
+    wire.answer_at(number, answer)?;
+    let end = ran(alloc, order, wire)?;
+    Ok(end.status == 0 && served(alloc, &end.wire, pair)? == Some(whole))
+}
+
 // A peer that takes little delays no one, and where one is gone the other is sent all.
 #[test]
 fn sends_go_as_they_can(rt: HostRuntime) -> Result<(), Fail> {
@@ -91,57 +108,56 @@ fn sends_go_as_they_can(rt: HostRuntime) -> Result<(), Fail> {
     let order = words(alloc, &["pipe", "*"])?;
     for pair in PAIRS.iter() {
         for number in 1..8u64 {
-            for slow in [Sent::Took(1), Sent::NotYet] {
-                let mut wire = script(alloc, pair.steps, 4096)?;
-                wire.answer_at(number, slow)?;
-                let end = ran(alloc, &order, wire)?;
-                assert_eq!(rt; end.status, 0, "{} {}", pair.name, number);
-                assert_eq!(rt;
-                    served(alloc, &end.wire, pair)?,
-                    Some(2),
+            let whole = if number <= pair.sends { 1 } else { 2 };
+            for (answer, whole) in [(Sent::Took(1), 2), (Sent::NotYet, 2), (Sent::Gone, whole)] {
+                assert!(rt;
+                    sends(alloc, &order, pair, number, answer, whole)?,
                     "{} {}",
                     pair.name,
                     number
                 );
             }
-            let mut wire = script(alloc, pair.steps, 4096)?;
-            wire.answer_at(number, Sent::Gone)?;
-            let end = ran(alloc, &order, wire)?;
-            let whole = if number <= pair.sends { 1 } else { 2 };
-            assert_eq!(rt; end.status, 0, "{} {}", pair.name, number);
-            assert_eq!(rt;
-                served(alloc, &end.wire, pair)?,
-                Some(whole),
-                "{} {}",
-                pair.name,
-                number
-            );
         }
     }
     Ok(())
 }
 
-// Each call of the wire fails in turn: the status is 7, and what was sent is a front of what is owed.
+// The run whose wire fails at a call.
+fn failing(
+    alloc: Global,
+    order: &Vec<String>,
+    pair: &Pair,
+    call: u64,
+) -> Result<Ended, AllocError> {
+    let mut wire = script(alloc, pair.steps, 4096)?;
+    let mut calls = Vec::new(alloc);
+    calls.push(call)?;
+    wire.fail_at(calls);
+    ran(alloc, order, wire)
+}
+
+// Whether the status is 7 and what was sent is a front of what is owed, or where the wire has no such call the run goes well.
+fn fails(alloc: Global, order: &Vec<String>, pair: &Pair, call: u64) -> Result<bool, AllocError> {
+    let end = failing(alloc, order, pair, call)?;
+    let all = served(alloc, &end.wire, pair)?;
+    if call <= pair.calls {
+        return Ok(
+            end.status == 7
+                && end.line.bytes() == b"tokyo: wire fault\n".as_slice()
+                && all.is_some(),
+        );
+    }
+    Ok(end.status == 0 && all == Some(2))
+}
+
+// Each call of the wire fails in turn.
 #[test]
 fn each_failing_call_ends_the_run(rt: HostRuntime) -> Result<(), Fail> {
     let alloc = rt.alloc();
     let order = words(alloc, &["pipe", "*"])?;
     for pair in PAIRS.iter() {
         for call in 1..16u64 {
-            let mut wire = script(alloc, pair.steps, 4096)?;
-            let mut calls = Vec::new(alloc);
-            calls.push(call)?;
-            wire.fail_at(calls);
-            let end = ran(alloc, &order, wire)?;
-            let all = served(alloc, &end.wire, pair)?;
-            if call <= pair.calls {
-                assert_eq!(rt; end.status, 7, "{} {}", pair.name, call);
-                assert_eq!(rt; end.line.bytes(), b"tokyo: wire fault\n".as_slice());
-                assert!(rt; all.is_some(), "{} {}", pair.name, call);
-            } else {
-                assert_eq!(rt; end.status, 0, "{} {}", pair.name, call);
-                assert_eq!(rt; all, Some(2), "{} {}", pair.name, call);
-            }
+            assert!(rt; fails(alloc, &order, pair, call)?, "{} {}", pair.name, call);
         }
     }
     Ok(())

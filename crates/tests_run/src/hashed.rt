@@ -1,5 +1,5 @@
 //! A hash database in files: its bytes, and what it answers.
-use crate::played::{alone, joined, piped, ran_over, volume_of, words};
+use crate::played::{Ended, alone, joined, piped, ran_over, volume_of, words};
 use std::alloc::{AllocError, Global};
 use std::test::Fail;
 use tc_io::MemVolume;
@@ -53,6 +53,16 @@ pub const ONE: Made = Made {
     records: 1,
     size: 0x60,
     buckets: b"\x15\0\0\0\0\0\0\0\0\0\0\0",
+    pool: b"",
+    blocks: &[A],
+};
+
+// The same, named by the wrong bucket.
+pub const STRAY: Made = Made {
+    large: false,
+    records: 1,
+    size: 0x60,
+    buckets: b"\0\0\0\0\x15\0\0\0\0\0\0\0",
     pool: b"",
     blocks: &[A],
 };
@@ -461,31 +471,8 @@ fn blocks_are_taken_and_given_back(rt: HostRuntime) -> Result<(), Fail> {
     Ok(())
 }
 
-// What a run over no file makes of it, and of a put: the head, then a record behind 131,071 buckets and a pool of 4,160 bytes.
-#[test]
-fn a_file_is_made_where_there_is_none(rt: HostRuntime) -> Result<(), Fail> {
-    let alloc = rt.alloc();
-    let input = joined(
-        alloc,
-        &[
-            b"\xC8\x10\0\0\0\x09\0\0\0\x0Euser:1001{\"name\":\"Ann\"}",
-            b"\xC8\x30\0\0\0\x09user:1001",
-        ],
-    )?;
-    let order = words(alloc, &["serve", "casket.tch"])?;
-    let end = ran_over(
-        alloc,
-        &order,
-        MemVolume::new(alloc)?,
-        alone(alloc, &input, 4096)?,
-    );
-    assert_eq!(rt; end.status, 0);
-    assert_eq!(rt;
-        end.wire.sent(0),
-        b"\0\0\0\0\0\x0E{\"name\":\"Ann\"}".as_slice()
-    );
-    let file = end.vol.bytes(0);
-    assert_eq!(rt; file.len(), 528_752);
+// The head of a file of one record, with 131,071 buckets and a pool of 4,160 bytes.
+fn default_head() -> [u8; 256] {
     let mut head = [0; 256];
     head[..13].copy_from_slice(b"ToKyO CaBiNeT");
     head[34..36].copy_from_slice(b"\x04\x0A");
@@ -493,39 +480,81 @@ fn a_file_is_made_where_there_is_none(rt: HostRuntime) -> Result<(), Fail> {
     head[48] = 1;
     head[56..59].copy_from_slice(b"\x70\x11\x08");
     head[64..67].copy_from_slice(b"\x40\x11\x08");
-    assert!(rt; file.starts_with(&head));
-    // 188,188 bytes behind the head is the entry of bucket 47,047
-    assert_eq!(rt; &file[188_444..188_448], b"\x14\x81\0\0".as_slice());
+    head
+}
+
+// The entry of bucket 47,047, 188,188 bytes behind the head.
+const ENTRY: &[u8] = b"\x14\x81\0\0";
+
+const ANN: &[u8] =
+    b"\xC8\x46\0\0\0\0\0\0\0\0\x0B\0\x09\x0Euser:1001{\"name\":\"Ann\"}\0\0\0\0\0\0\0\0\0\0\0";
+
+// Whether a file is one of that head and that record.
+fn has_ann(file: &[u8]) -> bool {
+    file.len() == 528_752
+        && file.starts_with(&default_head())
+        && &file[188_444..188_448] == ENTRY
+        && &file[528_704..] == ANN
+}
+
+// A run over a volume with these words and this input.
+fn served(
+    alloc: Global,
+    vol: MemVolume,
+    texts: &[&str],
+    input: &[&[u8]],
+) -> Result<Ended, AllocError> {
+    let order = words(alloc, texts)?;
+    let input = joined(alloc, input)?;
+    Ok(ran_over(alloc, &order, vol, alone(alloc, &input, 4096)?))
+}
+
+// What a run over no file makes of it, and of a put.
+#[test]
+fn a_file_is_made_where_there_is_none(rt: HostRuntime) -> Result<(), Fail> {
+    let alloc = rt.alloc();
+    let input: [&[u8]; 2] = [
+        b"\xC8\x10\0\0\0\x09\0\0\0\x0Euser:1001{\"name\":\"Ann\"}",
+        b"\xC8\x30\0\0\0\x09user:1001",
+    ];
+    let end = served(
+        alloc,
+        MemVolume::new(alloc)?,
+        &["serve", "casket.tch"],
+        &input,
+    )?;
+    assert_eq!(rt; end.status, 0);
     assert_eq!(rt;
-        &file[528_704..],
-        b"\xC8\x46\0\0\0\0\0\0\0\0\x0B\0\x09\x0Euser:1001{\"name\":\"Ann\"}\0\0\0\0\0\0\0\0\0\0\0".as_slice()
+        end.wire.sent(0),
+        b"\0\0\0\0\0\x0E{\"name\":\"Ann\"}".as_slice()
     );
+    assert!(rt; has_ann(end.vol.bytes(0)));
     assert!(rt; end.vol.bytes(1).is_empty());
     Ok(())
+}
+
+// Whether a volume is the file of one record.
+fn holds_one(alloc: Global, vol: MemVolume) -> Result<bool, AllocError> {
+    let asked = joined(alloc, &[GET_A, GET_B, b"\xC8\x80"])?;
+    let end = piped(alloc, "h.tch", vol, &asked)?;
+    let sent = b"\0\0\0\0\x011\x01\0\0\0\0\0\0\0\0\x01".as_slice();
+    Ok(end.status == 0 && end.wire.sent(0) == sent && end.vol.bytes(0) == one(alloc)?.as_slice())
 }
 
 // A limit that the second of two puts passes: the first is answered, and is what the file holds then.
 #[test]
 fn a_file_grows_to_its_limit(rt: HostRuntime) -> Result<(), Fail> {
     let alloc = rt.alloc();
-    let order = words(alloc, &["serve", "-lim", "352", "h.tch"])?;
-    let input = joined(alloc, &[PUT_A, PUT_B])?;
-    let end = ran_over(
+    let vol = volume_of(alloc, &created(alloc)?)?;
+    let end = served(
         alloc,
-        &order,
-        volume_of(alloc, &created(alloc)?)?,
-        alone(alloc, &input, 4096)?,
-    );
+        vol,
+        &["serve", "-lim", "352", "h.tch"],
+        &[PUT_A, PUT_B],
+    )?;
     assert_eq!(rt; end.status, 6);
     assert_eq!(rt; end.line.bytes(), b"tokyo: full\n".as_slice());
     assert_eq!(rt; end.wire.sent(0), b"\0".as_slice());
-    let asked = joined(alloc, &[GET_A, GET_B, b"\xC8\x80"])?;
-    let end = piped(alloc, "h.tch", end.vol, &asked)?;
-    assert_eq!(rt; end.status, 0);
-    assert_eq!(rt;
-        end.wire.sent(0),
-        b"\0\0\0\0\x011\x01\0\0\0\0\0\0\0\0\x01".as_slice()
-    );
-    assert_eq!(rt; end.vol.bytes(0), file_of(alloc, &ONE)?.as_slice());
+    assert!(rt; holds_one(alloc, end.vol)?);
     Ok(())
 }

@@ -131,29 +131,46 @@ fn is_undone(
     )
 }
 
+// A log that records that length for file 0, of so many bytes with those of its lengths that it has, and what stands behind them.
+fn log_with(alloc: Global, length: &[u8], size: usize, rest: &[u8]) -> Result<Vec<u8>, AllocError> {
+    let mut log = joined(alloc, &[MAGIC, length])?;
+    log.resize(size, 0)?;
+    log.extend_from_slice(rest)?;
+    Ok(log)
+}
+
+#[test]
+fn a_log_that_is_cut_short_is_undone(rt: HostRuntime) -> Result<(), Fail> {
+    let alloc = rt.alloc();
+    let one = one(alloc)?;
+    // the lengths of a transaction that changed nothing, cut short by a byte
+    let log = log_with(alloc, LENGTH, 151, b"")?;
+    assert!(rt; is_undone(alloc, &one, &log, b"\0\0\0\0\x011", &one)?);
+    Ok(())
+}
+
+#[test]
+fn a_file_that_grew_is_cut(rt: HostRuntime) -> Result<(), Fail> {
+    let alloc = rt.alloc();
+    let created = created(alloc)?;
+    // a file that grew by 16 bytes from 336, and an entry that isn't whole
+    let log = log_with(alloc, b"\x50\x01", 152, b"\0\0\0\0\0\0\0\0\0\0")?;
+    let grown = joined(alloc, &[&created, &[b'.'; 16]])?;
+    assert!(rt; is_undone(alloc, &grown, &log, b"\x01", &created)?);
+    Ok(())
+}
+
+// The old entry of a bucket, and the old count and size.
+const ENTRIES: &[u8] =
+    b"\0\0\0\0\0\x01\0\0\0\0\0\0\x04\0\0\0\0\0\0\0\x04\0\0\0\0\0\0\0\x30\0\0\0\0\0\0\0\x09\0\0\0\0\0\0\0\0\0\0\0\x50\x09\0\0\0";
+
 #[test]
 fn a_log_is_undone(rt: HostRuntime) -> Result<(), Fail> {
     let alloc = rt.alloc();
     let one = one(alloc)?;
     let created = created(alloc)?;
-    // the lengths of a transaction that changed nothing, cut short by a byte
-    let mut log = joined(alloc, &[MAGIC, LENGTH])?;
-    log.resize(151, 0)?;
-    assert!(rt; is_undone(alloc, &one, &log, b"\0\0\0\0\x011", &one)?);
-    // a file that grew by 16 bytes from 336, and an entry that isn't whole
-    let mut log = joined(alloc, &[MAGIC, b"\x50\x01"])?;
-    log.resize(152, 0)?;
-    log.extend_from_slice(b"\0\0\0\0\0\0\0\0\0\0")?;
-    let mut grown = joined(alloc, &[])?;
-    grown.extend_from_slice(&created)?;
-    grown.extend_from_slice(&[b'.'; 16])?;
-    assert!(rt; is_undone(alloc, &grown, &log, b"\x01", &created)?);
-    // a put of `a` that was stopped: the old entry of its bucket and the old count and size stand in the log
-    let mut log = joined(alloc, &[MAGIC, b"\x50\x01"])?;
-    log.resize(152, 0)?;
-    log.extend_from_slice(b"\0\0\0\0\0\x01\0\0\0\0\0\0\x04\0\0\0\0\0\0\0\x04\0\0\0")?;
-    log.extend_from_slice(b"\0\0\0\0\x30\0\0\0\0\0\0\0\x09\0\0\0")?;
-    log.extend_from_slice(b"\0\0\0\0\0\0\0\0\x50\x09\0\0\0")?;
+    // a put of `a` that was stopped
+    let log = log_with(alloc, b"\x50\x01", 152, ENTRIES)?;
     assert!(rt; is_undone(alloc, &one, &log, b"\x01", &created)?);
     Ok(())
 }

@@ -101,11 +101,16 @@ pub fn crowded(alloc: Global, count: u32) -> Result<MemWire, AllocError>
     Ok(wire)
 }
 
-// A run over these files.
-pub fn ran_over(alloc: Global, words: &Vec<String>, vol: MemVolume, mut wire: MemWire) -> Ended
+// A run over these files that prints to this sink.
+pub fn ran_to(
+    alloc: Global,
+    words: &Vec<String>,
+    vol: MemVolume,
+    mut wire: MemWire,
+    mut out: MemSink,
+) -> Ended
     requires { wire.opened ≡ false }
 {
-    let mut out = MemSink::new(alloc);
     let mut err = MemSink::new(alloc);
     let mut clock = StepClock::new(7, 0);
     let ran = run(alloc, words, vol, &mut wire, &mut out, &mut err, &mut clock);
@@ -116,6 +121,13 @@ pub fn ran_over(alloc: Global, words: &Vec<String>, vol: MemVolume, mut wire: Me
         out,
         line: err,
     }
+}
+
+// A run over these files.
+pub fn ran_over(alloc: Global, words: &Vec<String>, vol: MemVolume, wire: MemWire) -> Ended
+    requires { wire.opened ≡ false }
+{
+    ran_to(alloc, words, vol, wire, MemSink::new(alloc))
 }
 
 // What `pipe` makes of a volume with this input.
