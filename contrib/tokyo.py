@@ -25,6 +25,7 @@ under way it isn't known whether it was carried out. `ValueError` and `TypeError
 A connection belongs to one thread at a time. The server serves 64 connections at once, and closes one more as it opens."""
 import collections
 import collections.abc
+import itertools
 import os
 import selectors
 import socket
@@ -557,6 +558,102 @@ class Pipeline(Requests):
         return self._over._exchange(kept)
 
 
+# ---- a database as one stream of bytes
+
+# A dump begins with these bytes. Then stand the pairs, each as the size of its key, the size of its value, the key and the value, and at the end
+# FFFFFFFF and the number of pairs in eight bytes. Sizes have four bytes, the greatest first, as in the protocol.
+DUMP = b"tokyo dump 1\n"
+DUMP_END = b"\xff\xff\xff\xff"
+
+
+class NoDump(TokyoError):
+    """What was to be loaded is no dump, or breaks off."""
+
+
+def in_lists(items, measure, most=1000, most_bytes=1 << 20):
+    """Yields items in lists: so many at most, and so many bytes, or one larger item alone."""
+    found, length = [], 0
+    for item in items:
+        if found and (len(found) == most or length + measure(item) > most_bytes):
+            yield found
+            found, length = [], 0
+        found.append(item)
+        length += measure(item)
+    if found:
+        yield found
+
+
+def pairs_of(db, keys, of_tree):
+    """The pairs of those keys that are held. Where their reply would be too long they are asked for in halves."""
+    try:
+        return db.getlist(*keys) if of_tree else db.mget(*keys)
+    except Refused:
+        if len(keys) == 1:
+            raise
+    half = len(keys) // 2
+    return pairs_of(db, keys[:half], of_tree) + pairs_of(db, keys[half:], of_tree)
+
+
+def dump(db):
+    """Yields a whole database as bytes: keys and values of any bytes, of a tree all values of a key in their order. It takes the server's walk (see
+    `Tokyo.keys`). Each value is as it was when it was read, so the whole need never have stood so at one moment. Refused of a table, and where
+    the values of one key of a tree have more bytes than a reply may."""
+    kind = db.stat()["type"]
+    if kind == "table":
+        raise Refused("dump of a table")
+    yield DUMP
+    number = 0
+    # (a Tokyo Tyrant gives a key of a tree once for each of its values)
+    walk = (key for key, _ in itertools.groupby(db.keys(1000)))
+    for keys in in_lists(walk, len):
+        pairs = pairs_of(db, keys, "tree" in kind)
+        yield b"".join(size(key) + size(value) + key + value for key, value in pairs)
+        number += len(pairs)
+    yield DUMP_END + number.to_bytes(8, "big")
+
+
+def pairs_in(stream):
+    """Yields the pairs of a dump, read from a stream of bytes. Raises NoDump where it is none, or breaks off."""
+
+    def some(length):
+        found = stream.read(length)
+        if len(found) < length:
+            raise NoDump("the dump breaks off")
+        return found
+
+    if stream.read(len(DUMP)) != DUMP:
+        raise NoDump("this is no dump")
+    number = 0
+    while (head := some(4)) != DUMP_END:
+        key_size, value_size = int.from_bytes(head, "big"), int.from_bytes(some(4), "big")
+        if key_size > MOST_KEY or value_size > MOST_VALUE:
+            raise NoDump("the dump has a key or a value that is too long")
+        key = some(key_size)
+        yield key, some(value_size)
+        number += 1
+    if int.from_bytes(some(8), "big") != number:
+        raise NoDump("the dump says that it has another number of pairs")
+
+
+def load(db, stream, at_once=8):
+    """Puts the pairs of a dump, and answers their number. They go in lists (`putlist`), some of them at once, and each list is put whole or not at
+    all; a tree gets its pairs behind those that it has. Raises Refused or NoDump where the first of them comes; what was put before stays."""
+    many, number = db.pipeline(), 0
+
+    def send():
+        for answer in many.run():
+            if isinstance(answer, Refused):
+                raise answer
+
+    for pairs in in_lists(pairs_in(stream), lambda pair: len(pair[0]) + len(pair[1])):
+        many.putlist(pairs)
+        number += len(pairs)
+        if len(many) == at_once:
+            send()
+    send()
+    return number
+
+
 # ---- the command line
 
 USAGE = """tokyo.py [-host h] [-port p] COMMAND
@@ -567,9 +664,12 @@ putcat KEY VALUE    join it behind       list [PREFIX]     print the keys that b
 out KEY             take a key out       rnum, size, stat  print figures
 vanish [-y]         take all keys out; asks first, but with -y
 misc NAME ARG ...   ask by name, and print each text of the reply
+dump                print the whole database, for load: keys and values of any bytes
+load                put what a dump has, from the standard input, and print how many
 
 The host is 127.0.0.1 and the port 1978 where they aren't given.
 Status 0: done. 1: the server refused it, or vanish wasn't confirmed. 2: wrong words. 3: the connection failed.
+4: what dump prints wasn't taken, or what load reads is no whole dump.
 """
 
 
@@ -589,6 +689,17 @@ def asked_to_vanish(db, words):
     db.vanish()
 
 
+def print_dump(db):
+    """Prints a dump piece by piece. A reader that goes away before its end is a failure."""
+    for piece in dump(db):
+        try:
+            sys.stdout.buffer.write(piece)
+            sys.stdout.buffer.flush()
+        except OSError as error:
+            os.dup2(os.open(os.devnull, os.O_WRONLY), sys.stdout.fileno())
+            raise NoDump(f"the dump wasn't taken: {error.strerror}") from error
+
+
 # By name: how many words there may be, and what is printed.
 COMMANDS = {
     "put": (2, 2, lambda db, words: db.put(*words)),
@@ -603,6 +714,8 @@ COMMANDS = {
     "stat": (0, 0, lambda db, words: lines(f"{name}\t{value}".encode() for name, value in db.stat().items())),
     "vanish": (0, 1, asked_to_vanish),
     "misc": (1, None, lambda db, words: lines(db.misc(*words))),
+    "dump": (0, 0, lambda db, words: print_dump(db)),
+    "load": (0, 0, lambda db, words: b"%d\n" % load(db, sys.stdin.buffer)),
 }
 
 
@@ -654,6 +767,9 @@ def main(words):
     except Broken as error:
         print(f"tokyo.py: {error}", file=sys.stderr)
         return 3
+    except NoDump as error:
+        print(f"tokyo.py: {error}", file=sys.stderr)
+        return 4
     if found is not None:
         show(found)
     return 0
