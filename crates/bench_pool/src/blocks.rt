@@ -8,7 +8,7 @@ use hf_head::Head;
 use hf_pool::Pool;
 use std::alloc::{AllocError, Global};
 use tc_base::Blob;
-use tc_stores::OneFile;
+use tc_memstores::OneFile;
 
 const FIRST: usize = 336;
 

@@ -9,7 +9,7 @@ use anyhow::{Error, anyhow};
 use blocks::{file, pool};
 use std::alloc::Global;
 use std::env;
-use tc_stores::OneFile;
+use tc_memstores::OneFile;
 use turns::turn;
 
 // The number at a place among the words, 0 where there is none.

@@ -3,8 +3,8 @@ ghost use Rattle.std.specs.Prelude.{◌≡◌, true, OnOk};
 
 use hf_pool::Pool;
 use std::alloc::{AllocError, Global};
+use tc_memstores::OneFile;
 use tc_space::RecErr;
-use tc_stores::OneFile;
 
 // How many blocks are out at a time.
 const OUT: u64 = 1000;

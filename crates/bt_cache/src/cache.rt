@@ -1,7 +1,6 @@
 //! Pages by their ids.
-ghost use Rattle.std.specs.Prelude.{◌≡◌, ◌≤◌, ◌∷◌, ℕ, List, [], IfOk, OnOk, IsErrOf};
+ghost use Rattle.std.specs.Prelude.{◌≡◌, ◌≤◌, ◌∷◌, ℕ, List, [], IfOk, OnOk};
 ghost use Rattle.tc_base.specs.Maps.{Map};
-ghost use Rattle.tc_io.specs.Causes.{Rose};
 ghost use Rattle.tc_space.specs.Stores.{IsReady};
 ghost use Rattle.bt_page.specs.declared.page.Leaf.{Leaf as the_leaf};
 ghost use Rattle.bt_page.specs.declared.page.Node.{Node as the_node};
@@ -11,6 +10,7 @@ ghost use Rattle.bt_cache.specs.Effects.{CountsPage, Looks, unless};
 ghost use Rattle.bt_cache.specs.Held.{Beside, HasPage, IsThere, ids};
 ghost use Rattle.bt_cache.specs.Ids.{has, used, without};
 ghost use Rattle.bt_cache.specs.Shared.{IsAny, IsSomeLeaf, IsSomeNode, page_of};
+ghost use Rattle.tc_space.specs.Refusals.{Blames};
 
 use crate::reading::read_page;
 use crate::shared::{SharedPage, empty_leaf, empty_node};
@@ -66,7 +66,7 @@ impl<R: Records> Cache<R> {
         ensures looks { Looks R.S.Space R.file_of R.holds self.old.pages self.new.pages store.old store.new space.old space.new }
         ensures counts { CountsPage R.file_of R.region R.gets (has id (ids self.old.pages)) store.old store.new steps.old steps.new }
         ensures asked { OnOk result (R.gets store.new ≡ unless (has id (ids self.old.pages)) (R.gets store.old)) }
-        ensures cause { (IsErrOf result RecErr.Fault → Rose (R.S.faults space.old) (R.S.faults space.new)) × (IsErrOf result RecErr.Full → ⊥) }
+        ensures cause { Blames R.S.Space result space.old space.new }
     {
         let _count = self.pages.len();
         if self.pages.promote(&id) {
@@ -99,7 +99,7 @@ impl<R: Records> Cache<R> {
         ensures looks { Looks R.S.Space R.file_of R.holds self.old.pages self.new.pages store.old store.new space.old space.new }
         ensures counts { CountsPage R.file_of R.region R.gets (has id (ids self.old.pages)) store.old store.new steps.old steps.new }
         ensures asked { OnOk result (R.gets store.new ≡ unless (has id (ids self.old.pages)) (R.gets store.old)) }
-        ensures cause { (IsErrOf result RecErr.Fault → Rose (R.S.faults space.old) (R.S.faults space.new)) × (IsErrOf result RecErr.Full → ⊥) }
+        ensures cause { Blames R.S.Space result space.old space.new }
     {
         if let Err(e) = self.bring(store, space, id, steps) {
             return Err(e);
@@ -124,7 +124,7 @@ impl<R: Records> Cache<R> {
         ensures looks { Looks R.S.Space R.file_of R.holds self.old.pages self.new.pages store.old store.new space.old space.new }
         ensures counts { CountsPage R.file_of R.region R.gets (has id (ids self.old.pages)) store.old store.new steps.old steps.new }
         ensures asked { OnOk result (R.gets store.new ≡ unless (has id (ids self.old.pages)) (R.gets store.old)) }
-        ensures cause { (IsErrOf result RecErr.Fault → Rose (R.S.faults space.old) (R.S.faults space.new)) × (IsErrOf result RecErr.Full → ⊥) }
+        ensures cause { Blames R.S.Space result space.old space.new }
     {
         let _count = self.pages.len();
         if let Some(page) = self.pages.pop(&id) {
@@ -151,7 +151,7 @@ impl<R: Records> Cache<R> {
         ensures looks { Looks R.S.Space R.file_of R.holds self.old.pages self.new.pages store.old store.new space.old space.new }
         ensures counts { CountsPage R.file_of R.region R.gets (has id (ids self.old.pages)) store.old store.new steps.old steps.new }
         ensures asked { OnOk result (R.gets store.new ≡ unless (has id (ids self.old.pages)) (R.gets store.old)) }
-        ensures cause { (IsErrOf result RecErr.Fault → Rose (R.S.faults space.old) (R.S.faults space.new)) × (IsErrOf result RecErr.Full → ⊥) }
+        ensures cause { Blames R.S.Space result space.old space.new }
     {
         let page = match self.take(store, space, id, steps) {
             Ok(page) => page,
@@ -175,7 +175,7 @@ impl<R: Records> Cache<R> {
         ensures looks { Looks R.S.Space R.file_of R.holds self.old.pages self.new.pages store.old store.new space.old space.new }
         ensures counts { CountsPage R.file_of R.region R.gets (has id (ids self.old.pages)) store.old store.new steps.old steps.new }
         ensures asked { OnOk result (R.gets store.new ≡ unless (has id (ids self.old.pages)) (R.gets store.old)) }
-        ensures cause { (IsErrOf result RecErr.Fault → Rose (R.S.faults space.old) (R.S.faults space.new)) × (IsErrOf result RecErr.Full → ⊥) }
+        ensures cause { Blames R.S.Space result space.old space.new }
     {
         if let Err(e) = self.bring(store, space, id, steps) {
             return Err(e);

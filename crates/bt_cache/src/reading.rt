@@ -1,8 +1,8 @@
 //! The page of an id, read from a store.
-ghost use Rattle.std.specs.Prelude.{◌≡◌, ◌+◌, ◌-◌, ◌<◌, ◌≤◌, ◌^◌, min, IfOk, OnOk, IsErrOf};
-ghost use Rattle.tc_io.specs.Causes.{Rose};
+ghost use Rattle.std.specs.Prelude.{◌≡◌, ◌+◌, ◌-◌, ◌<◌, ◌≤◌, ◌^◌, min, IfOk, OnOk};
 ghost use Rattle.tc_base.specs.Maps.{Map};
 ghost use Rattle.tc_space.specs.Frames.{In, Keeps, Reads};
+ghost use Rattle.tc_space.specs.Refusals.{Blames};
 ghost use Rattle.tc_space.specs.Stores.{IsReady};
 ghost use Rattle.bt_rows.specs.declared.page.Page.{Page};
 ghost use Rattle.bt_rows.specs.Pages.{IsPage};
@@ -65,7 +65,7 @@ pub(crate) fn read_page<R: Records>(
     ensures keeps { Keeps R.S.Space space.old space.new }
     ensures asks { AsksOnce R.file_of R.region R.gets store.old store.new }
     ensures asked { OnOk result (R.gets store.new ≡ min (R.gets store.old + 1) (2 ^ 64 - 1)) }
-    ensures cause { (IsErrOf result RecErr.Fault → Rose (R.S.faults space.old) (R.S.faults space.new)) × (IsErrOf result RecErr.Full → ⊥) }
+    ensures cause { Blames R.S.Space result space.old space.new }
 {
     let mut key = Blob::new(alloc);
     page_key(id, &mut key)?;

@@ -2,9 +2,9 @@
 ghost use Rattle.std.specs.Prelude.{◌≡◌, ◌<◌, ◌≤◌, ◌^◌, OnOk, OnErr, IsErrOf};
 ghost use Rattle.tc_base.specs.Maps.{Map};
 ghost use Rattle.tc_base.specs.declared.kind.Mode.TheVariants.{Over};
-ghost use Rattle.tc_io.specs.Causes.{Rose};
 ghost use Rattle.tc_space.specs.Changes.{out_of, put_in};
 ghost use Rattle.tc_space.specs.Frames.{In, Refuses, Writes};
+ghost use Rattle.tc_space.specs.Refusals.{OnFault};
 ghost use Rattle.tc_space.specs.Stores.{FullBy, IsReady, Only};
 ghost use Rattle.bt_page.specs.Keys.{key_of};
 ghost use Rattle.bt_page.specs.Pages.{leaf_bytes, node_bytes};
@@ -51,7 +51,7 @@ impl<R: Records> Cache<R> {
         ensures refused { OnErr result (Refuses R.S.Space (Beside R.S.Space R.file_of R.holds) (self.old.pages, store.old) (self.new.pages, store.new) space.old space.new) }
         ensures full { IsErrOf result RecErr.Full → FullBy (In R.S.Space R.file_of R.holds) R.fills (put_in Over (key_of id) bytes.now) store.old space.old space.new }
         ensures stays { Stays R.S.Space R.file_of R.region R.gets self.old.pages self.new.pages store.old store.new space.old space.new }
-        ensures cause { IsErrOf result RecErr.Fault → Rose (R.S.faults space.old) (R.S.faults space.new) }
+        ensures cause { OnFault R.S.Space result space.old space.new }
     {
         self.key.clear();
         page_key(id, &mut self.key)?;
@@ -83,7 +83,7 @@ impl<R: Records> Cache<R> {
         ensures refused { OnErr result (Refuses R.S.Space (Beside R.S.Space R.file_of R.holds) (self.old.pages, store.old) (self.new.pages, store.new) space.old space.new) }
         ensures full { IsErrOf result RecErr.Full → FullBy (In R.S.Space R.file_of R.holds) R.fills (put_in Over (key_of id) (leaf_bytes leaf)) store.old space.old space.new }
         ensures stays { Stays R.S.Space R.file_of R.region R.gets self.old.pages self.new.pages store.old store.new space.old space.new }
-        ensures cause { IsErrOf result RecErr.Fault → Rose (R.S.faults space.old) (R.S.faults space.new) }
+        ensures cause { OnFault R.S.Space result space.old space.new }
     {
         let Ok(leaf) = Rc::new(self.alloc, leaf) else {
             return Err(RecErr::Memory);
@@ -113,7 +113,7 @@ impl<R: Records> Cache<R> {
         ensures refused { OnErr result (Refuses R.S.Space (Beside R.S.Space R.file_of R.holds) (self.old.pages, store.old) (self.new.pages, store.new) space.old space.new) }
         ensures full { IsErrOf result RecErr.Full → FullBy (In R.S.Space R.file_of R.holds) R.fills (put_in Over (key_of id) (node_bytes node)) store.old space.old space.new }
         ensures stays { Stays R.S.Space R.file_of R.region R.gets self.old.pages self.new.pages store.old store.new space.old space.new }
-        ensures cause { IsErrOf result RecErr.Fault → Rose (R.S.faults space.old) (R.S.faults space.new) }
+        ensures cause { OnFault R.S.Space result space.old space.new }
     {
         let Ok(node) = Rc::new(self.alloc, node) else {
             return Err(RecErr::Memory);
@@ -136,7 +136,7 @@ impl<R: Records> Cache<R> {
         ensures refused { OnErr result (Refuses R.S.Space (Beside R.S.Space R.file_of R.holds) (self.old.pages, store.old) (self.new.pages, store.new) space.old space.new) }
         ensures full { IsErrOf result RecErr.Full → FullBy (In R.S.Space R.file_of R.holds) R.fills (out_of (key_of id)) store.old space.old space.new }
         ensures stays { Stays R.S.Space R.file_of R.region R.gets self.old.pages self.new.pages store.old store.new space.old space.new }
-        ensures cause { IsErrOf result RecErr.Fault → Rose (R.S.faults space.old) (R.S.faults space.new) }
+        ensures cause { OnFault R.S.Space result space.old space.new }
     {
         self.key.clear();
         page_key(id, &mut self.key)?;

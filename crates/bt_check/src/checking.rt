@@ -3,8 +3,8 @@ ghost use Rattle.std.specs.Prelude.{◌≡◌, ◌↔◌, ◌≤◌, ◌+◌, �
 ghost use Rattle.std.specs.BTreeSet.{btree_set_len};
 ghost use Rattle.std.specs.FinMap.{get, len};
 ghost use Rattle.tc_base.specs.Maps.{Map as stored};
-ghost use Rattle.tc_io.specs.Causes.{Rose};
 ghost use Rattle.tc_space.specs.Frames.{In};
+ghost use Rattle.tc_space.specs.Refusals.{Blamed};
 ghost use Rattle.tc_space.specs.Stores.{IsReady};
 ghost use Rattle.bt_page.specs.Limits.{IsLimit};
 ghost use Rattle.bt_rows.specs.Heads.{head_of};
@@ -83,7 +83,7 @@ fn gather<R: Records>(
     ensures looks { Looks R.S.Space R.file_of R.holds R.region store.old store.new space.old space.new }
     ensures few { IfOk result (λ c. (m : stored) → In R.S.Space R.file_of R.holds store.old space.old m → btree_set_len c.ids ≤ len m) }
     ensures asks { (m : stored) → In R.S.Space R.file_of R.holds store.old space.old m → R.gets store.new ≤ R.gets store.old + len m }
-    ensures cause { IsErrOf result OpenErr.Fault → Rose (R.S.faults space.old) (R.S.faults space.new) }
+    ensures cause { Blamed R.S.Space (IsErrOf result OpenErr.Fault) space.old space.new }
 {
     let file = store.file();
     if !is_head(head) {
@@ -118,7 +118,7 @@ fn check_pages<R: Records>(
     ensures looks { Looks R.S.Space R.file_of R.holds R.region store.old store.new space.old space.new }
     ensures asks { (m : stored) → In R.S.Space R.file_of R.holds store.old space.old m → R.gets store.new ≤ R.gets store.old + 2 * len m }
     ensures nodes { IfOk result (λ w. (m : stored) → In R.S.Space R.file_of R.holds store.old space.old m → R.gets store.new + leaf_count w.bottom ≤ R.gets store.old + 2 * len m) }
-    ensures cause { IsErrOf result OpenErr.Fault → Rose (R.S.faults space.old) (R.S.faults space.new) }
+    ensures cause { Blamed R.S.Space (IsErrOf result OpenErr.Fault) space.old space.new }
 {
     let file = store.file();
     let Collected { ids, within } = match gather(alloc, store, space, head, index) {
@@ -156,7 +156,7 @@ pub fn measure_tree<R: Records, O: Order>(
     ensures broken { IfErr result (λ e. Breaks (before_by O.cmp) (head_of (R.region store.old)) index (R.file_of store.old) (In R.S.Space R.file_of R.holds store.old space.old) e) }
     ensures looks { Looks R.S.Space R.file_of R.holds R.region store.old store.new space.old space.new }
     ensures asks { (m : stored) → In R.S.Space R.file_of R.holds store.old space.old m → R.gets store.new ≤ R.gets store.old + 2 * len m }
-    ensures cause { IsErrOf result OpenErr.Fault → Rose (R.S.faults space.old) (R.S.faults space.new) }
+    ensures cause { Blamed R.S.Space (IsErrOf result OpenErr.Fault) space.old space.new }
 {
     let file = store.file();
     let head = TreeHead::read(&store.opaque());
@@ -186,7 +186,7 @@ pub fn check_tree<R: Records, O: Order>(
     ensures broken { IfErr result (λ e. Breaks (before_by O.cmp) (head_of (R.region store.old)) index (R.file_of store.old) (In R.S.Space R.file_of R.holds store.old space.old) e) }
     ensures looks { Looks R.S.Space R.file_of R.holds R.region store.old store.new space.old space.new }
     ensures asks { (m : stored) → In R.S.Space R.file_of R.holds store.old space.old m → R.gets store.new ≤ R.gets store.old + 2 * len m }
-    ensures cause { IsErrOf result OpenErr.Fault → Rose (R.S.faults space.old) (R.S.faults space.new) }
+    ensures cause { Blamed R.S.Space (IsErrOf result OpenErr.Fault) space.old space.new }
 {
     match measure_tree::<R, O>(alloc, store, space, index) {
         Ok(_) => Ok(()),

@@ -1,10 +1,10 @@
 //! The pages of a store, by its keys.
-ghost use Rattle.std.specs.Prelude.{◌≡◌, ◌≤◌, ◌+◌, ◌↔◌, Some, length, IfOk, IfSome, IsErrOf, IsTrue, MatchOption};
+ghost use Rattle.std.specs.Prelude.{◌≡◌, ◌≤◌, ◌+◌, ◌↔◌, Some, length, IfOk, IfSome, IsTrue, MatchOption};
 ghost use Rattle.std.specs.BTreeSet.{btree_set_len};
 ghost use Rattle.std.specs.FinMap.{get};
 ghost use Rattle.tc_base.specs.Maps.{Map as stored};
-ghost use Rattle.tc_io.specs.Causes.{Rose};
 ghost use Rattle.tc_space.specs.Frames.{In};
+ghost use Rattle.tc_space.specs.Refusals.{OnFault};
 ghost use Rattle.tc_space.specs.Stores.{IsReady};
 ghost use Rattle.bt_page.specs.Pages.{leaf_bytes, LeafFits};
 ghost use Rattle.bt_page.specs.Spelled.{Spells};
@@ -102,7 +102,7 @@ fn look<R: Records>(
     ensures found { IfOk result (λ f. (m : stored) → In R.S.Space R.file_of R.holds store.old space.old m → IsFound head.now index (get m) key.now f) }
     ensures looks { Looks R.S.Space R.file_of R.holds R.region store.old store.new space.old space.new }
     ensures asks { R.gets store.new ≤ R.gets store.old + 1 }
-    ensures cause { IsErrOf result RecErr.Fault → Rose (R.S.faults space.old) (R.S.faults space.new) }
+    ensures cause { OnFault R.S.Space result space.old space.new }
 {
     let Some(id) = given_id(head, key) else {
         return Ok(if index && key == b"column".as_slice() {
@@ -139,7 +139,7 @@ pub(crate) fn collect<R: Records>(
     ensures looks { Looks R.S.Space R.file_of R.holds R.region store.old store.new space.old space.new }
     ensures few { IfOk result (λ o. IfSome o (λ c. btree_set_len c.ids ≤ length keys.now)) }
     ensures asks { R.gets store.new ≤ R.gets store.old + length keys.now }
-    ensures cause { IsErrOf result RecErr.Fault → Rose (R.S.faults space.old) (R.S.faults space.new) }
+    ensures cause { OnFault R.S.Space result space.old space.new }
 {
     let mut collected = Collected {
         ids: BTreeSet::new(alloc),

@@ -1,9 +1,9 @@
 //! The leaves of the bottom row, from first to last.
-ghost use Rattle.std.specs.Prelude.{◌≡◌, ◌↔◌, ◌++◌, ◌<◌, ◌≤◌, ◌+◌, ◌∷◌, [], ℕ, List, IfOk, IfSome, IfNone, IsErrOf, IsTrue, length, option_to_list};
+ghost use Rattle.std.specs.Prelude.{◌≡◌, ◌↔◌, ◌++◌, ◌<◌, ◌≤◌, ◌+◌, ◌∷◌, [], ℕ, List, IfOk, IfSome, IfNone, IsTrue, length, option_to_list};
 ghost use Rattle.std.specs.FinMap.{get};
 ghost use Rattle.tc_base.specs.Maps.{Map as stored};
-ghost use Rattle.tc_io.specs.Causes.{Rose};
 ghost use Rattle.tc_space.specs.Frames.{In};
+ghost use Rattle.tc_space.specs.Refusals.{OnFault};
 ghost use Rattle.tc_space.specs.Stores.{IsReady};
 ghost use Rattle.std.specs.List.{flat_map};
 ghost use Rattle.bt_rows.specs.declared.head.TreeHead.{TreeHead as the_head};
@@ -109,7 +109,7 @@ fn leaf_in<R: Records>(
     ensures leaf { IfOk result (λ o. (m : stored) → In R.S.Space R.file_of R.holds store.old space.old m → (h : the_head) (pages : PageMap) → AreHeld h (get m) pages → held pages slot.now.id ≡ 1 → option_to_list o ≡ leaf_at slot.now (pages slot.now.id)) }
     ensures looks { Looks R.S.Space R.file_of R.holds R.region store.old store.new space.old space.new }
     ensures asks { R.gets store.new ≤ R.gets store.old + leaf_count (slot.now ∷ []) }
-    ensures cause { IsErrOf result RecErr.Fault → Rose (R.S.faults space.old) (R.S.faults space.new) }
+    ensures cause { OnFault R.S.Space result space.old space.new }
 {
     if slot.id >= PAGE_END {
         return Ok(None);
@@ -140,7 +140,7 @@ pub(crate) fn see_all<R: Records, O: Order>(
     ensures seen { IfOk result (λ s. (m : stored) → In R.S.Space R.file_of R.holds store.old space.old m → (h : the_head) (pages : PageMap) → AreHeld h (get m) pages → ((id : ℕ) → 0 < times id row.now → held pages id ≡ 1) → IsSeen (before_by O.cmp) head.now (leaves_among pages row.now) s.last s.ordered s.linked s.left) }
     ensures looks { Looks R.S.Space R.file_of R.holds R.region store.old store.new space.old space.new }
     ensures asks { R.gets store.new ≤ R.gets store.old + leaf_count row.now }
-    ensures cause { IsErrOf result RecErr.Fault → Rose (R.S.faults space.old) (R.S.faults space.new) }
+    ensures cause { OnFault R.S.Space result space.old space.new }
 {
     let mut seen = Seen {
         last: None,

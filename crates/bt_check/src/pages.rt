@@ -1,9 +1,9 @@
 //! Pages of a store.
-ghost use Rattle.std.specs.Prelude.{◌≡◌, ◌↔◌, ◌≤◌, ◌+◌, ℕ, IfOk, IfSome, IfNone, IsErrOf, IsTrue};
+ghost use Rattle.std.specs.Prelude.{◌≡◌, ◌↔◌, ◌≤◌, ◌+◌, ℕ, IfOk, IfSome, IfNone, IsTrue};
 ghost use Rattle.std.specs.FinMap.{get};
 ghost use Rattle.tc_base.specs.Maps.{Map as stored};
-ghost use Rattle.tc_io.specs.Causes.{Rose};
 ghost use Rattle.tc_space.specs.Frames.{In};
+ghost use Rattle.tc_space.specs.Refusals.{OnFault};
 ghost use Rattle.tc_space.specs.Stores.{IsReady};
 ghost use Rattle.bt_page.specs.Keys.{key_of};
 ghost use Rattle.bt_rows.specs.Pages.{IsGiven};
@@ -69,7 +69,7 @@ pub(crate) fn find<R: Records>(
     ensures value { IfOk result (λ found. (m : stored) → In R.S.Space R.file_of R.holds store.old space.old m → found ≡ get m key.now) }
     ensures looks { Looks R.S.Space R.file_of R.holds R.region store.old store.new space.old space.new }
     ensures asks { R.gets store.new ≤ R.gets store.old + 1 }
-    ensures cause { IsErrOf result RecErr.Fault → Rose (R.S.faults space.old) (R.S.faults space.new) }
+    ensures cause { OnFault R.S.Space result space.old space.new }
 {
     let mut steps: Steps<R> = Steps::new();
     match store.get(space, key, &mut steps) {
@@ -89,7 +89,7 @@ pub(crate) fn read_page<R: Records>(
     ensures read { IfOk result (λ p. (m : stored) → In R.S.Space R.file_of R.holds store.old space.old m → IsReadAs id (get m (key_of id)) p) }
     ensures looks { Looks R.S.Space R.file_of R.holds R.region store.old store.new space.old space.new }
     ensures asks { R.gets store.new ≤ R.gets store.old + 1 }
-    ensures cause { IsErrOf result RecErr.Fault → Rose (R.S.faults space.old) (R.S.faults space.new) }
+    ensures cause { OnFault R.S.Space result space.old space.new }
 {
     let mut key = Blob::new(alloc);
     page_key(id, &mut key)?;

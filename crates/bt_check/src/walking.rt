@@ -1,9 +1,9 @@
 //! The rows of a tree, from the root down.
-ghost use Rattle.std.specs.Prelude.{◌≡◌, ◌++◌, ◌+◌, ◌≤◌, ◌∷◌, ℕ, List, [], length, OnOk, IfOk, IfSome, IsErrOf, MatchOption};
+ghost use Rattle.std.specs.Prelude.{◌≡◌, ◌++◌, ◌+◌, ◌≤◌, ◌∷◌, ℕ, List, [], length, OnOk, IfOk, IfSome, MatchOption};
 ghost use Rattle.std.specs.FinMap.{get};
 ghost use Rattle.tc_base.specs.Maps.{Map as stored};
-ghost use Rattle.tc_io.specs.Causes.{Rose};
 ghost use Rattle.tc_space.specs.Frames.{In};
+ghost use Rattle.tc_space.specs.Refusals.{OnFault};
 ghost use Rattle.tc_space.specs.Stores.{IsReady};
 ghost use Rattle.std.specs.BTreeSet.{btree_set_len};
 ghost use Rattle.bt_rows.specs.Pages.{PageMap, AreHeld};
@@ -70,7 +70,7 @@ fn pass_one<R: Records>(
     ensures spread { IfOk result (λ leaf. (m : stored) → In R.S.Space R.file_of R.holds store.old space.old m → (h : the_head) (pages : PageMap) → AreHeld h (get m) pages → held pages slot.now.id ≡ 1 → IsSpread pages slot.now next.old next.new leaf) }
     ensures looks { Looks R.S.Space R.file_of R.holds R.region store.old store.new space.old space.new }
     ensures asks { R.gets store.new ≤ R.gets store.old + node_count (slot.now ∷ []) }
-    ensures cause { IsErrOf result RecErr.Fault → Rose (R.S.faults space.old) (R.S.faults space.new) }
+    ensures cause { OnFault R.S.Space result space.old space.new }
 {
     if slot.id < PAGE_END {
         return Ok(true);
@@ -102,7 +102,7 @@ fn pass<R: Records>(
     ensures looks { Looks R.S.Space R.file_of R.holds R.region store.old store.new space.old space.new }
     ensures asks { R.gets store.new ≤ R.gets store.old + btree_set_len ids.old }
     ensures nodes { IfOk result (λ o. IfSome o (λ leaf. R.gets store.new ≤ R.gets store.old + node_count row.now)) }
-    ensures cause { IsErrOf result RecErr.Fault → Rose (R.S.faults space.old) (R.S.faults space.new) }
+    ensures cause { OnFault R.S.Space result space.old space.new }
 {
     let mut leaf = false;
     for slot in row.as_slice() {
@@ -143,7 +143,7 @@ pub(crate) fn walk<R: Records>(
     ensures looks { Looks R.S.Space R.file_of R.holds R.region store.old store.new space.old space.new }
     ensures asks { R.gets store.new ≤ R.gets store.old + btree_set_len ids }
     ensures nodes { IfOk result (λ o. IfSome o (λ w. R.gets store.new + leaf_count w.bottom ≤ R.gets store.old + btree_set_len ids)) }
-    ensures cause { IsErrOf result RecErr.Fault → Rose (R.S.faults space.old) (R.S.faults space.new) }
+    ensures cause { OnFault R.S.Space result space.old space.new }
 {
     let mut row = root_row(alloc, root)?;
     let mut bottom = Seq::new(alloc);

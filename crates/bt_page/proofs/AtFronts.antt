@@ -4,17 +4,16 @@ use Rattle.std.specs.List.{AllByRecursion, flat_map}
 use Rattle.std.specs.Prelude.{true, false, ◌==◌}
 use Rattle.std.proofs.lemmas.Bool.{ne_eqb, eq-eqb}
 use Rattle.tc_base.specs.Reading.{both}
-use Rattle.tc_base.specs.Vnum.{vnum, vnum_front}
+use Rattle.tc_base.specs.Vnum.{vnum, vnum_front, two_front, three_front}
 use Rattle.tc_base.proofs.Vnums.{reads}
 use Rattle.tc_base.proofs.Exact.{IsExact}
 use Rattle.tc_base.proofs.ExactNumbers.{exact_vnum}
 use Rattle.tc_base.proofs.ExactPairs.{Is, exact_both}
 use Rattle.bt_page.specs.declared.page.Item.{Item}
-use Rattle.bt_page.specs.declared.page.Entry.{Entry}
+use Rattle.bt_page.specs.declared.page.NodeEntry.{NodeEntry}
 use Rattle.bt_page.specs.declared.page.Leaf.{Leaf}
 use Rattle.bt_page.specs.declared.page.Node.{Node}
 use Rattle.bt_page.specs.Spelled.{AtFront, NoneAt, Spells}
-use Rattle.bt_page.specs.Fronts.{two_front, three_front}
 use Rattle.bt_page.specs.Pages.{two, three, value_bytes, spelled_item, item_bytes, entry_bytes, leaf_bytes, node_bytes, SizeFits, ItemFits, EntryFits, LeafFits, NodeFits}
 use Rattle.bt_page.proofs.Runs.{IsPrefixFree, exact_free, headed, none_headed, same_parts}
 
@@ -91,11 +90,11 @@ value_free = record {
 
 -- ---- entries
 
-entry_is : (e : Entry) → EntryFits e → entry_bytes e ≡ two_bytes (e.child, length e.key) ++ e.key
+entry_is : (e : NodeEntry) → EntryFits e → entry_bytes e ≡ two_bytes (e.child, length e.key) ++ e.key
 unfolding entry_bytes
 entry_is e h = refl
 
-entry_head : (bytes : List ℕ) (e : Entry) (rest : List ℕ) → AtFront EntryFits entry_bytes bytes e rest → AtFront TwoFit two_bytes bytes (e.child, length e.key) (e.key ++ rest)
+entry_head : (bytes : List ℕ) (e : NodeEntry) (rest : List ℕ) → AtFront EntryFits entry_bytes bytes e rest → AtFront TwoFit two_bytes bytes (e.child, length e.key) (e.key ++ rest)
 entry_head = headed TwoFit two_bytes EntryFits entry_bytes (λ e. (e.child, length e.key)) (λ e. e.key) (λ e h. (h.child, h.key)) entry_is
 
 pub entry_found : (bytes rest behind key : List ℕ) (child n : ℕ) → AtFront TwoFit two_bytes bytes (child, n) rest → length key ≡ n → rest ≡ key ++ behind → AtFront EntryFits entry_bytes bytes (record { child = child; key = key }) behind
@@ -122,7 +121,7 @@ entry_free = record {
       (λ i. record { child = ap (λ (z : ℕ × ℕ). z.0) same.0 i; key = parts.0 i }, parts.1);
 }
 
-pub entry_some : (bytes rest : List ℕ) (e : Entry) → AtFront EntryFits entry_bytes bytes e rest → length rest < length bytes
+pub entry_some : (bytes rest : List ℕ) (e : NodeEntry) → AtFront EntryFits entry_bytes bytes e rest → length rest < length bytes
 entry_some bytes rest e f =
     let h = entry_head bytes e rest f in
     omega (arith, ap length h.is, length-append (two_bytes (e.child, length e.key)) (e.key ++ rest), length-append (vnum e.child) (vnum (length e.key)), vnum_some e.child f.fits.child, length-append e.key rest)
@@ -298,22 +297,22 @@ node_head bytes n f = record { fits = f.fits.heir; is = f.is ∙ heir_is n f.fit
 pub node_none : (bytes : List ℕ) → NoneAt OneFits vnum bytes → (n : Node) → Spells NodeFits node_bytes bytes n → ⊥
 node_none bytes none n f = none n.heir (flat_map entry_bytes n.entries) (node_head bytes n f)
 
-pub node_bad : (bytes rest : List ℕ) (heir : ℕ) → AtFront OneFits vnum bytes heir rest → ((entries : List Entry) → AllByRecursion EntryFits entries → rest ≡ flat_map entry_bytes entries → ⊥) → (n : Node) → Spells NodeFits node_bytes bytes n → ⊥
+pub node_bad : (bytes rest : List ℕ) (heir : ℕ) → AtFront OneFits vnum bytes heir rest → ((entries : List NodeEntry) → AllByRecursion EntryFits entries → rest ≡ flat_map entry_bytes entries → ⊥) → (n : Node) → Spells NodeFits node_bytes bytes n → ⊥
 node_bad bytes rest heir f none n g =
     let same = one_free.only bytes heir n.heir rest (flat_map entry_bytes n.entries) f (node_head bytes n g) in
     none n.entries g.fits.entries same.1
 
-pub node_found : (bytes rest : List ℕ) (heir : ℕ) (entries : List Entry) → AtFront OneFits vnum bytes heir rest → AllByRecursion EntryFits entries → rest ≡ flat_map entry_bytes entries → Spells NodeFits node_bytes bytes (record { heir = heir; entries = entries })
+pub node_found : (bytes rest : List ℕ) (heir : ℕ) (entries : List NodeEntry) → AtFront OneFits vnum bytes heir rest → AllByRecursion EntryFits entries → rest ≡ flat_map entry_bytes entries → Spells NodeFits node_bytes bytes (record { heir = heir; entries = entries })
 unfolding node_bytes
 node_found bytes rest heir entries f fits e = record { fits = record { heir = f.fits; entries = fits }; is = f.is ∙ ap (λ (l : List ℕ). vnum heir ++ l) e }
 
-entries_only : (xs ys : List Entry) → AllByRecursion EntryFits xs → AllByRecursion EntryFits ys → flat_map entry_bytes xs ≡ flat_map entry_bytes ys → xs ≡ ys
+entries_only : (xs ys : List NodeEntry) → AllByRecursion EntryFits xs → AllByRecursion EntryFits ys → flat_map entry_bytes xs ≡ flat_map entry_bytes ys → xs ≡ ys
 entries_only [] [] f g e = refl
 entries_only [] (y ∷ ys) f g e = absurd (omega (arith, ap length e, entry_some (flat_map entry_bytes (y ∷ ys)) (flat_map entry_bytes ys) y (record { fits = g.0; is = refl })))
 entries_only (x ∷ xs) [] f g e = absurd (omega (arith, ap length e, entry_some (flat_map entry_bytes (x ∷ xs)) (flat_map entry_bytes xs) x (record { fits = f.0; is = refl })))
 entries_only (x ∷ xs) (y ∷ ys) f g e =
     let same = entry_free.only (flat_map entry_bytes (x ∷ xs)) x y (flat_map entry_bytes xs) (flat_map entry_bytes ys) (record { fits = f.0; is = refl }) (record { fits = g.0; is = e }) in
-    ap (λ (z : Entry). z ∷ xs) same.0 ∙ ap (λ (l : List Entry). y ∷ l) (entries_only xs ys f.1 g.1 same.1)
+    ap (λ (z : NodeEntry). z ∷ xs) same.0 ∙ ap (λ (l : List NodeEntry). y ∷ l) (entries_only xs ys f.1 g.1 same.1)
 
 pub node_only : (bytes : List ℕ) (n m : Node) → Spells NodeFits node_bytes bytes n → Spells NodeFits node_bytes bytes m → m ≡ n
 node_only bytes n m f g =

@@ -1,7 +1,9 @@
 -- Values one behind the other, each of which no other one is a front of.
-use Rattle.std.proofs.Common.{◌≡◌, ℕ, List, [], ◌∷◌, ◌++◌, length, Ok, Err, refl, sym, ap, subst, ◌∙◌, append_assoc, arith}
+use Rattle.std.proofs.Common.{◌≡◌, ℕ, List, [], ◌∷◌, ◌++◌, length, Result, Ok, Err, refl, sym, ap, subst, ◌∙◌, append_assoc, arith}
 use Rattle.std.specs.List.{AllByRecursion, flat_map}
-use Rattle.std.specs.Result.{IsErrOf}
+use Rattle.std.specs.Prelude.{IfOk, OnErr}
+use Rattle.std.specs.Result.{IsErrAnd, IsErrOf}
+use Rattle.std.proofs.lemmas.Result.{err_from_is_err_and}
 use Rattle.std.proofs.lemmas.List.{append-nil}
 use Rattle.tc_base.specs.declared.fields.NotWhole.{NotWhole}
 use Rattle.tc_base.specs.Reading.{Front}
@@ -89,6 +91,20 @@ module _ {A : Type 0} (F : A → Type 0) (s : A → List ℕ) (T : List A → Li
       go [] is f r = not tail (subst (λ (l : List A). T l tail) (is ∙ append-nil done) t) r
       go (y ∷ more) is f r = none y (flat_map s more ++ tail) (record { fits = f.0; is = r ∙ append_assoc (s y) (flat_map s more) tail })
 
--- the same error of another result
-pub moved : {T U E : Type 0} (e b : E) → IsErrOf {T = T} (Err e) b → IsErrOf {T = U} (Err e) b
-moved e b h = let same : e ≡ b = cc in ap Err same
+-- an error that `?` hands on is named by the call that it came from
+pub err_handed : {A B E : Type 0} (r : Result A E) (w e : E) → IsErrAnd r (λ y. y ≡ w) → IsErrOf r e → IsErrOf {T = B} (Err w) e
+err_handed r w e is named =
+    let p = err_from_is_err_and r is in
+    let f : Err p.0 ≡ Err e = sym p.1 ∙ named in
+    let s : p.0 ≡ e = cc in
+    ap Err (sym p.2 ∙ s)
+
+-- what two facts of what came give together
+pub if_ok_both : {A E : Type 0} {P Q R : A → Type 0} (r : Result A E) → ((x : A) → P x → Q x → R x) → IfOk r P → IfOk r Q → IfOk r R
+if_ok_both (Ok x) f p q = f x p q
+if_ok_both (Err e) f p q = tt
+
+-- what is true whatever a call answers
+pub on_err_any : {A E P : Type 0} (r : Result A E) → P → OnErr r P
+on_err_any (Ok x) p = tt
+on_err_any (Err e) p = p

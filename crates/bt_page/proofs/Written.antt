@@ -4,7 +4,7 @@ use Rattle.std.specs.List.{AllByRecursion, flat_map}
 use Rattle.std.proofs.lemmas.List.{take_more, take_all, flat_map_more}
 use Rattle.tc_base.specs.Vnum.{vnum}
 use Rattle.bt_page.specs.declared.page.Item.{Item}
-use Rattle.bt_page.specs.declared.page.Entry.{Entry}
+use Rattle.bt_page.specs.declared.page.NodeEntry.{NodeEntry}
 use Rattle.bt_page.specs.declared.page.Leaf.{Leaf}
 use Rattle.bt_page.specs.declared.page.Node.{Node}
 use Rattle.bt_page.specs.Pages.{two, three, value_bytes, spelled_item, item_bytes, entry_bytes, leaf_bytes, node_bytes, HasValue, ItemFits, LeafFits}
@@ -30,7 +30,7 @@ two_written : (old a b c t : List ℕ) (m n : ℕ) → a ≡ old ++ vnum m → b
 two_written old a b c t m n e f g =
     g ∙ ap (λ (l : List ℕ). l ++ t) (f ∙ ap (λ (l : List ℕ). l ++ vnum n) e ∙ append_assoc old (vnum m) (vnum n)) ∙ append_assoc old (two m n) t
 
-pub entry_written : (old a b c k : List ℕ) (e : Entry) (n : ℕ) → a ≡ old ++ vnum e.child → b ≡ a ++ vnum n → c ≡ b ++ k → n ≡ length k → k ≡ e.key → c ≡ old ++ entry_bytes e
+pub entry_written : (old a b c k : List ℕ) (e : NodeEntry) (n : ℕ) → a ≡ old ++ vnum e.child → b ≡ a ++ vnum n → c ≡ b ++ k → n ≡ length k → k ≡ e.key → c ≡ old ++ entry_bytes e
 unfolding entry_bytes
 entry_written old a b c k e n f g h len is =
     two_written old a b c k e.child n f g h ∙ ap (λ (m : ℕ). old ++ (two e.child m ++ k)) len ∙ ap (λ (l : List ℕ). old ++ (two e.child (length l) ++ l)) is
@@ -39,10 +39,10 @@ pub leaf_written : (old a b c : List ℕ) (xs : List Item) (l : Leaf) → a ≡ 
 unfolding leaf_bytes
 leaf_written old a b c xs l f g h is = two_written old a b c (flat_map item_bytes xs) l.prev l.next f g h ∙ ap (λ (ys : List Item). old ++ (two l.prev l.next ++ flat_map item_bytes ys)) is
 
-pub node_written : (old a c : List ℕ) (xs : List Entry) (n : Node) → a ≡ old ++ vnum n.heir → c ≡ a ++ flat_map entry_bytes xs → xs ≡ n.entries → c ≡ old ++ node_bytes n
+pub node_written : (old a c : List ℕ) (xs : List NodeEntry) (n : Node) → a ≡ old ++ vnum n.heir → c ≡ a ++ flat_map entry_bytes xs → xs ≡ n.entries → c ≡ old ++ node_bytes n
 unfolding node_bytes
 node_written old a c xs n f g is =
-    g ∙ ap (λ (l : List ℕ). l ++ flat_map entry_bytes xs) f ∙ append_assoc old (vnum n.heir) (flat_map entry_bytes xs) ∙ ap (λ (ys : List Entry). old ++ (vnum n.heir ++ flat_map entry_bytes ys)) is
+    g ∙ ap (λ (l : List ℕ). l ++ flat_map entry_bytes xs) f ∙ append_assoc old (vnum n.heir) (flat_map entry_bytes xs) ∙ ap (λ (ys : List NodeEntry). old ++ (vnum n.heir ++ flat_map entry_bytes ys)) is
 
 held_parts : (key : List ℕ) (values : List (List ℕ)) (v : List ℕ) (more : List (List ℕ)) → 0 < length values → v ≡ get_or values 0 v → more ≡ drop 1 values → spelled_item key values ≡ three (length key) (length v) (length values - 1) ++ (key ++ (v ++ flat_map value_bytes more))
 held_parts key [] v more some is rest = absurd (omega (arith, some))

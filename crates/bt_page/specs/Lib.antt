@@ -1,4 +1,3 @@
-pub mod Fronts
 pub mod Keys
 pub mod Limits
 pub mod Pages

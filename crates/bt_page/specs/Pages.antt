@@ -3,7 +3,7 @@ use Rattle.std.specs.Prelude.{ℕ, ◌<◌, ◌≤◌, ◌^◌, List, [], ◌∷
 use Rattle.std.specs.List.{AllByRecursion, flat_map}
 use Rattle.tc_base.specs.Vnum.{vnum}
 use Rattle.bt_page.specs.declared.page.Item.{Item}
-use Rattle.bt_page.specs.declared.page.Entry.{Entry}
+use Rattle.bt_page.specs.declared.page.NodeEntry.{NodeEntry}
 use Rattle.bt_page.specs.declared.page.Leaf.{Leaf}
 use Rattle.bt_page.specs.declared.page.Node.{Node}
 
@@ -27,7 +27,7 @@ unfoldable pub item_bytes : Item → List ℕ
 item_bytes i = spelled_item i.key i.values
 
 -- child, size of the key, key
-unfoldable pub entry_bytes : Entry → List ℕ
+unfoldable pub entry_bytes : NodeEntry → List ℕ
 entry_bytes e = two e.child (length e.key) ++ e.key
 
 -- both links, then the items
@@ -53,7 +53,7 @@ pub record ItemFits (i : Item) : Type 0 where
   pub some : HasValue i
   pub count : length i.values ≤ 2 ^ 64
 
-pub record EntryFits (e : Entry) : Type 0 where
+pub record EntryFits (e : NodeEntry) : Type 0 where
   pub child : e.child < 2 ^ 64
   pub key : SizeFits e.key
 

@@ -9,6 +9,6 @@ mod writing;
 
 pub use keys::{page_id, page_key};
 pub use limits::{LEAF_MOST, LIMIT_LEAST, LIMIT_MOST};
-pub use page::{Entry, Item, Leaf, Node};
+pub use page::{Item, Leaf, Node, NodeEntry};
 pub use reading::{PageErr, read_leaf, read_node};
 pub use writing::{write_leaf, write_node};

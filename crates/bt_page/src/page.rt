@@ -20,7 +20,7 @@ pub struct Leaf {
 
 /// A page below a node, and the least key that may stand under it.
 #[derive(Debug, Drop)]
-pub struct Entry {
+pub struct NodeEntry {
     /// The id of that page.
     pub child: u64,
     pub key: Blob,
@@ -31,5 +31,5 @@ pub struct Entry {
 pub struct Node {
     /// The id of the page under which the keys below the first entry's stand.
     pub heir: u64,
-    pub entries: Seq<Entry>,
+    pub entries: Seq<NodeEntry>,
 }

@@ -1,18 +1,16 @@
 //! Pages read from bytes.
-ghost use Rattle.std.specs.Prelude.{◌≡◌, ℕ, ◌<◌, ◌++◌, List, length, IfOk, IsErrOf};
+ghost use Rattle.std.specs.Prelude.{◌≡◌, ◌<◌, ◌++◌, List, length, IfOk, IsErrOf};
 ghost use Rattle.std.specs.List.{AllByRecursion, flat_map};
-ghost use Rattle.tc_base.specs.Reading.{Gives};
-ghost use Rattle.bt_page.specs.Fronts.{two_front, three_front};
 ghost use Rattle.bt_page.specs.Pages.{value_bytes, item_bytes, entry_bytes, leaf_bytes, node_bytes, SizeFits, ItemFits, EntryFits, LeafFits, NodeFits};
-ghost use Rattle.bt_page.specs.Spelled.{AtFront, NoneAt, Spells};
-ghost use Rattle.bt_page.specs.declared.page.Entry.{Entry as the_entry};
+ghost use Rattle.bt_page.specs.Spelled.{AtFront, NoValuesAt, NoneAt, Spells, ValuesAt};
+ghost use Rattle.bt_page.specs.declared.page.NodeEntry.{NodeEntry as the_entry};
 ghost use Rattle.bt_page.specs.declared.page.Item.{Item as the_item};
 ghost use Rattle.bt_page.specs.declared.page.Leaf.{Leaf as the_leaf};
 ghost use Rattle.bt_page.specs.declared.page.Node.{Node as the_node};
 
-use crate::page::{Entry, Item, Leaf, Node};
+use crate::page::{Item, Leaf, Node, NodeEntry};
 use std::alloc::{AllocError, Global};
-use tc_base::{Blob, Blobs, NotWhole, Seq, read_number};
+use tc_base::{Blob, Blobs, Seq, read_number, read_three, read_two};
 use thiserror::Error;
 
 /// Why no page is read.
@@ -36,25 +34,6 @@ impl From<AllocError> for PageErr {
     }
 }
 
-#[tactic(auto, unfolding(crate::specs::Fronts::two_front))]
-fn two_of(bytes: &[u8]) -> Result<(u64, u64, &[u8]), NotWhole>
-    ensures { Gives (λ x. ((x.0, x.1), x.2.now)) result (two_front bytes.now) }
-{
-    let (a, rest) = read_number(bytes)?;
-    let (b, rest) = read_number(rest)?;
-    Ok((a, b, rest))
-}
-
-#[tactic(auto, unfolding(crate::specs::Fronts::three_front))]
-fn three_of(bytes: &[u8]) -> Result<(u64, u64, u64, &[u8]), NotWhole>
-    ensures { Gives (λ x. ((x.0, (x.1, x.2)), x.3.now)) result (three_front bytes.now) }
-{
-    let (a, rest) = read_number(bytes)?;
-    let (b, rest) = read_number(rest)?;
-    let (c, rest) = read_number(rest)?;
-    Ok((a, b, c, rest))
-}
-
 // A copy of so many bytes, and those behind them.
 fn text_of(alloc: Global, n: u64, bytes: &[u8]) -> Result<(Blob, &[u8]), PageErr>
     ensures long { IfOk result (λ x. length x.0 ≡ n) }
@@ -75,11 +54,7 @@ fn value_of(alloc: Global, bytes: &[u8]) -> Result<(Blob, &[u8]), PageErr>
     let Ok((size, rest)) = read_number(bytes) else {
         return Err(PageErr::Bad);
     };
-    let (value, rest) = match text_of(alloc, size, rest) {
-        Ok(read) => read,
-        Err(e) => return Err(e),
-    };
-    Ok((value, rest))
+    text_of(alloc, size, rest)
 }
 
 // So many values, behind those that are there, and the bytes behind them.
@@ -89,15 +64,12 @@ fn values_of<'a>(
     bytes: &'a [u8],
     values: &mut Blobs,
 ) -> Result<&'a [u8], PageErr>
-    ensures found { IfOk result (λ rest. (more : List (List ℕ)) × (values.new ≡ values.old ++ more) × (length more ≡ n) × AllByRecursion SizeFits more × (bytes.now ≡ flat_map value_bytes more ++ rest.now)) }
-    ensures bad { IsErrOf result PageErr.Bad → (more : List (List ℕ)) (rest : List ℕ) → length more ≡ n → AllByRecursion SizeFits more → bytes.now ≡ flat_map value_bytes more ++ rest → ⊥ }
+    ensures found { IfOk result (λ rest. ValuesAt n bytes.now values.old values.new rest.now) }
+    ensures bad { IsErrOf result PageErr.Bad → NoValuesAt n bytes.now }
 {
     let mut rest = bytes;
     for i in 0..n {
-        let (value, behind) = match value_of(alloc, rest) {
-            Ok(read) => read,
-            Err(e) => return Err(e),
-        };
+        let (value, behind) = value_of(alloc, rest)?;
         values.push(value)?;
         rest = behind;
     }
@@ -108,23 +80,14 @@ fn item_of(alloc: Global, bytes: &[u8]) -> Result<(Item, &[u8]), PageErr>
     ensures found { IfOk result (λ x. AtFront ItemFits item_bytes bytes.now x.0 x.1.now) }
     ensures bad { IsErrOf result PageErr.Bad → NoneAt ItemFits item_bytes bytes.now }
 {
-    let Ok((key_size, size, more, rest)) = three_of(bytes) else {
+    let Ok((key_size, size, more, rest)) = read_three(bytes) else {
         return Err(PageErr::Bad);
     };
-    let (key, rest) = match text_of(alloc, key_size, rest) {
-        Ok(read) => read,
-        Err(e) => return Err(e),
-    };
-    let (first, rest) = match text_of(alloc, size, rest) {
-        Ok(read) => read,
-        Err(e) => return Err(e),
-    };
+    let (key, rest) = text_of(alloc, key_size, rest)?;
+    let (first, rest) = text_of(alloc, size, rest)?;
     let mut values = Blobs::new(alloc);
     values.push(first)?;
-    let rest = match values_of(alloc, more, rest, &mut values) {
-        Ok(read) => read,
-        Err(e) => return Err(e),
-    };
+    let rest = values_of(alloc, more, rest, &mut values)?;
     Ok((Item { key, values }, rest))
 }
 
@@ -136,10 +99,7 @@ fn items_of(alloc: Global, bytes: &[u8]) -> Result<Seq<Item>, PageErr>
     let mut items = Seq::new(alloc);
     let mut rest = bytes;
     while !rest.is_empty() {
-        let (item, behind) = match item_of(alloc, rest) {
-            Ok(read) => read,
-            Err(e) => return Err(e),
-        };
+        let (item, behind) = item_of(alloc, rest)?;
         items.push(item)?;
         rest = behind;
     }
@@ -153,42 +113,33 @@ pub fn read_leaf(alloc: Global, bytes: &[u8]) -> Result<Leaf, PageErr>
     ensures bad { IsErrOf result PageErr.Bad → (l : the_leaf) → Spells LeafFits leaf_bytes bytes.now l → ⊥ }
     ensures only { IfOk result (λ l. (m : the_leaf) → Spells LeafFits leaf_bytes bytes.now m → m ≡ l) }
 {
-    let Ok((prev, next, rest)) = two_of(bytes) else {
+    let Ok((prev, next, rest)) = read_two(bytes) else {
         return Err(PageErr::Bad);
     };
-    let items = match items_of(alloc, rest) {
-        Ok(read) => read,
-        Err(e) => return Err(e),
-    };
+    let items = items_of(alloc, rest)?;
     Ok(Leaf { prev, next, items })
 }
 
-fn entry_of(alloc: Global, bytes: &[u8]) -> Result<(Entry, &[u8]), PageErr>
+fn entry_of(alloc: Global, bytes: &[u8]) -> Result<(NodeEntry, &[u8]), PageErr>
     ensures found { IfOk result (λ x. AtFront EntryFits entry_bytes bytes.now x.0 x.1.now) }
     ensures bad { IsErrOf result PageErr.Bad → NoneAt EntryFits entry_bytes bytes.now }
 {
-    let Ok((child, size, rest)) = two_of(bytes) else {
+    let Ok((child, size, rest)) = read_two(bytes) else {
         return Err(PageErr::Bad);
     };
-    let (key, rest) = match text_of(alloc, size, rest) {
-        Ok(read) => read,
-        Err(e) => return Err(e),
-    };
-    Ok((Entry { child, key }, rest))
+    let (key, rest) = text_of(alloc, size, rest)?;
+    Ok((NodeEntry { child, key }, rest))
 }
 
 // Entries up to the end of the bytes.
-fn entries_of(alloc: Global, bytes: &[u8]) -> Result<Seq<Entry>, PageErr>
+fn entries_of(alloc: Global, bytes: &[u8]) -> Result<Seq<NodeEntry>, PageErr>
     ensures found { IfOk result (λ entries. AllByRecursion EntryFits entries × (bytes.now ≡ flat_map entry_bytes entries)) }
     ensures bad { IsErrOf result PageErr.Bad → (entries : List the_entry) → AllByRecursion EntryFits entries → bytes.now ≡ flat_map entry_bytes entries → ⊥ }
 {
     let mut entries = Seq::new(alloc);
     let mut rest = bytes;
     while !rest.is_empty() {
-        let (entry, behind) = match entry_of(alloc, rest) {
-            Ok(read) => read,
-            Err(e) => return Err(e),
-        };
+        let (entry, behind) = entry_of(alloc, rest)?;
         entries.push(entry)?;
         rest = behind;
     }
@@ -205,9 +156,6 @@ pub fn read_node(alloc: Global, bytes: &[u8]) -> Result<Node, PageErr>
     let Ok((heir, rest)) = read_number(bytes) else {
         return Err(PageErr::Bad);
     };
-    let entries = match entries_of(alloc, rest) {
-        Ok(read) => read,
-        Err(e) => return Err(e),
-    };
+    let entries = entries_of(alloc, rest)?;
     Ok(Node { heir, entries })
 }

@@ -4,7 +4,7 @@ ghost use Rattle.std.specs.List.{AllByRecursion, flat_map};
 ghost use Rattle.bt_page.specs.Pages.{two, value_bytes, item_bytes, entry_bytes, leaf_bytes, node_bytes, SizeFits, HasValue, ItemFits, EntryFits, LeafFits, NodeFits};
 ghost use Rattle.bt_page.specs.Spelled.{IsPrefix};
 
-use crate::page::{Entry, Item, Leaf, Node};
+use crate::page::{Item, Leaf, Node, NodeEntry};
 use std::alloc::AllocError;
 use tc_base::{Blob, put_vnum};
 
@@ -79,7 +79,7 @@ pub fn write_leaf(leaf: &Leaf, into: &mut Blob) -> Result<(), AllocError>
     Ok(())
 }
 
-fn put_entries(entries: &[Entry], into: &mut Blob) -> Result<(), AllocError>
+fn put_entries(entries: &[NodeEntry], into: &mut Blob) -> Result<(), AllocError>
     ensures ok { OnOk result (into.new ≡ into.old ++ flat_map entry_bytes entries.now) }
     ensures fits { OnOk result (AllByRecursion EntryFits entries.now) }
     ensures err { OnErr result (IsPrefix into.old into.new) }
@@ -90,7 +90,7 @@ fn put_entries(entries: &[Entry], into: &mut Blob) -> Result<(), AllocError>
     Ok(())
 }
 
-fn put_entry(entry: &Entry, into: &mut Blob) -> Result<(), AllocError>
+fn put_entry(entry: &NodeEntry, into: &mut Blob) -> Result<(), AllocError>
     ensures ok { OnOk result (into.new ≡ into.old ++ entry_bytes entry.now) }
     ensures fits { OnOk result (EntryFits entry.now) }
     ensures err { OnErr result (IsPrefix into.old into.new) }

@@ -3,7 +3,7 @@ use Rattle.std.proofs.Common.{◌≡◌, ◌⊎◌, ⊎_elim, inl, inr, ℕ, zer
 use Rattle.std.specs.Prelude.{⊤}
 use Rattle.std.specs.List.{AllByRecursion}
 use Rattle.std.proofs.lemmas.List.{append-nil, map-append, length-map}
-use Rattle.bt_page.specs.declared.page.Entry.{Entry}
+use Rattle.bt_page.specs.declared.page.NodeEntry.{NodeEntry}
 use Rattle.bt_page.specs.declared.page.Item.{Item}
 use Rattle.bt_page.specs.declared.page.Node.{Node}
 use Rattle.bt_rows.specs.declared.page.LeafAt.{LeafAt}
@@ -50,7 +50,7 @@ slot_of p = record { bound = first p.lows; id = p.id }
 abbrev slots_of : List Place → List Slot
 slots_of ps = map slot_of ps
 
-entry_slots : (lows highs : List (List ℕ)) (es : List Entry) → slots_of (entry_places lows highs es) ≡ map entry_slot es
+entry_slots : (lows highs : List (List ℕ)) (es : List NodeEntry) → slots_of (entry_places lows highs es) ≡ map entry_slot es
 entry_slots lows highs [] = refl
 entry_slots lows highs (e ∷ es) = ap (λ (t : List Slot). entry_slot e ∷ t) (entry_slots lows highs es)
 
@@ -139,11 +139,11 @@ good_append F B (x ∷ xs) ys g h =
     let behind : slots_of xs ++ (slots_of ys ++ B) ≡ slots_of (xs ++ ys) ++ B = sym (ap (λ (t : List Slot). t ++ B) (map-append slot_of xs ys) ∙ append_assoc (slots_of xs) (slots_of ys) B) in
     (g.0, subst (λ (t : List Slot). AllByRecursion (HasBound t) x.highs) behind g.1, good_append (F ++ slot_of x ∷ []) B xs ys g.2 (subst (λ (t : List Slot). Good t ys B) (sym (append_assoc F (slot_of x ∷ []) (slots_of xs))) h))
 
-highs_next : (es : List Entry) (lows highs : List (List ℕ)) (B : List Slot) → AllByRecursion (HasBound B) highs → AllByRecursion (HasBound (slots_of (entry_places lows highs es) ++ B)) (next_key es ++ highs)
+highs_next : (es : List NodeEntry) (lows highs : List (List ℕ)) (B : List Slot) → AllByRecursion (HasBound B) highs → AllByRecursion (HasBound (slots_of (entry_places lows highs es) ++ B)) (next_key es ++ highs)
 highs_next [] lows highs B h = h
 highs_next (e ∷ es) lows highs B h = (inl refl, all_map (HasBound B) (HasBound (slots_of (entry_places lows highs (e ∷ es)) ++ B)) highs (λ x k. has_right (slots_of (entry_places lows highs (e ∷ es))) B x k) h)
 
-good_entries : (es : List Entry) (lows highs : List (List ℕ)) (F B : List Slot) → AllByRecursion (HasBound F) lows → AllByRecursion (HasBound B) highs → Good F (entry_places lows highs es) B
+good_entries : (es : List NodeEntry) (lows highs : List (List ℕ)) (F B : List Slot) → AllByRecursion (HasBound F) lows → AllByRecursion (HasBound B) highs → Good F (entry_places lows highs es) B
 good_entries [] lows highs F B h k = tt
 good_entries (e ∷ es) lows highs F B h k =
     let more : AllByRecursion (HasBound (F ++ entry_slot e ∷ [])) lows = all_map (HasBound F) (HasBound (F ++ entry_slot e ∷ [])) lows (λ x i. has_left F (entry_slot e ∷ []) x i) h in
@@ -216,11 +216,11 @@ module _ (before : Before) (order : IsOrder before) where
   bounds_up [] slots bottom d h = subst BoundsAscend (sym d) h
   bounds_up (L ∷ Ls) slots bottom d h = subst BoundsAscend d.0 (bounds_above L (bounds_up Ls (all_children L) bottom d.1 h))
 
-  keys_all : (k : List ℕ) (es : List Entry) → AllByRecursion (λ t. BoundUnder before (Some k) t.bound) (map entry_slot es) → AllByRecursion (λ f. before k f.key ≡ true) es
+  keys_all : (k : List ℕ) (es : List NodeEntry) → AllByRecursion (λ t. BoundUnder before (Some k) t.bound) (map entry_slot es) → AllByRecursion (λ f. before k f.key ≡ true) es
   keys_all k [] h = tt
   keys_all k (e ∷ es) h = (h.0, keys_all k es h.1)
 
-  keys_ascend : (es : List Entry) → BoundsAscend (map entry_slot es) → KeysAscend before es
+  keys_ascend : (es : List NodeEntry) → BoundsAscend (map entry_slot es) → KeysAscend before es
   keys_ascend [] h = tt
   keys_ascend (e ∷ es) h = (keys_all e.key es h.0, keys_ascend es h.1)
 
@@ -331,7 +331,7 @@ module _ (before : Before) (order : IsOrder before) where
   AdjRow [] = ⊤
   AdjRow (p ∷ ps) = Adj p.highs ps
 
-  adj_entries : (es : List Entry) (lows highs : List (List ℕ)) (rest : List Place) → Adj highs rest → Adj (next_key es ++ highs) (entry_places lows highs es ++ rest)
+  adj_entries : (es : List NodeEntry) (lows highs : List (List ℕ)) (rest : List Place) → Adj highs rest → Adj (next_key es ++ highs) (entry_places lows highs es ++ rest)
   adj_entries [] lows highs rest h = h
   adj_entries (e ∷ es) lows highs rest h = ((e.key, inl refl, refl), adj_entries es lows highs rest h)
 

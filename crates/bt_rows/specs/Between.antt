@@ -1,7 +1,7 @@
 -- That keys stay between those of the entries above them, said of each page.
 use Rattle.std.specs.Prelude.{◌≡◌, ◌↔◌, ℕ, zero, suc, List, [], ◌∷◌, ◌++◌, true, false, Option, Some, None, ⊤}
 use Rattle.std.specs.List.{AllByRecursion}
-use Rattle.bt_page.specs.declared.page.Entry.{Entry}
+use Rattle.bt_page.specs.declared.page.NodeEntry.{NodeEntry}
 use Rattle.bt_page.specs.declared.page.Node.{Node}
 use Rattle.bt_rows.specs.declared.page.Page.{Page}
 use Rattle.bt_rows.specs.declared.page.Page.TheVariants.{Leaf as leaf_page, Node as node_page}
@@ -21,11 +21,11 @@ abbrev pub root_place : ℕ → Place
 root_place root = record { id = root; lows = []; highs = [] }
 
 -- the key of the first entry, if there is one
-abbrev pub next_key : List Entry → List (List ℕ)
+abbrev pub next_key : List NodeEntry → List (List ℕ)
 next_key [] = []
 next_key (e ∷ es) = e.key ∷ []
 
-abbrev pub entry_places : List (List ℕ) → List (List ℕ) → List Entry → List Place
+abbrev pub entry_places : List (List ℕ) → List (List ℕ) → List NodeEntry → List Place
 entry_places lows highs [] = []
 entry_places lows highs (e ∷ es) = record { id = e.child; lows = e.key ∷ lows; highs = next_key es ++ highs } ∷ entry_places lows highs es
 
@@ -51,7 +51,7 @@ pub record IsBetween (before : Before) (p : Place) (key : List ℕ) : Type 0 whe
   pub low : AllByRecursion (λ l. before key l ≡ false) p.lows
   pub high : AllByRecursion (λ h. before key h ≡ true) p.highs
 
-abbrev pub KeysAscend : Before → List Entry → Type 0
+abbrev pub KeysAscend : Before → List NodeEntry → Type 0
 KeysAscend before [] = ⊤
 KeysAscend before (e ∷ es) = AllByRecursion (λ f. before e.key f.key ≡ true) es × KeysAscend before es
 

@@ -1,6 +1,6 @@
 -- The rows of a tree, from the root down.
 use Rattle.std.specs.Prelude.{ℕ, zero, suc, ◌+◌, ◌<◌, List, [], ◌∷◌, ◌++◌, Option, Some, None, map, length, is_some, ◌==◌, if◌then◌else◌}
-use Rattle.bt_page.specs.declared.page.Entry.{Entry}
+use Rattle.bt_page.specs.declared.page.NodeEntry.{NodeEntry}
 use Rattle.bt_page.specs.declared.page.Node.{Node}
 use Rattle.bt_rows.specs.declared.page.LeafAt.{LeafAt}
 use Rattle.bt_rows.specs.declared.page.Page.{Page}
@@ -13,7 +13,7 @@ abbrev pub root_slot : ℕ → Slot
 root_slot id = record { bound = None; id = id }
 
 -- a page under an entry has its key as bound
-abbrev pub entry_slot : Entry → Slot
+abbrev pub entry_slot : NodeEntry → Slot
 entry_slot e = record { bound = Some e.key; id = e.child }
 
 -- the pages below a node, in order; the heir has the bound of its node

@@ -4,7 +4,7 @@ use Rattle.std.specs.List.{All, flat_map}
 use Rattle.std.proofs.lemmas.List.{append-nil, drop_all}
 use Rattle.std.proofs.lemmas.List.Elements.{All-from_recursion, recursion_from_All, All-append, All-take, All-drop}
 use Rattle.tc_base.specs.Vnum.{vnum}
-use Rattle.bt_page.specs.declared.page.Entry.{Entry}
+use Rattle.bt_page.specs.declared.page.NodeEntry.{NodeEntry}
 use Rattle.bt_page.specs.declared.page.Node.{Node}
 use Rattle.bt_page.specs.Pages.{two, entry_bytes, node_bytes, SizeFits, EntryFits, NodeFits}
 use Rattle.bt_slots.specs.Changes.{shifted, MayShift, spliced}
@@ -15,7 +15,7 @@ pub node_row : (n : Node) (bytes : List ℕ) → bytes ≡ node_bytes n → byte
 unfolding node_bytes
 node_row n bytes is = is
 
-abbrev pub entry_of : ℕ → List ℕ → Entry
+abbrev pub entry_of : ℕ → List ℕ → NodeEntry
 entry_of child key = record { child = child; key = key }
 
 pub entries_end : (n : Node) (bytes : List ℕ) (i : ℕ) → bytes ≡ node_bytes n → i ≡ length n.entries → length bytes ≡ entries_before n i
@@ -36,7 +36,7 @@ module _ (n : Node) (i child : ℕ) (key old starts bytes new : List ℕ) (at : 
   row : old ≡ row_bytes entry_bytes (vnum n.heir) n.entries
   row = node_row n old h.is
 
-  abbrev pub mid : List Entry
+  abbrev pub mid : List NodeEntry
   mid = entry_of child key ∷ []
 
   more_is : new ≡ row_bytes entry_bytes (vnum n.heir) (with_those n.entries i i mid)

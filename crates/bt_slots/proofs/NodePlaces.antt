@@ -3,7 +3,7 @@ use Rattle.std.proofs.Common.{◌≡◌, ℕ, ◌+◌, ◌<◌, ◌≤◌, ◌^�
 use Rattle.std.specs.Prelude.{slice_get, Some}
 use Rattle.std.specs.List.{flat_map, slice_index_or}
 use Rattle.tc_base.specs.Vnum.{vnum}
-use Rattle.bt_page.specs.declared.page.Entry.{Entry}
+use Rattle.bt_page.specs.declared.page.NodeEntry.{NodeEntry}
 use Rattle.bt_page.specs.declared.page.Node.{Node}
 use Rattle.bt_page.specs.Pages.{EntryFits, NodeFits, two, entry_bytes, node_bytes}
 use Rattle.bt_page.specs.Spelled.{Spells}
@@ -42,22 +42,22 @@ module _ (bytes starts : List ℕ) (n : Node) (h : IsNodeIn bytes starts n) wher
   unfolding node_bytes
   entry_within i d lt = omega (arith, entry_start i d lt, ap length h.is, length-append (vnum n.heir) (flat_map entry_bytes n.entries), run_within entry_bytes n.entries i)
 
-  pub entry_behind : (i d : ℕ) (e : Entry) → i < length n.entries → slice_get n.entries i ≡ Some e → drop (slice_index_or starts i d) bytes ≡ entry_bytes e ++ flat_map entry_bytes (drop (i + 1) n.entries)
+  pub entry_behind : (i d : ℕ) (e : NodeEntry) → i < length n.entries → slice_get n.entries i ≡ Some e → drop (slice_index_or starts i d) bytes ≡ entry_bytes e ++ flat_map entry_bytes (drop (i + 1) n.entries)
   unfolding node_bytes
   entry_behind i d e lt is = ap (λ (k : ℕ). drop k bytes) (entry_start i d lt) ∙ ap (drop (length (vnum n.heir) + length (flat_map entry_bytes (take i n.entries)))) h.is ∙ behind_start entry_bytes (vnum n.heir) n.entries i e is
 
 -- the key and the page of an entry in front
-pub key_in : (i : ℕ) (n : Node) (e : Entry) (bytes rest : List ℕ) → NodeFits n → slice_get n.entries i ≡ Some e → bytes ≡ entry_bytes e ++ rest → (entry_in bytes).0.key ≡ e.key
-key_in i n e bytes rest fits is at = ap (λ (b : List ℕ). (entry_in b).0.key) at ∙ ap (λ (z : Entry × List ℕ). z.0.key) (entry_read e rest (held _ n.entries i e fits.entries is))
+pub key_in : (i : ℕ) (n : Node) (e : NodeEntry) (bytes rest : List ℕ) → NodeFits n → slice_get n.entries i ≡ Some e → bytes ≡ entry_bytes e ++ rest → (entry_in bytes).0.key ≡ e.key
+key_in i n e bytes rest fits is at = ap (λ (b : List ℕ). (entry_in b).0.key) at ∙ ap (λ (z : NodeEntry × List ℕ). z.0.key) (entry_read e rest (held _ n.entries i e fits.entries is))
 
 -- a number stands in front of it
-pub entry_front : (e : Entry) (bytes rest : List ℕ) → EntryFits e → bytes ≡ entry_bytes e ++ rest → (n : ℕ) × (left : List ℕ) × (n < 2 ^ 64) × (bytes ≡ vnum n ++ left)
+pub entry_front : (e : NodeEntry) (bytes rest : List ℕ) → EntryFits e → bytes ≡ entry_bytes e ++ rest → (n : ℕ) × (left : List ℕ) × (n < 2 ^ 64) × (bytes ≡ vnum n ++ left)
 unfolding entry_bytes
 entry_front e bytes rest fits at = (e.child, vnum (length e.key) ++ (e.key ++ rest), fits.child, at ∙ append_assoc (two e.child (length e.key)) e.key rest ∙ append_assoc (vnum e.child) (vnum (length e.key)) (e.key ++ rest))
 
-pub child_in : (i : ℕ) (n : Node) (e : Entry) (bytes rest : List ℕ) → NodeFits n → slice_get n.entries i ≡ Some e → bytes ≡ entry_bytes e ++ rest → (number_in bytes).0 ≡ e.child
+pub child_in : (i : ℕ) (n : Node) (e : NodeEntry) (bytes rest : List ℕ) → NodeFits n → slice_get n.entries i ≡ Some e → bytes ≡ entry_bytes e ++ rest → (number_in bytes).0 ≡ e.child
 unfolding entry_in
-child_in i n e bytes rest fits is at = ap (λ (b : List ℕ). (entry_in b).0.child) at ∙ ap (λ (z : Entry × List ℕ). z.0.child) (entry_read e rest (held _ n.entries i e fits.entries is))
+child_in i n e bytes rest fits is at = ap (λ (b : List ℕ). (entry_in b).0.child) at ∙ ap (λ (z : NodeEntry × List ℕ). z.0.child) (entry_read e rest (held _ n.entries i e fits.entries is))
 
 -- what the bytes of a node were read as is it
 pub node_again : (bytes : List ℕ) (n m : Node) → NodeFits n → bytes ≡ node_bytes n → Spells NodeFits node_bytes bytes m → m ≡ n

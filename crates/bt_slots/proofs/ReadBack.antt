@@ -4,8 +4,8 @@ use Rattle.std.specs.List.{AllByRecursion, flat_map}
 use Rattle.std.proofs.lemmas.List.{take_at, drop_at}
 use Rattle.tc_base.specs.Vnum.{vnum}
 use Rattle.tc_base.proofs.ExactNumbers.{exact_vnum}
-use Rattle.tc_base.proofs.Vnums.{groups-low}
-use Rattle.bt_page.specs.declared.page.Entry.{Entry}
+use Rattle.tc_base.proofs.Vnums.{one_spelled}
+use Rattle.bt_page.specs.declared.page.NodeEntry.{NodeEntry}
 use Rattle.bt_page.specs.declared.page.Item.{Item}
 use Rattle.bt_page.specs.declared.page.Leaf.{Leaf}
 use Rattle.bt_page.specs.declared.page.Node.{Node}
@@ -115,7 +115,7 @@ leaf_kept bytes starts l h = subst (IsLeafIn bytes starts) (sym (leaf_made bytes
 
 -- ---- entries
 
-pub entry_read : (e : Entry) (rest : List ℕ) → EntryFits e → entry_in (entry_bytes e ++ rest) ≡ (e, rest)
+pub entry_read : (e : NodeEntry) (rest : List ℕ) → EntryFits e → entry_in (entry_bytes e ++ rest) ≡ (e, rest)
 unfolding entry_in entry_bytes
 entry_read e rest h =
     let bytes : List ℕ = entry_bytes e ++ rest in
@@ -123,11 +123,11 @@ entry_read e rest h =
     let c = cut_at (second_in bytes) e.key rest t.1 in
     λ i. (record { child = t.0 i; key = (c i).0 }, (c i).1)
 
-pub entries_read : (es : List Entry) → AllByRecursion EntryFits es → entries_in (length es) (flat_map entry_bytes es) ≡ es
+pub entries_read : (es : List NodeEntry) → AllByRecursion EntryFits es → entries_in (length es) (flat_map entry_bytes es) ≡ es
 unfolding entries_in
 entries_read [] h = refl
 entries_read (x ∷ xs) h =
-    ap (λ (z : Entry × List ℕ). z.0 ∷ entries_in (length xs) z.1) (entry_read x (flat_map entry_bytes xs) h.0) ∙ ap (λ (l : List Entry). x ∷ l) (entries_read xs h.1)
+    ap (λ (z : NodeEntry × List ℕ). z.0 ∷ entries_in (length xs) z.1) (entry_read x (flat_map entry_bytes xs) h.0) ∙ ap (λ (l : List NodeEntry). x ∷ l) (entries_read xs h.1)
 
 pub node_read : (n : Node) → NodeFits n → node_in (length n.entries) (node_bytes n) ≡ n
 unfolding node_in node_bytes
@@ -146,12 +146,8 @@ node_kept bytes starts n h = subst (IsNodeIn bytes starts) (sym (node_made bytes
 
 -- ---- numbers of one byte
 
-pub one_byte : (n : ℕ) → n < 128 → vnum n ≡ n ∷ []
-unfolding vnum
-one_byte n h = groups-low 9 n h
-
 pub small_read : (n : ℕ) (rest : List ℕ) → n < 128 → number_in (n ∷ rest) ≡ (n, rest)
-small_read n rest h = ap (λ (l : List ℕ). number_in (l ++ rest)) (sym (one_byte n h)) ∙ number_read n rest (omega (arith, h))
+small_read n rest h = ap (λ (l : List ℕ). number_in (l ++ rest)) (sym (one_spelled n h)) ∙ number_read n rest (omega (arith, h))
 
 -- three of them
 pub small_three : (k f m : ℕ) (bytes rest : List ℕ) → bytes ≡ k ∷ f ∷ m ∷ rest → k < 128 → f < 128 → m < 128 → ((number_in bytes).0 ≡ k) × ((second_in bytes).0 ≡ f) × (third_in bytes ≡ (m, rest))

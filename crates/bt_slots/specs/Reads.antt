@@ -2,7 +2,7 @@
 use Rattle.std.specs.Prelude.{ℕ, zero, suc, List, [], ◌∷◌, take, drop, Ok, Err}
 use Rattle.tc_base.specs.Reading.{Front}
 use Rattle.tc_base.specs.Vnum.{vnum_front}
-use Rattle.bt_page.specs.declared.page.Entry.{Entry}
+use Rattle.bt_page.specs.declared.page.NodeEntry.{NodeEntry}
 use Rattle.bt_page.specs.declared.page.Item.{Item}
 use Rattle.bt_page.specs.declared.page.Leaf.{Leaf}
 use Rattle.bt_page.specs.declared.page.Node.{Node}
@@ -52,10 +52,10 @@ items_in (suc n) bytes = (item_in bytes).0 ∷ items_in n (item_in bytes).1
 unfoldable pub leaf_in : ℕ → List ℕ → Leaf
 leaf_in n bytes = record { prev = (number_in bytes).0; next = (second_in bytes).0; items = items_in n (second_in bytes).1 }
 
-unfoldable pub entry_in : List ℕ → Entry × List ℕ
+unfoldable pub entry_in : List ℕ → NodeEntry × List ℕ
 entry_in bytes = (record { child = (number_in bytes).0; key = (cut (second_in bytes)).0 }, (cut (second_in bytes)).1)
 
-unfoldable pub entries_in : ℕ → List ℕ → List Entry
+unfoldable pub entries_in : ℕ → List ℕ → List NodeEntry
 entries_in zero bytes = []
 entries_in (suc n) bytes = (entry_in bytes).0 ∷ entries_in n (entry_in bytes).1
 

@@ -1,98 +1,18 @@
 //! What stands at the front of any bytes.
-ghost use Rattle.std.specs.Prelude.{◌≡◌, ℕ, ◌-◌, ◌<◌, ◌≤◌, ◌^◌, ◌++◌, ◌∷◌, List, length, drop, take, IfSome};
+ghost use Rattle.std.specs.Prelude.{◌≡◌, ℕ, ◌-◌, ◌<◌, ◌≤◌, ◌^◌, ◌++◌, ◌∷◌, List, length, drop, take};
 ghost use Rattle.tc_base.specs.Vnum.{tops, vnum};
 ghost use Rattle.bt_slots.specs.Reads.{item_in, entry_in, number_in, second_in, third_in};
 
 use tc_base::read_number;
 
-// A number of one byte at the front, and what is behind it.
-fn of_one<'a>(last: u8, bytes: &'a [u8], rest: &'a [u8]) -> (u64, &'a [u8])
-    requires are { bytes.now ≡ last ∷ rest.now }
-    requires last { last < 128 }
-    ensures small { result.0 < 2 ^ 64 }
-    ensures is { bytes.now ≡ vnum result.0 ++ result.1.now }
-{
-    (u64::from(last), rest)
-}
-
-// A number of two bytes at the front, and what is behind it.
-fn of_two<'a>(first: u8, last: u8, bytes: &'a [u8], rest: &'a [u8]) -> (u64, &'a [u8])
-    requires are { bytes.now ≡ first ∷ last ∷ rest.now }
-    requires first { 128 ≤ first }
-    requires last { (0 < last) × (last < 128) }
-    ensures small { result.0 < 2 ^ 64 }
-    ensures is { bytes.now ≡ vnum result.0 ++ result.1.now }
-{
-    (u64::from(255 - first) + 128 * u64::from(last), rest)
-}
-
-// A number of three bytes at the front, and what is behind it.
-fn of_three<'a>(first: u8, second: u8, last: u8, bytes: &'a [u8], rest: &'a [u8]) -> (u64, &'a [u8])
-    requires are { bytes.now ≡ first ∷ second ∷ last ∷ rest.now }
-    requires tops { (128 ≤ first) × (128 ≤ second) }
-    requires last { (0 < last) × (last < 128) }
-    ensures small { result.0 < 2 ^ 64 }
-    ensures is { bytes.now ≡ vnum result.0 ++ result.1.now }
-{
-    let high = u64::from(255 - second) + 128 * u64::from(last);
-    (u64::from(255 - first) + 128 * high, rest)
-}
-
-/// The number at the front, and what is behind it, where it has at most three bytes; nothing at others.
-pub(crate) fn short_number(bytes: &[u8]) -> Option<(u64, &[u8])>
-    ensures small { IfSome result (λ x. x.0 < 2 ^ 64) }
-    ensures is { IfSome result (λ x. bytes.now ≡ vnum x.0 ++ x.1.now) }
-{
-    if let [last, rest @ ..] = bytes {
-        if *last < 128 {
-            return Some(of_one(*last, bytes, rest));
-        }
-    }
-    if let [first, last, rest @ ..] = bytes {
-        if *first >= 128 && *last > 0 && *last < 128 {
-            return Some(of_two(*first, *last, bytes, rest));
-        }
-    }
-    if let [first, second, last, rest @ ..] = bytes {
-        if *first >= 128 && *second >= 128 && *last > 0 && *last < 128 {
-            return Some(of_three(*first, *second, *last, bytes, rest));
-        }
-    }
-    None
-}
-
-// A number of whatever length.
-fn any_number(bytes: &[u8]) -> (u64, &[u8])
+/// The number at the front, and what is behind it; 0 and no bytes where none stands there.
+pub(crate) fn number(bytes: &[u8]) -> (u64, &[u8])
     ensures { (result.0, result.1.now) ≡ number_in bytes.now }
 {
     match read_number(bytes) {
         Ok((n, rest)) => (n, rest),
         Err(_) => (0, &bytes[..0]),
     }
-}
-
-// A number of more bytes than one.
-#[inline(never)]
-fn long_number(bytes: &[u8]) -> (u64, &[u8])
-    ensures { (result.0, result.1.now) ≡ number_in bytes.now }
-{
-    match short_number(bytes) {
-        Some((n, rest)) => (n, rest),
-        None => any_number(bytes),
-    }
-}
-
-/// The number at the front, and what is behind it; 0 and no bytes where none stands there.
-pub(crate) fn number(bytes: &[u8]) -> (u64, &[u8])
-    ensures { (result.0, result.1.now) ≡ number_in bytes.now }
-{
-    // most have one byte
-    if let [last, rest @ ..] = bytes {
-        if *last < 128 {
-            return of_one(*last, bytes, rest);
-        }
-    }
-    long_number(bytes)
 }
 
 /// So many bytes at the front, all where there are no more, and those behind them.

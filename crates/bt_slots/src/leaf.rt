@@ -41,10 +41,8 @@ impl SlottedLeaf {
         ensures found { IfOk result (λ l. Spells LeafFits leaf_bytes bytes l) }
         ensures bad { IsErrOf result PageErr.Bad → (l : the_leaf) → Spells LeafFits leaf_bytes bytes l → ⊥ }
     {
-        match item_starts(alloc, bytes.as_slice()) {
-            Ok(starts) => Ok(SlottedLeaf { bytes, starts }),
-            Err(e) => Err(e),
-        }
+        let starts = item_starts(alloc, bytes.as_slice())?;
+        Ok(SlottedLeaf { bytes, starts })
     }
 
     /// A leaf, each of whose items has a value, as its bytes.

@@ -3,7 +3,7 @@ ghost use Rattle.std.specs.Prelude.{◌≡◌, ◌+◌, ◌<◌, ◌++◌, Some,
 ghost use Rattle.std.specs.List.{flat_map};
 ghost use Rattle.bt_page.specs.Pages.{NodeFits, entry_bytes, node_bytes};
 ghost use Rattle.bt_page.specs.Spelled.{Spells};
-ghost use Rattle.bt_page.specs.declared.page.Entry.{Entry as the_entry};
+ghost use Rattle.bt_page.specs.declared.page.NodeEntry.{NodeEntry as the_entry};
 ghost use Rattle.bt_page.specs.declared.page.Node.{Node as the_node};
 ghost use Rattle.bt_slots.specs.Slots.{OfEntry};
 
@@ -40,10 +40,8 @@ impl SlottedNode {
         ensures found { IfOk result (λ n. Spells NodeFits node_bytes bytes n) }
         ensures bad { IsErrOf result PageErr.Bad → (n : the_node) → Spells NodeFits node_bytes bytes n → ⊥ }
     {
-        match entry_starts(alloc, bytes.as_slice()) {
-            Ok(starts) => Ok(SlottedNode { bytes, starts }),
-            Err(e) => Err(e),
-        }
+        let starts = entry_starts(alloc, bytes.as_slice())?;
+        Ok(SlottedNode { bytes, starts })
     }
 
     /// A node as its bytes.

@@ -1,9 +1,9 @@
 //! An item where it lies.
-ghost use Rattle.std.specs.Prelude.{◌≡◌, ◌++◌, ◌<◌, length, drop, OnOk};
+ghost use Rattle.std.specs.Prelude.{◌≡◌, ◌++◌, OnOk};
 ghost use Rattle.bt_page.specs.Pages.{item_bytes, ItemFits};
 ghost use Rattle.bt_page.specs.declared.page.Item.{Item as the_item};
 ghost use Rattle.bt_slots.specs.Reads.{values_in};
-ghost use Rattle.bt_slots.specs.Slots.{ArePartsOf, parts_bytes};
+ghost use Rattle.bt_slots.specs.Slots.{ArePartsOf, PartsBehindFirst, parts_bytes};
 
 use crate::fronts::{cut, item_head, number};
 use std::alloc::{AllocError, Global};
@@ -48,7 +48,7 @@ pub(crate) fn put_parts(parts: Parts<'_>, into: &mut Blob) -> Result<(), AllocEr
 
 /// The item without its first value, where it has further ones.
 pub(crate) fn without_first(parts: Parts<'_>) -> Parts<'_>
-    ensures { (i : the_item) → ItemFits i → 1 < length i.values → ArePartsOf i parts.entry.key.now parts.entry.first.now parts.entry.more parts.entry.further.now → ArePartsOf (record { key = i.key; values = drop 1 i.values }) result.key.now result.first.now result.more result.further.now }
+    ensures { PartsBehindFirst parts.entry.key.now parts.entry.first.now parts.entry.more parts.entry.further.now result.key.now result.first.now result.more result.further.now }
 {
     let (size, rest) = number(parts.further);
     let (first, further) = cut(size, rest);

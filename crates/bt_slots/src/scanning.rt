@@ -1,40 +1,19 @@
 //! Where the items or entries of a page begin.
 ghost use Rattle.std.specs.Prelude.{◌≡◌, ℕ, ◌-◌, ◌≤◌, ◌<◌, ◌^◌, ◌++◌, ◌∷◌, List, [], length, take, drop, IfOk, IsErrOf, OnErr};
 ghost use Rattle.std.specs.List.{AllByRecursion, flat_map};
-ghost use Rattle.tc_base.specs.Reading.{Gives};
 ghost use Rattle.tc_base.specs.Vnum.{vnum};
-ghost use Rattle.bt_page.specs.Fronts.{two_front, three_front};
 ghost use Rattle.bt_page.specs.Pages.{value_bytes, item_bytes, entry_bytes, leaf_bytes, node_bytes, SizeFits, ItemFits, EntryFits, LeafFits, NodeFits};
 ghost use Rattle.bt_page.specs.Spelled.{AtFront, NoneAt, Spells};
-ghost use Rattle.bt_page.specs.declared.page.Entry.{Entry as the_entry};
+ghost use Rattle.bt_page.specs.declared.page.NodeEntry.{NodeEntry as the_entry};
 ghost use Rattle.bt_page.specs.declared.page.Item.{Item as the_item};
 ghost use Rattle.bt_page.specs.declared.page.Leaf.{Leaf as the_leaf};
 ghost use Rattle.bt_page.specs.declared.page.Node.{Node as the_node};
-ghost use Rattle.bt_slots.specs.Slots.{IsLeafIn, IsNodeIn, starts_from};
+ghost use Rattle.bt_slots.specs.Slots.{AreStarts, IsLeafIn, IsNodeIn};
 
-use crate::fronts::{cut, short_number};
+use crate::fronts::cut;
 use bt_page::PageErr;
 use std::alloc::{AllocError, Global};
-use tc_base::{NotWhole, read_number};
-
-#[tactic(auto, unfolding(bt_page::specs::Fronts::two_front))]
-fn two_of(bytes: &[u8]) -> Result<(u64, u64, &[u8]), NotWhole>
-    ensures { Gives (λ x. ((x.0, x.1), x.2.now)) result (two_front bytes.now) }
-{
-    let (a, rest) = read_number(bytes)?;
-    let (b, rest) = read_number(rest)?;
-    Ok((a, b, rest))
-}
-
-#[tactic(auto, unfolding(bt_page::specs::Fronts::three_front))]
-fn three_of(bytes: &[u8]) -> Result<(u64, u64, u64, &[u8]), NotWhole>
-    ensures { Gives (λ x. ((x.0, (x.1, x.2)), x.3.now)) result (three_front bytes.now) }
-{
-    let (a, rest) = read_number(bytes)?;
-    let (b, rest) = read_number(rest)?;
-    let (c, rest) = read_number(rest)?;
-    Ok((a, b, c, rest))
-}
+use tc_base::{read_number, read_three, read_two};
 
 // What is behind so many bytes.
 fn behind(n: u64, bytes: &[u8]) -> Result<&[u8], PageErr>
@@ -55,10 +34,7 @@ fn behind_value(bytes: &[u8]) -> Result<&[u8], PageErr>
     let Ok((size, rest)) = read_number(bytes) else {
         return Err(PageErr::Bad);
     };
-    match behind(size, rest) {
-        Ok(rest) => Ok(rest),
-        Err(e) => Err(e),
-    }
+    behind(size, rest)
 }
 
 // What is behind so many values.
@@ -68,10 +44,7 @@ fn behind_values(n: u64, bytes: &[u8]) -> Result<&[u8], PageErr>
 {
     let mut rest = bytes;
     for i in 0..n {
-        rest = match behind_value(rest) {
-            Ok(rest) => rest,
-            Err(e) => return Err(e),
-        };
+        rest = behind_value(rest)?;
     }
     Ok(rest)
 }
@@ -82,21 +55,12 @@ fn behind_any(bytes: &[u8]) -> Result<&[u8], PageErr>
     ensures found { IfOk result (λ rest. (i : the_item) × AtFront ItemFits item_bytes bytes.now i rest.now) }
     ensures bad { OnErr result (NoneAt ItemFits item_bytes bytes.now) }
 {
-    let Ok((key, first, more, rest)) = three_of(bytes) else {
+    let Ok((key, first, more, rest)) = read_three(bytes) else {
         return Err(PageErr::Bad);
     };
-    let rest = match behind(key, rest) {
-        Ok(rest) => rest,
-        Err(e) => return Err(e),
-    };
-    let rest = match behind(first, rest) {
-        Ok(rest) => rest,
-        Err(e) => return Err(e),
-    };
-    match behind_values(more, rest) {
-        Ok(rest) => Ok(rest),
-        Err(e) => Err(e),
-    }
+    let rest = behind(key, rest)?;
+    let rest = behind(first, rest)?;
+    behind_values(more, rest)
 }
 
 // What is behind an item with short texts and one value.
@@ -112,10 +76,7 @@ fn behind_short<'a>(
     ensures found { IfOk result (λ rest. (i : the_item) × AtFront ItemFits item_bytes bytes.now i rest.now) }
     ensures bad { OnErr result (NoneAt ItemFits item_bytes bytes.now) }
 {
-    match behind(u64::from(key) + u64::from(first), texts) {
-        Ok(rest) => Ok(rest),
-        Err(e) => Err(e),
-    }
+    behind(u64::from(key) + u64::from(first), texts)
 }
 
 fn behind_item(bytes: &[u8]) -> Result<&[u8], PageErr>
@@ -137,13 +98,10 @@ fn behind_any_entry(bytes: &[u8]) -> Result<&[u8], PageErr>
     ensures found { IfOk result (λ rest. (e : the_entry) × AtFront EntryFits entry_bytes bytes.now e rest.now) }
     ensures bad { OnErr result (NoneAt EntryFits entry_bytes bytes.now) }
 {
-    let Ok((_child, size, rest)) = two_of(bytes) else {
+    let Ok((_child, size, rest)) = read_two(bytes) else {
         return Err(PageErr::Bad);
     };
-    match behind(size, rest) {
-        Ok(rest) => Ok(rest),
-        Err(e) => Err(e),
-    }
+    behind(size, rest)
 }
 
 // What is behind an entry with a short key.
@@ -153,10 +111,7 @@ fn behind_key<'a>(size: u8, bytes: &'a [u8], key: &'a [u8]) -> Result<&'a [u8], 
     ensures found { IfOk result (λ rest. (e : the_entry) × AtFront EntryFits entry_bytes bytes.now e rest.now) }
     ensures bad { OnErr result (NoneAt EntryFits entry_bytes bytes.now) }
 {
-    match behind(u64::from(size), key) {
-        Ok(rest) => Ok(rest),
-        Err(e) => Err(e),
-    }
+    behind(u64::from(size), key)
 }
 
 fn behind_entry(bytes: &[u8]) -> Result<&[u8], PageErr>
@@ -164,7 +119,7 @@ fn behind_entry(bytes: &[u8]) -> Result<&[u8], PageErr>
     ensures bad { OnErr result (NoneAt EntryFits entry_bytes bytes.now) }
 {
     // most entries have a short key
-    if let Some((_child, rest)) = short_number(bytes) {
+    if let Ok((_child, rest)) = read_number(bytes) {
         if let [size, key @ ..] = rest {
             if *size < 128 {
                 return behind_key(*size, bytes, key);
@@ -200,7 +155,7 @@ fn note(
 // Where each item begins in bytes that stand up to this place.
 fn starts_of_items(alloc: Global, end: usize, items: &[u8]) -> Result<Vec<usize>, PageErr>
     requires { length items.now ≤ end }
-    ensures found { IfOk result (λ starts. (xs : List the_item) × (starts.items ≡ starts_from item_bytes (end - length items.now) xs) × AllByRecursion ItemFits xs × (items.now ≡ flat_map item_bytes xs)) }
+    ensures found { IfOk result (λ starts. AreStarts ItemFits item_bytes (end - length items.now) items.now starts.items) }
     ensures bad { IsErrOf result PageErr.Bad → (xs : List the_item) → AllByRecursion ItemFits xs → items.now ≡ flat_map item_bytes xs → ⊥ }
 {
     let mut starts = Vec::with_capacity(alloc, ROW)?;
@@ -209,10 +164,7 @@ fn starts_of_items(alloc: Global, end: usize, items: &[u8]) -> Result<Vec<usize>
     let mut rest = items;
     while !rest.is_empty() {
         count = note(&mut starts, &mut row, count, end - rest.len())?;
-        rest = match behind_item(rest) {
-            Ok(rest) => rest,
-            Err(e) => return Err(e),
-        };
+        rest = behind_item(rest)?;
     }
     starts.extend_from_slice(&row[..count])?;
     Ok(starts)
@@ -223,19 +175,16 @@ pub(crate) fn item_starts(alloc: Global, bytes: &[u8]) -> Result<Vec<usize>, Pag
     ensures found { IfOk result (λ starts. (l : the_leaf) × IsLeafIn bytes.now starts.items l) }
     ensures bad { IsErrOf result PageErr.Bad → (l : the_leaf) → Spells LeafFits leaf_bytes bytes.now l → ⊥ }
 {
-    let Ok((_prev, _next, items)) = two_of(bytes) else {
+    let Ok((_prev, _next, items)) = read_two(bytes) else {
         return Err(PageErr::Bad);
     };
-    match starts_of_items(alloc, bytes.len(), items) {
-        Ok(starts) => Ok(starts),
-        Err(e) => Err(e),
-    }
+    starts_of_items(alloc, bytes.len(), items)
 }
 
 // Where each entry begins in bytes that stand up to this place.
 fn starts_of_entries(alloc: Global, end: usize, entries: &[u8]) -> Result<Vec<usize>, PageErr>
     requires { length entries.now ≤ end }
-    ensures found { IfOk result (λ starts. (xs : List the_entry) × (starts.items ≡ starts_from entry_bytes (end - length entries.now) xs) × AllByRecursion EntryFits xs × (entries.now ≡ flat_map entry_bytes xs)) }
+    ensures found { IfOk result (λ starts. AreStarts EntryFits entry_bytes (end - length entries.now) entries.now starts.items) }
     ensures bad { IsErrOf result PageErr.Bad → (xs : List the_entry) → AllByRecursion EntryFits xs → entries.now ≡ flat_map entry_bytes xs → ⊥ }
 {
     let mut starts = Vec::with_capacity(alloc, ROW)?;
@@ -244,10 +193,7 @@ fn starts_of_entries(alloc: Global, end: usize, entries: &[u8]) -> Result<Vec<us
     let mut rest = entries;
     while !rest.is_empty() {
         count = note(&mut starts, &mut row, count, end - rest.len())?;
-        rest = match behind_entry(rest) {
-            Ok(rest) => rest,
-            Err(e) => return Err(e),
-        };
+        rest = behind_entry(rest)?;
     }
     starts.extend_from_slice(&row[..count])?;
     Ok(starts)
@@ -261,8 +207,5 @@ pub(crate) fn entry_starts(alloc: Global, bytes: &[u8]) -> Result<Vec<usize>, Pa
     let Ok((_heir, entries)) = read_number(bytes) else {
         return Err(PageErr::Bad);
     };
-    match starts_of_entries(alloc, bytes.len(), entries) {
-        Ok(starts) => Ok(starts),
-        Err(e) => Err(e),
-    }
+    starts_of_entries(alloc, bytes.len(), entries)
 }

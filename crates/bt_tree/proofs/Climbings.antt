@@ -9,7 +9,7 @@ use Rattle.tc_space.specs.Stores.{IsReady, Only}
 use Rattle.tc_space.specs.declared.space.Space.{Ghosts}
 use Rattle.bt_page.specs.Keys.{node_offset}
 use Rattle.bt_page.specs.Limits.{NodeWithin}
-use Rattle.bt_page.specs.declared.page.Entry.{Entry}
+use Rattle.bt_page.specs.declared.page.NodeEntry.{NodeEntry}
 use Rattle.bt_page.specs.declared.page.Node.{Node}
 use Rattle.bt_rows.specs.declared.head.TreeHead.{TreeHead}
 use Rattle.bt_rows.specs.declared.page.Page.{Page}
@@ -30,21 +30,21 @@ use Rattle.bt_tree.specs.Paging.{HasNodeAt, IsNodeId, LacksPage, Shows, StaysSti
 use Rattle.bt_tree.proofs.Pagings.{Gives, lacks_after, looked_shows, more_shows, node_fresh, node_given, others_at, put_all, some_node}
 
 -- a list is what is in front of a place, the one there and what is behind it
-pub cut_around : (xs front back : List Entry) (i n child : ℕ) (key : List ℕ) → i < length xs → n ≡ length xs → ((e : Entry) → slice_get xs i ≡ Some e → child ≡ e.child) → ((e : Entry) → slice_get xs i ≡ Some e → key ≡ e.key)
+pub cut_around : (xs front back : List NodeEntry) (i n child : ℕ) (key : List ℕ) → i < length xs → n ≡ length xs → ((e : NodeEntry) → slice_get xs i ≡ Some e → child ≡ e.child) → ((e : NodeEntry) → slice_get xs i ≡ Some e → key ≡ e.key)
     → front ≡ take (i - 0) (drop 0 xs) → back ≡ take (n - (i + 1)) (drop (i + 1) xs) → xs ≡ front ++ record { child = child; key = key } ∷ back
 cut_around xs front back i n child key lt en ec ek ef eb =
-    let e : Entry = record { child = child; key = key } in
+    let e : NodeEntry = record { child = child; key = key } in
     let at = got_at xs i e lt in
     let same : e ≡ slice_index_or xs i e = λ k. record { child = ec (slice_index_or xs i e) at k; key = ek (slice_index_or xs i e) at k } in
-    let behind : drop i xs ≡ e ∷ drop (i + 1) xs = drop_more xs i e lt ∙ ap (λ (z : Entry). z ∷ drop (i + 1) xs) (sym same) in
+    let behind : drop i xs ≡ e ∷ drop (i + 1) xs = drop_more xs i e lt ∙ ap (λ (z : NodeEntry). z ∷ drop (i + 1) xs) (sym same) in
     let whole : i - 0 ≡ i = omega arith in
     let before : front ≡ take i xs = ef ∙ ap (λ (m : ℕ). take m xs) whole in
     let rest : back ≡ drop (i + 1) xs = eb ∙ take_all (n - (i + 1)) (drop (i + 1) xs) (omega (arith, en, length-drop (i + 1) xs)) in
-    sym (take-append-drop i xs) ∙ (λ k. sym before k ++ behind k) ∙ ap (λ (l : List Entry). front ++ e ∷ l) (sym rest)
+    sym (take-append-drop i xs) ∙ (λ k. sym before k ++ behind k) ∙ ap (λ (l : List NodeEntry). front ++ e ∷ l) (sym rest)
 
 -- a node that took the entries of an equal list
-pub took_same : (n m : Node) (place : ℕ) (xs ys : List Entry) → m ≡ record { heir = n.heir; entries = spliced n.entries place xs } → xs ≡ ys → m ≡ record { heir = n.heir; entries = spliced n.entries place ys }
-took_same n m place xs ys is same = is ∙ ap (λ (zs : List Entry). record { heir = n.heir; entries = spliced n.entries place zs }) same
+pub took_same : (n m : Node) (place : ℕ) (xs ys : List NodeEntry) → m ≡ record { heir = n.heir; entries = spliced n.entries place xs } → xs ≡ ys → m ≡ record { heir = n.heir; entries = spliced n.entries place ys }
+took_same n m place xs ys is same = is ∙ ap (λ (zs : List NodeEntry). record { heir = n.heir; entries = spliced n.entries place zs }) same
 
 -- one id of a node more
 pub gives_node : (h : TreeHead) → h.node_ids + 1 < node_offset → Gives h (record h { node_ids = h.node_ids + 1 })
@@ -60,7 +60,7 @@ noted_root {V} {O} t u noted = ap (λ (x : Tree V O). x.head.root) noted
 pub grown_height : {V O : Type 0} (t u : Tree V O) → u ≡ record t { head = record t.head { node_ids = t.head.node_ids + 1 } } → {n : ℕ} → n ≡ u.height → n + 1 ≡ t.height + 1
 grown_height {V} {O} t u noted same = ap (λ (k : ℕ). k + 1) (same ∙ ap (λ (x : Tree V O). x.height) noted)
 
-spliced_long : (entries : List Entry) (place : ℕ) (added : List Entry) → length (spliced entries place added) ≤ length entries + length added
+spliced_long : (entries : List NodeEntry) (place : ℕ) (added : List NodeEntry) → length (spliced entries place added) ≤ length entries + length added
 spliced_long entries place added =
     let all : length (spliced entries place added) ≡ length (take place entries) + (length added + length (drop place entries)) = length-append (take place entries) (added ++ drop place entries) ∙ ap (λ (n : ℕ). length (take place entries) + n) (length-append added (drop place entries)) in
     let parts : length (take place entries) + length (drop place entries) ≡ length entries = sym (length-append (take place entries) (drop place entries)) ∙ ap length (take-append-drop place entries) in
@@ -83,30 +83,30 @@ among_join f key (x ∷ xs) ys (inl e) = inl (inl e)
 among_join {X} f key (x ∷ xs) ys (inr a) = ⊎_elim (λ (l : IsAmong f key xs). inl (inr l)) (λ (r : IsAmong f key ys). inr r) (among_join f key xs ys a)
 
 -- each has a key among them all
-pub keys_in : (xs es : List Entry) → AllByRecursion (λ e. IsAmong entry_key e.key (xs ++ es)) es
+pub keys_in : (xs es : List NodeEntry) → AllByRecursion (λ e. IsAmong entry_key e.key (xs ++ es)) es
 keys_in xs [] = tt
 keys_in xs (e ∷ es) = (
   among_back entry_key e.key xs (e ∷ es) (inl refl),
-  subst (λ (t : List Entry). AllByRecursion (λ d. IsAmong entry_key d.key t) es) (append_assoc xs (e ∷ []) es) (keys_in (xs ++ e ∷ []) es),
+  subst (λ (t : List NodeEntry). AllByRecursion (λ d. IsAmong entry_key d.key t) es) (append_assoc xs (e ∷ []) es) (keys_in (xs ++ e ∷ []) es),
 )
 
-pub keys_cut : (entries front back : List Entry) (up : Entry) → entries ≡ front ++ up ∷ back
+pub keys_cut : (entries front back : List NodeEntry) (up : NodeEntry) → entries ≡ front ++ up ∷ back
     → AllByRecursion (λ e. IsAmong entry_key e.key entries) front × (IsAmong entry_key up.key entries × AllByRecursion (λ e. IsAmong entry_key e.key entries) back)
 keys_cut entries front back up cut =
-    let all : AllByRecursion (λ e. IsAmong entry_key e.key entries) (front ++ up ∷ back) = subst (λ (t : List Entry). AllByRecursion (λ e. IsAmong entry_key e.key entries) t) cut (keys_in [] entries) in
-    let parts = all_part (λ (e : Entry). IsAmong entry_key e.key entries) front (up ∷ back) all in
+    let all : AllByRecursion (λ e. IsAmong entry_key e.key entries) (front ++ up ∷ back) = subst (λ (t : List NodeEntry). AllByRecursion (λ e. IsAmong entry_key e.key entries) t) cut (keys_in [] entries) in
+    let parts = all_part (λ (e : NodeEntry). IsAmong entry_key e.key entries) front (up ∷ back) all in
     (parts.0, parts.1)
 
 -- ---- a node in two
 
-pub half_front : (entries front back : List Entry) (up : Entry) → entries ≡ front ++ up ∷ back → length front ≡ length entries / 2 → length front ≤ length entries / 2
+pub half_front : (entries front back : List NodeEntry) (up : NodeEntry) → entries ≡ front ++ up ∷ back → length front ≡ length entries / 2 → length front ≤ length entries / 2
 half_front entries front back up cut half = omega (arith, half)
 
-pub half_back : (entries front back : List Entry) (up : Entry) → entries ≡ front ++ up ∷ back → length front ≡ length entries / 2 → length back ≤ length entries / 2
+pub half_back : (entries front back : List NodeEntry) (up : NodeEntry) → entries ≡ front ++ up ∷ back → length front ≡ length entries / 2 → length back ≤ length entries / 2
 half_back entries front back up cut half = let total : length entries ≡ length front + suc (length back) = ap length cut ∙ length-append front (up ∷ back) in omega (arith, total, half)
 
 module _ {S V O : Type 0} (s : Ghosts S) (file_of : V → ℕ) (holds : V → List ℕ → Map → Type 0) where
-  pub divided : (t u v w : Tree V O) (a b d : S) (id second heir : ℕ) (entries front back : List Entry) (up : Entry) (above : List Entry)
+  pub divided : (t u v w : Tree V O) (a b d : S) (id second heir : ℕ) (entries front back : List NodeEntry) (up : NodeEntry) (above : List NodeEntry)
       → t.head.node_ids + 1 < node_offset → u ≡ record t { head = record t.head { node_ids = t.head.node_ids + 1 } } → second ≡ node_offset + (t.head.node_ids + 1)
       → entries ≡ front ++ up ∷ back → length front ≡ length entries / 2 → above ≡ record { child = second; key = up.key } ∷ []
       → Writes s (Only (file_in file_of u)) (Shows s file_of holds) (put_at second (node_page (record { heir = up.child; entries = back }))) u v a b
@@ -140,13 +140,13 @@ module _ {S V O : Type 0} (s : Ghosts S) (file_of : V → ℕ) (holds : V → Li
   -- ---- no room for one of its nodes
 
   module _ (fills : V → S → Map → Map → Type 0) where
-    pub lacks_upper : (t u : Tree V O) (a b : S) (entries front back : List Entry) {heir : ℕ} (up : Entry) {k : TreeHead} → u ≡ record t { head = k } → entries ≡ front ++ up ∷ back → length front ≡ length entries / 2
+    pub lacks_upper : (t u : Tree V O) (a b : S) (entries front back : List NodeEntry) {heir : ℕ} (up : NodeEntry) {k : TreeHead} → u ≡ record t { head = k } → entries ≡ front ++ up ∷ back → length front ≡ length entries / 2
         → LacksPage s file_of holds fills (λ p. p ≡ node_page (record { heir = heir; entries = back })) u.store a b → LacksPage s file_of holds fills (IsNodeOf (length entries / 2) entries) t.store a b
     lacks_upper t u a b entries front back {heir} up noted cut half l =
         lacks_after s file_of holds fills (λ p. p ≡ node_page (record { heir = heir; entries = back })) (IsNodeOf (length entries / 2) entries) t.store u.store a a b (keeps_refl s a) (ap (λ (x : Tree V O). file_of x.store) noted)
         (λ p e. (record { heir = heir; entries = back }, e, half_back entries front back up cut half, (keys_cut entries front back up cut).1.1)) l
 
-    pub lacks_lower : (t u v : Tree V O) (a b d : S) (entries front back : List Entry) {heir : ℕ} (up : Entry) {k : TreeHead} → u ≡ record t { head = k } → entries ≡ front ++ up ∷ back → length front ≡ length entries / 2
+    pub lacks_lower : (t u v : Tree V O) (a b d : S) (entries front back : List NodeEntry) {heir : ℕ} (up : NodeEntry) {k : TreeHead} → u ≡ record t { head = k } → entries ≡ front ++ up ∷ back → length front ≡ length entries / 2
         → Keeps s a b → file_of v.store ≡ file_of u.store
         → LacksPage s file_of holds fills (λ p. p ≡ node_page (record { heir = heir; entries = front })) v.store b d → LacksPage s file_of holds fills (IsNodeOf (length entries / 2) entries) t.store a d
     lacks_lower t u v a b d entries front back {heir} up noted cut half keeps file l =
@@ -154,7 +154,7 @@ module _ {S V O : Type 0} (s : Ghosts S) (file_of : V → ℕ) (holds : V → Li
         (λ p e. (record { heir = heir; entries = front }, e, half_front entries front back up cut half, (keys_cut entries front back up cut).0)) l
 
     -- nor for a new root
-    pub lacks_root : (t u : Tree V O) (a b : S) (heir : ℕ) (added : List Entry) {k : TreeHead} → u ≡ record t { head = k } → length added ≤ 2
+    pub lacks_root : (t u : Tree V O) (a b : S) (heir : ℕ) (added : List NodeEntry) {k : TreeHead} → u ≡ record t { head = k } → length added ≤ 2
         → LacksPage s file_of holds fills (λ p. p ≡ node_page (record { heir = heir; entries = added })) u.store a b → LacksPage s file_of holds fills (IsNodeOf 2 added) t.store a b
     lacks_root t u a b heir added noted few l =
         lacks_after s file_of holds fills (λ p. p ≡ node_page (record { heir = heir; entries = added })) (IsNodeOf 2 added) t.store u.store a a b (keeps_refl s a) (ap (λ (x : Tree V O). file_of x.store) noted)
@@ -162,7 +162,7 @@ module _ {S V O : Type 0} (s : Ghosts S) (file_of : V → ℕ) (holds : V → Li
 
   -- ---- a new root
 
-  pub grown : (t u v w : Tree V O) (a b : S) (id heir : ℕ) (added : List Entry) → t.path ≡ [] → length added ≤ 2
+  pub grown : (t u v w : Tree V O) (a b : S) (id heir : ℕ) (added : List NodeEntry) → t.path ≡ [] → length added ≤ 2
       → t.head.node_ids + 1 < node_offset → u ≡ record t { head = record t.head { node_ids = t.head.node_ids + 1 } } → id ≡ node_offset + (t.head.node_ids + 1) → heir ≡ t.head.root
       → Writes s (Only (file_in file_of u)) (Shows s file_of holds) (put_at id (node_page (record { heir = heir; entries = added }))) u v a b
       → w.store ≡ v.store → w.cache.pages ≡ v.cache.pages → w.index ≡ v.index → w.head ≡ record v.head { root = id } → w.height ≡ t.height + 1
@@ -202,11 +202,11 @@ abbrev InLimit : ℕ → ℕ → Option Page → Type 0
 InLimit limit j o = (n : Node) → o ≡ Some (node_page n) → NodeWithin limit n
 
 -- where a key that stands in a node comes from
-abbrev MayStand : List Entry → PageMap → List ℕ → ℕ → Option Page → Type 0
+abbrev MayStand : List NodeEntry → PageMap → List ℕ → ℕ → Option Page → Type 0
 MayStand added pages key j o = (n : Node) → o ≡ Some (node_page n) → IsAmong entry_key key n.entries → IsAmong entry_key key added ⊎ StoodIn pages key
 
 -- once the node is written as two, the way above it may be climbed on
-pub step_on : (limit : ℕ) (pages new : PageMap) (root id place : ℕ) (path rest : List (ℕ × ℕ)) (node : Node) (above : List Entry) → path ≡ (id, place) ∷ rest → CanClimb limit pages root path
+pub step_on : (limit : ℕ) (pages new : PageMap) (root id place : ℕ) (path rest : List (ℕ × ℕ)) (node : Node) (above : List NodeEntry) → path ≡ (id, place) ∷ rest → CanClimb limit pages root path
     → Divided id node above pages new → length node.entries / 2 ≤ limit → CanClimb limit new root rest
 step_on limit pages new root id place path rest node above e k d half =
     let left : Node = record { heir = node.heir; entries = d.front } in
@@ -250,7 +250,7 @@ module _ {S V O : Type 0} (s : Ghosts S) (file_of : V → ℕ) (holds : V → Li
   pub end_ready : (t u : Tree V O) (a : S) → u.store ≡ t.store → u.cache ≡ t.cache → u.index ≡ t.index → u.head ≡ t.head → u.path ≡ t.path → IsReady s (ShowsWay s file_of holds) t a → IsReady s (ShowsWay s file_of holds) u a
   end_ready t u a store cache index head path ready = record { sound = ready.sound; held = λ told. let h = ready.held told in (h.0, end_shows t u a store cache index head path h.0 h.1) }
 
-  pub climbs_end : (t u w : Tree V O) (a b : S) (added : List Entry) → u.store ≡ t.store → u.cache ≡ t.cache → u.index ≡ t.index → u.head ≡ t.head → u.height ≡ t.height → u.path ≡ t.path
+  pub climbs_end : (t u w : Tree V O) (a b : S) (added : List NodeEntry) → u.store ≡ t.store → u.cache ≡ t.cache → u.index ≡ t.index → u.head ≡ t.head → u.height ≡ t.height → u.path ≡ t.path
       → Turns s (Only (file_in file_of u)) (ShowsWay s file_of holds) (Shows s file_of holds) (Climbs u w added) u w a b → Turns s (Only (file_in file_of t)) (ShowsWay s file_of holds) (Shows s file_of holds) (Climbs t w added) t w a b
   climbs_end t u w a b added store cache index head height path turns = record {
     sound = turns.sound;
@@ -268,7 +268,7 @@ module _ {S V O : Type 0} (s : Ghosts S) (file_of : V → ℕ) (holds : V → Li
   -- t at the start, u without the step, v once the node was read, w at the end
   module _ (region : V → List ℕ) (t u v : Tree V O) (a b : S) (id place : ℕ) (store : u.store ≡ t.store) (cache : u.cache ≡ t.cache) (index : u.index ≡ t.index) (head : u.head ≡ t.head) (height : u.height ≡ t.height)
       (e : t.path ≡ (id, place) ∷ u.path) (looks : Looks s file_of holds u.cache.pages v.cache.pages u.store v.store a b) (still : StaysStill s file_of region u v a b)
-      (node : Node) (is_read : (pages : PageMap) (n : Node) → Shows s file_of holds u a pages → pages id ≡ Some (node_page n) → node ≡ n) (added : List Entry) (few : length added ≤ 2) where
+      (node : Node) (is_read : (pages : PageMap) (n : Node) → Shows s file_of holds u a pages → pages id ≡ Some (node_page n) → node ≡ n) (added : List NodeEntry) (few : length added ≤ 2) where
     vhead : v.head ≡ u.head
     vhead = still.head
 
@@ -306,9 +306,9 @@ module _ {S V O : Type 0} (s : Ghosts S) (file_of : V → ℕ) (holds : V → Li
 
     spliced_known : (pages : PageMap) → ShowsWay s file_of holds t a pages → (key : List ℕ) → IsAmong entry_key key (spliced node.entries place added) → IsAmong entry_key key added ⊎ StoodIn pages key
     spliced_known pages h key k = ⊎_elim
-        (λ (front : IsAmong entry_key key (take place node.entries)). inr (stood (subst (λ (x : List Entry). IsAmong entry_key key x) (take-append-drop place node.entries) (among_front entry_key key (take place node.entries) (drop place node.entries) front))))
+        (λ (front : IsAmong entry_key key (take place node.entries)). inr (stood (subst (λ (x : List NodeEntry). IsAmong entry_key key x) (take-append-drop place node.entries) (among_front entry_key key (take place node.entries) (drop place node.entries) front))))
         (λ (rest : IsAmong entry_key key (added ++ drop place node.entries)). ⊎_elim (λ (own : IsAmong entry_key key added). inl own)
-        (λ (back : IsAmong entry_key key (drop place node.entries)). inr (stood (subst (λ (x : List Entry). IsAmong entry_key key x) (take-append-drop place node.entries) (among_back entry_key key (take place node.entries) (drop place node.entries) back))))
+        (λ (back : IsAmong entry_key key (drop place node.entries)). inr (stood (subst (λ (x : List NodeEntry). IsAmong entry_key key x) (take-append-drop place node.entries) (among_back entry_key key (take place node.entries) (drop place node.entries) back))))
         (among_join entry_key key added (drop place node.entries) rest))
         (among_join entry_key key (take place node.entries) (added ++ drop place node.entries) k)
       where
@@ -325,7 +325,7 @@ module _ {S V O : Type 0} (s : Ghosts S) (file_of : V → ℕ) (holds : V → Li
           record { heir = node.heir; entries = spliced node.entries place added },
           is,
           within,
-          all_map (λ (x : Entry). IsAmong entry_key x.key (spliced node.entries place added)) (λ (x : Entry). IsAmong entry_key x.key added ⊎ StoodIn pages x.key) (spliced node.entries place added) (λ x k. spliced_known pages h x.key k) (keys_in [] (spliced node.entries place added)),
+          all_map (λ (x : NodeEntry). IsAmong entry_key x.key (spliced node.entries place added)) (λ (x : NodeEntry). IsAmong entry_key x.key added ⊎ StoodIn pages x.key) (spliced node.entries place added) (λ x k. spliced_known pages h x.key k) (keys_in [] (spliced node.entries place added)),
         )) l
 
     pub took : (w : Tree V O) (d : S) → length (spliced node.entries place added) ≤ t.head.node_limit
@@ -353,10 +353,10 @@ module _ {S V O : Type 0} (s : Ghosts S) (file_of : V → ℕ) (holds : V → Li
           n.0,
           n.1,
           omega (arith, n.2, few_more pages h),
-          all_map (λ (x : Entry). IsAmong entry_key x.key (spliced node.entries place added)) (λ (x : Entry). IsAmong entry_key x.key added ⊎ StoodIn pages x.key) n.0.entries (λ x k. spliced_known pages h x.key k) n.3,
+          all_map (λ (x : NodeEntry). IsAmong entry_key x.key (spliced node.entries place added)) (λ (x : NodeEntry). IsAmong entry_key x.key added ⊎ StoodIn pages x.key) n.0.entries (λ x k. spliced_known pages h x.key k) n.3,
         )) l
 
-    module _ (w : Tree V O) (d : S) (above : List Entry) (turns : Turns s (Only (file_in file_of v)) (Shows s file_of holds) (Shows s file_of holds) (Divided id (record { heir = node.heir; entries = spliced node.entries place added }) above) v w b d)
+    module _ (w : Tree V O) (d : S) (above : List NodeEntry) (turns : Turns s (Only (file_in file_of v)) (Shows s file_of holds) (Shows s file_of holds) (Divided id (record { heir = node.heir; entries = spliced node.entries place added }) above) v w b d)
         (grows : Grows s file_of region 1 0 v w b d) (way : (w.path ≡ v.path) × (w.head.root ≡ v.head.root)) where
       wpath : w.path ≡ v.path
       wpath = way.0
@@ -386,12 +386,12 @@ module _ {S V O : Type 0} (s : Ghosts S) (file_of : V → ℕ) (holds : V → Li
       mid_known : (pages mid : PageMap) → ShowsWay s file_of holds t a pages → Divided id (record { heir = node.heir; entries = spliced node.entries place added }) above pages mid → (key : List ℕ)
           → IsAmong entry_key key above ⊎ StoodIn mid key → IsAmong entry_key key added ⊎ StoodIn pages key
       mid_known pages mid h div key k = ⊎_elim
-          (λ (own : IsAmong entry_key key above). up (subst (λ (x : List Entry). IsAmong entry_key key x) div.above_is own))
+          (λ (own : IsAmong entry_key key above). up (subst (λ (x : List NodeEntry). IsAmong entry_key key x) div.above_is own))
           (λ (stood : StoodIn mid key).
           put_all (MayStand added pages key) (put_at div.second (node_page (record { heir = div.up.child; entries = div.back })) pages) id (node_page (record { heir = node.heir; entries = div.front }))
-          (λ n e among. spliced_known pages h key (subst (λ (x : List Entry). IsAmong entry_key key x) (sym div.cut) (among_front entry_key key div.front (div.up ∷ div.back) (subst (λ (x : Node). IsAmong entry_key key x.entries) (sym (some_node _ n e)) among))))
+          (λ n e among. spliced_known pages h key (subst (λ (x : List NodeEntry). IsAmong entry_key key x) (sym div.cut) (among_front entry_key key div.front (div.up ∷ div.back) (subst (λ (x : Node). IsAmong entry_key key x.entries) (sym (some_node _ n e)) among))))
           (λ j other. put_all (MayStand added pages key) pages div.second (node_page (record { heir = div.up.child; entries = div.back }))
-          (λ n e among. spliced_known pages h key (subst (λ (x : List Entry). IsAmong entry_key key x) (sym div.cut) (among_back entry_key key div.front (div.up ∷ div.back) (inr (subst (λ (x : Node). IsAmong entry_key key x.entries) (sym (some_node _ n e)) among)))))
+          (λ n e among. spliced_known pages h key (subst (λ (x : List NodeEntry). IsAmong entry_key key x) (sym div.cut) (among_back entry_key key div.front (div.up ∷ div.back) (inr (subst (λ (x : Node). IsAmong entry_key key x.entries) (sym (some_node _ n e)) among)))))
           (λ i away n e among. inr (record { id = i; node = n; is = e; among = among })) j)
           stood.id stood.node (ap (λ (x : PageMap). x stood.id) (sym div.are) ∙ stood.is) stood.among)
           k
@@ -406,7 +406,7 @@ module _ {S V O : Type 0} (s : Ghosts S) (file_of : V → ℕ) (holds : V → Li
           let k = turns.means pages (read_shows pages h.0) in
           let n = fine k.0 (k.1, on_way pages k.0 h k.2) in
           let limit : w.head.node_limit ≡ t.head.node_limit = wlimit ∙ ap (λ (y : TreeHead). y.node_limit) (vhead ∙ head) in
-          (n.0, n.1, omega (arith, n.2, limit), all_map (λ (x : Entry). IsAmong entry_key x.key above ⊎ StoodIn k.0 x.key) (λ (x : Entry). IsAmong entry_key x.key added ⊎ StoodIn pages x.key) n.0.entries (λ x kn. mid_known pages k.0 h k.2 x.key kn) n.3)) l
+          (n.0, n.1, omega (arith, n.2, limit), all_map (λ (x : NodeEntry). IsAmong entry_key x.key above ⊎ StoodIn k.0 x.key) (λ (x : NodeEntry). IsAmong entry_key x.key added ⊎ StoodIn pages x.key) n.0.entries (λ x kn. mid_known pages k.0 h k.2 x.key kn) n.3)) l
 
       pub climbed_on : (x : Tree V O) (f : S) → Turns s (Only (file_in file_of w)) (ShowsWay s file_of holds) (Shows s file_of holds) (Climbs w x above) w x d f
           → Turns s (Only (file_in file_of t)) (ShowsWay s file_of holds) (Shows s file_of holds) (Climbs t x added) t x a f
@@ -439,7 +439,7 @@ module _ {S V O : Type 0} (s : Ghosts S) (file_of : V → ℕ) (holds : V → Li
               let c4 : ClimbsWith t.head.node_limit mid new t.height x.height t.head.root x.head.root u.path above = subst (λ (p : List (ℕ × ℕ)). ClimbsWith t.head.node_limit mid new t.height x.height t.head.root x.head.root p above) (wpath ∙ vpath) c3 in
               let c5 : ClimbsWith t.head.node_limit low new t.height x.height t.head.root x.head.root u.path above = subst (λ (p : PageMap). ClimbsWith t.head.node_limit p new t.height x.height t.head.root x.head.root u.path above) div.are c4 in
               let c6 : ClimbsWith t.head.node_limit low new t.height x.height t.head.root x.head.root u.path (record { child = div.second; key = div.up.key } ∷ []) =
-              subst (λ (y : List Entry). ClimbsWith t.head.node_limit low new t.height x.height t.head.root x.head.root u.path y) div.above_is c5 in
+              subst (λ (y : List NodeEntry). ClimbsWith t.head.node_limit low new t.height x.height t.head.root x.head.root u.path y) div.above_is c5 in
               subst (λ (p : List (ℕ × ℕ)). ClimbsWith t.head.node_limit pages new t.height x.height t.head.root x.head.root p added) (sym e)
               (node_parts t.head.node_limit pages new t.height x.height t.head.root x.head.root id place div.second u.path node added div.front div.back div.up (here pages h) div.fresh div.cut
               (omega (arith, half_front (spliced node.entries place added) div.front div.back div.up div.cut div.half, half)) (omega (arith, half_back (spliced node.entries place added) div.front div.back div.up div.cut div.half, half)) c6)
@@ -447,7 +447,7 @@ module _ {S V O : Type 0} (s : Ghosts S) (file_of : V → ℕ) (holds : V → Li
 -- ---- no room past the root
 
 module _ {S V O : Type 0} (s : Ghosts S) (file_of : V → ℕ) (holds : V → List ℕ → Map → Type 0) (fills : V → S → Map → Map → Type 0) where
-  pub lacks_end : (t : Tree V O) (a b : S) (added : List Entry) → LacksPage s file_of holds fills (IsNodeOf 2 added) t.store a b
+  pub lacks_end : (t : Tree V O) (a b : S) (added : List NodeEntry) → LacksPage s file_of holds fills (IsNodeOf 2 added) t.store a b
       → LacksPage s file_of holds fills (λ p. (pages : PageMap) → ShowsWay s file_of holds t a pages → IsKnownNode t.head.node_limit added pages p) t.store a b
   lacks_end t a b added l = lacks_after s file_of holds fills (IsNodeOf 2 added) (λ p. (pages : PageMap) → ShowsWay s file_of holds t a pages → IsKnownNode t.head.node_limit added pages p) t.store t.store a a b (keeps_refl s a) refl
-      (λ p n pages h. (n.0, n.1, omega (arith, n.2, h.0.1.head.node_limit.0), all_map (λ (x : Entry). IsAmong entry_key x.key added) (λ (x : Entry). IsAmong entry_key x.key added ⊎ StoodIn pages x.key) n.0.entries (λ x k. inl k) n.3)) l
+      (λ p n pages h. (n.0, n.1, omega (arith, n.2, h.0.1.head.node_limit.0), all_map (λ (x : NodeEntry). IsAmong entry_key x.key added) (λ (x : NodeEntry). IsAmong entry_key x.key added ⊎ StoodIn pages x.key) n.0.entries (λ x k. inl k) n.3)) l

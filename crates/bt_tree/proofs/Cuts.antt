@@ -16,7 +16,7 @@ use Rattle.tc_base.specs.declared.order.Side.TheVariants as sides
 use Rattle.tc_base.specs.declared.seq.Pair.{Pair}
 use Rattle.tc_space.specs.Changes.{is_inside}
 use Rattle.bt_page.specs.Pages.{HasValue}
-use Rattle.bt_page.specs.declared.page.Entry.{Entry}
+use Rattle.bt_page.specs.declared.page.NodeEntry.{NodeEntry}
 use Rattle.bt_page.specs.declared.page.Item.{Item}
 use Rattle.bt_page.specs.declared.page.Leaf.{Leaf}
 use Rattle.bt_rows.specs.Between.{KeysAscend}
@@ -73,14 +73,14 @@ module _ (cmp : List ℕ → List ℕ → Ordering) (total : IsTotalOrder cmp) (
   kept : (x y : List ℕ) → before_by cmp x y ≡ true → is_front (side y) ≡ true → is_front (side x) ≡ true
   kept x y lt e = front_rank (side x) (side y) (rank_on side cmp exact falls x y (le_of cmp total exact x y lt)) (not_from (side y) e)
 
-  pub entries_cut : (es : List Entry) → KeysAscend (before_by cmp) es → IsPartitionedBy (λ e. is_front (side e.key)) es
-  entries_cut es h = parted (λ (e : Entry). e.key) (before_by cmp) (λ e. is_front (side e.key)) (λ x y lt e. kept x.key y.key lt e) es (entries_rise (before_by cmp) (orders_are_strict cmp total exact) es h)
+  pub entries_cut : (es : List NodeEntry) → KeysAscend (before_by cmp) es → IsPartitionedBy (λ e. is_front (side e.key)) es
+  entries_cut es h = parted (λ (e : NodeEntry). e.key) (before_by cmp) (λ e. is_front (side e.key)) (λ x y lt e. kept x.key y.key lt e) es (entries_rise (before_by cmp) (orders_are_strict cmp total exact) es h)
 
   pub items_cut : (xs : List Item) → Ascends (before_by cmp) xs → IsPartitionedBy (λ x. is_front (side x.key)) xs
   items_cut xs h = parted (λ (x : Item). x.key) (before_by cmp) (λ x. is_front (side x.key)) (λ x y lt e. kept x.key y.key lt e) xs (items_rise (before_by cmp) (orders_are_strict cmp total exact) xs h)
 
 module _ (side : List ℕ → Side) where
-  pub route_cut : (es : List Entry) (place : ℕ) → place ≤ length es → IsPartitionPoint (λ e. is_front (side e.key) ≡ true) (λ e. is_front (side e.key) ≡ false) es place → IsRoute (start_of side) es [] place
+  pub route_cut : (es : List NodeEntry) (place : ℕ) → place ≤ length es → IsPartitionPoint (λ e. is_front (side e.key) ≡ true) (λ e. is_front (side e.key) ≡ false) es place → IsRoute (start_of side) es [] place
   route_cut es place within point = record {
     within = within;
     low = λ i d lt. not_from (side (slice_index_or es i d).key) (point.0 i d (omega arith) lt);

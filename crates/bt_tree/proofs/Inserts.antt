@@ -46,7 +46,7 @@ use Rattle.bt_ways.proofs.Within.{items_within, over_changed}
 use Rattle.bt_tree.specs.declared.inserting.Changed.{Changed}
 use Rattle.bt_page.specs.Pages.{HasValue}
 use Rattle.tc_base.specs.Lists.{pair}
-use Rattle.bt_page.specs.declared.page.Entry.{Entry}
+use Rattle.bt_page.specs.declared.page.NodeEntry.{NodeEntry}
 use Rattle.bt_tree.specs.declared.tree.Tree.{Tree}
 use Rattle.bt_tree.specs.Climbing.{NodesWithin, IsAmong, StoodIn}
 use Rattle.bt_tree.specs.Inserting.{Gains, IsCrowded, IsPutPage, TakesPair, pair_key}
@@ -611,7 +611,7 @@ module _ {S V O : Type 0} (s : Ghosts S) (file_of : V → ℕ) (holds : V → Li
             ((record { keys = w'.keys; bytes = w'.bytes }, inl (subst (λ (y : List Item). IsStretch (items_pairs y) ps) (sym k.2) (behind ps h k.0 k.1))), tt)
         fine (node_page n) ps h w = (
           omega (arith, w.0, ap (λ (y : TreeHead). y.node_limit) stays.head),
-          all_map (λ (e : Entry). IsAmong item_key e.key x.leaf.items ⊎ StoodIn h.1.3.tree.pages e.key) (λ (e : Entry). IsAmong pair_key e.key (inserted cmp last key value ps) ⊎ StoodIn h.1.3.tree.pages e.key) n.entries (λ e k. held_on ps h e.key k) w.1,
+          all_map (λ (e : NodeEntry). IsAmong item_key e.key x.leaf.items ⊎ StoodIn h.1.3.tree.pages e.key) (λ (e : NodeEntry). IsAmong pair_key e.key (inserted cmp last key value ps) ⊎ StoodIn h.1.3.tree.pages e.key) n.entries (λ e k. held_on ps h e.key k) w.1,
         )
 
 -- ---- what a call leaves, whatever it answers

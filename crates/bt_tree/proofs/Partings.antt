@@ -9,7 +9,7 @@ use Rattle.tc_space.specs.Frames.{Keeps, Writes, keeps_refl, keeps_then, others_
 use Rattle.tc_space.specs.Stores.{IsReady, Only}
 use Rattle.tc_space.specs.declared.space.Space.{Ghosts}
 use Rattle.bt_page.specs.Keys.{node_offset}
-use Rattle.bt_page.specs.declared.page.Entry.{Entry}
+use Rattle.bt_page.specs.declared.page.NodeEntry.{NodeEntry}
 use Rattle.bt_page.specs.declared.page.Item.{Item}
 use Rattle.bt_page.specs.declared.page.Leaf.{Leaf}
 use Rattle.bt_page.specs.declared.page.Node.{Node}
@@ -228,7 +228,7 @@ pub three_parts : (given id prev next : ℕ) (items second third : List Item) (a
 three_parts given id prev next items second [] a b two p some ea eb made leaves added last = absurd (omega (arith, some))
 three_parts given id prev next items second (x ∷ third) a b two p some ea eb made leaves added last = record {
   leaves = leaves ∙ ap (λ (ls : List Laid). ls ++ laid_at b a next (x ∷ third) ∷ []) made.leaves ∙ (λ k. laid_parts id prev next items (record { id = ea k; items = second } ∷ record { id = eb k; items = x ∷ third } ∷ []));
-  added = added ∙ ap (λ (es : List Entry). es ++ record { child = b; key = x.key } ∷ []) made.added ∙ (λ k. map part_entry (record { id = ea k; items = second } ∷ record { id = eb k; items = x ∷ third } ∷ []));
+  added = added ∙ ap (λ (es : List NodeEntry). es ++ record { child = b; key = x.key } ∷ []) made.added ∙ (λ k. map part_entry (record { id = ea k; items = second } ∷ record { id = eb k; items = x ∷ third } ∷ []));
   last = last ∙ eb;
 }
 
@@ -468,7 +468,7 @@ module _ {S V O : Type 0} (s : Ghosts S) (file_of : V → ℕ) (holds : V → Li
         → IsAmong entry_key key p.added ⊎ StoodIn (put_laid leaves pages) key → IsAmong item_key key leaf.items ⊎ StoodIn pages key
     piece_key i j one two three c pages key k = ⊎_elim
         (λ (own : IsAmong entry_key key p.added).
-        inl (subst (λ (z : List Item). IsAmong item_key key z) (sym (parts_joined i j one two three c)) (part_keys key items parts (parts_have i j two c) (subst (λ (z : List Entry). IsAmong entry_key key z) made.added own))))
+        inl (subst (λ (z : List Item). IsAmong item_key key z) (sym (parts_joined i j one two three c)) (part_keys key items parts (parts_have i j two c) (subst (λ (z : List NodeEntry). IsAmong entry_key key z) made.added own))))
         (λ (stood : StoodIn (put_laid leaves pages) key). inr (record { id = stood.id; node = stood.node; is = laid_was leaves pages stood.id stood.node stood.is; among = stood.among }))
         k
 
@@ -482,7 +482,7 @@ module _ {S V O : Type 0} (s : Ghosts S) (file_of : V → ℕ) (holds : V → Li
         let n = fine (put_laid leaves pages) (way_on pages h) in
         let limit : x.head.node_limit ≡ t.head.node_limit = ap (λ (y : TreeHead). y.node_limit) xhead ∙ wlimit in
         subst (λ (z : Page). IsPiece t.head leaf.items leaf.next pages z) (sym n.1)
-        (omega (arith, n.2, limit), all_map (λ (y : Entry). IsAmong entry_key y.key p.added ⊎ StoodIn (put_laid leaves pages) y.key) (λ (y : Entry). IsAmong item_key y.key leaf.items ⊎ StoodIn pages y.key) n.0.entries (λ y k. piece_key i j one two three (cut h.0.0) pages y.key k) n.3)) l
+        (omega (arith, n.2, limit), all_map (λ (y : NodeEntry). IsAmong entry_key y.key p.added ⊎ StoodIn (put_laid leaves pages) y.key) (λ (y : NodeEntry). IsAmong item_key y.key leaf.items ⊎ StoodIn pages y.key) n.0.entries (λ y k. piece_key i j one two three (cut h.0.0) pages y.key k) n.3)) l
 
     module _ (i j : ℕ) (one : items ≡ take i leaf.items) (two : second ≡ take (j - i) (drop i leaf.items)) (three : third ≡ drop j leaf.items) (cut : s.tells → IsCut t.head.leaf_limit leaf.items i j)
         (y : Tree V O) (e : S) (climb : Turns s (Only (file_in file_of x)) (ShowsWay s file_of holds) (Shows s file_of holds) (Climbs x y p.added) x y d e) (yhead : y.head ≡ record x.head { root = y.head.root; node_ids = y.head.node_ids }) where
@@ -494,7 +494,7 @@ module _ {S V O : Type 0} (s : Ghosts S) (file_of : V → ℕ) (holds : V → Li
           (subst (λ (n : ℕ). ClimbsWith x.head.node_limit (put_laid leaves pages) new n y.height t.head.root y.head.root t.path (map part_entry parts)) (still_x.height ∙ wheight)
           (subst (λ (n : ℕ). ClimbsWith x.head.node_limit (put_laid leaves pages) new x.height y.height n y.head.root t.path (map part_entry parts)) (ap (λ (h : TreeHead). h.root) xhead ∙ wroot)
           (subst (λ (q : List (ℕ × ℕ)). ClimbsWith x.head.node_limit (put_laid leaves pages) new x.height y.height x.head.root y.head.root q (map part_entry parts)) (still_x.path ∙ wpath)
-          (subst (λ (q : List Entry). ClimbsWith x.head.node_limit (put_laid leaves pages) new x.height y.height x.head.root y.head.root x.path q) made.added c)))))
+          (subst (λ (q : List NodeEntry). ClimbsWith x.head.node_limit (put_laid leaves pages) new x.height y.height x.head.root y.head.root x.path q) made.added c)))))
 
       pub parts_turn : Turns s (Only (file_in file_of t)) (ShowsLeaf s file_of holds id leaf.next) (Shows s file_of holds) (IsParted t y id leaf) t y a e
       parts_turn = record {

@@ -5,7 +5,7 @@ use Rattle.tc_base.specs.Maps.{Map}
 use Rattle.tc_space.specs.Frames.{Keeps}
 use Rattle.tc_space.specs.declared.space.Space.{Ghosts}
 use Rattle.bt_page.specs.Limits.{NodeWithin}
-use Rattle.bt_page.specs.declared.page.Entry.{Entry}
+use Rattle.bt_page.specs.declared.page.NodeEntry.{NodeEntry}
 use Rattle.bt_page.specs.declared.page.Node.{Node}
 use Rattle.bt_rows.specs.declared.page.Page.{Page}
 use Rattle.bt_rows.specs.declared.page.Page.TheVariants.{Node as node_page}
@@ -44,11 +44,11 @@ pub record Grows {S V O : Type 0} (s : Ghosts S) (file_of : V → ℕ) (region :
   pub rows_most : u.height ≤ t.height + rows
 
 -- a node is written as two: an entry in its middle goes on up under the id of the second, which no page had
-pub record Divided (id : ℕ) (node : Node) (above : List Entry) (old new : PageMap) : Type 0 where
+pub record Divided (id : ℕ) (node : Node) (above : List NodeEntry) (old new : PageMap) : Type 0 where
   pub second : ℕ
-  pub front : List Entry
-  pub up : Entry
-  pub back : List Entry
+  pub front : List NodeEntry
+  pub up : NodeEntry
+  pub back : List NodeEntry
   pub fresh : old second ≡ None
   pub cut : node.entries ≡ front ++ up ∷ back
   pub half : length front ≡ length node.entries / 2
@@ -60,7 +60,7 @@ abbrev pub IsAmong : {X : Type 0} → (X → List ℕ) → List ℕ → List X �
 IsAmong f key [] = ⊥
 IsAmong f key (x ∷ xs) = (f x ≡ key) ⊎ IsAmong f key xs
 
-abbrev pub entry_key : Entry → List ℕ
+abbrev pub entry_key : NodeEntry → List ℕ
 entry_key e = e.key
 
 -- a key of an entry stood in a node among the pages
@@ -71,13 +71,13 @@ pub record StoodIn (pages : PageMap) (key : List ℕ) : Type 0 where
   pub among : IsAmong entry_key key node.entries
 
 -- a node of so many entries at most, whose keys are those of these
-abbrev pub IsNodeOf : ℕ → List Entry → Page → Type 0
+abbrev pub IsNodeOf : ℕ → List NodeEntry → Page → Type 0
 IsNodeOf most entries p = (n : Node) × (p ≡ node_page n) × (length n.entries ≤ most) × AllByRecursion (λ e. IsAmong entry_key e.key entries) n.entries
 
 -- a node within the limit, whose keys are those that are added or stood in a node
-abbrev pub IsKnownNode : ℕ → List Entry → PageMap → Page → Type 0
+abbrev pub IsKnownNode : ℕ → List NodeEntry → PageMap → Page → Type 0
 IsKnownNode limit added pages p = (n : Node) × (p ≡ node_page n) × NodeWithin limit n × AllByRecursion (λ e. IsAmong entry_key e.key added ⊎ StoodIn pages e.key) n.entries
 
 -- the entries climbed
-abbrev pub Climbs : {V O : Type 0} → Tree V O → Tree V O → List Entry → PageMap → PageMap → Type 0
+abbrev pub Climbs : {V O : Type 0} → Tree V O → Tree V O → List NodeEntry → PageMap → PageMap → Type 0
 Climbs t u added old new = ClimbsWith t.head.node_limit old new t.height u.height t.head.root u.head.root t.path added

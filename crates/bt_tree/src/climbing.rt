@@ -1,15 +1,15 @@
 //! Entries put into the nodes above a place.
 ghost use Rattle.std.specs.Prelude.{◌≡◌, ◌+◌, ◌-◌, ◌<◌, ◌≤◌, ◌/◌, ◌^◌, ◌⊎◌, ◌++◌, ◌∷◌, [], suc, length, take, drop, IfOk, OnOk, IsErrOf};
-ghost use Rattle.tc_io.specs.Causes.{Rose};
 ghost use Rattle.tc_space.specs.Stores.{IsReady, Only};
 ghost use Rattle.bt_rows.specs.Pages.{PageMap};
 ghost use Rattle.bt_ways.specs.Laws.{spliced};
 ghost use Rattle.bt_tree.specs.Climbing.{Climbs, Divided, Grows, IsKnownNode, IsNodeOf, ShowsWay};
 ghost use Rattle.bt_tree.specs.Meaning.{file_in};
 ghost use Rattle.bt_tree.specs.Paging.{IsNodeId, IsUsedUp, LacksPage, Shows, Turns};
+ghost use Rattle.tc_space.specs.Refusals.{OnFault};
 
 use crate::tree::Tree;
-use bt_page::{Entry, Node};
+use bt_page::{Node, NodeEntry};
 use bt_slots::SlottedNode;
 use std::alloc::{AllocError, Global};
 use tc_base::{Blob, Order, Seq, Steps};
@@ -20,7 +20,7 @@ fn splice(
     alloc: Global,
     node: SlottedNode,
     place: usize,
-    added: &[Entry],
+    added: &[NodeEntry],
 ) -> Result<SlottedNode, AllocError>
     requires { place ≤ length node.entries }
     ensures { IfOk result (λ n. n ≡ record { heir = node.heir; entries = spliced node.entries place added.now }) }
@@ -40,7 +40,7 @@ fn splice(
 fn halves(
     alloc: Global,
     node: &SlottedNode,
-) -> Result<(SlottedNode, Entry, SlottedNode), AllocError>
+) -> Result<(SlottedNode, NodeEntry, SlottedNode), AllocError>
     ensures cut { IfOk result (λ h. node.now.entries ≡ h.0.entries ++ h.1 ∷ h.2.entries) }
     ensures half { IfOk result (λ h. length h.0.entries ≡ length node.now.entries / 2) }
     ensures heir { IfOk result (λ h. h.0.heir ≡ node.now.heir) }
@@ -54,22 +54,27 @@ fn halves(
     let key = Blob::from_slice(alloc, node.key(at))?;
     let front = node.section(alloc, 0, at, node.heir())?;
     let back = node.section(alloc, at + 1, node.len(), child)?;
-    Ok((front, Entry { child, key }, back))
+    Ok((front, NodeEntry { child, key }, back))
 }
 
 // The one entry of a page.
-fn lone(alloc: Global, child: u64, entry: Entry) -> Result<Seq<Entry>, AllocError>
+fn lone(alloc: Global, child: u64, entry: NodeEntry) -> Result<Seq<NodeEntry>, AllocError>
     ensures { IfOk result (λ all. all ≡ record { child = child; key = entry.key } ∷ []) }
 {
     let mut all = Seq::new(alloc);
     let key = entry.key;
-    all.push(Entry { child, key })?;
+    all.push(NodeEntry { child, key })?;
     Ok(all)
 }
 
 impl<R: Records, O: Order> Tree<R, O> {
     // Writes a node as two, and gives the entry of the second.
-    fn divide(&mut self, space: &mut R::S, id: u64, node: SlottedNode) -> Result<Seq<Entry>, RecErr>
+    fn divide(
+        &mut self,
+        space: &mut R::S,
+        id: u64,
+        node: SlottedNode,
+    ) -> Result<Seq<NodeEntry>, RecErr>
         requires ready { IsReady R.S.Space (Shows R.S.Space R.file_of R.holds) self.old space.old }
         requires id { R.S.tells → IsNodeId self.old.head id }
         ensures divided { IfOk result (λ above. Turns R.S.Space (Only (file_in R.file_of self.old)) (Shows R.S.Space R.file_of R.holds) (Shows R.S.Space R.file_of R.holds) (Divided id node above) self.old self.new space.old space.new) }
@@ -77,7 +82,7 @@ impl<R: Records, O: Order> Tree<R, O> {
         ensures full { IsErrOf result RecErr.Full → IsUsedUp self.new.head ⊎ LacksPage R.S.Space R.file_of R.holds R.fills (IsNodeOf (length node.entries / 2) node.entries) self.old.store space.old space.new }
         ensures grows { Grows R.S.Space R.file_of R.region 1 0 self.old self.new space.old space.new }
         ensures way { (self.new.path ≡ self.old.path) × (self.new.head.root ≡ self.old.head.root) }
-        ensures cause { IsErrOf result RecErr.Fault → Rose (R.S.faults space.old) (R.S.faults space.new) }
+        ensures cause { OnFault R.S.Space result space.old space.new }
     {
         let second = match self.node_id() {
             Ok(id) => id,
@@ -95,7 +100,7 @@ impl<R: Records, O: Order> Tree<R, O> {
     }
 
     // Writes a new root over the old one.
-    fn grow(&mut self, space: &mut R::S, added: Seq<Entry>) -> Result<(), RecErr>
+    fn grow(&mut self, space: &mut R::S, added: Seq<NodeEntry>) -> Result<(), RecErr>
         requires ready { IsReady R.S.Space (ShowsWay R.S.Space R.file_of R.holds) self.old space.old }
         requires root { self.old.path ≡ [] }
         requires few { length added ≤ 2 }
@@ -103,7 +108,7 @@ impl<R: Records, O: Order> Tree<R, O> {
         ensures climbed { OnOk result (Turns R.S.Space (Only (file_in R.file_of self.old)) (ShowsWay R.S.Space R.file_of R.holds) (Shows R.S.Space R.file_of R.holds) (Climbs self.old self.new added) self.old self.new space.old space.new) }
         ensures full { IsErrOf result RecErr.Full → IsUsedUp self.new.head ⊎ LacksPage R.S.Space R.file_of R.holds R.fills (IsNodeOf 2 added) self.old.store space.old space.new }
         ensures grows { Grows R.S.Space R.file_of R.region 1 1 self.old self.new space.old space.new }
-        ensures cause { IsErrOf result RecErr.Fault → Rose (R.S.faults space.old) (R.S.faults space.new) }
+        ensures cause { OnFault R.S.Space result space.old space.new }
     {
         let id = match self.node_id() {
             Ok(id) => id,
@@ -129,7 +134,7 @@ impl<R: Records, O: Order> Tree<R, O> {
     pub(crate) fn climb<L>(
         &mut self,
         space: &mut R::S,
-        added: Seq<Entry>,
+        added: Seq<NodeEntry>,
         steps: &mut Steps<L>,
     ) -> Result<(), RecErr>
         requires ready { IsReady R.S.Space (ShowsWay R.S.Space R.file_of R.holds) self.old space.old }
@@ -138,7 +143,7 @@ impl<R: Records, O: Order> Tree<R, O> {
         ensures climbed { OnOk result (Turns R.S.Space (Only (file_in R.file_of self.old)) (ShowsWay R.S.Space R.file_of R.holds) (Shows R.S.Space R.file_of R.holds) (Climbs self.old self.new added) self.old self.new space.old space.new) }
         ensures full { IsErrOf result RecErr.Full → IsUsedUp self.new.head ⊎ LacksPage R.S.Space R.file_of R.holds R.fills (λ p. (pages : PageMap) → ShowsWay R.S.Space R.file_of R.holds self.old space.old pages → IsKnownNode self.old.head.node_limit added pages p) self.old.store space.old space.new }
         ensures grows { Grows R.S.Space R.file_of R.region (suc (length self.old.path)) 1 self.old self.new space.old space.new }
-        ensures cause { IsErrOf result RecErr.Fault → Rose (R.S.faults space.old) (R.S.faults space.new) }
+        ensures cause { OnFault R.S.Space result space.old space.new }
     {
         let Some((id, place)) = self.path.pop() else {
             return self.grow(space, added);

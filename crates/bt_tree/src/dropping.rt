@@ -1,8 +1,8 @@
 //! Pages taken out of a tree.
 ghost use Rattle.std.specs.Prelude.{◌≡◌, OnOk, IsErrOf};
 ghost use Rattle.std.specs.List.{AllByRecursion};
-ghost use Rattle.tc_io.specs.Causes.{Rose};
 ghost use Rattle.tc_space.specs.Frames.{Writes};
+ghost use Rattle.tc_space.specs.Refusals.{OnFault};
 ghost use Rattle.tc_space.specs.Stores.{IsReady, Only};
 ghost use Rattle.bt_rows.specs.Pages.{IsGiven};
 ghost use Rattle.bt_ways.specs.Removals.{without_way};
@@ -23,7 +23,7 @@ impl<R: Records, O: Order> Tree<R, O> {
         ensures out { OnOk result (Writes R.S.Space (Only (file_in R.file_of self.old)) (Shows R.S.Space R.file_of R.holds) (drop_at id) self.old self.new space.old space.new) }
         ensures full { IsErrOf result RecErr.Full → RefusesDrop R.S.Space R.file_of R.holds R.fills self.old.store space.old space.new }
         ensures still { StaysStill R.S.Space R.file_of R.region self.old self.new space.old space.new }
-        ensures cause { IsErrOf result RecErr.Fault → Rose (R.S.faults space.old) (R.S.faults space.new) }
+        ensures cause { OnFault R.S.Space result space.old space.new }
     {
         match self.cache.drop_page(&mut self.store, space, id) {
             Ok(()) => Ok(()),
@@ -39,7 +39,7 @@ impl<R: Records, O: Order> Tree<R, O> {
         ensures full { IsErrOf result RecErr.Full → RefusesDrop R.S.Space R.file_of R.holds R.fills self.old.store space.old space.new }
         ensures narrows { Narrows R.S.Space R.file_of R.region self.old self.new space.old space.new }
         ensures same { (self.new.head ≡ self.old.head) × (self.new.height ≡ self.old.height) }
-        ensures cause { IsErrOf result RecErr.Fault → Rose (R.S.faults space.old) (R.S.faults space.new) }
+        ensures cause { OnFault R.S.Space result space.old space.new }
     {
         let Some((id, _)) = self.path.pop() else {
             return Ok(());

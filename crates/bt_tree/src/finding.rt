@@ -1,13 +1,13 @@
 //! A key with its values.
-ghost use Rattle.std.specs.Prelude.{◌≡◌, List, IfOk, IsErrOf};
+ghost use Rattle.std.specs.Prelude.{◌≡◌, List, IfOk};
 ghost use Rattle.tc_base.specs.Lists.{first};
 ghost use Rattle.tc_base.specs.declared.seq.Pair.{Pair};
-ghost use Rattle.tc_io.specs.Causes.{Rose};
 ghost use Rattle.tc_space.specs.Stores.{IsReady};
 ghost use Rattle.bt_rows.specs.Orders.{before_by};
 ghost use Rattle.bt_ways.specs.Items.{IsLeafFor, item_in};
 ghost use Rattle.bt_tree.specs.Meaning.{Means};
 ghost use Rattle.bt_tree.specs.Visits.{Asks};
+ghost use Rattle.tc_space.specs.Refusals.{Blames};
 
 use crate::searching::spot;
 use crate::tree::Tree;
@@ -58,7 +58,7 @@ impl<R: Records, O: Order> Tree<R, O> {
         requires { IsReady R.S.Space (Means R.S.Space R.file_of R.holds (before_by O.cmp)) self.old space.old }
         ensures value { IfOk result (λ found. (ps : List Pair) → Means R.S.Space R.file_of R.holds (before_by O.cmp) self.old space.old ps → found ≡ item_in key.now ps) }
         ensures asks { Asks R.S.Space R.file_of R.holds R.region R.gets (before_by O.cmp) self.old.height self.old self.new steps.old steps.new space.old space.new }
-        ensures cause { (IsErrOf result RecErr.Fault → Rose (R.S.faults space.old) (R.S.faults space.new)) × (IsErrOf result RecErr.Full → ⊥) }
+        ensures cause { Blames R.S.Space result space.old space.new }
     {
         let leaf = match self.leaf_for(space, key, steps) {
             Ok(leaf) => leaf,
@@ -77,7 +77,7 @@ impl<R: Records, O: Order> Tree<R, O> {
         requires { IsReady R.S.Space (Means R.S.Space R.file_of R.holds (before_by O.cmp)) self.old space.old }
         ensures value { IfOk result (λ found. (ps : List Pair) → Means R.S.Space R.file_of R.holds (before_by O.cmp) self.old space.old ps → found ≡ first ps key.now) }
         ensures asks { Asks R.S.Space R.file_of R.holds R.region R.gets (before_by O.cmp) self.old.height self.old self.new steps.old steps.new space.old space.new }
-        ensures cause { (IsErrOf result RecErr.Fault → Rose (R.S.faults space.old) (R.S.faults space.new)) × (IsErrOf result RecErr.Full → ⊥) }
+        ensures cause { Blames R.S.Space result space.old space.new }
     {
         match self.leaf_for(space, key, steps) {
             Ok(leaf) => Ok(copy_first::<O>(self.alloc, &leaf, key)?),

@@ -1,8 +1,8 @@
 //! A pair put into a tree.
 ghost use Rattle.std.specs.Prelude.{◌≡◌, ◌+◌, ◌-◌, ◌<◌, ◌^◌, List, length, if◌then◌else◌, IfOk, OnOk, OnErr, IsErrOf};
 ghost use Rattle.tc_base.specs.declared.seq.Pair.{Pair};
-ghost use Rattle.tc_io.specs.Causes.{Rose};
 ghost use Rattle.tc_space.specs.Frames.{Keeps, Refuses, Writes};
+ghost use Rattle.tc_space.specs.Refusals.{Blames, OnFault};
 ghost use Rattle.tc_space.specs.Stores.{IsReady, Only};
 ghost use Rattle.bt_rows.specs.Orders.{before_by};
 ghost use Rattle.bt_cache.specs.Effects.{Looks};
@@ -44,7 +44,7 @@ impl<R: Records, O: Order> Tree<R, O> {
         ensures looks { Looks R.S.Space R.file_of R.holds self.old.cache.pages self.new.cache.pages self.old.store self.new.store space.old space.new }
         ensures made { StaysMade R.file_of R.region self.old self.new }
         ensures stays { StaysTree self.old self.new }
-        ensures cause { (IsErrOf result RecErr.Fault → Rose (R.S.faults space.old) (R.S.faults space.new)) × (IsErrOf result RecErr.Full → ⊥) }
+        ensures cause { Blames R.S.Space result space.old space.new }
     {
         let id = match self.descend(space, key, steps) {
             Ok(id) => id,
@@ -90,7 +90,7 @@ impl<R: Records, O: Order> Tree<R, O> {
         ensures full { IsErrOf result RecErr.Full → IsFull R.S.Space R.file_of R.holds R.fills O.cmp last key.now value.now self.old self.new space.old space.new }
         ensures keeps { Keeps R.S.Space space.old space.new }
         ensures stays { StaysMade R.file_of R.region self.old self.new }
-        ensures cause { IsErrOf result RecErr.Fault → Rose (R.S.faults space.old) (R.S.faults space.new) }
+        ensures cause { OnFault R.S.Space result space.old space.new }
     {
         if self.head.pairs == u64::MAX || self.height == u64::MAX {
             return Err(RecErr::Memory);

@@ -2,9 +2,9 @@
 ghost use Rattle.std.specs.Prelude.{◌≡◌, IfOk, OnErr, IsErrOf};
 ghost use Rattle.tc_base.specs.Maps.{Map};
 ghost use Rattle.tc_base.specs.declared.kind.Mode.TheVariants.{Over};
-ghost use Rattle.tc_io.specs.Causes.{Rose};
 ghost use Rattle.tc_space.specs.Changes.{put_in};
 ghost use Rattle.tc_space.specs.Frames.{In, Keeps};
+ghost use Rattle.tc_space.specs.Refusals.{OnFault};
 ghost use Rattle.tc_space.specs.Stores.{FullBy, IsReady};
 ghost use Rattle.bt_page.specs.Keys.{key_of};
 ghost use Rattle.bt_page.specs.Pages.{leaf_bytes};
@@ -61,7 +61,7 @@ impl<R: Records + Drop, O: Order> Tree<R, O> {
         ensures refused { OnErr result (IsRefused R.S.Space space.old space.new) }
         ensures full { IsErrOf result RecErr.Full → FullBy (In R.S.Space R.file_of R.holds) R.fills (put_in Over (key_of 1) (leaf_bytes lone_leaf)) store space.old space.new }
         ensures keeps { Keeps R.S.Space space.old space.new }
-        ensures cause { IsErrOf result RecErr.Fault → Rose (R.S.faults space.old) (R.S.faults space.new) }
+        ensures cause { OnFault R.S.Space result space.old space.new }
     {
         let mut store = store;
         let index = store.count() > 0;

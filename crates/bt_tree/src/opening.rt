@@ -1,7 +1,7 @@
 //! A tree that stands in a store, opened.
 ghost use Rattle.std.specs.Prelude.{◌≡◌, true, false, IfOk, IfErr, IsErrOf};
-ghost use Rattle.tc_io.specs.Causes.{Rose};
 ghost use Rattle.tc_space.specs.Frames.{In, OnlyReads};
+ghost use Rattle.tc_space.specs.Refusals.{Blamed};
 ghost use Rattle.tc_space.specs.Stores.{IsReady};
 ghost use Rattle.bt_rows.specs.Heads.{head_of};
 ghost use Rattle.bt_rows.specs.Orders.{before_by};
@@ -32,7 +32,7 @@ impl<R: Records + Drop, O: Order> Tree<R, O> {
         ensures opened { IfOk result (λ t. IsOpened R.S.Space R.file_of R.holds R.region (before_by O.cmp) O.CODE index store t space.old space.new) }
         ensures broken { IfErr result (λ e. Breaks (before_by O.cmp) (head_of (R.region store)) index (R.file_of store) (In R.S.Space R.file_of R.holds store space.old) e) }
         ensures reads { OnlyReads R.S.Space space.old space.new }
-        ensures cause { IsErrOf result OpenErr.Fault → Rose (R.S.faults space.old) (R.S.faults space.new) }
+        ensures cause { Blamed R.S.Space (IsErrOf result OpenErr.Fault) space.old space.new }
     {
         let mut store = store;
         let height = match measure_tree::<R, O>(alloc, &mut store, space, index) {
@@ -61,7 +61,7 @@ impl<R: Records + Drop, O: Order> Tree<R, O> {
         ensures opened { IfOk result (λ t. IsOpened R.S.Space R.file_of R.holds R.region (before_by O.cmp) O.CODE false store t space.old space.new) }
         ensures broken { IfErr result (λ e. Breaks (before_by O.cmp) (head_of (R.region store)) false (R.file_of store) (In R.S.Space R.file_of R.holds store space.old) e) }
         ensures reads { OnlyReads R.S.Space space.old space.new }
-        ensures cause { IsErrOf result OpenErr.Fault → Rose (R.S.faults space.old) (R.S.faults space.new) }
+        ensures cause { Blamed R.S.Space (IsErrOf result OpenErr.Fault) space.old space.new }
     {
         match Tree::open_as(alloc, store, space, false) {
             Ok(tree) => Ok(tree),
@@ -76,7 +76,7 @@ impl<R: Records + Drop, O: Order> Tree<R, O> {
         ensures opened { IfOk result (λ t. IsOpened R.S.Space R.file_of R.holds R.region (before_by O.cmp) O.CODE true store t space.old space.new) }
         ensures broken { IfErr result (λ e. Breaks (before_by O.cmp) (head_of (R.region store)) true (R.file_of store) (In R.S.Space R.file_of R.holds store space.old) e) }
         ensures reads { OnlyReads R.S.Space space.old space.new }
-        ensures cause { IsErrOf result OpenErr.Fault → Rose (R.S.faults space.old) (R.S.faults space.new) }
+        ensures cause { Blamed R.S.Space (IsErrOf result OpenErr.Fault) space.old space.new }
     {
         match Tree::open_as(alloc, store, space, true) {
             Ok(tree) => Ok(tree),

@@ -1,7 +1,7 @@
 //! Single pages of a tree, read and written.
 ghost use Rattle.std.specs.Prelude.{◌≡◌, ◌+◌, ◌<◌, ◌≤◌, ◌^◌, ℕ, Some, IfOk, OnOk, OnErr, IsErrOf};
-ghost use Rattle.tc_io.specs.Causes.{Rose};
 ghost use Rattle.tc_space.specs.Frames.{Refuses, Writes};
+ghost use Rattle.tc_space.specs.Refusals.{Blames, OnFault};
 ghost use Rattle.tc_space.specs.Stores.{IsReady, Only};
 ghost use Rattle.bt_page.specs.Keys.{node_offset};
 ghost use Rattle.bt_page.specs.declared.page.Leaf.{Leaf as the_leaf};
@@ -33,7 +33,7 @@ impl<R: Records, O: Order> Tree<R, O> {
         ensures leaf { IfOk result (λ read. (pages : PageMap) (l : the_leaf) → Shows R.S.Space R.file_of R.holds self.old space.old pages → pages id ≡ Some (leaf_page l) → read ≡ l) }
         ensures looks { Looks R.S.Space R.file_of R.holds self.old.cache.pages self.new.cache.pages self.old.store self.new.store space.old space.new }
         ensures still { StaysStill R.S.Space R.file_of R.region self.old self.new space.old space.new }
-        ensures cause { (IsErrOf result RecErr.Fault → Rose (R.S.faults space.old) (R.S.faults space.new)) × (IsErrOf result RecErr.Full → ⊥) }
+        ensures cause { Blames R.S.Space result space.old space.new }
     {
         let leaf = match self.cache.take_leaf(&mut self.store, space, id, steps) {
             Ok(leaf) => leaf,
@@ -57,7 +57,7 @@ impl<R: Records, O: Order> Tree<R, O> {
         ensures node { IfOk result (λ read. (pages : PageMap) (n : the_node) → Shows R.S.Space R.file_of R.holds self.old space.old pages → pages id ≡ Some (node_page n) → read ≡ n) }
         ensures looks { Looks R.S.Space R.file_of R.holds self.old.cache.pages self.new.cache.pages self.old.store self.new.store space.old space.new }
         ensures still { StaysStill R.S.Space R.file_of R.region self.old self.new space.old space.new }
-        ensures cause { (IsErrOf result RecErr.Fault → Rose (R.S.faults space.old) (R.S.faults space.new)) × (IsErrOf result RecErr.Full → ⊥) }
+        ensures cause { Blames R.S.Space result space.old space.new }
     {
         let node = match self.cache.node(&mut self.store, space, id, steps) {
             Ok(node) => node,
@@ -83,7 +83,7 @@ impl<R: Records, O: Order> Tree<R, O> {
         ensures refused { OnErr result (Refuses R.S.Space (Beside R.S.Space R.file_of R.holds) (self.old.cache.pages, self.old.store) (self.new.cache.pages, self.new.store) space.old space.new) }
         ensures full { IsErrOf result RecErr.Full → LacksPage R.S.Space R.file_of R.holds R.fills (λ p. p ≡ leaf_page leaf) self.old.store space.old space.new }
         ensures still { StaysStill R.S.Space R.file_of R.region self.old self.new space.old space.new }
-        ensures cause { IsErrOf result RecErr.Fault → Rose (R.S.faults space.old) (R.S.faults space.new) }
+        ensures cause { OnFault R.S.Space result space.old space.new }
     {
         // it doesn't come where the records are told
         if id >= PAGE_END {
@@ -110,7 +110,7 @@ impl<R: Records, O: Order> Tree<R, O> {
         ensures refused { OnErr result (Refuses R.S.Space (Beside R.S.Space R.file_of R.holds) (self.old.cache.pages, self.old.store) (self.new.cache.pages, self.new.store) space.old space.new) }
         ensures full { IsErrOf result RecErr.Full → LacksPage R.S.Space R.file_of R.holds R.fills (λ p. p ≡ node_page node) self.old.store space.old space.new }
         ensures still { StaysStill R.S.Space R.file_of R.region self.old self.new space.old space.new }
-        ensures cause { IsErrOf result RecErr.Fault → Rose (R.S.faults space.old) (R.S.faults space.new) }
+        ensures cause { OnFault R.S.Space result space.old space.new }
     {
         // it doesn't come where the records are told
         if id < PAGE_END {

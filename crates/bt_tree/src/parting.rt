@@ -1,8 +1,8 @@
 //! A leaf that grew beyond its limits, written as two or three.
 ghost use Rattle.std.specs.Prelude.{◌≡◌, ◌+◌, ◌-◌, ◌<◌, ◌≤◌, ◌^◌, ◌⊎◌, ◌++◌, ◌∷◌, ◌==◌, [], suc, length, take, drop, IfOk, OnOk, OnErr, IsErrOf, if◌then◌else◌};
 ghost use Rattle.std.specs.List.{AllByRecursion};
-ghost use Rattle.tc_io.specs.Causes.{Rose};
 ghost use Rattle.tc_space.specs.Frames.{Writes};
+ghost use Rattle.tc_space.specs.Refusals.{Blames, OnFault};
 ghost use Rattle.tc_space.specs.Stores.{IsReady, Only};
 ghost use Rattle.bt_page.specs.Keys.{node_offset};
 ghost use Rattle.bt_rows.specs.Pages.{PageMap};
@@ -15,7 +15,7 @@ ghost use Rattle.bt_tree.specs.Parting.{AddsBehind, ArePartsOf, IsLaid, IsParted
 
 use crate::cutting::cut_places;
 use crate::tree::Tree;
-use bt_page::Entry;
+use bt_page::NodeEntry;
 use bt_slots::SlottedLeaf;
 use std::alloc::{AllocError, Global};
 use tc_base::{Blob, Order, Seq, Steps};
@@ -32,19 +32,19 @@ pub(crate) struct Laid {
 #[derive(Drop)]
 pub(crate) struct Parted {
     pub(crate) leaves: Seq<Laid>,
-    pub(crate) added: Seq<Entry>,
+    pub(crate) added: Seq<NodeEntry>,
     pub(crate) last: u64,
 }
 
 // The entry over a new leaf.
-fn entry_over(alloc: Global, id: u64, leaf: &SlottedLeaf) -> Result<Entry, AllocError>
+fn entry_over(alloc: Global, id: u64, leaf: &SlottedLeaf) -> Result<NodeEntry, AllocError>
     ensures { IfOk result (λ e. e ≡ record { child = id; key = first_key leaf.now.items }) }
 {
     if leaf.len() == 0 {
         return Err(AllocError);
     }
     let key = Blob::from_slice(alloc, leaf.key(0))?;
-    Ok(Entry { child: id, key })
+    Ok(NodeEntry { child: id, key })
 }
 
 // Two leaves of the items of one in front of a place and of those from there to another, before a leaf of this id.
@@ -145,7 +145,7 @@ impl<R: Records, O: Order> Tree<R, O> {
         ensures added { IfOk result (λ all. (pages : PageMap) → Shows R.S.Space R.file_of R.holds self.old space.old pages → AddsBehind next prev pages leaves all) }
         ensures looks { Looks R.S.Space R.file_of R.holds self.old.cache.pages self.new.cache.pages self.old.store self.new.store space.old space.new }
         ensures still { StaysStill R.S.Space R.file_of R.region self.old self.new space.old space.new }
-        ensures cause { (IsErrOf result RecErr.Fault → Rose (R.S.faults space.old) (R.S.faults space.new)) × (IsErrOf result RecErr.Full → ⊥) }
+        ensures cause { Blames R.S.Space result space.old space.new }
     {
         if next == 0 {
             return Ok(leaves);
@@ -176,7 +176,7 @@ impl<R: Records, O: Order> Tree<R, O> {
         ensures laid { OnOk result (Writes R.S.Space (Only (file_in R.file_of self.old)) (Shows R.S.Space R.file_of R.holds) (put_laid leaves) self.old self.new space.old space.new) }
         ensures full { IsErrOf result RecErr.Full → LacksPage R.S.Space R.file_of R.holds R.fills (IsLaid leaves) self.old.store space.old space.new }
         ensures still { StaysStill R.S.Space R.file_of R.region self.old self.new space.old space.new }
-        ensures cause { IsErrOf result RecErr.Fault → Rose (R.S.faults space.old) (R.S.faults space.new) }
+        ensures cause { OnFault R.S.Space result space.old space.new }
     {
         let mut rest = leaves.into_vec();
         while !rest.is_empty() {
@@ -205,7 +205,7 @@ impl<R: Records, O: Order> Tree<R, O> {
         ensures parted { OnOk result (Turns R.S.Space (Only (file_in R.file_of self.old)) (ShowsLeaf R.S.Space R.file_of R.holds id leaf.next) (Shows R.S.Space R.file_of R.holds) (IsParted self.old self.new id leaf) self.old self.new space.old space.new) }
         ensures full { IsErrOf result RecErr.Full → IsUsedUp self.new.head ⊎ LacksPage R.S.Space R.file_of R.holds R.fills (λ p. (pages : PageMap) → ShowsLeaf R.S.Space R.file_of R.holds id leaf.next self.old space.old pages → IsPiece self.old.head leaf.items leaf.next pages p) self.old.store space.old space.new }
         ensures widens { Widens R.S.Space R.file_of R.region (suc (length self.old.path)) self.old self.new space.old space.new }
-        ensures cause { IsErrOf result RecErr.Fault → Rose (R.S.faults space.old) (R.S.faults space.new) }
+        ensures cause { OnFault R.S.Space result space.old space.new }
     {
         let next = leaf.next();
         let (i, j) = cut_places(self.head.leaf_limit, &leaf, place, next == 0);

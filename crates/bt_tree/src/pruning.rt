@@ -1,6 +1,5 @@
 //! Places and nodes that go from the rows above a leaf.
 ghost use Rattle.std.specs.Prelude.{◌≡◌, ◌<◌, ◌≤◌, [], length, IfOk, OnOk, IsErrOf, MatchOption};
-ghost use Rattle.tc_io.specs.Causes.{Rose};
 ghost use Rattle.tc_space.specs.Stores.{IsReady, Only};
 ghost use Rattle.bt_page.specs.declared.page.Node.{Node as the_node};
 ghost use Rattle.bt_rows.specs.Orders.{before_by};
@@ -12,6 +11,7 @@ ghost use Rattle.bt_tree.specs.Climbing.{ShowsWay};
 ghost use Rattle.bt_tree.specs.Meaning.{file_in};
 ghost use Rattle.bt_tree.specs.Paging.{HasNodeAt, Shows, StaysStill, Turns};
 ghost use Rattle.bt_tree.specs.Removing.{Cuts, IsLowered, IsRemnant, LacksRoom, Narrows, ShowsRows, SinksTo};
+ghost use Rattle.tc_space.specs.Refusals.{Blames, OnFault};
 
 use crate::tree::Tree;
 use bt_page::Node;
@@ -59,7 +59,7 @@ impl<R: Records, O: Order> Tree<R, O> {
         ensures full { IsErrOf result RecErr.Full → LacksRoom R.S.Space R.file_of R.holds R.fills (λ p. (pages : PageMap) → ShowsWay R.S.Space R.file_of R.holds self.old space.old pages → IsRemnant self.old.head pages p) self.old.store space.old space.new }
         ensures narrows { Narrows R.S.Space R.file_of R.region self.old self.new space.old space.new }
         ensures same { (self.new.head ≡ self.old.head) × (self.new.height ≡ self.old.height) }
-        ensures cause { IsErrOf result RecErr.Fault → Rose (R.S.faults space.old) (R.S.faults space.new) }
+        ensures cause { OnFault R.S.Space result space.old space.new }
     {
         let Some((id, place)) = self.path.pop() else {
             return Ok(());
@@ -94,7 +94,7 @@ impl<R: Records, O: Order> Tree<R, O> {
         ensures heir { IfOk result (λ o. (pages : PageMap) (n : the_node) → Shows R.S.Space R.file_of R.holds self.old space.old pages → pages id ≡ Some (node_page n) → MatchOption o (0 < length n.entries) (λ heir. (n.entries ≡ []) × (heir ≡ n.heir))) }
         ensures looks { Looks R.S.Space R.file_of R.holds self.old.cache.pages self.new.cache.pages self.old.store self.new.store space.old space.new }
         ensures still { StaysStill R.S.Space R.file_of R.region self.old self.new space.old space.new }
-        ensures cause { (IsErrOf result RecErr.Fault → Rose (R.S.faults space.old) (R.S.faults space.new)) × (IsErrOf result RecErr.Full → ⊥) }
+        ensures cause { Blames R.S.Space result space.old space.new }
     {
         match self.cache.node(&mut self.store, space, id, steps) {
             Ok(node) => Ok(lone_heir(&node)),
@@ -118,7 +118,7 @@ impl<R: Records, O: Order> Tree<R, O> {
         ensures full { IsErrOf result RecErr.Full → LacksRoom R.S.Space R.file_of R.holds R.fills (λ p. ⊥) self.old.store space.old space.new }
         ensures narrows { Narrows R.S.Space R.file_of R.region self.old self.new space.old space.new }
         ensures ends { (self.new.head.first ≡ self.old.head.first) × (self.new.head.last ≡ self.old.head.last) }
-        ensures cause { IsErrOf result RecErr.Fault → Rose (R.S.faults space.old) (R.S.faults space.new) }
+        ensures cause { OnFault R.S.Space result space.old space.new }
     {
         if self.height < 2 {
             return Ok(());

@@ -1,10 +1,10 @@
 //! The first pairs of a stretch of keys.
-ghost use Rattle.std.specs.Prelude.{◌≡◌, ◌≢◌, ◌<◌, ◌-◌, ℕ, [], List, length, take, IfOk, IsErrOf};
+ghost use Rattle.std.specs.Prelude.{◌≡◌, ◌≢◌, ◌<◌, ◌-◌, ℕ, [], List, length, take, IfOk};
 ghost use Rattle.std.specs.FinMap.{get};
 ghost use Rattle.tc_base.specs.Maps.{Map};
 ghost use Rattle.tc_base.specs.declared.seq.Pair.{Pair};
-ghost use Rattle.tc_io.specs.Causes.{Rose};
 ghost use Rattle.tc_space.specs.Changes.{inside};
+ghost use Rattle.tc_space.specs.Refusals.{Blames};
 ghost use Rattle.tc_space.specs.Stores.{IsReady};
 ghost use Rattle.bt_page.specs.declared.page.Leaf.{Leaf as the_leaf};
 ghost use Rattle.bt_rows.specs.declared.page.Page.TheVariants.{Leaf as leaf_page};
@@ -43,7 +43,7 @@ impl<R: Records, O: Order> Tree<R, O> {
         requires { IsReady R.S.Space (Means R.S.Space R.file_of R.holds (before_by O.cmp)) self.old space.old }
         ensures found { IfOk result (λ id. (m : Map) (t : IsTree (before_by O.cmp) self.old.head self.old.height (get m)) → Beside R.S.Space R.file_of R.holds (self.old.cache.pages, self.old.store) space.old m → (path : List (ℕ × ℕ)) × Found (start_of (C.side_of cut.now)) self.old.head.root [] t.leaves t.levels path id) }
         ensures visits { Visits R.S.Space R.file_of R.holds R.region R.gets (self.old.height - 1) self.old self.new steps.old steps.new space.old space.new }
-        ensures cause { (IsErrOf result RecErr.Fault → Rose (R.S.faults space.old) (R.S.faults space.new)) × (IsErrOf result RecErr.Full → ⊥) }
+        ensures cause { Blames R.S.Space result space.old space.new }
     {
         let mut id = self.head.root;
         for i in 1..self.height {
@@ -73,7 +73,7 @@ impl<R: Records, O: Order> Tree<R, O> {
         ensures scanned { IfOk result (λ next. (m : Map) (l : the_leaf) → Beside R.S.Space R.file_of R.holds (self.old.cache.pages, self.old.store) space.old m → HasPage m id (leaf_page l) → Ascends (before_by O.cmp) l.items → IsScanned (C.side_of cut.now) max l pairs.old pairs.new next) }
         ensures room { IfOk result (λ next. next ≢ 0 → length pairs.new < max) }
         ensures visits { Visits R.S.Space R.file_of R.holds R.region R.gets 1 self.old self.new steps.old steps.new space.old space.new }
-        ensures cause { (IsErrOf result RecErr.Fault → Rose (R.S.faults space.old) (R.S.faults space.new)) × (IsErrOf result RecErr.Full → ⊥) }
+        ensures cause { Blames R.S.Space result space.old space.new }
     {
         let _counted = steps.count();
         let leaf = match self.cache.leaf(&mut self.store, space, id, steps) {
@@ -96,7 +96,7 @@ impl<R: Records, O: Order> Tree<R, O> {
         ensures value { IfOk result (λ found. (ps : List Pair) → Means R.S.Space R.file_of R.holds (before_by O.cmp) self.old space.old ps → found ≡ take max (inside (C.side_of cut.now) ps)) }
         ensures asks { Scans R.S.Space R.file_of R.holds R.region R.gets (before_by O.cmp) self.old self.new steps.old steps.new space.old space.new }
         ensures cost { FewPages R.S.Space R.file_of R.holds (before_by O.cmp) (C.side_of cut.now) max self.old space.old steps.old steps.new }
-        ensures cause { (IsErrOf result RecErr.Fault → Rose (R.S.faults space.old) (R.S.faults space.new)) × (IsErrOf result RecErr.Full → ⊥) }
+        ensures cause { Blames R.S.Space result space.old space.new }
     {
         let mut pairs = Pairs::new(self.alloc);
         let first = match self.descend_to(space, cut, steps) {

@@ -1,9 +1,9 @@
 //! Pairs taken out of a tree.
 ghost use Rattle.std.specs.Prelude.{◌≡◌, ◌-◌, ◌<◌, ◌⊎◌, [], List, length, true, false, is_some, IfOk, IfSome, OnErr, IsErrOf};
 ghost use Rattle.tc_base.specs.declared.seq.Pair.{Pair};
-ghost use Rattle.tc_io.specs.Causes.{Rose};
 ghost use Rattle.tc_space.specs.Changes.{has_pair};
 ghost use Rattle.tc_space.specs.Frames.{Keeps, Refuses};
+ghost use Rattle.tc_space.specs.Refusals.{Blames, OnFault};
 ghost use Rattle.tc_space.specs.Stores.{IsReady, Only, TakesOut};
 ghost use Rattle.bt_page.specs.declared.page.Leaf.{Leaf as the_leaf};
 ghost use Rattle.bt_rows.specs.Orders.{before_by};
@@ -54,7 +54,7 @@ impl<R: Records, O: Order> Tree<R, O> {
         ensures hit { IfOk result (λ hit. (pages : PageMap) (l : the_leaf) (ps : List Pair) → Shows R.S.Space R.file_of R.holds self.old space.old pages → pages id ≡ Some (leaf_page l) → IsLeafFor (before_by O.cmp) key.now ps l → hit ≡ has_pair key.now ps) }
         ensures looks { Looks R.S.Space R.file_of R.holds self.old.cache.pages self.new.cache.pages self.old.store self.new.store space.old space.new }
         ensures still { StaysStill R.S.Space R.file_of R.region self.old self.new space.old space.new }
-        ensures cause { (IsErrOf result RecErr.Fault → Rose (R.S.faults space.old) (R.S.faults space.new)) × (IsErrOf result RecErr.Full → ⊥) }
+        ensures cause { Blames R.S.Space result space.old space.new }
     {
         match self.cache.leaf(&mut self.store, space, id, steps) {
             Ok(leaf) => Ok(has_key::<O>(&leaf, key)),
@@ -76,7 +76,7 @@ impl<R: Records, O: Order> Tree<R, O> {
         ensures looks { Looks R.S.Space R.file_of R.holds self.old.cache.pages self.new.cache.pages self.old.store self.new.store space.old space.new }
         ensures made { StaysMade R.file_of R.region self.old self.new }
         ensures stays { StaysTree self.old self.new }
-        ensures cause { (IsErrOf result RecErr.Fault → Rose (R.S.faults space.old) (R.S.faults space.new)) × (IsErrOf result RecErr.Full → ⊥) }
+        ensures cause { Blames R.S.Space result space.old space.new }
     {
         let id = match self.descend(space, key, steps) {
             Ok(id) => id,
@@ -121,7 +121,7 @@ impl<R: Records, O: Order> Tree<R, O> {
         ensures full { IsErrOf result RecErr.Full → IsRefusedRoom R.S.Space R.file_of R.holds R.fills O.cmp all key.now self.old space.old space.new }
         ensures keeps { Keeps R.S.Space space.old space.new }
         ensures stays { StaysMade R.file_of R.region self.old self.new }
-        ensures cause { IsErrOf result RecErr.Fault → Rose (R.S.faults space.old) (R.S.faults space.new) }
+        ensures cause { OnFault R.S.Space result space.old space.new }
     {
         let mut steps: Steps<R> = Steps::new();
         let lessened = match self.give_pairs(space, key, all, &mut steps) {

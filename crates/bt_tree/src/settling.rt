@@ -3,9 +3,9 @@ ghost use Rattle.std.specs.Prelude.{◌≡◌, ◌≤◌, List, OnOk, OnErr, IsE
 ghost use Rattle.tc_base.specs.Endian.{le_bytes, le_number};
 ghost use Rattle.tc_base.specs.Files.{wrote};
 ghost use Rattle.tc_base.specs.declared.seq.Pair.{Pair};
-ghost use Rattle.tc_io.specs.Causes.{Rose};
 ghost use Rattle.tc_space.specs.Changes.{same};
 ghost use Rattle.tc_space.specs.Frames.{In, Keeps, Refuses, Writes};
+ghost use Rattle.tc_space.specs.Refusals.{OnFault};
 ghost use Rattle.tc_space.specs.Stores.{FullBy, IsReady, Only};
 ghost use Rattle.bt_rows.specs.Heads.{head_of};
 ghost use Rattle.bt_rows.specs.Orders.{before_by};
@@ -65,7 +65,7 @@ impl<R: Records, O: Order> Tree<R, O> {
         ensures keeps { Keeps R.S.Space space.old space.new }
         ensures stays { StaysTree self.old self.new }
         ensures file { file_in R.file_of self.new ≡ file_in R.file_of self.old }
-        ensures cause { IsErrOf result RecErr.Fault → Rose (R.S.faults space.old) (R.S.faults space.new) }
+        ensures cause { OnFault R.S.Space result space.old space.new }
     {
         let opaque = region_of(&self.head);
         self.store.set_opaque(&opaque);
@@ -84,7 +84,7 @@ impl<R: Records, O: Order> Tree<R, O> {
         ensures keeps { Keeps R.S.Space space.old space.new }
         ensures stays { StaysTree self.old self.new }
         ensures file { file_in R.file_of self.new ≡ file_in R.file_of self.old }
-        ensures cause { IsErrOf result RecErr.Fault → Rose (R.S.faults space.old) (R.S.faults space.new) }
+        ensures cause { OnFault R.S.Space result space.old space.new }
     {
         match self.store.pack(space, form) {
             Ok(()) => Ok(()),

@@ -1,6 +1,5 @@
 //! A leaf with no items, taken out of a tree.
 ghost use Rattle.std.specs.Prelude.{◌≡◌, ◌==◌, OnOk, IsErrOf, if◌then◌else◌};
-ghost use Rattle.tc_io.specs.Causes.{Rose};
 ghost use Rattle.tc_space.specs.Stores.{IsReady, Only};
 ghost use Rattle.bt_rows.specs.Orders.{before_by};
 ghost use Rattle.bt_rows.specs.Pages.{IsGiven, PageMap};
@@ -8,6 +7,7 @@ ghost use Rattle.bt_ways.specs.Removals.{with_next, with_prev};
 ghost use Rattle.bt_tree.specs.Meaning.{file_in};
 ghost use Rattle.bt_tree.specs.Paging.{Shows, Turns};
 ghost use Rattle.bt_tree.specs.Removing.{Becomes, IsRemnant, LacksRoom, Narrows, ShowsLast, ShowsLink, ShowsLinks, Vacates, without_linked};
+ghost use Rattle.tc_space.specs.Refusals.{OnFault};
 
 use crate::tree::Tree;
 use bt_page::Leaf;
@@ -29,7 +29,7 @@ impl<R: Records, O: Order> Tree<R, O> {
         ensures full { IsErrOf result RecErr.Full → LacksRoom R.S.Space R.file_of R.holds R.fills (λ p. (pages : PageMap) → ShowsLink R.S.Space R.file_of R.holds id self.old space.old pages → IsRemnant self.old.head pages p) self.old.store space.old space.new }
         ensures narrows { Narrows R.S.Space R.file_of R.region self.old self.new space.old space.new }
         ensures same { (self.new.head ≡ record self.old.head { first = if id == 0 then next else self.old.head.first }) × (self.new.height ≡ self.old.height) × (self.new.path ≡ self.old.path) }
-        ensures cause { IsErrOf result RecErr.Fault → Rose (R.S.faults space.old) (R.S.faults space.new) }
+        ensures cause { OnFault R.S.Space result space.old space.new }
     {
         if id == 0 {
             self.head.first = next;
@@ -56,7 +56,7 @@ impl<R: Records, O: Order> Tree<R, O> {
         ensures full { IsErrOf result RecErr.Full → LacksRoom R.S.Space R.file_of R.holds R.fills (λ p. (pages : PageMap) → ShowsLink R.S.Space R.file_of R.holds id self.old space.old pages → IsRemnant self.old.head pages p) self.old.store space.old space.new }
         ensures narrows { Narrows R.S.Space R.file_of R.region self.old self.new space.old space.new }
         ensures same { (self.new.head ≡ record self.old.head { last = if id == 0 then prev else self.old.head.last }) × (self.new.height ≡ self.old.height) × (self.new.path ≡ self.old.path) }
-        ensures cause { IsErrOf result RecErr.Fault → Rose (R.S.faults space.old) (R.S.faults space.new) }
+        ensures cause { OnFault R.S.Space result space.old space.new }
     {
         if id == 0 {
             self.head.last = prev;
@@ -86,7 +86,7 @@ impl<R: Records, O: Order> Tree<R, O> {
         ensures narrows { Narrows R.S.Space R.file_of R.region self.old self.new space.old space.new }
         ensures same { OnOk result (self.new.head ≡ record self.old.head { first = if prev == 0 then next else self.old.head.first; last = if next == 0 then prev else self.old.head.last }) }
         ensures way { (self.new.height ≡ self.old.height) × (self.new.path ≡ self.old.path) }
-        ensures cause { IsErrOf result RecErr.Fault → Rose (R.S.faults space.old) (R.S.faults space.new) }
+        ensures cause { OnFault R.S.Space result space.old space.new }
     {
         if let Err(e) = self.link_next(space, prev, next, steps) {
             return Err(e);
@@ -111,7 +111,7 @@ impl<R: Records, O: Order> Tree<R, O> {
         ensures vacated { OnOk result (Turns R.S.Space (Only (file_in R.file_of self.old)) (ShowsLast R.S.Space R.file_of R.holds (before_by O.cmp) id prev next) (Shows R.S.Space R.file_of R.holds) (Vacates (before_by O.cmp) id prev next self.old self.new) self.old self.new space.old space.new) }
         ensures full { IsErrOf result RecErr.Full → LacksRoom R.S.Space R.file_of R.holds R.fills (λ p. (pages : PageMap) → ShowsLast R.S.Space R.file_of R.holds (before_by O.cmp) id prev next self.old space.old pages → IsRemnant self.old.head pages p) self.old.store space.old space.new }
         ensures narrows { Narrows R.S.Space R.file_of R.region self.old self.new space.old space.new }
-        ensures cause { IsErrOf result RecErr.Fault → Rose (R.S.faults space.old) (R.S.faults space.new) }
+        ensures cause { OnFault R.S.Space result space.old space.new }
     {
         if let Err(e) = self.unlink(space, id, prev, next, steps) {
             return Err(e);
@@ -128,7 +128,7 @@ impl<R: Records, O: Order> Tree<R, O> {
         ensures vacated { OnOk result (Turns R.S.Space (Only (file_in R.file_of self.old)) (ShowsLast R.S.Space R.file_of R.holds (before_by O.cmp) id 0 0) (Shows R.S.Space R.file_of R.holds) (Vacates (before_by O.cmp) id 0 0 self.old self.new) self.old self.new space.old space.new) }
         ensures full { IsErrOf result RecErr.Full → LacksRoom R.S.Space R.file_of R.holds R.fills (λ p. (pages : PageMap) → ShowsLast R.S.Space R.file_of R.holds (before_by O.cmp) id 0 0 self.old space.old pages → IsRemnant self.old.head pages p) self.old.store space.old space.new }
         ensures narrows { Narrows R.S.Space R.file_of R.region self.old self.new space.old space.new }
-        ensures cause { IsErrOf result RecErr.Fault → Rose (R.S.faults space.old) (R.S.faults space.new) }
+        ensures cause { OnFault R.S.Space result space.old space.new }
     {
         if let Err(e) = self.drop_way(space) {
             return Err(e);
@@ -164,7 +164,7 @@ impl<R: Records, O: Order> Tree<R, O> {
         ensures vacated { OnOk result (Turns R.S.Space (Only (file_in R.file_of self.old)) (ShowsLast R.S.Space R.file_of R.holds (before_by O.cmp) id prev next) (Shows R.S.Space R.file_of R.holds) (Vacates (before_by O.cmp) id prev next self.old self.new) self.old self.new space.old space.new) }
         ensures full { IsErrOf result RecErr.Full → LacksRoom R.S.Space R.file_of R.holds R.fills (λ p. (pages : PageMap) → ShowsLast R.S.Space R.file_of R.holds (before_by O.cmp) id prev next self.old space.old pages → IsRemnant self.old.head pages p) self.old.store space.old space.new }
         ensures narrows { Narrows R.S.Space R.file_of R.region self.old self.new space.old space.new }
-        ensures cause { IsErrOf result RecErr.Fault → Rose (R.S.faults space.old) (R.S.faults space.new) }
+        ensures cause { OnFault R.S.Space result space.old space.new }
     {
         if prev == 0 && next == 0 {
             return self.clear(space, id);

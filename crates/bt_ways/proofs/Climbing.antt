@@ -3,7 +3,7 @@ use Rattle.std.proofs.Common.{◌≡◌, ◌⊎◌, ℕ, suc, ◌+◌, List, [],
 use Rattle.std.proofs.lemmas.Bool.{cases_eq}
 use Rattle.std.proofs.lemmas.List.{map-append}
 use Rattle.bt_page.specs.Limits.{NodeWithin}
-use Rattle.bt_page.specs.declared.page.Entry.{Entry}
+use Rattle.bt_page.specs.declared.page.NodeEntry.{NodeEntry}
 use Rattle.bt_page.specs.declared.page.Node.{Node}
 use Rattle.bt_rows.specs.declared.page.Page.TheVariants.{Node as node_page}
 use Rattle.bt_rows.specs.declared.page.Slot.{Slot}
@@ -37,7 +37,7 @@ only_on limit old middle new first second j = go (first j) (second j)
 
 -- ---- a new root
 
-rooted : (old new : PageMap) (height root id : ℕ) (added : List Entry) → old id ≡ None → Puts old new id (node_page (record { heir = root; entries = added }))
+rooted : (old new : PageMap) (height root id : ℕ) (added : List NodeEntry) → old id ≡ None → Puts old new id (node_page (record { heir = root; entries = added }))
     → Climbed old new height (suc height) id [] ((record { slot = root_slot id; node = record { heir = root; entries = added } } ∷ []) ∷ []) (root_slot root ∷ (map entry_slot added ++ []))
 rooted old new height root id added fresh put = record {
   up = (refl, refl);
@@ -50,7 +50,7 @@ rooted old new height root id added fresh put = record {
   grew = omega arith;
 }
 
-abbrev with_root : ℕ → ℕ → List Entry → PageMap → PageMap
+abbrev with_root : ℕ → ℕ → List NodeEntry → PageMap → PageMap
 with_root id root added old = put_at id (node_page (record { heir = root; entries = added })) old
 
 pub root_grows : RootGrows
@@ -67,7 +67,7 @@ root_grows limit old height root id added fresh within = record { limits = only_
 
 -- ---- a node on the way
 
-spliced_row : (es : List Entry) (a : List Slot) (s : Slot) (b : List Slot) (added : List Entry) → map entry_slot es ≡ a ++ s ∷ b
+spliced_row : (es : List NodeEntry) (a : List Slot) (s : Slot) (b : List Slot) (added : List NodeEntry) → map entry_slot es ≡ a ++ s ∷ b
     → map entry_slot (spliced es (suc (length a)) added) ≡ a ++ s ∷ (map entry_slot added ++ b)
 spliced_row [] [] s b added e = absurd (cc)
 spliced_row [] (x ∷ a) s b added e = absurd (cc)
@@ -81,7 +81,7 @@ spliced_row (y ∷ es) (x ∷ a) s b added e =
     ap (λ (t : List Slot). entry_slot y ∷ t) (spliced_row es a s b added tail) ∙ ap (λ (z : Slot). z ∷ (a ++ s ∷ (map entry_slot added ++ b))) head
 
 -- a node with entries put in behind one of its places
-pub spliced_children : (bound : Option (List ℕ)) (n : Node) (a : List Slot) (s : Slot) (b : List Slot) (added : List Entry) → children_of bound n ≡ a ++ s ∷ b
+pub spliced_children : (bound : Option (List ℕ)) (n : Node) (a : List Slot) (s : Slot) (b : List Slot) (added : List NodeEntry) → children_of bound n ≡ a ++ s ∷ b
     → children_of bound (record { heir = n.heir; entries = spliced n.entries (length a) added }) ≡ a ++ s ∷ (map entry_slot added ++ b)
 spliced_children bound n [] s b added e =
     let h : Slot = record { bound = bound; id = n.heir } in
@@ -108,7 +108,7 @@ same_step c cs id place path e =
 pub held_in_row : (pages : PageMap) (c : Crumb) (Ls : List (List NodeAt)) → LevelsHeld pages (row_of c ∷ Ls) → pages c.node.slot.id ≡ Some (node_page c.node.node)
 held_in_row pages c Ls h = (nodes_part pages c.left (c.node ∷ c.right) h.0).1.0
 
-abbrev with_spliced : Node → ℕ → List Entry → Node
+abbrev with_spliced : Node → ℕ → List NodeEntry → Node
 with_spliced n place added = record { heir = n.heir; entries = spliced n.entries place added }
 
 pub node_takes : NodeTakes
@@ -132,10 +132,10 @@ node_takes limit old height root id place path n added read within = record { li
         )
 
 -- both nodes of one that was cut, and the pages with them
-abbrev left_node : Node → List Entry → Node
+abbrev left_node : Node → List NodeEntry → Node
 left_node n front = record { heir = n.heir; entries = front }
 
-abbrev right_node : Entry → List Entry → Node
+abbrev right_node : NodeEntry → List NodeEntry → Node
 right_node up back = record { heir = up.child; entries = back }
 
 abbrev with_two : ℕ → Node → ℕ → Node → PageMap → PageMap
@@ -167,7 +167,7 @@ node_parts limit old new height height' root root' id place second path n added 
         let r : NodeAt = record { slot = record { bound = Some up.key; id = second }; node = right } in
         let h : Slot = record { bound = c.node.slot.bound; id = n.heir } in
         let two : node_children l ++ node_children r ≡ c.a ++ s ∷ (map entry_slot added ++ c.b) =
-        ap (λ (t : List Slot). h ∷ t) (sym (map-append entry_slot front (up ∷ back)) ∙ ap (λ (es : List Entry). map entry_slot es) (sym cut'))
+        ap (λ (t : List Slot). h ∷ t) (sym (map-append entry_slot front (up ∷ back)) ∙ ap (λ (es : List NodeEntry). map entry_slot es) (sym cut'))
         ∙ ap (λ (m : Node). children_of c.node.slot.bound (record { heir = m.heir; entries = spliced c.node.node.entries (length c.a) added })) same
         ∙ spliced_children c.node.slot.bound c.node.node c.a s c.b added k.leads.0 in
         let way : IsHeldWay low root cs c.node.slot = record {

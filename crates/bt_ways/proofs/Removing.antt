@@ -4,7 +4,7 @@ use Rattle.std.specs.List.{remove}
 use Rattle.std.proofs.lemmas.Bool.{cases_eq}
 use Rattle.std.proofs.lemmas.List.{map-append}
 use Rattle.bt_page.specs.Limits.{NodeWithin}
-use Rattle.bt_page.specs.declared.page.Entry.{Entry}
+use Rattle.bt_page.specs.declared.page.NodeEntry.{NodeEntry}
 use Rattle.bt_page.specs.declared.page.Node.{Node}
 use Rattle.bt_rows.specs.declared.page.Page.TheVariants.{Node as node_page}
 use Rattle.bt_rows.specs.declared.page.Slot.{Slot}
@@ -37,7 +37,7 @@ children_less left node right a b e =
     rearrange : (p q r t : List Slot) → (p ++ q) ++ (r ++ t) ≡ p ++ ((q ++ r) ++ t)
     rearrange p q r t = simp append_assoc
 
-removed_row : (es : List Entry) (a : List Slot) (s : Slot) (b : List Slot) → map entry_slot es ≡ a ++ s ∷ b → map entry_slot (remove es (length a)) ≡ a ++ b
+removed_row : (es : List NodeEntry) (a : List Slot) (s : Slot) (b : List Slot) → map entry_slot es ≡ a ++ s ∷ b → map entry_slot (remove es (length a)) ≡ a ++ b
 removed_row [] [] s b e = absurd (cc)
 removed_row [] (x ∷ a) s b e = absurd (cc)
 removed_row (y ∷ es) [] s b e = cc
@@ -72,18 +72,18 @@ record Heir (n : NodeAt) (s : Slot) (b : List Slot) : Type 0 where
 heir : (n : NodeAt) (s : Slot) (b : List Slot) → node_children n ≡ s ∷ b → 0 < length n.node.entries → Heir n s b
 heir n s b e some = go n.node.entries refl some
   where
-    go : (es : List Entry) → n.node.entries ≡ es → 0 < length es → Heir n s b
+    go : (es : List NodeEntry) → n.node.entries ≡ es → 0 < length es → Heir n s b
     go [] is lt = absurd (omega (arith, lt))
     go (y ∷ es) is lt =
         let h : Slot = record { bound = n.slot.bound; id = n.node.heir } in
-        let whole : h ∷ map entry_slot (y ∷ es) ≡ s ∷ b = ap (λ (t : List Entry). h ∷ map entry_slot t) (sym is) ∙ e in
+        let whole : h ∷ map entry_slot (y ∷ es) ≡ s ∷ b = ap (λ (t : List NodeEntry). h ∷ map entry_slot t) (sym is) ∙ e in
         let head : h ≡ s = cc whole in
         let tail : entry_slot y ∷ map entry_slot es ≡ b = cc whole in
         record {
           next = entry_slot y;
           rest = map entry_slot es;
           behind = sym tail;
-          now = ap (λ (t : List Entry). children_of n.slot.bound (without_place 0 (record { heir = n.node.heir; entries = t }))) is
+          now = ap (λ (t : List NodeEntry). children_of n.slot.bound (without_place 0 (record { heir = n.node.heir; entries = t }))) is
               ∙ ap (λ (o : Option (List ℕ)). record { bound = o; id = y.child } ∷ map entry_slot es) (ap (λ (x : Slot). x.bound) head);
         }
 
@@ -277,7 +277,7 @@ node_goes limit old new root id place path n read none above = record { limits =
         let gone : Drops old low c.node.slot.id = subst (λ i. Drops old low i) step.step_id (drops id old) in
         let h : Slot = record { bound = c.node.slot.bound; id = c.node.node.heir } in
         let empty : c.node.node.entries ≡ [] = ap (λ (m : Node). m.entries) (sym same) ∙ none in
-        let only = only_place h c.a s c.b (ap (λ (t : List Entry). h ∷ map entry_slot t) (sym empty) ∙ k.leads.0) in
+        let only = only_place h c.a s c.b (ap (λ (t : List NodeEntry). h ∷ map entry_slot t) (sym empty) ∙ k.leads.0) in
         let way : IsHeldWay low root cs c.node.slot = record {
           leads = k.leads.3;
           nodes = cut_above old low (rows_of cs) c.left c.right c.node k.nodes k.once gone;

@@ -1,7 +1,7 @@
 -- A root that gives way to its heir, and the only leaf once it is empty.
 use Rattle.std.proofs.Common.{◌≡◌, ℕ, suc, ◌+◌, ◌<◌, List, [], ◌∷◌, ◌++◌, Some, None, length, map, refl, sym, ap, ◌∙◌, subst, ⊎_elim, arith}
 use Rattle.std.proofs.lemmas.Bool.{cases_eq}
-use Rattle.bt_page.specs.declared.page.Entry.{Entry}
+use Rattle.bt_page.specs.declared.page.NodeEntry.{NodeEntry}
 use Rattle.bt_page.specs.declared.page.Leaf.{Leaf}
 use Rattle.bt_page.specs.declared.page.Node.{Node}
 use Rattle.bt_rows.specs.declared.page.LeafAt.{LeafAt}
@@ -45,7 +45,7 @@ module _ (pages : PageMap) (root : ℕ) (n : Node) (is : pages root ≡ Some (no
       record {
         rows = [];
         up = up.0 ∙ ap (λ (s : Slot). children_of s.bound t.node ++ []) top ∙ ap (λ (m : Node). children_of None m ++ []) same
-            ∙ ap (λ (es : List Entry). (root_slot n.heir ∷ map entry_slot es) ++ []) none;
+            ∙ ap (λ (es : List NodeEntry). (root_slot n.heir ∷ map entry_slot es) ++ []) none;
         held_rows = tt;
         count = λ id. omega (arith, ap (λ (s : Slot). times id (s ∷ [])) top);
         one = omega arith;

@@ -2,7 +2,7 @@
 use Rattle.std.proofs.Common.{◌≡◌, ℕ, List, [], ◌∷◌, ◌++◌, Bool, true, false, Option, Some, None, map, refl, sym, ap, ◌∙◌, subst}
 use Rattle.std.specs.Prelude.{⊤}
 use Rattle.std.specs.List.{AllByRecursion}
-use Rattle.bt_page.specs.declared.page.Entry.{Entry}
+use Rattle.bt_page.specs.declared.page.NodeEntry.{NodeEntry}
 use Rattle.bt_rows.specs.declared.page.LeafAt.{LeafAt}
 use Rattle.bt_rows.specs.declared.page.Slot.{Slot}
 use Rattle.bt_rows.specs.Between.{KeysAscend}
@@ -48,11 +48,11 @@ row_rises before (n ∷ L) r = (
   row_rises before L (rise_back before (node_children n) (all_children L) r),
 )
 
-entries_rise : (before : Before) (es : List Entry) → BoundsRise before (map entry_slot es) → KeysAscend before es
+entries_rise : (before : Before) (es : List NodeEntry) → BoundsRise before (map entry_slot es) → KeysAscend before es
 entries_rise before [] r = tt
 entries_rise before (e ∷ es) r = (under es r.0, entries_rise before es r.1)
   where
-    under : (ds : List Entry) → AllByRecursion (λ t. BoundUnder before (Some e.key) t.bound) (map entry_slot ds) → AllByRecursion (λ f. before e.key f.key ≡ true) ds
+    under : (ds : List NodeEntry) → AllByRecursion (λ t. BoundUnder before (Some e.key) t.bound) (map entry_slot ds) → AllByRecursion (λ f. before e.key f.key ≡ true) ds
     under [] h = tt
     under (d ∷ ds) h = (h.0, under ds h.1)
 

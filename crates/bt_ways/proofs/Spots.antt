@@ -10,7 +10,7 @@ use Rattle.std.specs.List.Sorted.{IsPartitionedBy, IsPartitionPoint}
 use Rattle.tc_base.specs.declared.seq.Pair.{Pair}
 use Rattle.tc_base.specs.Lists.{pair}
 use Rattle.bt_page.specs.Pages.{HasValue}
-use Rattle.bt_page.specs.declared.page.Entry.{Entry}
+use Rattle.bt_page.specs.declared.page.NodeEntry.{NodeEntry}
 use Rattle.bt_page.specs.declared.page.Item.{Item}
 use Rattle.bt_rows.specs.Between.{KeysAscend}
 use Rattle.bt_rows.specs.Orders.{Before, IsOrder}
@@ -32,12 +32,12 @@ item_of_place xs i lt = (slice_index_or xs i (record { key = []; values = [] }),
 
 -- ---- the page behind so many entries
 
-child_suc : (heir : ℕ) (entries : List Entry) (i child : ℕ) → i < length entries → ((e : Entry) → slice_get entries i ≡ Some e → child ≡ e.child) → child ≡ child_at heir entries (suc i)
+child_suc : (heir : ℕ) (entries : List NodeEntry) (i child : ℕ) → i < length entries → ((e : NodeEntry) → slice_get entries i ≡ Some e → child ≡ e.child) → child ≡ child_at heir entries (suc i)
 child_suc heir [] i child lt is = absurd (omega (arith, lt))
 child_suc heir (x ∷ xs) zero child lt is = is x refl
 child_suc heir (x ∷ xs) (suc i) child lt is = child_suc x.child xs i child (omega (arith, lt)) (λ e get. is e get)
 
-pub child_behind : (heir : ℕ) (entries : List Entry) (place child : ℕ) → place ≢ 0 → place ≤ length entries → ((e : Entry) → slice_get entries (place - 1) ≡ Some e → child ≡ e.child) → child ≡ child_at heir entries place
+pub child_behind : (heir : ℕ) (entries : List NodeEntry) (place child : ℕ) → place ≢ 0 → place ≤ length entries → ((e : NodeEntry) → slice_get entries (place - 1) ≡ Some e → child ≡ e.child) → child ≡ child_at heir entries place
 child_behind heir entries place child ne le is =
     let k : place ≡ suc (place - 1) = omega (arith, ne) in
     subst (λ (q : ℕ). child ≡ child_at heir entries q) (sym k) (child_suc heir entries (place - 1) child (omega (arith, ne, le)) is)
@@ -99,7 +99,7 @@ parts_of_around before key items place its vs a = record {
 }
 
 module _ (before : Before) (order : IsOrder before) where
-  pub entries_rise : (es : List Entry) → KeysAscend before es → Rise (λ (e : Entry). e.key) before es
+  pub entries_rise : (es : List NodeEntry) → KeysAscend before es → Rise (λ (e : NodeEntry). e.key) before es
   entries_rise [] h = tt
   entries_rise (e ∷ es) h = (h.0, entries_rise es h.1)
 
@@ -107,15 +107,15 @@ module _ (before : Before) (order : IsOrder before) where
   items_rise [] h = tt
   items_rise (x ∷ xs) h = (h.0, items_rise xs h.1)
 
-  pub entries_parted : (key : List ℕ) (es : List Entry) → KeysAscend before es → IsPartitionedBy (λ e. not (before key e.key)) es
-  entries_parted key es h = parted (λ (e : Entry). e.key) before (λ e. not (before key e.key))
+  pub entries_parted : (key : List ℕ) (es : List NodeEntry) → KeysAscend before es → IsPartitionedBy (λ e. not (before key e.key)) es
+  entries_parted key es h = parted (λ (e : NodeEntry). e.key) before (λ e. not (before key e.key))
       (λ x y lt low. false_not (before key x.key) (⊎_elim (λ (up : before key x.key ≡ true). absurd (clash (before key y.key) (order.trans key x.key y.key up lt) (not_true (before key y.key) low))) (λ (is : before key x.key ≡ false). is) (either (before key x.key))))
       es (entries_rise es h)
 
   pub items_parted : (key : List ℕ) (xs : List Item) → Ascends before xs → IsPartitionedBy (λ x. before x.key key) xs
   items_parted key xs h = parted (λ (x : Item). x.key) before (λ x. before x.key key) (λ x y lt low. order.trans x.key y.key key lt low) xs (items_rise xs h)
 
-  pub route_of : (key : List ℕ) (es : List Entry) (place : ℕ) → place ≤ length es → IsPartitionPoint (λ e. not (before key e.key) ≡ true) (λ e. not (before key e.key) ≡ false) es place → IsRoute before es key place
+  pub route_of : (key : List ℕ) (es : List NodeEntry) (place : ℕ) → place ≤ length es → IsPartitionPoint (λ e. not (before key e.key) ≡ true) (λ e. not (before key e.key) ≡ false) es place → IsRoute before es key place
   route_of key es place within point = record {
     within = within;
     low = λ i d lt. not_true (before key (slice_index_or es i d).key) (point.0 i d (omega arith) lt);

@@ -1,7 +1,7 @@
 -- The way down to a key.
 use Rattle.std.proofs.Common.{◌≡◌, ◌≢◌, ℕ, zero, suc, ◌+◌, ◌<◌, ◌≤◌, List, [], ◌∷◌, ◌++◌, Option, Some, None, length, map, refl, sym, ap, ◌∙◌, subst, arith}
 use Rattle.std.specs.Prelude.{⊤}
-use Rattle.bt_page.specs.declared.page.Entry.{Entry}
+use Rattle.bt_page.specs.declared.page.NodeEntry.{NodeEntry}
 use Rattle.bt_page.specs.declared.page.Node.{Node}
 use Rattle.bt_rows.specs.declared.page.LeafAt.{LeafAt}
 use Rattle.bt_rows.specs.declared.page.Page.TheVariants.{Node as node_page}
@@ -41,7 +41,7 @@ record Routed (before : Before) (key : List ℕ) (slots : List Slot) (place chil
   low : AtLeast before s.bound key
   high : IsBehind before key b
 
-routed : (before : Before) (key : List ℕ) (bound : Option (List ℕ)) (heir : ℕ) (entries : List Entry) (place : ℕ) → AtLeast before bound key → IsRoute before entries key place
+routed : (before : Before) (key : List ℕ) (bound : Option (List ℕ)) (heir : ℕ) (entries : List NodeEntry) (place : ℕ) → AtLeast before bound key → IsRoute before entries key place
     → Routed before key (record { bound = bound; id = heir } ∷ map entry_slot entries) place (child_at heir entries place)
 routed before key bound heir [] zero low r = record { a = []; s = record { bound = bound; id = heir }; b = []; parts = refl; at = refl; is = refl; low = low; high = tt }
 routed before key bound heir (e ∷ es) zero low r = record { a = []; s = record { bound = bound; id = heir }; b = map entry_slot (e ∷ es); parts = refl; at = refl; is = refl; low = low; high = r.high e (omega arith) }

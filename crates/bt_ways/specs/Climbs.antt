@@ -1,7 +1,7 @@
 -- What becomes of the rows above a place where places are added behind it.
 use Rattle.std.specs.Prelude.{◌≡◌, ◌⊎◌, ℕ, ◌+◌, ◌≤◌, List, ◌∷◌, ◌++◌, Some, map, length}
 use Rattle.bt_page.specs.Limits.{NodeWithin}
-use Rattle.bt_page.specs.declared.page.Entry.{Entry}
+use Rattle.bt_page.specs.declared.page.NodeEntry.{NodeEntry}
 use Rattle.bt_page.specs.declared.page.Node.{Node}
 use Rattle.bt_rows.specs.declared.page.Page.TheVariants.{Node as node_page}
 use Rattle.bt_rows.specs.declared.page.Slot.{Slot}
@@ -29,7 +29,7 @@ abbrev pub OnlyNodes : ℕ → PageMap → PageMap → Type 0
 OnlyNodes limit old new = (id : ℕ) → (new id ≡ old id) ⊎ ((n : Node) × (new id ≡ Some (node_page n)) × NodeWithin limit n)
 
 -- wherever this way led, the rows above stand again, with the places of these entries behind the one that it led to
-pub record ClimbsWith (limit : ℕ) (old new : PageMap) (height height' root root' : ℕ) (path : List (ℕ × ℕ)) (added : List Entry) : Type 0 where
+pub record ClimbsWith (limit : ℕ) (old new : PageMap) (height height' root root' : ℕ) (path : List (ℕ × ℕ)) (added : List NodeEntry) : Type 0 where
   pub limits : OnlyNodes limit old new
   pub each : (cs : List Crumb) (s : Slot) → path ≡ path_of cs → IsHeldWay old root cs s
       → (rows : List (List NodeAt)) × Climbed old new height height' root' (rows_of cs) rows (front_of cs ++ s ∷ (map entry_slot added ++ back_of cs))

@@ -2,7 +2,7 @@
 use Rattle.std.specs.Prelude.{◌≡◌, ◌≢◌, ℕ, suc, ◌+◌, ◌<◌, ◌≤◌, List, [], ◌∷◌, ◌++◌, None, Some, length, map, take, drop}
 use Rattle.std.specs.List.{AllByRecursion}
 use Rattle.bt_page.specs.Limits.{NodeWithin}
-use Rattle.bt_page.specs.declared.page.Entry.{Entry}
+use Rattle.bt_page.specs.declared.page.NodeEntry.{NodeEntry}
 use Rattle.bt_page.specs.declared.page.Item.{Item}
 use Rattle.bt_page.specs.declared.page.Node.{Node}
 use Rattle.bt_rows.specs.declared.page.LeafAt.{LeafAt}
@@ -22,23 +22,23 @@ use Rattle.bt_ways.specs.Writes.{put_at}
 -- a new root over the old one
 abbrev pub RootGrows : Type 0
 RootGrows =
-    (limit : ℕ) (old : PageMap) (height root id : ℕ) (added : List Entry) → old id ≡ None → length added ≤ limit
+    (limit : ℕ) (old : PageMap) (height root id : ℕ) (added : List NodeEntry) → old id ≡ None → length added ≤ limit
     → ClimbsWith limit old (put_at id (node_page (record { heir = root; entries = added })) old) height (suc height) root id [] added
 
 -- entries put in behind so many
-abbrev pub spliced : List Entry → ℕ → List Entry → List Entry
+abbrev pub spliced : List NodeEntry → ℕ → List NodeEntry → List NodeEntry
 spliced entries place added = take place entries ++ (added ++ drop place entries)
 
 -- a node takes the entries
 abbrev pub NodeTakes : Type 0
 NodeTakes =
-    (limit : ℕ) (old : PageMap) (height root id place : ℕ) (path : List (ℕ × ℕ)) (n : Node) (added : List Entry) → old id ≡ Some (node_page n) → length (spliced n.entries place added) ≤ limit
+    (limit : ℕ) (old : PageMap) (height root id place : ℕ) (path : List (ℕ × ℕ)) (n : Node) (added : List NodeEntry) → old id ≡ Some (node_page n) → length (spliced n.entries place added) ≤ limit
     → ClimbsWith limit old (put_at id (node_page (record { heir = n.heir; entries = spliced n.entries place added })) old) height height root root ((id, place) ∷ path) added
 
 -- a node is cut in two around an entry, which goes on up under the id of the second
 abbrev pub NodeParts : Type 0
 NodeParts =
-    (limit : ℕ) (old new : PageMap) (height height' root root' id place second : ℕ) (path : List (ℕ × ℕ)) (n : Node) (added front back : List Entry) (up : Entry)
+    (limit : ℕ) (old new : PageMap) (height height' root root' id place second : ℕ) (path : List (ℕ × ℕ)) (n : Node) (added front back : List NodeEntry) (up : NodeEntry)
     → old id ≡ Some (node_page n) → old second ≡ None → spliced n.entries place added ≡ front ++ up ∷ back → length front ≤ limit → length back ≤ limit
     → ClimbsWith limit (put_at id (node_page (record { heir = n.heir; entries = front })) (put_at second (node_page (record { heir = up.child; entries = back })) old)) new height height' root root' path
     (record { child = second; key = up.key } ∷ [])

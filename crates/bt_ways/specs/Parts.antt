@@ -1,7 +1,7 @@
 -- A leaf whose items are parted among several.
 use Rattle.std.specs.Prelude.{◌≡◌, ℕ, ◌<◌, List, [], ◌∷◌, ◌++◌, Option, None, Some, length, take}
 use Rattle.std.specs.List.{AllByRecursion}
-use Rattle.bt_page.specs.declared.page.Entry.{Entry}
+use Rattle.bt_page.specs.declared.page.NodeEntry.{NodeEntry}
 use Rattle.bt_page.specs.declared.page.Item.{Item}
 use Rattle.bt_page.specs.declared.page.Leaf.{Leaf}
 use Rattle.bt_rows.specs.declared.page.LeafAt.{LeafAt}
@@ -23,12 +23,8 @@ abbrev pub part_slot : Part → Slot
 part_slot p = record { bound = Some (first_key p.items); id = p.id }
 
 -- the entry that names a new leaf: its first key is the least that may stand there
-abbrev pub part_entry : Part → Entry
+abbrev pub part_entry : Part → NodeEntry
 part_entry p = record { child = p.id; key = first_key p.items }
-
-abbrev pub first_part : ℕ → List Part → ℕ
-first_part next [] = next
-first_part next (p ∷ ps) = p.id
 
 abbrev pub all_items : List Item → List Part → List Item
 all_items items [] = items

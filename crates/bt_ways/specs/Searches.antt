@@ -1,18 +1,18 @@
 -- What a search in one page finds.
 use Rattle.std.specs.Prelude.{◌≡◌, ℕ, zero, suc, ◌<◌, ◌≤◌, List, [], ◌∷◌, Bool, true, false, length}
 use Rattle.std.specs.List.{slice_index_or}
-use Rattle.bt_page.specs.declared.page.Entry.{Entry}
+use Rattle.bt_page.specs.declared.page.NodeEntry.{NodeEntry}
 use Rattle.bt_page.specs.declared.page.Item.{Item}
 use Rattle.bt_rows.specs.Orders.{Before}
 
 -- so many entries of a node are not above a key, and the next one is
-pub record IsRoute (before : Before) (entries : List Entry) (key : List ℕ) (place : ℕ) : Type 0 where
+pub record IsRoute (before : Before) (entries : List NodeEntry) (key : List ℕ) (place : ℕ) : Type 0 where
   pub within : place ≤ length entries
-  pub low : (i : ℕ) (d : Entry) → i < place → before key (slice_index_or entries i d).key ≡ false
-  pub high : (d : Entry) → place < length entries → before key (slice_index_or entries place d).key ≡ true
+  pub low : (i : ℕ) (d : NodeEntry) → i < place → before key (slice_index_or entries i d).key ≡ false
+  pub high : (d : NodeEntry) → place < length entries → before key (slice_index_or entries place d).key ≡ true
 
 -- the page behind so many entries, or the heir
-abbrev pub child_at : ℕ → List Entry → ℕ → ℕ
+abbrev pub child_at : ℕ → List NodeEntry → ℕ → ℕ
 child_at heir entries zero = heir
 child_at heir [] (suc i) = heir
 child_at heir (e ∷ es) (suc i) = child_at e.child es i

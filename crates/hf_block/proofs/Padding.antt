@@ -1,14 +1,14 @@
 -- Blocks are filled up to a multiple of the unit.
 use Rattle.std.proofs.Common.{◌≡◌, ◌∙◌, ℕ, ◌+◌, ◌-◌, ◌*◌, ◌/◌, ◌%◌, ◌<◌, ◌≤◌, List, [], ◌∷◌, ◌++◌, length, take, drop, replicate, refl, sym, ap, arith, append_assoc, length-append}
 use Rattle.std.proofs.Math.Nat.{add-mul-mod_self_right, mul-mod_left, mod-add-div'}
-use Rattle.std.proofs.lemmas.List.{take_at, append-nil, length-replicate, take-replicate, replicate-append-replicate}
+use Rattle.std.proofs.lemmas.List.{take_at, length-replicate, places, same_lists}
 use Rattle.tc_base.specs.Endian.{le_bytes}
 use Rattle.tc_base.specs.Files.{wrote}
 use Rattle.tc_base.specs.Vnum.{vnum}
 use Rattle.tc_base.proofs.Endians.{length-le_bytes}
 use Rattle.hf_block.specs.Heads.{rec_head}
 use Rattle.hf_block.specs.Pieces.{Record, held, spell}
-use Rattle.hf_block.specs.Written.{padding, front_bytes, content, written, record_bytes, block_len}
+use Rattle.hf_block.specs.Written.{padding, front_bytes, linked_front, content, written, record_bytes, block_len}
 
 pub mod-sum : (a b c u : ℕ) → (a % u + b % u + c % u) % u ≡ (a + b + c) % u
 mod-sum a b c u =
@@ -69,15 +69,21 @@ unfolding le_bytes
 one_byte n small = let h : n % 256 ≡ n = omega arith in rw h refl
 
 -- the head's first bytes, one after the other
-pub front_is : (w hash left right pad : ℕ) (old a b c d : List ℕ) → hash < 256
-    → a ≡ old ++ (0xC8 ∷ hash ∷ []) → b ≡ a ++ le_bytes w left → c ≡ b ++ le_bytes w right → d ≡ c ++ le_bytes 2 pad
-    → d ≡ old ++ front_bytes w hash left right pad
+pub front_is : (w hash left right pad : ℕ) (old a b : List ℕ) → hash < 256 → a ≡ old ++ linked_front w hash left right → b ≡ a ++ le_bytes 2 pad → b ≡ old ++ front_bytes w hash left right pad
 unfolding front_bytes
-front_is w hash left right pad old a b c d small e1 e2 e3 e4 =
-    e4 ∙ rw (e3, e2, e1) (joined old (le_bytes w left) (le_bytes w right) (le_bytes 2 pad)) ∙ ap (λ (l : List ℕ). old ++ 0xC8 ∷ (l ++ (le_bytes w left ++ (le_bytes w right ++ le_bytes 2 pad)))) (one_byte hash small)
+front_is w hash left right pad old a b small e1 e2 =
+    e2 ∙ rw e1 (joined old (le_bytes w left) (le_bytes w right) (le_bytes 2 pad)) ∙ ap (λ (l : List ℕ). old ++ 0xC8 ∷ (l ++ (le_bytes w left ++ (le_bytes w right ++ le_bytes 2 pad)))) (one_byte hash small)
   where
-    joined : (old x y z : List ℕ) → (((old ++ (0xC8 ∷ hash ∷ [])) ++ x) ++ y) ++ z ≡ old ++ 0xC8 ∷ ((hash ∷ []) ++ (x ++ (y ++ z)))
+    joined : (old x y z : List ℕ) → (old ++ 0xC8 ∷ hash ∷ (x ++ y)) ++ z ≡ old ++ 0xC8 ∷ ((hash ∷ []) ++ (x ++ (y ++ z)))
     joined old x y z = simp append_assoc
+
+-- chains written into zeros
+pub links_at : (w hash left right : ℕ) (z : List ℕ) → take (2 + 2 * w) (wrote (2 + w) (le_bytes w right) (wrote 2 (le_bytes w left) (0xC8 ∷ hash ∷ z))) ≡ linked_front w hash left right
+unfolding wrote
+links_at w hash left right z =
+    let l : length (le_bytes w left) ≡ w = length-le_bytes w left in
+    let r : length (le_bytes w right) ≡ w = length-le_bytes w right in
+    same_lists _ _ (grind (arith, places, l, r)) (λ i d h. grind (arith, places, l, r))
 
 seam : (old a b c d e f k v z : List ℕ) → (((((old ++ 200 ∷ (a ++ (b ++ (c ++ d)))) ++ e) ++ f) ++ k) ++ v) ++ z ≡ old ++ ((200 ∷ (a ++ (b ++ (c ++ (d ++ (e ++ f)))))) ++ (k ++ (v ++ z)))
 seam old a b c d e f k v z = simp append_assoc
@@ -89,15 +95,6 @@ unfolding front_bytes record_bytes spell rec_head
 record_is w hash left right key value old u pad is =
     let z : length (replicate (padding u (content w key value)) 0) ≡ padding u (content w key value) = length-replicate {A = ℕ} (padding u (content w key value)) 0 in
     rw (is, z) (seam old (le_bytes 1 hash) (le_bytes w left) (le_bytes w right) (le_bytes 2 (padding u (content w key value))) (vnum (length key)) (vnum (length value)) key value (replicate (padding u (content w key value)) 0))
-
-pub more_zeros : (old : List ℕ) (count rest n : ℕ) → n ≤ rest → rest ≤ count → n ≤ 256 → (old ++ replicate (count - rest) 0) ++ take n (replicate 256 0) ≡ old ++ replicate (count - (rest - n)) 0
-more_zeros old count rest n le within few =
-    let t : ◌≡◌ {A = List ℕ} (take n (replicate 256 0)) (replicate n 0) = take-replicate n 256 0 few in
-    let s : count - rest + n ≡ count - (rest - n) = omega arith in
-    append_assoc old (replicate (count - rest) 0) (take n (replicate 256 0)) ∙ ap (λ (l : List ℕ). old ++ l) (ap (λ (l : List ℕ). replicate (count - rest) 0 ++ l) t ∙ replicate-append-replicate (count - rest) n 0 ∙ ap (λ (m : ℕ). replicate m 0) s)
-
-pub no_zeros : (old : List ℕ) (count : ℕ) → old ≡ old ++ replicate (count - count) 0
-no_zeros old count = let z : count - count ≡ 0 = omega arith in rw z (sym (append-nil old))
 
 pub chained : (old f v1 v2 a1 a2 front k v key value : List ℕ) → f ≡ old ++ front → v1 ≡ f ++ k → v2 ≡ v1 ++ v → a1 ≡ v2 ++ key → a2 ≡ a1 ++ value → a2 ≡ ((((old ++ front) ++ k) ++ v) ++ key) ++ value
 chained old f v1 v2 a1 a2 front k v key value e1 e2 e3 e4 e5 = e5 ∙ rw (e4, e3, e2, e1) refl

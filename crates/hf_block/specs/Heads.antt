@@ -21,9 +21,22 @@ abbrev pub Fits : ℕ → Block → Type 0
 Fits wide (Rec hash left right pad key value head) = (hash < 256) × (left < 256 ^ wide) × (right < 256 ^ wide) × (pad < 2 ^ 16) × (key < 2 ^ 64) × (value < 2 ^ 64) × (head ≡ 4 + 2 * wide + length (vnum key) + length (vnum value))
 Fits wide (Free size) = (0 < size) × (size < 2 ^ 32)
 
+-- a front
 abbrev pub IsPrefix : List ℕ → List ℕ → Type 0
 IsPrefix xs ys = (rest : List ℕ) × (ys ≡ xs ++ rest)
 
 -- a front that isn't the whole
 abbrev pub IsPart : List ℕ → List ℕ → Type 0
 IsPart xs ys = (rest : List ℕ) × (0 < length rest) × (ys ≡ xs ++ rest)
+
+-- the bytes begin with the head of a block
+abbrev pub BeginsWith : ℕ → Block → List ℕ → Type 0
+BeginsWith wide b bytes = Fits wide b × IsPrefix (head_bytes wide b) bytes
+
+-- they are less than the head of some block
+abbrev pub IsCutShort : ℕ → List ℕ → Type 0
+IsCutShort wide bytes = (b : Block) × Fits wide b × IsPart bytes (head_bytes wide b)
+
+-- neither: no block's head begins so
+abbrev pub HasNoHead : ℕ → List ℕ → Type 0
+HasNoHead wide bytes = (b : Block) → Fits wide b → (IsPrefix (head_bytes wide b) bytes → ⊥) × (IsPart bytes (head_bytes wide b) → ⊥)

@@ -1,3 +1,4 @@
+pub mod Errors
 pub mod Fronts
 pub mod Heads
 pub mod Pieces

@@ -1,6 +1,10 @@
 -- What a walk over blocks has listed.
-use Rattle.std.specs.Prelude.{◌≡◌, ◌⊎◌, ℕ, ◌+◌, ◌-◌, ◌*◌, ◌<◌, ◌≤◌, Bool, true, false, List, ◌++◌, length, take, drop}
+use Rattle.std.specs.Prelude.{◌≡◌, ◌⊎◌, ℕ, ◌+◌, ◌-◌, ◌*◌, ◌<◌, ◌≤◌, Bool, true, false, List, ◌++◌, length, take, drop, Result, Err}
 use Rattle.tc_base.specs.declared.kind.Rule.{Rule}
+use Rattle.hf_head.specs.declared.head.Head.{Head}
+use Rattle.hf_head.specs.Heads.{is_large, wide as wide_of, unit as unit_of}
+use Rattle.hf_block.specs.declared.walking.WalkErr.{WalkErr}
+use Rattle.hf_block.specs.declared.walking.WalkErr.TheVariants.{Broken}
 use Rattle.tc_base.specs.Vnum.{vnum}
 use Rattle.tc_space.specs.Ranges.{IsDataFile}
 use Rattle.tc_space.specs.declared.space.Space.{Ghosts}
@@ -45,6 +49,22 @@ pub record NoneFill (tells : Type 0) (wide unit : ℕ) (bytes : List ℕ) (rule 
   pub rule_is : rule ≡ record { letter = 76; number = 3 }
   pub none : tells → (ps : List Piece) → IsFilled wide unit bytes ps → ⊥
 
+-- whole blocks don't fill the bytes
+abbrev pub NotFilled : ℕ → ℕ → List ℕ → Type 0
+NotFilled wide unit bytes = (ps : List Piece) → IsFilled wide unit bytes ps → ⊥
+
+-- whatever all the bytes are of which these are the front: so many,
+abbrev pub OfAll : List ℕ → ℕ → (List ℕ → Type 0) → Type 0
+OfAll front count P = (bytes : List ℕ) → front ≡ take (length front) bytes → length bytes ≡ count → P bytes
+
+-- or as many as lie in front of an end
+abbrev pub OfAllUpTo : List ℕ → ℕ → ℕ → (List ℕ → Type 0) → Type 0
+OfAllUpTo front at end P = (bytes : List ℕ) → front ≡ take (length front) bytes → at + length bytes ≡ end → P bytes
+
+-- the rule that is named
+abbrev pub OnBroken : {T : Type 0} → Result T WalkErr → (Rule → Type 0) → Type 0
+OnBroken result P = (rule : Rule) → result ≡ Err (Broken rule) → P rule
+
 -- the bytes from one place up to another
 abbrev pub between : ℕ → ℕ → List ℕ → List ℕ
 between from to bytes = take (to - from) (drop from bytes)
@@ -73,7 +93,15 @@ abbrev pub block_of : Piece → Block
 block_of (held r) = Rec r.hash r.left r.right (length r.pad) (length r.key) (length r.value) (4 + 2 * r.wide + length (vnum (length r.key)) + length (vnum (length r.value)))
 block_of (free size tail) = Free size
 
--- the same of a block with that head
+-- a whole block of n bytes with this head stands at the front
 pub record HasNext (wide unit n : ℕ) (b : Block) (bytes : List ℕ) : Type 0 where
   pub next : IsNext wide unit n (is_free_block b) bytes
   pub head : b ≡ block_of next.piece
+
+-- whole blocks fill a file from its first block to its file size, and these are they
+abbrev pub HasWalked : Head → List ℕ → List BlockAt → Type 0
+HasWalked h bytes blocks = (ps : List Piece) × IsFilled (wide_of (is_large h)) (unit_of h) (between h.first h.size bytes) ps × (blocks ≡ placed h.first ps)
+
+-- the rule of whole blocks is named, since none fill a file from a place to its file size
+abbrev pub LacksBlocks : Type 0 → Head → ℕ → List ℕ → Rule → Type 0
+LacksBlocks tells h from bytes rule = NoneFill tells (wide_of (is_large h)) (unit_of h) (between from h.size bytes) rule

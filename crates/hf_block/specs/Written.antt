@@ -8,6 +8,10 @@ use Rattle.hf_block.specs.Pieces.{Record, held, spell}
 abbrev pub padding : ℕ → ℕ → ℕ
 padding unit n = (unit - n % unit) % unit
 
+-- a record's head up to behind its chains
+abbrev pub linked_front : ℕ → ℕ → ℕ → ℕ → List ℕ
+linked_front wide hash left right = 0xC8 ∷ hash ∷ (le_bytes wide left ++ le_bytes wide right)
+
 -- a record's head up to the sizes of key and value
 unfoldable pub front_bytes : ℕ → ℕ → ℕ → ℕ → ℕ → List ℕ
 front_bytes wide hash left right pad = 0xC8 ∷ (le_bytes 1 hash ++ (le_bytes wide left ++ (le_bytes wide right ++ le_bytes 2 pad)))

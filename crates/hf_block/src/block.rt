@@ -9,7 +9,7 @@ pub enum Block {
         hash: u8,
         /// The place of its left subtree, shifted right by the alignment power; 0 for none. Below 2^32 but in the large form.
         left: u64,
-        /// The same of its right subtree.
+        /// The place of its right subtree, shifted right by the alignment power; 0 for none. Below 2^32 but in the large form.
         right: u64,
         /// The bytes of padding behind its value.
         pad: u16,

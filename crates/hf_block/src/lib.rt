@@ -9,4 +9,4 @@ mod writing;
 pub use block::{Block, BlockAt, Blocks};
 pub use reading::{BlockErr, read_block};
 pub use walking::{WHOLE_BLOCKS, WalkErr, next_block, walk};
-pub use writing::{rec_len, write_rec};
+pub use writing::{links_front, rec_len, write_rec};

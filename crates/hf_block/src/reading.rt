@@ -4,7 +4,7 @@ ghost use Rattle.tc_base.specs.Reading.{Gives};
 ghost use Rattle.tc_base.specs.Vnum.{vnum};
 ghost use Rattle.hf_head.specs.Heads.{wide};
 ghost use Rattle.hf_block.specs.declared.block.Block.{Block};
-ghost use Rattle.hf_block.specs.Heads.{head_bytes, Fits, IsPrefix, IsPart};
+ghost use Rattle.hf_block.specs.Heads.{BeginsWith, Fits, HasNoHead, IsCutShort, IsPrefix, head_bytes};
 ghost use Rattle.hf_block.specs.Fronts.{rec_front, free_front, block_front};
 
 use crate::block::Block;
@@ -48,40 +48,27 @@ fn number(a: u8, b: u8, c: u8, d: u8) -> u64
     high * 65_536 + low
 }
 
-// The same as `read_rec` of a file that isn't in the large form, where key and value have fewer than 128 bytes each.
-fn read_small(bytes: &[u8]) -> Option<(Block, &[u8])>
+// What stands behind the first byte of a record with chains of 4 bytes, where all of it does: the numbers of four bytes are read at once.
+fn read_narrow(bytes: &[u8]) -> Option<(Block, &[u8])>
     ensures { IfSome result (λ x. rec_front 4 bytes.now ≡ Ok (x.0, x.1.now)) }
 {
-    let [
-        hash,
-        a,
-        b,
-        c,
-        d,
-        e,
-        f,
-        g,
-        h,
-        low,
-        high,
-        key,
-        value,
-        rest @ ..,
-    ] = bytes
-    else {
+    let [hash, a, b, c, d, e, f, g, h, low, high, sizes @ ..] = bytes else {
         return None;
     };
-    if *key >= 128 || *value >= 128 {
+    let Ok((key, behind)) = read_number(sizes) else {
         return None;
-    }
+    };
+    let Ok((value, rest)) = read_number(behind) else {
+        return None;
+    };
     let block = Block::Rec {
         hash: *hash,
         left: number(*a, *b, *c, *d),
         right: number(*e, *f, *g, *h),
         pad: u16::from(*high) * 256 + u16::from(*low),
-        key: u64::from(*key),
-        value: u64::from(*value),
-        head: 14,
+        key,
+        value,
+        head: head_len(key, value, false),
     };
     Some((block, rest))
 }
@@ -92,7 +79,7 @@ fn read_rec(bytes: &[u8], large: bool) -> Result<(Block, &[u8]), NotWhole>
     ensures { Gives (λ x. (x.0, x.1.now)) result (rec_front (wide large) bytes.now) }
 {
     if !large {
-        if let Some(found) = read_small(bytes) {
+        if let Some(found) = read_narrow(bytes) {
             return Ok(found);
         }
     }
@@ -141,10 +128,10 @@ fn read_front(bytes: &[u8], large: bool) -> Result<(Block, &[u8]), NotWhole>
 /// The head of the block at the front of the bytes, of a file in the large form or not; what stands behind it isn't looked at. It
 /// takes no memory.
 pub fn read_block(bytes: &[u8], large: bool) -> Result<Block, BlockErr>
-    ensures found { IfOk result (λ b. Fits (wide large) b × IsPrefix (head_bytes (wide large) b) bytes.now) }
+    ensures found { IfOk result (λ b. BeginsWith (wide large) b bytes.now) }
     ensures again { (b : Block) → Fits (wide large) b → IsPrefix (head_bytes (wide large) b) bytes.now → result ≡ Ok b }
-    ensures short { (result ≡ Err BlockErr.Short) ↔ ((b : Block) × Fits (wide large) b × IsPart bytes.now (head_bytes (wide large) b)) }
-    ensures bad { (result ≡ Err BlockErr.Bad) ↔ ((b : Block) → Fits (wide large) b → (IsPrefix (head_bytes (wide large) b) bytes.now → ⊥) × (IsPart bytes.now (head_bytes (wide large) b) → ⊥)) }
+    ensures short { (result ≡ Err BlockErr.Short) ↔ IsCutShort (wide large) bytes.now }
+    ensures bad { (result ≡ Err BlockErr.Bad) ↔ HasNoHead (wide large) bytes.now }
 {
     match read_front(bytes, large) {
         Ok((block, _)) => Ok(block),

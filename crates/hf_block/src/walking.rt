@@ -1,20 +1,22 @@
 //! The blocks of a file, from the first to the file size.
 ghost use Rattle.std.specs.Prelude.{◌≡◌, ℕ, ◌+◌, ◌-◌, ◌≤◌, ◌<◌, ◌^◌, ◌⊎◌, List, length, take, drop, min, IfOk, IfErr, OnErr, IsErrOf, Err, MatchResult, IfSome, IfNone, MatchOption};
-ghost use Rattle.tc_io.specs.Causes.{Rose, HasCause};
+ghost use Rattle.tc_io.specs.Causes.{HasCause};
 ghost use Rattle.tc_base.specs.declared.kind.Rule.{Rule};
 ghost use Rattle.tc_space.specs.Ranges.{IsDataFile};
 ghost use Rattle.hf_head.specs.Heads.{IsValid, is_large, wide, unit as head_unit};
 ghost use Rattle.hf_block.specs.Heads.{Fits};
 ghost use Rattle.hf_block.specs.Pieces.{Piece, IsFilled, IsSize, placed};
 ghost use Rattle.hf_block.specs.Rows.{StandInRow};
-ghost use Rattle.hf_block.specs.Walks.{GoesOn, HasNext, HoldsUpTo, IsChunk, NoneFill, Walked, between, is_free_block, total};
+ghost use Rattle.hf_block.specs.Walks.{GoesOn, HasNext, HasWalked, HoldsUpTo, IsChunk, LacksBlocks, NoneFill, NotFilled, OfAll, OfAllUpTo, OnBroken, Walked, between, is_free_block, total};
 ghost use Rattle.tc_space.specs.Frames.{OnlyReads};
+ghost use Rattle.tc_space.specs.Refusals.{Blamed};
 
 use crate::block::{Block, BlockAt, Blocks};
 use crate::reading::read_block;
 use hf_head::Head;
 use std::alloc::{AllocError, Global};
-use tc_base::{Fault, Rule};
+use tc_base::{FOUR_BYTES_END, Fault, Rule};
+use tc_reach::ReadErr;
 use tc_space::Space;
 use thiserror::Error;
 
@@ -50,6 +52,19 @@ impl From<AllocError> for WalkErr {
     }
 }
 
+impl From<ReadErr> for WalkErr {
+    ghost use Rattle.hf_block.specs.Errors.{walk_of};
+
+    ghost from_gives = { λ r e. e ≡ walk_of r };
+
+    fn from(e: ReadErr) -> Self {
+        match e {
+            ReadErr::Fault => WalkErr::Fault,
+            ReadErr::Memory => WalkErr::Memory,
+        }
+    }
+}
+
 /// The rule that whole blocks stand from the first to the file size.
 pub const WHOLE_BLOCKS: Rule = Rule {
     letter: b'L',
@@ -72,13 +87,13 @@ fn measure(block: &Block, unit: u64, large: bool) -> Option<u64>
             head,
             ..
         } => {
-            if *key >= 1 << 32 || *value >= 1 << 32 {
+            if *key >= FOUR_BYTES_END || *value >= FOUR_BYTES_END {
                 return None;
             }
             *head + *key + *value + u64::from(*pad)
         }
     };
-    if size % unit != 0 || size >= 1 << 32 {
+    if size % unit != 0 || size >= FOUR_BYTES_END {
         return None;
     }
     Some(size)
@@ -92,8 +107,8 @@ pub fn next_block(front: &[u8], left: u64, unit: u64, large: bool) -> Option<(u6
     requires enough { (length front.now ≡ left) ⊎ (40 ≤ length front.now) }
     requires unit { 5 ≤ unit }
     ensures some { IfSome result (λ m. IsSize unit m.0 × (m.0 ≤ left)) }
-    ensures next { IfSome result (λ m. (bytes : List ℕ) → front.now ≡ take (length front.now) bytes → length bytes ≡ left → HasNext (wide large) unit m.0 m.1 bytes) }
-    ensures none { IfNone result ((bytes : List ℕ) → front.now ≡ take (length front.now) bytes → length bytes ≡ left → (ps : List Piece) → IsFilled (wide large) unit bytes ps → ⊥) }
+    ensures next { IfSome result (λ m. OfAll front.now left (HasNext (wide large) unit m.0 m.1)) }
+    ensures none { IfNone result (OfAll front.now left (NotFilled (wide large) unit)) }
 {
     let Ok(block) = read_block(front, large) else {
         return None;
@@ -130,9 +145,9 @@ fn walk_chunk(
     requires chunk { IsChunk at (length chunk.now) end }
     requires unit { 5 ≤ unit }
     ensures on { IfOk result (λ next. GoesOn unit at next end list.old list.new) }
-    ensures walked { IfOk result (λ next. (bytes : List ℕ) → chunk.now ≡ take (length chunk.now) bytes → at + length bytes ≡ end → Walked (wide large) unit at next bytes list.old list.new) }
-    ensures rule { (rule : Rule) → result ≡ Err (WalkErr.Broken rule) → rule ≡ WHOLE_BLOCKS }
-    ensures broken { (rule : Rule) → result ≡ Err (WalkErr.Broken rule) → (bytes : List ℕ) → chunk.now ≡ take (length chunk.now) bytes → at + length bytes ≡ end → (ps : List Piece) → IsFilled (wide large) unit bytes ps → ⊥ }
+    ensures walked { IfOk result (λ next. OfAllUpTo chunk.now at end (λ bytes. Walked (wide large) unit at next bytes list.old list.new)) }
+    ensures rule { OnBroken result (λ rule. rule ≡ WHOLE_BLOCKS) }
+    ensures broken { OnBroken result (λ _. OfAllUpTo chunk.now at end (NotFilled (wide large) unit)) }
     ensures no_fault { IsErrOf result WalkErr.Fault → ⊥ }
 {
     let len = chunk.len() as u64;
@@ -168,9 +183,9 @@ fn walk_piece<S: Space>(
     requires unit { 5 ≤ unit }
     ensures on { IfOk result (λ next. GoesOn unit at next end blocks.old blocks.new) }
     ensures walked { IfOk result (λ next. S.tells → Walked (wide large) unit at next (between at end (S.now space.old file)) blocks.old blocks.new) }
-    ensures broken { (rule : Rule) → result ≡ Err (WalkErr.Broken rule) → NoneFill S.tells (wide large) unit (between at end (S.now space.old file)) rule }
+    ensures broken { OnBroken result (NoneFill S.tells (wide large) unit (between at end (S.now space.old file))) }
     ensures reads { OnlyReads S.Space space.old space.new }
-    ensures cause { IsErrOf result WalkErr.Fault → Rose (S.faults space.old) (S.faults space.new) }
+    ensures cause { Blamed S.Space (IsErrOf result WalkErr.Fault) space.old space.new }
 {
     space.read(file, at, chunk)?;
     walk_chunk(chunk, at, end, unit, large, blocks)
@@ -188,11 +203,11 @@ pub fn walk<S: Space>(
     requires file { IsDataFile file }
     requires head { IsValid head.now }
     requires inside { S.tells → head.now.size ≤ length (S.now space.old file) }
-    ensures row { IfOk result (λ blocks. StandInRow (head_unit head.now) head.now.first head.now.size blocks) }
-    ensures listed { IfOk result (λ blocks. S.tells → (ps : List Piece) × IsFilled (wide (is_large head.now)) (head_unit head.now) (between head.now.first head.now.size (S.now space.old file)) ps × (blocks ≡ placed head.now.first ps)) }
-    ensures broken { (rule : Rule) → result ≡ Err (WalkErr.Broken rule) → NoneFill S.tells (wide (is_large head.now)) (head_unit head.now) (between head.now.first head.now.size (S.now space.old file)) rule }
+    ensures row { IfOk result (StandInRow (head_unit head.now) head.now.first head.now.size) }
+    ensures listed { IfOk result (λ blocks. S.tells → HasWalked head.now (S.now space.old file) blocks) }
+    ensures broken { OnBroken result (LacksBlocks S.tells head.now head.now.first (S.now space.old file)) }
     ensures reads { OnlyReads S.Space space.old space.new }
-    ensures cause { IsErrOf result WalkErr.Fault → Rose (S.faults space.old) (S.faults space.new) }
+    ensures cause { Blamed S.Space (IsErrOf result WalkErr.Fault) space.old space.new }
 {
     let unit = head.unit();
     let large = head.is_large();
@@ -202,7 +217,7 @@ pub fn walk<S: Space>(
     let mut at = head.first;
     while at < end {
         let len = (end - at).min(16384) as usize;
-        match walk_piece(
+        at = walk_piece(
             space,
             file,
             at,
@@ -211,10 +226,7 @@ pub fn walk<S: Space>(
             large,
             &mut chunk[..len],
             &mut blocks,
-        ) {
-            Ok(next) => at = next,
-            Err(e) => return Err(e),
-        }
+        )?;
     }
     Ok(blocks)
 }

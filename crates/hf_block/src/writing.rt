@@ -1,14 +1,16 @@
 //! Records as bytes.
-ghost use Rattle.std.specs.Prelude.{◌≡◌, ℕ, ◌+◌, ◌<◌, ◌≤◌, ◌%◌, ◌^◌, ◌++◌, List, length, replicate, OnOk, OnErr};
-ghost use Rattle.hf_block.specs.Written.{padding, front_bytes, record_bytes, block_len, sized_len};
+ghost use Rattle.std.specs.Prelude.{◌≡◌, ◌+◌, ◌*◌, ◌<◌, ◌≤◌, ◌%◌, ◌^◌, ◌++◌, length, take, OnOk, OnErr};
+ghost use Rattle.hf_block.specs.Written.{block_len, front_bytes, linked_front, padding, record_bytes, sized_len};
 ghost use Rattle.hf_block.specs.Heads.{rec_head};
 ghost use Rattle.tc_base.specs.Vnum.{vnum};
 ghost use Rattle.tc_base.specs.Endian.{le_bytes};
 ghost use Rattle.hf_head.specs.Heads.{wide};
+ghost use Rattle.tc_reach.specs.Limits.{AddsSome};
 
 use crate::reading::{head_len, width};
 use std::alloc::AllocError;
 use tc_base::{Blob, put_vnum, set_le};
+use tc_reach::append_zeros;
 
 // The bytes that fill up a block behind so many bytes of head, key and value.
 fn pad_of(head: u64, key: u64, value: u64, unit: u64) -> u64
@@ -34,6 +36,20 @@ fn put_le(width: usize, n: u64, into: &mut Blob) -> Result<(), AllocError>
     into.append(&field[..width])
 }
 
+/// The first bytes of a record, up to behind its chains of so many bytes, in front of zeros.
+pub fn links_front(hash: u8, left: u64, right: u64, width: usize) -> [u8; 18]
+    requires few { (1 ≤ width) × (width ≤ 8) }
+    requires fits { (left < 256 ^ width) × (right < 256 ^ width) }
+    ensures { take (2 + 2 * width) result ≡ linked_front width hash left right }
+{
+    let mut front = [0; 18];
+    front[0] = 0xC8;
+    front[1] = hash;
+    set_le(&mut front, 2, width, left);
+    set_le(&mut front, 2 + width, width, right);
+    front
+}
+
 // The head up to the sizes of key and value. An `Err` may have added some of it.
 fn put_front(
     hash: u8,
@@ -47,28 +63,11 @@ fn put_front(
     requires right { right < 256 ^ wide large }
     requires pad { pad < 2 ^ 16 }
     ensures ok { OnOk result (into.new ≡ into.old ++ front_bytes (wide large) hash left right pad) }
-    ensures err { OnErr result ((more : List ℕ) × (into.new ≡ into.old ++ more)) }
+    ensures err { OnErr result (AddsSome into.old into.new) }
 {
-    into.append(&[0xC8, hash])?;
-    put_le(width(large), left, into)?;
-    put_le(width(large), right, into)?;
+    let width = width(large);
+    into.append(&links_front(hash, left, right, width)[..2 + 2 * width])?;
     put_le(2, pad, into)
-}
-
-// Zeros behind the bytes. An `Err` may have added some.
-fn put_zeros(count: u64, into: &mut Blob) -> Result<(), AllocError>
-    requires { count ≤ 2 ^ 16 }
-    ensures ok { OnOk result (into.new ≡ into.old ++ replicate count 0) }
-    ensures err { OnErr result ((more : List ℕ) × (into.new ≡ into.old ++ more)) }
-{
-    let zeros = [0; 256];
-    let mut rest = count as usize;
-    while rest > 0 {
-        let n = rest.min(zeros.len());
-        into.append(&zeros[..n])?;
-        rest -= n;
-    }
-    Ok(())
 }
 
 // The whole record. An `Err` may have added some of it.
@@ -87,7 +86,7 @@ fn put_record(
     requires some { 1 ≤ unit }
     requires unit { unit ≤ 2 ^ 16 }
     ensures ok { OnOk result (into.new ≡ into.old ++ record_bytes (wide large) hash left right key.now value.now unit) }
-    ensures err { OnErr result ((more : List ℕ) × (into.new ≡ into.old ++ more)) }
+    ensures err { OnErr result (AddsSome into.old into.new) }
 {
     let head = head_len(key.len() as u64, value.len() as u64, large);
     let pad = pad_of(head, key.len() as u64, value.len() as u64, unit);
@@ -96,7 +95,7 @@ fn put_record(
     put_vnum(value.len() as u64, into)?;
     into.append(key)?;
     into.append(value)?;
-    put_zeros(pad, into)
+    append_zeros(pad as usize, into)
 }
 
 /// Adds a record behind the bytes, with chains of 4 bytes or of 8 in the large form: its head, key and value, and zeros up to the

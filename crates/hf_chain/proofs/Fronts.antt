@@ -1,5 +1,5 @@
 -- A record's head and key in the bytes.
-use Rattle.std.proofs.Common.{◌≡◌, ◌≢◌, ◌∙◌, ◌⊎◌, inl, inr, ℕ, ◌+◌, ◌*◌, ◌-◌, ◌^◌, ◌<◌, ◌≤◌, refl, sym, ap, subst, arith, List, ◌++◌, length, take, drop, append_assoc, length-append, length-drop, Bool, Result, Ok, Err}
+use Rattle.std.proofs.Common.{◌≡◌, ◌≢◌, ◌∙◌, ◌⊎◌, inl, inr, ℕ, ◌+◌, ◌*◌, ◌-◌, ◌^◌, ◌<◌, ◌≤◌, refl, sym, ap, subst, arith, List, ◌++◌, length, take, drop, append_assoc, length-append, length-drop, Bool, Some, Result, Ok, Err}
 use Rattle.std.proofs.lemmas.List.{take_at, drop_at, drop-drop, length-take-le, take-take, take-append-drop}
 use Rattle.std.specs.Prelude.{IfOk}
 use Rattle.std.specs.Ordering.{nat_cmp, on, then_cmp, ordering_then}
@@ -15,16 +15,20 @@ use Rattle.hf_block.specs.declared.block.Block.{Block}
 use Rattle.hf_block.specs.declared.block.Block.TheVariants.{Rec}
 use Rattle.hf_block.specs.declared.reading.BlockErr.{BlockErr}
 use Rattle.hf_block.specs.Heads.{rec_head, head_bytes, Fits, IsPrefix}
-use Rattle.hf_block.specs.Pieces.{Record, held, spell, IsWhole}
+use Rattle.hf_block.specs.Pieces.{Piece, Record, held, spell, IsWhole}
 use Rattle.hf_block.proofs.Blocking.{vnum_most, wide_most}
 use Rattle.hf_block.proofs.Padding.{length-held, length-rec_head}
+use Rattle.hf_layout.specs.Layout.{record_at}
 use Rattle.hf_tree.specs.Keys.{key_cmp}
-use Rattle.hf_tree.specs.Links.{IsAt}
-use Rattle.hf_tree.proofs.Fields.{at_inside}
+use Rattle.hf_tree.specs.Links.{HasBlocks, IsAt}
+use Rattle.hf_tree.proofs.Fields.{at_inside, record_lies}
 use Rattle.hf_chain.specs.declared.heads.RecHead.{RecHead}
-use Rattle.hf_chain.specs.Heads.{head_of, head_block, head_size, HasRecord}
-use Rattle.hf_chain.specs.Facts.{IsInBounds}
+use Rattle.hf_chain.specs.Heads.{head_of, head_block, head_size, HasRecord, IsInBounds}
 use Rattle.hf_chain.proofs.Pieces.{piece_of}
+
+-- a record of the file stands in its bytes
+pub stands : (h : Head) (end : ℕ) (ps : List Piece) (bytes : List ℕ) (p : ℕ) (r : Record) → HasBlocks h end ps bytes → record_at h.first ps p ≡ Some r → HasRecord h r p bytes
+stands h end ps bytes p r b at = record { is = (record_lies h end ps bytes p r b at).at; wide = b.widths p r at }
 
 -- what the reader of blocks answers on a record's front
 abbrev pub block_of : Record → Block

@@ -1,6 +1,7 @@
 -- What the calls on chains speak of.
 use Rattle.std.specs.Prelude.{◌≡◌, ◌≢◌, ℕ, ◌*◌, ◌/◌, ◌%◌, ◌^◌, ◌<◌, ◌≤◌, List, length, Option, Some, None}
 use Rattle.std.specs.declared.cmp.Ordering.{Ordering}
+use Rattle.tc_base.specs.Hashes.{second}
 use Rattle.hf_head.specs.declared.head.Head.{Head}
 use Rattle.hf_head.specs.Heads.{unit}
 use Rattle.hf_block.specs.Pieces.{Record, Piece}
@@ -8,12 +9,13 @@ use Rattle.hf_layout.specs.Frees.{Frees}
 use Rattle.hf_layout.specs.Layout.{record_at, HaveWidth, LaidOut}
 use Rattle.hf_tree.specs.declared.parent.Parent.{Parent}
 use Rattle.hf_tree.specs.declared.parent.Parent.TheVariants.{Bucket, Left, Right}
+use Rattle.hf_tree.specs.declared.parent.Found.{Found}
 use Rattle.hf_tree.specs.declared.parent.Found.TheVariants.{Here, Gap}
-use Rattle.hf_tree.specs.Keys.{Key, bucket_of}
+use Rattle.hf_tree.specs.Keys.{Key, bucket_of, key_cmp}
 use Rattle.hf_tree.specs.Trees.{Tree, last, seek, nodes, by_order}
 use Rattle.hf_tree.specs.Views.{View, Hangs, Hung, Holds}
 use Rattle.hf_tree.specs.Links.{HasBlocks, view_of, width, AreKept}
-use Rattle.hf_chain.specs.Heads.{capped}
+use Rattle.hf_chain.specs.Heads.{HasRecord, capped}
 use Rattle.hf_chain.specs.Differs.{OnlyLinks}
 
 -- the records of a bucket hang in this tree
@@ -21,6 +23,7 @@ pub record InTree (h : Head) (end : ℕ) (pieces : List Piece) (bytes : List ℕ
   pub blocks : HasBlocks h end pieces bytes
   pub hung : Hung (view_of h pieces bytes) h.buckets b t
 
+-- the records of a bucket hang in some tree
 pub record HasTree (h : Head) (b : ℕ) (bytes : List ℕ) : Type 0 where
   pub end : ℕ
   pub pieces : List Piece
@@ -30,6 +33,14 @@ pub record HasTree (h : Head) (b : ℕ) (bytes : List ℕ) : Type 0 where
 -- where a search goes on from a record, and the place named there; none where it is the record's key
 abbrev pub step_of : ℕ → ℕ → Record → Ordering → Option (Parent × ℕ)
 step_of u at r o = by_order o (Some (Right at, capped (u * r.right))) None (Some (Left at, capped (u * r.left)))
+
+-- where a search for a key goes on from whatever record stands at a place
+abbrev pub IsStep : Head → ℕ → List ℕ → List ℕ → Option (Parent × ℕ) → Type 0
+IsStep h at key bytes step = (r : Record) → HasRecord h r at bytes → r.hash ≡ second r.key → step ≡ step_of (unit h) at r (key_cmp key r.key)
+
+-- where it ends, in whatever tree hangs in the key's bucket
+abbrev pub EndsAt : Head → List ℕ → List ℕ → Found → Type 0
+EndsAt h key bytes found = (end : ℕ) (pieces : List Piece) (t : Tree) → InTree h end pieces bytes (bucket_of h.buckets key) t → found ≡ seek (Bucket (bucket_of h.buckets key)) t key
 
 -- a link can name the place
 pub record CanName (h : Head) (at : ℕ) : Type 0 where
@@ -53,7 +64,7 @@ pub record IsHere (v : View) (n : ℕ) (places : Key → Option ℕ) (k : Key) (
 abbrev pub around : (v : View) (n : ℕ) (places : Key → Option ℕ) (k : Key) (at : ℕ) (from : Parent) → IsHere v n places k at from → ℕ
 around v n places k at from w = nodes (w.holds.trees (bucket_of n k))
 
--- the same of a file
+-- the record at a place of a file may be hung in the gap of its key
 pub record MayHang (h : Head) (at : ℕ) (to : Parent) (bytes : List ℕ) : Type 0 where
   pub end : ℕ
   pub pieces : List Piece
@@ -62,6 +73,7 @@ pub record MayHang (h : Head) (at : ℕ) (to : Parent) (bytes : List ℕ) : Type
   pub key : Key
   pub can : CanHang (view_of h pieces bytes) h.buckets places key at to
 
+-- the record at a place of a file may be taken out
 pub record MayUnhang (h : Head) (at : ℕ) (from : Parent) (bytes : List ℕ) : Type 0 where
   pub end : ℕ
   pub pieces : List Piece

@@ -1,14 +1,10 @@
 //! A key compared with that of a record in a file.
 ghost use Rattle.std.specs.Prelude.{◌≡◌, ℕ, ◌+◌, ◌^◌, ◌<◌, ◌≤◌, length, take, drop, IfOk};
-ghost use Rattle.std.specs.Ordering.{nat_cmp};
-ghost use Rattle.std.specs.Cmp.Lexicographic.{slice_cmp};
 ghost use Rattle.tc_base.specs.Hashes.{second};
 ghost use Rattle.tc_io.specs.Causes.{HasCause};
 ghost use Rattle.tc_space.specs.Ranges.{IsDataFile};
 ghost use Rattle.tc_space.specs.Frames.{OnlyReads};
-ghost use Rattle.hf_block.specs.Pieces.{Record};
-ghost use Rattle.hf_tree.specs.Keys.{key_cmp};
-ghost use Rattle.hf_chain.specs.Heads.{head_of, HasRecord};
+ghost use Rattle.hf_chain.specs.Heads.{IsOrder, order_at};
 ghost use Rattle.hf_chain.specs.Fronts.{WasRead};
 
 use crate::heads::RecHead;
@@ -23,7 +19,7 @@ fn compare_piece<S: Space>(space: &mut S, file: u32, at: u64, key: &[u8]) -> Res
     requires file { IsDataFile file }
     requires short { length key.now ≤ 64 }
     requires inside { S.tells → at + length key.now ≤ length (S.now space.old file) }
-    ensures order { IfOk result (λ o. S.tells → o ≡ slice_cmp nat_cmp key.now (take (length key.now) (drop at (S.now space.old file)))) }
+    ensures order { IfOk result (λ o. S.tells → o ≡ order_at key.now at (S.now space.old file)) }
     ensures reads { OnlyReads S.Space space.old space.new }
     ensures counted { S.bytes_read space.new ≤ S.bytes_read space.old + length key.now }
     ensures cause { HasCause (S.faults space.old) (S.faults space.new) result }
@@ -45,7 +41,7 @@ pub fn compare_bytes<S: Space>(
     requires file { IsDataFile file }
     requires inside { S.tells → at + length key.now ≤ length (S.now space.old file) }
     requires long { S.tells → length (S.now space.old file) < 2 ^ 64 }
-    ensures order { IfOk result (λ o. S.tells → o ≡ slice_cmp nat_cmp key.now (take (length key.now) (drop at (S.now space.old file)))) }
+    ensures order { IfOk result (λ o. S.tells → o ≡ order_at key.now at (S.now space.old file)) }
     ensures reads { OnlyReads S.Space space.old space.new }
     ensures counted { S.bytes_read space.new ≤ S.bytes_read space.old + length key.now }
     ensures cause { HasCause (S.faults space.old) (S.faults space.new) result }
@@ -82,7 +78,7 @@ fn compare_near<S: Space>(
     requires inside { S.tells → from + skip + length key.now ≤ length (S.now space.old file) }
     requires front { S.tells → front.now ≡ take (length front.now) (drop from (S.now space.old file)) }
     requires long { S.tells → length (S.now space.old file) < 2 ^ 64 }
-    ensures order { IfOk result (λ o. S.tells → o ≡ slice_cmp nat_cmp key.now (take (length key.now) (drop (from + skip) (S.now space.old file)))) }
+    ensures order { IfOk result (λ o. S.tells → o ≡ order_at key.now (from + skip) (S.now space.old file)) }
     ensures reads { OnlyReads S.Space space.old space.new }
     ensures counted { S.bytes_read space.new ≤ S.bytes_read space.old + length key.now }
     ensures cause { HasCause (S.faults space.old) (S.faults space.new) result }
@@ -110,7 +106,7 @@ pub fn compare<S: Space>(
     requires file { IsDataFile file }
     requires hash { hash ≡ second key.now }
     requires read { S.tells → WasRead head.now rec.now at front.now (S.now space.old file) }
-    ensures order { IfOk result (λ o. S.tells → (r : Record) → HasRecord head.now r at (S.now space.old file) → rec.now ≡ head_of r → r.hash ≡ second r.key → o ≡ key_cmp key.now r.key) }
+    ensures order { IfOk result (λ o. S.tells → IsOrder head.now rec.now at key.now (S.now space.old file) o) }
     ensures reads { OnlyReads S.Space space.old space.new }
     ensures counted { S.bytes_read space.new ≤ S.bytes_read space.old + length key.now }
     ensures cause { HasCause (S.faults space.old) (S.faults space.new) result }

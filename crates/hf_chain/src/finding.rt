@@ -3,25 +3,50 @@ ghost use Rattle.std.specs.Prelude.{◌≡◌, ℕ, ◌+◌, ◌^◌, ◌≤◌,
 ghost use Rattle.tc_base.specs.Hashes.{second};
 ghost use Rattle.tc_io.specs.Causes.{HasCause};
 ghost use Rattle.tc_space.specs.Frames.{OnlyReads};
-ghost use Rattle.hf_head.specs.Heads.{unit as head_unit};
-ghost use Rattle.hf_block.specs.Pieces.{Record, Piece};
-ghost use Rattle.hf_tree.specs.declared.parent.Parent.TheVariants.{Bucket};
-ghost use Rattle.hf_tree.specs.Keys.{key_cmp, bucket_of as home};
-ghost use Rattle.hf_tree.specs.Trees.{Tree, seek, nodes};
+ghost use Rattle.hf_block.specs.Pieces.{Record};
+ghost use Rattle.hf_tree.specs.Keys.{bucket_of as home};
 ghost use Rattle.hf_chain.specs.Files.{IsOpenFile};
-ghost use Rattle.hf_chain.specs.Heads.{head_of, HasRecord, IsRecordAt};
-ghost use Rattle.hf_chain.specs.Fronts.{HasFront};
-ghost use Rattle.hf_chain.specs.Chains.{InTree, HasTree, step_of};
-ghost use Rattle.hf_chain.specs.Costs.{step_most, Paid, Within};
+ghost use Rattle.hf_chain.specs.Heads.{IsHeadOf, IsRecordAt, head_of};
+ghost use Rattle.hf_chain.specs.Fronts.{FitsLinks, HasFront};
+ghost use Rattle.hf_chain.specs.Chains.{EndsAt, HasTree, IsStep, step_of};
+ghost use Rattle.hf_chain.specs.Costs.{CostsSearch, PaidBy, step_most};
+ghost use Rattle.hf_chain.specs.Searches.{KnowsHead, found_of};
 
 use crate::comparing::compare;
 use crate::counting::count_step;
 use crate::heads::{RecHead, head_in, place_named, read_entry};
 use hf_head::Head;
-use hf_tree::{Found, Parent};
+use hf_tree::Parent;
 use std::cmp::Ordering;
 use tc_base::{Fault, Steps, bucket_of, second_hash};
 use tc_space::Space;
+
+/// Where a search found the record of its key.
+#[derive(Clone, Copy, Debug, Drop, PartialEq, Eq)]
+pub struct Place {
+    /// Where the record begins.
+    pub at: u64,
+    /// What names it.
+    pub from: Parent,
+    /// Its head.
+    pub rec: RecHead,
+}
+
+/// How a search ended.
+#[derive(Clone, Copy, Debug, Drop, PartialEq, Eq)]
+pub enum Search {
+    /// At the record of the key.
+    Here(Place),
+    /// At the empty entry or chain where it would hang.
+    Gap(Parent),
+}
+
+// A record that a search came to: its head, and where the search goes on, and the place named there.
+#[derive(Clone, Copy, Drop)]
+struct Look {
+    rec: RecHead,
+    step: Option<(Parent, u64)>,
+}
 
 // Where a search goes on from the record at a place, and the place named there.
 fn turn(order: Ordering, at: u64, rec: &RecHead, unit: u64) -> Option<(Parent, u64)>
@@ -44,11 +69,13 @@ fn look_front<S: Space>(
     front: &mut [u8],
     key: &[u8],
     hash: u8,
-) -> Result<Option<(Parent, u64)>, Fault>
+) -> Result<Look, Fault>
     requires ready { IsOpenFile S.Space head.now file space.old }
     requires hash { hash ≡ second key.now }
     requires front { S.tells → HasFront head.now at (length front.old) (S.now space.old file) }
-    ensures step { IfOk result (λ s. S.tells → (r : Record) → HasRecord head.now r at (S.now space.old file) → r.hash ≡ second r.key → s ≡ step_of (head_unit head.now) at r (key_cmp key.now r.key)) }
+    ensures step { IfOk result (λ x. S.tells → IsStep head.now at key.now (S.now space.old file) x.step) }
+    ensures head { IfOk result (λ x. S.tells → IsHeadOf head.now at (S.now space.old file) x.rec) }
+    ensures fits { IfOk result (λ x. FitsLinks head.now x.rec) }
     ensures reads { OnlyReads S.Space space.old space.new }
     ensures counted { S.bytes_read space.new ≤ S.bytes_read space.old + (length front.old + length key.now) }
     ensures cause { HasCause (S.faults space.old) (S.faults space.new) result }
@@ -56,7 +83,8 @@ fn look_front<S: Space>(
     space.read(file, at, front)?;
     let rec = head_in(front, head.is_large());
     let order = compare(space, file, head, at, &rec, front, key, hash)?;
-    Ok(turn(order, at, &rec, head.unit()))
+    let step = turn(order, at, &rec, head.unit());
+    Ok(Look { rec, step })
 }
 
 // One record of a search. Its head and the front of its key are read at once.
@@ -67,11 +95,13 @@ fn look_at<S: Space>(
     at: u64,
     key: &[u8],
     hash: u8,
-) -> Result<Option<(Parent, u64)>, Fault>
+) -> Result<Look, Fault>
     requires ready { IsOpenFile S.Space head.now file space.old }
     requires hash { hash ≡ second key.now }
     requires there { S.tells → IsRecordAt head.now at (S.now space.old file) }
-    ensures step { IfOk result (λ s. S.tells → (r : Record) → HasRecord head.now r at (S.now space.old file) → r.hash ≡ second r.key → s ≡ step_of (head_unit head.now) at r (key_cmp key.now r.key)) }
+    ensures step { IfOk result (λ x. S.tells → IsStep head.now at key.now (S.now space.old file) x.step) }
+    ensures head { IfOk result (λ x. S.tells → IsHeadOf head.now at (S.now space.old file) x.rec) }
+    ensures fits { IfOk result (λ x. FitsLinks head.now x.rec) }
     ensures reads { OnlyReads S.Space space.old space.new }
     ensures counted { S.bytes_read space.new ≤ S.bytes_read space.old + step_most (length key.now) }
     ensures cause { HasCause (S.faults space.old) (S.faults space.new) result }
@@ -82,19 +112,21 @@ fn look_at<S: Space>(
 }
 
 /// Finds the record of a key, or the empty entry or chain where it would hang. A step is the read of the bucket's entry or of one record: at most one
-/// more than there are records in the bucket. It compares keys in pieces and takes no memory.
+/// more than there are records in the bucket. It compares keys in pieces and takes no memory. The head of the record that it finds was read, and is
+/// handed on.
 pub fn find<S: Space, L>(
     space: &mut S,
     file: u32,
     head: &Head,
     key: &[u8],
     steps: &mut Steps<L>,
-) -> Result<Found, Fault>
+) -> Result<Search, Fault>
     requires ready { IsOpenFile S.Space head.now file space.old }
     requires tree { S.tells → HasTree head.now (home head.now.buckets key.now) (S.now space.old file) }
-    ensures found { IfOk result (λ f. S.tells → (end : ℕ) (pieces : List Piece) (t : Tree) → InTree head.now end pieces (S.now space.old file) (home head.now.buckets key.now) t → f ≡ seek (Bucket (home head.now.buckets key.now)) t key.now) }
-    ensures within { S.tells → (end : ℕ) (pieces : List Piece) (t : Tree) → InTree head.now end pieces (S.now space.old file) (home head.now.buckets key.now) t → Within (1 + nodes t) (step_most (length key.now)) steps.old steps.new (S.bytes_read space.old) (S.bytes_read space.new) }
-    ensures paid { Paid (step_most (length key.now)) steps.old steps.new (S.bytes_read space.old) (S.bytes_read space.new) }
+    ensures found { IfOk result (λ f. S.tells → EndsAt head.now key.now (S.now space.old file) (found_of f)) }
+    ensures head { IfOk result (KnowsHead S.Space head.now file space.old) }
+    ensures within { S.tells → CostsSearch S.Space head.now key.now file steps.old steps.new space.old space.new }
+    ensures paid { PaidBy S.Space (step_most (length key.now)) steps.old steps.new space.old space.new }
     ensures reads { OnlyReads S.Space space.old space.new }
     ensures cause { HasCause (S.faults space.old) (S.faults space.new) result }
 {
@@ -108,15 +140,19 @@ pub fn find<S: Space, L>(
     let mut at = place_named(head.unit(), entry);
     for depth in 0..most {
         if at == 0 {
-            return Ok(Found::Gap { to: from });
+            return Ok(Search::Gap(from));
         }
         count_step(steps);
-        let step = look_at(space, file, head, at, key, hash)?;
-        let Some((link, place)) = step else {
-            return Ok(Found::Here { at, from });
+        let look = look_at(space, file, head, at, key, hash)?;
+        let Some((link, place)) = look.step else {
+            return Ok(Search::Here(Place {
+                at,
+                from,
+                rec: look.rec,
+            }));
         };
         from = link;
         at = place;
     }
-    Ok(Found::Gap { to: from })
+    Ok(Search::Gap(from))
 }

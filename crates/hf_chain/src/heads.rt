@@ -1,19 +1,21 @@
 //! Heads of records, and entries of buckets, as they stand in a file.
-ghost use Rattle.std.specs.Prelude.{◌≡◌, ℕ, ◌+◌, ◌*◌, ◌-◌, ◌^◌, ◌<◌, ◌≤◌, ◌⊎◌, ◌++◌, List, length, take, true, IfOk, IfSome, IfNone, OnOk};
+ghost use Rattle.std.specs.Prelude.{◌≡◌, ℕ, ◌+◌, ◌*◌, ◌-◌, ◌^◌, ◌<◌, ◌≤◌, ◌⊎◌, ◌++◌, List, length, take, true, IfOk, IfSome, IfNone, OnOk, IsErrOf};
 ghost use Rattle.tc_io.specs.Causes.{HasCause};
 ghost use Rattle.tc_space.specs.Ranges.{IsDataFile};
 ghost use Rattle.tc_space.specs.Frames.{OnlyReads};
+ghost use Rattle.tc_space.specs.Refusals.{Blamed};
+ghost use Rattle.tc_reach.specs.Windows.{Shows};
 ghost use Rattle.hf_head.specs.Heads.{wide};
 ghost use Rattle.hf_head.specs.Layout.{number_at};
-ghost use Rattle.hf_block.specs.Pieces.{Record, held, spell, IsWhole};
 ghost use Rattle.hf_block.specs.Walks.{is_free_block};
 ghost use Rattle.hf_tree.specs.Links.{width, entry_at};
-ghost use Rattle.hf_chain.specs.Heads.{head_of, head_block, HasRecord, capped};
+ghost use Rattle.hf_chain.specs.Heads.{IsHeadIn, IsHeadOf, capped, head_block};
 ghost use Rattle.hf_chain.specs.Fronts.{FitsLinks, IsEnough};
 
 use hf_block::{Block, read_block};
 use hf_head::Head;
 use tc_base::{Fault, get_le};
+use tc_reach::{ReadErr, Window};
 use tc_space::Space;
 
 /// What the head of a record says.
@@ -23,7 +25,7 @@ pub struct RecHead {
     pub hash: u8,
     /// The place of its left subtree, shifted right by the alignment power; 0 for none.
     pub left: u64,
-    /// The same of its right subtree.
+    /// The place of its right subtree, shifted right by the alignment power; 0 for none.
     pub right: u64,
     /// The bytes of padding behind its value.
     pub pad: u16,
@@ -81,7 +83,7 @@ pub fn rec_of(block: &Block) -> Option<RecHead>
 
 /// The head at the front of bytes; of none, zeros.
 pub fn head_in(front: &[u8], large: bool) -> RecHead
-    ensures head { (u : ℕ) (r : Record) (more : List ℕ) → r.wide ≡ wide large → IsWhole u (held r) → front.now ≡ take (length front.now) (spell (held r) ++ more) → (length front.now ≡ length (spell (held r) ++ more)) ⊎ (40 ≤ length front.now) → result ≡ head_of r }
+    ensures head { IsHeadIn large front.now result }
     ensures chains { (result.left < 256 ^ wide large) × (result.right < 256 ^ wide large) }
     ensures small { result.head ≤ 40 }
 {
@@ -105,7 +107,7 @@ fn read_front<S: Space>(
     requires sound { S.sound space.old }
     requires file { IsDataFile file }
     requires enough { S.tells → IsEnough at (length front.old) (S.now space.old file) }
-    ensures head { IfOk result (λ x. S.tells → (r : Record) → HasRecord head.now r at (S.now space.old file) → x ≡ head_of r) }
+    ensures head { IfOk result (λ x. S.tells → IsHeadOf head.now at (S.now space.old file) x) }
     ensures fits { IfOk result (FitsLinks head.now) }
     ensures reads { OnlyReads S.Space space.old space.new }
     ensures counted { S.bytes_read space.new ≤ S.bytes_read space.old + length front.old }
@@ -120,7 +122,7 @@ pub fn read_head<S: Space>(space: &mut S, file: u32, head: &Head, at: u64) -> Re
     requires sound { S.sound space.old }
     requires file { IsDataFile file }
     requires inside { S.tells → at ≤ length (S.now space.old file) }
-    ensures head { IfOk result (λ x. S.tells → (r : Record) → HasRecord head.now r at (S.now space.old file) → x ≡ head_of r) }
+    ensures head { IfOk result (λ x. S.tells → IsHeadOf head.now at (S.now space.old file) x) }
     ensures fits { IfOk result (FitsLinks head.now) }
     ensures long { S.tells → length (S.now space.old file) < 2 ^ 64 }
     ensures reads { OnlyReads S.Space space.old space.new }
@@ -130,6 +132,29 @@ pub fn read_head<S: Space>(space: &mut S, file: u32, head: &Head, at: u64) -> Re
     let len = space.len(file).saturating_sub(at).min(40) as usize;
     let mut front = [0; 40];
     read_front(space, file, head, at, &mut front[..len])
+}
+
+/// The head of the record at a place, through a window.
+pub fn head_at<S: Space>(
+    space: &mut S,
+    file: u32,
+    head: &Head,
+    place: u64,
+    window: &mut Window,
+) -> Result<RecHead, ReadErr>
+    requires sound { S.sound space.old }
+    requires file { IsDataFile file }
+    requires inside { S.tells → place ≤ length (S.now space.old file) }
+    requires shows { S.tells → Shows window.old (S.now space.old file) }
+    ensures head { IfOk result (λ x. S.tells → IsHeadOf head.now place (S.now space.old file) x) }
+    ensures shows { OnOk result (S.tells → Shows window.new (S.now space.old file)) }
+    ensures long { S.tells → length (S.now space.old file) < 2 ^ 64 }
+    ensures reads { OnlyReads S.Space space.old space.new }
+    ensures cause { Blamed S.Space (IsErrOf result ReadErr.Fault) space.old space.new }
+{
+    let ahead = space.len(file).saturating_sub(place).min(40) as usize;
+    window.fill(space, file, place, ahead)?;
+    Ok(head_in(window.get(place, ahead), head.is_large()))
 }
 
 // A bucket's entry, where there is room for its bytes.

@@ -2,12 +2,11 @@
 ghost use Rattle.std.specs.Prelude.{◌≡◌, ℕ, ◌+◌, ◌-◌, ◌^◌, ◌<◌, ◌≤◌, length, take, OnOk, IsErrOf};
 ghost use Rattle.tc_base.specs.Endian.{le_bytes};
 ghost use Rattle.tc_base.specs.Files.{wrote};
-ghost use Rattle.tc_io.specs.Causes.{Rose};
 ghost use Rattle.tc_space.specs.Ranges.{IsDataFile};
 ghost use Rattle.tc_space.specs.Effects.{Changes, Outcome};
 ghost use Rattle.tc_space.specs.Frames.{OnlyWrites};
 ghost use Rattle.hf_tree.specs.Links.{place_of, width};
-ghost use Rattle.hf_chain.specs.Limits.{IsFull};
+ghost use Rattle.hf_chain.specs.Limits.{FaultOrFull, IsFull, LinkInside, linked};
 
 use crate::heads::place_named;
 use hf_head::Head;
@@ -51,18 +50,16 @@ pub fn set_link<S: Space>(
     requires sound { S.sound space.old }
     requires file { IsDataFile file }
     requires fits { n < 256 ^ width head.now }
-    requires inside { S.tells → place_of (width head.now) to.now + width head.now ≤ length (S.now space.old file) }
-    ensures wrote { OnOk result (S.tells → Changes S.now file (wrote (place_of (width head.now) to.now) (le_bytes (width head.now) n) (S.now space.old file)) space.old space.new) }
+    requires inside { S.tells → LinkInside head.now to.now (S.now space.old file) }
+    ensures wrote { OnOk result (S.tells → Changes S.now file (linked head.now to.now n (S.now space.old file)) space.old space.new) }
     ensures outcome { Outcome S.sound S.flag result space.new }
     ensures writes { OnlyWrites S.Space space.old space.new }
     ensures full { IsErrOf result RecErr.Full → IsFull S.Space head.now file space.old space.new }
-    ensures cause { (IsErrOf result RecErr.Fault → Rose (S.faults space.old) (S.faults space.new)) × (IsErrOf result RecErr.Memory → ⊥) }
+    ensures cause { FaultOrFull S.Space result space.old space.new }
 {
     let width = head.width();
     // a link lies inside the file, and so a place is no greater
     let at = place(to, width).min(space.len(file));
-    match space.write(file, at, &stored(width as usize, n)[..width as usize]) {
-        Ok(()) => Ok(()),
-        Err(e) => Err(RecErr::from(e)),
-    }
+    space.write(file, at, &stored(width as usize, n)[..width as usize])?;
+    Ok(())
 }

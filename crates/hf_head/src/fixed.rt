@@ -3,7 +3,7 @@ ghost use Rattle.std.specs.Prelude.{◌≡◌, ◌<◌, ◌≤◌, ◌^◌, ◌�
 
 use crate::errors::HeadErr;
 use crate::layout::{MAGIC, has_magic, put_number, put_width};
-use tc_base::get_le;
+use tc_base::{FILE_LIMIT_LEAST, FILE_MOST, WIDTH_MOST, get_le};
 
 /// The head of a fixed-length file (type 2).
 #[derive(Clone, Copy, Debug, PartialEq, Eq)]
@@ -31,10 +31,8 @@ impl FixedHead {
         ensures refused { (e : HeadErr) → (result ≡ Err e) ↔ IsFixedRefused e bytes.now }
     {
         let head = FixedHead::fields(bytes);
-        match FixedHead::judge(bytes, &head) {
-            Err(e) => Err(e),
-            Ok(()) => Ok(head),
-        }
+        FixedHead::judge(bytes, &head)?;
+        Ok(head)
     }
 
     // The fields at their places.
@@ -74,7 +72,10 @@ impl FixedHead {
     fn has_numbers(&self) -> bool
         ensures { IsTrue result ↔ HasFixedNumbers self.now }
     {
-        if self.width < 1 || self.width > 1_048_576 || self.limit < 512 || self.limit > 1 << 40 {
+        if self.width < 1 || self.width > WIDTH_MOST {
+            return false;
+        }
+        if self.limit < FILE_LIMIT_LEAST || self.limit > FILE_MOST {
             return false;
         }
         if self.greatest > self.max_id() || !self.has_ids() {

@@ -3,7 +3,7 @@ ghost use Rattle.std.specs.Prelude.{◌≡◌, ◌≤◌, ◌^◌, ◌↔◌, �
 
 use crate::errors::HeadErr;
 use crate::layout::{MAGIC, has_magic, put_number};
-use tc_base::get_le;
+use tc_base::{BUCKETS_MOST, FILE_MOST, get_le};
 
 /// The head of a hash file (type 0), a tree file (type 1) or a table file (type 3).
 #[derive(Clone, Copy, Debug, PartialEq, Eq)]
@@ -37,10 +37,8 @@ impl Head {
         ensures refused { (e : HeadErr) → (result ≡ Err e) ↔ IsRefused e bytes.now }
     {
         let head = Head::fields(bytes);
-        match Head::judge(bytes, &head) {
-            Err(e) => Err(e),
-            Ok(()) => Ok(head),
-        }
+        Head::judge(bytes, &head)?;
+        Ok(head)
     }
 
     // The fields at their places.
@@ -132,14 +130,14 @@ impl Head {
         requires fpow { self.now.fpow ≤ 20 }
         ensures { IsTrue result ↔ HasNumbers self.now }
     {
-        if self.buckets < 1 || self.buckets > 1 << 38 {
+        if self.buckets < 1 || self.buckets > BUCKETS_MOST {
             return false;
         }
         let unit = self.unit();
         if self.first % unit != 0 || self.first < self.behind_sections() {
             return false;
         }
-        self.size % unit == 0 && self.size >= self.first && self.size <= 1 << 40
+        self.size % unit == 0 && self.size >= self.first && self.size <= FILE_MOST
     }
 
     /// The unit of blocks in bytes.

@@ -1,9 +1,11 @@
 -- Entries renamed, some at a time.
-use Rattle.std.proofs.Common.{◌≡◌, ◌∙◌, inl, inr, ℕ, zero, suc, ◌+◌, ◌-◌, ◌*◌, ◌/◌, ◌%◌, ◌^◌, ◌<◌, ◌≤◌, List, [], ◌++◌, Option, length, take, drop, refl, sym, ap, subst, arith, append_assoc, append-nil, add-one}
+use Rattle.std.proofs.Common.{◌≡◌, ◌∙◌, inl, inr, ℕ, zero, suc, ◌+◌, ◌-◌, ◌*◌, ◌/◌, ◌%◌, ◌^◌, ◌<◌, ◌≤◌, List, ◌++◌, Option, length, take, drop, refl, sym, ap, subst, arith, append_assoc, append-nil, add-one}
 use Rattle.std.proofs.lemmas.Bool.{cases_eq, cases_lt}
-use Rattle.std.proofs.lemmas.List.{drop-drop, places, same_lists}
+use Rattle.std.proofs.lemmas.List.{drop-drop, drop_all, drop_at, places, same_lists, take_at}
 use Rattle.std.proofs.Math.Nat.{div-add-mod, mod-lt, mul-add, mul-le-mul_left}
 use Rattle.tc_base.specs.Endian.{field, le_bytes, le_number}
+use Rattle.tc_base.specs.Files.{wrote}
+use Rattle.tc_base.proofs.Endians.{length-le_bytes}
 use Rattle.hf_pack.specs.declared.stream.Stream.{Stream}
 use Rattle.hf_pack.specs.Entries.{PushedAs}
 use Rattle.hf_pack.specs.Moving.{AllFit, entries_as, renamed}
@@ -13,13 +15,38 @@ use Rattle.hf_pack.proofs.Renamed.{length-entries}
 use Rattle.hf_pack.proofs.Streaming.{pushed_as, pushed_then}
 
 module _ (f : ℕ → ℕ) (w : ℕ) where
-  pub entries_none : (bytes new old : List ℕ) → new ≡ old → new ≡ old ++ entries_as f w 0 bytes
-  entries_none bytes new old e = e ∙ sym (append-nil old)
+  -- entries renamed where they stand: none yet,
+  pub entries_none : (bytes : List ℕ) → bytes ≡ entries_as f w 0 bytes ++ drop (w * 0) bytes
+  entries_none bytes = let none : 0 ≡ w * 0 = omega arith in ap (λ (n : ℕ). drop n bytes) none
 
-  -- one entry more
-  pub entries_more : (i n : ℕ) (bytes old now new : List ℕ) → now ≡ old ++ entries_as f w i bytes → n ≡ f (le_number (field (w * i) w bytes)) → new ≡ now ++ le_bytes w n → new ≡ old ++ entries_as f w (i + 1) bytes
-  entries_more i n bytes old now new before is e =
-      e ∙ (λ j. before j ++ le_bytes w (is j)) ∙ append_assoc old (entries_as f w i bytes) (le_bytes w (f (le_number (field (w * i) w bytes)))) ∙ ap (λ (k : ℕ). old ++ entries_as f w k bytes) (sym (add-one i))
+  -- one more,
+  pub entries_more : (i n : ℕ) (bytes now new : List ℕ) → now ≡ entries_as f w i bytes ++ drop (w * i) bytes → n ≡ f (le_number (field (w * i) w now)) → new ≡ wrote (w * i) (le_bytes w n) now → new ≡ entries_as f w (i + 1) bytes ++ drop (w * (i + 1)) bytes
+  unfolding wrote
+  entries_more i n bytes now new before is written =
+      let front : List ℕ = entries_as f w i bytes in
+      let back : List ℕ = drop (w * i) bytes in
+      let long : length front ≡ w * i = length-entries f w i bytes in
+      let behind : drop (w * i) (front ++ back) ≡ back = drop_at front back (w * i) long in
+      let x : List ℕ = le_bytes w n in
+      let same : n ≡ f (le_number (field (w * i) w bytes)) = is ∙ (λ j. f (le_number (take w (drop (w * i) (before j))))) ∙ ap (λ (l : List ℕ). f (le_number (take w l))) behind in
+      let sized : w * i + length x ≡ w * (i + 1) = omega (arith, length-le_bytes w n, mul-add w i 1) in
+      written
+      ∙ (λ j. take (w * i) (before j) ++ x ++ drop (w * i + length x) (before j))
+      ∙ (λ j. take_at front back (w * i) long j ++ x ++ sym (drop-drop (length x) (w * i) (front ++ back)) j)
+      ∙ (λ j. front ++ x ++ drop (length x) (behind j))
+      ∙ ap (λ (l : List ℕ). front ++ x ++ l) (drop-drop (length x) (w * i) bytes ∙ ap (λ (k : ℕ). drop k bytes) sized)
+      ∙ ap (λ (k : ℕ). (front ++ le_bytes w k) ++ drop (w * (i + 1)) bytes) same
+      ∙ ap (λ (k : ℕ). entries_as f w k bytes ++ drop (w * (i + 1)) bytes) (sym (add-one i))
+
+  -- and all
+  pub entries_all : (n : ℕ) (bytes new : List ℕ) → length bytes ≡ w * n → new ≡ entries_as f w n bytes ++ drop (w * n) bytes → new ≡ entries_as f w n bytes
+  entries_all n bytes new long is = is ∙ ap (λ (l : List ℕ). entries_as f w n bytes ++ l) (drop_all (w * n) bytes (omega (arith, long))) ∙ append-nil (entries_as f w n bytes)
+
+  pub entry_was : (i n : ℕ) (bytes now : List ℕ) → now ≡ entries_as f w i bytes ++ drop (w * i) bytes → n ≡ f (le_number (field (w * i) w now)) → n ≡ f (le_number (field (w * i) w bytes))
+  entry_was i n bytes now before is =
+      let front : List ℕ = entries_as f w i bytes in
+      let back : List ℕ = drop (w * i) bytes in
+      is ∙ (λ j. f (le_number (take w (drop (w * i) (before j))))) ∙ ap (λ (l : List ℕ). f (le_number (take w l))) (drop_at front back (w * i) (length-entries f w i bytes))
 
   pub fit_more : (i n : ℕ) (bytes : List ℕ) → AllFit f w i bytes → n ≡ f (le_number (field (w * i) w bytes)) → n < 256 ^ w → AllFit f w (i + 1) bytes
   fit_more i n bytes fit is low d less = elim (cases_eq d i) [
@@ -86,18 +113,18 @@ some_room w long some fits = elim (cases_lt (long / w) 1) [
     mod_low = mod-lt long some
 
 -- what was read of entries, and what was made of it
-module _ (places : ℕ → Option ℕ) (u u' w w' count at : ℕ) (old room read : List ℕ) where
-  read_is : w' ≡ w → length room ≡ w * count → read ≡ take (length room) (drop at old) → read ≡ take (w * count) (drop at old)
-  read_is ew long e = e ∙ ap (λ (n : ℕ). take n (drop at old)) long
+module _ (places : ℕ → Option ℕ) (u u' w w' count at : ℕ) (old read : List ℕ) where
+  read_is : w' ≡ w → read ≡ take (w' * count) (drop at old) → read ≡ take (w * count) (drop at old)
+  read_is ew e = e ∙ ap (λ (n : ℕ). take (n * count) (drop at old)) ew
 
-  pub written_is : (empty new : List ℕ) → u' ≡ u → w' ≡ w → empty ≡ [] → length room ≡ w * count → read ≡ take (length room) (drop at old) → new ≡ empty ++ entries_as (renamed u' places) w' count read → new ≡ entries_as (renamed u places) w count (drop at old)
-  written_is empty new eu ew none long e is =
+  pub written_is : (new : List ℕ) → u' ≡ u → w' ≡ w → read ≡ take (w' * count) (drop at old) → new ≡ entries_as (renamed u' places) w' count read → new ≡ entries_as (renamed u places) w count (drop at old)
+  written_is new eu ew e is =
       let front = entries_front (renamed u places) w count (w * count) (drop at old) (omega arith) in
-      is ∙ (λ i. none i ++ entries_as (renamed (eu i) places) (ew i) count (read_is ew long e i)) ∙ front
+      is ∙ (λ i. entries_as (renamed (eu i) places) (ew i) count (read_is ew e i)) ∙ front
 
-  pub fit_is : u' ≡ u → w' ≡ w → length room ≡ w * count → read ≡ take (length room) (drop at old) → AllFit (renamed u' places) w' count read → AllFit (renamed u places) w count (drop at old)
-  fit_is eu ew long e fit =
+  pub fit_is : u' ≡ u → w' ≡ w → read ≡ take (w' * count) (drop at old) → AllFit (renamed u' places) w' count read → AllFit (renamed u places) w count (drop at old)
+  fit_is eu ew e fit =
       fit_front (renamed u places) w count (w * count) (drop at old) (omega arith)
-      (subst (λ (l : List ℕ). AllFit (renamed u places) w count l) (read_is ew long e)
+      (subst (λ (l : List ℕ). AllFit (renamed u places) w count l) (read_is ew e)
       (subst (λ (x : ℕ). AllFit (renamed u places) x count read) ew
       (subst (λ (x : ℕ). AllFit (renamed x places) w' count read) eu fit)))

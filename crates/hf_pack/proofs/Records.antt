@@ -18,8 +18,8 @@ use Rattle.hf_tree.specs.Links.{IsAt}
 use Rattle.hf_tree.proofs.Fields.{at_inside}
 use Rattle.hf_chain.specs.declared.heads.RecHead.{RecHead}
 use Rattle.hf_chain.specs.Heads.{HasRecord, head_of}
-use Rattle.hf_chain.specs.Listing.{AreListed}
-use Rattle.hf_chain.proofs.FactRows.{stands}
+use Rattle.hf_tree.specs.Listing.{AreListed}
+use Rattle.hf_chain.proofs.Fronts.{stands}
 use Rattle.hf_pack.specs.declared.stream.Stream.{Stream}
 use Rattle.hf_pack.specs.Moving.{moved, rechained}
 use Rattle.hf_pack.specs.Streams.{Pushed, end_of}

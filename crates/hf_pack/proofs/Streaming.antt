@@ -23,6 +23,15 @@ flushed s s' old new inside at none is = record {
   long = ap length is ∙ wrote_long s.at s.out old inside;
 }
 
+-- a stream that stands where another does, and holds the same
+pub pushed_from : (s t u : Stream) (old new xs : List ℕ) → t.at ≡ s.at → t.out ≡ s.out → Pushed t u old new xs → Pushed s u old new xs
+pushed_from s t u old new xs at out p = record {
+  front = p.front ∙ (λ i. (take (at i) old ++ out i) ++ xs);
+  behind = p.behind;
+  ends = omega (arith, p.ends, at, ap length out);
+  long = p.long;
+}
+
 -- bytes are held
 pub holding : (s s' : Stream) (old new xs : List ℕ) → s'.at ≡ s.at → s'.out ≡ s.out ++ xs → new ≡ old → Pushed s s' old new xs
 holding s s' old new xs at out same = record {

@@ -1,5 +1,8 @@
 -- Records moved to the front of the blocks, and what names them then.
 use Rattle.std.specs.Prelude.{ℕ, zero, suc, ◌+◌, ◌*◌, ◌/◌, ◌==◌, ◌^◌, ◌<◌, ◌≤◌, min, List, [], ◌∷◌, ◌++◌, Option, Some, None, unwrap_or, if◌then◌else◌}
+use Rattle.std.specs.Ordering.{nat_cmp}
+use Rattle.std.specs.BTreeMap.{BTreeMap}
+use Rattle.std.specs.BTreeMap as tree
 use Rattle.tc_base.specs.Endian.{field, le_bytes, le_number}
 use Rattle.hf_head.specs.declared.head.Head.{Head}
 use Rattle.hf_head.specs.Heads.{unit}
@@ -20,6 +23,16 @@ new_place at to (free size tail ∷ ps) q = new_place (at + size_of (free size t
 -- a stored link as it is then, by the new places of records; it is none where no record was named, and never greater
 abbrev pub renamed : ℕ → (ℕ → Option ℕ) → ℕ → ℕ
 renamed u places n = min (unwrap_or (places (capped (u * n))) 0 / u) n
+
+-- the new places of records, as a map has them
+abbrev pub Places : Type 0
+Places = BTreeMap ℕ ℕ
+
+abbrev pub renamed_by : ℕ → Places → ℕ → ℕ
+renamed_by u places = renamed u (λ q. tree.get nat_cmp places q)
+
+abbrev pub renamed_in : Head → Places → ℕ → ℕ
+renamed_in h places = renamed_by (unit h) places
 
 -- a record with other chains
 abbrev pub rechained : (ℕ → ℕ) → Record → Record

@@ -1,7 +1,9 @@
-pub mod Multiples
+pub mod Indexing
 pub mod Joins
 pub mod Marks
+pub mod Multiples
 pub mod Orders
 pub mod Pools
 pub mod Sections
 pub mod Trims
+pub mod Written

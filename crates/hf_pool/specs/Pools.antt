@@ -1,19 +1,24 @@
 -- What the calls of a pool do.
-use Rattle.std.specs.Prelude.{◌≡◌, ℕ, ◌+◌, ◌-◌, ◌%◌, ◌^◌, ◌<◌, ◌≤◌, ◌==◌, List, length, if◌then◌else◌}
-use Rattle.std.specs.Ordering.{nat_cmp}
-use Rattle.std.specs.BTreeMap as tree
+use Rattle.std.specs.Prelude.{◌≡◌, ◌⊎◌, ℕ, ◌+◌, ◌-◌, ◌%◌, ◌^◌, ◌<◌, ◌≤◌, ◌==◌, false, List, length, if◌then◌else◌}
+use Rattle.std.proofs.Common.{◌∙◌, refl}
+use Rattle.tc_space.specs.Effects.{Changes}
 use Rattle.tc_space.specs.Frames.{Others}
-use Rattle.tc_space.specs.Ranges.{IsDataFile}
+use Rattle.tc_space.specs.Ranges.{IsDataFile, Passes}
 use Rattle.tc_space.specs.declared.space.Space.{Ghosts}
 use Rattle.hf_pool.specs.declared.pool.Pool.{Pool}
-use Rattle.hf_block.specs.Pieces.{Piece}
-use Rattle.hf_layout.specs.Frees.{Frees, IsBest, HasNone, LieInside, MeetsNone, with_block, without}
+use Rattle.hf_block.specs.declared.block.BlockAt.{BlockAt}
+use Rattle.hf_block.specs.Pieces.{AreBlocks, Piece, placed}
+use Rattle.hf_block.specs.Rows.{HaveSameFree}
+use Rattle.hf_block.specs.Walks.{between}
+use Rattle.hf_layout.specs.Frees.{Frees, IsBest, HasNone, LieInside, MeetsNone, none, with_block, without}
 use Rattle.hf_layout.specs.Layout.{LaidOut, Keeps, TakesBack, HasBlock, MeetsNoRecord}
+use Rattle.hf_pool.specs.Indexing.{found_in}
+use Rattle.hf_pool.specs.Joins.{GivesBack}
 use Rattle.hf_pool.specs.Marks.{marked, parted}
 
 -- the free blocks
 abbrev pub frees : Pool → Frees
-frees pool = λ q. tree.get nat_cmp pool.index.by_place q
+frees pool = found_in pool.index
 
 -- the space may be used, and the free blocks lie in a data file where its bytes are told
 pub record HoldsFrees {S : Type 0} (s : Ghosts S) (space : S) (file : ℕ) (free : Frees) : Type 0 where
@@ -42,13 +47,34 @@ pub record TakesFree (old new : Pool) (size place found : ℕ) : Type 0 where
   pub end : new.size ≡ old.size
   pub unit : new.unit ≡ old.unit
 
--- none was: the block stands at the end, and the size grows by it alone
+-- no free block was large enough: the block stands at the end, and the size grows by it alone
 pub record Grows (old new : Pool) (size place : ℕ) : Type 0 where
   pub none : HasNone (frees old) size
   pub at : place ≡ old.size
   pub end : new.size ≡ old.size + size
   pub same : (q : ℕ) → frees new q ≡ frees old q
   pub unit : new.unit ≡ old.unit
+  pub noted : new.changed ≡ old.changed
+
+-- either way
+abbrev pub Takes : Pool → Pool → ℕ → ℕ → Type 0
+Takes old new size place = ((found : ℕ) × TakesFree old new size place found) ⊎ Grows old new size place
+
+-- the unit stays, and where no change of free blocks is noted there was none, neither now nor before
+pub record Notes (old new : Pool) : Type 0 where
+  pub unit : new.unit ≡ old.unit
+  pub kept : new.changed ≡ false → old.changed ≡ false
+  pub same : new.changed ≡ false → (q : ℕ) → frees new q ≡ frees old q
+
+pub notes_refl : (a : Pool) → Notes a a
+notes_refl a = record { unit = refl; kept = λ no. no; same = λ no q. refl }
+
+pub notes_then : (a b c : Pool) → Notes a b → Notes b c → Notes a c
+notes_then a b c first second = record {
+  unit = second.unit ∙ first.unit;
+  kept = λ no. first.kept (second.kept no);
+  same = λ no q. second.same no q ∙ first.same (second.kept no) q;
+}
 
 -- what taking a block does to the bytes: the head of what is left over is written, and nothing where the block is taken whole or stands at the end
 pub record IsTaken (old : Frees) (size place : ℕ) (bytes bytes' : List ℕ) : Type 0 where
@@ -73,3 +99,27 @@ pub record TakesIn {S : Type 0} (s : Ghosts S) (file : ℕ) (old new : Pool) (si
 pub record GoesBack (unit : ℕ) (old new : Frees) (at size : ℕ) (bytes bytes' : List ℕ) : Type 0 where
   pub block : (first last : ℕ) (pieces : List Piece) (lent : Frees) → LaidOut unit first last pieces old lent bytes → HasBlock first pieces at size → TakesBack unit first last pieces new lent at bytes'
   pub rest : (first last : ℕ) (pieces : List Piece) (lent : Frees) → LaidOut unit first last pieces old lent (marked at size bytes) → HasBlock first pieces at size → TakesBack unit first last pieces new lent at bytes'
+
+module _ {S : Type 0} (s : Ghosts S) where
+  -- the head of what is left over of the best block passes a limit
+  abbrev pub LacksRoomToPart : Pool → ℕ → ℕ → S → S → Type 0
+  LacksRoomToPart pool size file before after = (place : ℕ) × (found : ℕ) × IsBest (frees pool) size place found × (size < found) × Passes (s.limit before file) (s.log_full after) (place + size) 5
+
+  -- a block was given back, and its head written
+  abbrev pub Gives : ℕ → Pool → Pool → ℕ → ℕ → S → S → Type 0
+  Gives file old new at size before after = (start : ℕ) × (total : ℕ) × GivesBack (frees old) (frees new) at size start total × (s.tells → Changes s.now file (marked start total (s.now before file)) before after)
+
+  abbrev pub GoesBackIn : ℕ → Pool → Pool → ℕ → ℕ → S → S → Type 0
+  GoesBackIn file old new at size before after = GoesBack old.unit (frees old) (frees new) at size (s.now before file) (s.now after file)
+
+  -- the head of a block given back passes a limit
+  abbrev pub LacksRoomToGive : ℕ → Pool → Pool → ℕ → ℕ → S → S → Type 0
+  LacksRoomToGive file old new at size before after = (start : ℕ) × (total : ℕ) × GivesBack (frees old) (frees new) at size start total × Passes (s.limit before file) (s.log_full after) start 5
+
+-- blocks that are laid out up to the old end are so up to the new one
+abbrev pub KeepsLaid : Pool → Pool → Type 0
+KeepsLaid old new = (first : ℕ) (pieces : List Piece) (lent : Frees) (bytes : List ℕ) → LaidOut old.unit first old.size pieces (frees old) lent bytes → Keeps old.unit first new.size pieces (frees new) lent bytes
+
+-- blocks of a file of which the free ones were listed are laid out
+abbrev pub IsLaidOut : ℕ → ℕ → ℕ → List BlockAt → Pool → Type 0
+IsLaidOut unit first size blocks pool = (pieces : List Piece) (bytes : List ℕ) → size ≤ length bytes → AreBlocks unit (between first size bytes) pieces → HaveSameFree blocks (placed first pieces) → LaidOut unit first size pieces (frees pool) none bytes

@@ -19,8 +19,11 @@ pub struct Index {
 }
 
 impl Index {
+    ghost use Rattle.hf_pool.specs.Indexing.{found_in};
+
+    /// No blocks.
     pub fn new(alloc: Global) -> Index
-        ensures { (q : ℕ) → tree.get nat_cmp result.by_place q ≡ None }
+        ensures { (q : ℕ) → found_in result q ≡ None }
     {
         Index {
             by_place: BTreeMap::new(alloc),
@@ -31,10 +34,10 @@ impl Index {
     /// Adds a block that meets none of the others. An `Err` changes nothing.
     pub fn insert(&mut self, place: u64, size: u64) -> Result<(), AllocError>
         requires some { 0 < size }
-        requires absent { tree.get nat_cmp self.old.by_place place ≡ None }
-        requires apart { MeetsNone (tree.get nat_cmp self.old.by_place) place size }
-        ensures ok { OnOk result ((q : ℕ) → tree.get nat_cmp self.new.by_place q ≡ with_block (tree.get nat_cmp self.old.by_place) place size q) }
-        ensures err { OnErr result ((q : ℕ) → tree.get nat_cmp self.new.by_place q ≡ tree.get nat_cmp self.old.by_place q) }
+        requires absent { found_in self.old place ≡ None }
+        requires apart { MeetsNone (found_in self.old) place size }
+        ensures ok { OnOk result ((q : ℕ) → found_in self.new q ≡ with_block (found_in self.old) place size q) }
+        ensures err { OnErr result ((q : ℕ) → found_in self.new q ≡ found_in self.old q) }
     {
         let Ok(_) = self.by_size.insert((size, place)) else {
             return Err(AllocError);
@@ -48,8 +51,8 @@ impl Index {
 
     /// Takes a block out.
     pub fn remove(&mut self, place: u64, size: u64)
-        requires { IsThere (tree.get nat_cmp self.old.by_place) place size }
-        ensures { (q : ℕ) → tree.get nat_cmp self.new.by_place q ≡ without (tree.get nat_cmp self.old.by_place) place q }
+        requires { IsThere (found_in self.old) place size }
+        ensures { (q : ℕ) → found_in self.new q ≡ without (found_in self.old) place q }
     {
         self.by_size.remove(&(size, place));
         self.by_place.remove(&place);
@@ -57,8 +60,8 @@ impl Index {
 
     /// The place and size of the least block of at least that size, the one at the lowest place among equals.
     pub fn best(&self, size: u64) -> Option<(u64, u64)>
-        ensures some { IfSome result (λ b. IsBest (tree.get nat_cmp self.now.by_place) size b.0 b.1) }
-        ensures none { IfNone result (HasNone (tree.get nat_cmp self.now.by_place) size) }
+        ensures some { IfSome result (λ b. IsBest (found_in self.now) size b.0 b.1) }
+        ensures none { IfNone result (HasNone (found_in self.now) size) }
     {
         match self.by_size.range((size, 0)..).next() {
             Some((found, place)) => Some((*place, *found)),
@@ -68,15 +71,15 @@ impl Index {
 
     /// The size of the block at a place.
     pub fn at(&self, place: u64) -> Option<u64>
-        ensures { result ≡ tree.get nat_cmp self.now.by_place place }
+        ensures { result ≡ found_in self.now place }
     {
         self.by_place.get(&place).copied()
     }
 
     /// The place of the block that ends at a place.
     pub fn before(&self, end: u64) -> Option<u64>
-        ensures some { IfSome result (λ p. (s : ℕ) × IsThere (tree.get nat_cmp self.now.by_place) p s × (p + s ≡ end)) }
-        ensures none { IfNone result ((q t : ℕ) → IsThere (tree.get nat_cmp self.now.by_place) q t → q + t ≡ end → 0 < t → ⊥) }
+        ensures some { IfSome result (λ p. (s : ℕ) × IsThere (found_in self.now) p s × (p + s ≡ end)) }
+        ensures none { IfNone result ((q t : ℕ) → IsThere (found_in self.now) q t → q + t ≡ end → 0 < t → ⊥) }
     {
         match self.by_place.range(..end).next_back() {
             Some((place, size)) if *size == end - *place => Some(*place),
@@ -88,8 +91,8 @@ impl Index {
     pub fn meets_none(&self, place: u64, size: u64) -> bool
         requires some { 0 < size }
         requires fits { place + size < 2 ^ 64 }
-        ensures apart { IsTrue result → MeetsNone (tree.get nat_cmp self.now.by_place) place size }
-        ensures meets { MeetsNone (tree.get nat_cmp self.now.by_place) place size → IsTrue result }
+        ensures apart { IsTrue result → MeetsNone (found_in self.now) place size }
+        ensures meets { MeetsNone (found_in self.now) place size → IsTrue result }
     {
         match self.by_place.range(..place + size).next_back() {
             Some((last, found)) => *last <= place && *found <= place - *last,

@@ -1,11 +1,11 @@
 //! Heads of free blocks in a file.
 ghost use Rattle.std.specs.Prelude.{◌≡◌, ◌<◌, ◌≤◌, ◌^◌, length, OnOk, IsErrOf};
-ghost use Rattle.tc_io.specs.Causes.{Rose};
 ghost use Rattle.tc_space.specs.Ranges.{IsDataFile, Passes};
 ghost use Rattle.hf_block.specs.Heads.{free_head};
 ghost use Rattle.hf_pool.specs.Marks.{marked};
 ghost use Rattle.tc_space.specs.Effects.{Changes, Outcome};
 ghost use Rattle.tc_space.specs.Frames.{OnlyWrites};
+ghost use Rattle.tc_space.specs.Refusals.{OnFault};
 
 use tc_base::set_le;
 use tc_space::{RecErr, Space};
@@ -30,10 +30,8 @@ pub fn mark<S: Space>(space: &mut S, file: u32, place: u64, size: u64) -> Result
     ensures outcome { Outcome S.sound S.flag result space.new }
     ensures writes { OnlyWrites S.Space space.old space.new }
     ensures full { IsErrOf result RecErr.Full → Passes (S.limit space.old file) (S.log_full space.new) place 5 }
-    ensures cause { IsErrOf result RecErr.Fault → Rose (S.faults space.old) (S.faults space.new) }
+    ensures cause { OnFault S.Space result space.old space.new }
 {
-    match space.write(file, place, &head_of(size)) {
-        Ok(()) => Ok(()),
-        Err(e) => Err(RecErr::from(e)),
-    }
+    space.write(file, place, &head_of(size))?;
+    Ok(())
 }

@@ -1,17 +1,21 @@
 //! The free blocks of a file and its size.
+ghost use Rattle.tc_space.specs.Refusals.{OnFault};
+
 use crate::index::Index;
 use crate::marks::mark;
 use hf_block::Blocks;
 use std::alloc::{AllocError, Global};
-use tc_base::{Blob, put_vnum, vnum_len};
+use tc_base::{Blob, FOUR_BYTES_END, put_vnum, vnum_len};
+use tc_reach::append_zeros;
 use tc_space::{RecErr, Space};
 
-/// The free blocks of a file, and the size up to which it has blocks.
+/// The free blocks of a file, the size up to which it has blocks, and whether the free blocks may have changed since their section was written.
 #[derive(Drop)]
 pub struct Pool {
     index: Index,
     unit: u64,
     size: u64,
+    changed: bool,
     ghost some: { 5 ≤ unit },
     ghost aligned: { size % unit ≡ 0 },
     ghost within: { LieWithin size (tree.get nat_cmp index.by_place) },
@@ -26,7 +30,7 @@ impl Pool {
     ghost use Rattle.hf_block.specs.Walks.{HoldsUpTo, between};
     ghost use Rattle.hf_layout.specs.Frees.{Frees, IsThere, IsBest, MeetsNone, none};
     ghost use Rattle.hf_layout.specs.Layout.{LaidOut, Keeps};
-    ghost use Rattle.hf_pool.specs.Pools.{frees, GoesBack, Grows, HoldsFrees, MayGive, MayTake, TakesFree, TakesIn};
+    ghost use Rattle.hf_pool.specs.Pools.{Gives, GoesBackIn, HoldsFrees, IsLaidOut, KeepsLaid, LacksRoomToGive, LacksRoomToPart, MayGive, MayTake, Notes, Takes, TakesFree, TakesIn, frees};
     ghost use Rattle.hf_pool.specs.Marks.{marked};
     ghost use Rattle.tc_space.specs.Effects.{Changes, Outcome};
     ghost use Rattle.tc_space.specs.Frames.{OnlyWrites};
@@ -34,7 +38,9 @@ impl Pool {
     ghost use Rattle.hf_pool.specs.Joins.{FrontJoined, BackJoined, GivesBack};
     ghost use Rattle.hf_pool.specs.Trims.{Trimmed};
     ghost use Rattle.hf_block.specs.Rows.{StandApart, IsListed, HaveSameFree};
-    ghost use Rattle.hf_pool.specs.Sections.{InOrder, pairs, section_bytes};
+    ghost use Rattle.hf_pool.specs.Sections.{InOrder};
+    ghost use Rattle.hf_pool.specs.Written.{AddsBlocks, AddsPairs, AddsSection};
+    ghost use Rattle.tc_reach.specs.Limits.{AddsSome};
 
     /// The size up to which the file has blocks.
     pub fn size(&self) -> u64
@@ -68,6 +74,21 @@ impl Pool {
         self.index.meets_none(at, size)
     }
 
+    /// Whether free blocks may have changed since `mark_written` was called last. It is so of a pool that was just built.
+    pub fn has_changed(&self) -> bool
+        ensures { result ≡ self.now.changed }
+    {
+        self.changed
+    }
+
+    /// Notes that the section of the free blocks, as they are, stands in the file.
+    pub fn mark_written(&mut self)
+        ensures written { self.new.changed ≡ false }
+        ensures same { self.new ≡ record self.old { changed = self.new.changed } }
+    {
+        self.changed = false;
+    }
+
     // The best block parted in memory: the front is taken, and what is left over stays free.
     fn part_in_memory(&mut self, place: u64, found: u64, size: u64) -> Result<(), AllocError>
         requires best { IsBest (frees self.old) size place found }
@@ -75,7 +96,9 @@ impl Pool {
         requires aligned { size % self.old.unit ≡ 0 }
         ensures ok { OnOk result (TakesFree self.old self.new size place found) }
         ensures unit { self.new.unit ≡ self.old.unit }
+        ensures changed { self.new.changed ≡ true }
     {
+        self.changed = true;
         self.index.remove(place, found);
         if found > size {
             self.index.insert(place + size, found - size)?;
@@ -89,13 +112,13 @@ impl Pool {
     pub fn take<S: Space>(&mut self, space: &mut S, file: u32, size: u64) -> Result<u64, RecErr>
         requires holds { HoldsFrees S.Space space.old file (frees self.old) }
         requires may { MayTake self.old size }
-        ensures taken { IfOk result (λ place. ((found : ℕ) × TakesFree self.old self.new size place found) ⊎ Grows self.old self.new size place) }
+        ensures taken { IfOk result (Takes self.old self.new size) }
         ensures file { IfOk result (λ place. TakesIn S.Space file self.old self.new size place space.old space.new) }
-        ensures unit { self.new.unit ≡ self.old.unit }
         ensures outcome { Outcome S.sound S.flag result space.new }
         ensures writes { OnlyWrites S.Space space.old space.new }
-        ensures full { IsErrOf result RecErr.Full → (place : ℕ) × (found : ℕ) × IsBest (frees self.old) size place found × (size < found) × Passes (S.limit space.old file) (S.log_full space.new) (place + size) 5 }
-        ensures cause { IsErrOf result RecErr.Fault → Rose (S.faults space.old) (S.faults space.new) }
+        ensures notes { Notes self.old self.new }
+        ensures full { IsErrOf result RecErr.Full → LacksRoomToPart S.Space self.old size file space.old space.new }
+        ensures cause { OnFault S.Space result space.old space.new }
     {
         let Some((place, found)) = self.index.best(size) else {
             let place = self.size;
@@ -107,9 +130,7 @@ impl Pool {
             return Err(RecErr::Memory);
         };
         if found > size {
-            if let Err(e) = mark(space, file, place + size, found - size) {
-                return Err(e);
-            }
+            mark(space, file, place + size, found - size)?;
         }
         Ok(place)
     }
@@ -121,12 +142,13 @@ impl Pool {
         ensures joined { FrontJoined (frees self.old) at size result.0 result.1 (frees self.new) }
         ensures end { self.new.size ≡ self.old.size }
         ensures unit { self.new.unit ≡ self.old.unit }
+        ensures changed { self.new.changed ≡ self.old.changed }
     {
         let Some(start) = self.index.before(at) else {
             return (at, size);
         };
         let front = at - start;
-        if front + size >= 1 << 32 {
+        if front + size >= FOUR_BYTES_END {
             return (at, size);
         }
         self.index.remove(start, front);
@@ -139,11 +161,12 @@ impl Pool {
         ensures joined { BackJoined (frees self.old) end size result (frees self.new) }
         ensures end { self.new.size ≡ self.old.size }
         ensures unit { self.new.unit ≡ self.old.unit }
+        ensures changed { self.new.changed ≡ self.old.changed }
     {
         let Some(back) = self.index.at(end) else {
             return size;
         };
-        if size + back >= 1 << 32 {
+        if size + back >= FOUR_BYTES_END {
             return size;
         }
         self.index.remove(end, back);
@@ -157,7 +180,9 @@ impl Pool {
         ensures end { OnOk result (self.new.size ≡ self.old.size) }
         ensures place { IfOk result (λ b. (b.0 ≤ at) × (b.1 < 2 ^ 32)) }
         ensures unit { self.new.unit ≡ self.old.unit }
+        ensures changed { self.new.changed ≡ true }
     {
+        self.changed = true;
         let (start, half) = self.join_front(at, size);
         let total = self.join_back(at + size, half);
         self.index.insert(start, total)?;
@@ -175,13 +200,13 @@ impl Pool {
     ) -> Result<(), RecErr>
         requires holds { HoldsUpTo S.Space space.old file (at + size) }
         requires may { MayGive self.old at size }
-        ensures given { OnOk result ((start : ℕ) × (total : ℕ) × GivesBack (frees self.old) (frees self.new) at size start total × (S.tells → Changes S.now file (marked start total (S.now space.old file)) space.old space.new)) }
-        ensures back { OnOk result (S.tells → GoesBack self.old.unit (frees self.old) (frees self.new) at size (S.now space.old file) (S.now space.new file)) }
-        ensures stays { (self.new.unit ≡ self.old.unit) × OnOk result (self.new.size ≡ self.old.size) }
+        ensures given { OnOk result (Gives S.Space file self.old self.new at size space.old space.new) }
+        ensures back { OnOk result (S.tells → GoesBackIn S.Space file self.old self.new at size space.old space.new) }
+        ensures stays { Notes self.old self.new × OnOk result (self.new.size ≡ self.old.size) }
         ensures outcome { Outcome S.sound S.flag result space.new }
         ensures writes { OnlyWrites S.Space space.old space.new }
-        ensures full { IsErrOf result RecErr.Full → (start : ℕ) × (total : ℕ) × GivesBack (frees self.old) (frees self.new) at size start total × Passes (S.limit space.old file) (S.log_full space.new) start 5 }
-        ensures cause { IsErrOf result RecErr.Fault → Rose (S.faults space.old) (S.faults space.new) }
+        ensures full { IsErrOf result RecErr.Full → LacksRoomToGive S.Space file self.old self.new at size space.old space.new }
+        ensures cause { OnFault S.Space result space.old space.new }
     {
         let Ok((start, total)) = self.give_in_memory(at, size) else {
             space.spoil();
@@ -193,10 +218,12 @@ impl Pool {
     /// Takes the free blocks at the end out and lowers the size by theirs.
     pub fn trim(&mut self)
         ensures trimmed { Trimmed (frees self.old) (frees self.new) self.old.size self.new.size }
-        ensures laid { (first : ℕ) (pieces : List Piece) (lent : Frees) (bytes : List ℕ) → LaidOut self.old.unit first self.old.size pieces (frees self.old) lent bytes → Keeps self.old.unit first self.new.size pieces (frees self.new) lent bytes }
-        ensures unit { self.new.unit ≡ self.old.unit }
+        ensures laid { KeepsLaid self.old self.new }
+        ensures notes { Notes self.old self.new }
+        ensures exact { self.new.size ≡ self.old.size → self.new.changed ≡ self.old.changed }
     {
         while let Some(place) = self.index.before(self.size) {
+            self.changed = true;
             self.index.remove(place, self.size - place);
             self.size = place;
         }
@@ -217,7 +244,8 @@ impl Pool {
         ensures free { IfOk result (λ pool. (q t : ℕ) → IsThere (frees pool) q t ↔ IsListed blocks.now q t) }
         ensures size { IfOk result (λ pool. pool.size ≡ size) }
         ensures unit { IfOk result (λ pool. pool.unit ≡ unit) }
-        ensures laid { IfOk result (λ pool. (pieces : List Piece) (bytes : List ℕ) → size ≤ length bytes → AreBlocks unit (between first size bytes) pieces → HaveSameFree blocks.now (placed first pieces) → LaidOut unit first size pieces (frees pool) none bytes) }
+        ensures laid { IfOk result (IsLaidOut unit first size blocks.now) }
+        ensures anew { IfOk result (λ pool. pool.changed ≡ true) }
     {
         let _ = first;
         let mut index = Index::new(alloc);
@@ -226,14 +254,19 @@ impl Pool {
                 index.insert(block.place, block.size)?;
             }
         }
-        Ok(Pool { index, unit, size })
+        Ok(Pool {
+            index,
+            unit,
+            size,
+            changed: true,
+        })
     }
 
     // The pairs of the section, and the bytes left behind them. An `Err` may have added some.
     fn put_pairs(&self, len: usize, into: &mut Blob) -> Result<usize, AllocError>
-        ensures ok { IfOk result (λ room. (into.new ≡ into.old ++ pairs self.now.unit 0 len self.now.index.by_place.entries) × (room + length (pairs self.now.unit 0 len self.now.index.by_place.entries) ≡ len)) }
+        ensures ok { IfOk result (AddsPairs self.now len into.old into.new) }
         ensures ordered { OnOk result (InOrder (frees self.now) self.now.index.by_place.entries) }
-        ensures err { OnErr result ((more : List ℕ) × (into.new ≡ into.old ++ more)) }
+        ensures err { OnErr result (AddsSome into.old into.new) }
     {
         let mut before = 0;
         let mut room = len;
@@ -253,15 +286,25 @@ impl Pool {
         Ok(room)
     }
 
+    /// Adds the pairs of the pool section of `len` bytes, without the zeros behind them. An `Err` may have added some.
+    pub fn pairs(&self, len: usize, into: &mut Blob) -> Result<(), AllocError>
+        requires { 2 ≤ len }
+        ensures ok { OnOk result (AddsBlocks self.now len into.old into.new) }
+        ensures err { OnErr result (AddsSome into.old into.new) }
+    {
+        self.put_pairs(len, into)?;
+        Ok(())
+    }
+
     /// Adds the pool section of `len` bytes: the free blocks in ascending place as far as they fit, and zeros. An `Err` may have
     /// added some of it.
     pub fn section(&self, len: usize, into: &mut Blob) -> Result<(), AllocError>
         requires { 2 ≤ len }
-        ensures ok { OnOk result ((blocks : List (ℕ × ℕ)) × InOrder (frees self.now) blocks × (into.new ≡ into.old ++ section_bytes self.now.unit len blocks)) }
-        ensures err { OnErr result ((more : List ℕ) × (into.new ≡ into.old ++ more)) }
+        ensures ok { OnOk result (AddsSection self.now len into.old into.new) }
+        ensures err { OnErr result (AddsSome into.old into.new) }
     {
         let room = self.put_pairs(len, into)?;
-        put_zeros(room, into)
+        append_zeros(room, into)
     }
 }
 
@@ -271,21 +314,6 @@ fn pair_len(difference: u64, units: u64) -> usize
     ensures most { result ≤ 20 }
 {
     vnum_len(difference) + vnum_len(units)
-}
-
-// Zeros behind the bytes. An `Err` may have added some.
-fn put_zeros(count: usize, into: &mut Blob) -> Result<(), AllocError>
-    ensures ok { OnOk result (into.new ≡ into.old ++ replicate count 0) }
-    ensures err { OnErr result ((more : List ℕ) × (into.new ≡ into.old ++ more)) }
-{
-    let zeros = [0; 256];
-    let mut rest = count;
-    while rest > 0 {
-        let n = rest.min(zeros.len());
-        into.append(&zeros[..n])?;
-        rest -= n;
-    }
-    Ok(())
 }
 
 ghost use Rattle.std.specs.Prelude.{◌≡◌, ℕ, ◌+◌, ◌%◌, ◌<◌, ◌≤◌, ◌^◌, ◌++◌, List, length, replicate, Some, OnOk, OnErr};

@@ -1,5 +1,6 @@
 pub mod Keys
 pub mod Links
+pub mod Listing
 pub mod Rules
 pub mod Standing
 pub mod Trees

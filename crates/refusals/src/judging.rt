@@ -1,10 +1,10 @@
 //! Whether a run ended as it may where an allocation is refused.
 ghost use Rattle.std.specs.Prelude.{◌≡◌, ◌≢◌, ◌⊎◌, ◌↔◌, IsTrue, nat_eq, true};
 ghost use Rattle.std.specs.List.{starts_with};
-ghost use Rattle.tc_io.specs.Transcript.{out_of};
-ghost use Rattle.tc_io.specs.Wires.{told};
+ghost use Rattle.tc_fakes.specs.Transcripts.{out_of};
+ghost use Rattle.tc_fakes.specs.Wires.{told};
 
-use tc_io::MemWire;
+use tc_fakes::MemWire;
 
 // It ended otherwise.
 const WRONG: u8 = 97;

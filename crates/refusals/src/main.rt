@@ -11,7 +11,7 @@ use std::alloc::{AllocError, Global};
 use std::env;
 use std::io::ErrorKind;
 use std::process::ExitCode;
-use tc_io::{MemSink, MemVolume, StepClock};
+use tc_fakes::{MemSink, MemVolume, StepClock};
 use tk_top::run;
 
 // The word names no script.

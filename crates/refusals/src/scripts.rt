@@ -2,7 +2,8 @@
 ghost use Rattle.std.specs.Prelude.{◌≡◌, false, IfOk};
 
 use std::alloc::{AllocError, Global};
-use tc_io::{Act, MemWire};
+use tc_fakes::MemWire;
+use tc_io::Act;
 
 // `one` is set to `first`, and asked for.
 const PUT_AND_GET: &[u8] = b"\xC8\x10\0\0\0\x03\0\0\0\x05onefirst\xC8\x30\0\0\0\x03one";

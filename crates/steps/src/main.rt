@@ -16,8 +16,8 @@ use std::alloc::Global;
 use std::env;
 use std::io::{Read, Write};
 use tc_base::{Blob, Decimal, Lexical, Order};
+use tc_memstores::MemMulti;
 use tc_space::{NoSpace, RecErr};
-use tc_stores::MemMulti;
 use trees::{play_hash, play_tree};
 
 fn play_list<O: Order>(alloc: Global, bytes: &[u8], into: &mut Blob) -> Result<(), RecErr> {

@@ -5,8 +5,8 @@ ghost use Rattle.tc_space.specs.Stores.{IsReady};
 
 use crate::answers::{add_flag, add_number, add_pairs, add_texts};
 use crate::script::{Script, Step};
+use bt_order::Stretch;
 use tc_base::{Blob, Mode, Steps};
-use tc_btree::Stretch;
 use tc_space::{Multi, PutErr, RecErr};
 
 // A pair put, by the mode; false where its key is held and was to be kept.

@@ -8,8 +8,8 @@ use std::alloc::Global;
 use tc_base::{Blob, Order};
 use tc_btree::Btree;
 use tc_hash::Hash;
+use tc_memstores::{MemRecords, OneFile};
 use tc_space::{Multi, RecErr};
-use tc_stores::{MemRecords, OneFile};
 
 type Store = Hash<OneFile>;
 

@@ -190,3 +190,7 @@ le_front-short width bytes h = let e : ltb (length bytes) width ≡ true = lt-lt
 pub le_front-long : (width n : ℕ) (bytes : List ℕ) → width ≤ length bytes → n ≡ le_number (take width bytes) → le_front width bytes ≡ Ok (n, drop width bytes)
 unfolding le_front
 le_front-long width n bytes h is = let e : ltb (length bytes) width ≡ false = le-ltb _ _ h in rw (e, is) refl
+
+-- the number that these bytes spell at the front
+pub front_spelled : (n : ℕ) (text bytes rest : List ℕ) → n < 2 ^ 64 → vnum n ≡ text → bytes ≡ text ++ rest → vnum_front bytes ≡ Ok (n, rest)
+front_spelled n text bytes rest h is e = ap vnum_front e ∙ exact_vnum.again n text rest (h, sym is)

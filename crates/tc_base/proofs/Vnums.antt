@@ -467,3 +467,30 @@ scanned_one b bytes within is less = ap (λ (v : ℕ). Ok (v, 1)) (omega arith) 
 pub IfOk-found : (r : Result (ℕ × ℕ) NumErr) (bytes : List ℕ) → IsBytes bytes → r ≡ vnum_at bytes → IfOk r (λ x. (x.0 < 2 ^ 64) × (x.1 ≡ length (vnum x.0)) × (take x.1 bytes ≡ vnum x.0))
 IfOk-found (Err e) bytes are is = tt
 IfOk-found (Ok x) bytes are is = let f = found bytes x.0 x.1 are (sym is) in (f.below, f.long, f.front)
+
+-- ---- spellings of few bytes
+
+pub one_spelled : (n : ℕ) → n < 128 → vnum n ≡ n ∷ []
+unfolding vnum
+one_spelled n h = groups-low 9 n h
+
+pub two_spelled : (a b : ℕ) → 128 ≤ a → a < 256 → 0 < b → b < 128 → vnum (255 - a + 128 * b) ≡ a ∷ b ∷ []
+unfolding vnum
+two_spelled a b top byte some low =
+    let n : ℕ = 255 - a + 128 * b in
+    let first : 255 - n % 128 ≡ a = omega (arith, top, byte) in
+    let rest : n / 128 ≡ b = omega (arith, top, byte) in
+    groups-high 9 n (omega (arith, some)) ∙ (λ i. first i ∷ groups 9 (rest i)) ∙ ap (λ (l : List ℕ). a ∷ l) (groups-low 8 b low)
+
+pub three_spelled : (a b d : ℕ) → 128 ≤ a → a < 256 → 128 ≤ b → b < 256 → 0 < d → d < 128 → vnum (255 - a + 128 * (255 - b + 128 * d)) ≡ a ∷ b ∷ d ∷ []
+unfolding vnum
+three_spelled a b d ta fa tb fb some low =
+    let m : ℕ = 255 - b + 128 * d in
+    let n : ℕ = 255 - a + 128 * m in
+    let first : 255 - n % 128 ≡ a = omega (arith, ta, fa) in
+    let rest : n / 128 ≡ m = omega (arith, ta, fa) in
+    let second : 255 - m % 128 ≡ b = omega (arith, tb, fb) in
+    let last : m / 128 ≡ d = omega (arith, tb, fb) in
+    groups-high 9 n (omega (arith, some))
+    ∙ (λ i. first i ∷ groups 9 (rest i))
+    ∙ ap (λ (l : List ℕ). a ∷ l) (groups-high 8 m (omega (arith, some)) ∙ (λ i. second i ∷ groups 8 (last i)) ∙ ap (λ (l : List ℕ). b ∷ l) (groups-low 7 d low))

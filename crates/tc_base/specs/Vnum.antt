@@ -5,7 +5,7 @@ use Rattle.std.specs.List.{prefix_len}
 use Rattle.tc_base.specs.declared.number.NumErr.{NumErr}
 use Rattle.tc_base.specs.declared.number.NumErr.TheVariants.{Short, Second, Wide}
 use Rattle.tc_base.specs.declared.fields.NotWhole.TheVariants.{Part, Bad}
-use Rattle.tc_base.specs.Reading.{Front}
+use Rattle.tc_base.specs.Reading.{Front, both}
 
 -- a number in at most that many groups
 unfoldable pub groups : ℕ → ℕ → List ℕ
@@ -60,3 +60,11 @@ fronted bytes (Err Wide) = Err Bad
 
 unfoldable pub vnum_front : List ℕ → Front ℕ
 vnum_front bytes = fronted bytes (vnum_at bytes)
+
+-- two of them, one behind the other
+unfoldable pub two_front : List ℕ → Front (ℕ × ℕ)
+two_front bytes = both vnum_front vnum_front bytes
+
+-- three
+unfoldable pub three_front : List ℕ → Front (ℕ × (ℕ × ℕ))
+three_front bytes = both vnum_front (both vnum_front vnum_front) bytes

@@ -1,6 +1,6 @@
 //! Varying numbers: one to ten bytes for a number below 2^64.
-ghost use Rattle.std.specs.Prelude.{◌≡◌, ℕ, ◌+◌, ◌*◌, ◌^◌, ◌<◌, ◌≤◌, ◌↔◌, ◌++◌, List, length, take, IfOk, OnOk, OnErr, Ok, Err};
-ghost use Rattle.tc_base.specs.Vnum.{vnum, vnum_at, vnum_front, ended, IsShort, IsSecond, IsWide};
+ghost use Rattle.std.specs.Prelude.{◌≡◌, ℕ, ◌+◌, ◌*◌, ◌^◌, ◌<◌, ◌≤◌, ◌↔◌, ◌++◌, ◌∷◌, List, length, take, IfOk, OnOk, OnErr, Ok, Err};
+ghost use Rattle.tc_base.specs.Vnum.{vnum, vnum_at, vnum_front, two_front, three_front, ended, IsShort, IsSecond, IsWide};
 ghost use Rattle.tc_base.specs.Reading.{Gives};
 
 use crate::blob::Blob;
@@ -67,7 +67,7 @@ fn scan(bytes: &[u8]) -> Result<(u64, usize), NumErr>
     end(9, bytes[9], low, scale)
 }
 
-// The same: most numbers have one byte, which is read at once.
+// The number at the front: most have one byte, which is read at once.
 fn scan_front(bytes: &[u8]) -> Result<(u64, usize), NumErr>
     ensures read { result ≡ vnum_at bytes.now }
     ensures within { IfOk result (λ x. x.1 ≤ length bytes.now) }
@@ -94,8 +94,38 @@ pub fn read_vnum(bytes: &[u8]) -> Result<(u64, usize), NumErr>
     scan_front(bytes)
 }
 
-// A number of more bytes than one, or none.
-fn read_long(bytes: &[u8]) -> Result<(u64, &[u8]), NotWhole>
+// A number of one byte at the front, and what is behind it.
+fn of_one<'a>(last: u8, bytes: &'a [u8], rest: &'a [u8]) -> (u64, &'a [u8])
+    requires are { bytes.now ≡ last ∷ rest.now }
+    requires last { last < 128 }
+    ensures { vnum_front bytes.now ≡ Ok (result.0, result.1.now) }
+{
+    (u64::from(last), rest)
+}
+
+// A number of two bytes at the front, and what is behind it.
+fn of_two<'a>(first: u8, last: u8, bytes: &'a [u8], rest: &'a [u8]) -> (u64, &'a [u8])
+    requires are { bytes.now ≡ first ∷ last ∷ rest.now }
+    requires first { 128 ≤ first }
+    requires last { (0 < last) × (last < 128) }
+    ensures { vnum_front bytes.now ≡ Ok (result.0, result.1.now) }
+{
+    (u64::from(255 - first) + 128 * u64::from(last), rest)
+}
+
+// A number of three bytes at the front, and what is behind it.
+fn of_three<'a>(first: u8, second: u8, last: u8, bytes: &'a [u8], rest: &'a [u8]) -> (u64, &'a [u8])
+    requires are { bytes.now ≡ first ∷ second ∷ last ∷ rest.now }
+    requires tops { (128 ≤ first) × (128 ≤ second) }
+    requires last { (0 < last) × (last < 128) }
+    ensures { vnum_front bytes.now ≡ Ok (result.0, result.1.now) }
+{
+    let high = u64::from(255 - second) + 128 * u64::from(last);
+    (u64::from(255 - first) + 128 * high, rest)
+}
+
+// The number at the front, and what is behind it, by the definition of reading.
+fn read_any(bytes: &[u8]) -> Result<(u64, &[u8]), NotWhole>
     ensures { Gives (λ x. (x.0, x.1.now)) result (vnum_front bytes.now) }
 {
     match scan(bytes) {
@@ -106,17 +136,57 @@ fn read_long(bytes: &[u8]) -> Result<(u64, &[u8]), NotWhole>
     }
 }
 
+// A number of more bytes than one, or none: two and three are read at once.
+#[inline(never)]
+fn read_long(bytes: &[u8]) -> Result<(u64, &[u8]), NotWhole>
+    ensures { Gives (λ x. (x.0, x.1.now)) result (vnum_front bytes.now) }
+{
+    if let [first, last, rest @ ..] = bytes {
+        if *first >= 128 && *last > 0 && *last < 128 {
+            return Ok(of_two(*first, *last, bytes, rest));
+        }
+    }
+    if let [first, second, last, rest @ ..] = bytes {
+        if *first >= 128 && *second >= 128 && *last > 0 && *last < 128 {
+            return Ok(of_three(*first, *second, *last, bytes, rest));
+        }
+    }
+    read_any(bytes)
+}
+
 /// The number whose spelling stands at the front of the bytes, and the bytes behind it.
+#[inline]
 pub fn read_number(bytes: &[u8]) -> Result<(u64, &[u8]), NotWhole>
     ensures { Gives (λ x. (x.0, x.1.now)) result (vnum_front bytes.now) }
 {
-    if bytes.len() > 0 {
-        let b = bytes[0];
-        if b < 128 {
-            return Ok((u64::from(b), &bytes[1..]));
+    // most numbers have one byte
+    if let [last, rest @ ..] = bytes {
+        if *last < 128 {
+            return Ok(of_one(*last, bytes, rest));
         }
     }
     read_long(bytes)
+}
+
+/// Two numbers, one behind the other, and the bytes behind them.
+#[tactic(auto, unfolding(crate::specs::Vnum::two_front))]
+pub fn read_two(bytes: &[u8]) -> Result<(u64, u64, &[u8]), NotWhole>
+    ensures { Gives (λ x. ((x.0, x.1), x.2.now)) result (two_front bytes.now) }
+{
+    let (a, rest) = read_number(bytes)?;
+    let (b, rest) = read_number(rest)?;
+    Ok((a, b, rest))
+}
+
+/// Three numbers, one behind the other, and the bytes behind them.
+#[tactic(auto, unfolding(crate::specs::Vnum::three_front))]
+pub fn read_three(bytes: &[u8]) -> Result<(u64, u64, u64, &[u8]), NotWhole>
+    ensures { Gives (λ x. ((x.0, (x.1, x.2)), x.3.now)) result (three_front bytes.now) }
+{
+    let (a, rest) = read_number(bytes)?;
+    let (b, rest) = read_number(rest)?;
+    let (c, rest) = read_number(rest)?;
+    Ok((a, b, c, rest))
 }
 
 // The spelling in a buffer, and its length.

@@ -1,4 +1,3 @@
 pub mod Filling
 pub mod Meaning
 pub mod Rising
-pub mod Stretches

@@ -2,9 +2,9 @@
 ghost use Rattle.std.specs.Prelude.{◌≡◌, true, false, IfOk, IfErr, OnErr, IsErrOf};
 ghost use Rattle.tc_base.specs.Maps.{Map};
 ghost use Rattle.tc_base.specs.declared.kind.Mode.TheVariants.{Over};
-ghost use Rattle.tc_io.specs.Causes.{Rose};
 ghost use Rattle.tc_space.specs.Changes.{put_in};
 ghost use Rattle.tc_space.specs.Frames.{In, Keeps, OnlyReads};
+ghost use Rattle.tc_space.specs.Refusals.{Blamed, OnFault};
 ghost use Rattle.tc_space.specs.Stores.{FullBy, IsReady};
 ghost use Rattle.bt_check.specs.Verdicts.{Breaks};
 ghost use Rattle.bt_page.specs.Keys.{key_of};
@@ -44,7 +44,7 @@ impl<R: Records + Drop, O: Order> Btree<R, O> {
         ensures refused { OnErr result (IsRefused R.S.Space space.old space.new) }
         ensures full { IsErrOf result RecErr.Full → FullBy (In R.S.Space R.file_of R.holds) R.fills (put_in Over (key_of 1) (leaf_bytes lone_leaf)) store space.old space.new }
         ensures keeps { Keeps R.S.Space space.old space.new }
-        ensures cause { IsErrOf result RecErr.Fault → Rose (R.S.faults space.old) (R.S.faults space.new) }
+        ensures cause { OnFault R.S.Space result space.old space.new }
     {
         match Tree::create(alloc, store, space, leaf_limit, node_limit) {
             Ok(tree) => Ok(Btree { alloc, tree }),
@@ -59,7 +59,7 @@ impl<R: Records + Drop, O: Order> Btree<R, O> {
         ensures opened { IfOk result (λ b. IsOpened R.S.Space R.file_of R.holds R.region (before_by O.cmp) O.CODE false store b.tree space.old space.new) }
         ensures broken { IfErr result (λ e. Breaks (before_by O.cmp) (head_of (R.region store)) false (R.file_of store) (In R.S.Space R.file_of R.holds store space.old) e) }
         ensures reads { OnlyReads R.S.Space space.old space.new }
-        ensures cause { IsErrOf result OpenErr.Fault → Rose (R.S.faults space.old) (R.S.faults space.new) }
+        ensures cause { Blamed R.S.Space (IsErrOf result OpenErr.Fault) space.old space.new }
     {
         match Tree::open(alloc, store, space) {
             Ok(tree) => Ok(Btree { alloc, tree }),
@@ -74,7 +74,7 @@ impl<R: Records + Drop, O: Order> Btree<R, O> {
         ensures opened { IfOk result (λ b. IsOpened R.S.Space R.file_of R.holds R.region (before_by O.cmp) O.CODE true store b.tree space.old space.new) }
         ensures broken { IfErr result (λ e. Breaks (before_by O.cmp) (head_of (R.region store)) true (R.file_of store) (In R.S.Space R.file_of R.holds store space.old) e) }
         ensures reads { OnlyReads R.S.Space space.old space.new }
-        ensures cause { IsErrOf result OpenErr.Fault → Rose (R.S.faults space.old) (R.S.faults space.new) }
+        ensures cause { Blamed R.S.Space (IsErrOf result OpenErr.Fault) space.old space.new }
     {
         match Tree::open_index(alloc, store, space) {
             Ok(tree) => Ok(Btree { alloc, tree }),

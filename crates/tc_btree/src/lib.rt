@@ -4,7 +4,5 @@
 mod btree;
 mod multi;
 mod putting;
-mod stretch;
 
 pub use btree::Btree;
-pub use stretch::Stretch;

@@ -1,9 +1,9 @@
 //! Pairs put in each mode.
 ghost use Rattle.std.specs.Prelude.{◌≡◌, [], unwrap_or, OnOk, OnErr, IsErrOf};
 ghost use Rattle.tc_base.specs.declared.kind.Mode.TheVariants.{Over, Keep, Cat};
-ghost use Rattle.tc_io.specs.Causes.{Rose};
 ghost use Rattle.tc_space.specs.Changes.{first_in, put_first};
 ghost use Rattle.tc_space.specs.Frames.{In, Keeps, Refuses};
+ghost use Rattle.tc_space.specs.Refusals.{Blamed};
 ghost use Rattle.tc_space.specs.Stores.{Exists, FullBy, IsReady, Only, Puts};
 ghost use Rattle.bt_rows.specs.Orders.{before_by};
 ghost use Rattle.tc_btree.specs.Filling.{fills_list};
@@ -39,7 +39,7 @@ impl<R: Records, O: Order> Btree<R, O> {
         ensures full { IsErrOf result PutErr.Full → FullBy (In R.S.Space (file_list R.file_of) (holds_list R.holds (before_by O.cmp))) (fills_list R.S.Space R.file_of R.holds R.fills) (put_first O.cmp Over key.now value.now) self.old space.old space.new }
         ensures keeps { Keeps R.S.Space space.old space.new }
         ensures file { file_list R.file_of self.new ≡ file_list R.file_of self.old }
-        ensures cause { IsErrOf result PutErr.Fault → Rose (R.S.faults space.old) (R.S.faults space.new) }
+        ensures cause { Blamed R.S.Space (IsErrOf result PutErr.Fault) space.old space.new }
     {
         match self.tree.insert(space, key, value, false) {
             Ok(()) => Ok(()),
@@ -61,7 +61,7 @@ impl<R: Records, O: Order> Btree<R, O> {
         ensures full { IsErrOf result PutErr.Full → FullBy (In R.S.Space (file_list R.file_of) (holds_list R.holds (before_by O.cmp))) (fills_list R.S.Space R.file_of R.holds R.fills) (put_first O.cmp Keep key.now value.now) self.old space.old space.new }
         ensures keeps { Keeps R.S.Space space.old space.new }
         ensures file { file_list R.file_of self.new ≡ file_list R.file_of self.old }
-        ensures cause { IsErrOf result PutErr.Fault → Rose (R.S.faults space.old) (R.S.faults space.new) }
+        ensures cause { Blamed R.S.Space (IsErrOf result PutErr.Fault) space.old space.new }
     {
         let mut steps: Steps<R> = Steps::new();
         match self.tree.first_value(space, key, &mut steps) {
@@ -89,7 +89,7 @@ impl<R: Records, O: Order> Btree<R, O> {
         ensures full { IsErrOf result PutErr.Full → FullBy (In R.S.Space (file_list R.file_of) (holds_list R.holds (before_by O.cmp))) (fills_list R.S.Space R.file_of R.holds R.fills) (put_first O.cmp Cat key.now value.now) self.old space.old space.new }
         ensures keeps { Keeps R.S.Space space.old space.new }
         ensures file { file_list R.file_of self.new ≡ file_list R.file_of self.old }
-        ensures cause { IsErrOf result PutErr.Fault → Rose (R.S.faults space.old) (R.S.faults space.new) }
+        ensures cause { Blamed R.S.Space (IsErrOf result PutErr.Fault) space.old space.new }
     {
         let mut steps: Steps<R> = Steps::new();
         let found = match self.tree.first_value(space, key, &mut steps) {

@@ -1,11 +1,15 @@
 -- What a call on an engine leaves of what it holds.
-use Rattle.std.specs.Prelude.{◌≡◌, Bool, true, false, Some, None}
+use Rattle.std.specs.Prelude.{◌≡◌, ℕ, List, Bool, true, false, Option, Some, None, Result, OnOk, IfOk, IsErrOf}
 use Rattle.tc_base.specs.Files.{Files}
 use Rattle.tc_space.specs.Frames.{Reads}
+use Rattle.tc_space.specs.declared.errors.RecErr.{RecErr}
+use Rattle.tc_space.specs.declared.errors.RecErr.TheVariants.{Full}
 use Rattle.tc_space.specs.declared.space.Space.{Ghosts}
 use Rattle.tc_model.specs.Contents.{Contents}
-use Rattle.ty_base.specs.Holding.{Held, Stays}
+use Rattle.ty_base.specs.Holding.{Held, OfHeld, Stays}
 use Rattle.tc_engine.specs.Changes.{Change, wanted}
+use Rattle.tc_engine.specs.Rows.{Adds, IsItem}
+use Rattle.tc_engine.specs.declared.rows.Rows.{Rows}
 
 -- the change was made; or it fails, and nothing has changed
 pub record Makes {S E : Type 0} (s : Ghosts S) (holds : E → Files → Contents → Type 0) (f : Change) (done : Bool) (e e' : E) (old new : S) : Type 0 where
@@ -18,3 +22,20 @@ pub record Makes {S E : Type 0} (s : Ghosts S) (holds : E → Files → Contents
 -- a limit is reached, as the space stands, between the contents and those that were to be made of them
 pub record IsFull {S E : Type 0} (s : Ghosts S) (holds : E → Files → Contents → Type 0) (fills : S → Contents → Contents → Type 0) (f : Change) (e : E) (old new : S) : Type 0 where
   pub by : (c : Contents) → Held s holds e old c → fills new c (wanted f c)
+
+-- ---- by the result of a call
+
+module _ {S E : Type 0} (s : Ghosts S) (holds : E → Files → Contents → Type 0) where
+  abbrev pub MadeBy : Result Bool RecErr → Change → E → E → S → S → Type 0
+  MadeBy result f e e' old new = IfOk result (λ done. Makes s holds f done e e' old new)
+
+  abbrev pub FullFor : {T : Type 0} → (S → Contents → Contents → Type 0) → Result T RecErr → Change → E → S → S → Type 0
+  FullFor fills result f e old new = IsErrOf result Full → IsFull s holds fills f e old new
+
+  -- these rows of what is held were added
+  abbrev pub AddsOf : {T : Type 0} → Result T RecErr → (Contents → List (List ℕ)) → E → S → Rows → Rows → Type 0
+  AddsOf result rows e space old new = OnOk result (OfHeld s holds e space (λ c. Adds old new (rows c)))
+
+  -- this value of what is held was added, where there is one
+  abbrev pub AddsItem : Result Bool RecErr → (Contents → Option (List ℕ)) → E → S → Rows → Rows → Type 0
+  AddsItem result value e space old new = IfOk result (λ found. OfHeld s holds e space (λ c. IsItem (value c) found old new))

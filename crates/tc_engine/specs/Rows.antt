@@ -5,6 +5,7 @@ use Rattle.std.proofs.lemmas.List.{append-nil}
 use Rattle.ty_wire.specs.Prefixes.{IsPrefix}
 use Rattle.ty_wire.specs.Spelling.{size}
 use Rattle.tc_base.specs.declared.seq.Pair.{Pair}
+use Rattle.tc_model.specs.Rows.{texts_of}
 use Rattle.tc_engine.specs.declared.rows.Rows.{Rows}
 
 -- a text with its size in front
@@ -17,6 +18,10 @@ pair_row key value = size key ++ (size value ++ (key ++ value))
 
 abbrev pub pair_rows : List Pair → List (List ℕ)
 pair_rows ps = map (λ p. pair_row p.key p.value) ps
+
+-- a row each for key and value
+abbrev pub text_rows : List Pair → List (List ℕ)
+text_rows ps = map item_row (texts_of ps)
 
 abbrev pub joined : List (List ℕ) → List ℕ
 joined [] = []

@@ -3,10 +3,8 @@
 
 mod engine;
 mod lines;
-mod opens;
 mod rows;
 
 pub use engine::Engine;
 pub use lines::add_line;
-pub use opens::Opens;
 pub use rows::Rows;

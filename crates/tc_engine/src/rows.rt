@@ -18,7 +18,7 @@ pub struct Rows {
 }
 
 impl Rows {
-    ghost use Rattle.std.specs.Prelude.{◌≡◌, ◌∷◌, ◌+◌, ◌≤◌, ◌<◌, ◌++◌, [], ℕ, List, length, OnOk, IsTrue, IsFalse, true, false};
+    ghost use Rattle.std.specs.Prelude.{◌≡◌, ◌∷◌, ◌+◌, ◌≤◌, ◌<◌, ◌++◌, [], length, OnOk, IsTrue, IsFalse};
     ghost use Rattle.tc_engine.specs.Rows.{Adds, Extends, Gathered, HasRoom, LacksRoom, bytes_of, count_of, is_long, item_row, most_of, pair_row};
 
     /// Takes over bytes, to which at most so many are added.

@@ -1,6 +1,5 @@
 pub mod Entries
 pub mod Celled
-pub mod Grown
 pub mod Held
 pub mod Filled
 pub mod Ended

@@ -1,8 +1,9 @@
 -- What a fixed-length file holds between calls.
-use Rattle.std.specs.Prelude.{◌≡◌, ◌⊎◌, ℕ, ◌^◌, ◌<◌, ◌≤◌, List, [], length}
+use Rattle.std.specs.Prelude.{◌≡◌, ℕ, ◌^◌, ◌≤◌, List, [], length}
 use Rattle.tc_model.specs.Arrays.{Array}
 use Rattle.tc_space.specs.Frames.{In}
 use Rattle.tc_space.specs.declared.space.Space.{Ghosts}
+pub use Rattle.tc_reach.specs.Limits.{HasNoRoom}
 use Rattle.tc_fixed.specs.declared.fixed.Fixed.{Fixed}
 use Rattle.tc_fixed.specs.declared.tally.Tally.{Tally}
 use Rattle.tc_fixed.specs.Cells.{Fills, end_of}
@@ -37,10 +38,6 @@ module _ {S : Type 0} where
   pub record SameShape (old new : Fixed S) : Type 0 where
     pub width : new.width ≡ old.width
     pub limit : new.limit ≡ old.limit
-
--- so many bytes pass the file's limit, or the undo log is full
-abbrev pub HasNoRoom : ℕ → Type 0 → ℕ → Type 0
-HasNoRoom limit log_is_full long = (limit < long) ⊎ log_is_full
 
 module _ {S : Type 0} (s : Ghosts S) (space : S) where
   -- the space may be used, and its file has so many bytes at least

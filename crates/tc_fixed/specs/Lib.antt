@@ -1,5 +1,4 @@
 pub mod Cells
-pub mod Errors
 pub mod Ends
 pub mod Looks
 pub mod Shapes

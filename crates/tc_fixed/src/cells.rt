@@ -1,5 +1,5 @@
 //! The cells of the file.
-ghost use Rattle.std.specs.Prelude.{◌≡◌, ℕ, ◌+◌, ◌-◌, ◌*◌, ◌^◌, ◌<◌, ◌≤◌, List, length, take, replicate, IfOk, OnOk, Option};
+ghost use Rattle.std.specs.Prelude.{◌≡◌, ℕ, ◌+◌, ◌^◌, ◌<◌, ◌≤◌, List, length, take, IfOk, OnOk, Option};
 ghost use Rattle.tc_base.specs.Files.{wrote};
 ghost use Rattle.hf_head.specs.FixedHeads.{cell};
 ghost use Rattle.tc_fixed.specs.declared.cells.Look.TheVariants.{Value};

@@ -1,8 +1,8 @@
 //! A file made anew.
 ghost use Rattle.std.specs.Prelude.{◌≡◌, take, IfOk, OnOk, OnErr, IsErrOf, false};
 ghost use Rattle.std.specs.FinMap.{empty};
-ghost use Rattle.tc_io.specs.Causes.{Rose};
-ghost use Rattle.tc_space.specs.Frames.{Keeps, OnlyReads, Others};
+ghost use Rattle.tc_space.specs.Frames.{Keeps, Others};
+ghost use Rattle.tc_space.specs.Refusals.{OnFault};
 ghost use Rattle.tc_space.specs.Stores.{Only};
 ghost use Rattle.hf_head.specs.FixedHeads.{fixed_in};
 ghost use Rattle.tc_fixed.specs.Holding.{HasNoRoom, MayCreate, Means};
@@ -10,12 +10,12 @@ ghost use Rattle.tc_fixed.specs.Settling.{new_head};
 ghost use Rattle.tc_fixed.specs.Shapes.{most_id};
 ghost use Rattle.tc_fixed.specs.Standing.{Stands};
 
-use crate::fixed::Fixed;
+use crate::fixed::{FILE, Fixed};
 use crate::settle::{head_now, spelling};
-use crate::spaces::write_at;
 use crate::tally::Tally;
 use std::alloc::Global;
 use std::marker::PhantomData;
+use tc_reach::write_at;
 use tc_space::{RecErr, Space};
 
 impl<S: Space> Fixed<S> {
@@ -30,20 +30,18 @@ impl<S: Space> Fixed<S> {
         ensures refused { OnErr result (S.flag space.new ≡ false) }
         ensures full { IsErrOf result RecErr.Full → S.tells → HasNoRoom (S.limit space.new 0) (S.log_full space.new) 256 }
         ensures keeps { Keeps S.Space space.old space.new }
-        ensures cause { IsErrOf result RecErr.Fault → Rose (S.faults space.old) (S.faults space.new) }
+        ensures cause { OnFault S.Space result space.old space.new }
     {
         let tally = Tally::none();
         let head = head_now(width, limit, &tally);
-        match write_at(space, 0, &spelling(&head)) {
-            Ok(()) => Ok(Fixed {
-                alloc,
-                width,
-                limit,
-                tally,
-                buffer: Vec::new(alloc),
-                of: PhantomData,
-            }),
-            Err(e) => Err(e),
-        }
+        write_at(space, FILE, 0, &spelling(&head))?;
+        Ok(Fixed {
+            alloc,
+            width,
+            limit,
+            tally,
+            buffer: Vec::new(alloc),
+            of: PhantomData,
+        })
     }
 }

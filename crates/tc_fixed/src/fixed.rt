@@ -6,6 +6,9 @@ use crate::tally::Tally;
 use std::alloc::Global;
 use std::marker::PhantomData;
 
+/// The number of the file.
+pub const FILE: u32 = 0;
+
 /// A map from ids to values of at most a width, in file 0 of a space. The values lie in the file alone; what is held here is the width, the
 /// limit of the file's size, and what is counted of the map.
 #[derive(Drop)]

@@ -3,7 +3,6 @@
 
 mod cells;
 mod create;
-mod errors;
 mod fixed;
 mod listing;
 mod looking;
@@ -12,7 +11,6 @@ mod putting;
 mod reading;
 mod scanning;
 mod settle;
-mod spaces;
 mod taking;
 mod tally;
 

@@ -1,20 +1,19 @@
 //! Ids listed.
-ghost use Rattle.std.specs.Prelude.{◌≡◌, ◌+◌, ◌-◌, ◌^◌, ◌≤◌, ◌++◌, ℕ, length, OnOk, IsErrOf, true, false};
-ghost use Rattle.tc_io.specs.Causes.{Rose};
+ghost use Rattle.std.specs.Prelude.{◌≡◌, ◌+◌, ◌-◌, ◌^◌, ◌≤◌, ◌++◌, ℕ, length, OnOk, true, false};
 ghost use Rattle.tc_model.specs.Arrays.{Array};
 ghost use Rattle.tc_space.specs.Frames.{Keeps, OnlyReads, Reads};
+ghost use Rattle.tc_space.specs.Refusals.{Blames};
 ghost use Rattle.tc_space.specs.Stores.{IsReady};
 ghost use Rattle.tc_fixed.specs.Cells.{HasCellsOf, end_of};
 ghost use Rattle.tc_fixed.specs.Holding.{Means, SameShape};
 ghost use Rattle.tc_fixed.specs.Listing.{HasRoom, first_of, ids_in, noted};
 
 use crate::cells::Look;
-use crate::errors::rec_err;
 use crate::fixed::Fixed;
 use crate::looking::look;
 use std::alloc::{AllocError, Global};
+use tc_reach::Window;
 use tc_space::{RecErr, Space};
-use tc_window::Window;
 
 // Whether fewer than so many are listed.
 fn has_room(most: Option<u64>, count: u64) -> bool
@@ -53,19 +52,14 @@ fn list<S: Space>(
     requires inside { S.tells → end_of width (to - 1) ≤ length (S.now space.old 0) }
     ensures listed { OnOk result (S.tells → (m : Array) → HasCellsOf width (to - 1) m (S.now space.old 0) → into.new.items ≡ into.old.items ++ first_of most (ids_in m from to)) }
     ensures reads { OnlyReads S.Space space.old space.new }
-    ensures cause { (IsErrOf result RecErr.Fault → Rose (S.faults space.old) (S.faults space.new)) × (IsErrOf result RecErr.Full → ⊥) }
+    ensures cause { Blames S.Space result space.old space.new }
 {
     let start = into.len();
     let mut window = Window::new(alloc);
     let mut id = from;
     while id < to && has_room(most, (into.len() - start) as u64) {
-        let found = match look(&mut window, space, width, id) {
-            Ok(found) => found,
-            Err(e) => return Err(rec_err(e)),
-        };
-        let Ok(()) = note(found, id, into) else {
-            return Err(RecErr::Memory);
-        };
+        let found = look(&mut window, space, width, id)?;
+        note(found, id, into)?;
         id += 1;
     }
     Ok(())
@@ -87,13 +81,11 @@ impl<S: Space> Fixed<S> {
         ensures reads { Reads S.Space (Means S.Space) self.old self.new space.old space.new }
         ensures keeps { Keeps S.Space space.old space.new }
         ensures shape { SameShape self.old self.new }
-        ensures cause { (IsErrOf result RecErr.Fault → Rose (S.faults space.old) (S.faults space.new)) × (IsErrOf result RecErr.Full → ⊥) }
+        ensures cause { Blames S.Space result space.old space.new }
     {
         let low = from.max(self.tally.least).max(1);
         let high = to.min(self.tally.greatest + 1);
-        match list(self.alloc, space, self.width, low, high, most, into) {
-            Ok(()) => Ok(()),
-            Err(e) => Err(e),
-        }
+        list(self.alloc, space, self.width, low, high, most, into)?;
+        Ok(())
     }
 }

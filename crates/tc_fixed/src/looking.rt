@@ -1,17 +1,18 @@
 //! Cells looked at.
 ghost use Rattle.std.specs.Prelude.{◌≡◌, ◌+◌, ◌≤◌, length, IfOk, OnOk, IsErrOf};
-ghost use Rattle.tc_io.specs.Causes.{Rose, HasCause};
+ghost use Rattle.tc_io.specs.Causes.{HasCause};
 ghost use Rattle.tc_space.specs.Frames.{OnlyReads};
-ghost use Rattle.tc_window.specs.Windows.{Shows};
+ghost use Rattle.tc_space.specs.Refusals.{Blamed};
+ghost use Rattle.tc_reach.specs.Windows.{Shows};
 ghost use Rattle.tc_fixed.specs.Cells.{cell_at, size_len};
 ghost use Rattle.tc_fixed.specs.Holding.{HasCellsTo};
 ghost use Rattle.tc_fixed.specs.Looks.{Sees};
 
 use crate::cells::{Look, cell_len, look_in, place, size_len};
-use crate::spaces::{FILE, read_at};
+use crate::fixed::FILE;
 use tc_base::Fault;
+use tc_reach::{ReadErr, Window, read_into};
 use tc_space::Space;
-use tc_window::{ReadErr, Window};
 
 // How many bytes a window reads at once.
 const PIECE: u64 = 4096;
@@ -25,10 +26,8 @@ fn read_look<S: Space>(space: &mut S, width: u32, id: u64, into: &mut [u8]) -> R
     ensures reads { OnlyReads S.Space space.old space.new }
     ensures cause { HasCause (S.faults space.old) (S.faults space.new) result }
 {
-    match read_at(space, place(width, id), into) {
-        Ok(()) => Ok(look_in(width, into)),
-        Err(e) => Err(e),
-    }
+    read_into(space, FILE, place(width, id), into)?;
+    Ok(look_in(width, into))
 }
 
 /// What the front of the cell of an id tells, by one small read.
@@ -66,13 +65,11 @@ pub fn look<S: Space>(
     ensures sees { IfOk result (λ look. S.tells → Sees width look (cell_at width id (S.now space.old 0))) }
     ensures shows { OnOk result (S.tells → Shows window.new (S.now space.old 0)) }
     ensures reads { OnlyReads S.Space space.old space.new }
-    ensures cause { IsErrOf result ReadErr.Fault → Rose (S.faults space.old) (S.faults space.new) }
+    ensures cause { Blamed S.Space (IsErrOf result ReadErr.Fault) space.old space.new }
 {
     let len = size_len(width) + 1;
     let at = place(width, id);
     let from = place(width, first_beside(width, id));
-    match window.fill(space, FILE, from, (at - from) as usize + len) {
-        Ok(()) => Ok(look_in(width, window.get(at, len))),
-        Err(e) => Err(e),
-    }
+    window.fill(space, FILE, from, (at - from) as usize + len)?;
+    Ok(look_in(width, window.get(at, len)))
 }

@@ -1,27 +1,23 @@
 //! A file opened: its rules, checked one after the other.
-ghost use Rattle.std.specs.Prelude.{◌≡◌, ℕ, ◌-◌, ◌≤◌, ◌^◌, List, length, take, IfOk, IfErr, IfSome, IfNone, OnOk, OnErr, IsErrOf, Option};
-ghost use Rattle.tc_io.specs.Causes.{Rose};
+ghost use Rattle.std.specs.Prelude.{◌≡◌, ℕ, ◌≤◌, ◌^◌, List, IfOk, IfErr, IfSome, IfNone, OnOk, IsErrOf};
 ghost use Rattle.hf_head.specs.FixedHeads.{HasFixedNumbers, SpellsFixed};
 ghost use Rattle.tc_model.specs.Arrays.{Array};
 ghost use Rattle.tc_space.specs.Frames.{OnlyReads};
-ghost use Rattle.tc_fixed.specs.Holding.{ReachesTo, Means, max_id_of};
-ghost use Rattle.tc_fixed.specs.Cells.{cell_at};
-ghost use Rattle.tc_fixed.specs.Looks.{Sees};
-ghost use Rattle.tc_fixed.specs.Opening.{Breaks, IsCountedTo, NamesFile, WasCounted, broken_at};
+ghost use Rattle.tc_space.specs.Refusals.{Blamed};
+ghost use Rattle.tc_fixed.specs.Holding.{max_id_of};
+ghost use Rattle.tc_fixed.specs.Opening.{Breaks, NamesFile, WasCounted, broken_at, CountsOn, IsOpenOf};
 ghost use Rattle.tc_fixed.specs.Standing.{HasHead, IsLong, Stands};
 
 use crate::cells::Look;
-use crate::errors::open_err;
-use crate::fixed::Fixed;
+use crate::fixed::{FILE, Fixed};
 use crate::looking::look;
-use crate::spaces::{FILE, read_at};
 use crate::tally::Tally;
 use hf_head::FixedHead;
 use std::alloc::Global;
 use std::marker::PhantomData;
-use tc_base::{Fault, Rule};
+use tc_base::Rule;
+use tc_reach::{Window, read_into};
 use tc_space::{OpenErr, Space};
-use tc_window::Window;
 
 // A rule of this layout that doesn't hold.
 fn broken(number: u8) -> OpenErr
@@ -47,19 +43,6 @@ fn head_of(bytes: &[u8; 256]) -> Option<FixedHead>
     }
 }
 
-/// Fills `into` with the first bytes of the file.
-pub fn read_front<S: Space>(space: &mut S, into: &mut [u8; 256]) -> Result<(), Fault>
-    requires reaches { ReachesTo S.Space space.old 256 }
-    ensures bytes { OnOk result (S.tells → into.new ≡ take 256 (S.now space.old 0)) }
-    ensures reads { OnlyReads S.Space space.old space.new }
-    ensures cause { OnErr result (Rose (S.faults space.old) (S.faults space.new)) }
-{
-    match read_at(space, 0, into) {
-        Ok(()) => Ok(()),
-        Err(e) => Err(e),
-    }
-}
-
 // The head of the file: the first rule, and the second.
 fn load_head<S: Space>(space: &mut S) -> Result<FixedHead, OpenErr>
     requires sound { S.sound space.old }
@@ -67,32 +50,28 @@ fn load_head<S: Space>(space: &mut S) -> Result<FixedHead, OpenErr>
     ensures head { IfOk result (λ h. S.tells → HasHead (S.now space.old 0) h × IsLong h (S.now space.old 0)) }
     ensures broken { IfErr result (λ e. Breaks S.tells (S.now space.old 0) e) }
     ensures reads { OnlyReads S.Space space.old space.new }
-    ensures cause { IsErrOf result OpenErr.Fault → Rose (S.faults space.old) (S.faults space.new) }
+    ensures cause { Blamed S.Space (IsErrOf result OpenErr.Fault) space.old space.new }
 {
     let len = space.len(FILE);
     if len < 256 {
         return Err(broken(1));
     }
     let mut bytes = [0; 256];
-    let Ok(()) = read_front(space, &mut bytes) else {
-        return Err(OpenErr::Fault);
+    read_into(space, FILE, 0, &mut bytes)?;
+    let Some(head) = head_of(&bytes) else {
+        return Err(broken(1));
     };
-    match head_of(&bytes) {
-        Some(head) => {
-            if len < head.size {
-                return Err(broken(2));
-            }
-            Ok(head)
-        }
-        None => Err(broken(1)),
+    if len < head.size {
+        return Err(broken(2));
     }
+    Ok(head)
 }
 
 // What is counted with one cell more, or none where it is no cell.
 fn count_cell(tally: &Tally, id: u64, found: Look) -> Option<Tally>
     requires id { 1 ≤ id }
     requires id_most { id ≤ 2 ^ 40 }
-    ensures some { IfSome result (λ now. (width : ℕ) (bytes : List ℕ) → width ≤ 1048576 → IsCountedTo width (id - 1) tally.now bytes → Sees width found (cell_at width id bytes) → IsCountedTo width id now bytes) }
+    ensures some { IfSome result (CountsOn tally.now id found) }
     ensures none { IfNone result (found ≡ Look.Bad) }
 {
     match found {
@@ -110,20 +89,17 @@ fn count_cells<S: Space>(alloc: Global, space: &mut S, head: &FixedHead) -> Resu
     ensures counted { IfOk result (λ t. S.tells → WasCounted head.now t (S.now space.old 0)) }
     ensures broken { IfErr result (λ e. Breaks S.tells (S.now space.old 0) e) }
     ensures reads { OnlyReads S.Space space.old space.new }
-    ensures cause { IsErrOf result OpenErr.Fault → Rose (S.faults space.old) (S.faults space.new) }
+    ensures cause { Blamed S.Space (IsErrOf result OpenErr.Fault) space.old space.new }
 {
     let mut window = Window::new(alloc);
     let mut tally = Tally::none();
     let mut id = 1;
     while id <= head.greatest {
-        let found = match look(&mut window, space, head.width, id) {
-            Ok(found) => found,
-            Err(e) => return Err(open_err(e)),
+        let found = look(&mut window, space, head.width, id)?;
+        let Some(now) = count_cell(&tally, id, found) else {
+            return Err(broken(3));
         };
-        match count_cell(&tally, id, found) {
-            Some(now) => tally = now,
-            None => return Err(broken(3)),
-        }
+        tally = now;
         id += 1;
     }
     Ok(tally)
@@ -156,29 +132,21 @@ impl<S: Space> Fixed<S> {
     pub fn open(alloc: Global, space: &mut S) -> Result<Fixed<S>, OpenErr>
         requires sound { S.sound space.old }
         ensures stands { IfOk result (λ f. S.tells → (m : Array) × Stands (S.now space.old 0) f.width (max_id_of f) m) }
-        ensures holds { IfOk result (λ f. S.tells → (width most : ℕ) (m : Array) → Stands (S.now space.old 0) width most m → Means S.Space f space.new m × (f.width ≡ width) × (max_id_of f ≡ most)) }
+        ensures holds { IfOk result (λ f. S.tells → IsOpenOf S.Space f (S.now space.old 0) space.new) }
         ensures broken { IfErr result (λ e. Breaks S.tells (S.now space.old 0) e) }
         ensures reads { OnlyReads S.Space space.old space.new }
-        ensures cause { IsErrOf result OpenErr.Fault → Rose (S.faults space.old) (S.faults space.new) }
+        ensures cause { Blamed S.Space (IsErrOf result OpenErr.Fault) space.old space.new }
     {
-        let head = match load_head(space) {
-            Ok(head) => head,
-            Err(e) => return Err(e),
-        };
-        let tally = match count_cells(alloc, space, &head) {
-            Ok(tally) => tally,
-            Err(e) => return Err(e),
-        };
-        match judge(&head, &tally) {
-            Ok(()) => Ok(Fixed {
-                alloc,
-                width: head.width,
-                limit: head.limit,
-                tally,
-                buffer: Vec::new(alloc),
-                of: PhantomData,
-            }),
-            Err(e) => Err(e),
-        }
+        let head = load_head(space)?;
+        let tally = count_cells(alloc, space, &head)?;
+        judge(&head, &tally)?;
+        Ok(Fixed {
+            alloc,
+            width: head.width,
+            limit: head.limit,
+            tally,
+            buffer: Vec::new(alloc),
+            of: PhantomData,
+        })
     }
 }

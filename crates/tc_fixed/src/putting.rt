@@ -1,18 +1,18 @@
 //! A value given to an id.
-ghost use Rattle.std.specs.Prelude.{◌≡◌, ◌⊎◌, ◌+◌, ◌-◌, ◌*◌, ◌^◌, ◌≤◌, length, replicate, OnOk, OnErr, IsErrOf, false};
+ghost use Rattle.std.specs.Prelude.{◌≡◌, ◌⊎◌, ◌^◌, ◌≤◌, length, OnOk, OnErr, IsErrOf, false};
 ghost use Rattle.std.specs.FinMap.{insert};
-ghost use Rattle.tc_io.specs.Causes.{Rose};
 ghost use Rattle.hf_head.specs.FixedHeads.{cell};
 ghost use Rattle.tc_space.specs.Effects.{Changes};
 ghost use Rattle.tc_space.specs.Frames.{Keeps, OnlyReads, Refuses, Writes};
+ghost use Rattle.tc_space.specs.Refusals.{OnFault};
 ghost use Rattle.tc_space.specs.Stores.{IsReady, Only};
 ghost use Rattle.tc_fixed.specs.Cells.{end_of, with_cell};
 ghost use Rattle.tc_fixed.specs.Holding.{HasCellsTo, HasNoRoom, Means, SameShape, max_id_of};
 
 use crate::cells::{place, spell};
-use crate::fixed::Fixed;
-use crate::spaces::{clear_up_to, write_at};
+use crate::fixed::{FILE, Fixed};
 use std::alloc::Global;
+use tc_reach::{clear_up_to, write_at};
 use tc_space::{RecErr, Space};
 
 // Writes the cell of an id, and zeros over those between the last one in the file and it. After a refusal the space isn't sound, or nothing
@@ -33,17 +33,12 @@ fn write_cell<S: Space>(
     ensures refused { OnErr result ((S.flag space.new ≡ false) ⊎ OnlyReads S.Space space.old space.new) }
     ensures keeps { Keeps S.Space space.old space.new }
     ensures full { IsErrOf result RecErr.Full → (S.flag space.new ≡ false) × (S.tells → HasNoRoom (S.limit space.new 0) (S.log_full space.new) (end_of width id)) }
-    ensures cause { IsErrOf result RecErr.Fault → Rose (S.faults space.old) (S.faults space.new) }
+    ensures cause { OnFault S.Space result space.old space.new }
 {
     let at = place(width, id);
-    match clear_up_to(alloc, space, place(width, last + 1), at) {
-        Ok(()) => {}
-        Err(e) => return Err(e),
-    }
-    match write_at(space, at, bytes) {
-        Ok(()) => Ok(()),
-        Err(e) => Err(e),
-    }
+    clear_up_to(alloc, space, FILE, place(width, last + 1), at)?;
+    write_at(space, FILE, at, bytes)?;
+    Ok(())
 }
 
 impl<S: Space> Fixed<S> {
@@ -57,26 +52,12 @@ impl<S: Space> Fixed<S> {
         ensures full { IsErrOf result RecErr.Full → (S.flag space.new ≡ false) × (S.tells → HasNoRoom (S.limit space.new 0) (S.log_full space.new) (end_of self.old.width id)) }
         ensures keeps { Keeps S.Space space.old space.new }
         ensures shape { SameShape self.old self.new }
-        ensures cause { IsErrOf result RecErr.Fault → Rose (S.faults space.old) (S.faults space.new) }
+        ensures cause { OnFault S.Space result space.old space.new }
     {
-        let old = match self.held_at(space, id) {
-            Ok(old) => old,
-            Err(e) => return Err(RecErr::from(e)),
-        };
-        let Ok(()) = spell(self.width, value, &mut self.buffer) else {
-            return Err(RecErr::Memory);
-        };
-        match write_cell(
-            self.alloc,
-            space,
-            self.width,
-            self.tally.greatest,
-            id,
-            &self.buffer,
-        ) {
-            Ok(()) => {}
-            Err(e) => return Err(e),
-        }
+        let old = self.held_at(space, id)?;
+        spell(self.width, value, &mut self.buffer)?;
+        let last = self.tally.greatest;
+        write_cell(self.alloc, space, self.width, last, id, &self.buffer)?;
         self.tally = self.tally.with(id, old, value.len() as u64);
         Ok(())
     }

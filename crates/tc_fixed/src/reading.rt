@@ -1,19 +1,20 @@
 //! Values read.
-ghost use Rattle.std.specs.Prelude.{◌≡◌, ◌+◌, ◌≤◌, length, IfOk, IfSome, OnOk, IsErrOf, option_map};
+ghost use Rattle.std.specs.Prelude.{◌≡◌, ◌≤◌, length, IfOk, IfSome, OnOk, option_map};
 ghost use Rattle.std.specs.FinMap.{get};
-ghost use Rattle.tc_io.specs.Causes.{Rose, HasCause};
+ghost use Rattle.tc_io.specs.Causes.{HasCause};
 ghost use Rattle.tc_model.specs.Arrays.{Array};
 ghost use Rattle.tc_space.specs.Frames.{Keeps, OnlyReads, Reads};
+ghost use Rattle.tc_space.specs.Refusals.{Blames};
 ghost use Rattle.tc_space.specs.Stores.{IsReady};
 ghost use Rattle.hf_head.specs.FixedHeads.{cell};
 ghost use Rattle.tc_fixed.specs.Cells.{cell_at};
 ghost use Rattle.tc_fixed.specs.Holding.{HasCellsTo, Means, SameShape};
 
 use crate::cells::{Look, cell_len, place, value_of};
-use crate::fixed::Fixed;
+use crate::fixed::{FILE, Fixed};
 use crate::looking::look_at;
-use crate::spaces::read_at;
 use tc_base::{Blob, Fault};
+use tc_reach::read_into;
 use tc_space::{RecErr, Space};
 
 // Makes bytes those of the cell of an id.
@@ -23,15 +24,11 @@ fn read_cell<S: Space>(space: &mut S, width: u32, id: u64, into: &mut Vec<u8>) -
     ensures long { OnOk result (length into.new.items ≡ cell width) }
     ensures bytes { OnOk result (S.tells → into.new.items ≡ cell_at width id (S.now space.old 0)) }
     ensures reads { OnlyReads S.Space space.old space.new }
-    ensures cause { (IsErrOf result RecErr.Fault → Rose (S.faults space.old) (S.faults space.new)) × (IsErrOf result RecErr.Full → ⊥) }
+    ensures cause { Blames S.Space result space.old space.new }
 {
-    let Ok(()) = into.resize(cell_len(width) as usize, 0) else {
-        return Err(RecErr::Memory);
-    };
-    match read_at(space, place(width, id), into) {
-        Ok(()) => Ok(()),
-        Err(e) => Err(RecErr::from(e)),
-    }
+    into.resize(cell_len(width) as usize, 0)?;
+    read_into(space, FILE, place(width, id), into)?;
+    Ok(())
 }
 
 impl<S: Space> Fixed<S> {
@@ -46,11 +43,10 @@ impl<S: Space> Fixed<S> {
         if self.is_outside(id) {
             return Ok(None);
         }
-        match look_at(space, self.width, id) {
-            Ok(Look::Value(long)) => Ok(Some(long)),
-            Ok(_) => Ok(None),
-            Err(e) => Err(e),
-        }
+        let Look::Value(long) = look_at(space, self.width, id)? else {
+            return Ok(None);
+        };
+        Ok(Some(long))
     }
 
     /// How many bytes the value of an id has, by one small read. Nothing changes, whatever it answers.
@@ -60,12 +56,10 @@ impl<S: Space> Fixed<S> {
         ensures reads { Reads S.Space (Means S.Space) self.old self.new space.old space.new }
         ensures keeps { Keeps S.Space space.old space.new }
         ensures shape { SameShape self.old self.new }
-        ensures cause { (IsErrOf result RecErr.Fault → Rose (S.faults space.old) (S.faults space.new)) × (IsErrOf result RecErr.Full → ⊥) }
+        ensures cause { Blames S.Space result space.old space.new }
     {
-        match self.held_at(space, id) {
-            Ok(found) => Ok(found),
-            Err(e) => Err(RecErr::from(e)),
-        }
+        let found = self.held_at(space, id)?;
+        Ok(found)
     }
 
     /// The value of an id, by one read of its cell. Nothing changes, whatever it answers.
@@ -75,18 +69,13 @@ impl<S: Space> Fixed<S> {
         ensures reads { Reads S.Space (Means S.Space) self.old self.new space.old space.new }
         ensures keeps { Keeps S.Space space.old space.new }
         ensures shape { SameShape self.old self.new }
-        ensures cause { (IsErrOf result RecErr.Fault → Rose (S.faults space.old) (S.faults space.new)) × (IsErrOf result RecErr.Full → ⊥) }
+        ensures cause { Blames S.Space result space.old space.new }
     {
         if self.is_outside(id) {
             return Ok(None);
         }
-        match read_cell(space, self.width, id, &mut self.buffer) {
-            Ok(()) => {}
-            Err(e) => return Err(e),
-        }
-        match value_of(self.alloc, self.width, &self.buffer) {
-            Ok(found) => Ok(found),
-            Err(_) => Err(RecErr::Memory),
-        }
+        read_cell(space, self.width, id, &mut self.buffer)?;
+        let found = value_of(self.alloc, self.width, &self.buffer)?;
+        Ok(found)
     }
 }

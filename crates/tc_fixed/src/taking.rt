@@ -1,18 +1,17 @@
 //! Ids taken out.
-ghost use Rattle.std.specs.Prelude.{◌≡◌, ◌⊎◌, ◌+◌, ◌^◌, ◌≤◌, length, IfOk, OnOk, OnErr, IsErrOf, IsSome, is_some, false};
+ghost use Rattle.std.specs.Prelude.{◌≡◌, ◌≤◌, IfOk, OnOk, OnErr, IsErrOf, IsSome, is_some, false};
 ghost use Rattle.std.specs.FinMap.{empty, get, remove};
-ghost use Rattle.tc_io.specs.Causes.{Rose};
 ghost use Rattle.tc_model.specs.Arrays.{Array, least, greatest};
 ghost use Rattle.tc_space.specs.Frames.{Keeps, OnlyReads, Refuses, Writes};
+ghost use Rattle.tc_space.specs.Refusals.{Blames, OnFault};
 ghost use Rattle.tc_space.specs.Stores.{IsReady, Only, TakesOut};
 ghost use Rattle.tc_fixed.specs.Holding.{Means, SameShape};
 
 use crate::cells::{blank, place};
-use crate::errors::rec_err;
-use crate::fixed::Fixed;
+use crate::fixed::{FILE, Fixed};
 use crate::scanning::{first_held, last_held};
-use crate::spaces::{cut_to, write_over};
 use crate::tally::Tally;
+use tc_reach::{cut_to, write_over};
 use tc_space::{RecErr, Space};
 
 impl<S: Space> Fixed<S> {
@@ -22,15 +21,13 @@ impl<S: Space> Fixed<S> {
         requires id { (1 ≤ id) × (id ≤ self.now.tally.greatest) }
         ensures value { IfOk result (λ found. (m : Array) → Means S.Space self.now space.old m → IsSome (get m id) → found ≡ least (remove m id)) }
         ensures reads { OnlyReads S.Space space.old space.new }
-        ensures cause { (IsErrOf result RecErr.Fault → Rose (S.faults space.old) (S.faults space.new)) × (IsErrOf result RecErr.Full → ⊥) }
+        ensures cause { Blames S.Space result space.old space.new }
     {
         if id != self.tally.least {
             return Ok(self.tally.least);
         }
-        match first_held(self.alloc, space, self.width, id + 1, self.tally.greatest) {
-            Ok(found) => Ok(found),
-            Err(e) => Err(rec_err(e)),
-        }
+        let found = first_held(self.alloc, space, self.width, id + 1, self.tally.greatest)?;
+        Ok(found)
     }
 
     // The greatest id held but one.
@@ -40,16 +37,14 @@ impl<S: Space> Fixed<S> {
         ensures value { IfOk result (λ found. (m : Array) → Means S.Space self.now space.old m → IsSome (get m id) → found ≡ greatest (remove m id)) }
         ensures few { IfOk result (λ found. found ≤ self.now.tally.greatest) }
         ensures reads { OnlyReads S.Space space.old space.new }
-        ensures cause { (IsErrOf result RecErr.Fault → Rose (S.faults space.old) (S.faults space.new)) × (IsErrOf result RecErr.Full → ⊥) }
+        ensures cause { Blames S.Space result space.old space.new }
     {
         if id != self.tally.greatest {
             return Ok(self.tally.greatest);
         }
         let low = self.tally.least.max(1);
-        match last_held(self.alloc, space, self.width, low, id - 1) {
-            Ok(found) => Ok(found),
-            Err(e) => Err(rec_err(e)),
-        }
+        let found = last_held(self.alloc, space, self.width, low, id - 1)?;
+        Ok(found)
     }
 
     /// Takes an id out, and says whether it was held. After a refusal the space isn't sound, or nothing has changed; with `Full` it isn't.
@@ -60,30 +55,15 @@ impl<S: Space> Fixed<S> {
         ensures full { IsErrOf result RecErr.Full → (S.flag space.new ≡ false) × (S.tells → S.log_full space.new) }
         ensures keeps { Keeps S.Space space.old space.new }
         ensures shape { SameShape self.old self.new }
-        ensures cause { IsErrOf result RecErr.Fault → Rose (S.faults space.old) (S.faults space.new) }
+        ensures cause { OnFault S.Space result space.old space.new }
     {
-        let found = match self.held_at(space, id) {
-            Ok(found) => found,
-            Err(e) => return Err(RecErr::from(e)),
-        };
-        let Some(long) = found else {
+        let Some(long) = self.held_at(space, id)? else {
             return Ok(false);
         };
-        let least = match self.least_without(space, id) {
-            Ok(least) => least,
-            Err(e) => return Err(e),
-        };
-        let greatest = match self.greatest_without(space, id) {
-            Ok(greatest) => greatest,
-            Err(e) => return Err(e),
-        };
-        let Ok(()) = blank(self.width, &mut self.buffer) else {
-            return Err(RecErr::Memory);
-        };
-        match write_over(space, place(self.width, id), &self.buffer) {
-            Ok(()) => {}
-            Err(e) => return Err(e),
-        }
+        let least = self.least_without(space, id)?;
+        let greatest = self.greatest_without(space, id)?;
+        blank(self.width, &mut self.buffer)?;
+        write_over(space, FILE, place(self.width, id), &self.buffer)?;
         self.tally = self.tally.without(id, long, least, greatest);
         Ok(true)
     }
@@ -96,12 +76,9 @@ impl<S: Space> Fixed<S> {
         ensures full { IsErrOf result RecErr.Full → (S.flag space.new ≡ false) × (S.tells → S.log_full space.new) }
         ensures keeps { Keeps S.Space space.old space.new }
         ensures shape { SameShape self.old self.new }
-        ensures cause { IsErrOf result RecErr.Fault → Rose (S.faults space.old) (S.faults space.new) }
+        ensures cause { OnFault S.Space result space.old space.new }
     {
-        match cut_to(space, 256) {
-            Ok(()) => {}
-            Err(e) => return Err(e),
-        }
+        cut_to(space, FILE, 256)?;
         self.tally = Tally::none();
         Ok(())
     }

@@ -1,10 +1,10 @@
 //! What is counted of the ids and values held.
-ghost use Rattle.std.specs.Prelude.{◌≡◌, ℕ, ◌<◌, ◌≤◌, ◌^◌, List, length, max, Some, option_map, Option};
-ghost use Rattle.std.specs.FinMap.{empty, get, insert, len, remove};
+ghost use Rattle.std.specs.Prelude.{◌≡◌, ℕ, ◌≤◌, List, length, max, option_map};
+ghost use Rattle.std.specs.FinMap.{empty, get, insert, len};
 ghost use Rattle.std.specs.Fmt.{decimal};
 ghost use Rattle.tc_model.specs.Arrays.{Array};
 ghost use Rattle.tc_model.specs.Arrays as Arrays;
-ghost use Rattle.tc_fixed.specs.Tallies.{Counts, IsSmall, bytes_held};
+ghost use Rattle.tc_fixed.specs.Tallies.{Counts, IsSmall, bytes_held, CountsWith, CountsWithout};
 
 /// What is counted of the ids and values held.
 #[derive(Clone, Copy, Debug, PartialEq, Eq)]
@@ -84,7 +84,7 @@ impl Tally {
     /// With a value of so many bytes for an id, in place of its old one, if it had any.
     pub fn with(&self, id: u64, old: Option<u64>, long: u64) -> Tally
         requires id { 1 ≤ id }
-        ensures counts { (m : Array) (v : List ℕ) → Counts self.now m → IsSmall m → old ≡ option_map length (get m id) → long ≡ length v → IsSmall (insert m id v) → Counts result (insert m id v) }
+        ensures counts { CountsWith self.now id old long result }
         ensures greatest { result.greatest ≡ max self.now.greatest id }
     {
         Tally {
@@ -97,7 +97,7 @@ impl Tally {
 
     /// Without an id, whose value had so many bytes; these are the least and the greatest of the others.
     pub fn without(&self, id: u64, long: u64, least: u64, greatest: u64) -> Tally
-        ensures counts { (m : Array) (v : List ℕ) → Counts self.now m → IsSmall m → get m id ≡ Some v → long ≡ length v → least ≡ Arrays.least (remove m id) → greatest ≡ Arrays.greatest (remove m id) → Counts result (remove m id) }
+        ensures counts { CountsWithout self.now id long least greatest result }
         ensures greatest { result.greatest ≡ greatest }
     {
         Tally {

@@ -6,9 +6,9 @@ use Rattle.hf_block.specs.declared.block.BlockAt.{BlockAt}
 use Rattle.hf_block.specs.Pieces.{Piece, Record, held, free, size_of, is_free, AllWhole, placed}
 use Rattle.hf_layout.specs.Layout.{record_of, record_at}
 use Rattle.hf_layout.proofs.Places.{here, long, long-cons, whole_parts, in_back}
-use Rattle.hf_chain.specs.declared.facts.Fact.{Fact}
-use Rattle.hf_chain.specs.Facts.{fact_of, facts_of}
-use Rattle.hf_chain.proofs.FactRows.{facts-append}
+use Rattle.hf_survey.specs.declared.facts.Fact.{Fact}
+use Rattle.hf_survey.specs.Facts.{fact_of, facts_of}
+use Rattle.hf_survey.proofs.FactRows.{facts-append}
 
 module _ (h : Head) where
   -- so many blocks were read

@@ -15,14 +15,21 @@ use Rattle.hf_layout.proofs.Places.{here}
 use Rattle.hf_tree.specs.Keys.{Key}
 use Rattle.hf_tree.specs.Standing.{IsMapOf}
 use Rattle.hf_tree.proofs.Orders.{three}
-use Rattle.hf_chain.specs.declared.facts.Fact.{Fact}
-use Rattle.hf_chain.specs.Facts.{fact_of, facts_of}
+use Rattle.hf_survey.specs.declared.facts.Fact.{Fact}
+use Rattle.hf_survey.specs.Facts.{fact_of, facts_of}
 use Rattle.hf_chain.specs.Heads.{HasRecord, IsRecordAt}
-use Rattle.hf_chain.specs.Listing.{AreListed}
-use Rattle.hf_chain.proofs.FactRows.{stands}
+use Rattle.hf_tree.specs.Listing.{AreListed}
+use Rattle.hf_chain.proofs.Fronts.{stands}
 use Rattle.tc_hash.proofs.BlockRows.{Held_, ReadSo, read_start, read_free, read_held, read_all}
-use Rattle.tc_hash.specs.Listed.{bytes_in, bytes_of}
-use Rattle.tc_hash.proofs.Keyed.{AreSingle, behind, map_of, map_same, not_behind, tail_single}
+use Rattle.hf_pool.specs.Pools.{frees}
+use Rattle.hf_tree.specs.Links.{links_of}
+use Rattle.tc_space.specs.declared.space.Space.{Ghosts}
+use Rattle.tc_hash.specs.declared.hash.Hash.{Hash}
+use Rattle.tc_hash.specs.Keeping.{Means}
+use Rattle.tc_hash.specs.Listed.{OfBlocks, bytes_in, bytes_of}
+use Rattle.tc_hash.specs.Settling.{head_now}
+use Rattle.tc_hash.proofs.KeysRead.{blocks_now}
+use Rattle.tc_hash.proofs.Keyed.{AreSingle, behind, map_of, map_same, not_behind, single, tail_single}
 
 -- ---- of a map
 
@@ -112,3 +119,14 @@ module _ (h : Head) (ps : List Piece) (bytes : List ℕ) (blocks : List BlockAt)
 pub bytes_all : (h : Head) (ps : List Piece) (bytes : List ℕ) (blocks : List BlockAt) (i total : ℕ) → AreListed h ps bytes blocks → BytesSo h ps i total → length blocks ≤ i → total ≡ bytes_of ps
 bytes_all h ps bytes blocks i total l k far =
     k.are ∙ ap (sum_by (fact_bytes h ps)) (read_all h ps blocks i k.facts k.so l.listed far) ∙ sum_facts h (unit h) h.first ps (record_at h.first ps) l.has.filled.whole (λ p r e. e)
+
+-- the bytes of what is held, where those of its blocks were counted
+pub summed_bytes : {S : Type 0} (s : Ghosts S) (v : Hash S) (now : Head) (a : S) → now ≡ head_now v.body.head v.records v.body.pool.size v.region → (n : ℕ) → OfBlocks s now v.body.file a (λ ps. n ≡ bytes_of ps) → (m : Map) → Means s v a m → n ≡ bytes_in m
+summed_bytes s v now a e n is m w =
+    let has = w.1.map.has in
+    let h : Head = v.body.head in
+    bytes_held (unit h) h.first has.pieces m n has.is.laid.filled.whole (single (links_of h has.pieces (s.now a v.body.file)) h.first has.pieces h.buckets has.places has.is.hang) has.is.map
+    (is w.0 has.pieces (blocks_now h now v.body.pool.size v.records v.region (frees v.body.pool) m (s.now a v.body.file) e has))
+
+pub bytes_blocks : {S : Type 0} (s : Ghosts S) (h : Head) (file : ℕ) (a b : S) (blocks : List BlockAt) (n : ℕ) → OfBlocks s h file a (λ ps. AreListed h ps (s.now b file) blocks) → (s.tells → (ps : List Piece) → AreListed h ps (s.now b file) blocks → n ≡ bytes_of ps) → OfBlocks s h file a (λ ps. n ≡ bytes_of ps)
+bytes_blocks s h file a b blocks n listed are t ps has = are t ps (listed t ps has)

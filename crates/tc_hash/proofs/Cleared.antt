@@ -16,9 +16,13 @@ use Rattle.tc_base.specs.Files.{Files}
 use Rattle.tc_space.specs.Effects.{Changes}
 use Rattle.tc_space.specs.Ranges.{IsDataFile}
 use Rattle.tc_space.specs.declared.space.Space.{Ghosts}
-use Rattle.tc_hash.specs.Creating.{AreZeros, IsNew, MayBe}
-use Rattle.tc_hash.specs.Fields.{HasFields}
-use Rattle.tc_hash.specs.Holding.{Holds}
+use Rattle.tc_reach.specs.Limits.{AreZeros}
+use Rattle.tc_hash.specs.Creating.{IsNew, MayBe}
+use Rattle.hf_record.specs.Fields.{HasFields}
+use Rattle.tc_hash.specs.Holding.{Holds, HoldsFile}
+use Rattle.tc_hash.specs.declared.hash.Hash.{Hash}
+use Rattle.tc_hash.specs.Keeping.{Turns}
+use Rattle.tc_hash.proofs.Fronted.{anew_as}
 use Rattle.tc_hash.proofs.Created.{create_brought, new_bytes, new_fields, zeros_are}
 
 pub may_be : (h : Head) → HasFields h → MayBe h.kind h.apow h.fpow h.buckets
@@ -79,3 +83,15 @@ cleared h new p bytes f is same sized nothing laid spells long e =
 pub within_log : {S : Type 0} (s : Ghosts S) → ((a : S) (file : ℕ) → s.tells → s.sound a → IsDataFile file → length (s.now a file) ≤ s.limit a file) → (file n : ℕ) (a : S) {L : Type 0} → s.tells → s.sound a → IsDataFile file → n ≤ length (s.now a file) → (s.limit a file < n) ⊎ L → L
 within_log s within file n a t sound numbered inside (inl past) = absurd (omega (arith, within a file t sound numbered, past, inside))
 within_log s within file n a t sound numbered inside (inr full) = full
+
+-- the file was made anew, and nothing is held
+pub emptied : {S : Type 0} (s : Ghosts S) (v v' : Hash S) (h : Head) (p : Pool) (bytes : List ℕ) (a b : S) → v'.body.file ≡ v.body.file → v'.body.head ≡ h → v'.body.pool ≡ p → v'.records ≡ 0 → v'.front ≡ None → p.changed ≡ true → s.sound b
+    → (s.tells → Changes s.now v.body.file bytes a b) → (s.tells → Holds h p.size (frees_in p) 0 empty (s.now b v.body.file)) → Turns s (λ m. empty) v v' a b
+emptied s v v' h p bytes a b file eh ep er ef noted sound wrote held = record {
+  sound = sound;
+  means = λ m w. (w.0, subst (λ (l : List ℕ). HoldsFile v' l empty) (sym (ap (s.now b) file)) (anew_as v' h p 0 (s.now b v.body.file) empty eh ep er ef noted (held w.0)));
+  others = record { same = λ t f other. (wrote t).others f other };
+}
+
+pub changes_told : {S : Type 0} (tells : Type 0) (now : S → Files) (file : ℕ) (x y : List ℕ) (a b c : S) → (tells → Changes now file x a b) → (tells → Changes now file y b c) → tells → Changes now file y a c
+changes_told tells now file x y a b c first second t = changes_twice now file x y a b c (first t) (second t)

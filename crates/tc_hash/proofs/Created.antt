@@ -21,7 +21,8 @@ use Rattle.hf_block.specs.Pieces.{AreBlocks}
 use Rattle.hf_block.specs.Rows.{IsListed}
 use Rattle.hf_layout.specs.Frees.{IsThere}
 use Rattle.hf_pool.specs.declared.pool.Pool.{Pool}
-use Rattle.hf_pool.specs.Pools.{frees as frees_in}
+use Rattle.hf_pool.specs.Pools.{IsLaidOut, frees as frees_in}
+use Rattle.hf_pool.proofs.Building.{same_free}
 use Rattle.hf_pool.specs.Multiples.{AreMultiples}
 use Rattle.hf_pool.specs.Sections.{section_bytes}
 use Rattle.hf_pool.proofs.Sectioning.{pairs-nil}
@@ -29,10 +30,10 @@ use Rattle.hf_tree.specs.declared.parent.Parent.TheVariants.{Bucket}
 use Rattle.hf_tree.specs.Trees.{leaf}
 use Rattle.hf_tree.specs.Links.{array, links_of, width}
 use Rattle.tc_hash.specs.Creating.{IsNew, MayBe}
-use Rattle.tc_hash.specs.Fields.{HasFields}
-use Rattle.tc_hash.specs.Holding.{IsHeld}
+use Rattle.hf_record.specs.Fields.{HasFields}
+use Rattle.hf_record.specs.Holding.{IsHeld}
 use Rattle.tc_hash.specs.Sections.{section_of}
-use Rattle.tc_hash.specs.Settling.{section_at, section_len}
+use Rattle.tc_hash.specs.Sections.{section_at, section_len}
 use Rattle.tc_hash.specs.Settling.{Brought}
 use Rattle.tc_hash.proofs.Kept.{Settles, brought}
 
@@ -101,7 +102,7 @@ new_stands h u frees f zero_records ends same multiples nothing long spells laid
       };
       map = λ key value. (λ e. absurd (let g : None ≡ Some value = sym (get-empty (slice_cmp nat_cmp) key) ∙ e in cc), λ w. absurd (let g : None ≡ Some w.1 = w.2 in cc));
     } in
-    let settled : Settles h None b b = record { long = sized; head = take_at (spelled h) (replicate (h.first - 256) 0) 256 long; entries = refl; blocks = refl; section = refl } in
+    let settled : Settles h None b b = record { long = sized; head = take_at (spelled h) (replicate (h.first - 256) 0) 256 long; entries = refl; gap = refl; blocks = refl; section = refl } in
     let no_less : section_len h - 0 ≡ section_len h = omega arith in
     let section : section_of h b ≡ section_bytes u (section_len h) [] =
     zeros_between (spelled h) (h.first - 256) (section_at h) (sections h) (omega (arith, long)) (omega arith) (omega (arith, long, behind))
@@ -115,6 +116,19 @@ new_stands h u frees f zero_records ends same multiples nothing long spells laid
 pub wrote_end : (at : ℕ) (x old : List ℕ) → length old ≡ at → wrote at x old ≡ old ++ x
 unfolding wrote
 wrote_end at x old e = rw (take_all at old (omega (arith, e)), drop_all (at + length x) old (omega (arith, e))) (append-nil (old ++ x))
+
+-- a head in an empty file, and zeros behind it
+pub head_written : (x old new : List ℕ) → new ≡ wrote 0 x old → old ≡ [] → new ≡ x
+head_written x old new is none = is ∙ wrote_end 0 x old (ap length none) ∙ ap (λ (l : List ℕ). l ++ x) none
+
+pub new_written : {S : Type 0} (tells : Type 0) (now : S → Files) (file : ℕ) (h : Head) (x : List ℕ) (a b c : S) → x ≡ spelled h → length x ≡ 256 → (tells → now a file ≡ []) → (tells → Changes now file (wrote 0 x (now a file)) a b)
+    → (tells → Changes now file (wrote 256 (replicate (h.first - 256) 0) (now b file)) b c) → tells → Changes now file (new_bytes h) a c
+new_written tells now file h x a b c is long none first second t =
+    let z : List ℕ = replicate (h.first - 256) 0 in
+    record {
+      here = (second t).here ∙ ap (wrote 256 z) (head_written x (now a file) (now b file) (first t).here (none t)) ∙ wrote_end 256 z x long ∙ ap (λ (l : List ℕ). l ++ z) is;
+      others = λ g ne. (second t).others g ne ∙ (first t).others g ne;
+    }
 
 pub zeros_more : (old : List ℕ) (m n : ℕ) (z : List ℕ) → z ≡ replicate n 0 → (old ++ replicate m 0) ++ z ≡ old ++ replicate (m + n) 0
 zeros_more old m n z e = ap (λ (l : List ℕ). (old ++ replicate m 0) ++ l) e ∙ append_assoc old (replicate m 0) (replicate n 0) ∙ ap (λ (l : List ℕ). old ++ l) (replicate-append-replicate m n 0)
@@ -136,6 +150,10 @@ none_listed frees blocks e each q = none_at (frees q) refl
 
 pub no_blocks_between : (u first size : ℕ) (bytes : List ℕ) → size ≡ first → AreBlocks u (between first size bytes) []
 no_blocks_between u first size bytes e = let none_left : size - first ≡ 0 = omega (arith, e) in record { whole = tt; is = ap (λ (n : ℕ). take n (drop first bytes)) none_left }
+
+pub laid_empty : (h : Head) (u : ℕ) (blocks : List BlockAt) (p : Pool) → u ≡ unit h → blocks ≡ [] → h.size ≡ h.first → IsLaidOut u h.first h.size blocks p → (bytes : List ℕ) → h.size ≤ length bytes → LaidOut (unit h) h.first h.size [] (frees_in p) none bytes
+laid_empty h u blocks p same none_listed_ ends laid bytes within =
+    subst (λ (n : ℕ). LaidOut n h.first h.size [] (frees_in p) none bytes) same (laid [] bytes within (no_blocks_between u h.first h.size bytes ends) (same_free blocks [] none_listed_))
 
 -- ---- the file held open
 

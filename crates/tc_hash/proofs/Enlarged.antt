@@ -21,18 +21,17 @@ use Rattle.hf_layout.specs.Layout.{LaidOut}
 use Rattle.hf_head.specs.declared.head.Head.{Head}
 use Rattle.hf_head.specs.Heads.{Spells, spelled, unit}
 use Rattle.hf_pool.specs.declared.pool.Pool.{Pool}
-use Rattle.hf_pool.specs.Pools.{frees as frees_in}
+use Rattle.hf_pool.specs.Pools.{Takes, frees as frees_in}
 use Rattle.tc_hash.specs.Creating.{IsNew}
-use Rattle.tc_hash.specs.Fields.{HasFields}
+use Rattle.hf_record.specs.Fields.{HasFields}
 use Rattle.tc_hash.specs.Holding.{Holds}
 use Rattle.tc_hash.specs.declared.hash.Hash.{Hash}
-use Rattle.tc_hash.specs.Keeping.{file_of, holds, size_in, GivesValue, LacksRoom, StaysOpen}
-use Rattle.tc_hash.specs.Moves.{IsRefusedFor}
-use Rattle.tc_hash.specs.Allocating.{Takes}
+use Rattle.tc_hash.specs.Keeping.{file_of, holds, size_for, GivesValue, StaysOpen}
+use Rattle.hf_record.specs.Moves.{IsRefusedFor, LacksRoom}
 use Rattle.tc_hash.specs.Packing.{AllIn, ArePairs, LacksEnd, LacksOne, fills_enlarging, with_pairs}
 use Rattle.tc_hash.proofs.Cleared.{may_be}
 use Rattle.tc_hash.proofs.Created.{create_brought, new_bytes, new_fields}
-use Rattle.tc_hash.proofs.Maps.{insert_here, insert_other, other_test, same_or_not}
+use Rattle.hf_record.proofs.Maps.{insert_here, insert_other, other_test, same_or_not}
 
 abbrev same : List ℕ → List ℕ → Bool
 same = eq_by_cmp (slice_cmp nat_cmp)
@@ -96,7 +95,7 @@ in_all m (q ∷ ps) (suc i) p e all = in_all m ps i p e all.1
 -- ---- the pool
 
 -- a pool without free blocks stays so
-pub still_nothing : (size place : ℕ) (old new : Pool) → Takes size place old new → ((q : ℕ) → frees_in old q ≡ None) → (q : ℕ) → frees_in new q ≡ None
+pub still_nothing : (size place : ℕ) (old new : Pool) → Takes old new size place → ((q : ℕ) → frees_in old q ≡ None) → (q : ℕ) → frees_in new q ≡ None
 still_nothing size place old new (inl w) nothing q = absurd (let e : None ≡ Some w.0 = sym (nothing place) ∙ w.1.best.there in cc)
 still_nothing size place old new (inr g) nothing q = g.same q ∙ nothing q
 
@@ -118,16 +117,16 @@ form_one h f ne = omega (arith, f.options, ne)
 -- ---- one put after the other
 
 module _ {S : Type 0} (s : Ghosts S) where
-  pub lacks_end : (v w : Hash S) (b : S) (key key' value value' : List ℕ) → key' ≡ key → value' ≡ value → StaysOpen v w → ((q : ℕ) → frees_in w.pool q ≡ None) → LacksRoom s w b (size_in w key' value') → LacksEnd s v.head v.file b key value
+  pub lacks_end : (v w : Hash S) (b : S) (key key' value value' : List ℕ) → key' ≡ key → value' ≡ value → StaysOpen v w → ((q : ℕ) → frees_in w.body.pool q ≡ None) → LacksRoom s w.body b (size_for w key' value') → LacksEnd s v.body.head v.body.file b key value
   lacks_end v w b key key' value value' ek ev stays nothing lacks = record {
-    end = w.pool.size;
-    free = frees_in w.pool;
+    end = w.body.pool.size;
+    free = frees_in w.body.pool;
     nothing = nothing;
     refused =
-        subst (λ (k : List ℕ). IsRefusedFor v.head w.pool.size (frees_in w.pool) (s.limit b v.file) (length (s.now b v.file)) (s.log_full b) (block_len (width v.head) k value (unit v.head))) ek
-        (subst (λ (x : List ℕ). IsRefusedFor v.head w.pool.size (frees_in w.pool) (s.limit b v.file) (length (s.now b v.file)) (s.log_full b) (block_len (width v.head) key' x (unit v.head))) ev
-        (subst (λ (h : Head). IsRefusedFor h w.pool.size (frees_in w.pool) (s.limit b v.file) (length (s.now b v.file)) (s.log_full b) (block_len (width h) key' value' (unit h))) stays.head
-        (subst (λ (f : ℕ). IsRefusedFor w.head w.pool.size (frees_in w.pool) (s.limit b f) (length (s.now b f)) (s.log_full b) (size_in w key' value')) stays.map.file lacks)));
+        subst (λ (k : List ℕ). IsRefusedFor v.body.head w.body.pool.size (frees_in w.body.pool) (s.limit b v.body.file) (length (s.now b v.body.file)) (s.log_full b) (block_len (width v.body.head) k value (unit v.body.head))) ek
+        (subst (λ (x : List ℕ). IsRefusedFor v.body.head w.body.pool.size (frees_in w.body.pool) (s.limit b v.body.file) (length (s.now b v.body.file)) (s.log_full b) (block_len (width v.body.head) key' x (unit v.body.head))) ev
+        (subst (λ (h : Head). IsRefusedFor h w.body.pool.size (frees_in w.body.pool) (s.limit b v.body.file) (length (s.now b v.body.file)) (s.log_full b) (block_len (width h) key' value' (unit h))) stays.head
+        (subst (λ (f : ℕ). IsRefusedFor w.body.head w.body.pool.size (frees_in w.body.pool) (s.limit b f) (length (s.now b f)) (s.log_full b) (size_for w key' value')) stays.map.file lacks)));
   }
 
   pub put_more : (u v w : Hash S) (a b c : S) (ps : List Pair) (i : ℕ) (p : Pair) (key value : List ℕ) → key ≡ p.key → value ≡ p.value → slice_get ps i ≡ Some p → StaysOpen u v → Writes s (Only (file_of u)) (In s file_of holds) (λ m. with_pairs m (take i ps)) u v a b → GivesValue s Over key value 13 v w b c → Writes s (Only (file_of u)) (In s file_of holds) (λ m. with_pairs m (take (i + 1) ps)) u w a c
@@ -149,9 +148,9 @@ module _ {S : Type 0} (s : Ghosts S) where
   pub in_before : (v v' : Hash S) (a b : S) (m : Map) → v' ≡ v → (s.tells → (g : ℕ) → s.now b g ≡ s.now a g) → In s file_of holds v' b m → In s file_of holds v a m
   in_before v v' a b m e now w =
       let x : In s file_of holds v b m = subst (λ (h : Hash S). In s file_of holds h b m) e w in
-      (x.0, subst (λ (l : List ℕ). holds v l m) (now x.0 v.file) x.1)
+      (x.0, subst (λ (l : List ℕ). holds v l m) (now x.0 v.body.file) x.1)
 
-  pub anew_packed : (u v w : Hash S) (a b c : S) (ps : List Pair) → v.file ≡ u.file → ((m : Map) → In s file_of holds u a m → AllIn m ps × (with_pairs empty ps ≡ m)) → Writes s (Only (file_of u)) (In s file_of holds) (λ m. empty) u v a b → Writes s (Only (file_of v)) (In s file_of holds) (λ m. with_pairs m ps) v w b c → Writes s (Only (file_of u)) (In s file_of holds) same_map_of u w a c
+  pub anew_packed : (u v w : Hash S) (a b c : S) (ps : List Pair) → v.body.file ≡ u.body.file → ((m : Map) → In s file_of holds u a m → AllIn m ps × (with_pairs empty ps ≡ m)) → Writes s (Only (file_of u)) (In s file_of holds) (λ m. empty) u v a b → Writes s (Only (file_of v)) (In s file_of holds) (λ m. with_pairs m ps) v w b c → Writes s (Only (file_of u)) (In s file_of holds) same_map_of u w a c
   anew_packed u v w a b c ps same_file make first second =
       let own : Writes s (Only (file_of u)) (In s file_of holds) (λ m. with_pairs m ps) v w b c = subst (λ (f : ℕ). Writes s (Only f) (In s file_of holds) (λ m. with_pairs m ps) v w b c) same_file second in
       let both = writes_then s (In s file_of holds) (Only (file_of u)) (λ m. empty) (λ m. with_pairs m ps) u v w a b c first own in
@@ -161,14 +160,14 @@ module _ {S : Type 0} (s : Ghosts S) where
         others = both.others;
       }
 
-  pub lacks_record : (u v : Hash S) (a c : S) (ps : List Pair) → v.file ≡ u.file → IsNew u.head.kind u.head.apow u.head.fpow u.head.buckets true v.head → ((m : Map) → In s file_of holds u a m → AllIn m ps × (with_pairs empty ps ≡ m)) → (s.tells → LacksOne s v.head v.file c ps) → FullBy (In s file_of holds) (fills_enlarging s) same_map_of u a c
+  pub lacks_record : (u v : Hash S) (a c : S) (ps : List Pair) → v.body.file ≡ u.body.file → IsNew u.body.head.kind u.body.head.apow u.body.head.fpow u.body.head.buckets true v.body.head → ((m : Map) → In s file_of holds u a m → AllIn m ps × (with_pairs empty ps ≡ m)) → (s.tells → LacksOne s v.body.head v.body.file c ps) → FullBy (In s file_of holds) (fills_enlarging s) same_map_of u a c
   lacks_record u v a c ps same_file new make lacks = record {
     by = λ m holding.
         let l = lacks holding.0 in
-        inr (inr (record { head = v.head; is_new = new; key = l.pair.key; value = l.pair.value; there = l.there m (make m holding).0; lacks = subst (λ (f : ℕ). LacksEnd s v.head f c l.pair.key l.pair.value) same_file l.lacks }));
+        inr (inr (record { head = v.body.head; is_new = new; key = l.pair.key; value = l.pair.value; there = l.there m (make m holding).0; lacks = subst (λ (f : ℕ). LacksEnd s v.body.head f c l.pair.key l.pair.value) same_file l.lacks }));
   }
 
-  pub packed_after : (v v' w : Hash S) (a b c : S) → Reads s (In s file_of holds) v v' a b → v'.file ≡ v.file → Writes s (Only (file_of v')) (In s file_of holds) same_map_of v' w b c → Writes s (Only (file_of v)) (In s file_of holds) same_map_of v w a c
+  pub packed_after : (v v' w : Hash S) (a b c : S) → Reads s (In s file_of holds) v v' a b → v'.body.file ≡ v.body.file → Writes s (Only (file_of v')) (In s file_of holds) same_map_of v' w b c → Writes s (Only (file_of v)) (In s file_of holds) same_map_of v w a c
   packed_after v v' w a b c reads same_file writes = reads_writes s (In s file_of holds) (Only (file_of v)) same_map_of v v' w a b c reads (subst (λ (f : ℕ). Writes s (Only f) (In s file_of holds) same_map_of v' w b c) same_file writes)
 
   pub full_reads : (v v' : Hash S) (a b c : S) → Reads s (In s file_of holds) v v' a b → v' ≡ v → FullBy (In s file_of holds) (fills_enlarging s) same_map_of v' b c → FullBy (In s file_of holds) (fills_enlarging s) same_map_of v a c

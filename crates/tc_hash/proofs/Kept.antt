@@ -1,12 +1,12 @@
 -- What is held stays where the blocks, the bucket array and the records do.
-use Rattle.std.proofs.Common.{◌≡◌, ◌≢◌, ◌∙◌, ◌⊎◌, inl, inr, ℕ, ◌+◌, ◌-◌, ◌*◌, ◌%◌, ◌^◌, ◌<◌, ◌≤◌, List, ◌++◌, length, take, drop, refl, sym, ap, subst, arith, Option, Some, None, IfSome, IfNone, length-append, length-drop}
+use Rattle.std.proofs.Common.{◌≡◌, ◌≢◌, ◌∙◌, ◌⊎◌, inl, inr, ℕ, ◌+◌, ◌-◌, ◌*◌, ◌%◌, ◌^◌, ◌<◌, ◌≤◌, List, length, take, replicate, refl, sym, ap, subst, arith, Option, Some, None, IfSome, length-append}
 use Rattle.std.specs.Prelude.{unwrap_or}
 use Rattle.std.specs.FinMap.{get, len}
 use Rattle.std.proofs.Math.Nat.{mod-lt}
 use Rattle.std.proofs.lemmas.Bool.{cases_eq}
 use Rattle.hf_layout.specs.Layout.{free_of}
 use Rattle.hf_layout.proofs.Places.{below}
-use Rattle.std.proofs.lemmas.List.{places, same_lists, length-take-le}
+use Rattle.std.proofs.lemmas.List.{places, same_lists, length-replicate, length-take-le}
 use Rattle.tc_base.specs.Maps.{Map}
 use Rattle.tc_base.specs.Files.{wrote}
 use Rattle.hf_head.specs.declared.head.Head.{Head}
@@ -14,6 +14,8 @@ use Rattle.hf_head.specs.Heads.{IsValid, Spells, head_in, spelled, unit, section
 use Rattle.hf_block.specs.Pieces.{Record, Piece, AreBlocks}
 use Rattle.hf_block.specs.Walks.{between}
 use Rattle.hf_layout.specs.Frees.{Frees, none}
+use Rattle.hf_pool.specs.Pools.{frees as frees_in}
+use Rattle.hf_record.specs.declared.body.Body.{Body}
 use Rattle.hf_layout.specs.Layout.{record_at, frees_of, LaidOut, Keeps}
 use Rattle.hf_tree.specs.declared.parent.Parent.{Parent}
 use Rattle.hf_tree.specs.declared.parent.Parent.TheVariants.{Bucket, Left, Right}
@@ -24,10 +26,13 @@ use Rattle.hf_tree.specs.Standing.{AllHang, IsMapOf}
 use Rattle.hf_tree.proofs.Fields.{is_bare}
 use Rattle.hf_tree.proofs.Ways.{at_home, once, names, in_order}
 use Rattle.hf_pool.specs.Multiples.{AreMultiples}
-use Rattle.tc_hash.specs.Fields.{HasFields}
-use Rattle.tc_hash.specs.Holding.{Holds, IsHeld}
-use Rattle.tc_hash.specs.Sections.{IsListOf, section_of}
-use Rattle.tc_hash.specs.Settling.{Brought, ChangesFront, IsSectionOf, head_now, patched, section_at, section_len, settled}
+use Rattle.hf_record.specs.Fields.{HasFields}
+use Rattle.hf_record.specs.Holding.{IsHeld}
+use Rattle.tc_hash.specs.Holding.{Holds}
+use Rattle.tc_hash.specs.Bringing.{IsNewSection, whole}
+use Rattle.tc_hash.specs.Fronts.{ShowsFrees}
+use Rattle.tc_hash.specs.Sections.{IsListOf, IsSectionOf, filled, section_at, section_len, section_of}
+use Rattle.tc_hash.specs.Settling.{Brought, head_now, patched, settled}
 use Rattle.tc_hash.proofs.Listing.{section_lists}
 use Rattle.tc_hash.proofs.Keyed.{frees_same, list_same, map_same, map_of-len, single}
 
@@ -73,7 +78,7 @@ trimmed_holds h u end end' frees frees' records m bytes same trim less held =
 
 -- ---- bytes
 
-between_behind : (from to at : ℕ) (x a : List ℕ) → at + length x ≤ from → at + length x ≤ length a → between from to (wrote at x a) ≡ between from to a
+pub between_behind : (from to at : ℕ) (x a : List ℕ) → at + length x ≤ from → at + length x ≤ length a → between from to (wrote at x a) ≡ between from to a
 unfolding wrote
 between_behind from to at x a low fits = same_lists _ _ (grind (arith, places)) (λ i d g. grind (arith, places))
 
@@ -88,7 +93,7 @@ between_at from to x a long fits = same_lists _ _ (grind (arith, places)) (λ i 
 between_cut : (from to end : ℕ) (a : List ℕ) → to ≤ end → between from to (take end a) ≡ between from to a
 between_cut from to end a low = same_lists _ _ (grind (arith, places)) (λ i d g. grind (arith, places))
 
-length_over : (at : ℕ) (x a : List ℕ) → at + length x ≤ length a → length (wrote at x a) ≡ length a
+pub length_over : (at : ℕ) (x a : List ℕ) → at + length x ≤ length a → length (wrote at x a) ≡ length a
 unfolding wrote
 length_over at x a fits = grind (arith, places)
 
@@ -118,6 +123,7 @@ pub record Settles (h : Head) (o : Option (List ℕ)) (old new : List ℕ) : Typ
   pub long : length new ≡ h.size
   pub head : take 256 new ≡ spelled h
   pub entries : array h new ≡ array h old
+  pub gap : between (sections h) h.first new ≡ between (sections h) h.first old
   pub blocks : between h.first h.size new ≡ between h.first h.size old
   pub section : section_of h new ≡ unwrap_or o (section_of h old)
 
@@ -135,6 +141,7 @@ settles h o a long behind on fits suits =
       long = length-take-le h.size c (omega (arith, same, same2, fits));
       head = between_cut 0 256 h.size c (omega (arith, some, behind, on)) ∙ patched_before 0 256 at (section_len h) o b suits some (omega (arith, same, all)) ∙ between_at 0 256 x a long (omega (arith, long, behind, on, fits));
       entries = between_cut 256 at h.size c (omega (arith, behind, on)) ∙ patched_before 256 at at (section_len h) o b suits (omega arith) (omega (arith, same, all)) ∙ between_behind 256 at 0 x a (omega (arith, long)) (omega (arith, long, behind, on, fits));
+      gap = between_cut (sections h) h.first h.size c (omega (arith, on)) ∙ patched_behind (sections h) h.first at (section_len h) o b suits (omega arith) (omega (arith, same, all)) ∙ between_behind (sections h) h.first 0 x a (omega (arith, long)) (omega (arith, long, behind, on, fits));
       blocks = between_cut h.first h.size h.size c (omega arith) ∙ patched_behind h.first h.size at (section_len h) o b suits (omega (arith, behind)) (omega (arith, same, all)) ∙ between_behind h.first h.size 0 x a (omega (arith, long, behind)) (omega (arith, long, behind, on, fits));
       section = between_cut at (sections h) h.size c (omega (arith, behind, on)) ∙ section_patched at (sections h) (section_len h) o x a suits (omega arith) (omega (arith, long)) (omega (arith, behind, on, fits));
     }
@@ -229,59 +236,30 @@ brought h u end records frees m region o a b f same aligned multiples spells is 
       head = ap (λ (l : List ℕ). head_in l) s.head ∙ spells.fields;
     }
 
--- ---- the file behind the writes
-
-pub section_or : (h : Head) (u : ℕ) (frees : Frees) (o : Option (List ℕ)) (old : List ℕ) → IfSome o (λ b. IsSectionOf h u frees b × (length b ≡ section_len h)) → IfNone o (IsSectionOf h u frees old) → IsSectionOf h u frees (unwrap_or o old)
-section_or h u frees None old some same = same
-section_or h u frees (Some b) old some _ = some.0
-
-pub suits : (h : Head) (u : ℕ) (frees : Frees) (o : Option (List ℕ)) → IfSome o (λ b. IsSectionOf h u frees b × (length b ≡ section_len h)) → Suits (section_len h) o
-suits h u frees None some = tt
-suits h u frees (Some b) some = some.1
-
-pub suits_inside : (tells : Type 0) (at n long : ℕ) (o : Option (List ℕ)) → Suits n o → (tells → at + n ≤ long) → IfSome o (λ b. tells → at + length b ≤ long)
-suits_inside tells at n long None s inside = tt
-suits_inside tells at n long (Some b) s inside = λ t. omega (arith, s, inside t)
-
-pub longer : (x a : List ℕ) → length a ≤ length (wrote 0 x a)
-unfolding wrote
-longer x a = omega (arith, length-append (take 0 a ++ x) (drop (0 + length x) a), length-append (take 0 a) x, length-drop (0 + length x) a)
-
-pub front_brought : (h : Head) (u end records : ℕ) (frees : Frees) (m : Map) (region : List ℕ) (o : Option (List ℕ)) (a b : List ℕ) → HasFields h → u ≡ unit h → end % u ≡ 0 → AreMultiples u frees → Spells (head_now h records end region) (spelled (head_now h records end region)) → length (spelled (head_now h records end region)) ≡ 256
-    → IsSectionOf h u frees (unwrap_or o (section_of h a)) → Suits (section_len h) o → b ≡ settled (head_now h records end region) o a → Holds h end frees records m a → Brought h end frees records region m b
-front_brought h u end records frees m region o a b f same aligned multiples spells long is fit e held =
-    let now : Head = head_now h records end region in
-    let laid = held.has.is.laid in
-    let s = subst (λ (l : List ℕ). Settles now o a l) (sym e) (settles now o a long f.numbers.first_behind laid.on laid.within fit) in
-    brought h u end records frees m region o a b f same aligned multiples spells is s held
-
-pub fields_valid : (h : Head) → HasFields h → IsValid h
-fields_valid h f = still_valid h h.records h.size h.opaque f f.numbers.size_least f.numbers.size_most f.numbers.size_aligned
+-- ---- settling, from what its calls say
 
 -- the file reaches up to the first block
 pub reaches : (h : Head) (end records : ℕ) (frees : Frees) (m : Map) (bytes : List ℕ) → Holds h end frees records m bytes → h.first ≤ length bytes
 reaches h end records frees m bytes held = omega (arith, held.has.is.laid.on, held.has.is.laid.within)
 
--- ---- settling, from what its calls say
+pub filled_long : (n : ℕ) (x : List ℕ) → length x ≤ n → length (filled n x) ≡ n
+filled_long n x few = omega (arith, length-append x (replicate (n - length x) 0), length-replicate {A = ℕ} (n - length x) 0, few)
 
--- the file behind a settling: the free blocks at the end were dropped, and the file was read and written
-pub settle_brought : (h now : Head) (u end end' records : ℕ) (frees frees' : Frees) (m : Map) (region : List ℕ) (o : Option (List ℕ)) (old mid new : List ℕ) → HasFields h → u ≡ unit h → end' % u ≡ 0 → AreMultiples u frees' → end' ≤ end
-    → ((first : ℕ) (ps : List Piece) (lent : Frees) (bs : List ℕ) → LaidOut u first end ps frees lent bs → Keeps u first end' ps frees' lent bs)
-    → now ≡ head_now h records end' region → Spells now (spelled now) → length (spelled now) ≡ 256 → mid ≡ old
-    → IfSome o (λ b. IsSectionOf h u frees' b × (length b ≡ section_len h)) → IfNone o (IsSectionOf h u frees' (section_of h old)) → new ≡ settled now o mid → Holds h end frees records m old → Brought h end' frees' records region m new
-settle_brought h now u end end' records frees frees' m region o old mid new f same aligned multiples less trim now_is spells long read some none e held =
-    front_brought h u end' records frees' m region o old new f same aligned multiples
-    (subst (λ (x : Head). Spells x (spelled x)) now_is spells) (ap (λ (x : Head). length (spelled x)) (sym now_is) ∙ long)
-    (section_or h u frees' o (section_of h old) some none) (suits h u frees' o some)
-    (e ∙ ap (λ (x : Head). settled x o mid) now_is ∙ ap (λ (l : List ℕ). settled (head_now h records end' region) o l) read)
-    (trimmed_holds h u end end' frees frees' records m old same trim less held)
+-- the section that stands in the file once the new one is written: the one of before where there is no new one
+module _ (b : Body) (was old : List ℕ) (mid : List ℕ) (few : length was ≤ section_len b.head) (shows : section_of b.head mid ≡ filled (section_len b.head) was) (listed : ShowsFrees b.head b.pool mid) where
+  pub whole_suits : (o : Option (List ℕ)) → IsNewSection b was old o → Suits (section_len b.head) (whole b o)
+  whole_suits None is = tt
+  whole_suits (Some new) is = filled_long (section_len b.head) new (is.few few)
 
--- and what it changes
-pub settle_front : (h now : Head) (u end end' records : ℕ) (frees frees' : Frees) (m : Map) (region : List ℕ) (o : Option (List ℕ)) (old mid new : List ℕ) → HasFields h → u ≡ unit h → end' ≤ end
-    → ((first : ℕ) (ps : List Piece) (lent : Frees) (bs : List ℕ) → LaidOut u first end ps frees lent bs → Keeps u first end' ps frees' lent bs)
-    → now ≡ head_now h records end' region → length (spelled now) ≡ 256 → mid ≡ old → IfSome o (λ b. IsSectionOf h u frees' b × (length b ≡ section_len h)) → new ≡ settled now o mid → Holds h end frees records m old → ChangesFront h end' old new
-settle_front h now u end end' records frees frees' m region o old mid new f same less trim now_is long read some e held =
-    let laid = (trimmed_holds h u end end' frees frees' records m old same trim less held).has.is.laid in
-    let new_is : new ≡ settled (head_now h records end' region) o old = e ∙ ap (λ (x : Head). settled x o mid) now_is ∙ ap (λ (l : List ℕ). settled (head_now h records end' region) o l) read in
-    let s = subst (λ (l : List ℕ). Settles (head_now h records end' region) o old l) (sym new_is) (settles (head_now h records end' region) o old (ap (λ (x : Head). length (spelled x)) (sym now_is) ∙ long) f.numbers.first_behind laid.on laid.within (suits h u frees' o some)) in
-    record { long = s.long; entries = s.entries; blocks = s.blocks }
+  pub whole_lists : (o : Option (List ℕ)) → IsNewSection b was old o → IsSectionOf b.head b.pool.unit (frees_in b.pool) (unwrap_or (whole b o) (section_of b.head mid))
+  whole_lists None is = listed is.0
+  whole_lists (Some new) is = is.lists few
+
+  -- as far as it is known
+  pub front_few : (o : Option (List ℕ)) → IsNewSection b was old o → length (unwrap_or o old) ≤ section_len b.head
+  front_few None is = omega (arith, few, ap length is.1)
+  front_few (Some new) is = is.few few
+
+  pub front_shows : (o : Option (List ℕ)) → IsNewSection b was old o → unwrap_or (whole b o) (section_of b.head mid) ≡ filled (section_len b.head) (unwrap_or o old)
+  front_shows None is = shows ∙ ap (filled (section_len b.head)) (sym is.1)
+  front_shows (Some new) is = refl

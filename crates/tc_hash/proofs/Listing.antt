@@ -22,7 +22,7 @@ use Rattle.hf_pool.proofs.Sectioning.{pairs-nil, pairs-more, pairs-full}
 use Rattle.hf_tree.specs.Standing.{Lists}
 use Rattle.hf_head.specs.declared.head.Head.{Head}
 use Rattle.tc_hash.specs.Sections.{IsListOf}
-use Rattle.tc_hash.specs.Settling.{IsSectionOf, section_len}
+use Rattle.tc_hash.specs.Sections.{IsSectionOf, section_len}
 
 -- these blocks are free, in ascending place above a place in units, and multiples of it
 abbrev pub Rises : ℕ → Frees → ℕ → List (ℕ × ℕ) → Type 0

@@ -23,13 +23,14 @@ use Rattle.hf_pool.specs.Pools.{frees as frees_in}
 use Rattle.hf_tree.specs.Links.{HasBlocks, links_of, width}
 use Rattle.hf_tree.specs.Rules.{rule_l}
 use Rattle.hf_tree.specs.Standing.{IsMapOf, Opens, StandsFor}
-use Rattle.hf_chain.specs.declared.surveying.Survey.{Survey}
-use Rattle.hf_chain.specs.Facts.{AreFacts}
-use Rattle.hf_chain.specs.Listing.{AllHold}
-use Rattle.hf_chain.specs.Listing.{Breaks as Breaks_}
-use Rattle.hf_chain.specs.Surveys.{IsSurvey, WasSurveyed}
-use Rattle.hf_chain.proofs.Surveyed.{same_listed}
-use Rattle.tc_hash.specs.Holding.{Holds, IsHeld}
+use Rattle.hf_survey.specs.declared.surveying.Survey.{Survey}
+use Rattle.hf_survey.specs.Facts.{AreFacts}
+use Rattle.hf_survey.specs.Holding.{AllHold}
+use Rattle.hf_survey.specs.Holding.{Breaks as Breaks_}
+use Rattle.hf_survey.specs.Surveys.{IsSurvey, WasSurveyed}
+use Rattle.hf_survey.proofs.Surveyed.{same_listed}
+use Rattle.hf_record.specs.Holding.{IsHeld}
+use Rattle.tc_hash.specs.Holding.{Holds}
 use Rattle.tc_hash.specs.Opening.{Breaks, FillsUp, HasHead, IsBroken, IsNoList, IsRead, WasRead, bad_links, bad_section, broken_at, open_of}
 use Rattle.tc_hash.specs.Sections.{IsListOf, section_of}
 use Rattle.tc_hash.specs.Standing.{StandsWith}
@@ -163,11 +164,6 @@ laid_surveyed h u frees bytes s same laid ps l =
 pub breaks_kind : (tells : Type 0) (k kind file : ℕ) (old new : List ℕ) (e : OpenErr) → k ≡ kind → (tells → new ≡ old) → Breaks tells k file new e → Breaks tells kind file old e
 breaks_kind tells k kind file old new e same bytes h = breaks_before tells kind file old new e bytes (subst (λ (n : ℕ). Breaks tells n file new e) same h)
 
--- the same, of the file held open
-pub holds_same : (h h' : Head) (p p' : Pool) (r r' : ℕ) (m : Map) (old new : List ℕ) → h' ≡ h → p' ≡ p → r' ≡ r → new ≡ old → p.size ≡ h.size → Holds h h.size (frees_in p) r m old → Holds h' p'.size (frees_in p') r' m new
-holds_same h h' p p' r r' m old new eh ep er el size b =
-    subst (λ (x : Head). Holds x p'.size (frees_in p') r' m new) (sym eh)
-    (subst (λ (x : Pool). Holds h x.size (frees_in x) r' m new) (sym ep)
-    (subst (λ (x : ℕ). Holds h p.size (frees_in p) x m new) (sym er)
-    (subst (λ (x : List ℕ). Holds h p.size (frees_in p) r m x) (sym el)
-    (subst (λ (n : ℕ). Holds h n (frees_in p) r m old) (sym size) b))))
+-- the same, where the blocks end so
+pub holds_end : (h : Head) (p : Pool) (m : Map) (old new : List ℕ) → new ≡ old → p.size ≡ h.size → Holds h h.size (frees_in p) h.records m old → Holds h p.size (frees_in p) h.records m new
+holds_end h p m old new e size b = subst (λ (x : List ℕ). Holds h p.size (frees_in p) h.records m x) (sym e) (subst (λ (n : ℕ). Holds h n (frees_in p) h.records m old) (sym size) b)

@@ -1,11 +1,15 @@
 -- A file whose records were moved to its front.
-use Rattle.std.proofs.Common.{◌≡◌, ◌∙◌, ◌⊎◌, inl, inr, false, ℕ, List, Option, None, refl, sym, ap, subst, arith}
+use Rattle.std.proofs.Common.{◌≡◌, inl, inr, ℕ, List, None, refl, sym, subst, arith}
 use Rattle.std.specs.FinMap.{get}
 use Rattle.tc_base.specs.Maps.{Map}
 use Rattle.tc_base.specs.declared.kind.Form.{Form}
 use Rattle.tc_base.specs.declared.kind.Form.TheVariants as form
 use Rattle.tc_space.specs.Changes.{same}
-use Rattle.tc_space.specs.Frames.{In, OnlyReads, Refuses, Writes}
+use Rattle.tc_space.specs.Frames.{In, OnlyReads, Writes}
+use Rattle.hf_block.specs.declared.block.BlockAt.{BlockAt}
+use Rattle.hf_pack.specs.Packing.{Packs}
+use Rattle.hf_tree.specs.Listing.{AreListed}
+use Rattle.tc_hash.specs.Listed.{OfBlocks}
 use Rattle.tc_space.specs.Stores.{FullBy, Only}
 use Rattle.tc_space.specs.declared.space.Space.{Ghosts}
 use Rattle.hf_head.specs.declared.head.Head.{Head}
@@ -14,22 +18,21 @@ use Rattle.hf_block.specs.Pieces.{AreBlocks, Piece}
 use Rattle.hf_block.specs.Walks.{between}
 use Rattle.hf_layout.specs.Layout.{record_at, frees_of}
 use Rattle.hf_layout.proofs.Shares.{shared_as}
-use Rattle.hf_pack.specs.Moving.{Repacked}
 use Rattle.hf_pool.specs.declared.pool.Pool.{Pool}
 use Rattle.hf_pool.specs.Pools.{frees as frees_in}
-use Rattle.hf_tree.specs.Keys.{Key}
 use Rattle.hf_tree.specs.Links.{HasBlocks, links_of}
 use Rattle.hf_tree.specs.Rules.{Links}
 use Rattle.hf_tree.specs.Standing.{AllHang}
 use Rattle.tc_hash.specs.declared.hash.Hash.{Hash}
 use Rattle.tc_hash.specs.Holding.{Holds}
 use Rattle.tc_hash.specs.Keeping.{file_of, holds}
-use Rattle.tc_hash.specs.Packing.{fills_any, fills_packing}
+use Rattle.tc_hash.specs.Packing.{IsRepacked, fills_any, fills_packing}
 use Rattle.tc_hash.specs.Settling.{Settles, head_now}
+use Rattle.tc_hash.specs.Standing.{Stands}
 use Rattle.tc_hash.proofs.Kept.{links_head}
 
 abbrev Packing : Head → ℕ → List ℕ → List ℕ → Type 0
-Packing x end old new = (ps : List Piece) (places : Key → Option ℕ) → HasBlocks x x.size ps old → AllHang (links_of x ps old) (record_at x.first ps) x.buckets places → Repacked x end ps new
+Packing x end old new = (ps : List Piece) → HasBlocks x x.size ps old → IsRepacked x end ps old new
 
 pub packed_holds : (h now : Head) (p p' : Pool) (records : ℕ) (region : List ℕ) (m : Map) (old new : List ℕ) (end : ℕ) → now ≡ head_now h records p.size region → Packing now end old new → p'.size ≡ end → ((q : ℕ) → frees_in p' q ≡ None) → Holds h p.size (frees_in p) records m old → Holds h p'.size (frees_in p') records m new
 packed_holds h now p p' records region m old new end is packing sized nothing held =
@@ -39,7 +42,7 @@ packed_holds h now p p' records region m old new end is packing sized nothing he
     let repack : Packing x end old new = subst (λ (y : Head). Packing y end old new) is packing in
     let blocks : HasBlocks x x.size w.pieces old = record { on = w.is.laid.on; within = w.is.laid.within; filled = w.is.laid.filled; widths = w.is.widths } in
     let hang : AllHang (links_of x w.pieces old) (record_at x.first w.pieces) x.buckets w.places = subst (λ (l : Links). AllHang l (record_at h.first w.pieces) h.buckets w.places) (sym (same_links w.pieces old)) w.is.hang in
-    let r = repack w.pieces w.places blocks hang in
+    let r = repack w.pieces blocks w.places hang in
     record {
       has = record {
         pieces = r.pieces;
@@ -68,19 +71,17 @@ module _ {S : Type 0} (s : Ghosts S) where
   full_any v form.Large a b full = record { by = λ m w. inr (full.by m w) }
 
   -- what is held in memory was brought to the file
-  pub settled_same : (v v' : Hash S) (a b : S) → v'.file ≡ v.file → Settles s v v' a b → Writes s (Only (file_of v)) (In s file_of holds) same v v' a b
+  pub settled_same : (v v' : Hash S) (a b : S) → v'.body.file ≡ v.body.file → Settles s v v' a b → Writes s (Only (file_of v)) (In s file_of holds) same v v' a b
   settled_same v v' a b file done = record {
     sound = done.sound;
-    means = λ m w. (w.0, subst (λ (f : ℕ). holds v' (s.now b f) m) (sym file) (done.brought w.0 m w.1).holds);
+    means = λ m w. (w.0, subst (λ (f : ℕ). holds v' (s.now b f) m) (sym file) (done.held w.0 m w.1));
     others = done.others;
   }
 
-  -- nothing was written, and free blocks at the end may have been dropped
-  pub trimmed_refuses : (v v' : Hash S) (a b : S) → v'.file ≡ v.file → ((m : Map) (bytes : List ℕ) → holds v bytes m → holds v' bytes m) → (s.flag b ≡ false) ⊎ OnlyReads s a b → Refuses s (In s file_of holds) v v' a b
-  trimmed_refuses v v' a b file trimmed (inl spoiled) = inl spoiled
-  trimmed_refuses v v' a b file trimmed (inr r) = inr (record {
-    now = r.files;
-    touched = r.untouched;
-    sound = r.is_sound;
-    means = λ m w. (w.0, subst (λ (l : List ℕ). holds v' l m) (sym (ap (s.now b) file ∙ r.files w.0 v.file)) (trimmed m (s.now a v.file) w.1));
-  })
+  pub settled_stands : (v v' : Hash S) (a b : S) → v'.region ≡ v.region → Settles s v v' a b → (m : Map) → In s file_of holds v a m → Stands (s.now b (file_of v)) m v.region
+  settled_stands v v' a b region done m w = subst (λ (r : List ℕ). Stands (s.now b v.body.file) m r) region (record { kind = v'.body.head.kind; is = (done.brought w.0 m w.1).stands })
+
+  -- the blocks that were listed were packed
+  pub packs_blocks : (h : Head) (file : ℕ) (a b c : S) (blocks : List BlockAt) (end : ℕ) → OnlyReads s a b → OfBlocks s h file a (λ ps. AreListed h ps (s.now b file) blocks) → Packs s h file blocks b c end → OfBlocks s h file a (λ ps. IsRepacked h end ps (s.now a file) (s.now c file))
+  packs_blocks h file a b c blocks end r listed packs t ps has places hang =
+      packs t ps places (listed t ps has) (subst (λ (l : List ℕ). AllHang (links_of h ps l) (record_at h.first ps) h.buckets places) (sym (r.files t file)) hang)

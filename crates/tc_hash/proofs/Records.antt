@@ -1,11 +1,10 @@
 -- Calls on the records of a hash file that is held open, made of steps.
-use Rattle.std.proofs.Common.{◌≡◌, ◌∙◌, ◌⊎◌, inl, inr, ⊎_elim, ℕ, ◌+◌, ◌-◌, ◌≤◌, List, length, refl, sym, ap, subst, Option, Some, None, Bool, true, false, cond, is_some, Err}
-use Rattle.std.specs.Prelude.{IsErrOf, IsSome, option_map}
-use Rattle.std.specs.Cmp.Lexicographic.{nat_list_cmp_total}
-use Rattle.std.specs.FinMap.{get, insert, remove, len, len-insert, len-remove}
+use Rattle.std.proofs.Common.{◌≡◌, ◌∙◌, ◌⊎◌, inl, inr, ⊎_elim, ℕ, ◌^◌, ◌<◌, List, length, refl, sym, ap, subst, Option, Err, false}
+use Rattle.std.specs.Prelude.{IsErrOf}
+use Rattle.std.specs.FinMap.{get, len}
 use Rattle.tc_base.specs.Maps.{Map}
-use Rattle.tc_space.specs.Frames.{In, OnlyReads, Reads, Refuses, Writes, reads_writes, refuses_then}
-use Rattle.tc_space.specs.Stores.{IsReady, Only, ready_reads}
+use Rattle.tc_space.specs.Frames.{OnlyReads, reads_writes, refuses_then}
+use Rattle.tc_space.specs.Stores.{Only, ready_reads}
 use Rattle.tc_space.specs.Errors.{put_of}
 use Rattle.tc_space.specs.declared.errors.RecErr.{RecErr}
 use Rattle.tc_space.specs.declared.errors.RecErr.TheVariants as rec_err
@@ -13,124 +12,108 @@ use Rattle.tc_space.specs.declared.errors.PutErr.{PutErr}
 use Rattle.tc_space.specs.declared.errors.PutErr.TheVariants as put_err
 use Rattle.tc_space.specs.declared.space.Space.{Ghosts}
 use Rattle.hf_head.specs.declared.head.Head.{Head}
-use Rattle.hf_head.specs.Heads.{IsValid}
-use Rattle.hf_block.specs.Pieces.{Record}
-use Rattle.hf_layout.specs.Frees.{Frees}
-use Rattle.hf_chain.specs.declared.heads.RecHead.{RecHead}
-use Rattle.hf_chain.specs.Heads.{head_of, HasRecord, IsRecordAt}
-use Rattle.hf_pool.specs.declared.pool.Pool.{Pool}
 use Rattle.hf_pool.specs.Pools.{frees as frees_in}
-use Rattle.hf_tree.specs.declared.parent.Parent.{Parent}
-use Rattle.hf_tree.specs.declared.parent.Found.{Found}
-use Rattle.hf_tree.specs.declared.parent.Found.TheVariants.{Here, Gap}
-use Rattle.hf_tree.specs.Keys.{Key}
+use Rattle.hf_record.specs.declared.body.Body.{Body}
+use Rattle.hf_record.specs.Changing.{CanChange, StaysBody}
+use Rattle.hf_record.specs.Costs.{Spares}
+use Rattle.hf_record.specs.Holding.{Has, HasMap, IsSearched}
+use Rattle.hf_record.specs.Searching.{IsFound}
+use Rattle.hf_tree.specs.declared.parent.Found.TheVariants.{Here}
+use Rattle.hf_chain.specs.Heads.{IsHeadOf}
+use Rattle.hf_chain.specs.declared.finding.Place.{Place}
+use Rattle.hf_record.proofs.Valid.{is_valid}
+use Rattle.tc_hash.specs.declared.front.Front.{Front}
 use Rattle.tc_hash.specs.declared.hash.Hash.{Hash}
-use Rattle.tc_hash.specs.Allocating.{HoldsAt}
-use Rattle.tc_hash.specs.Asking.{value_most}
-use Rattle.tc_hash.specs.Changing.{MayChange}
-use Rattle.tc_hash.specs.Holding.{HasMap, Holds, IsReadable, IsSearched}
-use Rattle.tc_hash.specs.Keeping.{file_of, holds}
-use Rattle.tc_hash.specs.Moves.{IsBlockAt}
-use Rattle.tc_hash.proofs.Finding.{here_record, gap_none}
-use Rattle.tc_hash.proofs.Valid.{is_data, is_valid}
+use Rattle.tc_hash.specs.Fronts.{ShowsFrees, ShowsFront}
+use Rattle.tc_hash.specs.Holding.{Holds, HoldsFile}
+use Rattle.tc_hash.specs.Keeping.{CanCall, Looks, Means, Refused, Turns, holds}
+use Rattle.tc_hash.proofs.Fronted.{frees_shown, section_same, shows_same}
 
 -- ---- what is held
 
-pub readable : (h : Head) (end : ℕ) (frees : Frees) (records : ℕ) (m : Map) (bytes : List ℕ) → Holds h end frees records m bytes → IsReadable h bytes
-readable h end frees records m bytes w = record { end = end; frees = frees; contents = m; has = w.has }
-
-pub holds_fields : (h h' : Head) (p p' : Pool) (r r' : ℕ) (m : Map) (old new : List ℕ) → h' ≡ h → p' ≡ p → r' ≡ r → new ≡ old → Holds h p.size (frees_in p) r m old → Holds h' p'.size (frees_in p') r' m new
-holds_fields h h' p p' r r' m old new eh ep er el b =
-    subst (λ (x : Head). Holds x p'.size (frees_in p') r' m new) (sym eh)
-    (subst (λ (x : Pool). Holds h x.size (frees_in x) r' m new) (sym ep)
-    (subst (λ (x : ℕ). Holds h p.size (frees_in p) x m new) (sym er)
-    (subst (λ (x : List ℕ). Holds h p.size (frees_in p) r m x) (sym el) b)))
+-- by its parts
+abbrev Parts : Body → ℕ → Option Front → List ℕ → Map → Type 0
+Parts b r f bytes m = Holds b.head b.pool.size (frees_in b.pool) r m bytes × ShowsFront b.head f bytes × ShowsFrees b.head b.pool bytes
 
 module _ {S : Type 0} (s : Ghosts S) where
+  pub same_holds : (v v' : Hash S) (x y : List ℕ) (m : Map) → v'.body ≡ v.body → v'.records ≡ v.records → v'.front ≡ v.front → y ≡ x → holds v x m → holds v' y m
+  same_holds v v' x y m eb er ef e h =
+      let p : Parts v.body v.records v.front x m = (h.map, h.front, h.listed) in
+      let q = subst (λ (z : Body). Parts z v'.records v'.front y m) (sym eb) (subst (λ (z : ℕ). Parts v.body z v'.front y m) (sym er) (subst (λ (z : Option Front). Parts v.body v.records z y m) (sym ef) (subst (λ (z : List ℕ). Parts v.body v.records v.front z m) (sym e) p))) in
+      record { map = q.0; front = q.1; listed = q.2 }
+
   -- nothing is written, and what is held in memory stays
-  pub reads_only : (v v' : Hash S) (a b : S) → v'.file ≡ v.file → v'.head ≡ v.head → v'.pool ≡ v.pool → v'.records ≡ v.records → OnlyReads s a b → Reads s (In s file_of holds) v v' a b
-  reads_only v v' a b ef eh ep er r = record {
+  pub looks_only : (v v' : Hash S) (a b : S) → v'.body ≡ v.body → v'.records ≡ v.records → v'.front ≡ v.front → OnlyReads s a b → Looks s v v' a b
+  looks_only v v' a b eb er ef r = record {
     now = r.files;
     touched = r.untouched;
     sound = r.is_sound;
-    means = λ m w. (w.0, holds_fields v.head v'.head v.pool v'.pool v.records v'.records m (s.now a v.file) (s.now b v'.file) eh ep er (ap (s.now b) ef ∙ r.files w.0 v.file) w.1);
+    means = λ m w. (w.0, same_holds v v' (s.now a v.body.file) (s.now b v'.body.file) m eb er ef (ap (λ (z : Body). s.now b z.file) eb ∙ r.files w.0 v.body.file) w.1);
   }
 
-  pub refuses_only : (v v' : Hash S) (a b : S) → v'.file ≡ v.file → v'.head ≡ v.head → v'.records ≡ v.records → (s.flag b ≡ false) ⊎ (OnlyReads s a b × (v'.pool ≡ v.pool)) → Refuses s (In s file_of holds) v v' a b
-  refuses_only v v' a b ef eh er r = ⊎_elim (λ f. inl f) (λ o. inr (reads_only v v' a b ef eh o.1 er o.0)) r
+  pub looks_again : (v : Hash S) (a b : S) → OnlyReads s a b → Looks s v v a b
+  looks_again v a b r = looks_only v v a b refl refl refl r
+
+  pub from_looks : (v : Hash S) (a b : S) → (s.flag b ≡ false) ⊎ OnlyReads s a b → Refused s v v a b
+  from_looks v a b r = ⊎_elim (λ f. inl f) (λ o. inr (looks_again v a b o)) r
+
+  pub refuses_only : (v v' : Hash S) (a b : S) → v'.records ≡ v.records → v'.front ≡ v.front → (s.flag b ≡ false) ⊎ (OnlyReads s a b × (v'.body ≡ v.body)) → Refused s v v' a b
+  refuses_only v v' a b er ef r = ⊎_elim (λ f. inl f) (λ o. inr (looks_only v v' a b o.1 er ef o.0)) r
+
+  -- what is answered of the map of the records is so of the map that is held
+  pub asked : (v : Hash S) (a : S) (key : List ℕ) (found : Option (List ℕ)) → (s.tells → (m : Map) → Has v.body (s.now a v.body.file) m → found ≡ get m key) → (m : Map) → Means s v a m → found ≡ get m key
+  asked v a key found is m w = is w.0 m w.1.map.has
 
   -- its records may be changed
-  pub may_change : (v : Hash S) (a : S) → IsReady s (In s file_of holds) v a → MayChange s a v.file v.head v.pool
-  may_change v a ready = record {
-    sound = ready.sound;
-    data_file = is_data v.file v.data;
-    valid = is_valid v.head v.valid;
-    unit_is = v.unit_is;
-    held = λ t. let w = ready.held t in (w.0, w.1.1.has);
-  }
+  pub can_change : (v : Hash S) (a : S) → CanCall s v a → CanChange s v.body a
+  can_change v a ready = record { sound = ready.sound; held = λ t. let w = ready.held t in (w.0, w.1.1.map.has) }
 
   -- it may be called again
-  pub still_ready : (v : Hash S) (a b : S) → OnlyReads s a b → IsReady s (In s file_of holds) v a → IsReady s (In s file_of holds) v b
-  still_ready v a b r ready = ready_reads s (In s file_of holds) v v a b (reads_only v v a b refl refl refl refl r) ready
+  pub still_ready : (v : Hash S) (a b : S) → OnlyReads s a b → CanCall s v a → CanCall s v b
+  still_ready v a b r ready = ready_reads s (Means s) v v a b (looks_again v a b r) ready
 
-  pub writes_after : (f : Map → Map) (v v' : Hash S) (a b c : S) → OnlyReads s a b → Writes s (Only (file_of v)) (In s file_of holds) f v v' b c → Writes s (Only (file_of v)) (In s file_of holds) f v v' a c
-  writes_after f v v' a b c r w = reads_writes s (In s file_of holds) (Only (file_of v)) f v v v' a b c (reads_only v v a b refl refl refl refl r) w
+  -- a record that was found stands there behind what only reads
+  pub found_after : (b : Body) (key : List ℕ) (x y : S) (p : Place) → OnlyReads s x y → IsFound s b key x p → IsFound s b key y p
+  found_after b key x y p r f = record {
+    known = record {
+      fits = f.known.fits;
+      is = λ t. subst (λ (l : List ℕ). IsHeadOf b.head p.at l p.rec) (sym (r.files t b.file)) (f.known.is t);
+      long = λ t. subst (λ (l : List ℕ). length l < 2 ^ 64) (sym (r.files t b.file)) (f.known.long t);
+    };
+    here = λ t. subst (λ (l : List ℕ). IsSearched b.head key (Here p.at p.from) l) (sym (r.files t b.file)) (f.here t);
+  }
 
-  pub refuses_after : (v v' : Hash S) (a b c : S) → OnlyReads s a b → Refuses s (In s file_of holds) v v' b c → Refuses s (In s file_of holds) v v' a c
-  refuses_after v v' a b c r x = refuses_then s (In s file_of holds) v v v' a b c (reads_only v v a b refl refl refl refl r) x
+  pub turns_after : (f : Map → Map) (v v' : Hash S) (a b c : S) → OnlyReads s a b → Turns s f v v' b c → Turns s f v v' a c
+  turns_after f v v' a b c r w = reads_writes s (Means s) (Only v.body.file) f v v v' a b c (looks_again v a b r) w
 
--- ---- how many keys are held
+  pub refuses_after : (v v' : Hash S) (a b c : S) → OnlyReads s a b → Refused s v v' b c → Refused s v v' a c
+  refuses_after v v' a b c r x = refuses_then s (Means s) v v v' a b c (looks_again v a b r) x
 
-module _ (h : Head) (end : ℕ) (free : Frees) (m : Map) (bytes : List ℕ) (key : Key) (v : IsValid h) (g : HasMap h end free m bytes) where
-  pub held_value : (at : ℕ) (from : Parent) → IsSearched h key (Here at from) bytes → is_some (get m key) ≡ true
-  held_value at from s = ap (λ (o : Option (List ℕ)). is_some o) (here_record h end g.pieces free g.places m bytes key v g.is at from s).value_is
+  -- what is held before what only reads
+  pub means_after : (v : Hash S) (a b : S) (m : Map) → OnlyReads s a b → Means s v a m → Means s v b m
+  means_after v a b m r w = (looks_again v a b r).means m w
 
-  pub no_value : (to : Parent) → IsSearched h key (Gap to) bytes → get m key ≡ None
-  no_value to s = gap_none h end g.pieces free g.places m bytes key v g.is to s
-
-  pub count_out : (at : ℕ) (from : Parent) (records : ℕ) → IsSearched h key (Here at from) bytes → records ≡ len m → records - 1 ≡ len (remove m key)
-  count_out at from records s same = ap (λ (n : ℕ). n - 1) same ∙ sym (len-remove nat_list_cmp_total m key ∙ ap (λ (b : Bool). cond b (len m - 1) (len m)) (held_value at from s))
-
-  pub count_in : (to : Parent) (value : List ℕ) (records : ℕ) → IsSearched h key (Gap to) bytes → records ≡ len m → records + 1 ≡ len (insert m key value)
-  count_in to value records s same = ap (λ (n : ℕ). n + 1) same ∙ sym (len-insert nat_list_cmp_total m key value ∙ ap (λ (o : Option (List ℕ)). cond (is_some o) (len m) (len m + 1)) (no_value to s))
-
-  pub count_same : (at : ℕ) (from : Parent) (value : List ℕ) (records : ℕ) → IsSearched h key (Here at from) bytes → records ≡ len m → records ≡ len (insert m key value)
-  count_same at from value records s same = same ∙ sym (len-insert nat_list_cmp_total m key value ∙ ap (λ (b : Bool). cond b (len m) (len m + 1)) (held_value at from s))
-
-pub searched_as : (h : Head) (key : Key) (bytes : List ℕ) (f to : Found) → f ≡ to → IsSearched h key f bytes → IsSearched h key to bytes
-searched_as h key bytes f to e s = subst (λ (x : Found). IsSearched h key x bytes) e s
-
--- ---- the record there
-
-module _ (h : Head) (end : ℕ) (free : Frees) (m : Map) (bytes : List ℕ) (key : Key) (v : IsValid h) (g : HasMap h end free m bytes) (at : ℕ) (from : Parent) (s : IsSearched h key (Here at from) bytes) where
-  pub record_there : IsRecordAt h at bytes
-  record_there = let it = here_record h end g.pieces free g.places m bytes key v g.is at from s in record { r = it.r; has = it.has }
-
-  pub stood : (size : ℕ) → IsBlockAt h at size bytes → HoldsAt h end free m key at size bytes
-  stood size block =
-      let it = here_record h end g.pieces free g.places m bytes key v g.is at from s in
-      record { has = g; r = it.r; there = it.is; key_is = it.key_is; size_is = sym (block.is it.r it.has) }
-
-  pub is_there : IsSome (get m key)
-  is_there = subst IsSome (sym (here_record h end g.pieces free g.places m bytes key v g.is at from s).value_is) refl
-
-  -- its value is the key's
-  pub value_there : (now x : List ℕ) → now ≡ bytes → ((r : Record) → HasRecord h r at now → x ≡ r.value) → get m key ≡ Some x
-  value_there now x e same =
-      let it = here_record h end g.pieces free g.places m bytes key v g.is at from s in
-      it.value_is ∙ ap (λ (z : List ℕ). Some z) (sym (same it.r (subst (λ (l : List ℕ). HasRecord h it.r at l) (sym e) it.has)))
-
-  -- so many bytes were read for it
-  pub value_counted : (now : List ℕ) (before after : ℕ) → now ≡ bytes → ((r : Record) → HasRecord h r at now → after ≤ before + value_most (Some r.value)) → after ≤ before + value_most (get m key)
-  value_counted now before after e counted =
-      let it = here_record h end g.pieces free g.places m bytes key v g.is at from s in
-      subst (λ (o : Option (List ℕ)). after ≤ before + value_most o) (sym it.value_is) (counted it.r (subst (λ (l : List ℕ). HasRecord h it.r at l) (sym e) it.has))
-
-  pub len_there : (now : List ℕ) (rec : RecHead) → now ≡ bytes → ((r : Record) → HasRecord h r at now → rec ≡ head_of r) → Some rec.value ≡ option_map length (get m key)
-  len_there now rec e same =
-      let it = here_record h end g.pieces free g.places m bytes key v g.is at from s in
-      let head = same it.r (subst (λ (l : List ℕ). HasRecord h it.r at l) (sym e) it.has) in
-      ap (λ (x : RecHead). Some x.value) head ∙ sym (ap (λ (o : Option (List ℕ)). option_map length o) it.value_is)
+  -- records were changed in the file, and the map by it
+  pub turned : (f : Map → Map) (most : ℕ) (v v' : Hash S) (a b : S) → StaysBody v.body v'.body → v'.front ≡ v.front → s.sound b → Spares s most v.body v'.body a b
+      → (s.tells → (m : Map) → Has v.body (s.now a v.body.file) m → HasMap v.body.head v'.body.pool.size (frees_in v'.body.pool) (f m) (s.now b v.body.file))
+      → ((m : Map) → Means s v a m → v'.records ≡ len (f m)) → Turns s f v v' a b
+  turned f most v v' a b stays ef sound spares map count = record {
+    sound = sound;
+    others = spares.edits.others;
+    means = λ m w.
+        let h : Head = v.body.head in
+        let old : List ℕ = s.now a v.body.file in
+        let new : List ℕ = s.now b v.body.file in
+        let valid = is_valid h v.body.valid in
+        let left = spares.front w.0 in
+        let all : Holds h v'.body.pool.size (frees_in v'.body.pool) v'.records (f m) new = record { has = map w.0 m w.1.map.has; count = count m w } in
+        let front : ShowsFront h v'.front new = subst (λ (o : Option Front). ShowsFront h o new) (sym ef) (shows_same h v.front old new valid left w.1.front) in
+        let listed : ShowsFrees h v'.body.pool new = frees_shown h v.body.pool v'.body.pool old new spares.notes (section_same h old new valid left) w.1.listed in
+        let P : Head → Type 0 = λ x. Holds x v'.body.pool.size (frees_in v'.body.pool) v'.records (f m) new × ShowsFront x v'.front new × ShowsFrees x v'.body.pool new in
+        let p : P v'.body.head = subst P (sym stays.head) (all, front, listed) in
+        let here : HoldsFile v' new (f m) = record { map = p.0; front = p.1; listed = p.2 } in
+        (w.0, subst (λ (n : ℕ). HoldsFile v' (s.now b n) (f m)) (sym stays.file) here);
+  }
 
 -- ---- refusals of puts
 

@@ -1,35 +1,37 @@
 -- Values given to keys, made of steps.
-use Rattle.std.proofs.Common.{◌≡◌, ◌∙◌, inl, inr, ℕ, ◌+◌, ◌<◌, ◌≤◌, List, [], ◌++◌, length, refl, sym, ap, subst, arith, Option, None, Some}
+use Rattle.std.proofs.Common.{◌≡◌, ◌∙◌, inl, inr, ℕ, ◌+◌, ◌-◌, ◌<◌, ◌≤◌, List, [], ◌++◌, length, max, refl, sym, ap, subst, arith, Option, None, Some}
+use Rattle.std.specs.Prelude.{unwrap_or, Result, Ok, Err, IfOk, OnErr, OnOk}
+use Rattle.std.specs.Result.{IsErrAnd}
+use Rattle.std.proofs.lemmas.Result.{err_from_is_err_and}
 use Rattle.std.specs.FinMap.{get, insert, remove}
 use Rattle.tc_base.specs.Maps.{Map}
 use Rattle.tc_base.specs.declared.kind.Mode.{Mode}
 use Rattle.tc_base.specs.declared.kind.Mode.TheVariants.{Over, Keep, Cat}
-use Rattle.tc_space.specs.Changes.{put_in, put_value, value_in}
-use Rattle.tc_space.specs.Frames.{In, OnlyReads, Keeps, reads_then, reads_writes, Others, others_then}
-use Rattle.tc_space.specs.Stores.{Exists, FullBy, Only, Puts}
+use Rattle.tc_space.specs.Changes.{out_of, put_in, put_value}
+use Rattle.tc_space.specs.Frames.{OnlyReads, Others, others_then}
+use Rattle.tc_space.specs.Stores.{FullBy, Only}
 use Rattle.tc_space.specs.declared.space.Space.{Ghosts}
 use Rattle.hf_head.specs.declared.head.Head.{Head}
 use Rattle.hf_head.specs.Heads.{IsValid, unit}
-use Rattle.hf_block.specs.Pieces.{Record}
 use Rattle.hf_block.specs.Written.{block_len}
-use Rattle.hf_tree.specs.Links.{width}
-use Rattle.hf_layout.specs.Frees.{Frees}
-use Rattle.hf_pool.specs.Pools.{frees}
+use Rattle.hf_chain.specs.declared.finding.Place.{Place}
+use Rattle.hf_pool.specs.Pools.{frees, Takes}
 use Rattle.hf_tree.specs.declared.parent.Parent.{Parent}
-use Rattle.hf_tree.specs.declared.parent.Found.TheVariants.{Here}
-use Rattle.hf_chain.specs.Heads.{HasRecord}
-use Rattle.tc_hash.specs.Holding.{HasMap, IsSearched}
-use Rattle.tc_hash.proofs.Finding.{here_record}
-use Rattle.std.specs.Prelude.{unwrap_or}
+use Rattle.hf_tree.specs.Links.{width}
+use Rattle.hf_record.specs.Allocating.{Allocates, HoldsAt, Shortens, Stands}
+use Rattle.hf_record.specs.Changing.{MapsBy, PutsAt, PutsNew, StaysBody}
+use Rattle.hf_record.specs.Costs.{Edits}
+use Rattle.hf_record.specs.Holding.{Has}
+use Rattle.hf_record.specs.Moves.{Gives, HasRoom, IsRefusedFor, LacksRoom}
+use Rattle.hf_record.specs.Searching.{IsFound, IsGap}
+use Rattle.hf_record.proofs.Differ.{edits_after, edits_more, edits_then}
+use Rattle.hf_record.proofs.Maps.{insert_again, insert_here, remove_here}
+use Rattle.hf_record.proofs.Records.{count_in, count_out, count_same, no_value, stood}
+use Rattle.hf_record.proofs.Valid.{is_valid}
 use Rattle.tc_hash.specs.declared.hash.Hash.{Hash}
-use Rattle.tc_hash.specs.Allocating.{Allocates, HoldsAt, Stands, Takes}
-use Rattle.tc_hash.specs.Costs.{Edits}
-use Rattle.tc_hash.specs.Keeping.{file_of, holds, size_in, GivesValue, IsPlaced, LacksBlock, LacksRoom, StaysOpen, TakesRecord, WantsBlock}
-use Rattle.tc_hash.specs.Moves.{IsRefusedFor}
+use Rattle.tc_hash.specs.Keeping.{GivesValue, IsPlaced, LacksBlock, Means, StaysOpen, TakesRecord, WantsBlock, size_for}
 use Rattle.tc_hash.specs.Packing.{fills_any}
-use Rattle.tc_hash.proofs.Differ.{edits_after, edits_more, edits_then}
-use Rattle.tc_hash.proofs.Maps.{insert_again, insert_here, remove_here}
-use Rattle.tc_hash.proofs.Records.{reads_only, writes_after}
+use Rattle.tc_hash.proofs.Records.{looks_again, turned, turns_after}
 
 -- a key that isn't held is given the same value in each mode
 pub put_fresh : (mode : Mode) (o : Option (List ℕ)) (value : List ℕ) → o ≡ None → value ≡ put_value mode o value
@@ -37,121 +39,181 @@ put_fresh Over o value e = refl
 put_fresh Keep o value e = refl
 put_fresh Cat o value e = ap (λ (x : Option (List ℕ)). unwrap_or x [] ++ value) (sym e)
 
+-- what a fact of a call makes, where its result is handed on
+pub from_ok : {A E : Type 0} {P Q : A → Type 0} (r : Result A E) → IfOk r P → ((x : A) → P x → Q x) → IfOk r Q
+from_ok (Ok x) p f = f x p
+from_ok (Err e) p f = tt
+
+pub from_done : {A E P Q : Type 0} (r : Result A E) → OnOk r P → (P → Q) → OnOk r Q
+from_done (Ok x) p f = f p
+from_done (Err e) p f = tt
+
+pub from_refused : {A E P Q : Type 0} (r : Result A E) → OnErr r P → (P → Q) → OnErr r Q
+from_refused (Ok x) p f = tt
+from_refused (Err e) p f = f p
+
+-- nothing is done where an error came
+pub not_done : {A E : Type 0} (Q : Type 0) (P : E → Type 0) (r : Result A E) → IsErrAnd r P → OnOk r Q
+not_done {A} {E} Q P r is = let p = err_from_is_err_and r is in subst (λ (x : Result A E). OnOk x Q) (sym p.1) tt
+
+-- what two facts of a call that was done make
+pub both_ok : {A E P Q R : Type 0} (r : Result A E) → (P → Q → R) → OnOk r P → OnOk r Q → OnOk r R
+both_ok (Ok x) f p q = f p q
+both_ok (Err e) f p q = tt
+
+pub both_if_ok : {A E : Type 0} {P Q R : A → Type 0} (r : Result A E) → ((x : A) → P x → Q x → R x) → IfOk r P → IfOk r Q → IfOk r R
+both_if_ok (Ok x) f p q = f x p q
+both_if_ok (Err e) f p q = tt
+
 module _ {S : Type 0} (s : Ghosts S) where
+  -- bytes behind the value that was read are what Cat makes of it
+  pub joined_as : (key more x y old : List ℕ) (v : Hash S) (a b : S) → OnlyReads s a b → (s.tells → (m : Map) → Has v.body (s.now a v.body.file) m → get m key ≡ Some old) → y ≡ x → x ≡ old ++ more → (m : Map) → Means s v b m → y ≡ put_value Cat (get m key) more
+  joined_as key more x y old v a b r read same is m w =
+      let has = subst (λ (l : List ℕ). Has v.body l m) (r.files w.0 v.body.file) w.1.map.has in
+      same ∙ is ∙ ap (λ (o : Option (List ℕ)). unwrap_or o [] ++ more) (sym (read w.0 m has))
+
   pub gives_more : (mode : Mode) (key value : List ℕ) (most more : ℕ) (v v' : Hash S) (a b : S) → most ≤ more → GivesValue s mode key value most v v' a b → GivesValue s mode key value more v v' a b
   gives_more mode key value most more v v' a b le g = record {
     writes = g.writes;
-    edits = λ m w. (let n : ℕ = size_in v key (put_value mode (get m key) value) in edits_more s v.file (n + most) (n + more) a b (omega (arith, le)) (g.edits m w));
+    edits = λ m w. (let n : ℕ = size_for v key (put_value mode (get m key) value) in edits_more s v.body.file (n + most) (n + more) a b (omega (arith, le)) (g.edits m w));
     placed = g.placed;
   }
 
   -- what was read before
   pub gives_after : (mode : Mode) (key value : List ℕ) (most : ℕ) (v v' : Hash S) (a b c : S) → OnlyReads s a b → GivesValue s mode key value most v v' b c → GivesValue s mode key value most v v' a c
   gives_after mode key value most v v' a b c r g =
-      let reads = reads_only s v v a b refl refl refl refl r in
+      let reads = looks_again s v a b r in
       record {
-        writes = reads_writes s (In s file_of holds) (Only (file_of v)) (put_in mode key value) v v v' a b c reads g.writes;
-        edits = λ m w. edits_after s v.file (size_in v key (put_value mode (get m key) value) + most) a b c r (g.edits m (reads.means m w));
+        writes = turns_after s (put_in mode key value) v v' a b c r g.writes;
+        edits = λ m w. edits_after s v.body.file (size_for v key (put_value mode (get m key) value) + most) a b c r (g.edits m (reads.means m w));
         placed = λ m w.
             let p = g.placed m (reads.means m w) in
             record {
               was = p.was;
-              stood = subst (λ (l : List ℕ). Stands v.head v.pool.size (frees v.pool) m key l p.was) (r.files w.0 v.file) p.stood;
+              stood = subst (λ (l : List ℕ). Stands v.body.head v.body.pool.size (frees v.body.pool) m key l p.was) (r.files w.0 v.body.file) p.stood;
               place = p.place;
               allocates = p.allocates;
               stands = p.stands;
+              long = p.long ∙ ap (λ (l : List ℕ). max (length l) (p.place + size_for v key (put_value mode (get m key) value))) (r.files w.0 v.body.file);
             };
       }
 
   pub lacks_after : (mode : Mode) (key value : List ℕ) (v : Hash S) (a b c : S) → OnlyReads s a b → LacksBlock s mode key value v b c → LacksBlock s mode key value v a c
-  lacks_after mode key value v a b c r l = record { wants = λ m w. l.wants m ((reads_only s v v a b refl refl refl refl r).means m w) }
+  lacks_after mode key value v a b c r l = record { wants = λ m w. l.wants m ((looks_again s v a b r).means m w) }
 
   -- the value that was given is the one that the mode makes
-  pub gives_as : (mode : Mode) (key value x : List ℕ) (most : ℕ) (v v' : Hash S) (a b : S) → ((m : Map) → In s file_of holds v a m → x ≡ put_value mode (get m key) value) → GivesValue s Over key x most v v' a b → GivesValue s mode key value most v v' a b
+  pub gives_as : (mode : Mode) (key value x : List ℕ) (most : ℕ) (v v' : Hash S) (a b : S) → ((m : Map) → Means s v a m → x ≡ put_value mode (get m key) value) → GivesValue s Over key x most v v' a b → GivesValue s mode key value most v v' a b
   gives_as mode key value x most v v' a b each g = record {
     writes = record {
       sound = g.writes.sound;
-      means = λ m w. subst (λ (y : List ℕ). In s file_of holds v' b (insert m key y)) (each m w) (g.writes.means m w);
+      means = λ m w. subst (λ (y : List ℕ). Means s v' b (insert m key y)) (each m w) (g.writes.means m w);
       others = g.writes.others;
     };
-    edits = λ m w. subst (λ (y : List ℕ). Edits s v.file (size_in v key y + most) a b) (each m w) (g.edits m w);
-    placed = λ m w. subst (λ (y : List ℕ). IsPlaced s key (size_in v key y) m (insert m key y) v v' a b) (each m w) (g.placed m w);
+    edits = λ m w. subst (λ (y : List ℕ). Edits s v.body.file (size_for v key y + most) a b) (each m w) (g.edits m w);
+    placed = λ m w. subst (λ (y : List ℕ). IsPlaced s key (size_for v key y) m (insert m key y) v v' a b) (each m w) (g.placed m w);
   }
 
-  pub lacks_as : (mode : Mode) (key value x : List ℕ) (v : Hash S) (a b : S) → ((m : Map) → In s file_of holds v a m → x ≡ put_value mode (get m key) value) → LacksBlock s Over key x v a b → LacksBlock s mode key value v a b
-  lacks_as mode key value x v a b each l = record { wants = λ m w. subst (λ (y : List ℕ). WantsBlock s v b (size_in v key y)) (each m w) (l.wants m w) }
+  pub lacks_as : (mode : Mode) (key value x : List ℕ) (v : Hash S) (a b : S) → ((m : Map) → Means s v a m → x ≡ put_value mode (get m key) value) → LacksBlock s Over key x v a b → LacksBlock s mode key value v a b
+  lacks_as mode key value x v a b each l = record { wants = λ m w. subst (λ (y : List ℕ). WantsBlock s v b (size_for v key y)) (each m w) (l.wants m w) }
 
   -- no block, from the free blocks that there were
-  pub lacks_room : (key value : List ℕ) (v : Hash S) (a b : S) → (s.tells → LacksRoom s v b (size_in v key value)) → LacksBlock s Over key value v a b
-  lacks_room key value v a b l = record { wants = λ m w. record { pool = v.pool; since = inl refl; refused = l w.0 } }
-
-  pub room_at : (v : Hash S) (a b : S) (size : ℕ) → Keeps s a b → IsRefusedFor v.head v.pool.size (frees v.pool) (s.limit a v.file) (length (s.now b v.file)) (s.log_full b) size → LacksRoom s v b size
-  room_at v a b size k r = subst (λ (limit : ℕ → ℕ). IsRefusedFor v.head v.pool.size (frees v.pool) (limit v.file) (length (s.now b v.file)) (s.log_full b) size) (sym k.same_limit) r
+  pub lacks_room : (key value : List ℕ) (v : Hash S) (a b : S) → (s.tells → LacksRoom s v.body b (size_for v key value)) → LacksBlock s Over key value v a b
+  lacks_room key value v a b l = record { wants = λ m w. record { pool = v.body.pool; since = inl refl; refused = l w.0 } }
 
   -- the log is full
   pub lacks_log : (mode : Mode) (key value : List ℕ) (v : Hash S) (a b : S) → (s.tells → s.log_full b) → LacksBlock s mode key value v a b
-  lacks_log mode key value v a b full = record { wants = λ m w. record { pool = v.pool; since = inl refl; refused = inr (inr (full w.0)) } }
+  lacks_log mode key value v a b full = record { wants = λ m w. record { pool = v.body.pool; since = inl refl; refused = inr (inr (full w.0)) } }
 
   -- as the trait has it
-  pub full_by : (mode : Mode) (key value : List ℕ) (v : Hash S) (a b : S) → LacksBlock s mode key value v a b → FullBy (In s file_of holds) (fills_any s) (put_in mode key value) v a b
+  pub full_by : (mode : Mode) (key value : List ℕ) (v : Hash S) (a b : S) → LacksBlock s mode key value v a b → FullBy (Means s) (fills_any s) (put_in mode key value) v a b
   full_by mode key value v a b l = record {
     by = λ m w. inl (inr (record { key = key; value = put_value mode (get m key) value; there = insert_here m key (put_value mode (get m key) value); wants = l.wants m w }));
   }
 
-  pub log_by : (f : Map → Map) (v : Hash S) (a b : S) → (s.tells → s.log_full b) → FullBy (In s file_of holds) (fills_any s) f v a b
+  pub log_by : (f : Map → Map) (v : Hash S) (a b : S) → (s.tells → s.log_full b) → FullBy (Means s) (fills_any s) f v a b
   log_by f v a b full = record { by = λ m w. inl (inl (full w.0)) }
 
-  -- the same of calls behind what only reads
-  pub puts_after : (mode : Mode) (key value : List ℕ) (v v' : Hash S) (a b c : S) → OnlyReads s a b → Puts s (Only (file_of v)) (In s file_of holds) mode (value_in key) (put_in mode key value) v v' b c → Puts s (Only (file_of v)) (In s file_of holds) mode (value_in key) (put_in mode key value) v v' a c
-  puts_after mode key value v v' a b c r p = record { writes = writes_after s (put_in mode key value) v v' a b c r p.writes; absent = λ keep m w. p.absent keep m ((reads_only s v v a b refl refl refl refl r).means m w) }
-
-  pub exists_after : (mode : Mode) (key : List ℕ) (v v' : Hash S) (a b c : S) → OnlyReads s a b → Exists s (In s file_of holds) mode (value_in key) v v' b c → Exists s (In s file_of holds) mode (value_in key) v v' a c
-  exists_after mode key v v' a b c r x =
-      let first = reads_only s v v a b refl refl refl refl r in
-      record { keep = x.keep; there = λ m w. x.there m (first.means m w); reads = reads_then s (In s file_of holds) v v v' a b c first x.reads }
-
-  -- a key that wasn't held was given a value, in whatever mode
-  pub puts_fresh : (mode : Mode) (key value : List ℕ) (v v' : Hash S) (a b c : S) → ((m : Map) → In s file_of holds v a m → get m key ≡ None) → OnlyReads s a b → GivesValue s Over key value 13 v v' b c
-      → Puts s (Only (file_of v)) (In s file_of holds) mode (value_in key) (put_in mode key value) v v' a c × GivesValue s mode key value 512 v v' a c
-  puts_fresh mode key value v v' a b c none r g =
-      let all = gives_as mode key value value 512 v v' a c (λ m w. put_fresh mode (get m key) value (none m w)) (gives_more Over key value 13 512 v v' a c (omega arith) (gives_after Over key value 13 v v' a b c r g)) in
-      (record { writes = all.writes; absent = λ keep m w. none m w }, all)
-
-  -- a key that was held was given a value, over the one that it had or behind it
-  pub puts_held : (mode done : Mode) (key value : List ℕ) (v v' : Hash S) (a b : S) → mode ≡ done → (done ≡ Keep → ⊥) → GivesValue s done key value 34 v v' a b
-      → Puts s (Only (file_of v)) (In s file_of holds) mode (value_in key) (put_in mode key value) v v' a b × GivesValue s mode key value 512 v v' a b
-  puts_held mode done key value v v' a b e over g =
-      let all = subst (λ (x : Mode). GivesValue s x key value 512 v v' a b) (sym e) (gives_more done key value 34 512 v v' a b (omega arith) g) in
-      (record { writes = all.writes; absent = λ keep. absurd (over (sym e ∙ keep)) }, all)
-
-  pub lacks_fresh : (mode : Mode) (key value : List ℕ) (v : Hash S) (a c : S) → ((m : Map) → In s file_of holds v a m → get m key ≡ None) → (s.tells → LacksRoom s v c (size_in v key value)) → LacksBlock s mode key value v a c
+  pub lacks_fresh : (mode : Mode) (key value : List ℕ) (v : Hash S) (a c : S) → ((m : Map) → Means s v a m → get m key ≡ None) → (s.tells → LacksRoom s v.body c (size_for v key value)) → LacksBlock s mode key value v a c
   lacks_fresh mode key value v a c none l = lacks_as mode key value value v a c (λ m w. put_fresh mode (get m key) value (none m w)) (lacks_room key value v a c l)
+
+  -- ---- of the steps on a record
+
+  -- a record was hung
+  pub gives_new : (key value : List ℕ) (to : Parent) (v v' : Hash S) (a b : S) → StaysBody v.body v'.body → v'.front ≡ v.front → v'.records ≡ v.records + 1 → IsGap s v.body key a to → PutsNew s key value v.body v'.body a b → GivesValue s Over key value 13 v v' a b
+  gives_new key value to v v' a b stays ef counted gap p = record {
+    writes = turned s (put_in Over key value) (size_for v key value + 13) v v' a b stays ef p.puts.sound p.puts.spares (λ t m has. (p.puts.map t m has).has)
+        (λ m w. counted ∙ count_in v.body.head v.body.pool.size (frees v.body.pool) m (s.now a v.body.file) key valid w.1.map.has to value v.records (gap w.0) w.1.map.count);
+    edits = λ m w. p.puts.spares.edits;
+    placed = λ m w. record {
+      was = None;
+      stood = no_value v.body.head v.body.pool.size (frees v.body.pool) m (s.now a v.body.file) key valid w.1.map.has to (gap w.0);
+      place = p.place;
+      allocates = p.takes;
+      stands = p.puts.map w.0 m w.1.map.has;
+      long = p.puts.long w.0;
+    };
+  }
+    where
+      valid : IsValid v.body.head
+      valid = is_valid v.body.head v.body.valid
+
+  -- a record was written over in its block
+  pub gives_over : (key value : List ℕ) (place : Place) (room : ℕ) (v v' : Hash S) (a b : S) → StaysBody v.body v'.body → v'.front ≡ v.front → v'.records ≡ v.records → IsFound s v.body key a place → HasRoom s v.body place.at room a → size_for v key value ≤ room
+      → PutsAt s key value place.at 5 v.body v'.body a b → Shortens (size_for v key value) place.at room v.body.pool v'.body.pool → GivesValue s Over key value 5 v v' a b
+  gives_over key value place room v v' a b stays ef counted found block enough p shortens = record {
+    writes = turned s (put_in Over key value) (size_for v key value + 5) v v' a b stays ef p.sound p.spares (λ t m has. (p.map t m has).has)
+        (λ m w. counted ∙ count_same v.body.head v.body.pool.size (frees v.body.pool) m (s.now a v.body.file) key valid w.1.map.has place.at place.from value v.records (found.here w.0) w.1.map.count);
+    edits = λ m w. p.spares.edits;
+    placed = λ m w. record {
+      was = Some (place.at, room);
+      stood = stood v.body.head v.body.pool.size (frees v.body.pool) m (s.now a v.body.file) key valid w.1.map.has place.at place.from (found.here w.0) room (block w.0);
+      place = place.at;
+      allocates = inl (record { enough = enough; same = refl; shortens = shortens });
+      stands = p.map w.0 m w.1.map.has;
+      long = p.long w.0;
+    };
+  }
+    where
+      valid : IsValid v.body.head
+      valid = is_valid v.body.head v.body.valid
+
+  -- a record was taken out
+  pub takes_out : (key : List ℕ) (place : Place) (room : ℕ) (v v' : Hash S) (a b : S) → StaysBody v.body v'.body → v'.front ≡ v.front → v'.records ≡ v.records - 1 → IsFound s v.body key a place → MapsBy s (out_of key) 21 v.body v'.body a b → Gives place.at room v.body.pool v'.body.pool
+      → TakesRecord s key place.at room v v' a b
+  takes_out key place room v v' a b stays ef counted found maps gives = record {
+    writes = turned s (out_of key) 21 v v' a b stays ef maps.sound maps.spares maps.map
+        (λ m w. counted ∙ count_out v.body.head v.body.pool.size (frees v.body.pool) m (s.now a v.body.file) key (is_valid v.body.head v.body.valid) w.1.map.has place.at place.from v.records (found.here w.0) w.1.map.count);
+    edits = maps.spares.edits;
+    gives = gives;
+    head = stays.head;
+    long = maps.long;
+  }
 
   -- ---- a record taken out, and the key put again
 
-  pub sized_same : (key value : List ℕ) (v v' : Hash S) → v'.head ≡ v.head → size_in v' key value ≡ size_in v key value
+  pub sized_same : (key value : List ℕ) (v v' : Hash S) → v'.body.head ≡ v.body.head → size_for v' key value ≡ size_for v key value
   sized_same key value v v' e = ap (λ (h : Head). block_len (width h) key value (unit h)) e
 
   -- a key that isn't held gets a block from the pool as it is
-  takes_fresh : (key : List ℕ) (size : ℕ) (m n : Map) (v v' : Hash S) (a b : S) → get m key ≡ None → (p : IsPlaced s key size m n v v' a b) → Takes size p.place v.pool v'.pool
+  takes_fresh : (key : List ℕ) (size : ℕ) (m n : Map) (v v' : Hash S) (a b : S) → get m key ≡ None → (p : IsPlaced s key size m n v v' a b) → Takes v.body.pool v'.body.pool size p.place
   takes_fresh key size m n v v' a b none p = go p.was p.stood p.allocates
     where
-      go : (was : Option (ℕ × ℕ)) → Stands v.head v.pool.size (frees v.pool) m key (s.now a v.file) was → Allocates size p.place was v.pool v'.pool → Takes size p.place v.pool v'.pool
+      go : (was : Option (ℕ × ℕ)) → Stands v.body.head v.body.pool.size (frees v.body.pool) m key (s.now a v.body.file) was → Allocates size p.place was v.body.pool v'.body.pool → Takes v.body.pool v'.body.pool size p.place
       go None stands takes = takes
       go (Some is) at takes = absurd (let e : None ≡ Some at.r.value = sym none ∙ (at.has.is.map key at.r.value).1 (is.0, at.r, at.there, at.key_is, refl) in cc)
 
-  pub gives_again : (key value : List ℕ) (at size : ℕ) (v w u : Hash S) (a b c : S) → w.file ≡ v.file → size < size_in v key value → ((m : Map) → In s file_of holds v a m → HoldsAt v.head v.pool.size (frees v.pool) m key at size (s.now a v.file))
+  pub gives_again : (key value : List ℕ) (at size : ℕ) (v w u : Hash S) (a b c : S) → w.body.file ≡ v.body.file → size < size_for v key value → ((m : Map) → Means s v a m → HoldsAt v.body.head v.body.pool.size (frees v.body.pool) m key at size (s.now a v.body.file))
       → TakesRecord s key at size v w a b → GivesValue s Over key value 13 w u b c → GivesValue s Over key value 34 v u a c
   gives_again key value at size v w u a b c same few stood t g = record {
     writes = record {
       sound = g.writes.sound;
-      means = λ m h. subst (λ (x : Map). In s file_of holds u c x) (insert_again m key value) (g.writes.means (remove m key) (t.writes.means m h));
-      others = others_then s (Only (file_of v)) a b c t.writes.others (subst (λ (f : ℕ). Others s (Only f) b c) same g.writes.others);
+      means = λ m h. subst (λ (x : Map). Means s u c x) (insert_again m key value) (g.writes.means (remove m key) (t.writes.means m h));
+      others = others_then s (Only v.body.file) a b c t.writes.others (subst (λ (f : ℕ). Others s (Only f) b c) same g.writes.others);
     };
     edits = λ m h.
-        let n : ℕ = size_in v key value in
-        let e = subst (λ (k : ℕ). Edits s w.file (k + 13) b c) (sized_same key value v w t.head) (g.edits (remove m key) (t.writes.means m h)) in
-        edits_then s v.file 21 (n + 13) (n + 34) a b c (omega arith) t.edits (subst (λ (f : ℕ). Edits s f (n + 13) b c) same e);
+        let n : ℕ = size_for v key value in
+        let e = subst (λ (k : ℕ). Edits s w.body.file (k + 13) b c) (sized_same key value v w t.head) (g.edits (remove m key) (t.writes.means m h)) in
+        edits_then s v.body.file 21 (n + 13) (n + 34) a b c (omega arith) t.edits (subst (λ (f : ℕ). Edits s f (n + 13) b c) same e);
     placed = λ m h.
         let k : Map = remove m key in
         let long = sized_same key value v w t.head in
@@ -162,26 +224,30 @@ module _ {S : Type 0} (s : Ghosts S) where
           place = p.place;
           allocates = inr (record {
             few = few;
-            middle = w.pool;
+            middle = w.body.pool;
             gives = t.gives;
-            takes = subst (λ (n : ℕ). Takes n p.place w.pool u.pool) long (takes_fresh key (size_in w key value) k (insert k key value) w u b c (remove_here m key) p);
+            takes = subst (λ (n : ℕ). Takes w.body.pool u.body.pool n p.place) long (takes_fresh key (size_for w key value) k (insert k key value) w u b c (remove_here m key) p);
           });
           stands =
-              subst (λ (x : Map). HoldsAt v.head u.pool.size (frees u.pool) x key p.place (size_in v key value) (s.now c v.file)) (insert_again m key value)
-              (subst (λ (f : ℕ). HoldsAt v.head u.pool.size (frees u.pool) (insert k key value) key p.place (size_in v key value) (s.now c f)) same
-              (subst (λ (n : ℕ). HoldsAt v.head u.pool.size (frees u.pool) (insert k key value) key p.place n (s.now c w.file)) long
-              (subst (λ (x : Head). HoldsAt x u.pool.size (frees u.pool) (insert k key value) key p.place (size_in w key value) (s.now c w.file)) t.head p.stands)));
+              subst (λ (x : Map). HoldsAt v.body.head u.body.pool.size (frees u.body.pool) x key p.place (size_for v key value) (s.now c v.body.file)) (insert_again m key value)
+              (subst (λ (f : ℕ). HoldsAt v.body.head u.body.pool.size (frees u.body.pool) (insert k key value) key p.place (size_for v key value) (s.now c f)) same
+              (subst (λ (n : ℕ). HoldsAt v.body.head u.body.pool.size (frees u.body.pool) (insert k key value) key p.place n (s.now c w.body.file)) long
+              (subst (λ (x : Head). HoldsAt x u.body.pool.size (frees u.body.pool) (insert k key value) key p.place (size_for w key value) (s.now c w.body.file)) t.head p.stands)));
+          long =
+              subst (λ (l : ℕ). length (s.now c v.body.file) ≡ max l (p.place + size_for v key value)) (t.long h.0)
+              (subst (λ (f : ℕ). length (s.now c f) ≡ max (length (s.now b f)) (p.place + size_for v key value)) same
+              (subst (λ (n : ℕ). length (s.now c w.body.file) ≡ max (length (s.now b w.body.file)) (p.place + n)) long p.long));
         };
   }
 
-  pub lacks_again : (key value : List ℕ) (at size : ℕ) (v w : Hash S) (a b c : S) → w.file ≡ v.file → TakesRecord s key at size v w a b → (s.tells → LacksRoom s w c (size_in w key value)) → LacksBlock s Over key value v a c
+  pub lacks_again : (key value : List ℕ) (at size : ℕ) (v w : Hash S) (a b c : S) → w.body.file ≡ v.body.file → TakesRecord s key at size v w a b → (s.tells → LacksRoom s w.body c (size_for w key value)) → LacksBlock s Over key value v a c
   lacks_again key value at size v w a b c same t l = record {
     wants = λ m h. record {
-      pool = w.pool;
+      pool = w.body.pool;
       since = inr (at, size, t.gives);
       refused =
-          subst (λ (x : Head). IsRefusedFor x w.pool.size (frees w.pool) (s.limit c v.file) (length (s.now c v.file)) (s.log_full c) (block_len (width x) key value (unit x))) t.head
-          (subst (λ (f : ℕ). IsRefusedFor w.head w.pool.size (frees w.pool) (s.limit c f) (length (s.now c f)) (s.log_full c) (size_in w key value)) same (l h.0));
+          subst (λ (x : Head). IsRefusedFor x w.body.pool.size (frees w.body.pool) (s.limit c v.body.file) (length (s.now c v.body.file)) (s.log_full c) (block_len (width x) key value (unit x))) t.head
+          (subst (λ (f : ℕ). IsRefusedFor w.body.head w.body.pool.size (frees w.body.pool) (s.limit c f) (length (s.now c f)) (s.log_full c) (size_for w key value)) same (l h.0));
     };
   }
 
@@ -190,9 +256,3 @@ stays_then u v w first second = record {
   map = record { file = second.map.file ∙ first.map.file; region_same = second.map.region_same ∙ first.map.region_same; gets_same = second.map.gets_same ∙ first.map.gets_same };
   head = second.head ∙ first.head;
 }
-
--- a value joined behind the one that a key has
-pub joined_is : (h : Head) (end : ℕ) (free : Frees) (m : Map) (bytes : List ℕ) (key value longer : List ℕ) → IsValid h → HasMap h end free m bytes → (at : ℕ) (from : Parent) → IsSearched h key (Here at from) bytes → ((r : Record) → HasRecord h r at bytes → longer ≡ r.value ++ value) → longer ≡ put_value Cat (get m key) value
-joined_is h end free m bytes key value longer v g at from s same =
-    let it = here_record h end g.pieces free g.places m bytes key v g.is at from s in
-    same it.r it.has ∙ ap (λ (o : Option (List ℕ)). unwrap_or o [] ++ value) (sym it.value_is)

@@ -8,7 +8,7 @@ use Rattle.hf_layout.specs.Layout.{frees_of, record_at}
 use Rattle.hf_tree.specs.Links.{HasBlocks, links_of, width}
 use Rattle.hf_tree.specs.Rules.{AreAtHome, AreInOrder, IsFirstBroken, Links, NamesRecords, ReachedOnce, Records}
 use Rattle.hf_tree.specs.Standing.{Map, Opens, StandsFor, count_of}
-use Rattle.hf_chain.specs.Listing.{Breaks}
+use Rattle.hf_survey.specs.Holding.{Breaks}
 use Rattle.tc_hash.specs.Opening.{FillsUp, HasHead, IsBroken, bad_links, bad_section, no_blocks, no_head, too_short}
 use Rattle.tc_hash.specs.Sections.{IsListOf, section_of}
 use Rattle.tc_hash.proofs.Unique.{one_blocks, widths_listed}

@@ -1,5 +1,5 @@
 -- A file made anew.
-use Rattle.std.specs.Prelude.{◌≡◌, ◌≢◌, ◌⊎◌, ℕ, ◌+◌, ◌%◌, ◌^◌, ◌<◌, ◌≤◌, Bool, List, [], length, replicate, take}
+use Rattle.std.specs.Prelude.{◌≡◌, ◌≢◌, ◌⊎◌, ℕ, ◌+◌, ◌%◌, ◌^◌, ◌<◌, ◌≤◌, Bool, [], replicate, take}
 use Rattle.std.specs.FinMap.{empty}
 use Rattle.tc_space.specs.Frames.{Others}
 use Rattle.tc_space.specs.Ranges.{IsDataFile}
@@ -7,9 +7,9 @@ use Rattle.tc_space.specs.Stores.{Only}
 use Rattle.tc_space.specs.declared.space.Space.{Ghosts}
 use Rattle.hf_head.specs.declared.head.Head.{Head}
 use Rattle.hf_head.specs.Heads.{head_in, is_large, sections, unit}
-use Rattle.hf_pool.specs.Pools.{frees}
 use Rattle.tc_hash.specs.declared.hash.Hash.{Hash}
-use Rattle.tc_hash.specs.Settling.{Brought}
+use Rattle.tc_hash.specs.Keeping.{holds}
+use Rattle.tc_hash.specs.Settling.{IsBrought}
 
 -- numbers that a new file may have
 pub record MayBe (kind apow fpow buckets : ℕ) : Type 0 where
@@ -42,23 +42,13 @@ pub record IsEmptyIn {S : Type 0} (s : Ghosts S) (space : S) (file : ℕ) : Type
   pub data_file : IsDataFile file
   pub none : s.tells → s.now space file ≡ []
 
--- the space may be used, and this is a data file that ends there
-pub record EndsAt {S : Type 0} (s : Ghosts S) (space : S) (file at : ℕ) : Type 0 where
-  pub sound : s.sound space
-  pub data_file : IsDataFile file
-  pub end : s.tells → length (s.now space file) ≡ at
-
--- bytes, of which there are some, and which are zeros
-pub record AreZeros (bytes : List ℕ) : Type 0 where
-  pub some : 0 < length bytes
-  pub are : bytes ≡ replicate (length bytes) 0
-
 -- a file was made anew: it holds no key and has the head that is held, and other files stay
 pub record Creates {S : Type 0} (s : Ghosts S) (file : ℕ) (h : Hash S) (old new : S) : Type 0 where
   pub sound : s.sound new
   pub others : Others s (Only file) old new
-  pub brought : s.tells → Brought h.head h.pool.size (frees h.pool) h.records h.region empty (s.now new file)
-  pub head : s.tells → head_in (take 256 (s.now new file)) ≡ h.head
+  pub brought : s.tells → IsBrought h empty (s.now new file)
+  pub held : s.tells → holds h (s.now new file) empty
+  pub head : s.tells → head_in (take 256 (s.now new file)) ≡ h.body.head
 
 -- so many bytes pass the file's limit, or what a head can name, or the undo log is full
 abbrev pub HasNoRoom : ℕ → Type 0 → ℕ → Type 0

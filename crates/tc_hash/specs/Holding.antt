@@ -1,49 +1,25 @@
--- What a hash file holds between calls.
-use Rattle.std.specs.Prelude.{◌≡◌, ℕ, ◌^◌, ◌≤◌, List, Option}
-use Rattle.std.specs.FinMap.{get, len}
+-- What a hash file that is held open holds.
+use Rattle.std.specs.Prelude.{◌≡◌, ℕ, List}
+use Rattle.std.specs.FinMap.{len}
 use Rattle.tc_base.specs.Maps.{Map}
 use Rattle.hf_head.specs.declared.head.Head.{Head}
-use Rattle.hf_head.specs.Heads.{unit}
-use Rattle.hf_block.specs.Pieces.{Piece}
-use Rattle.hf_layout.specs.Frees.{Frees, none}
-use Rattle.hf_layout.specs.Layout.{record_at, HaveWidth, LaidOut}
-use Rattle.hf_tree.specs.declared.parent.Found.{Found}
-use Rattle.hf_tree.specs.declared.parent.Parent.TheVariants.{Bucket}
-use Rattle.hf_tree.specs.Keys.{Key, bucket_of}
-use Rattle.hf_tree.specs.Trees.{seek}
-use Rattle.hf_tree.specs.Links.{links_of, width}
-use Rattle.hf_tree.specs.Standing.{IsMapOf, AllHang}
+use Rattle.hf_layout.specs.Frees.{Frees}
+use Rattle.hf_pool.specs.Pools.{frees as frees_in}
+use Rattle.hf_record.specs.Holding.{HasMap}
+use Rattle.tc_hash.specs.declared.hash.Hash.{Hash}
+use Rattle.tc_hash.specs.Fronts.{ShowsFrees, ShowsFront}
 
--- up to an end the blocks are the pool's and the records', all records hang from the buckets at these places, and they are this map
-pub record IsHeld (h : Head) (end : ℕ) (ps : List Piece) (frees : Frees) (places : Key → Option ℕ) (m : Map) (bytes : List ℕ) : Type 0 where
-  pub laid : LaidOut (unit h) h.first end ps frees none bytes
-  pub widths : HaveWidth (width h) h.first ps
-  pub hang : AllHang (links_of h ps bytes) (record_at h.first ps) h.buckets places
-  pub map : IsMapOf (record_at h.first ps) (get m)
-
--- so it is, with some blocks and places
-pub record HasMap (h : Head) (end : ℕ) (frees : Frees) (m : Map) (bytes : List ℕ) : Type 0 where
-  pub pieces : List Piece
-  pub places : Key → Option ℕ
-  pub is : IsHeld h end pieces frees places m bytes
-  pub short : end ≤ 2 ^ 40
-
--- and so many keys are held
+-- a map is held, and so many keys
 pub record Holds (h : Head) (end : ℕ) (frees : Frees) (records : ℕ) (m : Map) (bytes : List ℕ) : Type 0 where
   pub has : HasMap h end frees m bytes
   pub count : records ≡ len m
 
--- some map is held, up to that end and with these free blocks
-abbrev pub HasSome : Head → ℕ → Frees → List ℕ → Type 0
-HasSome h end frees bytes = (m : Map) × HasMap h end frees m bytes
+-- with the numbers and free blocks that are held in memory
+abbrev pub HoldsMap : {S : Type 0} → Hash S → List ℕ → Map → Type 0
+HoldsMap h bytes m = Holds h.body.head h.body.pool.size (frees_in h.body.pool) h.records m bytes
 
--- some map is held
-pub record IsReadable (h : Head) (bytes : List ℕ) : Type 0 where
-  pub end : ℕ
-  pub frees : Frees
-  pub contents : Map
-  pub has : HasMap h end frees contents bytes
-
--- the search for a key ends so, whatever the blocks and trees are taken to be
-pub record IsSearched (h : Head) (key : Key) (f : Found) (bytes : List ℕ) : Type 0 where
-  pub ends : (end : ℕ) (ps : List Piece) (frees : Frees) (places : Key → Option ℕ) (m : Map) (w : IsHeld h end ps frees places m bytes) → seek (Bucket (bucket_of h.buckets key)) (w.hang.holds.trees (bucket_of h.buckets key)) key ≡ f
+-- and what is known of the front of the file is so
+pub record HoldsFile {S : Type 0} (h : Hash S) (bytes : List ℕ) (m : Map) : Type 0 where
+  pub map : HoldsMap h bytes m
+  pub front : ShowsFront h.body.head h.front bytes
+  pub listed : ShowsFrees h.body.head h.body.pool bytes

@@ -16,7 +16,7 @@ use Rattle.hf_layout.specs.Layout.{record_at, frees_of, LaidOut}
 use Rattle.hf_tree.specs.Links.{links_of, width}
 use Rattle.hf_tree.specs.Rules.{rule_l, IsFirstBroken}
 use Rattle.hf_tree.specs.Standing.{Opens, count_of}
-use Rattle.hf_chain.specs.Listing.{AllHold}
+use Rattle.hf_survey.specs.Holding.{AllHold}
 use Rattle.tc_hash.specs.Sections.{IsListOf, section_of}
 
 -- a head of that type stands at the front

@@ -1,5 +1,5 @@
 -- A file packed: written anew in the large form, or in the form that it has.
-use Rattle.std.specs.Prelude.{◌≡◌, ◌⊎◌, ℕ, true, List, [], ◌∷◌, length, map, take, Some, None}
+use Rattle.std.specs.Prelude.{◌≡◌, ◌⊎◌, ℕ, true, List, [], ◌∷◌, ◌++◌, length, map, take, Option, Some, None}
 use Rattle.std.specs.FinMap.{get, insert}
 use Rattle.tc_base.specs.Maps.{Map}
 use Rattle.tc_base.specs.declared.kind.Form.{Form}
@@ -12,23 +12,26 @@ use Rattle.hf_head.specs.Heads.{head_in, unit}
 use Rattle.hf_block.specs.Pieces.{Piece}
 use Rattle.hf_block.specs.Written.{block_len}
 use Rattle.hf_layout.specs.Frees.{Frees}
-use Rattle.hf_layout.specs.Layout.{frees_of}
+use Rattle.hf_layout.specs.Layout.{frees_of, record_at}
+use Rattle.hf_pack.specs.Moving.{Repacked}
 use Rattle.hf_pool.specs.Pools.{frees}
-use Rattle.hf_tree.specs.Links.{HasBlocks, width}
+use Rattle.hf_tree.specs.Links.{HasBlocks, links_of, width}
+use Rattle.hf_tree.specs.Keys.{Key}
+use Rattle.hf_tree.specs.Standing.{AllHang}
 use Rattle.tc_hash.specs.declared.hash.Hash.{Hash}
 use Rattle.tc_hash.specs.Creating.{HasNoRoom, IsNew}
 use Rattle.tc_hash.specs.Keeping.{fills, file_of, gets_of, region_of}
-use Rattle.tc_hash.specs.Moves.{IsRefusedFor}
+use Rattle.hf_record.specs.Moves.{IsRefusedFor}
 
 -- no free block is left, and this is the form of the file
 pub record Packs {S : Type 0} (options : ℕ) (h : Hash S) : Type 0 where
-  pub nothing : (q : ℕ) → frees h.pool q ≡ None
-  pub options_is : h.head.options ≡ options
+  pub nothing : (q : ℕ) → frees h.body.pool q ≡ None
+  pub options_is : h.body.head.options ≡ options
 
 -- of this form, with no free block
 pub record IsTight {S : Type 0} (f : Form) (h : Hash S) : Type 0 where
-  pub nothing : (q : ℕ) → frees h.pool q ≡ None
-  pub large : f ≡ form.Large → h.head.options ≡ 1
+  pub nothing : (q : ℕ) → frees h.body.pool q ≡ None
+  pub large : f ≡ form.Large → h.body.head.options ≡ 1
 
 -- a file of this form whose blocks are all those of records
 pub record IsPacked (f : Form) (bytes : List ℕ) : Type 0 where
@@ -42,14 +45,18 @@ pub record IsPacked (f : Form) (bytes : List ℕ) : Type 0 where
 -- the file, the region and the count of gets stay, and so do the numbers of the file
 pub record StaysNumbered {S : Type 0} (old new : Hash S) : Type 0 where
   pub map : StaysMap file_of region_of gets_of old new
-  pub kind : new.head.kind ≡ old.head.kind
-  pub apow : new.head.apow ≡ old.head.apow
-  pub fpow : new.head.fpow ≡ old.head.fpow
-  pub buckets : new.head.buckets ≡ old.head.buckets
+  pub kind : new.body.head.kind ≡ old.body.head.kind
+  pub apow : new.body.head.apow ≡ old.body.head.apow
+  pub fpow : new.body.head.fpow ≡ old.body.head.fpow
+  pub buckets : new.body.head.buckets ≡ old.body.head.buckets
+
+-- the records of these blocks were moved to the front, and their trees keep their shape
+abbrev pub IsRepacked : Head → ℕ → List Piece → List ℕ → List ℕ → Type 0
+IsRepacked h end ps before after = (places : Key → Option ℕ) → AllHang (links_of h ps before) (record_at h.first ps) h.buckets places → Repacked h end ps after
 
 -- the form that is asked for
 abbrev pub options_for : {S : Type 0} → Form → Hash S → ℕ
-options_for form.Keep h = h.head.options
+options_for form.Keep h = h.body.head.options
 options_for form.Large h = 1
 
 -- ---- pairs
@@ -63,6 +70,10 @@ AllIn m (p ∷ ps) = (get m p.key ≡ Some p.value) × AllIn m ps
 pub record ArePairs (m : Map) (keys : List (List ℕ)) (pairs : List Pair) : Type 0 where
   pub each : AllIn m pairs
   pub keys_are : map (λ p. p.key) pairs ≡ keys
+
+-- the key and the value that it has come behind the others
+abbrev pub AddsPair : Map → List ℕ → List Pair → List Pair → Type 0
+AddsPair m key old new = (value : List ℕ) × (get m key ≡ Some value) × (new ≡ old ++ record { key = key; value = value } ∷ [])
 
 -- one key after the other is given its value
 abbrev pub with_pairs : Map → List Pair → Map
@@ -84,20 +95,24 @@ pub record LacksOne {S : Type 0} (s : Ghosts S) (h : Head) (file : ℕ) (space :
   pub there : (m : Map) → AllIn m pairs → get m pair.key ≡ Some pair.value
   pub lacks : LacksEnd s h file space pair.key pair.value
 
+-- the head of a file without blocks, with the numbers that it has and in the large form
+abbrev pub IsLargeOf : {S : Type 0} → Hash S → Head → Type 0
+IsLargeOf h new = IsNew h.body.head.kind h.body.head.apow h.body.head.fpow h.body.head.buckets true new
+
 -- the sections of a file made anew in the large form pass a limit
 pub record LacksSections {S : Type 0} (s : Ghosts S) (h : Hash S) (space : S) : Type 0 where
   pub head : Head
-  pub is_new : IsNew h.head.kind h.head.apow h.head.fpow h.head.buckets true head
-  pub lacks : HasNoRoom (s.limit space h.file) (s.log_full space) head.first
+  pub is_new : IsLargeOf h head
+  pub lacks : HasNoRoom (s.limit space h.body.file) (s.log_full space) head.first
 
 -- a file made anew in the large form had no room for the record of a key of the map
 pub record LacksRecord {S : Type 0} (s : Ghosts S) (h : Hash S) (space : S) (m : Map) : Type 0 where
   pub head : Head
-  pub is_new : IsNew h.head.kind h.head.apow h.head.fpow h.head.buckets true head
+  pub is_new : IsLargeOf h head
   pub key : List ℕ
   pub value : List ℕ
   pub there : get m key ≡ Some value
-  pub lacks : LacksEnd s head h.file space key value
+  pub lacks : LacksEnd s head h.body.file space key value
 
 -- a limit is reached where a file is written anew in the large form
 abbrev pub fills_enlarging : {S : Type 0} → Ghosts S → Hash S → S → Map → Map → Type 0

@@ -1,16 +1,32 @@
--- A pool section read.
-use Rattle.std.specs.Prelude.{◌≡◌, ℕ, ◌+◌, ◌*◌, ◌<◌, ◌≤◌, ◌^◌, List, ◌∷◌, ◌++◌, length, drop}
+-- The pool section of a file.
+use Rattle.std.specs.Prelude.{◌≡◌, ℕ, ◌+◌, ◌*◌, ◌-◌, ◌<◌, ◌≤◌, ◌^◌, List, ◌∷◌, ◌++◌, length, drop, replicate}
 use Rattle.tc_base.specs.Vnum.{vnum}
 use Rattle.hf_head.specs.declared.head.Head.{Head}
 use Rattle.hf_head.specs.Heads.{sections}
 use Rattle.hf_block.specs.Walks.{between}
 use Rattle.hf_tree.specs.Links.{width}
 use Rattle.hf_layout.specs.Frees.{Frees, IsThere}
+use Rattle.hf_pool.specs.Sections.{InOrder, section_bytes}
 use Rattle.hf_tree.specs.Standing.{Lists}
 
--- the bytes of the pool section
+-- its place, and how many bytes it has
+abbrev pub section_at : Head → ℕ
+section_at h = 256 + width h * h.buckets
+
+abbrev pub section_len : Head → ℕ
+section_len h = sections h - section_at h
+
+-- its bytes
 abbrev pub section_of : Head → List ℕ → List ℕ
 section_of h bytes = between (256 + width h * h.buckets) (sections h) bytes
+
+-- these are the bytes of a section of the free blocks
+abbrev pub IsSectionOf : Head → ℕ → Frees → List ℕ → Type 0
+IsSectionOf h unit frees bytes = (blocks : List (ℕ × ℕ)) × InOrder frees blocks × (bytes ≡ section_bytes unit (section_len h) blocks)
+
+-- bytes with zeros behind them, so many in all
+abbrev pub filled : ℕ → List ℕ → List ℕ
+filled long bytes = bytes ++ replicate (long - length bytes) 0
 
 -- the section lists free blocks
 abbrev pub IsListOf : ℕ → Frees → List ℕ → Type 0

@@ -1,20 +1,23 @@
 //! All keys taken out.
-ghost use Rattle.std.specs.Prelude.{◌≡◌, ◌⊎◌, ℕ, ◌-◌, ◌<◌, ◌≤◌, ◌++◌, length, replicate, OnOk, OnErr, IsErrOf};
+ghost use Rattle.std.specs.Prelude.{◌≡◌, ◌⊎◌, ◌-◌, ◌<◌, ◌≤◌, ◌++◌, length, replicate, OnOk, OnErr, IsErrOf, None};
 ghost use Rattle.std.specs.FinMap.{empty};
-ghost use Rattle.tc_io.specs.Causes.{Rose};
 ghost use Rattle.tc_space.specs.Effects.{Changes, Outcome};
-ghost use Rattle.tc_space.specs.Frames.{In, Keeps, Refuses, Writes};
+ghost use Rattle.tc_space.specs.Frames.{Keeps};
 ghost use Rattle.tc_space.specs.Ranges.{IsDataFile};
-ghost use Rattle.tc_space.specs.Stores.{IsReady, Only, StaysMap};
-ghost use Rattle.hf_head.specs.Heads.{Spells, is_large, spelled};
-ghost use Rattle.tc_hash.specs.Creating.{AreZeros, IsNew};
-ghost use Rattle.tc_hash.specs.Fields.{HasFields};
-ghost use Rattle.tc_hash.specs.Keeping.{file_of, gets_of, holds, region_of, SameShape};
+ghost use Rattle.tc_space.specs.Refusals.{OnFault, OnlyLogIsFull};
+ghost use Rattle.tc_space.specs.Stores.{StaysMap};
+ghost use Rattle.hf_head.specs.Heads.{Spells, is_large, spelled, unit};
+ghost use Rattle.tc_reach.specs.Limits.{AreZeros};
+ghost use Rattle.tc_hash.specs.Creating.{IsNew};
+ghost use Rattle.hf_record.specs.Fields.{HasFields};
+ghost use Rattle.tc_hash.specs.Keeping.{CanCall, Refused, SameShape, Turns, file_of, gets_of, region_of};
 
 use crate::create::{PIECE, new_head, new_pool, write_new};
 use crate::hash::Hash;
-use crate::settle::cut_to;
 use hf_head::Head;
+use hf_pool::Pool;
+use hf_record::Body;
+use tc_reach::cut_to;
 use tc_space::{RecErr, Space};
 
 // The head of a file without blocks, with the numbers and in the form of a head.
@@ -48,42 +51,48 @@ pub(crate) fn write_anew<S: Space>(
     ensures keeps { Keeps S.Space space.old space.new }
     ensures full { IsErrOf result RecErr.Full → S.tells → (S.limit space.old file < head.now.first) ⊎ S.log_full space.new }
     ensures spells { OnOk result (Spells head.now (spelled head.now) × (length (spelled head.now) ≡ 256)) }
-    ensures cause { IsErrOf result RecErr.Fault → Rose (S.faults space.old) (S.faults space.new) }
+    ensures cause { OnFault S.Space result space.old space.new }
 {
-    match cut_to(space, file, 0) {
-        Ok(()) => {}
-        Err(e) => return Err(e),
-    }
-    match write_new(space, file, head, zeros) {
-        Ok(()) => Ok(()),
-        Err(e) => Err(e),
-    }
+    cut_to(space, file, 0)?;
+    write_new(space, file, head, zeros)
 }
 
 impl<S: Space> Hash<S> {
+    /// Holds no record, with this head and these free blocks. What stands in front of the blocks isn't known any more.
+    pub(crate) fn empty(&mut self, head: Head, pool: Pool)
+        requires head { HasFields head }
+        requires unit { pool.unit ≡ unit head }
+        ensures body { (self.new.body.file ≡ self.old.body.file) × (self.new.body.head ≡ head) × (self.new.body.pool ≡ pool) }
+        ensures numbers { (self.new.records ≡ 0) × (self.new.front ≡ None) }
+        ensures stays { (self.new.region ≡ self.old.region) × (self.new.gets ≡ self.old.gets) }
+    {
+        self.body = Body {
+            alloc: self.body.alloc,
+            file: self.body.file,
+            head,
+            pool,
+        };
+        self.records = 0;
+        self.front = None;
+    }
+
     /// Takes all keys out: the file is cut and made anew with the numbers and in the form that it has. The region and the count of gets stay.
     /// After a refusal the space isn't sound, or nothing has changed.
     pub fn clear(&mut self, space: &mut S) -> Result<(), RecErr>
-        requires { IsReady S.Space (In S.Space file_of holds) self.old space.old }
-        ensures cleared { OnOk result (Writes S.Space (Only (file_of self.old)) (In S.Space file_of holds) (λ m. empty) self.old self.new space.old space.new) }
-        ensures refused { OnErr result (Refuses S.Space (In S.Space file_of holds) self.old self.new space.old space.new) }
-        ensures full { IsErrOf result RecErr.Full → S.tells → S.log_full space.new }
+        requires { CanCall S.Space self.old space.old }
+        ensures cleared { OnOk result (Turns S.Space (λ m. empty) self.old self.new space.old space.new) }
+        ensures refused { OnErr result (Refused S.Space self.old self.new space.old space.new) }
+        ensures full { OnlyLogIsFull S.Space result space.new }
         ensures keeps { Keeps S.Space space.old space.new }
         ensures stays { StaysMap file_of region_of gets_of self.old self.new }
         ensures shape { SameShape self.old self.new }
-        ensures cause { IsErrOf result RecErr.Fault → Rose (S.faults space.old) (S.faults space.new) }
+        ensures cause { OnFault S.Space result space.old space.new }
     {
-        let head = head_anew(&self.head);
-        let zeros = vec![in self.alloc; 0; PIECE]?;
-        let pool = new_pool(self.alloc, &head)?;
-        match write_anew(space, self.file, &head, &zeros) {
-            Ok(()) => {
-                self.head = head;
-                self.pool = pool;
-                self.records = 0;
-                Ok(())
-            }
-            Err(e) => Err(e),
-        }
+        let head = head_anew(&self.body.head);
+        let zeros = vec![in self.body.alloc; 0; PIECE]?;
+        let pool = new_pool(self.body.alloc, &head)?;
+        write_anew(space, self.body.file, &head, &zeros)?;
+        self.empty(head, pool);
+        Ok(())
     }
 }

@@ -1,14 +1,15 @@
 //! A file made anew.
-ghost use Rattle.std.specs.Prelude.{◌≡◌, ◌⊎◌, ℕ, ◌+◌, ◌*◌, ◌-◌, ◌<◌, ◌≤◌, ◌^◌, ◌++◌, ◌%◌, ◌==◌, List, [], length, replicate, take, IfOk, OnOk, OnErr, IsErrOf, None, false};
-ghost use Rattle.tc_io.specs.Causes.{Rose};
+ghost use Rattle.std.specs.Prelude.{◌≡◌, ◌⊎◌, ℕ, ◌+◌, ◌-◌, ◌<◌, ◌≤◌, ◌^◌, ◌++◌, ◌%◌, ◌==◌, List, [], length, replicate, IfOk, OnOk, OnErr, IsErrOf, None, true, false};
 ghost use Rattle.tc_space.specs.Effects.{Changes, Outcome};
 ghost use Rattle.tc_space.specs.Frames.{Keeps, OnlyReads};
-ghost use Rattle.hf_head.specs.Heads.{Spells, is_large, sections, spelled, unit};
+ghost use Rattle.tc_space.specs.Refusals.{OnFault};
+ghost use Rattle.hf_head.specs.Heads.{Spells, spelled, unit};
 ghost use Rattle.hf_layout.specs.Frees.{none};
 ghost use Rattle.hf_layout.specs.Layout.{LaidOut};
 ghost use Rattle.hf_pool.specs.Pools.{frees};
-ghost use Rattle.tc_hash.specs.Creating.{AreZeros, Creates, EndsAt, HasNoRoom, IsEmptyIn, IsNew, MayBe};
-ghost use Rattle.tc_hash.specs.Fields.{HasFields};
+ghost use Rattle.tc_reach.specs.Limits.{AreZeros};
+ghost use Rattle.tc_hash.specs.Creating.{Creates, HasNoRoom, IsEmptyIn, IsNew, MayBe};
+ghost use Rattle.hf_record.specs.Fields.{HasFields};
 
 use crate::hash::Hash;
 use crate::open::held_open;
@@ -18,6 +19,8 @@ use hf_block::Blocks;
 use hf_head::Head;
 use hf_pool::Pool;
 use std::alloc::{AllocError, Global};
+use tc_base::FILE_MOST;
+use tc_reach::{write_at, write_zeros};
 use tc_space::{RecErr, Space};
 
 /// The greatest number of zeros in one write.
@@ -70,49 +73,6 @@ pub(crate) fn new_head(kind: u8, apow: u8, fpow: u8, buckets: u64, large: bool) 
     head
 }
 
-// Adds bytes at the end of a file.
-fn append<S: Space>(space: &mut S, file: u32, at: u64, bytes: &[u8]) -> Result<(), RecErr>
-    requires ends { EndsAt S.Space space.old file at }
-    ensures wrote { OnOk result (S.tells → Changes S.now file (S.now space.old file ++ bytes.now) space.old space.new) }
-    ensures outcome { Outcome S.sound S.flag result space.new }
-    ensures keeps { Keeps S.Space space.old space.new }
-    ensures full { IsErrOf result RecErr.Full → (S.limit space.old file < at + length bytes.now) ⊎ S.log_full space.new }
-    ensures cause { IsErrOf result RecErr.Fault → Rose (S.faults space.old) (S.faults space.new) }
-{
-    match space.write(file, at, bytes) {
-        Ok(()) => Ok(()),
-        Err(e) => Err(RecErr::from(e)),
-    }
-}
-
-// Adds zeros at the end of a file up to a place, some at a time.
-fn append_zeros<S: Space>(
-    space: &mut S,
-    file: u32,
-    from: u64,
-    to: u64,
-    zeros: &[u8],
-) -> Result<(), RecErr>
-    requires ends { EndsAt S.Space space.old file from }
-    requires on { from ≤ to }
-    requires zeros { AreZeros zeros.now }
-    ensures wrote { OnOk result (S.tells → Changes S.now file (S.now space.old file ++ replicate (to - from) 0) space.old space.new) }
-    ensures outcome { Outcome S.sound S.flag result space.new }
-    ensures keeps { Keeps S.Space space.old space.new }
-    ensures full { IsErrOf result RecErr.Full → (S.limit space.old file < to) ⊎ S.log_full space.new }
-    ensures cause { IsErrOf result RecErr.Fault → Rose (S.faults space.old) (S.faults space.new) }
-{
-    let mut at = from;
-    while at < to {
-        let n = (to - at).min(zeros.len() as u64) as usize;
-        match append(space, file, at, &zeros[..n]) {
-            Ok(()) => at += n as u64,
-            Err(e) => return Err(e),
-        }
-    }
-    Ok(())
-}
-
 /// Writes a head and zeros behind it into an empty file.
 pub(crate) fn write_new<S: Space>(
     space: &mut S,
@@ -128,10 +88,10 @@ pub(crate) fn write_new<S: Space>(
     ensures keeps { Keeps S.Space space.old space.new }
     ensures full { IsErrOf result RecErr.Full → (S.limit space.old file < head.now.first) ⊎ S.log_full space.new }
     ensures spells { Spells head.now (spelled head.now) × (length (spelled head.now) ≡ 256) }
-    ensures cause { IsErrOf result RecErr.Fault → Rose (S.faults space.old) (S.faults space.new) }
+    ensures cause { OnFault S.Space result space.old space.new }
 {
-    append(space, file, 0, &spelling(head))?;
-    append_zeros(space, file, 256, head.first, zeros)
+    write_at(space, file, 0, &spelling(head))?;
+    write_zeros(space, file, 256, head.first, zeros)
 }
 
 /// The free blocks of a file without blocks.
@@ -141,13 +101,11 @@ pub(crate) fn new_pool(alloc: Global, head: &Head) -> Result<Pool, AllocError>
     ensures unit { IfOk result (λ pool. pool.unit ≡ unit head.now) }
     ensures size { IfOk result (λ pool. pool.size ≡ head.now.size) }
     ensures none { IfOk result (λ pool. (q : ℕ) → frees pool q ≡ None) }
+    ensures noted { IfOk result (λ pool. pool.changed ≡ true) }
     ensures laid { IfOk result (λ pool. (bytes : List ℕ) → head.now.size ≤ length bytes → LaidOut (unit head.now) head.now.first head.now.size [] (frees pool) none bytes) }
 {
     let blocks = Blocks::new(alloc);
-    match Pool::build(alloc, &blocks, head.unit(), head.first, head.size) {
-        Ok(pool) => Ok(pool),
-        Err(e) => Err(e),
-    }
+    Pool::build(alloc, &blocks, head.unit(), head.first, head.size)
 }
 
 impl<S: Space> Hash<S> {
@@ -165,22 +123,20 @@ impl<S: Space> Hash<S> {
     ) -> Result<Hash<S>, RecErr>
         requires empty { IsEmptyIn S.Space space.old file }
         requires numbers { MayBe kind apow fpow buckets }
-        ensures file { IfOk result (λ h. (h.file ≡ file) × IsNew kind apow fpow buckets large h.head) }
+        ensures file { IfOk result (λ h. (h.body.file ≡ file) × IsNew kind apow fpow buckets large h.body.head) }
         ensures created { IfOk result (λ h. Creates S.Space file h space.old space.new) }
         ensures refused { OnErr result ((S.flag space.new ≡ false) ⊎ OnlyReads S.Space space.old space.new) }
         ensures keeps { Keeps S.Space space.old space.new }
         ensures full { IsErrOf result RecErr.Full → (h : Head) × IsNew kind apow fpow buckets large h × HasNoRoom (S.limit space.old file) (S.log_full space.new) h.first }
-        ensures cause { IsErrOf result RecErr.Fault → Rose (S.faults space.old) (S.faults space.new) }
+        ensures cause { OnFault S.Space result space.old space.new }
     {
         let head = new_head(kind, apow, fpow, buckets, large);
-        if head.size > 1 << 40 {
+        if head.size > FILE_MOST {
             return Err(RecErr::Full);
         }
         let zeros = vec![in alloc; 0; PIECE]?;
         let pool = new_pool(alloc, &head)?;
-        match write_new(space, file, &head, &zeros) {
-            Ok(()) => Ok(held_open(alloc, file, head, pool)),
-            Err(e) => Err(e),
-        }
+        write_new(space, file, &head, &zeros)?;
+        Ok(held_open(alloc, file, head, pool))
     }
 }

@@ -1,5 +1,4 @@
 //! A hash file as a map over one file.
-ghost use Rattle.std.specs.Prelude.{◌≡◌};
 ghost use Rattle.tc_hash.specs.Keeping.{file_of, gets_of, holds, region_of};
 ghost use Rattle.tc_hash.specs.Packing.{fills_any};
 ghost use Rattle.tc_hash.specs.Standing.{Stands};
@@ -24,7 +23,7 @@ impl<S: Space> Records for Hash<S> {
     ghost gets = { gets_of };
 
     fn file(&self) -> u32 {
-        self.file
+        self.body.file
     }
 
     fn count(&self) -> u64 {
@@ -52,17 +51,11 @@ impl<S: Space> Records for Hash<S> {
         mode: Mode,
         steps: &mut Steps<L>,
     ) -> Result<(), PutErr> {
-        match Hash::put(self, space, key, value, mode, steps) {
-            Ok(()) => Ok(()),
-            Err(e) => Err(e),
-        }
+        Hash::put(self, space, key, value, mode, steps)
     }
 
     fn out<L>(&mut self, space: &mut S, key: &[u8], steps: &mut Steps<L>) -> Result<bool, RecErr> {
-        match Hash::out(self, space, key, steps) {
-            Ok(taken) => Ok(taken),
-            Err(e) => Err(e),
-        }
+        Ok(Hash::out(self, space, key, steps)?.is_some())
     }
 
     fn keys<L>(&mut self, space: &mut S, steps: &mut Steps<L>) -> Result<Blobs, RecErr> {
@@ -74,16 +67,10 @@ impl<S: Space> Records for Hash<S> {
     }
 
     fn settle(&mut self, space: &mut S) -> Result<(), RecErr> {
-        match Hash::settle(self, space) {
-            Ok(()) => Ok(()),
-            Err(e) => Err(e),
-        }
+        Hash::settle(self, space)
     }
 
     fn pack(&mut self, space: &mut S, form: Form) -> Result<(), RecErr> {
-        match Hash::pack(self, space, form) {
-            Ok(()) => Ok(()),
-            Err(e) => Err(e),
-        }
+        Hash::pack(self, space, form)
     }
 }

@@ -1,34 +1,33 @@
 //! A file opened: its rules, checked one after the other.
-ghost use Rattle.std.specs.Prelude.{◌≡◌, ℕ, ◌≤◌, ◌^◌, List, length, take, IfOk, IfErr, IfSome, IfNone, OnOk, OnErr, IsErrOf, Err, true, false};
+ghost use Rattle.std.specs.Prelude.{◌≡◌, ◌≤◌, ◌^◌, length, take, IfOk, IfErr, IfSome, IfNone, OnOk, IsErrOf, Err, true};
 ghost use Rattle.std.specs.FinMap.{get};
 ghost use Rattle.tc_base.specs.Maps.{Map};
-ghost use Rattle.tc_io.specs.Causes.{Rose};
 ghost use Rattle.tc_space.specs.Frames.{OnlyReads};
 ghost use Rattle.tc_space.specs.Ranges.{IsDataFile};
+ghost use Rattle.tc_space.specs.Refusals.{Blamed};
 ghost use Rattle.hf_head.specs.Heads.{IsValid, Spells, head_in, unit};
-ghost use Rattle.hf_block.specs.Pieces.{Piece, placed};
 ghost use Rattle.hf_block.specs.Rows.{StandApart};
 ghost use Rattle.hf_block.specs.Walks.{HoldsUpTo};
 ghost use Rattle.hf_layout.specs.Frees.{none};
-ghost use Rattle.hf_layout.specs.Layout.{LaidOut, frees_of};
 ghost use Rattle.hf_pool.specs.Pools.{frees};
 ghost use Rattle.hf_tree.specs.Standing.{StandsFor};
-ghost use Rattle.hf_chain.specs.Surveys.{WasSurveyed};
-ghost use Rattle.tc_hash.specs.Holding.{Holds};
-ghost use Rattle.tc_hash.specs.Sections.{IsListOf, section_of};
-ghost use Rattle.tc_hash.specs.Settling.{section_len};
+ghost use Rattle.hf_survey.specs.Surveys.{WasSurveyed};
+ghost use Rattle.tc_hash.specs.Keeping.{holds};
+ghost use Rattle.tc_hash.specs.Sections.{IsListOf, section_len, section_of};
 ghost use Rattle.tc_hash.specs.Standing.{StandsWith};
 ghost use Rattle.tc_hash.specs.Opening.{Breaks, HasHead, HasHeadIn, IsNoList, WasRead, broken_at, open_of};
 
 use crate::hash::Hash;
 use crate::section::{is_list, read_section, section_size};
 use hf_block::WalkErr;
-use hf_chain::{Survey, check, survey_blocks};
 use hf_head::Head;
 use hf_pool::Pool;
+use hf_record::Body;
+use hf_survey::{Survey, check, survey_blocks};
 use std::alloc::Global;
 use std::marker::PhantomData;
-use tc_base::{Fault, Rule};
+use tc_base::Rule;
+use tc_reach::read_into;
 use tc_space::{OpenErr, Space};
 
 // A rule of this layout that doesn't hold.
@@ -44,7 +43,7 @@ fn broken(file: u32, number: u8) -> OpenErr
     }
 }
 
-// The same refusal, with the file.
+// A refusal of a walk as one of an opening, with the file.
 fn refusal(file: u32, e: WalkErr) -> OpenErr
     ensures { result ≡ open_of file e }
 {
@@ -69,23 +68,6 @@ fn head_of(bytes: &[u8; 256], kind: u8) -> Option<Head>
     Some(head)
 }
 
-/// Fills `into` with the first bytes of the file.
-pub(crate) fn read_front<S: Space>(
-    space: &mut S,
-    file: u32,
-    into: &mut [u8; 256],
-) -> Result<(), Fault>
-    requires holds { HoldsUpTo S.Space space.old file 256 }
-    ensures bytes { OnOk result (S.tells → into.new ≡ take 256 (S.now space.old file)) }
-    ensures reads { OnlyReads S.Space space.old space.new }
-    ensures cause { OnErr result (Rose (S.faults space.old) (S.faults space.new)) }
-{
-    match space.read(file, 0, into) {
-        Ok(()) => Ok(()),
-        Err(e) => Err(e),
-    }
-}
-
 // The head of the file: the first rule.
 fn load_head<S: Space>(space: &mut S, file: u32, kind: u8) -> Result<Head, OpenErr>
     requires sound { S.sound space.old }
@@ -94,16 +76,14 @@ fn load_head<S: Space>(space: &mut S, file: u32, kind: u8) -> Result<Head, OpenE
     ensures head { IfOk result (λ h. S.tells → HasHead kind (S.now space.old file) h) }
     ensures broken { IfErr result (λ e. Breaks S.tells kind file (S.now space.old file) e) }
     ensures reads { OnlyReads S.Space space.old space.new }
-    ensures cause { IsErrOf result OpenErr.Fault → Rose (S.faults space.old) (S.faults space.new) }
+    ensures cause { Blamed S.Space (IsErrOf result OpenErr.Fault) space.old space.new }
 {
     let len = space.len(file);
     if len < 256 {
         return Err(broken(file, 1));
     }
     let mut bytes = [0; 256];
-    let Ok(()) = read_front(space, file, &mut bytes) else {
-        return Err(OpenErr::Fault);
-    };
+    read_into(space, file, 0, &mut bytes)?;
     match head_of(&bytes, kind) {
         Some(head) => Ok(head),
         None => Err(broken(file, 1)),
@@ -122,7 +102,7 @@ fn read_blocks<S: Space>(
     ensures found { IfOk result (λ s. S.tells → WasSurveyed head.now (S.now space.old file) s) }
     ensures broken { IfErr result (λ e. Breaks S.tells head.now.kind file (S.now space.old file) e) }
     ensures reads { OnlyReads S.Space space.old space.new }
-    ensures cause { IsErrOf result OpenErr.Fault → Rose (S.faults space.old) (S.faults space.new) }
+    ensures cause { Blamed S.Space (IsErrOf result OpenErr.Fault) space.old space.new }
 {
     let len = space.len(file);
     let size = head.size;
@@ -151,18 +131,16 @@ fn judge_section<S: Space>(
     ensures list { OnOk result (S.tells → IsListOf (unit head.now) (frees pool.now) (section_of head.now (S.now space.old file))) }
     ensures other { IfErr result (λ e. IsNoList S.tells file (unit head.now) (frees pool.now) (section_of head.now (S.now space.old file)) e) }
     ensures reads { OnlyReads S.Space space.old space.new }
-    ensures cause { IsErrOf result OpenErr.Fault → Rose (S.faults space.old) (S.faults space.new) }
+    ensures cause { Blamed S.Space (IsErrOf result OpenErr.Fault) space.old space.new }
 {
-    let Ok(()) = read_section(space, file, head, section) else {
-        return Err(OpenErr::Fault);
-    };
+    read_section(space, file, head, section)?;
     if !is_list(section, pool) {
         return Err(broken(file, 9));
     }
     Ok(())
 }
 
-// The same, with the memory for it.
+// The pool section lists free blocks of the pool; memory for the section is taken meanwhile.
 fn check_section<S: Space>(
     alloc: Global,
     space: &mut S,
@@ -177,18 +155,13 @@ fn check_section<S: Space>(
     ensures list { OnOk result (S.tells → IsListOf (unit head.now) (frees pool.now) (section_of head.now (S.now space.old file))) }
     ensures other { IfErr result (λ e. IsNoList S.tells file (unit head.now) (frees pool.now) (section_of head.now (S.now space.old file)) e) }
     ensures reads { OnlyReads S.Space space.old space.new }
-    ensures cause { IsErrOf result OpenErr.Fault → Rose (S.faults space.old) (S.faults space.new) }
+    ensures cause { Blamed S.Space (IsErrOf result OpenErr.Fault) space.old space.new }
 {
-    let Ok(mut section) = vec![in alloc; 0; section_size(head)] else {
-        return Err(OpenErr::Memory);
-    };
-    match judge_section(space, file, head, pool, &mut section) {
-        Ok(()) => Ok(()),
-        Err(e) => Err(e),
-    }
+    let mut section = vec![in alloc; 0; section_size(head)]?;
+    judge_section(space, file, head, pool, &mut section)
 }
 
-// The head, the blocks and the free blocks, read from the file where all rules hold.
+// The head and the free blocks, read from the file where all rules hold.
 struct Parts {
     head: Head,
     pool: Pool,
@@ -207,48 +180,38 @@ fn read_pool<S: Space>(
     requires found { S.tells → WasSurveyed head.now (S.now space.old file) found.now }
     ensures unit { IfOk result (λ pool. pool.unit ≡ unit head.now) }
     ensures size { IfOk result (λ pool. pool.size ≡ head.now.size) }
+    ensures noted { IfOk result (λ pool. pool.changed ≡ true) }
     ensures read { IfOk result (λ pool. S.tells → WasRead head.now.kind (S.now space.old file) head.now (frees pool)) }
     ensures broken { IfErr result (λ e. Breaks S.tells head.now.kind file (S.now space.old file) e) }
     ensures reads { OnlyReads S.Space space.old space.new }
-    ensures cause { IsErrOf result OpenErr.Fault → Rose (S.faults space.old) (S.faults space.new) }
+    ensures cause { Blamed S.Space (IsErrOf result OpenErr.Fault) space.old space.new }
 {
     match check(alloc, space, file, head, &found.facts) {
         Ok(()) => {}
         Err(e) => return Err(refusal(file, e)),
     }
-    let Ok(pool) = Pool::build(alloc, &found.frees, head.unit(), head.first, head.size) else {
-        return Err(OpenErr::Memory);
-    };
-    match check_section(alloc, space, file, head, &pool) {
-        Ok(()) => Ok(pool),
-        Err(e) => Err(e),
-    }
+    let pool = Pool::build(alloc, &found.frees, head.unit(), head.first, head.size)?;
+    check_section(alloc, space, file, head, &pool)?;
+    Ok(pool)
 }
 
-// Head, blocks and free blocks, one rule after the other.
+// Reads head and free blocks, one rule after the other.
 fn read_parts<S: Space>(alloc: Global, space: &mut S, file: u32, kind: u8) -> Result<Parts, OpenErr>
     requires sound { S.sound space.old }
     requires file { IsDataFile file }
     ensures valid { IfOk result (λ p. IsValid p.head × (p.head.kind ≡ kind)) }
     ensures unit { IfOk result (λ p. p.pool.unit ≡ unit p.head) }
     ensures size { IfOk result (λ p. p.pool.size ≡ p.head.size) }
+    ensures noted { IfOk result (λ p. p.pool.changed ≡ true) }
     ensures read { IfOk result (λ p. S.tells → WasRead kind (S.now space.old file) p.head (frees p.pool)) }
     ensures broken { IfErr result (λ e. Breaks S.tells kind file (S.now space.old file) e) }
     ensures reads { OnlyReads S.Space space.old space.new }
-    ensures cause { IsErrOf result OpenErr.Fault → Rose (S.faults space.old) (S.faults space.new) }
+    ensures cause { Blamed S.Space (IsErrOf result OpenErr.Fault) space.old space.new }
 {
-    let head = match load_head(space, file, kind) {
-        Ok(head) => head,
-        Err(e) => return Err(e),
-    };
-    let found = match read_blocks(alloc, space, file, &head) {
-        Ok(found) => found,
-        Err(e) => return Err(e),
-    };
-    match read_pool(alloc, space, file, &head, &found) {
-        Ok(pool) => Ok(Parts { head, pool }),
-        Err(e) => Err(e),
-    }
+    let head = load_head(space, file, kind)?;
+    let found = read_blocks(alloc, space, file, &head)?;
+    let pool = read_pool(alloc, space, file, &head, &found)?;
+    Ok(Parts { head, pool })
 }
 
 /// A file held open, with its head and its free blocks.
@@ -256,18 +219,22 @@ pub fn held_open<S: Space>(alloc: Global, file: u32, head: Head, pool: Pool) -> 
     requires file { IsDataFile file }
     requires head { IsValid head }
     requires unit { pool.unit ≡ unit head }
-    ensures { (result.file ≡ file) × (result.head ≡ head) × (result.pool ≡ pool) × (result.records ≡ head.records) × (result.region ≡ head.opaque) }
+    ensures body { (result.body.file ≡ file) × (result.body.head ≡ head) × (result.body.pool ≡ pool) }
+    ensures rest { (result.records ≡ head.records) × (result.region ≡ head.opaque) × (result.front ≡ None) }
 {
     let records = head.records;
     let region = head.opaque;
     Hash {
-        alloc,
-        file,
-        head,
-        pool,
+        body: Body {
+            alloc,
+            file,
+            head,
+            pool,
+        },
         records,
         region,
         gets: 0,
+        front: None,
         of: PhantomData,
     }
 }
@@ -280,17 +247,15 @@ impl<S: Space> Hash<S> {
     pub fn open(alloc: Global, space: &mut S, file: u32, kind: u8) -> Result<Hash<S>, OpenErr>
         requires sound { S.sound space.old }
         requires file { IsDataFile file }
-        ensures file { IfOk result (λ h. (h.file ≡ file) × (h.head.kind ≡ kind)) }
+        ensures file { IfOk result (λ h. (h.body.file ≡ file) × (h.body.head.kind ≡ kind)) }
         ensures stands { IfOk result (λ h. S.tells → (m : Map) × StandsWith kind (S.now space.old file) m h.region) }
-        ensures holds { IfOk result (λ h. S.tells → (m : Map) → StandsFor kind (S.now space.old file) (get m) → Holds h.head h.pool.size (frees h.pool) h.records m (S.now space.new file)) }
-        ensures head { IfOk result (λ h. S.tells → head_in (take 256 (S.now space.new file)) ≡ h.head) }
+        ensures holds { IfOk result (λ h. S.tells → (m : Map) → StandsFor kind (S.now space.old file) (get m) → holds h (S.now space.new file) m) }
+        ensures head { IfOk result (λ h. S.tells → head_in (take 256 (S.now space.new file)) ≡ h.body.head) }
         ensures broken { IfErr result (λ e. Breaks S.tells kind file (S.now space.old file) e) }
         ensures reads { OnlyReads S.Space space.old space.new }
-        ensures cause { IsErrOf result OpenErr.Fault → Rose (S.faults space.old) (S.faults space.new) }
+        ensures cause { Blamed S.Space (IsErrOf result OpenErr.Fault) space.old space.new }
     {
-        match read_parts(alloc, space, file, kind) {
-            Ok(Parts { head, pool }) => Ok(held_open(alloc, file, head, pool)),
-            Err(e) => Err(e),
-        }
+        let Parts { head, pool } = read_parts(alloc, space, file, kind)?;
+        Ok(held_open(alloc, file, head, pool))
     }
 }

@@ -11,7 +11,7 @@ impl<S: Space> Hash<S> {
     pub fn file(&self) -> u32
         ensures { result ≡ file_of self.now }
     {
-        self.file
+        self.body.file
     }
 
     /// The region of its owner.

@@ -1,16 +1,16 @@
 //! The pool section of a file, read.
-ghost use Rattle.std.specs.Prelude.{◌≡◌, ◌≢◌, ℕ, ◌+◌, ◌*◌, ◌<◌, ◌≤◌, ◌^◌, List, length, drop, IfSome, IfNone, OnOk, OnErr, Some, true, false};
-ghost use Rattle.tc_io.specs.Causes.{Rose};
+ghost use Rattle.std.specs.Prelude.{◌≡◌, ◌+◌, ◌*◌, ◌<◌, ◌≤◌, ◌^◌, length, drop, IfSome, IfNone, OnOk, Some, true, false};
+ghost use Rattle.tc_io.specs.Causes.{HasCause};
 ghost use Rattle.tc_space.specs.Frames.{OnlyReads};
 ghost use Rattle.hf_head.specs.Heads.{IsValid};
 ghost use Rattle.hf_block.specs.Walks.{HoldsUpTo};
 ghost use Rattle.hf_pool.specs.Pools.{frees};
-ghost use Rattle.tc_hash.specs.Sections.{IsEnd, IsListOf, IsNoPair, IsPair, section_of};
-ghost use Rattle.tc_hash.specs.Settling.{section_at, section_len};
+ghost use Rattle.tc_hash.specs.Sections.{IsEnd, IsListOf, IsNoPair, IsPair, section_at, section_len, section_of};
 
 use hf_head::Head;
 use hf_pool::Pool;
-use tc_base::{Fault, read_vnum};
+use tc_base::{FILE_MOST, FOUR_BYTES_END, Fault, read_vnum};
+use tc_reach::read_into;
 use tc_space::Space;
 
 // The bytes from a place on.
@@ -37,7 +37,7 @@ fn is_free(pool: &Pool, place: u64, size: u64) -> bool
     ensures free { result ≡ true → frees pool.now (pool.now.unit * place) ≡ Some (pool.now.unit * size) }
     ensures not { result ≡ false → frees pool.now (pool.now.unit * place) ≡ Some (pool.now.unit * size) → ⊥ }
 {
-    if size >= 1 << 32 {
+    if size >= FOUR_BYTES_END {
         return false;
     }
     match pool.free_at(pool.unit() * place) {
@@ -64,7 +64,7 @@ fn read_pair(bytes: &[u8], before: u64, pool: &Pool) -> Option<(u64, usize)>
     if difference == 0 {
         return None;
     }
-    if difference > 1 << 40 {
+    if difference > FILE_MOST {
         return None;
     }
     if !is_free(pool, before + difference, size) {
@@ -102,12 +102,9 @@ pub fn read_section<S: Space>(
     requires size { length into.old ≡ section_len head.now }
     ensures bytes { OnOk result (S.tells → into.new ≡ section_of head.now (S.now space.old file)) }
     ensures reads { OnlyReads S.Space space.old space.new }
-    ensures cause { OnErr result (Rose (S.faults space.old) (S.faults space.new)) }
+    ensures cause { HasCause (S.faults space.old) (S.faults space.new) result }
 {
-    match space.read(file, section_place(head), into) {
-        Ok(()) => Ok(()),
-        Err(e) => Err(e),
-    }
+    read_into(space, file, section_place(head), into)
 }
 
 /// Whether a pool section lists free blocks of the pool in ascending place, from its front up to two zero bytes.

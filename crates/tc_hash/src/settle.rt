@@ -1,121 +1,27 @@
 //! What is held in memory, brought to the file.
-ghost use Rattle.std.specs.Prelude.{◌≡◌, ◌⊎◌, ℕ, ◌+◌, ◌*◌, ◌≤◌, ◌^◌, List, length, take, IfOk, IfSome, IfNone, OnOk, OnErr, IsErrOf, true, false};
-ghost use Rattle.tc_base.specs.Files.{wrote};
-ghost use Rattle.tc_io.specs.Causes.{HasCause, Rose};
-ghost use Rattle.tc_space.specs.Effects.{Changes, Outcome};
+ghost use Rattle.std.specs.Prelude.{◌≡◌, ℕ, List, length, None, IfOk, OnOk, OnErr};
 ghost use Rattle.tc_base.specs.Maps.{Map};
-ghost use Rattle.tc_space.specs.Frames.{In, Keeps, OnlyReads};
-ghost use Rattle.tc_space.specs.Stores.{IsReady};
-ghost use Rattle.tc_space.specs.Ranges.{IsDataFile};
-ghost use Rattle.hf_head.specs.Heads.{IsValid, Spells, sections, spelled};
-ghost use Rattle.hf_block.specs.Walks.{HoldsUpTo};
-ghost use Rattle.hf_pool.specs.Pools.{frees};
+ghost use Rattle.tc_space.specs.Effects.{Outcome};
+ghost use Rattle.tc_space.specs.Frames.{Keeps, OnlyReads, OnlyWrites};
+ghost use Rattle.tc_space.specs.Refusals.{Blames, OnFault, OnlyLogIsFull};
+ghost use Rattle.hf_head.specs.Heads.{Spells, spelled};
 ghost use Rattle.hf_pool.specs.Trims.{Trimmed};
-ghost use Rattle.tc_hash.specs.Holding.{Holds};
-ghost use Rattle.tc_hash.specs.Keeping.{StaysOpen, file_of, holds};
-ghost use Rattle.tc_hash.specs.Sections.{section_of};
-ghost use Rattle.tc_hash.specs.Settling.{IsSectionOf, Settles, head_now, patched, section_at, section_len, settled};
+ghost use Rattle.hf_pool.specs.Pools.{frees};
+ghost use Rattle.tc_hash.specs.Bringing.{IsNewSection, MayWriteFront, MayWriteSection, WritesFront, WritesSection};
+ghost use Rattle.tc_hash.specs.Fronts.{IsFront};
+ghost use Rattle.tc_hash.specs.Holding.{HoldsMap};
+ghost use Rattle.tc_hash.specs.Keeping.{CanCall, Means, Refused, StaysOpen};
+ghost use Rattle.tc_hash.specs.Settling.{Settles, head_now};
 
+use crate::front::{Front, read_front};
 use crate::hash::Hash;
-use crate::open::read_front;
-use crate::section::{read_section, section_place, section_size};
-use crate::spaces::give_up;
+use crate::section::{section_place, section_size};
 use hf_head::Head;
-use hf_pool::Pool;
-use std::alloc::Global;
-use tc_base::{Blob, Fault};
+use hf_record::Body;
+use std::alloc::AllocError;
+use tc_base::Blob;
+use tc_reach::{append_zeros, cut_to, write_difference};
 use tc_space::{RecErr, Space};
-
-// Writes bytes over others of a file.
-fn write_over<S: Space>(space: &mut S, file: u32, at: u64, bytes: &[u8]) -> Result<(), RecErr>
-    requires sound { S.sound space.old }
-    requires file { IsDataFile file }
-    requires inside { S.tells → at + length bytes.now ≤ length (S.now space.old file) }
-    ensures wrote { OnOk result (S.tells → Changes S.now file (wrote at bytes.now (S.now space.old file)) space.old space.new) }
-    ensures outcome { Outcome S.sound S.flag result space.new }
-    ensures keeps { Keeps S.Space space.old space.new }
-    ensures full { IsErrOf result RecErr.Full → S.tells → S.log_full space.new }
-    ensures cause { IsErrOf result RecErr.Fault → Rose (S.faults space.old) (S.faults space.new) }
-{
-    match space.write(file, at, bytes) {
-        Ok(()) => Ok(()),
-        Err(e) => Err(RecErr::from(e)),
-    }
-}
-
-/// Cuts a file to a length, if it is longer.
-pub(crate) fn cut_to<S: Space>(space: &mut S, file: u32, len: u64) -> Result<(), RecErr>
-    requires sound { S.sound space.old }
-    requires file { IsDataFile file }
-    ensures cut { OnOk result (S.tells → Changes S.now file (take len (S.now space.old file)) space.old space.new) }
-    ensures outcome { Outcome S.sound S.flag result space.new }
-    ensures keeps { Keeps S.Space space.old space.new }
-    ensures full { IsErrOf result RecErr.Full → S.tells → S.log_full space.new }
-    ensures cause { IsErrOf result RecErr.Fault → Rose (S.faults space.old) (S.faults space.new) }
-{
-    if space.len(file) <= len {
-        return Ok(());
-    }
-    match space.cut(file, len) {
-        Ok(()) => Ok(()),
-        Err(e) => Err(RecErr::from(e)),
-    }
-}
-
-// Writes the section, if there is one to write.
-fn write_section<S: Space>(
-    space: &mut S,
-    file: u32,
-    at: u64,
-    section: &Option<Blob>,
-) -> Result<(), RecErr>
-    requires sound { S.sound space.old }
-    requires file { IsDataFile file }
-    requires inside { IfSome section.now (λ bytes. S.tells → at + length bytes ≤ length (S.now space.old file)) }
-    ensures wrote { OnOk result (S.tells → Changes S.now file (patched at section.now (S.now space.old file)) space.old space.new) }
-    ensures outcome { Outcome S.sound S.flag result space.new }
-    ensures keeps { Keeps S.Space space.old space.new }
-    ensures full { IsErrOf result RecErr.Full → S.tells → S.log_full space.new }
-    ensures cause { IsErrOf result RecErr.Fault → Rose (S.faults space.old) (S.faults space.new) }
-{
-    match section {
-        Some(bytes) => write_over(space, file, at, bytes.as_slice()),
-        None => Ok(()),
-    }
-}
-
-// Whether they are the same bytes.
-fn is_same(a: &[u8], b: &[u8]) -> bool
-    ensures { result ≡ true → a.now ≡ b.now }
-{
-    a == b
-}
-
-// The pool section as it is to be, if the file has other bytes there.
-fn new_section<S: Space>(
-    alloc: Global,
-    space: &mut S,
-    file: u32,
-    head: &Head,
-    pool: &Pool,
-) -> Result<Option<Blob>, RecErr>
-    requires holds { HoldsUpTo S.Space space.old file head.now.first }
-    requires head { IsValid head.now }
-    ensures some { IfOk result (λ o. IfSome o (λ bytes. IsSectionOf head.now pool.now.unit (frees pool.now) bytes × (length bytes ≡ section_len head.now))) }
-    ensures same { IfOk result (λ o. S.tells → IfNone o (IsSectionOf head.now pool.now.unit (frees pool.now) (section_of head.now (S.now space.old file)))) }
-    ensures reads { OnlyReads S.Space space.old space.new }
-    ensures cause { (IsErrOf result RecErr.Fault → Rose (S.faults space.old) (S.faults space.new)) × (IsErrOf result RecErr.Full → ⊥) }
-{
-    let len = section_size(head);
-    let mut section = Blob::new(alloc);
-    pool.section(len, &mut section)?;
-    let mut before = vec![in alloc; 0; len]?;
-    read_section(space, file, head, &mut before)?;
-    if is_same(&before, section.as_slice()) {
-        return Ok(None);
-    }
-    Ok(Some(section))
-}
 
 /// The bytes of a head.
 pub fn spelling(head: &Head) -> [u8; 256]
@@ -126,104 +32,125 @@ pub fn spelling(head: &Head) -> [u8; 256]
     head.write()
 }
 
-// Whether these bytes stand at the front of a file.
-fn has_front<S: Space>(space: &mut S, file: u32, bytes: &[u8; 256]) -> Result<bool, Fault>
-    requires holds { HoldsUpTo S.Space space.old file 256 }
-    ensures there { IfOk result (λ b. b ≡ true → S.tells → take (length bytes.now) (S.now space.old file) ≡ bytes.now) }
-    ensures reads { OnlyReads S.Space space.old space.new }
-    ensures cause { HasCause (S.faults space.old) (S.faults space.new) result }
+// The section of the free blocks, if they may have changed since it was written, and the one that stands in the file: as many bytes of both, behind which
+// there are zeros alone.
+fn new_section(body: &Body, old: &mut Blob) -> Result<Option<Blob>, AllocError>
+    ensures section { IfOk result (IsNewSection body.now old.old old.new) }
 {
-    let mut was = [0; 256];
-    match read_front(space, file, &mut was) {
-        Ok(()) => Ok(is_same(&was, bytes)),
-        Err(e) => Err(e),
+    if !body.pool.has_changed() {
+        return Ok(None);
     }
+    let mut section = Blob::new(body.alloc);
+    body.pool.pairs(section_size(&body.head), &mut section)?;
+    append_zeros(old.len().saturating_sub(section.len()), &mut section)?;
+    append_zeros(section.len().saturating_sub(old.len()), old)?;
+    Ok(Some(section))
 }
 
-// Writes bytes to the front of a file, and nothing where they stand there. After a refusal the space isn't sound.
-fn write_head<S: Space>(space: &mut S, file: u32, bytes: &[u8; 256]) -> Result<(), RecErr>
-    requires holds { HoldsUpTo S.Space space.old file 256 }
-    ensures wrote { OnOk result (S.tells → Changes S.now file (wrote 0 bytes.now (S.now space.old file)) space.old space.new) }
-    ensures outcome { Outcome S.sound S.flag result space.new }
-    ensures keeps { Keeps S.Space space.old space.new }
-    ensures full { IsErrOf result RecErr.Full → S.tells → S.log_full space.new }
-    ensures cause { IsErrOf result RecErr.Fault → Rose (S.faults space.old) (S.faults space.new) }
-{
-    match has_front(space, file, bytes) {
-        Ok(true) => return Ok(()),
-        Ok(false) => {}
-        Err(e) => {
-            give_up(space);
-            return Err(RecErr::from(e));
-        }
-    }
-    match write_over(space, file, 0, bytes) {
-        Ok(()) => Ok(()),
-        Err(e) => Err(e),
-    }
-}
-
-/// Writes a head and the pool section, each where it has changed, and cuts the file to the head's file size. After a refusal the space isn't sound.
-pub fn write_front<S: Space>(
+// Writes the section over the old one, if there is one to write.
+fn write_section<S: Space>(
     space: &mut S,
-    file: u32,
-    head: &Head,
+    body: &Body,
+    old: &[u8],
     section: &Option<Blob>,
 ) -> Result<(), RecErr>
-    requires holds { HoldsUpTo S.Space space.old file (sections head.now) }
-    requires buckets { head.now.buckets ≤ 2 ^ 38 }
-    requires section { IfSome section.now (λ bytes. length bytes ≡ section_len head.now) }
-    ensures wrote { OnOk result (S.tells → Changes S.now file (settled head.now section.now (S.now space.old file)) space.old space.new) }
+    requires { MayWriteSection S.Space body.now old.now section.now space.old }
+    ensures wrote { OnOk result (WritesSection S.Space body.now section.now space.old space.new) }
     ensures outcome { Outcome S.sound S.flag result space.new }
-    ensures keeps { Keeps S.Space space.old space.new }
-    ensures full { IsErrOf result RecErr.Full → S.tells → S.log_full space.new }
-    ensures spells { Spells head.now (spelled head.now) × (length (spelled head.now) ≡ 256) }
-    ensures cause { IsErrOf result RecErr.Fault → Rose (S.faults space.old) (S.faults space.new) }
+    ensures writes { OnlyWrites S.Space space.old space.new }
+    ensures full { OnlyLogIsFull S.Space result space.new }
+    ensures cause { OnFault S.Space result space.old space.new }
 {
-    write_head(space, file, &spelling(head))?;
-    write_section(space, file, section_place(head), section)?;
-    cut_to(space, file, head.size)
+    match section {
+        Some(bytes) => write_difference(
+            space,
+            body.file,
+            section_place(&body.head),
+            old,
+            bytes.as_slice(),
+        ),
+        None => Ok(()),
+    }
+}
+
+/// Writes a head and the pool section, of each the bytes that differ from those that stand there, and cuts the file to a size. After a refusal the space
+/// isn't sound.
+pub(crate) fn write_front<S: Space>(
+    space: &mut S,
+    body: &Body,
+    front: &Front,
+    head: &[u8; 256],
+    section: &Option<Blob>,
+    size: u64,
+) -> Result<(), RecErr>
+    requires { MayWriteFront S.Space body.now front.now section.now space.old }
+    ensures wrote { OnOk result (WritesFront S.Space body.now head.now section.now size space.old space.new) }
+    ensures outcome { Outcome S.sound S.flag result space.new }
+    ensures writes { OnlyWrites S.Space space.old space.new }
+    ensures full { OnlyLogIsFull S.Space result space.new }
+    ensures cause { OnFault S.Space result space.old space.new }
+{
+    write_difference(space, body.file, 0, &front.head, head)?;
+    write_section(space, body, front.section.as_slice(), section)?;
+    cut_to(space, body.file, size)
 }
 
 impl<S: Space> Hash<S> {
     /// The head of the file as it is to be.
     pub(crate) fn head_now(&self) -> Head
-        ensures { result ≡ head_now self.now.head self.now.records self.now.pool.size self.now.region }
+        ensures { result ≡ head_now self.now.body.head self.now.records self.now.body.pool.size self.now.region }
     {
+        let head = &self.body.head;
         Head {
-            kind: self.head.kind,
-            apow: self.head.apow,
-            fpow: self.head.fpow,
-            options: self.head.options,
-            buckets: self.head.buckets,
+            kind: head.kind,
+            apow: head.apow,
+            fpow: head.fpow,
+            options: head.options,
+            buckets: head.buckets,
             records: self.records,
-            size: self.pool.size(),
-            first: self.head.first,
+            size: self.body.pool.size(),
+            first: head.first,
             opaque: self.region,
         }
     }
 
-    /// Brings what is held in memory to the file: free blocks at its end are dropped, the head and the pool section are written, each where it
-    /// has changed, and the file is cut to its size. Then the file stands for the map. After a refusal the space isn't sound, or nothing was written.
-    pub fn settle(&mut self, space: &mut S) -> Result<(), RecErr>
-        requires { IsReady S.Space (In S.Space file_of holds) self.old space.old }
-        ensures settled { OnOk result (Settles S.Space self.old self.new space.old space.new) }
-        ensures trimmed { (m : Map) (bytes : List ℕ) → Holds self.old.head self.old.pool.size (frees self.old.pool) self.old.records m bytes → Holds self.new.head self.new.pool.size (frees self.new.pool) self.new.records m bytes }
-        ensures stays { StaysOpen self.old self.new }
-        ensures dropped { Trimmed (frees self.old.pool) (frees self.new.pool) self.old.pool.size self.new.pool.size }
-        ensures refused { OnErr result ((S.flag space.new ≡ false) ⊎ OnlyReads S.Space space.old space.new) }
-        ensures keeps { Keeps S.Space space.old space.new }
-        ensures full { IsErrOf result RecErr.Full → S.tells → S.log_full space.new }
-        ensures cause { IsErrOf result RecErr.Fault → Rose (S.faults space.old) (S.faults space.new) }
+    // What stands in front of the blocks, which isn't kept any more. It is read where it isn't known.
+    fn take_front(&mut self, space: &mut S) -> Result<Front, RecErr>
+        requires { CanCall S.Space self.old space.old }
+        ensures front { IfOk result (λ f. (m : Map) → Means S.Space self.old space.old m → IsFront self.old.body.head f (S.now space.old self.old.body.file)) }
+        ensures stays { self.new ≡ record self.old { front = None } }
+        ensures reads { OnlyReads S.Space space.old space.new }
+        ensures cause { Blames S.Space result space.old space.new }
     {
-        self.pool.trim();
-        let section = match new_section(self.alloc, space, self.file, &self.head, &self.pool) {
-            Ok(section) => section,
-            Err(e) => return Err(e),
-        };
-        match write_front(space, self.file, &self.head_now(), &section) {
-            Ok(()) => Ok(()),
-            Err(e) => Err(e),
+        match self.front.take() {
+            Some(front) => Ok(front),
+            None => read_front(&self.body, space),
         }
+    }
+
+    /// Brings what is held in memory to the file: free blocks at its end are dropped, the head and the pool section are written, of each the bytes that
+    /// differ from those that were read or written last, and the file is cut to its size. Then the file stands for the map. After a refusal the space isn't
+    /// sound, or nothing was written.
+    pub fn settle(&mut self, space: &mut S) -> Result<(), RecErr>
+        requires { CanCall S.Space self.old space.old }
+        ensures settled { OnOk result (Settles S.Space self.old self.new space.old space.new) }
+        ensures trimmed { (m : Map) (bytes : List ℕ) → HoldsMap self.old bytes m → HoldsMap self.new bytes m }
+        ensures stays { StaysOpen self.old self.new }
+        ensures dropped { Trimmed (frees self.old.body.pool) (frees self.new.body.pool) self.old.body.pool.size self.new.body.pool.size }
+        ensures refused { OnErr result (Refused S.Space self.old self.new space.old space.new) }
+        ensures keeps { Keeps S.Space space.old space.new }
+        ensures full { OnlyLogIsFull S.Space result space.new }
+        ensures cause { OnFault S.Space result space.old space.new }
+    {
+        self.body.pool.trim();
+        let mut front = self.take_front(space)?;
+        let section = new_section(&self.body, &mut front.section)?;
+        let head = spelling(&self.head_now());
+        let size = self.body.pool.size();
+        write_front(space, &self.body, &front, &head, &section, size)?;
+        let section = section.unwrap_or(front.section);
+        self.front = Some(Front { head, section });
+        self.body.pool.mark_written();
+        Ok(())
     }
 }

@@ -1,32 +1,29 @@
 //! The keys of a file, in order.
-ghost use Rattle.std.specs.Prelude.{◌≡◌, ℕ, ◌≤◌, ◌++◌, ◌∷◌, [], List, length, IfOk, OnOk, IsErrOf};
+ghost use Rattle.std.specs.Prelude.{◌≡◌, ◌≤◌, ◌++◌, ◌∷◌, [], List, IfOk, OnOk};
 ghost use Rattle.std.specs.FinMap.{keys};
 ghost use Rattle.std.specs.Ordering.{nat_cmp};
 ghost use Rattle.std.specs.Cmp.Lexicographic.{slice_cmp};
 ghost use Rattle.std.specs.List.Sorted.{IsPermutation, IsSorted};
 ghost use Rattle.tc_base.specs.Maps.{Map};
-ghost use Rattle.tc_io.specs.Causes.{Rose};
-ghost use Rattle.tc_space.specs.Frames.{In, Keeps, OnlyReads, Reads};
+ghost use Rattle.tc_space.specs.Frames.{Keeps, OnlyReads};
 ghost use Rattle.tc_space.specs.Ranges.{IsDataFile};
-ghost use Rattle.tc_space.specs.Stores.{IsReady};
-ghost use Rattle.hf_head.specs.Heads.{IsValid};
+ghost use Rattle.tc_space.specs.Refusals.{Blames};
 ghost use Rattle.hf_block.specs.Pieces.{Record, Piece};
-ghost use Rattle.hf_tree.specs.Links.{HasBlocks};
 ghost use Rattle.hf_chain.specs.Heads.{HasRecord, IsRecordAt};
-ghost use Rattle.hf_chain.specs.Listing.{AreListed, WereListed};
-ghost use Rattle.tc_window.specs.Windows.{Shows};
-ghost use Rattle.tc_hash.specs.Keeping.{file_of, holds, StaysOpen};
-ghost use Rattle.tc_hash.specs.Listed.{keys_of};
+ghost use Rattle.hf_tree.specs.Listing.{AreListed, WereListed};
+ghost use Rattle.tc_reach.specs.Windows.{Shows};
+ghost use Rattle.tc_hash.specs.Keeping.{CanCall, Looks, Means, StaysOpen};
+ghost use Rattle.tc_hash.specs.Listed.{CanList, OfBlocks, keys_of};
 
 use crate::hash::Hash;
-use crate::walking::{list_blocks, read_refusal};
+use crate::walking::list_blocks;
 use hf_block::Blocks;
 use hf_chain::head_at;
 use hf_head::Head;
 use std::alloc::Global;
-use tc_base::{Blob, Blobs, Steps};
+use tc_base::{Blob, Blobs, FILE_MOST, Steps};
+use tc_reach::Window;
 use tc_space::{RecErr, Space};
-use tc_window::Window;
 
 // Adds the key of the record at a place.
 fn add_key<S: Space>(
@@ -44,25 +41,14 @@ fn add_key<S: Space>(
     ensures added { OnOk result (S.tells → (r : Record) → HasRecord head.now r place (S.now space.old file) → keys.new ≡ keys.old ++ r.key ∷ []) }
     ensures shows { OnOk result (S.tells → Shows window.new (S.now space.old file)) }
     ensures reads { OnlyReads S.Space space.old space.new }
-    ensures cause { (IsErrOf result RecErr.Fault → Rose (S.faults space.old) (S.faults space.new)) × (IsErrOf result RecErr.Full → ⊥) }
+    ensures cause { Blames S.Space result space.old space.new }
 {
-    let rec = match head_at(space, file, head, place, window) {
-        Ok(rec) => rec,
-        Err(e) => return Err(read_refusal(e)),
-    };
+    let rec = head_at(space, file, head, place, window)?;
     let start = place.saturating_add(rec.head);
-    match window.fill(space, file, start, rec.key as usize) {
-        Ok(()) => {}
-        Err(e) => return Err(read_refusal(e)),
-    }
-    let key = match Blob::from_slice(alloc, window.get(start, rec.key as usize)) {
-        Ok(key) => key,
-        Err(e) => return Err(RecErr::from(e)),
-    };
-    match keys.push(key) {
-        Ok(()) => Ok(()),
-        Err(e) => Err(RecErr::from(e)),
-    }
+    window.fill(space, file, start, rec.key as usize)?;
+    let key = Blob::from_slice(alloc, window.get(start, rec.key as usize))?;
+    keys.push(key)?;
+    Ok(())
 }
 
 // The keys of the records of a list of blocks. Each record's head and key are read once, many at a time.
@@ -78,7 +64,7 @@ fn read_keys<S: Space>(
     requires listed { S.tells → WereListed head.now (S.now space.old file) blocks.now }
     ensures keys { IfOk result (λ ks. S.tells → (ps : List Piece) → AreListed head.now ps (S.now space.old file) blocks.now → ks ≡ keys_of ps) }
     ensures reads { OnlyReads S.Space space.old space.new }
-    ensures cause { (IsErrOf result RecErr.Fault → Rose (S.faults space.old) (S.faults space.new)) × (IsErrOf result RecErr.Full → ⊥) }
+    ensures cause { Blames S.Space result space.old space.new }
 {
     let mut window = Window::new(alloc);
     let mut keys = Blobs::new(alloc);
@@ -87,7 +73,7 @@ fn read_keys<S: Space>(
         if block.free {
             continue;
         }
-        match add_key(
+        add_key(
             alloc,
             space,
             file,
@@ -95,15 +81,12 @@ fn read_keys<S: Space>(
             block.place,
             &mut window,
             &mut keys,
-        ) {
-            Ok(()) => {}
-            Err(e) => return Err(e),
-        }
+        )?;
     }
     Ok(keys)
 }
 
-// The same byte strings in ascending order.
+// Byte strings in ascending order.
 fn sorted(list: Blobs) -> Blobs
     ensures same { IsPermutation list result }
     ensures order { IsSorted (slice_cmp nat_cmp) result }
@@ -120,44 +103,35 @@ fn list_keys<S: Space>(
     file: u32,
     head: &Head,
 ) -> Result<Blobs, RecErr>
-    requires always { (S.sound space.old) × IsDataFile file × IsValid head.now }
-    requires filled { S.tells → (ps : List Piece) × HasBlocks head.now head.now.size ps (S.now space.old file) }
-    ensures keys { IfOk result (λ ks. S.tells → (ps : List Piece) → HasBlocks head.now head.now.size ps (S.now space.old file) → IsPermutation (keys_of ps) ks) }
+    requires { CanList S.Space head.now file space.old }
+    ensures keys { IfOk result (λ ks. OfBlocks S.Space head.now file space.old (λ ps. IsPermutation (keys_of ps) ks)) }
     ensures order { IfOk result (λ ks. IsSorted (slice_cmp nat_cmp) ks) }
     ensures reads { OnlyReads S.Space space.old space.new }
-    ensures cause { (IsErrOf result RecErr.Fault → Rose (S.faults space.old) (S.faults space.new)) × (IsErrOf result RecErr.Full → ⊥) }
+    ensures cause { Blames S.Space result space.old space.new }
 {
-    let listed = match list_blocks(alloc, space, file, head) {
-        Ok(listed) => listed,
-        Err(e) => return Err(e),
-    };
-    match read_keys(alloc, space, file, head, &listed) {
-        Ok(keys) => Ok(sorted(keys)),
-        Err(e) => Err(e),
-    }
+    let listed = list_blocks(alloc, space, file, head)?;
+    let keys = read_keys(alloc, space, file, head, &listed)?;
+    Ok(sorted(keys))
 }
 
 impl<S: Space> Hash<S> {
     /// The keys, in ascending order of their bytes. It reads each block's head and each key, many at a time, and changes nothing.
     pub fn keys<L>(&mut self, space: &mut S, steps: &mut Steps<L>) -> Result<Blobs, RecErr>
-        requires { IsReady S.Space (In S.Space file_of holds) self.old space.old }
-        ensures value { IfOk result (λ all. (m : Map) → In S.Space file_of holds self.old space.old m → all ≡ keys m) }
-        ensures reads { Reads S.Space (In S.Space file_of holds) self.old self.new space.old space.new }
+        requires { CanCall S.Space self.old space.old }
+        ensures value { IfOk result (λ all. (m : Map) → Means S.Space self.old space.old m → all ≡ keys m) }
+        ensures reads { Looks S.Space self.old self.new space.old space.new }
         ensures keeps { Keeps S.Space space.old space.new }
         ensures stays { StaysOpen self.old self.new }
         ensures same { self.new ≡ self.old }
         ensures steps { steps.old ≤ steps.new }
-        ensures cause { (IsErrOf result RecErr.Fault → Rose (S.faults space.old) (S.faults space.new)) × (IsErrOf result RecErr.Full → ⊥) }
+        ensures cause { Blames S.Space result space.old space.new }
     {
         let _ = steps;
         let head = self.head_now();
         // of a file whose bytes are told it is so
-        if head.size < head.first || head.size > 1 << 40 {
+        if head.size < head.first || head.size > FILE_MOST {
             return Err(RecErr::Memory);
         }
-        match list_keys(self.alloc, space, self.file, &head) {
-            Ok(keys) => Ok(keys),
-            Err(e) => Err(e),
-        }
+        list_keys(self.body.alloc, space, self.body.file, &head)
     }
 }

@@ -1,27 +1,25 @@
 //! How many bytes all keys and values of a file have.
-ghost use Rattle.std.specs.Prelude.{◌≡◌, ℕ, ◌+◌, List, length, IfOk, IfSome, OnOk, IsErrOf};
+ghost use Rattle.std.specs.Prelude.{◌≡◌, ◌+◌, List, length, IfOk, IfSome, OnOk};
 ghost use Rattle.tc_base.specs.Maps.{Map};
-ghost use Rattle.tc_io.specs.Causes.{Rose};
-ghost use Rattle.tc_space.specs.Frames.{In, OnlyReads};
+ghost use Rattle.tc_space.specs.Frames.{OnlyReads};
 ghost use Rattle.tc_space.specs.Ranges.{IsDataFile};
-ghost use Rattle.tc_space.specs.Stores.{IsReady};
-ghost use Rattle.hf_head.specs.Heads.{IsValid};
+ghost use Rattle.tc_space.specs.Refusals.{Blames};
 ghost use Rattle.hf_block.specs.Pieces.{Record, Piece};
-ghost use Rattle.hf_tree.specs.Links.{HasBlocks};
 ghost use Rattle.hf_chain.specs.Heads.{HasRecord, IsRecordAt};
-ghost use Rattle.hf_chain.specs.Listing.{AreListed, WereListed};
-ghost use Rattle.tc_window.specs.Windows.{Shows};
-ghost use Rattle.tc_hash.specs.Keeping.{file_of, holds};
-ghost use Rattle.tc_hash.specs.Listed.{bytes_in, bytes_of};
+ghost use Rattle.hf_tree.specs.Listing.{AreListed, WereListed};
+ghost use Rattle.tc_reach.specs.Windows.{Shows};
+ghost use Rattle.tc_hash.specs.Keeping.{CanCall, Means};
+ghost use Rattle.tc_hash.specs.Listed.{CanList, OfBlocks, bytes_in, bytes_of};
 
 use crate::hash::Hash;
-use crate::walking::{list_blocks, read_refusal};
+use crate::walking::list_blocks;
 use hf_block::Blocks;
 use hf_chain::head_at;
 use hf_head::Head;
 use std::alloc::Global;
+use tc_base::FILE_MOST;
+use tc_reach::Window;
 use tc_space::{RecErr, Space};
-use tc_window::Window;
 
 // The sum of three numbers, if it has 64 bits.
 fn sum_of(a: u64, b: u64, c: u64) -> Option<u64>
@@ -45,12 +43,9 @@ fn add_bytes<S: Space>(
     ensures added { IfOk result (λ n. S.tells → (r : Record) → HasRecord head.now r place (S.now space.old file) → n ≡ total + length r.key + length r.value) }
     ensures shows { OnOk result (S.tells → Shows window.new (S.now space.old file)) }
     ensures reads { OnlyReads S.Space space.old space.new }
-    ensures cause { (IsErrOf result RecErr.Fault → Rose (S.faults space.old) (S.faults space.new)) × (IsErrOf result RecErr.Full → ⊥) }
+    ensures cause { Blames S.Space result space.old space.new }
 {
-    let rec = match head_at(space, file, head, place, window) {
-        Ok(rec) => rec,
-        Err(e) => return Err(read_refusal(e)),
-    };
+    let rec = head_at(space, file, head, place, window)?;
     match sum_of(total, rec.key, rec.value) {
         Some(sum) => Ok(sum),
         None => Err(RecErr::Memory),
@@ -70,7 +65,7 @@ fn read_bytes<S: Space>(
     requires listed { S.tells → WereListed head.now (S.now space.old file) blocks.now }
     ensures bytes { IfOk result (λ n. S.tells → (ps : List Piece) → AreListed head.now ps (S.now space.old file) blocks.now → n ≡ bytes_of ps) }
     ensures reads { OnlyReads S.Space space.old space.new }
-    ensures cause { (IsErrOf result RecErr.Fault → Rose (S.faults space.old) (S.faults space.new)) × (IsErrOf result RecErr.Full → ⊥) }
+    ensures cause { Blames S.Space result space.old space.new }
 {
     let mut window = Window::new(alloc);
     let mut total = 0;
@@ -79,49 +74,36 @@ fn read_bytes<S: Space>(
         if block.free {
             continue;
         }
-        match add_bytes(space, file, head, block.place, &mut window, total) {
-            Ok(sum) => total = sum,
-            Err(e) => return Err(e),
-        }
+        total = add_bytes(space, file, head, block.place, &mut window, total)?;
     }
     Ok(total)
 }
 
 // The bytes of all keys and values of a file whose blocks end at its head's size.
 fn sum_bytes<S: Space>(alloc: Global, space: &mut S, file: u32, head: &Head) -> Result<u64, RecErr>
-    requires always { (S.sound space.old) × IsDataFile file × IsValid head.now }
-    requires filled { S.tells → (ps : List Piece) × HasBlocks head.now head.now.size ps (S.now space.old file) }
-    ensures bytes { IfOk result (λ n. S.tells → (ps : List Piece) → HasBlocks head.now head.now.size ps (S.now space.old file) → n ≡ bytes_of ps) }
+    requires { CanList S.Space head.now file space.old }
+    ensures bytes { IfOk result (λ n. OfBlocks S.Space head.now file space.old (λ ps. n ≡ bytes_of ps)) }
     ensures reads { OnlyReads S.Space space.old space.new }
-    ensures cause { (IsErrOf result RecErr.Fault → Rose (S.faults space.old) (S.faults space.new)) × (IsErrOf result RecErr.Full → ⊥) }
+    ensures cause { Blames S.Space result space.old space.new }
 {
-    let listed = match list_blocks(alloc, space, file, head) {
-        Ok(listed) => listed,
-        Err(e) => return Err(e),
-    };
-    match read_bytes(alloc, space, file, head, &listed) {
-        Ok(total) => Ok(total),
-        Err(e) => Err(e),
-    }
+    let listed = list_blocks(alloc, space, file, head)?;
+    read_bytes(alloc, space, file, head, &listed)
 }
 
 impl<S: Space> Hash<S> {
     /// The bytes of all keys and values. It reads each block's head, many at a time, and changes nothing.
     pub fn bytes(&mut self, space: &mut S) -> Result<u64, RecErr>
-        requires { IsReady S.Space (In S.Space file_of holds) self.old space.old }
-        ensures value { IfOk result (λ n. (m : Map) → In S.Space file_of holds self.old space.old m → n ≡ bytes_in m) }
+        requires { CanCall S.Space self.old space.old }
+        ensures value { IfOk result (λ n. (m : Map) → Means S.Space self.old space.old m → n ≡ bytes_in m) }
         ensures reads { OnlyReads S.Space space.old space.new }
         ensures same { self.new ≡ self.old }
-        ensures cause { (IsErrOf result RecErr.Fault → Rose (S.faults space.old) (S.faults space.new)) × (IsErrOf result RecErr.Full → ⊥) }
+        ensures cause { Blames S.Space result space.old space.new }
     {
         let head = self.head_now();
         // of a file whose bytes are told it is so
-        if head.size < head.first || head.size > 1 << 40 {
+        if head.size < head.first || head.size > FILE_MOST {
             return Err(RecErr::Memory);
         }
-        match sum_bytes(self.alloc, space, self.file, &head) {
-            Ok(total) => Ok(total),
-            Err(e) => Err(e),
-        }
+        sum_bytes(self.body.alloc, space, self.body.file, &head)
     }
 }

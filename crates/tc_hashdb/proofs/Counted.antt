@@ -9,6 +9,7 @@ use Rattle.tc_maps.specs.Sizes.{entry_size, size_gone, size_of}
 use Rattle.tc_maps.proofs.Bytes.{gone_same, size-insert, size-remove}
 use Rattle.tc_space.specs.Changes.{out_of, put_in, put_value}
 use Rattle.tc_hashdb.specs.Changing.{len_after}
+use Rattle.tc_hashdb.specs.Counting.{IsCountedWith}
 use Rattle.tc_hashdb.proofs.Kept.{Counts}
 
 -- the length of the value that a put gives
@@ -24,16 +25,17 @@ some_same o n t a b = ap (λ x. unwrap_or x n) (sym b ∙ a)
 total_is : (total : Option ℕ) (t : ℕ) (m : Map) → total ≡ Some t → Counts total m → t ≡ size_of m
 total_is total t m is counted = subst (λ o. Counts o m) is counted
 
-pub counts_put : (total after old : Option ℕ) (mode : Mode) (m : Map) (key value : List ℕ) (long len : ℕ) → long ≡ length key → old ≡ option_map length (get m key) → len ≡ len_after mode old (length value) → Counts total m
-    → IfSome after (λ n. (t : ℕ) × (total ≡ Some t) × (n + size_gone long old ≡ t + (long + len))) → Counts after (put_in mode key value m)
-counts_put total None old mode m key value long len is_long is_old is_len counted with = tt
-counts_put total (Some n) old mode m key value long len is_long is_old is_len counted with =
+pub counts_put : (total after old len : Option ℕ) (mode : Mode) (m : Map) (key value : List ℕ) (long : ℕ) → long ≡ length key → old ≡ option_map length (get m key) → IfSome len (λ n. n ≡ len_after mode old (length value)) → Counts total m
+    → IfSome after (λ n. IsCountedWith long old total len n) → Counts after (put_in mode key value m)
+counts_put total None old len mode m key value long is_long is_old lens counted with = tt
+counts_put total (Some n) old len mode m key value long is_long is_old lens counted with =
     let new : List ℕ = put_value mode (get m key) value in
     let law : size_of (insert m key new) + entry_size (length key) (get m key) ≡ size_of m + (length key + length new) = size-insert m key new in
     let gone : size_gone long old ≡ entry_size (length key) (get m key) = gone_same (length key) long (get m key) old is_long is_old in
-    let t_is : with.0 ≡ size_of m = total_is total with.0 m with.1 counted in
-    let sized : len ≡ length new = is_len ∙ (ap (λ o. len_after mode o (length value)) is_old ∙ sym (len_is mode (get m key) value)) in
-    omega (arith, law, gone, t_is, sized, with.2, is_long)
+    let t_is : with.0 ≡ size_of m = total_is total with.0 m with.2 counted in
+    let len_is_so : with.1 ≡ len_after mode old (length value) = subst (λ o. IfSome o (λ n. n ≡ len_after mode old (length value))) with.3 lens in
+    let sized : with.1 ≡ length new = len_is_so ∙ (ap (λ o. len_after mode o (length value)) is_old ∙ sym (len_is mode (get m key) value)) in
+    omega (arith, law, gone, t_is, sized, with.4, is_long)
 
 pub counts_out : (total after : Option ℕ) (m : Map) (key : List ℕ) (long old : ℕ) → long ≡ length key → Some old ≡ option_map length (get m key) → Counts total m → IfSome after (λ n. (t : ℕ) × (total ≡ Some t) × (n + size_gone long (Some old) ≡ t)) → Counts after (out_of key m)
 counts_out total None m key long old is_long is_old counted with = tt

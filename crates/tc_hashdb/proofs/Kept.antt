@@ -19,7 +19,7 @@ module _ {S : Type 0} (s : Ghosts S) where
   pub in_of : (e : HashEngine S) (a : S) (m : Map) → Means s e a m → In s file_of holds e.hash a m
   in_of e a m means = (means.0, subst (λ f. holds e.hash (s.now a f) m) (sym means.1.file) means.1.holds_it)
 
-  pub means_again : (e e' : HashEngine S) (a b : S) (m n : Map) → Means s e a m → e'.hash.file ≡ e.hash.file → e'.hash.head.kind ≡ e.hash.head.kind → In s file_of holds e'.hash b n → Counts e'.total n → Means s e' b n
+  pub means_again : (e e' : HashEngine S) (a b : S) (m n : Map) → Means s e a m → e'.hash.body.file ≡ e.hash.body.file → e'.hash.body.head.kind ≡ e.hash.body.head.kind → In s file_of holds e'.hash b n → Counts e'.total n → Means s e' b n
   means_again e e' a b m n means file kind held counted = (
     held.0,
     record {
@@ -33,10 +33,10 @@ module _ {S : Type 0} (s : Ghosts S) where
   pub ready_hash : (e : HashEngine S) (a : S) → IsReady s (Means s) e a → IsReady s (In s file_of holds) e.hash a
   ready_hash e a ready = record { sound = ready.sound; held = λ t. let h = ready.held t in (h.0, in_of e a h.0 h.1) }
 
-  pub main_file : (e : HashEngine S) (a : S) → IsReady s (Means s) e a → s.tells → e.hash.file ≡ 0
+  pub main_file : (e : HashEngine S) (a : S) → IsReady s (Means s) e a → s.tells → e.hash.body.file ≡ 0
   main_file e a ready t = (ready.held t).1.1.file
 
-  pub reads_again : (e e' : HashEngine S) (a b : S) → Reads s (In s file_of holds) e.hash e'.hash a b → e'.hash.file ≡ e.hash.file → e'.hash.head ≡ e.hash.head → e'.total ≡ e.total → Reads s (Means s) e e' a b
+  pub reads_again : (e e' : HashEngine S) (a b : S) → Reads s (In s file_of holds) e.hash e'.hash a b → e'.hash.body.file ≡ e.hash.body.file → e'.hash.body.head ≡ e.hash.body.head → e'.total ≡ e.total → Reads s (Means s) e e' a b
   reads_again e e' a b reads file head total = record {
     now = reads.now;
     touched = reads.touched;
@@ -44,7 +44,7 @@ module _ {S : Type 0} (s : Ghosts S) where
     means = λ m means. means_again e e' a b m m means file (ap (λ h. h.kind) head) (reads.means m (in_of e a m means)) (subst (λ o. Counts o m) (sym total) means.1.counted);
   }
 
-  pub refuses_again : (e e' : HashEngine S) (a b : S) → Refuses s (In s file_of holds) e.hash e'.hash a b → e'.hash.file ≡ e.hash.file → e'.hash.head ≡ e.hash.head → e'.total ≡ e.total → Refuses s (Means s) e e' a b
+  pub refuses_again : (e e' : HashEngine S) (a b : S) → Refuses s (In s file_of holds) e.hash e'.hash a b → e'.hash.body.file ≡ e.hash.body.file → e'.hash.body.head ≡ e.hash.body.head → e'.total ≡ e.total → Refuses s (Means s) e e' a b
   refuses_again e e' a b refuses file head total = ⊎_elim (λ spoiled. inl spoiled) (λ reads. inr (reads_again e e' a b reads file head total)) refuses
 
   -- the bytes were counted
@@ -53,12 +53,12 @@ module _ {S : Type 0} (s : Ghosts S) where
     now = reads.files;
     touched = reads.untouched;
     sound = reads.is_sound;
-    means = λ m means. means_again e e' a b m m means (ap (λ h. h.file) same) (ap (λ h. h.head.kind) same)
-        (means.0, subst (λ (h : Hash S). holds h (s.now b h.file) m) (sym same) (subst (λ bytes. holds e.hash bytes m) (sym (reads.files means.0 e.hash.file)) (in_of e a m means).1))
+    means = λ m means. means_again e e' a b m m means (ap (λ h. h.body.file) same) (ap (λ h. h.body.head.kind) same)
+        (means.0, subst (λ (h : Hash S). holds h (s.now b h.body.file) m) (sym same) (subst (λ bytes. holds e.hash bytes m) (sym (reads.files means.0 e.hash.body.file)) (in_of e a m means).1))
         (counted m means);
   }
 
-  pub writes_again : (f : Map → Map) (e e' : HashEngine S) (a b : S) → IsReady s (Means s) e a → Writes s (Only (file_of e.hash)) (In s file_of holds) f e.hash e'.hash a b → e'.hash.file ≡ e.hash.file → e'.hash.head.kind ≡ e.hash.head.kind → ((m : Map) → Means s e a m → Counts e'.total (f m)) → Writes s (Only 0) (Means s) f e e' a b
+  pub writes_again : (f : Map → Map) (e e' : HashEngine S) (a b : S) → IsReady s (Means s) e a → Writes s (Only (file_of e.hash)) (In s file_of holds) f e.hash e'.hash a b → e'.hash.body.file ≡ e.hash.body.file → e'.hash.body.head.kind ≡ e.hash.body.head.kind → ((m : Map) → Means s e a m → Counts e'.total (f m)) → Writes s (Only 0) (Means s) f e e' a b
   writes_again f e e' a b ready writes file kind counted = record {
     sound = writes.sound;
     means = λ m means. means_again e e' a b m (f m) means file kind (writes.means m (in_of e a m means)) (counted m means);

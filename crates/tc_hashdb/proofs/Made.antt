@@ -1,6 +1,6 @@
 -- A file that is opened, or made anew.
 use Rattle.std.proofs.Common.{◌≡◌, inl, inr, ⊎_elim, ◌≤◌, false, length, take, refl, sym, ap, subst, arith}
-use Rattle.std.specs.Prelude.{IfSome, Some, None}
+use Rattle.std.specs.Prelude.{IfOk, OnOk, IfSome, Some, None, Result, Ok, Err}
 use Rattle.std.specs.FinMap.{empty, get}
 use Rattle.tc_base.specs.Files.{Files}
 use Rattle.tc_base.specs.Maps.{Map}
@@ -9,16 +9,15 @@ use Rattle.tc_base.specs.declared.kind.Kind.TheVariants as kinds
 use Rattle.tc_maps.specs.Sizes.{size_of}
 use Rattle.tc_maps.proofs.Bytes.{size-empty}
 use Rattle.tc_space.specs.declared.space.Space.{Ghosts}
-use Rattle.ty_base.specs.Opening.{IsCreated, IsOpened, OpensTo}
+use Rattle.ty_base.specs.Opening.{CanOpen, CreatesAs, IsCreated, IsOpened, OpensFor, OpensTo}
 use Rattle.ty_base.proofs.Refusals.{no_bytes}
 use Rattle.hf_head.specs.declared.head.Head.{Head}
 use Rattle.hf_head.specs.Heads.{head_in}
-use Rattle.hf_pool.specs.Pools.{frees}
 use Rattle.hf_tree.specs.Standing.{StandsFor}
 use Rattle.tc_hash.specs.declared.hash.Hash.{Hash}
 use Rattle.tc_hash.specs.Creating.{HasNoRoom}
-use Rattle.tc_hash.specs.Holding.{Holds}
-use Rattle.tc_hash.specs.Settling.{Brought}
+use Rattle.tc_hash.specs.Keeping.{holds}
+use Rattle.tc_hash.specs.Settling.{IsBrought}
 use Rattle.tc_hash.specs.Standing.{StandsWith}
 use Rattle.tc_model.specs.Contents.{Contents, hash}
 use Rattle.tc_hashdb.specs.declared.holding.HashEngine.{HashEngine}
@@ -39,11 +38,11 @@ only_none files c none stand = ⊎_elim (λ empty_file. empty_file.1) (λ main. 
 
 module _ {S : Type 0} (s : Ghosts S) where
   -- what was made is as the trait says it
-  pub created_as : (e : HashEngine S) (shape : HashShape) (b : S) → e.hash.file ≡ 0 → IsNewIn shape e.hash.head → e.total ≡ Some 0 → Brought e.hash.head e.hash.pool.size (frees e.hash.pool) e.hash.records e.hash.region empty (s.now b 0) → head_in (take 256 (s.now b 0)) ≡ e.hash.head → IsCreated HoldsKeys Reopens Shaped e (anew shape) shape (s.now b)
-  created_as e shape b file new total brought head =
+  pub created_as : (e : HashEngine S) (shape : HashShape) (b : S) → e.hash.body.file ≡ 0 → IsNewIn shape e.hash.body.head → e.total ≡ Some 0 → IsBrought e.hash empty (s.now b 0) → holds e.hash (s.now b 0) empty → head_in (take 256 (s.now b 0)) ≡ e.hash.body.head → IsCreated HoldsKeys Reopens Shaped e (anew shape) shape (s.now b)
+  created_as e shape b file new total brought held head =
       let stands : StandsFor 0 (s.now b 0) (get nothing) = subst (λ k. StandsFor k (s.now b 0) (get nothing)) new.kind_is brought.stands.is in
       record {
-        holds = record { map = empty; is = refl; holds_map = record { file = file; kind = new.kind_is; holds_it = brought.holds; counted = subst (λ o. IfSome o (λ n. n ≡ size_of empty)) (sym total) (sym size-empty) } };
+        holds = record { map = empty; is = refl; holds_map = record { file = file; kind = new.kind_is; holds_it = held; counted = subst (λ o. IfSome o (λ n. n ≡ size_of empty)) (sym total) (sym size-empty) } };
         stand = inr (record { map = empty; is = refl; stands = stands });
         some = λ none. absurd (let long : 256 ≤ length (s.now b 0) = stands.opens.long in let short : length (s.now b 0) ≡ 0 = ap length none in omega (arith, long, short));
         numbers = subst (λ h. IsNewIn shape h) (sym head) new;
@@ -56,13 +55,21 @@ module _ {S : Type 0} (s : Ghosts S) where
   pub made_opened : (e : HashEngine S) (kind : Kind) (a b : S) → length (s.now a 0) ≡ 0 → IsCreated HoldsKeys Reopens Shaped e (anew usual) usual (s.now b) → (c : Contents) → OpensTo kind Reopens (s.now a) c → IsOpened HoldsKeys Reopens e (s.now b) c
   made_opened e kind a b none created c opens = subst (λ d. IsOpened HoldsKeys Reopens e (s.now b) d) (sym (only_none (s.now a) c none opens.stand)) (record { holds = created.holds; stand = created.stand })
 
+  pub all_stand : {A E : Type 0} (r : Result A E) (kind : Kind) (a : S) → kinds.Hash ≡ kind → (s.tells → length (s.now a 0) ≡ 0) → OnOk r (CanOpen s Reopens kind a)
+  all_stand (Ok x) kind a is none = λ t. (hash false empty, made_opens kind (s.now a) is (none t))
+  all_stand (Err x) kind a is none = tt
+
+  pub all_opened : {E : Type 0} (r : Result (HashEngine S) E) (kind : Kind) (a b : S) → (s.tells → length (s.now a 0) ≡ 0) → IfOk r (λ e. CreatesAs s Reopens HoldsKeys Shaped e (anew usual) usual b) → IfOk r (λ e. OpensFor s Reopens HoldsKeys kind e a b)
+  all_opened (Ok e) kind a b none created = λ t. made_opened e kind a b (none t) (created t)
+  all_opened (Err x) kind a b none created = tt
+
   pub made_full : (b : S) → Lacks s b usual → Fills s b (hash false empty) (hash false empty)
   made_full b lacks = inr (refl, lacks)
 
   pub main_opens : (h : Hash S) (kind : Kind) (a : S) → kinds.Hash ≡ kind → (m : Map) × StandsWith 0 (s.now a 0) m h.region → (c : Contents) × OpensTo kind Reopens (s.now a) c
   main_opens h kind a is stood = (hash false stood.0, record { kind_is = is; stand = inr (record { map = stood.0; is = refl; stands = stood.1.is }) })
 
-  pub main_opened : (e : HashEngine S) (kind : Kind) (a b : S) → (length (s.now a 0) ≡ 0 → ⊥) → s.now b 0 ≡ s.now a 0 → e.hash.file ≡ 0 → e.hash.head.kind ≡ 0 → e.total ≡ None → ((m : Map) → StandsFor 0 (s.now a 0) (get m) → Holds e.hash.head e.hash.pool.size (frees e.hash.pool) e.hash.records m (s.now b 0)) → (c : Contents) → OpensTo kind Reopens (s.now a) c → IsOpened HoldsKeys Reopens e (s.now b) c
+  pub main_opened : (e : HashEngine S) (kind : Kind) (a b : S) → (length (s.now a 0) ≡ 0 → ⊥) → s.now b 0 ≡ s.now a 0 → e.hash.body.file ≡ 0 → e.hash.body.head.kind ≡ 0 → e.total ≡ None → ((m : Map) → StandsFor 0 (s.now a 0) (get m) → holds e.hash (s.now b 0) m) → (c : Contents) → OpensTo kind Reopens (s.now a) c → IsOpened HoldsKeys Reopens e (s.now b) c
   main_opened e kind a b some same file kind_is total opened c opens = ⊎_elim
       (λ none. absurd (some (ap length none.0)))
       (λ main. record {

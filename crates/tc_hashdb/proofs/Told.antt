@@ -32,8 +32,8 @@ module _ {S : Type 0} (s : Ghosts S) where
 pub head_there : {S : Type 0} (e : HashEngine S) (files : Files) (c : Contents) → HoldsKeys e files c → Reopens files c → (h : Head) × HasHead 0 (files 0) h
 head_there e files c h reopens = ⊎_elim
     (λ none. absurd (
-    let long = reaches e.hash.head e.hash.pool.size e.hash.records _ h.map (files 0) h.holds_map.holds_it in
-    let behind = e.hash.valid.numbers.first_behind in
+    let long = reaches e.hash.body.head e.hash.body.pool.size e.hash.records _ h.map (files 0) h.holds_map.holds_it.map in
+    let behind = e.hash.body.valid.numbers.first_behind in
     let empty_file : length (files 0) ≡ 0 = ap length none.0 in
     omega (arith, long, empty_file, behind)))
     (λ file. (file.stands.head, record { long = file.stands.opens.long; valid = file.stands.opens.valid; spells = file.stands.opens.spells; kind_is = file.stands.opens.kind_is }))

@@ -8,8 +8,8 @@ use Rattle.hf_head.specs.Heads.{unit}
 use Rattle.hf_block.specs.Written.{block_len}
 use Rattle.hf_layout.specs.Frees.{Frees}
 use Rattle.hf_tree.specs.Links.{width}
-use Rattle.tc_hash.specs.Fields.{HasFields}
-use Rattle.tc_hash.specs.Filling.{IsTooFar, IsTooLong}
+use Rattle.hf_record.specs.Fields.{HasFields}
+use Rattle.hf_record.specs.Filling.{IsTooFar, IsTooLong}
 use Rattle.tc_model.specs.Contents.{Contents, hash}
 use Rattle.tc_hashdb.specs.Shapes.{LacksSections, usual}
 

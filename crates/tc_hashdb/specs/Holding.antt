@@ -17,8 +17,8 @@ use Rattle.tc_hashdb.specs.declared.holding.HashEngine.{HashEngine}
 
 -- it holds this map over the bytes of file 0, a hash file, and what was counted of it is so
 pub record HoldsMap {S : Type 0} (e : HashEngine S) (bytes : List ℕ) (m : Map) : Type 0 where
-  pub file : e.hash.file ≡ 0
-  pub kind : e.hash.head.kind ≡ 0
+  pub file : e.hash.body.file ≡ 0
+  pub kind : e.hash.body.head.kind ≡ 0
   pub holds_it : holds e.hash bytes m
   pub counted : IfSome e.total (λ n. n ≡ size_of m)
 

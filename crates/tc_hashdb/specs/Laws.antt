@@ -4,8 +4,7 @@ use Rattle.std.specs.FinMap.{get}
 use Rattle.std.proofs.Common.{◌∙◌, sym, ap, subst, inl, inr, ⊎_elim}
 use Rattle.tc_base.specs.Files.{Files}
 use Rattle.hf_tree.specs.Standing.{StandsFor}
-use Rattle.tc_model.specs.Bodies.{is_table}
-use Rattle.tc_model.specs.Contents.{Contents}
+use Rattle.tc_model.specs.Contents.{Contents, is_table}
 use Rattle.ty_base.specs.Holding.{AreApart, main_apart}
 use Rattle.tc_hashdb.specs.declared.holding.HashEngine.{HashEngine}
 use Rattle.tc_hashdb.specs.Holding.{HoldsKeys, HoldsMap, Reopens}

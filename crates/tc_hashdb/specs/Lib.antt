@@ -1,4 +1,5 @@
 pub mod Changing
+pub mod Counting
 pub mod Filling
 pub mod Holding
 pub mod Informing

@@ -1,5 +1,5 @@
 -- Calls on the map, as the trait of engines says them.
-use Rattle.std.specs.Prelude.{◌≡◌, Bool, false, Option, Some, None, option_map, unwrap_or}
+use Rattle.std.specs.Prelude.{◌≡◌, Bool, false, Option, Some, None, option_map, unwrap_or, Result, Ok, Err, OnErr}
 use Rattle.std.proofs.Common.{◌∙◌, refl, sym, ap, subst, inl, inr, ⊎_elim}
 use Rattle.tc_base.specs.Maps.{Map}
 use Rattle.tc_space.specs.Frames.{Reads, Refuses}
@@ -39,6 +39,10 @@ module _ {S : Type 0} (s : Ghosts S) where
 
   pub refuses_up : (e e' : HashEngine S) (a b : S) → Refuses s (Means s) e e' a b → Refuses s (Held s HoldsKeys) e e' a b
   refuses_up e e' a b refuses = ⊎_elim (λ spoiled. inl spoiled) (λ reads. inr (reads_up e e' a b reads)) refuses
+
+  pub refused_up : {T E : Type 0} (r : Result T E) (e e' : HashEngine S) (a b : S) → OnErr r (Refuses s (Means s) e e' a b) → OnErr r (Refuses s (Held s HoldsKeys) e e' a b)
+  refused_up (Ok x) e e' a b refused = tt
+  refused_up (Err x) e e' a b refused = refuses_up e e' a b refused
 
   pub made_up : (change : Change) (step : Step) (done : Bool) (e e' : HashEngine S) (a b : S) → Takes s step done e e' a b → ((m : Map) → IsStep change step m) → Makes s HoldsKeys change done e e' a b
   made_up change step done e e' a b takes is_step = record {

@@ -1,7 +1,6 @@
 //! A hash database behind the trait of engines.
 #![tactic(auto, using(tc_space::specs::Frames::keeps_refl, tc_space::specs::Frames::reads_refl, tc_engine::specs::Rows::extends_refl, crate::specs::Lifting::ready_down, crate::specs::Lifting::reads_up, crate::specs::Lifting::refuses_up))]
 
-ghost use Rattle.std.specs.Prelude.{◌≡◌, []};
 ghost use Rattle.tc_hashdb.specs.Filling.{Fills};
 ghost use Rattle.tc_hashdb.specs.Holding.{HoldsKeys, Reopens};
 ghost use Rattle.tc_hashdb.specs.Informing.{Lines};
@@ -15,8 +14,9 @@ use crate::many::are_short;
 use tc_base::{Blob, Blobs, Form, Key, Keys, Kind, Mode, Pairs};
 use tc_engine::{Engine, Rows};
 use tc_space::{RecErr, Space};
+use ty_base::Storage;
 
-impl<S: Space> Engine for HashEngine<S> {
+impl<S: Space> Storage for HashEngine<S> {
     type S = S;
 
     ghost holds = { λ e files c. HoldsKeys e files c };
@@ -31,184 +31,14 @@ impl<S: Space> Engine for HashEngine<S> {
 
     ghost packed = { λ form files. IsPacked form (files 0) };
 
-    ghost no_table = { λ e files c holds. never_table e files c holds };
-
     ghost apart = { λ e f g c same. moved_apart e f g c same };
 
     fn kind(&self) -> Kind {
         Kind::Hash
     }
 
-    fn takes_numbers(&self) -> bool {
-        true
-    }
-
-    fn count(&self) -> u64 {
-        self.hash.count()
-    }
-
-    fn size(&mut self, space: &mut S) -> Result<u64, RecErr> {
-        match self.count_bytes(space) {
-            Ok(size) => Ok(size),
-            Err(e) => Err(e),
-        }
-    }
-
-    fn value_len(&mut self, space: &mut S, key: &Key) -> Result<Option<u64>, RecErr> {
-        match self.find_len(space, key.as_slice()) {
-            Ok(found) => Ok(found),
-            Err(e) => Err(e),
-        }
-    }
-
-    fn value(&mut self, space: &mut S, key: &Key) -> Result<Option<Blob>, RecErr> {
-        match self.find(space, key.as_slice()) {
-            Ok(found) => Ok(found),
-            Err(e) => Err(e),
-        }
-    }
-
-    fn item(&mut self, space: &mut S, key: &Key, into: &mut Rows) -> Result<bool, RecErr> {
-        let value = match self.find(space, key.as_slice()) {
-            Ok(Some(value)) => value,
-            Ok(None) => return Ok(false),
-            Err(e) => return Err(e),
-        };
-        let Ok(()) = into.item(value.as_slice()) else {
-            return Err(RecErr::Memory);
-        };
-        Ok(true)
-    }
-
-    fn pair(&mut self, space: &mut S, key: &Key, into: &mut Rows) -> Result<(), RecErr> {
-        let value = match self.find(space, key.as_slice()) {
-            Ok(Some(value)) => value,
-            Ok(None) => return Ok(()),
-            Err(e) => return Err(e),
-        };
-        let Ok(()) = into.pair(key.as_slice(), value.as_slice()) else {
-            return Err(RecErr::Memory);
-        };
-        Ok(())
-    }
-
-    fn pairs(&mut self, space: &mut S, key: &Key, into: &mut Rows) -> Result<(), RecErr> {
-        let value = match self.find(space, key.as_slice()) {
-            Ok(Some(value)) => value,
-            Ok(None) => return Ok(()),
-            Err(e) => return Err(e),
-        };
-        let Ok(()) = add_items(key.as_slice(), value.as_slice(), into) else {
-            return Err(RecErr::Memory);
-        };
-        Ok(())
-    }
-
-    fn keys(&mut self, space: &mut S) -> Result<Keys, RecErr> {
-        let all = match self.list(space) {
-            Ok(all) => all,
-            Err(e) => return Err(e),
-        };
-        let Ok(keys) = key_list(self.alloc, all) else {
-            return Err(RecErr::Memory);
-        };
-        Ok(keys)
-    }
-
-    fn keys_from(
-        &mut self,
-        space: &mut S,
-        prefix: &Key,
-        most: Option<u64>,
-        into: &mut Rows,
-    ) -> Result<(), RecErr> {
-        let all = match self.list(space) {
-            Ok(all) => all,
-            Err(e) => return Err(e),
-        };
-        let Ok(found) = beginning(self.alloc, all, prefix.as_slice(), most) else {
-            return Err(RecErr::Memory);
-        };
-        let Ok(()) = add_texts(found.as_slice(), into) else {
-            return Err(RecErr::Memory);
-        };
-        Ok(())
-    }
-
-    fn range(
-        &mut self,
-        space: &mut S,
-        from: &Key,
-        to: Option<&Key>,
-        most: Option<u64>,
-        into: &mut Rows,
-    ) -> Result<(), RecErr> {
-        let _ = space;
-        let _ = from;
-        let _ = to;
-        let _ = most;
-        let _ = into;
-        Ok(())
-    }
-
-    fn store(&mut self, space: &mut S, mode: Mode, key: Key, value: Blob) -> Result<bool, RecErr> {
-        match self.store_at(space, mode, key.as_slice(), value.as_slice()) {
-            Ok(done) => Ok(done),
-            Err(e) => Err(e),
-        }
-    }
-
-    fn push(&mut self, space: &mut S, key: Key, value: Blob) -> Result<bool, RecErr> {
-        let _ = space;
-        let _ = key;
-        let _ = value;
-        Ok(false)
-    }
-
-    fn out(&mut self, space: &mut S, key: &Key) -> Result<bool, RecErr> {
-        match self.out_at(space, key.as_slice()) {
-            Ok(done) => Ok(done),
-            Err(e) => Err(e),
-        }
-    }
-
-    fn store_all(&mut self, space: &mut S, pairs: Pairs) -> Result<bool, RecErr> {
-        if !are_short(pairs.as_slice()) {
-            return Ok(false);
-        }
-        match self.set_all(space, pairs) {
-            Ok(()) => Ok(true),
-            Err(e) => Err(e),
-        }
-    }
-
-    fn push_all(&mut self, space: &mut S, pairs: Pairs) -> Result<bool, RecErr> {
-        let _ = space;
-        if pairs.len() > 0 {
-            return Ok(false);
-        }
-        Ok(true)
-    }
-
-    fn clear_all(&mut self, space: &mut S, keys: Blobs) -> Result<bool, RecErr> {
-        match self.drop_each(space, keys.as_slice()) {
-            Ok(()) => Ok(true),
-            Err(e) => Err(e),
-        }
-    }
-
-    fn clear(&mut self, space: &mut S) -> Result<bool, RecErr> {
-        match self.clear_all_keys(space) {
-            Ok(done) => Ok(done),
-            Err(e) => Err(e),
-        }
-    }
-
     fn settle(&mut self, space: &mut S) -> Result<(), RecErr> {
-        match self.hash.settle(space) {
-            Ok(()) => Ok(()),
-            Err(e) => Err(e),
-        }
+        self.hash.settle(space)
     }
 
     fn pack(&mut self, space: &mut S, form: Form) -> Result<(), RecErr> {
@@ -224,14 +54,128 @@ impl<S: Space> Engine for HashEngine<S> {
     }
 
     fn inform(&mut self, space: &mut S, into: &mut Blob) -> Result<(), RecErr> {
-        let head = match read_head(space) {
-            Ok(Some(head)) => head,
-            Ok(None) => return Ok(()),
-            Err(e) => return Err(e),
+        let read = read_head(space)?;
+        let Some(head) = read else {
+            return Ok(());
         };
-        let Ok(()) = add_lines(&head, into) else {
-            return Err(RecErr::Memory);
-        };
+        add_lines(&head, into)?;
         Ok(())
+    }
+}
+
+impl<S: Space> Engine for HashEngine<S> {
+    ghost no_table = { λ e files c holds. never_table e files c holds };
+
+    fn takes_numbers(&self) -> bool {
+        true
+    }
+
+    fn count(&self) -> u64 {
+        self.hash.count()
+    }
+
+    fn size(&mut self, space: &mut S) -> Result<u64, RecErr> {
+        self.count_bytes(space)
+    }
+
+    fn value_len(&mut self, space: &mut S, key: &Key) -> Result<Option<u64>, RecErr> {
+        self.find_len(space, key.as_slice())
+    }
+
+    fn value(&mut self, space: &mut S, key: &Key) -> Result<Option<Blob>, RecErr> {
+        self.find(space, key.as_slice())
+    }
+
+    fn item(&mut self, space: &mut S, key: &Key, into: &mut Rows) -> Result<bool, RecErr> {
+        let found = self.find(space, key.as_slice())?;
+        let Some(value) = found else {
+            return Ok(false);
+        };
+        into.item(value.as_slice())?;
+        Ok(true)
+    }
+
+    fn pair(&mut self, space: &mut S, key: &Key, into: &mut Rows) -> Result<(), RecErr> {
+        let found = self.find(space, key.as_slice())?;
+        let Some(value) = found else {
+            return Ok(());
+        };
+        into.pair(key.as_slice(), value.as_slice())?;
+        Ok(())
+    }
+
+    fn pairs(&mut self, space: &mut S, key: &Key, into: &mut Rows) -> Result<(), RecErr> {
+        let found = self.find(space, key.as_slice())?;
+        let Some(value) = found else {
+            return Ok(());
+        };
+        add_items(key.as_slice(), value.as_slice(), into)?;
+        Ok(())
+    }
+
+    fn keys(&mut self, space: &mut S) -> Result<Keys, RecErr> {
+        let all = self.list(space)?;
+        let keys = key_list(self.alloc, all)?;
+        Ok(keys)
+    }
+
+    fn keys_from(
+        &mut self,
+        space: &mut S,
+        prefix: &Key,
+        most: Option<u64>,
+        into: &mut Rows,
+    ) -> Result<(), RecErr> {
+        let all = self.list(space)?;
+        let found = beginning(self.alloc, all, prefix.as_slice(), most)?;
+        add_texts(found.as_slice(), into)?;
+        Ok(())
+    }
+
+    fn range(
+        &mut self,
+        _space: &mut S,
+        _from: &Key,
+        _to: Option<&Key>,
+        _most: Option<u64>,
+        _into: &mut Rows,
+    ) -> Result<(), RecErr> {
+        Ok(())
+    }
+
+    fn store(&mut self, space: &mut S, mode: Mode, key: Key, value: Blob) -> Result<bool, RecErr> {
+        self.store_at(space, mode, key.as_slice(), value.as_slice())
+    }
+
+    fn push(&mut self, _space: &mut S, _key: Key, _value: Blob) -> Result<bool, RecErr> {
+        Ok(false)
+    }
+
+    fn out(&mut self, space: &mut S, key: &Key) -> Result<bool, RecErr> {
+        self.out_at(space, key.as_slice())
+    }
+
+    fn store_all(&mut self, space: &mut S, pairs: Pairs) -> Result<bool, RecErr> {
+        if !are_short(pairs.as_slice()) {
+            return Ok(false);
+        }
+        self.set_all(space, pairs)?;
+        Ok(true)
+    }
+
+    fn push_all(&mut self, _space: &mut S, pairs: Pairs) -> Result<bool, RecErr> {
+        if pairs.len() > 0 {
+            return Ok(false);
+        }
+        Ok(true)
+    }
+
+    fn clear_all(&mut self, space: &mut S, keys: Blobs) -> Result<bool, RecErr> {
+        self.drop_each(space, keys.as_slice())?;
+        Ok(true)
+    }
+
+    fn clear(&mut self, space: &mut S) -> Result<bool, RecErr> {
+        self.clear_all_keys(space)
     }
 }

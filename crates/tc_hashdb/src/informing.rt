@@ -1,8 +1,8 @@
 //! What an inspection tells of the file.
-ghost use Rattle.std.specs.Prelude.{◌≡◌, ◌≤◌, ◌++◌, take, IfOk, OnOk, IsErrOf};
-ghost use Rattle.tc_io.specs.Causes.{Rose};
+ghost use Rattle.std.specs.Prelude.{◌≡◌, ◌≤◌, ◌++◌, take, IfOk, OnOk};
 ghost use Rattle.hf_head.specs.Heads.{IsValid, head_in};
 ghost use Rattle.tc_space.specs.Frames.{OnlyReads};
+ghost use Rattle.tc_space.specs.Refusals.{Blames};
 ghost use Rattle.tc_hash.specs.Opening.{HasHead};
 ghost use Rattle.ty_wire.specs.Prefixes.{IsPrefix};
 ghost use Rattle.tc_hashdb.specs.Informing.{form_line, lines_of};
@@ -46,13 +46,10 @@ pub(crate) fn read_head<S: Space>(space: &mut S) -> Result<Option<Head>, RecErr>
     ensures head { IfOk result (λ found. S.tells → (h : Head) × (found ≡ Some h) × (head_in (take 256 (S.now space.old 0)) ≡ h)) }
     ensures valid { IfOk result (λ found. (h : Head) → found ≡ Some h → IsValid h) }
     ensures reads { OnlyReads S.Space space.old space.new }
-    ensures cause { (IsErrOf result RecErr.Fault → Rose (S.faults space.old) (S.faults space.new)) × (IsErrOf result RecErr.Full → ⊥) }
+    ensures cause { Blames S.Space result space.old space.new }
 {
     let mut bytes = [0; 256];
-    match space.read(0, 0, &mut bytes) {
-        Ok(()) => {}
-        Err(e) => return Err(RecErr::from(e)),
-    }
+    space.read(0, 0, &mut bytes)?;
     match Head::read(&bytes) {
         Ok(head) => Ok(Some(head)),
         Err(_) => Ok(None),

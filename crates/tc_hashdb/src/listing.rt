@@ -2,7 +2,7 @@
 ghost use Rattle.std.specs.Prelude.{◌≡◌, ◌∷◌, ◌↔◌, [], map, filter, nat_eq, IfOk, OnOk, IsTrue};
 ghost use Rattle.std.specs.List.{starts_with};
 ghost use Rattle.tc_engine.specs.Changes.{first_of};
-ghost use Rattle.tc_engine.specs.Rows.{Adds, Extends, item_row, pair_row};
+ghost use Rattle.tc_engine.specs.Rows.{Adds, Extends, item_row};
 ghost use Rattle.tc_hashdb.specs.Listing.{HasRoom};
 
 use std::alloc::{AllocError, Global};

@@ -3,18 +3,20 @@
 
 ghost use Rattle.std.specs.Prelude.{◌≡◌, false, OnOk, OnErr, IfOk, IsErrOf};
 ghost use Rattle.std.specs.List.{list_all};
-ghost use Rattle.std.specs.FinMap.{empty, entries};
+ghost use Rattle.std.specs.FinMap.{entries};
 ghost use Rattle.tc_base.specs.Maps.{Map};
-ghost use Rattle.tc_io.specs.Causes.{Rose};
 ghost use Rattle.tc_space.specs.Frames.{Keeps, Refuses, Writes};
+ghost use Rattle.tc_space.specs.Refusals.{OnFault};
 ghost use Rattle.tc_space.specs.Stores.{IsReady, Only};
 ghost use Rattle.tc_hashdb.specs.Changing.{after, all_out, all_set, is_short, last_values, out_one, set_entries, set_one};
 ghost use Rattle.tc_hashdb.specs.Filling.{FillsMap};
 ghost use Rattle.tc_hashdb.specs.Holding.{Means};
 
+use crate::counting::counted_with;
 use crate::holding::HashEngine;
 use std::alloc::{AllocError, Global};
-use tc_base::{Blob, Key, Mode, Pair, Pairs, VALUE_MOST};
+use tc_base::{Blob, Key, Mode, Pair, Pairs, Steps, VALUE_MOST};
+use tc_hash::Put;
 use tc_maps::Bytemap;
 use tc_space::{RecErr, Space};
 
@@ -68,16 +70,23 @@ impl<S: Space> HashEngine<S> {
         ensures refused { OnErr result (S.flag space.new ≡ false) }
         ensures full { IsErrOf result RecErr.Full → (m : Map) → Means S.Space self.old space.old m → FillsMap S.Space space.new m (set_one m key.now value.now) }
         ensures keeps { Keeps S.Space space.old space.new }
-        ensures cause { IsErrOf result RecErr.Fault → Rose (S.faults space.old) (S.faults space.new) }
+        ensures cause { OnFault S.Space result space.old space.new }
     {
-        let old = match self.find_len(space, key) {
-            Ok(old) => old,
+        let mut steps: Steps<()> = Steps::new();
+        let done = match self
+            .hash
+            .put_within(space, key, value, Mode::Over, u64::MAX, &mut steps)
+        {
+            Ok(done) => done,
             Err(e) => return Err(given_up(space, e)),
         };
-        match self.put_value(space, Mode::Over, key, value, old, value.len() as u64) {
-            Ok(()) => Ok(()),
-            Err(e) => Err(given_up(space, e)),
-        }
+        let Put::Stored(old) = done else {
+            // no value is so long
+            return Err(given_up(space, RecErr::Memory));
+        };
+        let len = value.len() as u64;
+        self.total = counted_with(self.total, key.len() as u64, old, Some(len));
+        Ok(())
     }
 
     // Gives each key of a map its value. After a refusal the space isn't sound.
@@ -87,14 +96,11 @@ impl<S: Space> HashEngine<S> {
         ensures refused { OnErr result (S.flag space.new ≡ false) }
         ensures full { IsErrOf result RecErr.Full → (m : Map) → Means S.Space self.old space.old m → FillsMap S.Space space.new m (set_entries m (entries values.now)) }
         ensures keeps { Keeps S.Space space.old space.new }
-        ensures cause { IsErrOf result RecErr.Fault → Rose (S.faults space.old) (S.faults space.new) }
+        ensures cause { OnFault S.Space result space.old space.new }
     {
         let least = Key::new(Blob::new(self.alloc));
         for (key, value) in values.entries_from(&least) {
-            match self.set_value(space, key.as_slice(), value.as_slice()) {
-                Ok(()) => {}
-                Err(e) => return Err(e),
-            }
+            self.set_value(space, key.as_slice(), value.as_slice())?;
         }
         Ok(())
     }
@@ -107,15 +113,11 @@ impl<S: Space> HashEngine<S> {
         ensures refused { OnErr result (Refuses S.Space (Means S.Space) self.old self.new space.old space.new) }
         ensures full { IsErrOf result RecErr.Full → (m : Map) → Means S.Space self.old space.old m → FillsMap S.Space space.new m (all_set pairs m) }
         ensures keeps { Keeps S.Space space.old space.new }
-        ensures cause { IsErrOf result RecErr.Fault → Rose (S.faults space.old) (S.faults space.new) }
+        ensures cause { OnFault S.Space result space.old space.new }
     {
-        let Ok(values) = last_of_each(self.alloc, pairs) else {
-            return Err(RecErr::Memory);
-        };
-        match self.set_entries(space, &values) {
-            Ok(()) => Ok(()),
-            Err(e) => Err(e),
-        }
+        let values = last_of_each(self.alloc, pairs)?;
+        self.set_entries(space, &values)?;
+        Ok(())
     }
 
     // Takes a key out, if it is held. After a refusal the space isn't sound.
@@ -125,7 +127,7 @@ impl<S: Space> HashEngine<S> {
         ensures refused { OnErr result (S.flag space.new ≡ false) }
         ensures full { IsErrOf result RecErr.Full → (m : Map) → Means S.Space self.old space.old m → FillsMap S.Space space.new m (out_one m key.now) }
         ensures keeps { Keeps S.Space space.old space.new }
-        ensures cause { IsErrOf result RecErr.Fault → Rose (S.faults space.old) (S.faults space.new) }
+        ensures cause { OnFault S.Space result space.old space.new }
     {
         match self.out_at(space, key) {
             Ok(_) => Ok(()),
@@ -140,13 +142,10 @@ impl<S: Space> HashEngine<S> {
         ensures refused { OnErr result (S.flag space.new ≡ false) }
         ensures full { IsErrOf result RecErr.Full → (m : Map) → Means S.Space self.old space.old m → FillsMap S.Space space.new m (all_out keys.now m) }
         ensures keeps { Keeps S.Space space.old space.new }
-        ensures cause { IsErrOf result RecErr.Fault → Rose (S.faults space.old) (S.faults space.new) }
+        ensures cause { OnFault S.Space result space.old space.new }
     {
         for key in keys {
-            match self.drop_key(space, key.as_slice()) {
-                Ok(()) => {}
-                Err(e) => return Err(e),
-            }
+            self.drop_key(space, key.as_slice())?;
         }
         Ok(())
     }

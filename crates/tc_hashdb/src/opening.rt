@@ -1,7 +1,6 @@
 //! A hash database opened in its file.
 #![tactic(auto, using(tc_space::specs::Frames::keeps_refl, tc_space::specs::Frames::only_reads_refl))]
 
-ghost use Rattle.std.specs.Prelude.{◌≡◌};
 ghost use Rattle.tc_hashdb.specs.Holding.{BreaksAs};
 ghost use Rattle.tc_hashdb.specs.Shapes.{Lacks, MayHave, Shaped, anew};
 ghost use Rattle.tc_hashdb.specs.Unbroken.{stands_unbroken};
@@ -10,10 +9,9 @@ use crate::holding::HashEngine;
 use crate::shape::{HashShape, USUAL};
 use std::alloc::Global;
 use tc_base::{Kind, Rule};
-use tc_engine::Opens;
 use tc_hash::Hash;
 use tc_space::Space;
-use ty_base::AnyErr;
+use ty_base::{AnyErr, Opens};
 
 // The type in the head of a hash file.
 const HASH: u8 = 0;
@@ -44,23 +42,18 @@ impl<S: Space> Opens for HashEngine<S> {
             });
         }
         if space.len(0) == 0 {
-            return match Self::create(alloc, &USUAL, space) {
-                Ok(made) => Ok(made),
-                Err(e) => Err(e),
-            };
+            return Self::create(alloc, &USUAL, space);
         }
-        match Hash::open(alloc, space, 0, HASH) {
-            Ok(hash) => Ok(HashEngine {
-                alloc,
-                hash,
-                total: None,
-            }),
-            Err(e) => Err(AnyErr::from(e)),
-        }
+        let hash = Hash::open(alloc, space, 0, HASH)?;
+        Ok(HashEngine {
+            alloc,
+            hash,
+            total: None,
+        })
     }
 
     fn create(alloc: Global, shape: &HashShape, space: &mut S) -> Result<HashEngine<S>, AnyErr> {
-        match Hash::create(
+        let hash = Hash::create(
             alloc,
             space,
             0,
@@ -69,13 +62,11 @@ impl<S: Space> Opens for HashEngine<S> {
             shape.fpow,
             shape.buckets,
             shape.large,
-        ) {
-            Ok(hash) => Ok(HashEngine {
-                alloc,
-                hash,
-                total: Some(0),
-            }),
-            Err(e) => Err(AnyErr::from(e)),
-        }
+        )?;
+        Ok(HashEngine {
+            alloc,
+            hash,
+            total: Some(0),
+        })
     }
 }

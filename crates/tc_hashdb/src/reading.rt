@@ -1,12 +1,12 @@
 //! What is read of a hash database.
 #![tactic(auto, using(tc_space::specs::Frames::keeps_refl, tc_space::specs::Frames::reads_refl, crate::proofs::Kept::ready_hash, crate::proofs::Kept::in_of, crate::proofs::Kept::reads_again, crate::proofs::Kept::refuses_again, crate::proofs::Kept::reads_counted))]
 
-ghost use Rattle.std.specs.Prelude.{◌≡◌, length, option_map, IfOk, IsErrOf};
+ghost use Rattle.std.specs.Prelude.{◌≡◌, length, option_map, IfOk};
 ghost use Rattle.std.specs.FinMap.{get, keys};
 ghost use Rattle.tc_base.specs.Maps.{Map};
-ghost use Rattle.tc_io.specs.Causes.{Rose};
 ghost use Rattle.tc_maps.specs.Sizes.{size_of};
 ghost use Rattle.tc_space.specs.Frames.{Keeps, Reads};
+ghost use Rattle.tc_space.specs.Refusals.{Blames};
 ghost use Rattle.tc_space.specs.Stores.{IsReady};
 ghost use Rattle.tc_hashdb.specs.Holding.{Means};
 
@@ -22,13 +22,10 @@ impl<S: Space> HashEngine<S> {
         ensures reads { Reads S.Space (Means S.Space) self.old self.new space.old space.new }
         ensures keeps { Keeps S.Space space.old space.new }
         ensures same { self.new ≡ self.old }
-        ensures cause { (IsErrOf result RecErr.Fault → Rose (S.faults space.old) (S.faults space.new)) × (IsErrOf result RecErr.Full → ⊥) }
+        ensures cause { Blames S.Space result space.old space.new }
     {
         let mut steps: Steps<()> = Steps::new();
-        match self.hash.get_len(space, key, &mut steps) {
-            Ok(found) => Ok(found),
-            Err(e) => Err(e),
-        }
+        self.hash.get_len(space, key, &mut steps)
     }
 
     /// The value of a key.
@@ -37,13 +34,10 @@ impl<S: Space> HashEngine<S> {
         ensures value { IfOk result (λ found. (m : Map) → Means S.Space self.old space.old m → found ≡ get m key.now) }
         ensures reads { Reads S.Space (Means S.Space) self.old self.new space.old space.new }
         ensures keeps { Keeps S.Space space.old space.new }
-        ensures cause { (IsErrOf result RecErr.Fault → Rose (S.faults space.old) (S.faults space.new)) × (IsErrOf result RecErr.Full → ⊥) }
+        ensures cause { Blames S.Space result space.old space.new }
     {
         let mut steps: Steps<()> = Steps::new();
-        match self.hash.get(space, key, &mut steps) {
-            Ok(found) => Ok(found),
-            Err(e) => Err(e),
-        }
+        self.hash.get(space, key, &mut steps)
     }
 
     /// The keys, in order.
@@ -52,13 +46,10 @@ impl<S: Space> HashEngine<S> {
         ensures value { IfOk result (λ all. (m : Map) → Means S.Space self.old space.old m → all ≡ keys m) }
         ensures reads { Reads S.Space (Means S.Space) self.old self.new space.old space.new }
         ensures keeps { Keeps S.Space space.old space.new }
-        ensures cause { (IsErrOf result RecErr.Fault → Rose (S.faults space.old) (S.faults space.new)) × (IsErrOf result RecErr.Full → ⊥) }
+        ensures cause { Blames S.Space result space.old space.new }
     {
         let mut steps: Steps<()> = Steps::new();
-        match self.hash.keys(space, &mut steps) {
-            Ok(all) => Ok(all),
-            Err(e) => Err(e),
-        }
+        self.hash.keys(space, &mut steps)
     }
 
     /// The bytes of all keys and values.
@@ -67,15 +58,12 @@ impl<S: Space> HashEngine<S> {
         ensures value { IfOk result (λ n. (m : Map) → Means S.Space self.old space.old m → n ≡ size_of m) }
         ensures reads { Reads S.Space (Means S.Space) self.old self.new space.old space.new }
         ensures keeps { Keeps S.Space space.old space.new }
-        ensures cause { (IsErrOf result RecErr.Fault → Rose (S.faults space.old) (S.faults space.new)) × (IsErrOf result RecErr.Full → ⊥) }
+        ensures cause { Blames S.Space result space.old space.new }
     {
         if let Some(total) = self.total {
             return Ok(total);
         }
-        let total = match self.hash.bytes(space) {
-            Ok(total) => total,
-            Err(e) => return Err(e),
-        };
+        let total = self.hash.bytes(space)?;
         self.total = Some(total);
         Ok(total)
     }

@@ -1,17 +1,6 @@
-pub mod Answers
 pub mod Causes
-pub mod Chosen
-pub mod Counted
-pub mod Feeding
-pub mod History
-pub mod Honest
 pub mod Images
-pub mod Kept
 pub mod Lines
-pub mod Peers
-pub mod Play
 pub mod Script
 pub mod Told
 pub mod Transcript
-pub mod Whole
-pub mod Wires

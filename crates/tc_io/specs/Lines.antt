@@ -46,17 +46,7 @@ given_after given (Ended c) = given
 given_after given Quiet = given
 given_after given Shut = given
 
--- these are open, of these no more input comes, and the numbers below this one were given
-pub record Becomes (cs es : List ℕ) (n : ℕ) (cs' es' : List ℕ) (n' : ℕ) : Type 0 where
-  pub conns : cs' ≡ cs
-  pub ended : es' ≡ es
-  pub given : n' ≡ n
-
--- an answer of a dial that may come
-abbrev pub MayDial : ℕ → Dialled → Type 0
-MayDial given (Conn c) = given ≤ c
-MayDial given NotNow = Unit {0}
-
+-- and after the answer of a dial
 abbrev pub open_dialled : List ℕ → Dialled → List ℕ
 open_dialled conns (Conn c) = conns ++ c ∷ []
 open_dialled conns NotNow = conns
@@ -65,17 +55,42 @@ abbrev pub given_dialled : ℕ → Dialled → ℕ
 given_dialled given (Conn c) = c + 1
 given_dialled given NotNow = given
 
+-- these are open, of these no more input comes, and the numbers below this one were given
+pub record Becomes (cs es : List ℕ) (n : ℕ) (cs' es' : List ℕ) (n' : ℕ) : Type 0 where
+  pub conns : cs' ≡ cs
+  pub ended : es' ≡ es
+  pub given : n' ≡ n
+
+-- ---- by what a wire says of its connections, before a call and after it
+
+-- all stays
+abbrev pub Stay : {W : Type 0} → (W → List ℕ) → (W → List ℕ) → (W → ℕ) → W → W → Type 0
+Stay conns ended given old new = Becomes (conns old) (ended old) (given old) (conns new) (ended new) (given new)
+
+-- an event came
+abbrev pub Hears : {W : Type 0} → (W → List ℕ) → (W → List ℕ) → (W → ℕ) → W → W → Ev → Type 0
+Hears conns ended given old new ev = Becomes (open_after (conns old) ev) (ended_after (ended old) ev) (given_after (given old) ev) (conns new) (ended new) (given new)
+
+-- a dial was answered
+abbrev pub Dials : {W : Type 0} → (W → List ℕ) → (W → List ℕ) → (W → ℕ) → W → W → Dialled → Type 0
+Dials conns ended given old new answer = Becomes (open_dialled (conns old) answer) (ended old) (given_dialled (given old) answer) (conns new) (ended new) (given new)
+
+-- a connection was closed
+abbrev pub Closes : {W : Type 0} → (W → List ℕ) → (W → List ℕ) → (W → ℕ) → W → W → ℕ → Type 0
+Closes conns ended given old new c = Becomes (without c (conns old)) (without c (ended old)) (given old) (conns new) (ended new) (given new)
+
+-- ---- what a wire may answer
+
+-- an answer of a dial that may come
+abbrev pub MayDial : ℕ → Dialled → Type 0
+MayDial given (Conn c) = given ≤ c
+MayDial given NotNow = Unit {0}
+
 -- what a send may take of what it was offered
 abbrev pub CanTake : List ℕ → Sent → Type 0
 CanTake offered (Took n) = (0 < n) × (n ≤ length offered)
 CanTake offered NotYet = Unit {0}
 CanTake offered Gone = Unit {0}
-
--- what a send may take of so many bytes
-abbrev pub MayTake : ℕ → Sent → Type 0
-MayTake offered (Took n) = (0 < n) × (n ≤ offered)
-MayTake offered NotYet = Unit {0}
-MayTake offered Gone = Unit {0}
 
 -- no number falls behind one that was given, so each new one is above all that were given before
 pub given_rises : (conns ended : List ℕ) (given : ℕ) (paused : List ℕ) (busy : Bool) (ev : Ev) → MayCome conns ended given paused busy ev → given ≤ given_after given ev

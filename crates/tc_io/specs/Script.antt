@@ -50,12 +50,6 @@ next_dial [] l = (NotNow, [])
 next_dial (Conn c ∷ dials) l = if can_open l c then (Conn c, dials) else (NotNow, dials)
 next_dial (NotNow ∷ dials) l = (NotNow, dials)
 
--- that event with these bytes, and that is left
-pub record IsNext (next : Ev × List ℕ × List Act) (ev : Ev) (bytes : List ℕ) (left : List Act) : Type 0 where
-  pub ev_is : ev ≡ next.0
-  pub bytes_are : bytes ≡ next.1
-  pub left_is : left ≡ next.2
-
 abbrev pub lines_after : Lines → Ev → Lines
 lines_after l ev = record { conns = open_after l.conns ev; ended = ended_after l.ended ev; given = given_after l.given ev }
 
@@ -93,3 +87,7 @@ AllAgree s (e ∷ es) = Agrees s e × AllAgree (played s e) es
 abbrev pub Plays : Option Script → Option Script → List Entry → Type 0
 Plays None now entries = Unit {0}
 Plays (Some s) now entries = (now ≡ Some (plays_all entries s)) × AllAgree s entries
+
+-- by what a wire tells of it, before a call and after it: this entry was played
+abbrev pub PlaysOne : {W : Type 0} → (W → Option Script) → W → W → Entry → Type 0
+PlaysOne plays old new entry = Plays (plays old) (plays new) (entry ∷ [])

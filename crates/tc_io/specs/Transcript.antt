@@ -1,16 +1,11 @@
--- What a transcript says of one connection.
-use Rattle.std.specs.Prelude.{ℕ, Bool, false, List, [], take, nat_eq, if◌then◌else◌}
-use Rattle.std.specs.List.{flat_map, list_any}
+-- The entry of an event.
+use Rattle.std.specs.Prelude.{ℕ, Bool, List, [], take}
 use Rattle.tc_io.specs.declared.wire.Ev.{Ev}
 use Rattle.tc_io.specs.declared.wire.Ev.TheVariants as event
-use Rattle.tc_io.specs.declared.wire.Dialled.{Dialled}
-use Rattle.tc_io.specs.declared.wire.Dialled.TheVariants.{Conn, NotNow}
-use Rattle.tc_io.specs.declared.wire.Sent.{Sent}
-use Rattle.tc_io.specs.declared.wire.Sent.TheVariants.{Took, NotYet, Gone}
 use Rattle.tc_io.specs.declared.wire.Entry.{Entry}
-use Rattle.tc_io.specs.declared.wire.Entry.TheVariants.{Open, Dial, Event, Send, Close}
+use Rattle.tc_io.specs.declared.wire.Entry.TheVariants.{Event}
 
--- the bytes that an event left in the buffer
+-- the bytes that it left in the buffer
 abbrev pub bytes_of : Ev → List ℕ → List ℕ
 bytes_of (event.Opened c) buffer = []
 bytes_of (event.Read c n) buffer = take n buffer
@@ -18,60 +13,6 @@ bytes_of (event.Ended c) buffer = []
 bytes_of event.Quiet buffer = []
 bytes_of event.Shut buffer = []
 
--- the bytes of an event that came of a connection
-abbrev pub came : ℕ → Ev → List ℕ → List ℕ
-came c (event.Opened d) bytes = []
-came c (event.Read d n) bytes = if nat_eq d c then bytes else []
-came c (event.Ended d) bytes = []
-came c event.Quiet bytes = []
-came c event.Shut bytes = []
-
--- what a send took of the bytes that it was offered
-abbrev pub taken : Sent → List ℕ → List ℕ
-taken (Took n) bytes = take n bytes
-taken NotYet bytes = []
-taken Gone bytes = []
-
-abbrev pub heard_by : ℕ → Entry → List ℕ
-heard_by c (Open at) = []
-heard_by c (Dial host port answer) = []
-heard_by c (Event paused busy ev bytes) = came c ev bytes
-heard_by c (Send d bytes answer) = []
-heard_by c (Close d) = []
-
-abbrev pub sent_by : ℕ → Entry → List ℕ
-sent_by c (Open at) = []
-sent_by c (Dial host port answer) = []
-sent_by c (Event paused busy ev bytes) = []
-sent_by c (Send d bytes answer) = if nat_eq d c then taken answer bytes else []
-sent_by c (Close d) = []
-
--- all the bytes that came of a connection
-abbrev pub in_of : ℕ → List Entry → List ℕ
-in_of c entries = flat_map (heard_by c) entries
-
--- all the bytes that the sends to it took
-abbrev pub out_of : ℕ → List Entry → List ℕ
-out_of c entries = flat_map (sent_by c) entries
-
-abbrev pub opens : ℕ → Ev → Bool
-opens c (event.Opened d) = nat_eq d c
-opens c (event.Read d n) = false
-opens c (event.Ended d) = false
-opens c event.Quiet = false
-opens c event.Shut = false
-
-abbrev pub dials : ℕ → Dialled → Bool
-dials c (Conn d) = nat_eq d c
-dials c NotNow = false
-
-abbrev pub gives : ℕ → Entry → Bool
-gives c (Open at) = false
-gives c (Dial host port answer) = dials c answer
-gives c (Event paused busy ev bytes) = opens c ev
-gives c (Send d bytes answer) = false
-gives c (Close d) = false
-
--- it was opened or dialled
-abbrev pub was_given : ℕ → List Entry → Bool
-was_given c entries = list_any (gives c) entries
+-- it came where these were paused, and left this in the buffer
+abbrev pub heard : List ℕ → Bool → Ev → List ℕ → Entry
+heard paused busy ev buffer = Event paused busy ev (bytes_of ev buffer)

@@ -1,8 +1,8 @@
 //! Files by number, and what a stop leaves of them.
-ghost use Rattle.std.specs.Prelude.{◌≡◌, ◌⊎◌, ◌∷◌, [], ◌+◌, ◌≤◌, Bool, true, List, ℕ, Option, length, take, drop, OnOk, OnErr, IfOk};
+ghost use Rattle.std.specs.Prelude.{◌≡◌, ◌∷◌, ◌+◌, ◌≤◌, Bool, true, List, ℕ, Option, length, take, drop, OnOk, OnErr, IfOk};
 ghost use Rattle.tc_base.specs.Files.{Files};
 ghost use Rattle.tc_io.specs.Causes.{HasCause};
-ghost use Rattle.tc_io.specs.Told.{Adds};
+ghost use Rattle.tc_io.specs.Told.{MayTell, Tells};
 ghost use Rattle.tc_io.specs.Images.{Calls, Images, now, written, cut_to, synced, IsLost, IsLostSync};
 
 use tc_base::Fault;
@@ -28,8 +28,8 @@ pub trait Volume {
     fn bind(&mut self, name: &str) -> Result<(), Fault>
         ensures bound { OnOk result (bound self.new ≡ true) }
         ensures bound_err { OnErr result (bound self.new ≡ bound self.old) }
-        ensures told { OnOk result (Adds (names self.old) (names self.new) (name.now ∷ [])) }
-        ensures told_err { OnErr result (Adds (names self.old) (names self.new) [] ⊎ Adds (names self.old) (names self.new) (name.now ∷ [])) }
+        ensures told { OnOk result (Tells names self.old self.new name.now) }
+        ensures told_err { OnErr result (MayTell names self.old self.new name.now) }
         ensures calls { tells → calls self.new ≡ calls self.old }
         ensures cause { HasCause (faults self.old) (faults self.new) result };
 

@@ -1,8 +1,8 @@
 //! A wire: connections, the bytes that come of them and those that are sent to them.
-ghost use Rattle.std.specs.Prelude.{◌≡◌, ◌⊎◌, ◌<◌, ℕ, Bool, true, false, List, [], ◌∷◌, Option, length, IfOk, OnOk, OnErr, is_ok, nat_eq, not};
-ghost use Rattle.std.specs.List.{list_any, filter};
+ghost use Rattle.std.specs.Prelude.{◌≡◌, ◌<◌, ℕ, Bool, true, false, List, [], Option, length, IfOk, OnOk, OnErr, is_ok, nat_eq};
+ghost use Rattle.std.specs.List.{list_any};
 ghost use Rattle.tc_io.specs.Causes.{HasCause};
-ghost use Rattle.tc_io.specs.Told.{Adds};
+ghost use Rattle.tc_io.specs.Told.{MayTell, Tells, TellsNothing};
 
 use crate::numbers::Numbers;
 use tc_base::{Blob, Fault};
@@ -82,10 +82,10 @@ pub trait Wire {
     ghost use Rattle.tc_io.specs.declared.wire.At.{At};
     ghost use Rattle.tc_io.specs.declared.wire.Dialled.TheVariants.{NotNow};
     ghost use Rattle.tc_io.specs.declared.wire.Entry.{Entry};
-    ghost use Rattle.tc_io.specs.declared.wire.Entry.TheVariants.{Open, Dial, Event, Send, Close};
-    ghost use Rattle.tc_io.specs.Lines.{Becomes, MayCome, MayDial, CanTake, open_after, open_dialled, ended_after, given_after, given_dialled, without};
-    ghost use Rattle.tc_io.specs.Transcript.{bytes_of};
-    ghost use Rattle.tc_io.specs.Script.{Script, Plays};
+    ghost use Rattle.tc_io.specs.declared.wire.Entry.TheVariants.{Open, Dial, Send, Close};
+    ghost use Rattle.tc_io.specs.Lines.{CanTake, Closes, Dials, Hears, MayCome, MayDial, Stay};
+    ghost use Rattle.tc_io.specs.Transcript.{heard};
+    ghost use Rattle.tc_io.specs.Script.{Script, PlaysOne};
 
     /// How often a call failed.
     ghost faults: { Self → ℕ };
@@ -112,10 +112,10 @@ pub trait Wire {
     fn open(&mut self, at: &At) -> Result<(), Fault>
         requires { opened self.old ≡ false }
         ensures opened { opened self.new ≡ is_ok result }
-        ensures lines { Becomes (conns self.old) (ended self.old) (given self.old) (conns self.new) (ended self.new) (given self.new) }
-        ensures told { OnOk result (Adds (transcript self.old) (transcript self.new) (Open at.now ∷ [])) }
-        ensures told_err { OnErr result (Adds (transcript self.old) (transcript self.new) [] ⊎ Adds (transcript self.old) (transcript self.new) (Open at.now ∷ [])) }
-        ensures plays { OnOk result (Plays (plays self.old) (plays self.new) (Open at.now ∷ [])) }
+        ensures lines { Stay conns ended given self.old self.new }
+        ensures told { OnOk result (Tells transcript self.old self.new (Open at.now)) }
+        ensures told_err { OnErr result (MayTell transcript self.old self.new (Open at.now)) }
+        ensures plays { OnOk result (PlaysOne plays self.old self.new (Open at.now)) }
         ensures cause { HasCause (faults self.old) (faults self.new) result };
 
     /// Starts a connection outwards.
@@ -123,11 +123,11 @@ pub trait Wire {
         requires { opened self.old ≡ true }
         ensures opened { opened self.new ≡ true }
         ensures may { IfOk result (λ answer. MayDial (given self.old) answer) }
-        ensures lines { IfOk result (λ answer. Becomes (open_dialled (conns self.old) answer) (ended self.old) (given_dialled (given self.old) answer) (conns self.new) (ended self.new) (given self.new)) }
-        ensures lines_err { OnErr result (Becomes (conns self.old) (ended self.old) (given self.old) (conns self.new) (ended self.new) (given self.new)) }
-        ensures told { IfOk result (λ answer. Adds (transcript self.old) (transcript self.new) (Dial host.now port answer ∷ [])) }
-        ensures told_err { OnErr result (Adds (transcript self.old) (transcript self.new) [] ⊎ Adds (transcript self.old) (transcript self.new) (Dial host.now port NotNow ∷ [])) }
-        ensures plays { IfOk result (λ answer. Plays (plays self.old) (plays self.new) (Dial host.now port answer ∷ [])) }
+        ensures lines { IfOk result (λ answer. Dials conns ended given self.old self.new answer) }
+        ensures lines_err { OnErr result (Stay conns ended given self.old self.new) }
+        ensures told { IfOk result (λ answer. Tells transcript self.old self.new (Dial host.now port answer)) }
+        ensures told_err { OnErr result (MayTell transcript self.old self.new (Dial host.now port NotNow)) }
+        ensures plays { IfOk result (λ answer. PlaysOne plays self.old self.new (Dial host.now port answer)) }
         ensures cause { HasCause (faults self.old) (faults self.new) result };
 
     /// Gives one event. No read comes of a paused connection. Where `busy` is true it doesn't wait, and `Shut` doesn't come.
@@ -135,11 +135,11 @@ pub trait Wire {
         requires { opened self.old ≡ true }
         ensures opened { opened self.new ≡ true }
         ensures may { IfOk result (λ ev. MayCome (conns self.old) (ended self.old) (given self.old) paused.now busy ev) }
-        ensures lines { IfOk result (λ ev. Becomes (open_after (conns self.old) ev) (ended_after (ended self.old) ev) (given_after (given self.old) ev) (conns self.new) (ended self.new) (given self.new)) }
-        ensures lines_err { OnErr result (Becomes (conns self.old) (ended self.old) (given self.old) (conns self.new) (ended self.new) (given self.new)) }
-        ensures told { IfOk result (λ ev. Adds (transcript self.old) (transcript self.new) (Event paused.now busy ev (bytes_of ev into.new) ∷ [])) }
-        ensures told_err { OnErr result (Adds (transcript self.old) (transcript self.new) []) }
-        ensures plays { IfOk result (λ ev. Plays (plays self.old) (plays self.new) (Event paused.now busy ev (bytes_of ev into.new) ∷ [])) }
+        ensures lines { IfOk result (λ ev. Hears conns ended given self.old self.new ev) }
+        ensures lines_err { OnErr result (Stay conns ended given self.old self.new) }
+        ensures told { IfOk result (λ ev. Tells transcript self.old self.new (heard paused.now busy ev into.new)) }
+        ensures told_err { OnErr result (TellsNothing transcript self.old self.new) }
+        ensures plays { IfOk result (λ ev. PlaysOne plays self.old self.new (heard paused.now busy ev into.new)) }
         ensures cause { HasCause (faults self.old) (faults self.new) result };
 
     /// Offers bytes to a connection.
@@ -147,21 +147,21 @@ pub trait Wire {
         requires is_open { list_any (nat_eq conn) (conns self.old) ≡ true }
         requires some { 0 < length bytes.now }
         ensures opened { opened self.new ≡ opened self.old }
-        ensures lines { Becomes (conns self.old) (ended self.old) (given self.old) (conns self.new) (ended self.new) (given self.new) }
+        ensures lines { Stay conns ended given self.old self.new }
         ensures can { IfOk result (λ sent. CanTake bytes.now sent) }
-        ensures told { IfOk result (λ sent. Adds (transcript self.old) (transcript self.new) (Send conn bytes.now sent ∷ [])) }
-        ensures told_err { OnErr result (Adds (transcript self.old) (transcript self.new) []) }
-        ensures plays { IfOk result (λ sent. Plays (plays self.old) (plays self.new) (Send conn bytes.now sent ∷ [])) }
+        ensures told { IfOk result (λ sent. Tells transcript self.old self.new (Send conn bytes.now sent)) }
+        ensures told_err { OnErr result (TellsNothing transcript self.old self.new) }
+        ensures plays { IfOk result (λ sent. PlaysOne plays self.old self.new (Send conn bytes.now sent)) }
         ensures cause { HasCause (faults self.old) (faults self.new) result };
 
     /// Ends a connection. Also where it fails, the connection is open no more.
     fn close(&mut self, conn: u32) -> Result<(), Fault>
         requires { list_any (nat_eq conn) (conns self.old) ≡ true }
         ensures opened { opened self.new ≡ opened self.old }
-        ensures lines { Becomes (without conn (conns self.old)) (without conn (ended self.old)) (given self.old) (conns self.new) (ended self.new) (given self.new) }
-        ensures told { OnOk result (Adds (transcript self.old) (transcript self.new) (Close conn ∷ [])) }
-        ensures told_err { OnErr result (Adds (transcript self.old) (transcript self.new) []) }
-        ensures plays { OnOk result (Plays (plays self.old) (plays self.new) (Close conn ∷ [])) }
+        ensures lines { Closes conns ended given self.old self.new conn }
+        ensures told { OnOk result (Tells transcript self.old self.new (Close conn)) }
+        ensures told_err { OnErr result (TellsNothing transcript self.old self.new) }
+        ensures plays { OnOk result (PlaysOne plays self.old self.new (Close conn)) }
         ensures cause { HasCause (faults self.old) (faults self.new) result };
 
     /// Nothing is open before an `open` succeeds.

@@ -114,3 +114,11 @@ updates_is false r only if' = go (updates r) refl
     go : (t : Bool) → updates r ≡ t → false ≡ updates r
     go false e = sym e
     go true e = absurd (let f = if' (updates_only r e) in cc)
+
+pub updates_call_is : (b : Bool) (name : List ℕ) (args : List (List ℕ)) → (b ≡ true → IsUpdatingCall name args) → (IsUpdatingCall name args → b ≡ true) → b ≡ updates_call name args
+updates_call_is true name args only if' = sym (call_if name args (only refl))
+updates_call_is false name args only if' = go (updates_call name args) refl
+  where
+    go : (t : Bool) → updates_call name args ≡ t → false ≡ updates_call name args
+    go false e = sym e
+    go true e = absurd (let f = if' (call_only name args e) in cc)

@@ -1,5 +1,5 @@
 -- The abstract database: a shape and its data.
-use Rattle.std.specs.Prelude.{if◌then◌else◌, ℕ, Bool, true, false, List, [], Option}
+use Rattle.std.specs.Prelude.{if◌then◌else◌, ℕ, Bool, true, false, List, [], Option, nat_lt}
 use Rattle.std.specs.FinMap.{empty}
 use Rattle.tc_base.specs.declared.seq.Pair.{Pair}
 use Rattle.tc_base.specs.declared.kind.Kind.{Kind}
@@ -30,6 +30,16 @@ kind_of (hash memory m) = if memory then kind.MemHash else kind.Hash
 kind_of (tree memory decimal ps) = if memory then kind.MemTree else kind.Tree
 kind_of (fixed width most ids) = kind.Fixed
 kind_of (table rows indexes) = kind.Table
+
+abbrev pub is_table : Contents → Bool
+is_table (table rows indexes) = true
+is_table _ = false
+
+-- whether values of four bytes have no room
+abbrev pub is_narrow : Contents → Bool
+is_narrow (fixed width most ids) = nat_lt width 4
+is_narrow (table rows indexes) = true
+is_narrow _ = false
 
 -- no data in a shape: a tree has its order, a fixed-length database its width and its greatest id allowed
 abbrev pub no_data : Kind → Bool → ℕ → ℕ → Contents

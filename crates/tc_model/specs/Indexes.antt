@@ -1,5 +1,5 @@
 -- The pairs of a table's index.
-use Rattle.std.specs.Prelude.{ℕ, List, [], ◌∷◌, ◌++◌, map, flat_map, option_to_list}
+use Rattle.std.specs.Prelude.{ℕ, List, [], ◌∷◌, map, flat_map, option_to_list}
 use Rattle.std.specs.FinMap.{entries}
 use Rattle.tc_base.specs.declared.seq.Pair.{Pair}
 use Rattle.tc_model.specs.declared.query.IndexKind.{IndexKind}
@@ -16,7 +16,3 @@ firsts Decimal value = value ∷ []
 -- the pairs of a column's value and a primary key, of the rows that have the column
 unfoldable pub index_pairs : Rows → List ℕ → IndexKind → List Pair
 index_pairs rows name type' = flat_map (λ e. map (λ first. pair first e.0) (flat_map (firsts type') (option_to_list (column e.1 name)))) (entries rows)
-
--- the key under which a pair stands in the index's tree
-abbrev pub tree_key : Pair → List ℕ
-tree_key p = p.key ++ 0 ∷ p.value

@@ -1,10 +1,7 @@
 pub mod Apply
 pub mod Applying
 pub mod Arrays
-pub mod Bodies
-pub mod Codes
 pub mod Contents
-pub mod Drafts
 pub mod Indexes
 pub mod Maps
 pub mod Meaning
@@ -15,12 +12,10 @@ pub mod Queries
 pub mod Replay
 pub mod Rows
 pub mod Search
-pub mod Splits
 pub mod Stats
 pub mod Steps
 pub mod Stores
 pub mod Texts
 pub mod Values
-pub mod Views
 pub mod Walks
 pub mod Well

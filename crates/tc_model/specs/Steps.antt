@@ -1,9 +1,5 @@
--- How the plain body goes through a request.
+-- The next key of a walk.
 use Rattle.std.specs.Prelude.{◌≡◌, ◌+◌, ◌<◌, ℕ, List, [], length, drop, slice_index_or, Some, option_map}
-use Rattle.tc_base.specs.declared.request.Request.{Request}
-use Rattle.tc_base.specs.declared.request.Request.TheVariants.{IterInit, IterNext, Repl}
-use Rattle.tc_model.specs.declared.apply.Way.{Way}
-use Rattle.tc_model.specs.declared.apply.Way.TheVariants.{Begin, Step, Link, Plain}
 use Rattle.tc_model.specs.Contents.{Contents, Walk}
 use Rattle.tc_model.specs.Walks.{HasKeys}
 use Rattle.tc_model.specs.Apply.{next_in, next_of}
@@ -19,9 +15,3 @@ pub record IsNext (c : Contents) (w : Walk) (n : ℕ) (key : List ℕ) : Type 0 
   pub next : next_in c w ≡ Some (key, rest)
   pub left : option_map (drop n) w ≡ Some rest
   pub there : HasKeys n w
-
-abbrev pub way_of : Request → Way
-way_of IterInit = Begin
-way_of IterNext = Step
-way_of (Repl timestamp server) = Link
-way_of _ = Plain

@@ -1,6 +1,6 @@
 -- What contents are like after any requests.
-use Rattle.std.specs.Prelude.{◌≡◌, ℕ, ◌≤◌, true, List, [], ◌∷◌, length, Some}
-use Rattle.std.specs.List.{AllByRecursion, list_all}
+use Rattle.std.specs.Prelude.{◌≡◌, ℕ, ◌≤◌, true, List, length, Some}
+use Rattle.std.specs.List.{list_all}
 use Rattle.std.specs.FinMap.{get, len}
 use Rattle.tc_base.specs.Lists.{Rises}
 use Rattle.tc_base.specs.Orders.{order}

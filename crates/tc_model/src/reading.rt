@@ -3,7 +3,7 @@ ghost use Rattle.std.specs.Prelude.{◌≡◌, IfOk, true};
 ghost use Rattle.tc_model.specs.declared.misc.Misc.TheVariants as misc;
 ghost use Rattle.tc_base.specs.declared.seq.Pair.{Pair};
 ghost use Rattle.std.specs.Prelude.{List, ℕ};
-ghost use Rattle.tc_model.specs.Misc.{misc_of, pick, entries, row_entries, list_entries, other_entries, one, two, paired, key_and_twos, bounds};
+ghost use Rattle.tc_model.specs.Misc.{misc_of, pick, entries, row_entries, list_entries, other_entries, two, paired, key_and_twos, bounds};
 ghost use Rattle.tc_model.specs.Misc as kinds;
 
 use crate::misc::Misc;
@@ -59,28 +59,6 @@ fn put(alloc: Global, mode: Mode, args: &[Blob]) -> Result<Option<Misc>, AllocEr
         mode,
         key: copied(alloc, key)?,
         value: copied(alloc, value)?,
-    }))
-}
-
-fn get(alloc: Global, args: &[Blob]) -> Result<Option<Misc>, AllocError>
-    ensures { IfOk result (λ o. o ≡ one (λ key. misc.Get key) args.now) }
-{
-    let [key] = args else {
-        return Ok(None);
-    };
-    Ok(Some(Misc::Get {
-        key: copied(alloc, key)?,
-    }))
-}
-
-fn out(alloc: Global, args: &[Blob]) -> Result<Option<Misc>, AllocError>
-    ensures { IfOk result (λ o. o ≡ one (λ key. misc.Out key) args.now) }
-{
-    let [key] = args else {
-        return Ok(None);
-    };
-    Ok(Some(Misc::Out {
-        key: copied(alloc, key)?,
     }))
 }
 
@@ -272,10 +250,20 @@ fn read_name(
         return put(alloc, Mode::Cat, args);
     }
     if name == b"get".as_slice() && has_values(kind) {
-        return get(alloc, args);
+        let [key] = args else {
+            return Ok(None);
+        };
+        return Ok(Some(Misc::Get {
+            key: copied(alloc, key)?,
+        }));
     }
     if name == b"out".as_slice() {
-        return out(alloc, args);
+        let [key] = args else {
+            return Ok(None);
+        };
+        return Ok(Some(Misc::Out {
+            key: copied(alloc, key)?,
+        }));
     }
     read_row(alloc, name, args, kind)
 }

@@ -1,6 +1,7 @@
 -- Pages of a file that were read.
-use Rattle.std.specs.Prelude.{◌≡◌, ◌≢◌, ◌⊎◌, ℕ, ◌+◌, ◌*◌, ◌<◌, List, [], length, take, drop, slice_index_or}
-use Rattle.tc_realfs.specs.Changes.{PutsOver}
+use Rattle.std.specs.Prelude.{◌≡◌, ◌≢◌, ◌⊎◌, ℕ, ◌+◌, ◌*◌, ◌<◌, ◌≤◌, List, [], length, take, drop, slice_index_or, Option, Some}
+use Rattle.tc_base.specs.Files.{wrote}
+use Rattle.tc_realfs.specs.Changes.{PutsOver, SameOutside}
 use Rattle.tc_realfs.specs.declared.pages.Page.{Page}
 use Rattle.tc_realfs.specs.declared.pages.Pages.{Pages}
 use Rattle.tc_realfs.specs.declared.pages.Spot.{Spot}
@@ -18,9 +19,41 @@ pub record IsIn (slot : ℕ) (page : Page) (pages : Pages) : Type 0 where
 pub record ShowsIn (slot : ℕ) (page : Page) (file : List ℕ) : Type 0 where
   pub same : page.bytes.items ≡ take (length page.bytes.items) (drop (number slot page * 4096) file)
 
--- so are those of all
+-- the bytes of all pages are those of this file
 pub record Shows (pages : Pages) (file : List ℕ) : Type 0 where
   pub each : (slot : ℕ) (page : Page) → IsIn slot page pages → ShowsIn slot page file
+
+-- ---- what is told of a file before a call and after it
+
+-- so many bytes at a place of the file, where it is told
+abbrev pub Reads : Option (List ℕ) → ℕ → ℕ → List ℕ → Type 0
+Reads told at n bytes = (file : List ℕ) → told ≡ Some file → bytes ≡ take n (drop at file)
+
+-- where the pages are those of the file
+abbrev pub ReadsShown : Pages → Option (List ℕ) → ℕ → ℕ → List ℕ → Type 0
+ReadsShown pages told at n bytes = (file : List ℕ) → told ≡ Some file → Shows pages file → bytes ≡ take n (drop at file)
+
+-- pages of a file stay pages of it
+abbrev pub StillShows : Pages → Pages → Type 0
+StillShows old new = (file : List ℕ) → Shows old file → Shows new file
+
+-- where it is told
+abbrev pub StillShowsTold : Option (List ℕ) → Pages → Pages → Type 0
+StillShowsTold told old new = (file : List ℕ) → told ≡ Some file → Shows old file → Shows new file
+
+-- where it has these bytes in the page of that number
+abbrev pub TakesPage : ℕ → List ℕ → Pages → Pages → Type 0
+TakesPage n bytes old new = (file : List ℕ) → bytes ≡ take (length bytes) (drop (n * 4096) file) → Shows old file → Shows new file
+
+-- pages of a file are pages of it with these bytes written over it
+abbrev pub ShowsWrite : ℕ → List ℕ → Pages → Pages → Type 0
+ShowsWrite at bytes old new = (file : List ℕ) → at ≤ length file → Shows old file → Shows new (wrote at bytes file)
+
+-- pages of a file are pages of what it becomes by changes between two places
+abbrev pub ShowsOutside : ℕ → ℕ → Pages → Pages → Type 0
+ShowsOutside from until old new = (before after : List ℕ) → SameOutside from until before after → Shows old before → Shows new after
+
+-- ---- pages
 
 -- no bytes of the page of this number are there
 pub record Lacks (n : ℕ) (pages : Pages) : Type 0 where

@@ -57,11 +57,20 @@ fn open_all<R: Files<File = File>>(rt: &R, alloc: Global, name: &str) -> io::Res
     Ok(files)
 }
 
+// A file by its number.
+fn file_of(files: &mut [RealFile], file: u32) -> io::Result<&mut RealFile> {
+    let Some(one) = files.get_mut(file as usize) else {
+        return Err(missing());
+    };
+    Ok(one)
+}
+
+fn len_of(files: &mut [RealFile], file: u32) -> io::Result<u64> {
+    Ok(file_of(files, file)?.len())
+}
+
 fn read_of(files: &mut [RealFile], file: u32, at: u64, into: &mut [u8]) -> io::Result<()> {
-    match files.get_mut(file as usize) {
-        Some(one) => one.read(at, into),
-        None => Err(missing()),
-    }
+    file_of(files, file)?.read(at, into)
 }
 
 fn write_of<R: Files<File = File>>(
@@ -71,17 +80,11 @@ fn write_of<R: Files<File = File>>(
     at: u64,
     bytes: &[u8],
 ) -> io::Result<()> {
-    match files.get_mut(file as usize) {
-        Some(one) => one.write(rt, at, bytes),
-        None => Err(missing()),
-    }
+    file_of(files, file)?.write(rt, at, bytes)
 }
 
 fn cut_of(files: &mut [RealFile], file: u32, len: u64) -> io::Result<()> {
-    match files.get_mut(file as usize) {
-        Some(one) => one.cut(len),
-        None => Err(missing()),
-    }
+    file_of(files, file)?.cut(len)
 }
 
 fn sync_of<R: Files<File = File>>(
@@ -90,10 +93,7 @@ fn sync_of<R: Files<File = File>>(
     file: u32,
     folder: &str,
 ) -> io::Result<()> {
-    match files.get_mut(file as usize) {
-        Some(one) => one.sync(rt, folder),
-        None => Err(missing()),
-    }
+    file_of(files, file)?.sync(rt, folder)
 }
 
 // The answer to a call, after a fault was counted where it failed.
@@ -139,10 +139,7 @@ impl<'a, R: Files<File = File>> Volume for FolderVolume<'a, R> {
     }
 
     fn len(&mut self, file: u32) -> Result<u64, Fault> {
-        let len = match self.files.get(file as usize) {
-            Some(one) => Ok(one.len()),
-            None => Err(missing()),
-        };
+        let len = len_of(&mut self.files, file);
         counted(&mut self.faults, len)
     }
 

@@ -1,8 +1,6 @@
 //! Calls on a file whose pages are kept.
 ghost use Rattle.std.specs.Prelude.{◌≡◌, ℕ, ◌+◌, ◌%◌, ◌^◌, ◌<◌, ◌≤◌, List, length, take, drop, Option, Some, OnOk, OnErr};
-ghost use Rattle.tc_base.specs.Files.{wrote};
-ghost use Rattle.tc_realfs.specs.Changes.{SameOutside};
-ghost use Rattle.tc_realfs.specs.Paging.{Shows};
+ghost use Rattle.tc_realfs.specs.Paging.{Reads, ReadsShown, ShowsOutside, ShowsWrite, StillShowsTold};
 
 use crate::pages::{PAGE, Pages};
 use std::fs::File;
@@ -16,7 +14,7 @@ pub trait Source {
 
     /// Fills bytes with its own from a place on.
     fn read_at(self, at: u64, into: &mut [u8]) -> io::Result<()>
-        ensures { OnOk result ((file : List ℕ) → bytes self ≡ Some file → into.new ≡ take (length into.old) (drop at file)) };
+        ensures { OnOk result (Reads (bytes self) at (length into.old) into.new) };
 }
 
 impl<'a> Source for &'a File {
@@ -49,8 +47,8 @@ fn read_one<S: Source>(
 ) -> io::Result<()>
     requires page { at % 4096 + length into.old ≤ 4096 }
     requires inside { at + length into.old ≤ len }
-    ensures bytes { OnOk result ((file : List ℕ) → S.bytes source ≡ Some file → into.new ≡ take (length into.old) (drop at file)) }
-    ensures shows { (file : List ℕ) → S.bytes source ≡ Some file → Shows pages.old file → Shows pages.new file }
+    ensures bytes { OnOk result (Reads (S.bytes source) at (length into.old) into.new) }
+    ensures shows { StillShowsTold (S.bytes source) pages.old pages.new }
 {
     let number = at / PAGE;
     let start = number * PAGE;
@@ -75,8 +73,8 @@ fn read_both<S: Source>(
     requires short { length into.old ≤ 4096 }
     requires crosses { 4096 < at % 4096 + length into.old }
     requires inside { at + length into.old ≤ len }
-    ensures bytes { OnOk result ((file : List ℕ) → S.bytes source ≡ Some file → into.new ≡ take (length into.old) (drop at file)) }
-    ensures shows { (file : List ℕ) → S.bytes source ≡ Some file → Shows pages.old file → Shows pages.new file }
+    ensures bytes { OnOk result (Reads (S.bytes source) at (length into.old) into.new) }
+    ensures shows { StillShowsTold (S.bytes source) pages.old pages.new }
 {
     let number = at / PAGE;
     let start = number * PAGE;
@@ -101,8 +99,8 @@ pub fn read<S: Source + Drop>(
     into: &mut [u8],
 ) -> io::Result<()>
     requires inside { at + length into.old < 2 ^ 64 }
-    ensures bytes { OnOk result ((file : List ℕ) → S.bytes source ≡ Some file → Shows pages.old file → into.new ≡ take (length into.old) (drop at file)) }
-    ensures shows { (file : List ℕ) → S.bytes source ≡ Some file → Shows pages.old file → Shows pages.new file }
+    ensures bytes { OnOk result (ReadsShown pages.old (S.bytes source) at (length into.old) into.new) }
+    ensures shows { StillShowsTold (S.bytes source) pages.old pages.new }
 {
     let end = at + into.len() as u64;
     if into.len() as u64 >= PAGE || end > len {
@@ -122,8 +120,8 @@ pub fn read<S: Source + Drop>(
 /// Writes all the bytes from a place on. After an error any of them may be there.
 pub fn write(pages: &mut Pages, file: &File, at: u64, bytes: &[u8]) -> io::Result<()>
     requires inside { at + length bytes.now < 2 ^ 64 }
-    ensures written { OnOk result ((old : List ℕ) → at ≤ length old → Shows pages.old old → Shows pages.new (wrote at bytes.now old)) }
-    ensures torn { OnErr result ((old new : List ℕ) → SameOutside at (at + length bytes.now) old new → Shows pages.old old → Shows pages.new new) }
+    ensures written { OnOk result (ShowsWrite at bytes.now pages.old pages.new) }
+    ensures torn { OnErr result (ShowsOutside at (at + length bytes.now) pages.old pages.new) }
 {
     match file.write_all_at(bytes, at) {
         Ok(()) => {
@@ -139,7 +137,7 @@ pub fn write(pages: &mut Pages, file: &File, at: u64, bytes: &[u8]) -> io::Resul
 
 /// Cuts what lies behind a place, up to where the file ends. After an error it may be there or not.
 pub fn cut(pages: &mut Pages, file: &File, at: u64, end: u64) -> io::Result<()>
-    ensures { (old new : List ℕ) → SameOutside at end old new → Shows pages.old old → Shows pages.new new }
+    ensures { ShowsOutside at end pages.old pages.new }
 {
     let done = file.set_len(at);
     pages.forget(at, end);

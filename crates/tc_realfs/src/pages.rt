@@ -1,7 +1,7 @@
 //! Pages of a file that were read, kept in memory.
 ghost use Rattle.std.specs.Prelude.{◌≡◌, ℕ, ◌+◌, ◌*◌, ◌%◌, ◌^◌, ◌<◌, ◌≤◌, List, [], length, take, drop, IfSome, IsTrue, OnOk};
 ghost use Rattle.tc_base.specs.Files.{wrote};
-ghost use Rattle.tc_realfs.specs.Changes.{PutsOver, SameOutside};
+ghost use Rattle.tc_realfs.specs.Changes.{PutsOver};
 
 use std::alloc::{AllocError, Global};
 use std::mem::replace;
@@ -147,7 +147,7 @@ pub struct Pages {
 }
 
 impl Pages {
-    ghost use Rattle.tc_realfs.specs.Paging.{Lacks, Shows};
+    ghost use Rattle.tc_realfs.specs.Paging.{Lacks, Shows, ShowsOutside, ShowsWrite, StillShows, TakesPage};
 
     /// No pages, which takes no memory.
     pub fn new(alloc: Global) -> Pages
@@ -177,7 +177,7 @@ impl Pages {
     // Makes a slot where it isn't there.
     fn make_slot(&mut self, slot: usize) -> Result<(), AllocError>
         requires { slot < 16384 }
-        ensures { (file : List ℕ) → Shows self.old file → Shows self.new file }
+        ensures { StillShows self.old self.new }
     {
         while self.slots.len() <= slot {
             self.slots.push(Page::absent(self.alloc))?;
@@ -188,7 +188,7 @@ impl Pages {
     /// So many bytes, whatever they are, to be filled with those of a page. None where memory is wanting.
     pub fn room(&mut self, number: u64, count: usize) -> Option<Vec<u8>>
         ensures long { IfSome result (λ room. length room.items ≡ count) }
-        ensures shows { (file : List ℕ) → Shows self.old file → Shows self.new file }
+        ensures shows { StillShows self.old self.new }
     {
         let slot = (number % SLOTS) as usize;
         self.make_slot(slot).ok()?;
@@ -204,7 +204,7 @@ impl Pages {
     /// Keeps the bytes of a page.
     pub fn fill(&mut self, number: u64, bytes: Vec<u8>)
         requires short { length bytes.items ≤ 4096 }
-        ensures { (file : List ℕ) → bytes.items ≡ take (length bytes.items) (drop (number * 4096) file) → Shows self.old file → Shows self.new file }
+        ensures { TakesPage number bytes.items self.old self.new }
     {
         let slot = (number % SLOTS) as usize;
         let Some(page) = self.slots.get_mut(slot) else {
@@ -219,7 +219,7 @@ impl Pages {
     /// Keeps a copy of the bytes of a page, if there is memory for it.
     pub fn keep(&mut self, number: u64, bytes: &[u8])
         requires short { length bytes.now ≤ 4096 }
-        ensures { (file : List ℕ) → bytes.now ≡ take (length bytes.now) (drop (number * 4096) file) → Shows self.old file → Shows self.new file }
+        ensures { TakesPage number bytes.now self.old self.new }
     {
         let Some(mut room) = self.room(number, bytes.len()) else {
             return;
@@ -231,7 +231,7 @@ impl Pages {
     // Brings in what was written from a place on in one page.
     fn put_part(&mut self, at: u64, bytes: &[u8])
         requires inside { at % 4096 + length bytes.now ≤ 4096 }
-        ensures { (file : List ℕ) → at ≤ length file → Shows self.old file → Shows self.new (wrote at bytes.now file) }
+        ensures { ShowsWrite at bytes.now self.old self.new }
     {
         let spot = Spot::of(at);
         let Some(page) = self.slots.get_mut(spot.slot) else {
@@ -243,7 +243,7 @@ impl Pages {
     /// Brings in what was written from a place on.
     pub fn put(&mut self, at: u64, bytes: &[u8])
         requires inside { at + length bytes.now < 2 ^ 64 }
-        ensures { (file : List ℕ) → at ≤ length file → Shows self.old file → Shows self.new (wrote at bytes.now file) }
+        ensures { ShowsWrite at bytes.now self.old self.new }
     {
         let mut done = 0;
         while done < bytes.len() {
@@ -256,7 +256,7 @@ impl Pages {
 
     // Lets go of a page.
     fn let_go(&mut self, number: u64)
-        ensures shows { (file : List ℕ) → Shows self.old file → Shows self.new file }
+        ensures shows { StillShows self.old self.new }
         ensures gone { Lacks number self.new }
         ensures still { (other : ℕ) → Lacks other self.old → Lacks other self.new }
     {
@@ -268,7 +268,7 @@ impl Pages {
 
     /// Lets go of what lies from one place to another, and of all where that is longer than all.
     pub fn forget(&mut self, from: u64, until: u64)
-        ensures { (old new : List ℕ) → SameOutside from until old new → Shows self.old old → Shows self.new new }
+        ensures { ShowsOutside from until self.old self.new }
     {
         let first = from / PAGE;
         let end = until.div_ceil(PAGE);

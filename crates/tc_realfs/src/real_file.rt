@@ -51,13 +51,13 @@ impl RealFile {
             .open(rt, path.as_str());
         let mut len = 0;
         let handle = match opened {
-            Ok(file) => {
+            Err(e) if e.kind() == ErrorKind::NotFound => None,
+            opened => {
+                let file = opened?;
                 lock(&file, is_locked)?;
                 len = file.metadata()?.len();
                 Some(file)
             }
-            Err(e) if e.kind() == ErrorKind::NotFound => None,
-            Err(e) => return Err(e),
         };
         Ok(RealFile {
             path,

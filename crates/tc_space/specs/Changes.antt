@@ -1,8 +1,8 @@
 -- What puts and outs make of a map, and of a list of pairs.
-use Rattle.std.specs.Prelude.{ℕ, List, [], ◌++◌, filter, Bool, true, false, Option, is_some, unwrap_or}
+use Rattle.std.specs.Prelude.{ℕ, List, [], ◌++◌, filter, take, Bool, true, false, Option, is_some, unwrap_or}
 use Rattle.std.specs.FinMap.{get, insert, remove}
 use Rattle.std.specs.declared.cmp.Ordering.{Ordering}
-use Rattle.tc_base.specs.Lists.{first, with_first, with_last, without_first, without_all}
+use Rattle.tc_base.specs.Lists.{first, values, with_first, with_last, without_first, without_all}
 use Rattle.tc_base.specs.Maps.{Map}
 use Rattle.tc_base.specs.declared.kind.Mode.{Mode}
 use Rattle.tc_base.specs.declared.kind.Mode.TheVariants.{Over, Keep, Cat}
@@ -38,6 +38,9 @@ out_of key m = remove m key
 abbrev pub first_in : List ℕ → List Pair → Option (List ℕ)
 first_in key ps = first ps key
 
+abbrev pub values_in : List ℕ → List Pair → List (List ℕ)
+values_in key ps = values ps key
+
 abbrev pub has_pair : List ℕ → List Pair → Bool
 has_pair key ps = is_some (first ps key)
 
@@ -63,3 +66,7 @@ is_inside After = false
 -- the pairs of a stretch of keys
 abbrev pub inside : (List ℕ → Side) → List Pair → List Pair
 inside side ps = filter (λ p. is_inside (side p.key)) ps
+
+-- the first of them
+abbrev pub inside_first : ℕ → (List ℕ → Side) → List Pair → List Pair
+inside_first max side ps = take max (inside side ps)

@@ -11,6 +11,12 @@ pub record Keeps {S : Type 0} (s : Ghosts S) (old new : S) : Type 0 where
   pub same_names : s.names new ≡ s.names old
   pub later : s.faults old ≤ s.faults new
 
+-- what is left of that where it may have committed
+pub record Follows {S : Type 0} (s : Ghosts S) (old new : S) : Type 0 where
+  pub later : s.faults old ≤ s.faults new
+  pub same_limit : s.limit new ≡ s.limit old
+  pub same_names : s.names new ≡ s.names old
+
 -- besides, nothing is written
 pub record OnlyReads {S : Type 0} (s : Ghosts S) (old new : S) : Type 0 where
   pub keeps : Keeps s old new
@@ -34,6 +40,12 @@ module _ {S : Type 0} (s : Ghosts S) where
     same_names = second.same_names ∙ first.same_names;
     later = omega (arith, first.later, second.later);
   }
+
+  pub follows_refl : (a : S) → Follows s a a
+  follows_refl a = record { later = omega arith; same_limit = refl; same_names = refl }
+
+  pub follows_then : (a b c : S) → Follows s a b → Follows s b c → Follows s a c
+  follows_then a b c first second = record { later = omega (arith, first.later, second.later); same_limit = second.same_limit ∙ first.same_limit; same_names = second.same_names ∙ first.same_names }
 
   pub only_reads_refl : (a : S) → s.sound a → OnlyReads s a a
   only_reads_refl a is = record { keeps = keeps_refl a; files = λ t g. refl; untouched = refl; is_sound = is }

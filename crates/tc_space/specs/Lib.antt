@@ -5,4 +5,5 @@ pub mod Frames
 pub mod Moments
 pub mod NoFiles
 pub mod Ranges
+pub mod Refusals
 pub mod Stores

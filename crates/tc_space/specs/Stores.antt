@@ -1,9 +1,9 @@
 -- What a call does to a map, or to a list of pairs, that is kept in one file of a space.
-use Rattle.std.specs.Prelude.{◌≡◌, ◌⊎◌, ℕ, ◌+◌, ◌-◌, ◌^◌, ◌≤◌, min, List, Bool, true, false, Option, None, IsSome}
+use Rattle.std.specs.Prelude.{◌≡◌, ◌⊎◌, ℕ, ◌+◌, ◌-◌, ◌^◌, ◌≤◌, min, List, Bool, true, false, Option, None, IsSome, Result, IfOk, OnErr}
 use Rattle.std.proofs.Common.{inl, inr, ⊎_elim, refl, arith}
 use Rattle.tc_base.specs.declared.kind.Mode.{Mode}
 use Rattle.tc_base.specs.declared.kind.Mode.TheVariants.{Keep}
-use Rattle.tc_space.specs.Frames.{Reads, Writes}
+use Rattle.tc_space.specs.Frames.{In, Reads, Refuses, Writes}
 use Rattle.tc_space.specs.declared.space.Space.{Ghosts}
 
 -- it may be called: the space is sound and, where its files are told, something is held
@@ -52,6 +52,37 @@ pub record FullBy {S V M : Type 0} (Means : V → S → M → Type 0) (fills : V
 pub record Ticks (gets gets' steps steps' : ℕ) : Type 0 where
   pub rises : steps ≤ steps'
   pub enough : (gets' + steps ≤ gets + steps') ⊎ (2 ^ 64 - 1 ≤ steps')
+
+-- ---- the same of a store of one file, by the members that it has
+
+module _ {S V M : Type 0} (s : Ghosts S) (file : V → ℕ) (holds : V → List ℕ → M → Type 0) where
+  abbrev pub ReadyIn : V → S → Type 0
+  ReadyIn v space = IsReady s (In s file holds) v space
+
+  -- it answers this of whatever is held
+  abbrev pub AnswersIn : {A E : Type 0} → Result A E → (M → A) → V → S → Type 0
+  AnswersIn result f v space = IfOk result (λ x. (m : M) → In s file holds v space m → x ≡ f m)
+
+  abbrev pub ReadsIn : V → V → S → S → Type 0
+  ReadsIn v v' old new = Reads s (In s file holds) v v' old new
+
+  abbrev pub WritesIn : (M → M) → V → V → S → S → Type 0
+  WritesIn f v v' old new = Writes s (Only (file v)) (In s file holds) f v v' old new
+
+  abbrev pub RefusesIn : {A E : Type 0} → Result A E → V → V → S → S → Type 0
+  RefusesIn result v v' old new = OnErr result (Refuses s (In s file holds) v v' old new)
+
+  abbrev pub PutsIn : Mode → (M → Option (List ℕ)) → (M → M) → V → V → S → S → Type 0
+  PutsIn mode found f v v' old new = Puts s (Only (file v)) (In s file holds) mode found f v v' old new
+
+  abbrev pub ExistsIn : Mode → (M → Option (List ℕ)) → V → V → S → S → Type 0
+  ExistsIn mode found v v' old new = Exists s (In s file holds) mode found v v' old new
+
+  abbrev pub TakesIn : {E : Type 0} → Result Bool E → (M → Bool) → (M → M) → V → V → S → S → Type 0
+  TakesIn result has f v v' old new = IfOk result (λ taken. TakesOut s (Only (file v)) (In s file holds) has f taken v v' old new)
+
+  abbrev pub FullIn : (V → S → M → M → Type 0) → (M → M) → V → S → S → Type 0
+  FullIn fills f v old new = FullBy (In s file holds) fills f v old new
 
 -- ---- it may be called again
 

@@ -1,11 +1,11 @@
 //! A list of pairs over one file.
-ghost use Rattle.std.specs.Prelude.{◌≡◌, ℕ, List, length, take, OnOk, OnErr, IfOk, IsErrOf};
-ghost use Rattle.tc_base.specs.Lists.{Rises, first, values};
+ghost use Rattle.std.specs.Prelude.{◌≡◌, ℕ, List, length, OnOk, IsErrOf};
+ghost use Rattle.tc_base.specs.Lists.{Rises};
 ghost use Rattle.tc_base.specs.declared.seq.Pair.{Pair};
-ghost use Rattle.tc_io.specs.Causes.{Rose};
-ghost use Rattle.tc_space.specs.Changes.{all_out, first_in, first_out, has_pair, inside, put_first, put_last, same};
-ghost use Rattle.tc_space.specs.Frames.{In, Keeps, Reads, Refuses, Writes};
-ghost use Rattle.tc_space.specs.Stores.{Exists, FullBy, IsReady, Only, Puts, TakesOut, Ticks};
+ghost use Rattle.tc_space.specs.Changes.{all_out, first_in, first_out, has_pair, inside_first, put_first, put_last, same, values_in};
+ghost use Rattle.tc_space.specs.Frames.{In, Keeps};
+ghost use Rattle.tc_space.specs.Refusals.{Blamed, Blames, OnFault};
+ghost use Rattle.tc_space.specs.Stores.{AnswersIn, ExistsIn, FullIn, PutsIn, ReadsIn, ReadyIn, RefusesIn, TakesIn, Ticks, WritesIn};
 
 use crate::errors::{PutErr, RecErr};
 use crate::space::Space;
@@ -50,22 +50,22 @@ pub trait Multi {
         key: &[u8],
         steps: &mut Steps<L>,
     ) -> Result<Option<Blob>, RecErr>
-        requires { IsReady Self.S.Space (In Self.S.Space file_of holds) self.old space.old }
-        ensures value { IfOk result (λ found. (ps : List Pair) → In Self.S.Space file_of holds self.old space.old ps → found ≡ first ps key.now) }
-        ensures reads { Reads Self.S.Space (In Self.S.Space file_of holds) self.old self.new space.old space.new }
+        requires { ReadyIn Self.S.Space file_of holds self.old space.old }
+        ensures value { AnswersIn Self.S.Space file_of holds result (first_in key.now) self.old space.old }
+        ensures reads { ReadsIn Self.S.Space file_of holds self.old self.new space.old space.new }
         ensures keeps { Keeps Self.S.Space space.old space.new }
         ensures file { file_of self.new ≡ file_of self.old }
         ensures steps { Ticks (gets self.old) (gets self.new) steps.old steps.new }
-        ensures cause { (IsErrOf result RecErr.Fault → Rose (Self.S.faults space.old) (Self.S.faults space.new)) × (IsErrOf result RecErr.Full → ⊥) };
+        ensures cause { Blames Self.S.Space result space.old space.new };
 
     /// All values of a key, in order of arrival.
     fn all(&mut self, space: &mut Self::S, key: &[u8]) -> Result<Blobs, RecErr>
-        requires { IsReady Self.S.Space (In Self.S.Space file_of holds) self.old space.old }
-        ensures value { IfOk result (λ found. (ps : List Pair) → In Self.S.Space file_of holds self.old space.old ps → found ≡ values ps key.now) }
-        ensures reads { Reads Self.S.Space (In Self.S.Space file_of holds) self.old self.new space.old space.new }
+        requires { ReadyIn Self.S.Space file_of holds self.old space.old }
+        ensures value { AnswersIn Self.S.Space file_of holds result (values_in key.now) self.old space.old }
+        ensures reads { ReadsIn Self.S.Space file_of holds self.old self.new space.old space.new }
         ensures keeps { Keeps Self.S.Space space.old space.new }
         ensures file { file_of self.new ≡ file_of self.old }
-        ensures cause { (IsErrOf result RecErr.Fault → Rose (Self.S.faults space.old) (Self.S.faults space.new)) × (IsErrOf result RecErr.Full → ⊥) };
+        ensures cause { Blames Self.S.Space result space.old space.new };
 
     /// Replaces the first value of a key, or joins behind it, or adds the pair where the key isn't held. Exists comes exactly with `Keep` on
     /// a held key.
@@ -76,44 +76,44 @@ pub trait Multi {
         value: &[u8],
         mode: Mode,
     ) -> Result<(), PutErr>
-        requires { IsReady Self.S.Space (In Self.S.Space file_of holds) self.old space.old }
-        ensures put { OnOk result (Puts Self.S.Space (Only (file_of self.old)) (In Self.S.Space file_of holds) mode (first_in key.now) (put_first Self.O.cmp mode key.now value.now) self.old self.new space.old space.new) }
-        ensures exists { IsErrOf result PutErr.Exists → Exists Self.S.Space (In Self.S.Space file_of holds) mode (first_in key.now) self.old self.new space.old space.new }
-        ensures refused { OnErr result (Refuses Self.S.Space (In Self.S.Space file_of holds) self.old self.new space.old space.new) }
-        ensures full { IsErrOf result PutErr.Full → FullBy (In Self.S.Space file_of holds) fills (put_first Self.O.cmp mode key.now value.now) self.old space.old space.new }
+        requires { ReadyIn Self.S.Space file_of holds self.old space.old }
+        ensures put { OnOk result (PutsIn Self.S.Space file_of holds mode (first_in key.now) (put_first Self.O.cmp mode key.now value.now) self.old self.new space.old space.new) }
+        ensures exists { IsErrOf result PutErr.Exists → ExistsIn Self.S.Space file_of holds mode (first_in key.now) self.old self.new space.old space.new }
+        ensures refused { RefusesIn Self.S.Space file_of holds result self.old self.new space.old space.new }
+        ensures full { IsErrOf result PutErr.Full → FullIn Self.S.Space file_of holds fills (put_first Self.O.cmp mode key.now value.now) self.old space.old space.new }
         ensures keeps { Keeps Self.S.Space space.old space.new }
         ensures file { file_of self.new ≡ file_of self.old }
-        ensures cause { IsErrOf result PutErr.Fault → Rose (Self.S.faults space.old) (Self.S.faults space.new) };
+        ensures cause { Blamed Self.S.Space (IsErrOf result PutErr.Fault) space.old space.new };
 
     /// Adds a pair behind those of its key.
     fn putdup(&mut self, space: &mut Self::S, key: &[u8], value: &[u8]) -> Result<(), RecErr>
-        requires { IsReady Self.S.Space (In Self.S.Space file_of holds) self.old space.old }
-        ensures put { OnOk result (Writes Self.S.Space (Only (file_of self.old)) (In Self.S.Space file_of holds) (put_last Self.O.cmp key.now value.now) self.old self.new space.old space.new) }
-        ensures refused { OnErr result (Refuses Self.S.Space (In Self.S.Space file_of holds) self.old self.new space.old space.new) }
-        ensures full { IsErrOf result RecErr.Full → FullBy (In Self.S.Space file_of holds) fills (put_last Self.O.cmp key.now value.now) self.old space.old space.new }
+        requires { ReadyIn Self.S.Space file_of holds self.old space.old }
+        ensures put { OnOk result (WritesIn Self.S.Space file_of holds (put_last Self.O.cmp key.now value.now) self.old self.new space.old space.new) }
+        ensures refused { RefusesIn Self.S.Space file_of holds result self.old self.new space.old space.new }
+        ensures full { IsErrOf result RecErr.Full → FullIn Self.S.Space file_of holds fills (put_last Self.O.cmp key.now value.now) self.old space.old space.new }
         ensures keeps { Keeps Self.S.Space space.old space.new }
         ensures file { file_of self.new ≡ file_of self.old }
-        ensures cause { IsErrOf result RecErr.Fault → Rose (Self.S.faults space.old) (Self.S.faults space.new) };
+        ensures cause { OnFault Self.S.Space result space.old space.new };
 
     /// Takes the first pair of a key out. False comes exactly where the key isn't held.
     fn out(&mut self, space: &mut Self::S, key: &[u8]) -> Result<bool, RecErr>
-        requires { IsReady Self.S.Space (In Self.S.Space file_of holds) self.old space.old }
-        ensures out { IfOk result (λ taken. TakesOut Self.S.Space (Only (file_of self.old)) (In Self.S.Space file_of holds) (has_pair key.now) (first_out Self.O.cmp key.now) taken self.old self.new space.old space.new) }
-        ensures refused { OnErr result (Refuses Self.S.Space (In Self.S.Space file_of holds) self.old self.new space.old space.new) }
-        ensures full { IsErrOf result RecErr.Full → FullBy (In Self.S.Space file_of holds) fills (first_out Self.O.cmp key.now) self.old space.old space.new }
+        requires { ReadyIn Self.S.Space file_of holds self.old space.old }
+        ensures out { TakesIn Self.S.Space file_of holds result (has_pair key.now) (first_out Self.O.cmp key.now) self.old self.new space.old space.new }
+        ensures refused { RefusesIn Self.S.Space file_of holds result self.old self.new space.old space.new }
+        ensures full { IsErrOf result RecErr.Full → FullIn Self.S.Space file_of holds fills (first_out Self.O.cmp key.now) self.old space.old space.new }
         ensures keeps { Keeps Self.S.Space space.old space.new }
         ensures file { file_of self.new ≡ file_of self.old }
-        ensures cause { IsErrOf result RecErr.Fault → Rose (Self.S.faults space.old) (Self.S.faults space.new) };
+        ensures cause { OnFault Self.S.Space result space.old space.new };
 
     /// Takes all pairs of a key out. False comes exactly where the key isn't held.
     fn out_all(&mut self, space: &mut Self::S, key: &[u8]) -> Result<bool, RecErr>
-        requires { IsReady Self.S.Space (In Self.S.Space file_of holds) self.old space.old }
-        ensures out { IfOk result (λ taken. TakesOut Self.S.Space (Only (file_of self.old)) (In Self.S.Space file_of holds) (has_pair key.now) (all_out Self.O.cmp key.now) taken self.old self.new space.old space.new) }
-        ensures refused { OnErr result (Refuses Self.S.Space (In Self.S.Space file_of holds) self.old self.new space.old space.new) }
-        ensures full { IsErrOf result RecErr.Full → FullBy (In Self.S.Space file_of holds) fills (all_out Self.O.cmp key.now) self.old space.old space.new }
+        requires { ReadyIn Self.S.Space file_of holds self.old space.old }
+        ensures out { TakesIn Self.S.Space file_of holds result (has_pair key.now) (all_out Self.O.cmp key.now) self.old self.new space.old space.new }
+        ensures refused { RefusesIn Self.S.Space file_of holds result self.old self.new space.old space.new }
+        ensures full { IsErrOf result RecErr.Full → FullIn Self.S.Space file_of holds fills (all_out Self.O.cmp key.now) self.old space.old space.new }
         ensures keeps { Keeps Self.S.Space space.old space.new }
         ensures file { file_of self.new ≡ file_of self.old }
-        ensures cause { IsErrOf result RecErr.Fault → Rose (Self.S.faults space.old) (Self.S.faults space.new) };
+        ensures cause { OnFault Self.S.Space result space.old space.new };
 
     /// The first pairs of a stretch of keys, at most `max`.
     fn range<C: Cut<Self::O>, L>(
@@ -123,34 +123,34 @@ pub trait Multi {
         max: u64,
         steps: &mut Steps<L>,
     ) -> Result<Pairs, RecErr>
-        requires { IsReady Self.S.Space (In Self.S.Space file_of holds) self.old space.old }
-        ensures value { IfOk result (λ found. (ps : List Pair) → In Self.S.Space file_of holds self.old space.old ps → found ≡ take max (inside (C.side_of cut.now) ps)) }
-        ensures reads { Reads Self.S.Space (In Self.S.Space file_of holds) self.old self.new space.old space.new }
+        requires { ReadyIn Self.S.Space file_of holds self.old space.old }
+        ensures value { AnswersIn Self.S.Space file_of holds result (inside_first max (C.side_of cut.now)) self.old space.old }
+        ensures reads { ReadsIn Self.S.Space file_of holds self.old self.new space.old space.new }
         ensures keeps { Keeps Self.S.Space space.old space.new }
         ensures file { file_of self.new ≡ file_of self.old }
         ensures steps { Ticks (gets self.old) (gets self.new) steps.old steps.new }
-        ensures cause { (IsErrOf result RecErr.Fault → Rose (Self.S.faults space.old) (Self.S.faults space.new)) × (IsErrOf result RecErr.Full → ⊥) };
+        ensures cause { Blames Self.S.Space result space.old space.new };
 
     /// Brings what is held in memory to the file, which then stands for the pairs.
     fn settle(&mut self, space: &mut Self::S) -> Result<(), RecErr>
-        requires { IsReady Self.S.Space (In Self.S.Space file_of holds) self.old space.old }
-        ensures settled { OnOk result (Writes Self.S.Space (Only (file_of self.old)) (In Self.S.Space file_of holds) same self.old self.new space.old space.new) }
+        requires { ReadyIn Self.S.Space file_of holds self.old space.old }
+        ensures settled { OnOk result (WritesIn Self.S.Space file_of holds same self.old self.new space.old space.new) }
         ensures stands { OnOk result ((ps : List Pair) → In Self.S.Space file_of holds self.old space.old ps → stands (Self.S.now space.new (file_of self.old)) ps) }
-        ensures refused { OnErr result (Refuses Self.S.Space (In Self.S.Space file_of holds) self.old self.new space.old space.new) }
-        ensures full { IsErrOf result RecErr.Full → FullBy (In Self.S.Space file_of holds) fills same self.old space.old space.new }
+        ensures refused { RefusesIn Self.S.Space file_of holds result self.old self.new space.old space.new }
+        ensures full { IsErrOf result RecErr.Full → FullIn Self.S.Space file_of holds fills same self.old space.old space.new }
         ensures keeps { Keeps Self.S.Space space.old space.new }
         ensures file { file_of self.new ≡ file_of self.old }
-        ensures cause { IsErrOf result RecErr.Fault → Rose (Self.S.faults space.old) (Self.S.faults space.new) };
+        ensures cause { OnFault Self.S.Space result space.old space.new };
 
     /// Packs the file, in the form that it has or in the large one. The pairs stay.
     fn pack(&mut self, space: &mut Self::S, form: Form) -> Result<(), RecErr>
-        requires { IsReady Self.S.Space (In Self.S.Space file_of holds) self.old space.old }
-        ensures packed { OnOk result (Writes Self.S.Space (Only (file_of self.old)) (In Self.S.Space file_of holds) same self.old self.new space.old space.new) }
-        ensures refused { OnErr result (Refuses Self.S.Space (In Self.S.Space file_of holds) self.old self.new space.old space.new) }
-        ensures full { IsErrOf result RecErr.Full → FullBy (In Self.S.Space file_of holds) fills same self.old space.old space.new }
+        requires { ReadyIn Self.S.Space file_of holds self.old space.old }
+        ensures packed { OnOk result (WritesIn Self.S.Space file_of holds same self.old self.new space.old space.new) }
+        ensures refused { RefusesIn Self.S.Space file_of holds result self.old self.new space.old space.new }
+        ensures full { IsErrOf result RecErr.Full → FullIn Self.S.Space file_of holds fills same self.old space.old space.new }
         ensures keeps { Keeps Self.S.Space space.old space.new }
         ensures file { file_of self.new ≡ file_of self.old }
-        ensures cause { IsErrOf result RecErr.Fault → Rose (Self.S.faults space.old) (Self.S.faults space.new) };
+        ensures cause { OnFault Self.S.Space result space.old space.new };
 
     /// The pairs stand in the order of their keys.
     ghost rises: { (m : Self) (bytes : List ℕ) (ps : List Pair) → holds m bytes ps → Rises Self.O.cmp ps };

@@ -79,21 +79,16 @@ impl Space for NoSpace {
         self.sound
     }
 
-    fn len(&self, file: u32) -> u64 {
-        let _ = file;
+    fn len(&self, _file: u32) -> u64 {
         0
     }
 
-    fn read(&mut self, file: u32, at: u64, into: &mut [u8]) -> Result<(), Fault> {
-        let _ = file;
-        let _ = at;
+    fn read(&mut self, _file: u32, _at: u64, into: &mut [u8]) -> Result<(), Fault> {
         self.read = self.read.saturating_add(into.len() as u64);
         Ok(())
     }
 
-    fn write(&mut self, file: u32, at: u64, bytes: &[u8]) -> Result<(), SpaceErr> {
-        let _ = file;
-        let _ = at;
+    fn write(&mut self, _file: u32, _at: u64, bytes: &[u8]) -> Result<(), SpaceErr> {
         self.touched = true;
         if bytes.is_empty() {
             return Ok(());
@@ -102,9 +97,7 @@ impl Space for NoSpace {
         Err(SpaceErr::Full)
     }
 
-    fn cut(&mut self, file: u32, len: u64) -> Result<(), SpaceErr> {
-        let _ = file;
-        let _ = len;
+    fn cut(&mut self, _file: u32, _len: u64) -> Result<(), SpaceErr> {
         self.touched = true;
         Ok(())
     }

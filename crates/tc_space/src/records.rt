@@ -1,11 +1,11 @@
 //! A map over one file.
-ghost use Rattle.std.specs.Prelude.{◌≡◌, ◌≤◌, ℕ, List, OnOk, OnErr, IfOk, IsErrOf};
-ghost use Rattle.std.specs.FinMap.{get, keys, len};
+ghost use Rattle.std.specs.Prelude.{◌≡◌, ◌≤◌, ℕ, List, OnOk, IsErrOf};
+ghost use Rattle.std.specs.FinMap.{keys, len};
 ghost use Rattle.tc_base.specs.Maps.{Map};
-ghost use Rattle.tc_io.specs.Causes.{Rose};
 ghost use Rattle.tc_space.specs.Changes.{is_in, out_of, put_in, same, value_in};
-ghost use Rattle.tc_space.specs.Frames.{In, Keeps, Reads, Refuses, Writes};
-ghost use Rattle.tc_space.specs.Stores.{CountsGet, Exists, FullBy, IsReady, Only, Puts, StaysMap, TakesOut};
+ghost use Rattle.tc_space.specs.Frames.{In, Keeps};
+ghost use Rattle.tc_space.specs.Refusals.{Blamed, Blames, OnFault};
+ghost use Rattle.tc_space.specs.Stores.{AnswersIn, CountsGet, ExistsIn, FullIn, PutsIn, ReadsIn, ReadyIn, RefusesIn, StaysMap, TakesIn, WritesIn};
 
 use crate::errors::{PutErr, RecErr};
 use crate::space::Space;
@@ -54,13 +54,13 @@ pub trait Records {
         key: &[u8],
         steps: &mut Steps<L>,
     ) -> Result<Option<Blob>, RecErr>
-        requires { IsReady Self.S.Space (In Self.S.Space file_of holds) self.old space.old }
-        ensures value { IfOk result (λ found. (m : Map) → In Self.S.Space file_of holds self.old space.old m → found ≡ get m key.now) }
-        ensures reads { Reads Self.S.Space (In Self.S.Space file_of holds) self.old self.new space.old space.new }
+        requires { ReadyIn Self.S.Space file_of holds self.old space.old }
+        ensures value { AnswersIn Self.S.Space file_of holds result (value_in key.now) self.old space.old }
+        ensures reads { ReadsIn Self.S.Space file_of holds self.old self.new space.old space.new }
         ensures keeps { Keeps Self.S.Space space.old space.new }
         ensures counts { CountsGet file_of region gets self.old self.new }
         ensures steps { steps.old ≤ steps.new }
-        ensures cause { (IsErrOf result RecErr.Fault → Rose (Self.S.faults space.old) (Self.S.faults space.new)) × (IsErrOf result RecErr.Full → ⊥) };
+        ensures cause { Blames Self.S.Space result space.old space.new };
 
     /// Gives a key a value. Exists comes exactly with `Keep` on a held key.
     fn put<L>(
@@ -71,15 +71,15 @@ pub trait Records {
         mode: Mode,
         steps: &mut Steps<L>,
     ) -> Result<(), PutErr>
-        requires { IsReady Self.S.Space (In Self.S.Space file_of holds) self.old space.old }
-        ensures put { OnOk result (Puts Self.S.Space (Only (file_of self.old)) (In Self.S.Space file_of holds) mode (value_in key.now) (put_in mode key.now value.now) self.old self.new space.old space.new) }
-        ensures exists { IsErrOf result PutErr.Exists → Exists Self.S.Space (In Self.S.Space file_of holds) mode (value_in key.now) self.old self.new space.old space.new }
-        ensures refused { OnErr result (Refuses Self.S.Space (In Self.S.Space file_of holds) self.old self.new space.old space.new) }
-        ensures full { IsErrOf result PutErr.Full → FullBy (In Self.S.Space file_of holds) fills (put_in mode key.now value.now) self.old space.old space.new }
+        requires { ReadyIn Self.S.Space file_of holds self.old space.old }
+        ensures put { OnOk result (PutsIn Self.S.Space file_of holds mode (value_in key.now) (put_in mode key.now value.now) self.old self.new space.old space.new) }
+        ensures exists { IsErrOf result PutErr.Exists → ExistsIn Self.S.Space file_of holds mode (value_in key.now) self.old self.new space.old space.new }
+        ensures refused { RefusesIn Self.S.Space file_of holds result self.old self.new space.old space.new }
+        ensures full { IsErrOf result PutErr.Full → FullIn Self.S.Space file_of holds fills (put_in mode key.now value.now) self.old space.old space.new }
         ensures keeps { Keeps Self.S.Space space.old space.new }
         ensures stays { StaysMap file_of region gets self.old self.new }
         ensures steps { steps.old ≤ steps.new }
-        ensures cause { IsErrOf result PutErr.Fault → Rose (Self.S.faults space.old) (Self.S.faults space.new) };
+        ensures cause { Blamed Self.S.Space (IsErrOf result PutErr.Fault) space.old space.new };
 
     /// Takes a key out. False comes exactly where it isn't held.
     fn out<L>(
@@ -88,24 +88,24 @@ pub trait Records {
         key: &[u8],
         steps: &mut Steps<L>,
     ) -> Result<bool, RecErr>
-        requires { IsReady Self.S.Space (In Self.S.Space file_of holds) self.old space.old }
-        ensures out { IfOk result (λ taken. TakesOut Self.S.Space (Only (file_of self.old)) (In Self.S.Space file_of holds) (is_in key.now) (out_of key.now) taken self.old self.new space.old space.new) }
-        ensures refused { OnErr result (Refuses Self.S.Space (In Self.S.Space file_of holds) self.old self.new space.old space.new) }
-        ensures full { IsErrOf result RecErr.Full → FullBy (In Self.S.Space file_of holds) fills (out_of key.now) self.old space.old space.new }
+        requires { ReadyIn Self.S.Space file_of holds self.old space.old }
+        ensures out { TakesIn Self.S.Space file_of holds result (is_in key.now) (out_of key.now) self.old self.new space.old space.new }
+        ensures refused { RefusesIn Self.S.Space file_of holds result self.old self.new space.old space.new }
+        ensures full { IsErrOf result RecErr.Full → FullIn Self.S.Space file_of holds fills (out_of key.now) self.old space.old space.new }
         ensures keeps { Keeps Self.S.Space space.old space.new }
         ensures stays { StaysMap file_of region gets self.old self.new }
         ensures steps { steps.old ≤ steps.new }
-        ensures cause { IsErrOf result RecErr.Fault → Rose (Self.S.faults space.old) (Self.S.faults space.new) };
+        ensures cause { OnFault Self.S.Space result space.old space.new };
 
     /// The keys, in ascending order of their bytes.
     fn keys<L>(&mut self, space: &mut Self::S, steps: &mut Steps<L>) -> Result<Blobs, RecErr>
-        requires { IsReady Self.S.Space (In Self.S.Space file_of holds) self.old space.old }
-        ensures value { IfOk result (λ all. (m : Map) → In Self.S.Space file_of holds self.old space.old m → all ≡ keys m) }
-        ensures reads { Reads Self.S.Space (In Self.S.Space file_of holds) self.old self.new space.old space.new }
+        requires { ReadyIn Self.S.Space file_of holds self.old space.old }
+        ensures value { AnswersIn Self.S.Space file_of holds result keys self.old space.old }
+        ensures reads { ReadsIn Self.S.Space file_of holds self.old self.new space.old space.new }
         ensures keeps { Keeps Self.S.Space space.old space.new }
         ensures stays { StaysMap file_of region gets self.old self.new }
         ensures steps { steps.old ≤ steps.new }
-        ensures cause { (IsErrOf result RecErr.Fault → Rose (Self.S.faults space.old) (Self.S.faults space.new)) × (IsErrOf result RecErr.Full → ⊥) };
+        ensures cause { Blames Self.S.Space result space.old space.new };
 
     /// Gives the region other bytes, which `settle` brings to the file.
     fn set_opaque(&mut self, bytes: &[u8; 128])
@@ -116,22 +116,22 @@ pub trait Records {
 
     /// Brings what is held in memory to the file, which then stands for the map and the region.
     fn settle(&mut self, space: &mut Self::S) -> Result<(), RecErr>
-        requires { IsReady Self.S.Space (In Self.S.Space file_of holds) self.old space.old }
-        ensures settled { OnOk result (Writes Self.S.Space (Only (file_of self.old)) (In Self.S.Space file_of holds) same self.old self.new space.old space.new) }
+        requires { ReadyIn Self.S.Space file_of holds self.old space.old }
+        ensures settled { OnOk result (WritesIn Self.S.Space file_of holds same self.old self.new space.old space.new) }
         ensures stands { OnOk result ((m : Map) → In Self.S.Space file_of holds self.old space.old m → stands (Self.S.now space.new (file_of self.old)) m (region self.old)) }
-        ensures refused { OnErr result (Refuses Self.S.Space (In Self.S.Space file_of holds) self.old self.new space.old space.new) }
-        ensures full { IsErrOf result RecErr.Full → FullBy (In Self.S.Space file_of holds) fills same self.old space.old space.new }
+        ensures refused { RefusesIn Self.S.Space file_of holds result self.old self.new space.old space.new }
+        ensures full { IsErrOf result RecErr.Full → FullIn Self.S.Space file_of holds fills same self.old space.old space.new }
         ensures keeps { Keeps Self.S.Space space.old space.new }
         ensures stays { StaysMap file_of region gets self.old self.new }
-        ensures cause { IsErrOf result RecErr.Fault → Rose (Self.S.faults space.old) (Self.S.faults space.new) };
+        ensures cause { OnFault Self.S.Space result space.old space.new };
 
     /// Packs the file, in the form that it has or in the large one. The map and the region stay.
     fn pack(&mut self, space: &mut Self::S, form: Form) -> Result<(), RecErr>
-        requires { IsReady Self.S.Space (In Self.S.Space file_of holds) self.old space.old }
-        ensures packed { OnOk result (Writes Self.S.Space (Only (file_of self.old)) (In Self.S.Space file_of holds) same self.old self.new space.old space.new) }
-        ensures refused { OnErr result (Refuses Self.S.Space (In Self.S.Space file_of holds) self.old self.new space.old space.new) }
-        ensures full { IsErrOf result RecErr.Full → FullBy (In Self.S.Space file_of holds) fills same self.old space.old space.new }
+        requires { ReadyIn Self.S.Space file_of holds self.old space.old }
+        ensures packed { OnOk result (WritesIn Self.S.Space file_of holds same self.old self.new space.old space.new) }
+        ensures refused { RefusesIn Self.S.Space file_of holds result self.old self.new space.old space.new }
+        ensures full { IsErrOf result RecErr.Full → FullIn Self.S.Space file_of holds fills same self.old space.old space.new }
         ensures keeps { Keeps Self.S.Space space.old space.new }
         ensures stays { StaysMap file_of region gets self.old self.new }
-        ensures cause { IsErrOf result RecErr.Fault → Rose (Self.S.faults space.old) (Self.S.faults space.new) };
+        ensures cause { OnFault Self.S.Space result space.old space.new };
 }

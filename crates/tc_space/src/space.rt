@@ -1,8 +1,8 @@
-ghost use Rattle.std.specs.Prelude.{◌≡◌, ◌+◌, ◌-◌, ◌^◌, ◌≤◌, ◌⊎◌, true, false, Bool, List, ℕ, length, take, drop, min, is_some, OnOk, OnErr, IsErrOf, Option, Some, is_ok, if◌then◌else◌};
+ghost use Rattle.std.specs.Prelude.{◌≡◌, ◌+◌, ◌-◌, ◌^◌, ◌≤◌, ◌⊎◌, true, false, Bool, List, ℕ, length, take, drop, min, is_some, OnOk, OnErr, Option, Some, is_ok, if◌then◌else◌};
 ghost use Rattle.tc_base.specs.Files.{Files, wrote};
 ghost use Rattle.tc_io.specs.Causes.{Rose};
 ghost use Rattle.tc_space.specs.Moments.{LeavesOnly};
-ghost use Rattle.tc_space.specs.Effects.{Changes, Follows, Outcome, Reached, Stays, Touches};
+ghost use Rattle.tc_space.specs.Effects.{Caused, Changes, FollowsIn, IsFull, LacksRoom, Outcome, Stays, Touches};
 ghost use Rattle.tc_space.specs.Ranges.{IsDataFile, Passes, Reaches};
 
 use crate::errors::SpaceErr;
@@ -85,8 +85,8 @@ pub trait Space {
         ensures outcome { Outcome sound flag result self.new }
         ensures touches { Touches touched bytes_read self.old self.new }
         ensures room { OnOk result (Passes (limit self.old file) (overfills self.old file at (length bytes.now)) at (length bytes.now) → ⊥) }
-        ensures full { IsErrOf result SpaceErr.Full → Reached tells (Passes (limit self.old file) (overfills self.old file at (length bytes.now) × log_full self.new) at (length bytes.now)) now self.old self.new }
-        ensures cause { (IsErrOf result SpaceErr.Fault → Rose (faults self.old) (faults self.new)) × (IsErrOf result SpaceErr.Memory → ⊥) };
+        ensures full { IsFull tells now result (LacksRoom limit overfills log_full file at (length bytes.now) self.old self.new) self.old self.new }
+        ensures cause { Caused faults result self.old self.new };
 
     /// Shortens a data file to a length. It takes no memory.
     fn cut(&mut self, file: u32, len: u64) -> Result<(), SpaceErr>
@@ -97,8 +97,8 @@ pub trait Space {
         ensures outcome { Outcome sound flag result self.new }
         ensures touches { Touches touched bytes_read self.old self.new }
         ensures room { OnOk result (tells → overfills self.old file len (length (now self.old file) - len) → ⊥) }
-        ensures full { IsErrOf result SpaceErr.Full → Reached tells ((tells → overfills self.old file len (length (now self.old file) - len)) × log_full self.new) now self.old self.new }
-        ensures cause { (IsErrOf result SpaceErr.Fault → Rose (faults self.old) (faults self.new)) × (IsErrOf result SpaceErr.Memory → ⊥) };
+        ensures full { IsFull tells now result ((tells → overfills self.old file len (length (now self.old file) - len)) × log_full self.new) self.old self.new }
+        ensures cause { Caused faults result self.old self.new };
 
     /// Makes the files now the kept ones. It takes no memory.
     fn commit(&mut self) -> Result<(), Fault>
@@ -106,7 +106,7 @@ pub trait Space {
         ensures now { OnOk result (tells → (g : ℕ) → now self.new g ≡ now self.old g) }
         ensures kept { OnOk result (tells → kept self.new ≡ Some (now self.old)) }
         ensures moments { tells → LeavesOnly moment left self.old self.new (λ o. (o ≡ kept self.old) ⊎ (o ≡ Some (now self.old))) }
-        ensures follows { Follows faults limit names self.old self.new }
+        ensures follows { FollowsIn faults limit names self.old self.new }
         ensures outcome { Outcome sound flag result self.new }
         ensures touched { touched self.new ≡ (if is_ok result then false else touched self.old) }
         ensures counted { bytes_read self.new ≡ bytes_read self.old }

@@ -3,14 +3,26 @@ use Rattle.std.specs.Prelude.{◌≡◌, ℕ, ◌+◌, ◌-◌, ◌^◌, ◌≤�
 use Rattle.tc_base.specs.Files.{Files}
 use Rattle.tc_io.specs.Images.{Calls, now}
 use Rattle.ud_log.specs.Undo.{all_short, is_data, length_of, place_of}
-use Rattle.ud_state.specs.State.{AreLens, IsOpen, Logging, LogOnly, Secured, Unchanged}
-use Rattle.tc_undo.specs.Room.{log_end, needs, stop_of}
+use Rattle.ud_state.specs.State.{AreLens, IsOpen, IsValid, Logging, LogOnly, Secured, Unchanged}
+use Rattle.tc_undo.specs.Room.{log_end, needs, recorded_of, stop_of}
 use Rattle.tc_undo.specs.declared.room.Log.{Log}
 
 -- these are the lengths of the data files, none above the greatest
 pub record KnowsLens (tells : Type 0) (files : Files) (lens : List ℕ) : Type 0 where
   pub short : all_short lens ≡ true
   pub are : tells → AreLens lens files
+
+-- what is known of the log is true of the files
+abbrev pub LogIsValid : Type 0 → Calls → Log → Type 0
+LogIsValid tells cs log = tells → IsValid log.active cs log.end log.recorded log.changed
+
+-- what is known of the log is true of the files, and a transaction is open
+abbrev pub LogIsOpen : Type 0 → Calls → Log → Type 0
+LogIsOpen tells cs log = tells → IsOpen cs log.end log.recorded log.changed
+
+-- the lengths that it records, or those that it will
+abbrev pub records : Log → List ℕ → List ℕ
+records log lens = recorded_of log.active log.recorded lens
 
 -- ---- old bytes go into the log
 

@@ -19,10 +19,9 @@ OnRule undo.Fault P = Unit {0}
 OnRule (undo.Broken r) P = P r
 OnRule undo.Memory P = Unit {0}
 
--- an error that a call of the volume gave
-abbrev pub OnFault : RecoverErr → Type 0 → Type 0
-OnFault recover.Fault P = P
-OnFault (recover.Broken r) P = Unit {0}
+-- no rule is named where the files are told
+abbrev pub NotBroken : Type 0 → RecoverErr → Type 0
+NotBroken tells e = OnBroken e (λ r. tells → ⊥)
 
 pub on_broken : (e : RecoverErr) (P Q : Rule → Type 0) → ((r : Rule) → P r → Q r) → OnBroken e P → OnBroken e Q
 on_broken recover.Fault P Q f h = tt

@@ -4,8 +4,9 @@ ghost use Rattle.tc_io.specs.Causes.{HasCause};
 ghost use Rattle.tc_io.specs.Images.{now};
 ghost use Rattle.ud_log.specs.Undo.{data_of};
 ghost use Rattle.ud_state.specs.Since.{AllLeft, Since};
-ghost use Rattle.ud_state.specs.State.{EitherOf, Idle, IsOpen};
+ghost use Rattle.ud_state.specs.State.{EitherOf, Idle};
 ghost use Rattle.tc_undo.specs.Volumes.{StaysBound};
+ghost use Rattle.tc_undo.specs.Changes.{LogIsOpen};
 
 use crate::room::Log;
 use crate::syncs::sync_marked;
@@ -15,7 +16,7 @@ use tc_io::Volume;
 /// Makes the files as they read the kept ones. As many syncs as data files changed, and one.
 pub fn finish<V: Volume>(vol: &mut V, log: &Log) -> Result<(), Fault>
     requires bound { V.bound vol.old ≡ true }
-    requires open { V.tells → IsOpen (V.calls vol.old) log.now.end log.now.recorded log.now.changed }
+    requires open { LogIsOpen V.tells (V.calls vol.old) log.now }
     ensures moments { V.tells → Since (AllLeft (EitherOf (V.calls vol.old))) (V.calls vol.old) (V.calls vol.new) }
     ensures idle { OnOk result (V.tells → Idle (V.calls vol.new) (data_of (now (V.calls vol.old)))) }
     ensures stays { StaysBound V.Volume vol.old vol.new }

@@ -1,15 +1,11 @@
 //! Recovery puts the old bytes back, from the last entry to the first.
-ghost use Rattle.std.specs.Prelude.{◌≡◌, ◌+◌, ◌≤◌, ℕ, List, true, OnOk, OnErr, IfOk, IfErr, IsErrOf};
-ghost use Rattle.tc_base.specs.Files.{Files};
-ghost use Rattle.tc_io.specs.Causes.{Rose};
+ghost use Rattle.std.specs.Prelude.{◌≡◌, ◌+◌, ◌≤◌, true, OnOk, OnErr, IfOk, IfErr};
 ghost use Rattle.tc_io.specs.Images.{now};
 ghost use Rattle.ud_log.specs.Log.{entries};
 ghost use Rattle.ud_state.specs.Recovery.{CanPutBack, Restored};
-ghost use Rattle.ud_state.specs.Since.{Quiet};
-ghost use Rattle.ud_state.specs.State.{Replay};
-ghost use Rattle.tc_undo.specs.Errors.{OnBroken};
-ghost use Rattle.tc_undo.specs.Found.{EndsAt, FindsBack, PutBack, PutBackLost};
-ghost use Rattle.tc_undo.specs.Volumes.{OnlyReads, StaysBound};
+ghost use Rattle.tc_undo.specs.Errors.{NotBroken};
+ghost use Rattle.tc_undo.specs.Found.{EndsAt, FindsBack, PutBack, PutBackLost, QuietOverLog};
+ghost use Rattle.tc_undo.specs.Volumes.{OnlyReads, StaysBound, Blames};
 
 use crate::errors::{RecoverErr, rule};
 use tc_io::Volume;
@@ -30,8 +26,8 @@ fn find_back<V: Volume>(vol: &mut V, end: u64) -> Result<Back, RecoverErr>
     requires ends { V.tells → EndsAt (V.calls vol.old) end }
     ensures finds { IfOk result (λ b. FindsBack V.tells (V.calls vol.old) end b) }
     ensures reads { OnlyReads V.Volume vol.old vol.new }
-    ensures whole { IfErr result (λ e. OnBroken e (λ r. V.tells → ⊥)) }
-    ensures cause { IsErrOf result RecoverErr.Fault → Rose (V.faults vol.old) (V.faults vol.new) }
+    ensures whole { IfErr result (NotBroken V.tells) }
+    ensures cause { Blames V.Volume result vol.old vol.new }
 {
     if end < 20 {
         return Err(RecoverErr::Broken(rule(3)));
@@ -65,13 +61,10 @@ pub fn put_back_one<V: Volume>(vol: &mut V, end: u64) -> Result<u64, RecoverErr>
     ensures lost { OnErr result (V.tells → PutBackLost (V.calls vol.old) (V.calls vol.new) end) }
     ensures order { IfOk result (λ start. start + 20 ≤ end) }
     ensures stays { StaysBound V.Volume vol.old vol.new }
-    ensures whole { IfErr result (λ e. OnBroken e (λ r. V.tells → ⊥)) }
-    ensures cause { IsErrOf result RecoverErr.Fault → Rose (V.faults vol.old) (V.faults vol.new) }
+    ensures whole { IfErr result (NotBroken V.tells) }
+    ensures cause { Blames V.Volume result vol.old vol.new }
 {
-    let found = match find_back(vol, end) {
-        Ok(found) => found,
-        Err(e) => return Err(e),
-    };
+    let found = find_back(vol, end)?;
     let mut bytes = [0u8; 4096];
     let n = found.size as usize;
     vol.read(1, found.start + 16, &mut bytes[..n])?;
@@ -83,18 +76,15 @@ pub fn put_back_one<V: Volume>(vol: &mut V, end: u64) -> Result<u64, RecoverErr>
 pub fn put_back_all<V: Volume>(vol: &mut V, end: u64) -> Result<(), RecoverErr>
     requires bound { V.bound vol.old ≡ true }
     requires can { V.tells → CanPutBack (V.calls vol.old) end }
-    ensures quiet { V.tells → (files : Files) (lens : List ℕ) → Replay (V.calls vol.old) files lens (entries (now (V.calls vol.old) 1)) → Quiet (V.calls vol.old) (V.calls vol.new) }
+    ensures quiet { V.tells → QuietOverLog (V.calls vol.old) (V.calls vol.new) }
     ensures restored { OnOk result (V.tells → Restored (V.calls vol.old) (V.calls vol.new) (entries (now (V.calls vol.old) 1))) }
     ensures stays { StaysBound V.Volume vol.old vol.new }
-    ensures whole { IfErr result (λ e. OnBroken e (λ r. V.tells → ⊥)) }
-    ensures cause { IsErrOf result RecoverErr.Fault → Rose (V.faults vol.old) (V.faults vol.new) }
+    ensures whole { IfErr result (NotBroken V.tells) }
+    ensures cause { Blames V.Volume result vol.old vol.new }
 {
     let mut at = end;
     while at > 152 {
-        match put_back_one(vol, at) {
-            Ok(start) => at = start,
-            Err(e) => return Err(e),
-        }
+        at = put_back_one(vol, at)?;
     }
     Ok(())
 }

@@ -1,17 +1,17 @@
 //! Recovery: what an unfinished transaction did is undone.
-ghost use Rattle.std.specs.Prelude.{◌≡◌, ◌≤◌, ◌∷◌, true, length, OnOk, IfErr, IfOk, IsErrOf, Ok, Err};
+ghost use Rattle.std.specs.Prelude.{◌≡◌, ◌≤◌, true, length, OnOk, IfErr, IfOk, Ok};
 ghost use Rattle.tc_base.specs.Files.{Files};
-ghost use Rattle.tc_io.specs.Causes.{Rose, HasCause};
-ghost use Rattle.tc_io.specs.Images.{now, of, synced};
+ghost use Rattle.tc_io.specs.Causes.{HasCause};
+ghost use Rattle.tc_io.specs.Images.{now, of};
 ghost use Rattle.ud_log.specs.Log.{entries};
-ghost use Rattle.ud_log.specs.Undo.{all_short, data_of, undo, undone_all};
+ghost use Rattle.ud_log.specs.Undo.{all_short, data_of, undone_all};
 ghost use Rattle.ud_state.specs.Recovery.{Ready, Recovers};
-ghost use Rattle.ud_state.specs.Since.{Calm, Quiet};
+ghost use Rattle.ud_state.specs.Since.{Quiet};
 ghost use Rattle.ud_state.specs.State.{Durable, Idle, IsSettled};
 ghost use Rattle.tc_undo.specs.Changes.{KnowsLens};
-ghost use Rattle.tc_undo.specs.Errors.{OnBroken};
-ghost use Rattle.tc_undo.specs.Found.{FindsUndo, IsFound, OnDisk};
-ghost use Rattle.tc_undo.specs.Volumes.{StaysBound, StaysQuiet};
+ghost use Rattle.tc_undo.specs.Errors.{NotBroken};
+ghost use Rattle.tc_undo.specs.Found.{FindsUndo, IsFound, OnDisk, RefusesAs, undone};
+ghost use Rattle.tc_undo.specs.Volumes.{StaysBound, StaysQuiet, Blames, StaysCalm};
 
 use crate::errors::RecoverErr;
 use crate::put_back::put_back_all;
@@ -30,14 +30,11 @@ fn redo<V: Volume>(vol: &mut V, found: &Found) -> Result<(), RecoverErr>
     ensures quiet { StaysQuiet V.Volume vol.old vol.new }
     ensures ready { OnOk result (V.tells → Ready (V.calls vol.new) (undone_all found.now.lens (entries (now (V.calls vol.old) 1)) (now (V.calls vol.old)))) }
     ensures same { OnOk result (V.tells → of 1 (V.calls vol.new) ≡ of 1 (V.calls vol.old)) }
-    ensures whole { IfErr result (λ e. OnBroken e (λ r. V.tells → ⊥)) }
-    ensures cause { IsErrOf result RecoverErr.Fault → Rose (V.faults vol.old) (V.faults vol.new) }
+    ensures whole { IfErr result (NotBroken V.tells) }
+    ensures cause { Blames V.Volume result vol.old vol.new }
 {
     set_lengths(vol, &found.lens)?;
-    match put_back_all(vol, found.end) {
-        Ok(()) => {}
-        Err(e) => return Err(e),
-    }
+    put_back_all(vol, found.end)?;
     sync_marked(vol, &[true; 18])?; // before the log is cut
     Ok(())
 }
@@ -64,21 +61,18 @@ fn settle<V: Volume>(vol: &mut V, found: &Found) -> Result<(), RecoverErr>
     requires bound { V.bound vol.old ≡ true }
     requires found { IsFound V.tells (now (V.calls vol.old)) found.now }
     requires log { V.tells → Durable (V.calls vol.old) 1 }
-    ensures quiet { V.tells → Calm (V.calls vol.old) → Quiet (V.calls vol.old) (V.calls vol.new) }
-    ensures ready { OnOk result (V.tells → (files : Files) → undo (now (V.calls vol.old) 1) (now (V.calls vol.old)) ≡ Ok files → Ready (V.calls vol.new) files) }
+    ensures quiet { StaysCalm V.Volume vol.old vol.new }
+    ensures ready { OnOk result (V.tells → (files : Files) → undone (V.calls vol.old) ≡ Ok files → Ready (V.calls vol.new) files) }
     ensures same { OnOk result (V.tells → of 1 (V.calls vol.new) ≡ of 1 (V.calls vol.old)) }
-    ensures whole { IfErr result (λ e. OnBroken e (λ r. V.tells → ⊥)) }
+    ensures whole { IfErr result (NotBroken V.tells) }
     ensures stays { StaysBound V.Volume vol.old vol.new }
-    ensures cause { IsErrOf result RecoverErr.Fault → Rose (V.faults vol.old) (V.faults vol.new) }
+    ensures cause { Blames V.Volume result vol.old vol.new }
 {
     sync_marked(vol, &[true; 18])?; // before a data file is written
     if !found.undoes {
         return Ok(());
     }
-    match redo(vol, found) {
-        Ok(()) => Ok(()),
-        Err(e) => Err(e),
-    }
+    redo(vol, found)
 }
 
 /// Recovers, and answers the lengths of the data files.
@@ -86,22 +80,16 @@ pub fn restore<V: Volume>(vol: &mut V) -> Result<[u64; 18], RecoverErr>
     requires { V.bound vol.old ≡ true }
     ensures recovers { V.tells → IsSettled (V.calls vol.old) → Recovers (V.calls vol.old) (V.calls vol.new) }
     ensures idle { OnOk result (V.tells → Idle (V.calls vol.new) (data_of (now (V.calls vol.new)))) }
-    ensures undone { OnOk result (V.tells → undo (now (V.calls vol.old) 1) (now (V.calls vol.old)) ≡ Ok (data_of (now (V.calls vol.new)))) }
+    ensures undone { OnOk result (V.tells → undone (V.calls vol.old) ≡ Ok (data_of (now (V.calls vol.new)))) }
     ensures lens { IfOk result (λ lens. KnowsLens V.tells (now (V.calls vol.new)) lens) }
-    ensures broken { IfErr result (λ e. OnBroken e (λ r. V.tells → (undo (now (V.calls vol.old) 1) (now (V.calls vol.old)) ≡ Err r) × (V.calls vol.new ≡ (1, synced) ∷ V.calls vol.old))) }
+    ensures broken { IfErr result (RefusesAs V.tells (V.calls vol.old) (V.calls vol.new)) }
     ensures stays { StaysBound V.Volume vol.old vol.new }
-    ensures cause { IsErrOf result RecoverErr.Fault → Rose (V.faults vol.old) (V.faults vol.new) }
+    ensures cause { Blames V.Volume result vol.old vol.new }
 {
     vol.sync(1)?; // first of all
     let len = vol.len(1)?;
-    let found = match look(vol, len) {
-        Ok(found) => found,
-        Err(e) => return Err(e),
-    };
-    match settle(vol, &found) {
-        Ok(()) => {}
-        Err(f) => return Err(f),
-    }
+    let found = look(vol, len)?;
+    settle(vol, &found)?;
     drop_log(vol, len)?;
     Ok(found.lens)
 }
@@ -116,15 +104,13 @@ pub fn recover<V: Volume>(vol: &mut V) -> Result<(), RecoverErr>
     requires { V.bound vol.old ≡ true }
     ensures recovers { V.tells → IsSettled (V.calls vol.old) → Recovers (V.calls vol.old) (V.calls vol.new) }
     ensures idle { OnOk result (V.tells → Idle (V.calls vol.new) (data_of (now (V.calls vol.new)))) }
-    ensures undone { OnOk result (V.tells → undo (now (V.calls vol.old) 1) (now (V.calls vol.old)) ≡ Ok (data_of (now (V.calls vol.new)))) }
-    ensures broken { IfErr result (λ e. OnBroken e (λ r. V.tells → (undo (now (V.calls vol.old) 1) (now (V.calls vol.old)) ≡ Err r) × (V.calls vol.new ≡ (1, synced) ∷ V.calls vol.old))) }
+    ensures undone { OnOk result (V.tells → undone (V.calls vol.old) ≡ Ok (data_of (now (V.calls vol.new)))) }
+    ensures broken { IfErr result (RefusesAs V.tells (V.calls vol.old) (V.calls vol.new)) }
     ensures bound { V.bound vol.new ≡ true }
     ensures names { V.names vol.new ≡ V.names vol.old }
     ensures later { V.faults vol.old ≤ V.faults vol.new }
-    ensures cause { IsErrOf result RecoverErr.Fault → Rose (V.faults vol.old) (V.faults vol.new) }
+    ensures cause { Blames V.Volume result vol.old vol.new }
 {
-    match restore(vol) {
-        Ok(_) => Ok(()),
-        Err(e) => Err(e),
-    }
+    restore(vol)?;
+    Ok(())
 }

@@ -1,13 +1,11 @@
 //! Recovery gives each data file its recorded length.
-ghost use Rattle.std.specs.Prelude.{◌≡◌, ◌+◌, ◌≤◌, ℕ, true, length, List, OnOk};
-ghost use Rattle.tc_base.specs.Files.{Files, resized};
+ghost use Rattle.std.specs.Prelude.{◌≡◌, ◌+◌, ◌≤◌, ℕ, true, length, OnOk};
+ghost use Rattle.tc_base.specs.Files.{resized};
 ghost use Rattle.tc_io.specs.Causes.{HasCause};
 ghost use Rattle.tc_io.specs.Images.{now, of};
-ghost use Rattle.ud_log.specs.Entries.{Entry};
 ghost use Rattle.ud_log.specs.Undo.{is_data, length_of};
-ghost use Rattle.ud_state.specs.Since.{Quiet};
-ghost use Rattle.ud_state.specs.State.{Replay, Filled, Resized, FillsQuietly, ResizesQuietly};
-ghost use Rattle.tc_undo.specs.Found.{FilesOnDisk};
+ghost use Rattle.ud_state.specs.State.{Filled, Resized, FillsQuietly, ResizesQuietly};
+ghost use Rattle.tc_undo.specs.Found.{KeepsReplay, QuietReplay};
 ghost use Rattle.tc_undo.specs.Volumes.{StaysBound};
 
 use tc_base::Fault;
@@ -72,8 +70,8 @@ fn set_length<V: Volume>(vol: &mut V, file: u32, len: u64) -> Result<(), Fault>
 /// Gives each data file its length.
 pub fn set_lengths<V: Volume>(vol: &mut V, lens: &[u64; 18]) -> Result<(), Fault>
     requires { V.bound vol.old ≡ true }
-    ensures quiet { V.tells → (files : Files) (es : List Entry) → Replay (V.calls vol.old) files lens.now es → FilesOnDisk (V.calls vol.old) → Quiet (V.calls vol.old) (V.calls vol.new) }
-    ensures replay { OnOk result (V.tells → (files : Files) (es : List Entry) → Replay (V.calls vol.old) files lens.now es → FilesOnDisk (V.calls vol.old) → Replay (V.calls vol.new) files lens.now es) }
+    ensures quiet { V.tells → QuietReplay lens.now (V.calls vol.old) (V.calls vol.new) }
+    ensures replay { OnOk result (V.tells → KeepsReplay lens.now (V.calls vol.old) (V.calls vol.new)) }
     ensures reads { OnOk result (V.tells → (f : ℕ) → is_data f ≡ true → now (V.calls vol.new) f ≡ resized (length_of lens.now f) (now (V.calls vol.old) f)) }
     ensures log { OnOk result (V.tells → of 1 (V.calls vol.new) ≡ of 1 (V.calls vol.old)) }
     ensures stays { StaysBound V.Volume vol.old vol.new }

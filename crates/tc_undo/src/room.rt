@@ -3,10 +3,8 @@ ghost use Rattle.std.specs.Prelude.{◌≡◌, ◌+◌, ◌-◌, ◌^◌, ◌≤
 ghost use Rattle.ud_log.specs.Undo.{is_data, length_of, all_short};
 ghost use Rattle.tc_undo.specs.Room.{needs, log_end, stop_of};
 
+use tc_base::LOG_MOST;
 use ud_log::place;
-
-/// The most bytes of a log.
-const MOST: u64 = 1 << 62;
 
 /// What is known of the log between calls: whether a transaction is open, the log's length, the lengths that it records, and
 /// which data files changed in it.
@@ -33,7 +31,7 @@ pub fn stop_at(log: &Log, lens: &[u64; 18], file: u32, at: u64, all: u64) -> Opt
     let stop = all.min(recorded).min(lens[i]);
     let size = stop.saturating_sub(at);
     let needs = size + 20 * ((size + 4095) / 4096);
-    if end + needs > MOST {
+    if end + needs > LOG_MOST {
         return None;
     }
     Some(stop)

@@ -1,15 +1,15 @@
 //! The log is read and checked, and nothing is changed.
-ghost use Rattle.std.specs.Prelude.{◌≡◌, ◌+◌, ◌≤◌, true, false, length, take, OnOk, IfOk, IsErrOf, IfErr, Err, nat_le};
-ghost use Rattle.tc_io.specs.Causes.{Rose, HasCause};
+ghost use Rattle.std.specs.Prelude.{◌≡◌, ◌+◌, ◌≤◌, true, false, length, take, OnOk, IfOk, IfErr, Err, nat_le};
+ghost use Rattle.tc_io.specs.Causes.{HasCause};
 ghost use Rattle.tc_io.specs.Images.{now};
 ghost use Rattle.ud_log.specs.Log.{entries, magic};
 ghost use Rattle.ud_log.specs.Scan.{Scanned, ScannedAll};
-ghost use Rattle.ud_log.specs.Undo.{agrees, all_formed, broken, nothing, log_of, rule as rule_of, undo};
+ghost use Rattle.ud_log.specs.Undo.{agrees, all_formed, broken, nothing, log_of, rule as rule_of};
 ghost use Rattle.ud_state.specs.State.{AreLens};
 ghost use Rattle.tc_undo.specs.Changes.{KnowsLens};
 ghost use Rattle.tc_undo.specs.Errors.{OnBroken};
-ghost use Rattle.tc_undo.specs.Found.{AfterScan, GoesOn, HasHeader, IsFound};
-ghost use Rattle.tc_undo.specs.Volumes.{OnlyReads};
+ghost use Rattle.tc_undo.specs.Found.{AfterScan, GoesOn, HasHeader, IsFound, BreaksAs};
+ghost use Rattle.tc_undo.specs.Volumes.{OnlyReads, Blames};
 
 use crate::errors::{RecoverErr, rule};
 use tc_base::Fault;
@@ -55,7 +55,7 @@ fn scan_entry<V: Volume>(
     ensures broken { IfErr result (λ e. OnBroken e (λ r. V.tells → (r ≡ rule_of 3) × (all_formed (entries (now (V.calls vol.old) 1)) ≡ false))) }
     ensures next { IfOk result (λ s. GoesOn at len s) }
     ensures reads { OnlyReads V.Volume vol.old vol.new }
-    ensures cause { IsErrOf result RecoverErr.Fault → Rose (V.faults vol.old) (V.faults vol.new) }
+    ensures cause { Blames V.Volume result vol.old vol.new }
 {
     let left = len - at;
     if left < 20 {
@@ -88,15 +88,14 @@ fn scan<V: Volume>(vol: &mut V, lens: &[u64; 18], len: u64) -> Result<u64, Recov
     ensures broken { IfErr result (λ e. OnBroken e (λ r. V.tells → log_of (now (V.calls vol.old) 1) ≡ broken r)) }
     ensures order { IfOk result (λ end. end ≤ len) }
     ensures reads { OnlyReads V.Volume vol.old vol.new }
-    ensures cause { IsErrOf result RecoverErr.Fault → Rose (V.faults vol.old) (V.faults vol.new) }
+    ensures cause { Blames V.Volume result vol.old vol.new }
 {
     let mut at = 152;
     let mut fine = true;
     'entries: loop {
-        match scan_entry(vol, lens, at, fine, len) {
-            Err(e) => return Err(e),
-            Ok(None) => break,
-            Ok(Some(seen)) => {
+        match scan_entry(vol, lens, at, fine, len)? {
+            None => break,
+            Some(seen) => {
                 at = seen.next;
                 fine = seen.fine;
             }
@@ -131,7 +130,7 @@ fn front_of<V: Volume>(vol: &mut V, len: u64) -> Result<[u8; 152], RecoverErr>
     ensures magic { OnOk result (V.tells → agrees magic (now (V.calls vol.old) 1) ≡ true) }
     ensures broken { IfErr result (λ e. OnBroken e (λ r. V.tells → log_of (now (V.calls vol.old) 1) ≡ broken r)) }
     ensures reads { OnlyReads V.Volume vol.old vol.new }
-    ensures cause { IsErrOf result RecoverErr.Fault → Rose (V.faults vol.old) (V.faults vol.new) }
+    ensures cause { Blames V.Volume result vol.old vol.new }
 {
     let mut head = [0u8; 152];
     let n = len.min(152) as usize;
@@ -147,9 +146,9 @@ fn as_they_are<V: Volume>(vol: &mut V) -> Result<[u64; 18], RecoverErr>
     requires bound { V.bound vol.old ≡ true }
     requires log { V.tells → log_of (now (V.calls vol.old) 1) ≡ nothing }
     ensures lens { IfOk result (λ lens. KnowsLens V.tells (now (V.calls vol.old)) lens) }
-    ensures broken { IfErr result (λ e. OnBroken e (λ r. V.tells → undo (now (V.calls vol.old) 1) (now (V.calls vol.old)) ≡ Err r)) }
+    ensures broken { IfErr result (BreaksAs V.tells (V.calls vol.old)) }
     ensures reads { OnlyReads V.Volume vol.old vol.new }
-    ensures cause { IsErrOf result RecoverErr.Fault → Rose (V.faults vol.old) (V.faults vol.new) }
+    ensures cause { Blames V.Volume result vol.old vol.new }
 {
     let lens = lens_of_data(vol)?;
     if !are_short(&lens) {
@@ -164,34 +163,27 @@ pub fn look<V: Volume>(vol: &mut V, len: u64) -> Result<Found, RecoverErr>
     requires len { V.tells → len ≡ length (now (V.calls vol.old) 1) }
     ensures found { IfOk result (λ f. IsFound V.tells (now (V.calls vol.old)) f) }
     ensures order { IfOk result (λ f. f.end ≤ len) }
-    ensures broken { IfErr result (λ e. OnBroken e (λ r. V.tells → undo (now (V.calls vol.old) 1) (now (V.calls vol.old)) ≡ Err r)) }
+    ensures broken { IfErr result (BreaksAs V.tells (V.calls vol.old)) }
     ensures reads { OnlyReads V.Volume vol.old vol.new }
-    ensures cause { IsErrOf result RecoverErr.Fault → Rose (V.faults vol.old) (V.faults vol.new) }
+    ensures cause { Blames V.Volume result vol.old vol.new }
 {
-    let head = match front_of(vol, len) {
-        Ok(head) => head,
-        Err(e) => return Err(e),
-    };
+    let head = front_of(vol, len)?;
     if len < 152 {
-        return match as_they_are(vol) {
-            Ok(lens) => Ok(Found {
-                undoes: false,
-                lens,
-                end: 0,
-            }),
-            Err(f) => Err(f),
-        };
+        let lens = as_they_are(vol)?;
+        return Ok(Found {
+            undoes: false,
+            lens,
+            end: 0,
+        });
     }
     let lens = read_lens(&head);
     if !are_short(&lens) {
         return Err(RecoverErr::Broken(rule(2)));
     }
-    match scan(vol, &lens, len) {
-        Ok(end) => Ok(Found {
-            undoes: true,
-            lens,
-            end,
-        }),
-        Err(g) => Err(g),
-    }
+    let end = scan(vol, &lens, len)?;
+    Ok(Found {
+        undoes: true,
+        lens,
+        end,
+    })
 }

@@ -3,9 +3,9 @@ ghost use Rattle.std.specs.Prelude.{◌≡◌, true, OnOk};
 ghost use Rattle.tc_io.specs.Causes.{HasCause};
 ghost use Rattle.tc_io.specs.Images.{now};
 ghost use Rattle.ud_log.specs.Undo.{data_of};
-ghost use Rattle.ud_state.specs.State.{AreLens, Idle, IsOpen, IsValid};
-ghost use Rattle.tc_undo.specs.Changes.{MayLog, Secures};
-ghost use Rattle.tc_undo.specs.Room.{log_end, recorded_of};
+ghost use Rattle.ud_state.specs.State.{AreLens, Idle};
+ghost use Rattle.tc_undo.specs.Changes.{MayLog, Secures, LogIsOpen, LogIsValid, records};
+ghost use Rattle.tc_undo.specs.Room.{log_end};
 ghost use Rattle.tc_undo.specs.Volumes.{StaysQuiet};
 
 use crate::changes::{begin, log_range};
@@ -52,7 +52,7 @@ fn secure_more<V: Volume>(
     stop: u64,
 ) -> Result<(), Fault>
     requires bound { V.bound vol.old ≡ true }
-    requires open { V.tells → IsOpen (V.calls vol.old) log.old.end log.old.recorded log.old.changed }
+    requires open { LogIsOpen V.tells (V.calls vol.old) log.old }
     requires may { MayLog V.tells (V.calls vol.old) log.old.recorded log.old.end file at stop }
     ensures quiet { StaysQuiet V.Volume vol.old vol.new }
     ensures secures { OnOk result (Secures V.tells (V.calls vol.old) (V.calls vol.new) log.old.recorded log.new file at stop) }
@@ -79,11 +79,11 @@ pub fn secure<V: Volume>(
     stop: u64,
 ) -> Result<(), Fault>
     requires bound { V.bound vol.old ≡ true }
-    requires valid { V.tells → IsValid log.old.active (V.calls vol.old) log.old.end log.old.recorded log.old.changed }
+    requires valid { LogIsValid V.tells (V.calls vol.old) log.old }
     requires lens { V.tells → AreLens lens.now (now (V.calls vol.old)) }
-    requires may { MayLog V.tells (V.calls vol.old) (recorded_of log.old.active log.old.recorded lens.now) (log_end log.old.active log.old.end) file at stop }
+    requires may { MayLog V.tells (V.calls vol.old) (records log.old lens.now) (log_end log.old.active log.old.end) file at stop }
     ensures quiet { StaysQuiet V.Volume vol.old vol.new }
-    ensures secures { OnOk result (Secures V.tells (V.calls vol.old) (V.calls vol.new) (recorded_of log.old.active log.old.recorded lens.now) log.new file at stop) }
+    ensures secures { OnOk result (Secures V.tells (V.calls vol.old) (V.calls vol.new) (records log.old lens.now) log.new file at stop) }
     ensures active { OnOk result (log.new.active ≡ true) }
     ensures cause { HasCause (V.faults vol.old) (V.faults vol.new) result }
 {

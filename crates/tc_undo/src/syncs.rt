@@ -1,10 +1,10 @@
 //! Data files are brought to the disk.
-ghost use Rattle.std.specs.Prelude.{◌≡◌, ℕ, true, false, get_or, OnOk};
+ghost use Rattle.std.specs.Prelude.{◌≡◌, true, false, OnOk};
 ghost use Rattle.tc_io.specs.Causes.{HasCause};
-ghost use Rattle.ud_log.specs.Undo.{is_data, place_of};
-ghost use Rattle.ud_state.specs.Since.{Calm, Quiet};
+ghost use Rattle.ud_log.specs.Undo.{is_data};
 ghost use Rattle.ud_state.specs.State.{Durable, SyncOnly};
-ghost use Rattle.tc_undo.specs.Volumes.{StaysBound};
+ghost use Rattle.tc_undo.specs.Volumes.{StaysBound, StaysCalm};
+ghost use Rattle.tc_undo.specs.Found.{DurableThen};
 
 use tc_base::Fault;
 use tc_io::Volume;
@@ -14,7 +14,7 @@ use ud_log::file_at;
 fn sync_if<V: Volume>(vol: &mut V, file: u32, marked: bool) -> Result<(), Fault>
     requires bound { V.bound vol.old ≡ true }
     requires is_data { is_data file ≡ true }
-    ensures quiet { V.tells → Calm (V.calls vol.old) → Quiet (V.calls vol.old) (V.calls vol.new) }
+    ensures quiet { StaysCalm V.Volume vol.old vol.new }
     ensures synced { OnOk result (V.tells → SyncOnly (V.calls vol.old) (V.calls vol.new)) }
     ensures there { OnOk result (V.tells → (marked ≡ false → Durable (V.calls vol.old) file) → Durable (V.calls vol.new) file) }
     ensures stays { StaysBound V.Volume vol.old vol.new }
@@ -30,9 +30,9 @@ fn sync_if<V: Volume>(vol: &mut V, file: u32, marked: bool) -> Result<(), Fault>
 /// Brings the marked data files to the disk.
 pub fn sync_marked<V: Volume>(vol: &mut V, marked: &[bool; 18]) -> Result<(), Fault>
     requires { V.bound vol.old ≡ true }
-    ensures quiet { V.tells → Calm (V.calls vol.old) → Quiet (V.calls vol.old) (V.calls vol.new) }
+    ensures quiet { StaysCalm V.Volume vol.old vol.new }
     ensures synced { OnOk result (V.tells → SyncOnly (V.calls vol.old) (V.calls vol.new)) }
-    ensures there { OnOk result (V.tells → (f : ℕ) → is_data f ≡ true → (get_or marked.now (place_of f) false ≡ false → Durable (V.calls vol.old) f) → Durable (V.calls vol.new) f) }
+    ensures there { OnOk result (V.tells → DurableThen marked.now (V.calls vol.old) (V.calls vol.new)) }
     ensures stays { StaysBound V.Volume vol.old vol.new }
     ensures cause { HasCause (V.faults vol.old) (V.faults vol.new) result }
 {

@@ -4,8 +4,7 @@ ghost use Rattle.tc_base.specs.Files.{wrote};
 ghost use Rattle.tc_io.specs.Causes.{HasCause};
 ghost use Rattle.tc_io.specs.Images.{now};
 ghost use Rattle.ud_log.specs.Undo.{length_of};
-ghost use Rattle.ud_state.specs.State.{IsValid};
-ghost use Rattle.tc_undo.specs.Changes.{Changes, KnowsLens, MayChange};
+ghost use Rattle.tc_undo.specs.Changes.{Changes, KnowsLens, MayChange, LogIsValid};
 ghost use Rattle.tc_undo.specs.Volumes.{StaysQuiet};
 
 use crate::room::Log;
@@ -25,7 +24,7 @@ pub fn write_through<V: Volume>(
     stop: u64,
 ) -> Result<(), Fault>
     requires bound { V.bound vol.old ≡ true }
-    requires valid { V.tells → IsValid log.old.active (V.calls vol.old) log.old.end log.old.recorded log.old.changed }
+    requires valid { LogIsValid V.tells (V.calls vol.old) log.old }
     requires lens { KnowsLens V.tells (now (V.calls vol.old)) lens.old }
     requires may { MayChange V.tells (V.calls vol.old) log.old lens.old file at (at + length bytes.now) stop }
     requires small { at + length bytes.now ≤ 2 ^ 40 }
@@ -51,7 +50,7 @@ pub fn cut_through<V: Volume>(
     stop: u64,
 ) -> Result<(), Fault>
     requires bound { V.bound vol.old ≡ true }
-    requires valid { V.tells → IsValid log.old.active (V.calls vol.old) log.old.end log.old.recorded log.old.changed }
+    requires valid { LogIsValid V.tells (V.calls vol.old) log.old }
     requires lens { KnowsLens V.tells (now (V.calls vol.old)) lens.old }
     requires may { MayChange V.tells (V.calls vol.old) log.old lens.old file len (length_of lens.old file) stop }
     ensures quiet { StaysQuiet V.Volume vol.old vol.new }

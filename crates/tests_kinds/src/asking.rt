@@ -3,7 +3,8 @@
 use crate::script::{Head, Step};
 use std::alloc::{AllocError, Global};
 use tc_base::Blob;
-use tc_model::{Applied, Contents, Walk, apply_plain};
+use tc_model::{Applied, Walk};
+use tc_plain::{Contents, apply_plain};
 use ty_wire::{Front, read_request, take};
 
 /// A database and its walk.

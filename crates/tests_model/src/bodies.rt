@@ -1,8 +1,9 @@
 //! The plain body and the database in memory, side by side.
 use std::alloc::{AllocError, Global};
 use tc_base::{Blob, Kind, Request};
-use tc_mem::MemEngine;
-use tc_model::{Contents, Walk, apply_plain};
+use tc_memdb::MemEngine;
+use tc_model::Walk;
+use tc_plain::{Contents, apply_plain};
 use tc_space::NoSpace;
 use ty_answers::Database;
 use ty_base::Base;

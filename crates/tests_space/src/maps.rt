@@ -3,8 +3,7 @@ ghost use Rattle.std.specs.Prelude.{◌≡◌, Some, OnOk, IfOk};
 ghost use Rattle.tc_space.specs.Frames.{In, Keeps};
 ghost use Rattle.tc_space.specs.Stores.{IsReady};
 
-use std::alloc::{AllocError, Global};
-use tc_base::{Blob, Form, Mode, Steps};
+use tc_base::{Blob, Mode, Steps};
 use tc_space::{PutErr, Records, Space};
 
 /// Puts a key, and gets it.

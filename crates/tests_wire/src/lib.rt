@@ -1,11 +1,7 @@
-//! Tables of the protocol's bytes.
+//! The wires and sinks of the system, over sockets of one process and over pipes, and the wire in memory.
 #![tactic(auto)]
 
 #[cfg(test)]
-mod pieces;
-#[cfg(test)]
-mod rows;
-#[cfg(test)]
 mod script;
 #[cfg(test)]
-mod tests;
+mod sockets;

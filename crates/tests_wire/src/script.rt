@@ -3,7 +3,8 @@ ghost use Rattle.std.specs.Prelude.{◌≡◌, true, false, IfOk};
 
 use std::alloc::{AllocError, Global};
 use std::test::Fail;
-use tc_io::{Act, At, Dialled, Ev, MemWire, Wire};
+use tc_fakes::MemWire;
+use tc_io::{Act, At, Dialled, Ev, Wire};
 
 // Events of connections 5 and 7, of which those that may not come are skipped.
 fn script(alloc: Global) -> Result<MemWire, AllocError>

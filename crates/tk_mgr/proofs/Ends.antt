@@ -1,14 +1,15 @@
 -- What tasks leave, by what their requests left.
 use Rattle.std.proofs.Common.{◌≡◌, inl, inr, ⊎_elim, ℕ, Bool, true, false, List, [], ◌∷◌, refl, sym, ap, subst, ◌∙◌, arith, Ok, Err}
-use Rattle.std.specs.Prelude.{◌&&◌, Option, Some, None, Result, map, unwrap_or}
+use Rattle.std.specs.Prelude.{◌&&◌, Option, Some, None, Result, IsErrOf, map, unwrap_or}
+use Rattle.std.specs.Result.{IsErrAnd}
+use Rattle.std.proofs.lemmas.Result.{err_from_is_err_and}
 use Rattle.std.proofs.lemmas.Bool.{or_from}
 use Rattle.tc_base.specs.Files.{Files}
 use Rattle.tc_base.specs.declared.kind.Form.{Form}
 use Rattle.tc_base.specs.declared.kind.Form.TheVariants as form
 use Rattle.tc_base.specs.declared.request.Request.{Request}
 use Rattle.tc_io.specs.declared.sink.Sink as sink
-use Rattle.tc_space.specs.Effects.{Follows}
-use Rattle.tc_space.specs.Frames.{Keeps}
+use Rattle.tc_space.specs.Frames.{Follows, Keeps}
 use Rattle.tc_space.specs.declared.errors.RecErr.{RecErr}
 use Rattle.tc_space.specs.declared.errors.RecErr.TheVariants as rec
 use Rattle.tc_space.specs.declared.space.Space as space
@@ -19,6 +20,7 @@ use Rattle.tc_model.specs.declared.applied.Applied.{Applied}
 use Rattle.tc_model.proofs.Idle.{apply_idle}
 use Rattle.ty_world.specs.World.{Mark}
 use Rattle.ty_base.specs.Holding.{Held, IsReady, Leaves, may_write}
+use Rattle.ty_base.proofs.Refusals.{cause_is}
 use Rattle.ty_rounds.specs.Kept.{HasMark, HoldsMark, LeavesMarks, LeavesTwo, MovesTo, Reopens}
 use Rattle.ty_rounds.proofs.Leaving.{IsClean, Earlier, kept_stands, was_kept, left_stands, none_two, steady_two, moved_two}
 use Rattle.ty_rounds.proofs.Telling.{Adds-none}
@@ -32,13 +34,17 @@ use Rattle.tk_mgr.specs.Managing.{ArePacked, FillsTask, IsThrough, Manages, MayM
 use Rattle.tk_mgr.specs.Asking.{Answers, Carries, FillsAsked, IsIdle, Looks}
 use Rattle.tk_mgr.specs.Showing.{Shows}
 
-pub keeps_follows : {S : Type 0} (s : space.Ghosts S) (a b : S) → Keeps s a b → Follows s.faults s.limit s.names a b
+pub keeps_follows : {S : Type 0} (s : space.Ghosts S) (a b : S) → Keeps s a b → Follows s a b
 keeps_follows s a b k = record { later = k.later; same_limit = k.same_limit; same_names = k.same_names }
 
 pub full_rec : (e : RecErr) → mgr_of e ≡ err.Full → e ≡ rec.Full
 full_rec rec.Full is = refl
 full_rec rec.Fault is = absurd cc
 full_rec rec.Memory is = absurd cc
+
+-- a refusal for want of room, at the exit of a `?`
+pub full_at : {T U : Type 0} (r : Result T MgrErr) (e : RecErr) → IsErrAnd r (λ f. f ≡ mgr_of e) → IsErrOf r err.Full → IsErrOf {T = U} (Err e) rec.Full
+full_at r e is full = let p = err_from_is_err_and r is in ap (λ x. Err x) (full_rec e (sym p.2 ∙ cause_is p.0 err.Full (sym p.1 ∙ full)))
 
 -- ---- requests
 

@@ -15,10 +15,9 @@ use Rattle.tc_base.specs.declared.request.Reply.{Reply}
 use Rattle.tc_base.specs.declared.request.Reply.TheVariants as reply
 use Rattle.ty_wire.specs.Form.{items_bytes}
 use Rattle.ty_wire.specs.Spelling.{reply_bytes, size}
-use Rattle.tc_model.specs.Contents.{Contents, hash, tree, fixed, table, kind_of, Walk}
+use Rattle.tc_model.specs.Contents.{Contents, hash, tree, fixed, table, kind_of, Walk, is_table}
 use Rattle.tc_model.specs.Stores.{count, held, size_of, value_of}
 use Rattle.tc_model.specs.Stats.{kind_text, line, stat_text}
-use Rattle.tc_model.specs.Bodies.{is_table}
 use Rattle.tc_model.specs.Apply.{apply, at_most, fits, keys_from, refused, tells, told, took}
 use Rattle.tk_mgr.specs.Tasks.{keys_listed, maximum_of, shown, told_line, told_of}
 use Rattle.tk_mgr.specs.Asking.{IsTold}

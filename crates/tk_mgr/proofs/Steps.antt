@@ -5,8 +5,7 @@ use Rattle.tc_base.specs.Files.{Files}
 use Rattle.tc_base.specs.declared.request.Request.{Request}
 use Rattle.tc_space.specs.declared.space.Space as space
 use Rattle.tc_model.specs.Apply.{Step, apply}
-use Rattle.tc_model.specs.Bodies.{is_table}
-use Rattle.tc_model.specs.Contents.{Contents}
+use Rattle.tc_model.specs.Contents.{Contents, is_table}
 use Rattle.tc_model.specs.declared.applied.Applied.{Applied}
 use Rattle.ty_base.specs.Holding.{Held, IsReady, Stays}
 use Rattle.ty_world.specs.World.{Mark}

@@ -1,21 +1,24 @@
 -- What the requests of a task leave of a database and its space.
-use Rattle.std.specs.Prelude.{◌≡◌, ◌⊎◌, ℕ, Bool, false, List, Option, None, Result, Ok}
+use Rattle.std.specs.Prelude.{◌≡◌, ◌⊎◌, ℕ, Bool, false, List, Option, None, Result, Ok, IsErrOf}
 use Rattle.tc_base.specs.Files.{Files}
 use Rattle.tc_base.specs.declared.request.Request.{Request}
 use Rattle.tc_space.specs.Frames.{Keeps, keeps_refl, keeps_then}
+use Rattle.tc_io.specs.Causes.{Rose}
 use Rattle.tc_space.specs.declared.space.Space as space
 use Rattle.tc_model.specs.Contents.{Contents}
 use Rattle.tc_model.specs.Apply.{apply, updates, is_updated}
 use Rattle.tc_model.specs.Packing.{is_optimize}
 use Rattle.tc_model.specs.declared.applied.Applied.{Applied}
 use Rattle.ty_wire.specs.Spelling.{reply_bytes}
-use Rattle.ty_base.specs.Holding.{Held}
+use Rattle.ty_base.specs.Holding.{Held, OfHeld}
 use Rattle.ty_world.specs.World.{Mark}
-use Rattle.ty_rounds.specs.Kept.{LeavesTwo, Reopens}
+use Rattle.ty_rounds.specs.Kept.{HoldsMark, LeavesTwo, Reopens}
 use Rattle.std.proofs.Common.{refl, ◌∙◌}
 use Rattle.tk_mgr.specs.declared.errors.MgrErr.{MgrErr}
+use Rattle.tk_mgr.specs.declared.errors.MgrErr.TheVariants.{Fault, Full}
 use Rattle.tk_mgr.specs.Tasks.{asked, answered}
-use Rattle.tk_mgr.specs.Managing.{IsThrough, with_contents}
+use Rattle.tk_mgr.specs.Managing.{IsThrough, last_mark, with_contents}
+use Rattle.tk_mgr.specs.declared.task.Task.{Task}
 
 -- a request was made of contents: what it makes of them is held now, and its reply stands alone
 pub record Answers {S B : Type 0} (s : space.Ghosts S) (holds : B → Files → Contents → Type 0) (r : Request) (a : Applied) (c : Contents) (base : B) (new : S) (reply : List ℕ) : Type 0 where
@@ -23,6 +26,14 @@ pub record Answers {S B : Type 0} (s : space.Ghosts S) (holds : B → Files → 
   pub bytes : reply ≡ reply_bytes (apply false r c None).reply
   pub ok : a.ok ≡ (apply false r c None).ok
   pub updated : a.updated ≡ is_updated r (apply false r c None)
+
+-- whatever was held
+abbrev pub AnswersOf : {S B : Type 0} → space.Ghosts S → (B → Files → Contents → Type 0) → Request → Applied → B → B → S → S → List ℕ → Type 0
+AnswersOf s holds r a base base' old new reply = OfHeld s holds base old (λ c. Answers s holds r a c base' new reply)
+
+-- a fault comes only where a call of the volume failed
+abbrev pub OnMgrFault : {S T : Type 0} → space.Ghosts S → Result T MgrErr → S → S → Type 0
+OnMgrFault s result old new = IsErrOf result Fault → Rose (s.faults old) (s.faults new)
 
 -- it neither updates contents nor packs files
 pub record IsIdle (r : Request) : Type 0 where
@@ -62,3 +73,18 @@ pub record Carries {S : Type 0} (s : space.Ghosts S) (reopens : Files → Conten
 -- as contents are brought to the files, or before and after a request
 abbrev pub FillsAsked : (Contents → Contents → Type 0) → Option Request → Contents → Type 0
 FillsAsked fills r c = fills c (asked r c) ⊎ fills (asked r c) (asked r c)
+
+-- ---- whatever the files stood for, and whatever was held
+
+abbrev pub OfMark : {S B : Type 0} → space.Ghosts S → (B → Files → Contents → Type 0) → (Files → Contents → Type 0) → B → S → (Mark → Type 0) → Type 0
+OfMark s holds reopens base space P = (m : Mark) → HoldsMark s holds reopens base space m → P m
+
+abbrev pub CarriesOf : {S B : Type 0} → space.Ghosts S → (B → Files → Contents → Type 0) → (Files → Contents → Type 0) → Option Request → Result Bool MgrErr → B → S → S → Type 0
+CarriesOf s holds reopens r result base old new = OfMark s holds reopens base old (λ m. Carries s reopens r result old new m)
+
+abbrev pub FillsRequest : {S B T : Type 0} → space.Ghosts S → (B → Files → Contents → Type 0) → (S → Contents → Contents → Type 0) → Option Request → Result T MgrErr → B → S → S → Type 0
+FillsRequest s holds fills r result base old new = IsErrOf result Full → OfHeld s holds base old (λ c. FillsAsked (fills new) r c)
+
+-- a stop at the exit leaves files that stand for the last mark of a task
+abbrev pub LeavesLast : {S B : Type 0} → space.Ghosts S → (B → Files → Contents → Type 0) → (Files → Contents → Type 0) → Task → B → S → S → Type 0
+LeavesLast s holds reopens task base old new = OfMark s holds reopens base old (λ m. (o : Option Files) → s.left new (s.moment new) o → Reopens reopens o (last_mark task m))

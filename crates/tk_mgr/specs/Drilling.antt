@@ -1,15 +1,18 @@
 -- How far a drill has come, and what it leaves on the way.
-use Rattle.std.specs.Prelude.{◌≡◌, ◌≤◌, ◌+◌, ◌*◌, ℕ, List, Option}
+use Rattle.std.specs.Prelude.{◌≡◌, ◌≤◌, ◌+◌, ◌*◌, ℕ, List, Option, Result, IsErrOf}
 use Rattle.tc_base.specs.Files.{Files}
 use Rattle.tc_space.specs.Moments.{LeavesOnly}
 use Rattle.tc_space.specs.declared.space.Space as space
 use Rattle.tc_model.specs.Contents.{Contents}
 use Rattle.ty_world.specs.World.{Mark}
 use Rattle.ty_base.specs.Holding.{IsReady}
-use Rattle.ty_rounds.specs.Kept.{HasMark, HoldsMark, Reopens}
+use Rattle.ty_rounds.specs.Kept.{HasMark, HoldsMark, MovesTo, Reopens}
 use Rattle.tk_mgr.specs.Drills.{drilled, summary}
-use Rattle.tk_mgr.specs.Managing.{MayManage, with_contents}
+use Rattle.tk_mgr.specs.Managing.{FillsTask, MayManage, with_contents}
+use Rattle.tk_mgr.specs.declared.errors.MgrErr.{MgrErr}
+use Rattle.tk_mgr.specs.declared.errors.MgrErr.TheVariants.{Full}
 use Rattle.tk_mgr.specs.declared.run.Run.{Run}
+use Rattle.tk_mgr.specs.declared.task.Task.TheVariants.{Drill}
 
 -- contents and log behind so many requests
 abbrev pub mark_behind : ℕ → ℕ → Mark → Mark
@@ -54,3 +57,23 @@ pub record AtHundred (reopens : Files → Contents → Type 0) (seed most : ℕ)
 
 pub record LeavesHundreds {S : Type 0} (s : space.Ghosts S) (reopens : Files → Contents → Type 0) (old new : S) (seed most : ℕ) (m : Mark) : Type 0 where
   pub leaves : LeavesOnly s.moment s.left old new (AtHundred reopens seed most m)
+
+-- ---- whichever the seed was, and whatever was held at first
+
+module _ {S B : Type 0} (s : space.Ghosts S) (holds : B → Files → Contents → Type 0) where
+  module _ {T : Type 0} (fills : S → Contents → Contents → Type 0) (result : Result T MgrErr) where
+    -- a limit is reached within so many requests more
+    abbrev pub FillsMore : ℕ → Run → B → S → S → Type 0
+    FillsMore more run base old new = IsErrOf result Full → (seed : ℕ) (m : Mark) → Holds s holds seed run base old m → FillsTask (fills new) (Drill seed (run.made + more)) m.contents
+
+    -- within so many in all, where the files stood for what was held
+    abbrev pub FillsUpTo : (Files → Contents → Type 0) → ℕ → Run → B → S → S → Type 0
+    FillsUpTo reopens count run base old new = IsErrOf result Full → (seed : ℕ) (m : Mark) → Stands s holds reopens seed run base old m → FillsTask (fills new) (Drill seed count) m.contents
+
+  module _ (reopens : Files → Contents → Type 0) where
+    -- the files stand for what was held, or for what so many requests more make of it
+    abbrev pub MovesBy : ℕ → Run → B → S → S → Type 0
+    MovesBy more run base old new = (seed : ℕ) (m : Mark) → Stands s holds reopens seed run base old m → MovesTo s reopens old new (mark_behind (run.made + more) seed m)
+
+    abbrev pub LeavesBy : ℕ → Run → B → S → S → Type 0
+    LeavesBy most run base old new = (seed : ℕ) (m : Mark) → Stands s holds reopens seed run base old m → LeavesHundreds s reopens old new seed most m

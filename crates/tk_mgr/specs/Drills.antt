@@ -3,9 +3,8 @@ use Rattle.std.specs.Prelude.{ℕ, zero, suc, ◌+◌, ◌*◌, ◌-◌, ◌/◌
 use Rattle.std.specs.Fmt.{decimal}
 use Rattle.tc_base.specs.declared.request.Request.{Request}
 use Rattle.tc_base.specs.declared.request.Request.TheVariants.{Put, PutCat, Out}
-use Rattle.tc_model.specs.Contents.{Contents}
+use Rattle.tc_model.specs.Contents.{Contents, is_table}
 use Rattle.tc_model.specs.Stores.{count, size_of}
-use Rattle.tc_model.specs.Bodies.{is_table}
 use Rattle.tc_model.specs.Apply.{Step, apply}
 
 -- the number that is drawn behind another

@@ -1,5 +1,5 @@
 -- What a task leaves of a database, of its space and of what it prints to.
-use Rattle.std.specs.Prelude.{◌≡◌, ◌≢◌, ◌⊎◌, ◌≤◌, ◌<◌, ◌+◌, ℕ, Bool, true, false, List, [], map, Option, None, Some, Result, Ok, Err}
+use Rattle.std.specs.Prelude.{◌≡◌, ◌≢◌, ◌⊎◌, ◌≤◌, ◌<◌, ◌+◌, ℕ, Bool, true, false, List, [], map, Option, None, Some, Result, Ok, Err, IsErrOf}
 use Rattle.tc_base.specs.Files.{Files}
 use Rattle.tc_base.specs.declared.kind.Form.{Form}
 use Rattle.tc_base.specs.declared.kind.Form.TheVariants as form
@@ -103,3 +103,10 @@ pub record FillsTask (fills : Contents → Contents → Type 0) (task : Task) (c
   pub step : ℕ
   pub within : step ≤ steps_of task
   pub by : ((step < steps_of task) × fills (at_step task c step) (at_step task c (step + 1))) ⊎ fills (at_step task c step) (at_step task c step)
+
+-- whatever the files stood for
+abbrev pub FillsTaskOf : {S B T : Type 0} → space.Ghosts S → (B → Files → Contents → Type 0) → (Files → Contents → Type 0) → (S → Contents → Contents → Type 0) → Task → Result T MgrErr → B → S → S → Type 0
+FillsTaskOf s holds reopens fills task result base old new = IsErrOf result err.Full → (m : Mark) → HoldsMark s holds reopens base old m → FillsTask (fills new) task m.contents
+
+abbrev pub PacksTaskOf : {S B : Type 0} → space.Ghosts S → (B → Files → Contents → Type 0) → (Files → Contents → Type 0) → (Form → Files → Type 0) → Task → Result Bool MgrErr → B → S → S → Type 0
+PacksTaskOf s holds reopens packed task result base old new = (m : Mark) → HoldsMark s holds reopens base old m → PacksTask s packed task result new

@@ -4,10 +4,9 @@ use Rattle.std.specs.Fmt.{decimal}
 use Rattle.tc_base.specs.Files.{Files}
 use Rattle.tc_base.specs.declared.request.Request.{Request}
 use Rattle.tc_base.specs.declared.request.Request.TheVariants as request
-use Rattle.tc_model.specs.Contents.{Contents, kind_of}
+use Rattle.tc_model.specs.Contents.{Contents, kind_of, is_table}
 use Rattle.tc_model.specs.Stores.{count, size_of, value_of}
 use Rattle.tc_model.specs.Stats.{kind_text}
-use Rattle.tc_model.specs.Bodies.{is_table}
 use Rattle.tc_model.specs.Apply.{apply, at_most, keys_from}
 use Rattle.tk_words.specs.declared.order.PutWord.{PutWord}
 use Rattle.tk_words.specs.declared.order.PutWord.TheVariants.{Over, Keep, Cat, Dup}

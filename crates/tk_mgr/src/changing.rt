@@ -1,16 +1,12 @@
 //! Tasks that change a database or its files, and print nothing.
 ghost use Rattle.std.specs.Prelude.{◌≡◌, Some, None, IfOk, IsErrOf};
-ghost use Rattle.tc_io.specs.Causes.{Rose};
-ghost use Rattle.tc_space.specs.Effects.{Follows};
-ghost use Rattle.tc_model.specs.Contents.{Contents};
 ghost use Rattle.tc_base.specs.declared.request.Request.TheVariants as request;
-ghost use Rattle.ty_base.specs.Holding.{Held};
-ghost use Rattle.ty_world.specs.World.{Mark};
-ghost use Rattle.ty_rounds.specs.Kept.{HoldsMark};
-ghost use Rattle.tk_mgr.specs.Asking.{Carries, FillsAsked};
-ghost use Rattle.tk_mgr.specs.Managing.{MayManage, PacksTask, form_for};
+ghost use Rattle.tk_mgr.specs.Managing.{MayManage, PacksTaskOf, form_for};
 ghost use Rattle.tk_mgr.specs.Tasks.{put_request};
 ghost use Rattle.tk_mgr.specs.declared.task.Task.TheVariants.{Optimize};
+ghost use Rattle.ty_base.specs.Holding.{FillsAsIs};
+ghost use Rattle.tc_space.specs.Frames.{Follows};
+ghost use Rattle.tk_mgr.specs.Asking.{CarriesOf, FillsRequest, OnMgrFault};
 
 use crate::asking::{change, save};
 use crate::errors::MgrErr;
@@ -66,17 +62,14 @@ pub fn put<B: Base>(
     space: &mut B::S,
 ) -> Result<bool, MgrErr>
     requires may { MayManage B.S.Space B.holds B.reopens base.old space.old }
-    ensures carries { (m : Mark) → HoldsMark B.S.Space B.holds B.reopens base.old space.old m → Carries B.S.Space B.reopens (Some (put_request word key value)) result space.old space.new m }
-    ensures full { IsErrOf result MgrErr.Full → (c : Contents) → Held B.S.Space B.holds base.old space.old c → FillsAsked (B.fills space.new) (Some (put_request word key value)) c }
+    ensures carries { CarriesOf B.S.Space B.holds B.reopens (Some (put_request word key value)) result base.old space.old space.new }
+    ensures full { FillsRequest B.S.Space B.holds B.fills (Some (put_request word key value)) result base.old space.old space.new }
     ensures not_sink { IsErrOf result MgrErr.Sink → ⊥ }
-    ensures follows { Follows B.S.faults B.S.limit B.S.names space.old space.new }
-    ensures cause { IsErrOf result MgrErr.Fault → Rose (B.S.faults space.old) (B.S.faults space.new) }
+    ensures follows { Follows B.S.Space space.old space.new }
+    ensures cause { OnMgrFault B.S.Space result space.old space.new }
 {
     let mut reply = Blob::new(alloc);
-    let request = match request_of(alloc, word, key, value) {
-        Ok(request) => request,
-        Err(_) => return Err(MgrErr::Memory),
-    };
+    let request = request_of(alloc, word, key, value)?;
     change(base, space, request, &mut reply)
 }
 
@@ -88,11 +81,11 @@ pub fn take_out<B: Base>(
     space: &mut B::S,
 ) -> Result<bool, MgrErr>
     requires may { MayManage B.S.Space B.holds B.reopens base.old space.old }
-    ensures carries { (m : Mark) → HoldsMark B.S.Space B.holds B.reopens base.old space.old m → Carries B.S.Space B.reopens (Some (request.Out key)) result space.old space.new m }
-    ensures full { IsErrOf result MgrErr.Full → (c : Contents) → Held B.S.Space B.holds base.old space.old c → FillsAsked (B.fills space.new) (Some (request.Out key)) c }
+    ensures carries { CarriesOf B.S.Space B.holds B.reopens (Some (request.Out key)) result base.old space.old space.new }
+    ensures full { FillsRequest B.S.Space B.holds B.fills (Some (request.Out key)) result base.old space.old space.new }
     ensures not_sink { IsErrOf result MgrErr.Sink → ⊥ }
-    ensures follows { Follows B.S.faults B.S.limit B.S.names space.old space.new }
-    ensures cause { IsErrOf result MgrErr.Fault → Rose (B.S.faults space.old) (B.S.faults space.new) }
+    ensures follows { Follows B.S.Space space.old space.new }
+    ensures cause { OnMgrFault B.S.Space result space.old space.new }
 {
     let mut reply = Blob::new(alloc);
     let key = Key::new(key);
@@ -109,19 +102,14 @@ fn form_of(large: bool) -> Form
 /// Packs the files, in the large form where `large` says so, and keeps them.
 pub fn optimize<B: Base>(large: bool, base: &mut B, space: &mut B::S) -> Result<bool, MgrErr>
     requires may { MayManage B.S.Space B.holds B.reopens base.old space.old }
-    ensures carries { (m : Mark) → HoldsMark B.S.Space B.holds B.reopens base.old space.old m → Carries B.S.Space B.reopens None result space.old space.new m }
-    ensures packs { (m : Mark) → HoldsMark B.S.Space B.holds B.reopens base.old space.old m → PacksTask B.S.Space B.packed (Optimize large) result space.new }
-    ensures full { IsErrOf result MgrErr.Full → (c : Contents) → Held B.S.Space B.holds base.old space.old c → B.fills space.new c c }
+    ensures carries { CarriesOf B.S.Space B.holds B.reopens None result base.old space.old space.new }
+    ensures packs { PacksTaskOf B.S.Space B.holds B.reopens B.packed (Optimize large) result base.old space.old space.new }
+    ensures full { IsErrOf result MgrErr.Full → FillsAsIs B.S.Space B.holds B.fills base.old space.old space.new }
     ensures not_sink { IsErrOf result MgrErr.Sink → ⊥ }
-    ensures follows { Follows B.S.faults B.S.limit B.S.names space.old space.new }
-    ensures cause { IsErrOf result MgrErr.Fault → Rose (B.S.faults space.old) (B.S.faults space.new) }
+    ensures follows { Follows B.S.Space space.old space.new }
+    ensures cause { OnMgrFault B.S.Space result space.old space.new }
 {
-    match base.pack(space, form_of(large)) {
-        Ok(()) => {}
-        Err(e) => return Err(MgrErr::from(e)),
-    }
-    match save(base, space, true) {
-        Ok(()) => Ok(true),
-        Err(e) => Err(e),
-    }
+    base.pack(space, form_of(large))?;
+    save(base, space, true)?;
+    Ok(true)
 }

@@ -1,7 +1,6 @@
 //! The requests of a drill.
 ghost use Rattle.std.specs.Prelude.{◌≡◌, IfOk};
-ghost use Rattle.tc_model.specs.Bodies.{is_table};
-ghost use Rattle.tc_model.specs.Contents.{Contents, kind_of};
+ghost use Rattle.tc_model.specs.Contents.{Contents, kind_of, is_table};
 ghost use Rattle.tk_mgr.specs.Drills.{drawn, key_of, request_of, value_of};
 
 use itoa::Buffer;

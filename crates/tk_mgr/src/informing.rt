@@ -1,14 +1,14 @@
 //! What a database and its files are.
-ghost use Rattle.std.specs.Prelude.{◌≡◌, ◌≤◌, ◌++◌, true, ◌+◌, take, OnOk, IfErr, IsErrOf};
+ghost use Rattle.std.specs.Prelude.{◌≡◌, ◌≤◌, ◌++◌, true, ◌+◌, take, OnOk, IsErrOf};
 ghost use Rattle.std.specs.List.{position_or_len};
 ghost use Rattle.tc_base.specs.declared.request.Request.TheVariants as request;
 ghost use Rattle.tc_io.specs.Causes.{Rose};
 ghost use Rattle.tc_space.specs.Frames.{Keeps};
 ghost use Rattle.tc_model.specs.Contents.{Contents, kind_of};
 ghost use Rattle.tc_model.specs.Stats as stats;
-ghost use Rattle.ty_base.specs.Holding.{Held, IsReady};
+ghost use Rattle.ty_base.specs.Holding.{IsReady, OfHeld};
 ghost use Rattle.tk_mgr.specs.declared.task.Task.TheVariants as task;
-ghost use Rattle.tk_mgr.specs.Asking.{IsTold, Looks};
+ghost use Rattle.tk_mgr.specs.Asking.{IsTold, Looks, OnMgrFault};
 ghost use Rattle.tk_mgr.specs.Managing.{MayManage};
 ghost use Rattle.tk_mgr.specs.Showing.{AreCounts, Inspects, Shows, is_break};
 ghost use Rattle.tk_mgr.specs.Tasks.{told_line, told_of};
@@ -88,25 +88,20 @@ fn add_contents<B: Base>(
 ) -> Result<(), MgrErr>
     requires ready { IsReady B.S.Space B.holds base.old space.old }
     ensures looks { OnOk result (Looks B.S.Space B.holds base.old base.new space.old space.new) }
-    ensures told { OnOk result ((c : Contents) → Held B.S.Space B.holds base.old space.old c → into.new ≡ into.old ++ told_of c) }
+    ensures told { OnOk result (OfHeld B.S.Space B.holds base.old space.old (λ c. into.new ≡ into.old ++ told_of c)) }
     ensures not_full { IsErrOf result MgrErr.Full → ⊥ }
     ensures not_sink { IsErrOf result MgrErr.Sink → ⊥ }
     ensures keeps { Keeps B.S.Space space.old space.new }
-    ensures cause { IsErrOf result MgrErr.Fault → Rose (B.S.faults space.old) (B.S.faults space.new) }
+    ensures cause { OnMgrFault B.S.Space result space.old space.new }
 {
     let mut reply = Blob::new(alloc);
     let kind = base.kind();
-    let ok = match look(base, space, Request::Stat, &mut reply) {
-        Ok(ok) => ok,
-        Err(e) => return Err(e),
-    };
+    let ok = look(base, space, Request::Stat, &mut reply)?;
     if !ok {
         return Err(MgrErr::Memory);
     }
-    match add_lines(kind, reply.as_slice(), into) {
-        Ok(()) => Ok(()),
-        Err(_) => Err(MgrErr::Memory),
-    }
+    add_lines(kind, reply.as_slice(), into)?;
+    Ok(())
 }
 
 // Makes the text of an inspection.
@@ -117,20 +112,15 @@ fn inspect<B: Base>(
     text: &mut Blob,
 ) -> Result<(), MgrErr>
     requires may { MayManage B.S.Space B.holds B.reopens base.old space.old }
-    ensures told { OnOk result ((c : Contents) → Held B.S.Space B.holds base.old space.old c → Inspects B.S.Space B.lines c space.old text.old text.new) }
+    ensures told { OnOk result (OfHeld B.S.Space B.holds base.old space.old (λ c. Inspects B.S.Space B.lines c space.old text.old text.new)) }
     ensures not_full { IsErrOf result MgrErr.Full → ⊥ }
     ensures not_sink { IsErrOf result MgrErr.Sink → ⊥ }
     ensures keeps { Keeps B.S.Space space.old space.new }
-    ensures cause { IsErrOf result MgrErr.Fault → Rose (B.S.faults space.old) (B.S.faults space.new) }
+    ensures cause { OnMgrFault B.S.Space result space.old space.new }
 {
-    match add_contents(alloc, base, space, text) {
-        Ok(()) => {}
-        Err(e) => return Err(e),
-    }
-    match base.inform(space, text) {
-        Ok(()) => Ok(()),
-        Err(e) => Err(MgrErr::from(e)),
-    }
+    add_contents(alloc, base, space, text)?;
+    base.inform(space, text)?;
+    Ok(())
 }
 
 /// Prints what the database and its files are.
@@ -145,13 +135,10 @@ pub fn inform<B: Base, O: Sink>(
     ensures not_full { IsErrOf result MgrErr.Full → ⊥ }
     ensures keeps { Keeps B.S.Space space.old space.new }
     ensures later { O.faults out.old ≤ O.faults out.new }
-    ensures cause { IsErrOf result MgrErr.Fault → Rose (B.S.faults space.old) (B.S.faults space.new) }
+    ensures cause { OnMgrFault B.S.Space result space.old space.new }
     ensures cause_sink { IsErrOf result MgrErr.Sink → Rose (O.faults out.old) (O.faults out.new) }
 {
     let mut text = Blob::new(alloc);
-    match inspect(alloc, base, space, &mut text) {
-        Ok(()) => {}
-        Err(e) => return Err(e),
-    }
+    inspect(alloc, base, space, &mut text)?;
     show(true, text.as_slice(), out)
 }

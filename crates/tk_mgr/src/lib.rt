@@ -1,5 +1,5 @@
 //! What commands make of a database, and what they print.
-#![tactic(auto, using(tc_space::specs::Frames::keeps_refl, tc_space::specs::Frames::keeps_then, tc_space::specs::Effects::follows_then, tc_space::specs::Effects::follows_refl))]
+#![tactic(auto, using(tc_space::specs::Frames::keeps_refl, tc_space::specs::Frames::keeps_then, tc_space::specs::Frames::follows_then, tc_space::specs::Frames::follows_refl))]
 
 mod asking;
 mod changing;

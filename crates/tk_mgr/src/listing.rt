@@ -4,12 +4,11 @@ ghost use Rattle.tc_base.specs.Reading.{Gives};
 ghost use Rattle.tc_io.specs.Causes.{Rose};
 ghost use Rattle.tc_io.specs.Told.{Adds, AddsFront};
 ghost use Rattle.tc_space.specs.Frames.{Keeps};
-ghost use Rattle.tc_model.specs.Contents.{Contents};
 ghost use Rattle.ty_wire.specs.Items.{item_at};
-ghost use Rattle.ty_base.specs.Holding.{Held, IsReady};
+ghost use Rattle.ty_base.specs.Holding.{IsReady, OfHeld};
 ghost use Rattle.tk_mgr.specs.declared.errors.MgrErr.TheVariants.{Sink as sink_err};
 ghost use Rattle.tk_mgr.specs.declared.task.Task.TheVariants as task;
-ghost use Rattle.tk_mgr.specs.Asking.{Looks};
+ghost use Rattle.tk_mgr.specs.Asking.{Looks, OnMgrFault};
 ghost use Rattle.tk_mgr.specs.Showing.{Listed, PrintsLine, Shows, StopsLine, Waits, line_of};
 ghost use Rattle.tk_mgr.specs.Tasks.{maximum_of};
 
@@ -56,32 +55,21 @@ fn add_pair<B: Base>(
 ) -> Result<(), MgrErr>
     requires ready { IsReady B.S.Space B.holds base.old space.old }
     ensures looks { OnOk result (Looks B.S.Space B.holds base.old base.new space.old space.new) }
-    ensures line { OnOk result ((c : Contents) → Held B.S.Space B.holds base.old space.old c → waiting.new ≡ waiting.old ++ line_of true c key.now) }
+    ensures line { OnOk result (OfHeld B.S.Space B.holds base.old space.old (λ c. waiting.new ≡ waiting.old ++ line_of true c key.now)) }
     ensures not_full { IsErrOf result MgrErr.Full → ⊥ }
     ensures not_sink { IsErrOf result MgrErr.Sink → ⊥ }
     ensures keeps { Keeps B.S.Space space.old space.new }
-    ensures cause { IsErrOf result MgrErr.Fault → Rose (B.S.faults space.old) (B.S.faults space.new) }
+    ensures cause { OnMgrFault B.S.Space result space.old space.new }
 {
-    let Ok(()) = waiting.append(key) else {
-        return Err(MgrErr::Memory);
-    };
-    let Ok(()) = waiting.push(b'\t') else {
-        return Err(MgrErr::Memory);
-    };
-    let Ok(wanted) = Key::from_slice(alloc, key) else {
-        return Err(MgrErr::Memory);
-    };
-    let held = match add_value(wanted, base, space, reply, waiting) {
-        Ok(held) => held,
-        Err(e) => return Err(e),
-    };
+    waiting.append(key)?;
+    waiting.push(b'\t')?;
+    let wanted = Key::from_slice(alloc, key)?;
+    let held = add_value(wanted, base, space, reply, waiting)?;
     if !held {
         return Err(MgrErr::Memory);
     }
-    match waiting.push(b'\n') {
-        Ok(()) => Ok(()),
-        Err(_) => Err(MgrErr::Memory),
-    }
+    waiting.push(b'\n')?;
+    Ok(())
 }
 
 // Adds the line of a key, with its value where `values` says so.
@@ -96,22 +84,18 @@ fn add_line<B: Base>(
 ) -> Result<(), MgrErr>
     requires ready { IsReady B.S.Space B.holds base.old space.old }
     ensures looks { OnOk result (Looks B.S.Space B.holds base.old base.new space.old space.new) }
-    ensures line { OnOk result ((c : Contents) → Held B.S.Space B.holds base.old space.old c → waiting.new ≡ waiting.old ++ line_of values c key.now) }
+    ensures line { OnOk result (OfHeld B.S.Space B.holds base.old space.old (λ c. waiting.new ≡ waiting.old ++ line_of values c key.now)) }
     ensures not_full { IsErrOf result MgrErr.Full → ⊥ }
     ensures not_sink { IsErrOf result MgrErr.Sink → ⊥ }
     ensures keeps { Keeps B.S.Space space.old space.new }
-    ensures cause { IsErrOf result MgrErr.Fault → Rose (B.S.faults space.old) (B.S.faults space.new) }
+    ensures cause { OnMgrFault B.S.Space result space.old space.new }
 {
     if values {
         return add_pair(alloc, key, base, space, reply, waiting);
     }
-    let Ok(()) = waiting.append(key) else {
-        return Err(MgrErr::Memory);
-    };
-    match waiting.push(b'\n') {
-        Ok(()) => Ok(()),
-        Err(_) => Err(MgrErr::Memory),
-    }
+    waiting.append(key)?;
+    waiting.push(b'\n')?;
+    Ok(())
 }
 
 // Prints what waits.
@@ -140,10 +124,8 @@ fn pass<O: Sink>(waiting: &mut Blob, out: &mut O) -> Result<(), MgrErr>
     if waiting.len() < ROOM {
         return Ok(());
     }
-    match flush(waiting, out) {
-        Ok(()) => Ok(()),
-        Err(e) => Err(e),
-    }
+    flush(waiting, out)?;
+    Ok(())
 }
 
 // Adds the line of a key to what waits, and prints that where it is enough.
@@ -163,17 +145,12 @@ fn print_line<B: Base, O: Sink>(
     ensures not_full { IsErrOf result MgrErr.Full → ⊥ }
     ensures keeps { Keeps B.S.Space space.old space.new }
     ensures later { O.faults out.old ≤ O.faults out.new }
-    ensures cause { IsErrOf result MgrErr.Fault → Rose (B.S.faults space.old) (B.S.faults space.new) }
+    ensures cause { OnMgrFault B.S.Space result space.old space.new }
     ensures cause_sink { IsErrOf result MgrErr.Sink → Rose (O.faults out.old) (O.faults out.new) }
 {
-    match add_line(alloc, values, key, base, space, reply, waiting) {
-        Ok(()) => {}
-        Err(e) => return Err(e),
-    }
-    match pass(waiting, out) {
-        Ok(()) => Ok(()),
-        Err(e) => Err(e),
-    }
+    add_line(alloc, values, key, base, space, reply, waiting)?;
+    pass(waiting, out)?;
+    Ok(())
 }
 
 // Prints a line for each of the keys that these bytes hold. Bytes that hold none are answered as want of memory.
@@ -190,7 +167,7 @@ fn print_lines<B: Base, O: Sink>(
     ensures not_full { IsErrOf result MgrErr.Full → ⊥ }
     ensures keeps { Keeps B.S.Space space.old space.new }
     ensures later { O.faults out.old ≤ O.faults out.new }
-    ensures cause { IsErrOf result MgrErr.Fault → Rose (B.S.faults space.old) (B.S.faults space.new) }
+    ensures cause { OnMgrFault B.S.Space result space.old space.new }
     ensures cause_sink { IsErrOf result MgrErr.Sink → Rose (O.faults out.old) (O.faults out.new) }
 {
     let mut reply = Blob::new(alloc);
@@ -200,7 +177,7 @@ fn print_lines<B: Base, O: Sink>(
         let Ok((key, more)) = read_item(rest) else {
             return Err(MgrErr::Memory);
         };
-        match print_line(
+        print_line(
             alloc,
             values,
             key,
@@ -209,16 +186,11 @@ fn print_lines<B: Base, O: Sink>(
             &mut reply,
             &mut waiting,
             out,
-        ) {
-            Ok(()) => {}
-            Err(e) => return Err(e),
-        }
+        )?;
         rest = more;
     }
-    match flush(&mut waiting, out) {
-        Ok(()) => Ok(()),
-        Err(e) => Err(e),
-    }
+    flush(&mut waiting, out)?;
+    Ok(())
 }
 
 /// Prints the keys in the database's order, at most so many, a line each, with a tab and its value behind a key where `values` says so. A key whose
@@ -236,7 +208,7 @@ pub fn list<B: Base, O: Sink>(
     ensures not_full { IsErrOf result MgrErr.Full → ⊥ }
     ensures keeps { Keeps B.S.Space space.old space.new }
     ensures later { O.faults out.old ≤ O.faults out.new }
-    ensures cause { IsErrOf result MgrErr.Fault → Rose (B.S.faults space.old) (B.S.faults space.new) }
+    ensures cause { OnMgrFault B.S.Space result space.old space.new }
     ensures cause_sink { IsErrOf result MgrErr.Sink → Rose (O.faults out.old) (O.faults out.new) }
 {
     let mut reply = Blob::new(alloc);
@@ -244,15 +216,10 @@ pub fn list<B: Base, O: Sink>(
         prefix: Key::new(Blob::new(alloc)),
         maximum: limit_of(maximum),
     };
-    let ok = match look(base, space, request, &mut reply) {
-        Ok(ok) => ok,
-        Err(e) => return Err(e),
-    };
+    let ok = look(base, space, request, &mut reply)?;
     if !ok {
         return Ok(false);
     }
-    match print_lines(alloc, values, behind(reply.as_slice(), 5), base, space, out) {
-        Ok(()) => Ok(true),
-        Err(e) => Err(e),
-    }
+    print_lines(alloc, values, behind(reply.as_slice(), 5), base, space, out)?;
+    Ok(true)
 }

@@ -1,10 +1,9 @@
 //! A task carried out on a database.
-ghost use Rattle.std.specs.Prelude.{◌≡◌, ◌≤◌, Bool, true, IsErrOf};
+ghost use Rattle.std.specs.Prelude.{◌≡◌, ◌≤◌, true, IsErrOf};
 ghost use Rattle.tc_io.specs.Causes.{Rose};
-ghost use Rattle.tc_space.specs.Effects.{Follows};
-ghost use Rattle.ty_world.specs.World.{Mark};
-ghost use Rattle.ty_rounds.specs.Kept.{HoldsMark};
-ghost use Rattle.tk_mgr.specs.Managing.{FillsTask, Manages, MayManage, PacksTask, writes_files};
+ghost use Rattle.tk_mgr.specs.Managing.{FillsTaskOf, Manages, MayManage, PacksTaskOf, writes_files};
+ghost use Rattle.tc_space.specs.Frames.{Follows};
+ghost use Rattle.tk_mgr.specs.Asking.{OnMgrFault};
 
 use crate::changing::{optimize, put, take_out};
 use crate::drill::drill;
@@ -32,12 +31,12 @@ pub fn manage<B: Base, O: Sink>(
 ) -> Result<bool, MgrErr>
     requires may { MayManage B.S.Space B.holds B.reopens base.old space.old }
     ensures managed { Manages B.S.Space O.Sink B.holds B.reopens B.lines task result base.old space.old space.new out.old out.new }
-    ensures packs { (m : Mark) → HoldsMark B.S.Space B.holds B.reopens base.old space.old m → PacksTask B.S.Space B.packed task result space.new }
+    ensures packs { PacksTaskOf B.S.Space B.holds B.reopens B.packed task result base.old space.old space.new }
     ensures writes { IsErrOf result MgrErr.Full → writes_files task ≡ true }
-    ensures full { IsErrOf result MgrErr.Full → (m : Mark) → HoldsMark B.S.Space B.holds B.reopens base.old space.old m → FillsTask (B.fills space.new) task m.contents }
-    ensures follows { Follows B.S.faults B.S.limit B.S.names space.old space.new }
+    ensures full { FillsTaskOf B.S.Space B.holds B.reopens B.fills task result base.old space.old space.new }
+    ensures follows { Follows B.S.Space space.old space.new }
     ensures later { O.faults out.old ≤ O.faults out.new }
-    ensures cause { IsErrOf result MgrErr.Fault → Rose (B.S.faults space.old) (B.S.faults space.new) }
+    ensures cause { OnMgrFault B.S.Space result space.old space.new }
     ensures cause_sink { IsErrOf result MgrErr.Sink → Rose (O.faults out.old) (O.faults out.new) }
 {
     match task {

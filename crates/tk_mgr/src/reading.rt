@@ -1,11 +1,10 @@
 //! The value of a key.
-ghost use Rattle.std.specs.Prelude.{◌≡◌, ◌≤◌, ◌++◌, Bool, OnOk, IfOk, IsErrOf};
+ghost use Rattle.std.specs.Prelude.{◌≤◌, OnOk, IfOk, IsErrOf};
 ghost use Rattle.tc_io.specs.Causes.{Rose};
 ghost use Rattle.tc_space.specs.Frames.{Keeps};
-ghost use Rattle.tc_model.specs.Contents.{Contents};
-ghost use Rattle.ty_base.specs.Holding.{Held, IsReady};
+ghost use Rattle.ty_base.specs.Holding.{IsReady, OfHeld};
 ghost use Rattle.tk_mgr.specs.declared.task.Task.TheVariants as task;
-ghost use Rattle.tk_mgr.specs.Asking.{Looks};
+ghost use Rattle.tk_mgr.specs.Asking.{Looks, OnMgrFault};
 ghost use Rattle.tk_mgr.specs.Showing.{IsValue, Shows};
 
 use crate::asking::look;
@@ -27,24 +26,19 @@ pub fn add_value<B: Base>(
 ) -> Result<bool, MgrErr>
     requires ready { IsReady B.S.Space B.holds base.old space.old }
     ensures looks { OnOk result (Looks B.S.Space B.holds base.old base.new space.old space.new) }
-    ensures value { IfOk result (λ ok. (c : Contents) → Held B.S.Space B.holds base.old space.old c → IsValue key ok c into.old into.new) }
+    ensures value { IfOk result (λ ok. OfHeld B.S.Space B.holds base.old space.old (λ c. IsValue key ok c into.old into.new)) }
     ensures not_full { IsErrOf result MgrErr.Full → ⊥ }
     ensures not_sink { IsErrOf result MgrErr.Sink → ⊥ }
     ensures keeps { Keeps B.S.Space space.old space.new }
-    ensures cause { IsErrOf result MgrErr.Fault → Rose (B.S.faults space.old) (B.S.faults space.new) }
+    ensures cause { OnMgrFault B.S.Space result space.old space.new }
 {
     let table = is_table(base.kind());
-    let ok = match look(base, space, Request::Get { key }, reply) {
-        Ok(ok) => ok,
-        Err(e) => return Err(e),
-    };
+    let ok = look(base, space, Request::Get { key }, reply)?;
     if !ok {
         return Ok(false);
     }
-    match add_shown(table, behind(reply.as_slice(), 5), into) {
-        Ok(()) => Ok(true),
-        Err(_) => Err(MgrErr::Memory),
-    }
+    add_shown(table, behind(reply.as_slice(), 5), into)?;
+    Ok(true)
 }
 
 /// Prints the value of a key and a newline.
@@ -60,17 +54,12 @@ pub fn get<B: Base, O: Sink>(
     ensures not_full { IsErrOf result MgrErr.Full → ⊥ }
     ensures keeps { Keeps B.S.Space space.old space.new }
     ensures later { O.faults out.old ≤ O.faults out.new }
-    ensures cause { IsErrOf result MgrErr.Fault → Rose (B.S.faults space.old) (B.S.faults space.new) }
+    ensures cause { OnMgrFault B.S.Space result space.old space.new }
     ensures cause_sink { IsErrOf result MgrErr.Sink → Rose (O.faults out.old) (O.faults out.new) }
 {
     let mut reply = Blob::new(alloc);
     let mut text = Blob::new(alloc);
-    let ok = match add_value(Key::new(key), base, space, &mut reply, &mut text) {
-        Ok(ok) => ok,
-        Err(e) => return Err(e),
-    };
-    let Ok(()) = text.push(b'\n') else {
-        return Err(MgrErr::Memory);
-    };
+    let ok = add_value(Key::new(key), base, space, &mut reply, &mut text)?;
+    text.push(b'\n')?;
     show(ok, text.as_slice(), out)
 }

@@ -1,17 +1,13 @@
 //! What a drill prints.
-ghost use Rattle.std.specs.Prelude.{◌≡◌, ◌≤◌, ◌-◌, ◌++◌, true, ℕ, codes, IfOk, OnOk, IsErrOf};
+ghost use Rattle.std.specs.Prelude.{◌≡◌, ◌≤◌, ◌-◌, ◌++◌, true, codes, IfOk, OnOk, IsErrOf};
 ghost use Rattle.std.specs.Fmt.{decimal};
 ghost use Rattle.tc_base.specs.declared.request.Request.TheVariants.{Stat};
-ghost use Rattle.tc_io.specs.Causes.{Rose};
 ghost use Rattle.tc_space.specs.Frames.{Keeps};
 ghost use Rattle.tc_model.specs.Contents.{kind_of};
 ghost use Rattle.ty_base.specs.Holding.{IsReady};
-ghost use Rattle.ty_world.specs.World.{Mark};
-ghost use Rattle.tk_mgr.specs.declared.task.Task.TheVariants.{Drill};
-ghost use Rattle.tk_mgr.specs.Asking.{IsTold};
-ghost use Rattle.tk_mgr.specs.Drilling.{Holds, Makes, Tells};
+ghost use Rattle.tk_mgr.specs.Asking.{IsTold, OnMgrFault};
+ghost use Rattle.tk_mgr.specs.Drilling.{Makes, Tells};
 ghost use Rattle.tk_mgr.specs.Drills.{Drilled, summary};
-ghost use Rattle.tk_mgr.specs.Managing.{FillsTask};
 
 use crate::asking::look;
 use crate::errors::MgrErr;
@@ -67,18 +63,12 @@ pub fn report<B: Base>(run: &mut Run, base: &mut B, space: &mut B::S) -> Result<
     ensures not_full { IsErrOf result MgrErr.Full → ⊥ }
     ensures not_sink { IsErrOf result MgrErr.Sink → ⊥ }
     ensures keeps { Keeps B.S.Space space.old space.new }
-    ensures cause { IsErrOf result MgrErr.Fault → Rose (B.S.faults space.old) (B.S.faults space.new) }
+    ensures cause { OnMgrFault B.S.Space result space.old space.new }
 {
     let kind = base.kind();
-    let ok = match look(base, space, Request::Stat, &mut run.reply) {
-        Ok(ok) => ok,
-        Err(e) => return Err(e),
-    };
+    let ok = look(base, space, Request::Stat, &mut run.reply)?;
     if !ok {
         return Err(MgrErr::Memory);
     }
-    match summary_text(run.alloc, kind, run, run.reply.as_slice()) {
-        Ok(text) => Ok(text),
-        Err(_) => Err(MgrErr::Memory),
-    }
+    Ok(summary_text(run.alloc, kind, run, run.reply.as_slice())?)
 }

@@ -9,9 +9,9 @@ use Rattle.ty_rounds.proofs.Telling.{Adds-none}
 use Rattle.tk_top.specs.declared.ends.End.{End}
 use Rattle.tk_top.specs.declared.ends.End.TheVariants.{Words, NoMemory}
 use Rattle.tk_top.specs.Over.{BreaksAt, Judged, StandsFor}
-use Rattle.tk_top.specs.Making.{JudgedMaking, MainIsEmpty, MainIsThere}
+use Rattle.tk_top.specs.Making.{IsThere, JudgedMaking, MainIsEmpty, MainIsThere}
 use Rattle.tk_top.specs.Stored.{anew_of, breaks_of, kind_in, lines_in, numbers_of, packed_in, reopens_of, stored_as}
-use Rattle.tk_top.specs.Tasks.{JudgedTask, RefusedAt}
+use Rattle.tk_top.specs.Tasks.{IsMisplaced, JudgedTask, RefusedAt}
 use Rattle.tk_top.specs.Top.{AskedRun, CausedBy, DrillsMemory, FileRun, IsDrilled, IsServing, MakesFiles, Opens, RunsAsked, SourceRun, TaskOnFiles}
 use Rattle.tk_mgr.specs.declared.task.Task.{Task}
 use Rattle.tk_top.specs.declared.words.Asked.{Asked}
@@ -25,7 +25,7 @@ use Rattle.tk_top.proofs.Made.{made_unopened}
 use Rattle.tk_top.proofs.Managed.{managed_unopened}
 use Rattle.tk_top.proofs.Memory.{memory_none}
 use Rattle.tk_top.proofs.Named.{ends_unnamed}
-use Rattle.tk_top.proofs.Staying.{misplaced_unnamed}
+use Rattle.tk_top.proofs.Staying.{left_alone_unnamed}
 use Rattle.tk_top.proofs.Stopping.{files_unopened}
 
 module _ {V W O : Type 0} (v : volume.Ghosts V) (g : wire.Ghosts W) (o : sink.Ghosts O) where
@@ -35,6 +35,7 @@ module _ {V W O : Type 0} (v : volume.Ghosts V) (g : wire.Ghosts W) (o : sink.Gh
     names = inr (Adds-none (v.names vol));
     told = files_unopened g (kind_in stored) (reopens_of stored) NoMemory turns at x (ends_unnamed v name vol);
     judged = tt;
+    begun = inl refl;
     full = λ e. absurd cc;
     caused = tt;
   }
@@ -48,7 +49,8 @@ module _ {V W O : Type 0} (v : volume.Ghosts V) (g : wire.Ghosts W) (o : sink.Gh
     names = inr (Adds-none (v.names vol));
     told = managed_unopened o (reopens_of stored) (lines_in stored) (packed_in stored) task (kind_in stored) NoMemory p (ends_unnamed v name vol);
     judged = tt;
-    misplaced = misplaced_unnamed (ends_unnamed v name vol) task;
+    begun = inl refl;
+    misplaced = left_alone_unnamed (ends_unnamed v name vol) (IsMisplaced task);
     full = λ e. absurd cc;
     caused = tt;
   }
@@ -58,6 +60,7 @@ module _ {V W O : Type 0} (v : volume.Ghosts V) (g : wire.Ghosts W) (o : sink.Gh
     names = inr (Adds-none (v.names vol));
     made = made_unopened (reopens_of (stored_as shape)) (numbers_of shape) (anew_of shape) NoMemory (ends_unnamed v name vol);
     judged = tt;
+    there = left_alone_unnamed (ends_unnamed v name vol) IsThere;
     full = λ e. absurd cc;
     caused = λ count count'. tt;
   }
@@ -92,7 +95,7 @@ module _ {V W O : Type 0} (v : volume.Ghosts V) (g : wire.Ghosts W) (o : sink.Gh
   pub asked_none : (want : Option Asked) (vol : V) (x : W) (p : O) → want ≡ None → RunsAsked v g o want Words vol vol x x p p
   asked_none want vol x p is = record { served = λ a some. absurd (let f = sym is ∙ some in cc); words = λ e. is; refused = λ n. inl refl; unserved = λ n. (refl, (refl, refl)); caused = inl tt }
 
-  pub asked_some : (want : Option Asked) (end : End) (a : Asked) (vol vol' : V) (x y : W) (p q : O) → want ≡ Some a → AskedRun v g o end a vol vol' x y p q → CausedBy end (v.faults vol) (v.faults vol') (g.faults x) (g.faults y) (o.faults p) (o.faults q) → RunsAsked v g o want end vol vol' x y p q
+  pub asked_some : (want : Option Asked) (end : End) (a : Asked) (vol vol' : V) (x y : W) (p q : O) → want ≡ Some a → AskedRun v g o end a vol vol' x y p q → CausedBy v.faults g.faults o.faults end vol vol' x y p q → RunsAsked v g o want end vol vol' x y p q
   asked_some want end a vol vol' x y p q is run caused = record {
     served = λ b some. subst (λ (d : Asked). AskedRun v g o end d vol vol' x y p q) (some_asked a b (sym is ∙ some)) run;
     words = λ e. absurd (not_words a end vol vol' x y p q run e);

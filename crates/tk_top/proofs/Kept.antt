@@ -24,6 +24,7 @@ use Rattle.tk_top.specs.Ends.{end_of}
 use Rattle.tk_top.specs.Over.{Judged}
 use Rattle.tk_top.specs.Runs.{FullRun}
 use Rattle.tk_top.specs.Serving.{Begins, RunsOver}
+use Rattle.tk_top.proofs.Events.{had_none}
 use Rattle.tk_top.proofs.Fresh.{Earlier, Fresh}
 use Rattle.tk_top.proofs.Over.{not_played, unserved}
 
@@ -117,6 +118,7 @@ module _ {S W : Type 0} (s : space.Ghosts S) (g : wire.Ghosts W) (reopens opens 
     entries = [];
     told = Adds-none (g.transcript x);
     opened = inl refl;
+    events = had_none (end_of e) turns (ended_not e).0 (ended_not e).1;
     ends = λ first h. record {
       asked = tt;
       serves = unserved (end_of e) turns at [] first [] refl (inr refl) (ended_not e).0 (ended_not e).1;
@@ -132,6 +134,7 @@ module _ {S W : Type 0} (s : space.Ghosts S) (g : wire.Ghosts W) (reopens opens 
     entries = run.entries;
     told = run.told;
     opened = run.opened;
+    events = run.events;
     ends = λ first h.
         let k = kept_stands s reopens opens stand s0 first fresh h in
         let r = run.ends first (begins first h) in

@@ -1,5 +1,6 @@
 pub mod Asking
 pub mod Causes
+pub mod Events
 pub mod Fresh
 pub mod Kept
 pub mod Limits

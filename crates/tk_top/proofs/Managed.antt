@@ -39,7 +39,7 @@ use Rattle.tk_top.specs.Stops.{IsEarly, StopsOver}
 use Rattle.tk_top.specs.Tasks.{ExitsTask, FilesManaged, FullTask, IsCarried, IsMisplaced, JudgedTask, ManagesOver, ReasonOver, RefusedAt, TaskOn, end_of_task, wants_empty}
 use Rattle.tk_top.proofs.Fresh.{Earlier, Fresh}
 use Rattle.tk_top.proofs.Kept.{kept_stands, marks_then, moved, opening_marks, still_first}
-use Rattle.tk_top.proofs.Named.{begins_so, early_of, fills_so, of_kind, same_files}
+use Rattle.tk_top.proofs.Named.{begins_so, early_of, fills_so, of_kind, opened_whole, same_files, unopened_broken}
 use Rattle.tk_top.proofs.Stops.{Closes, stops_run, stops_unopened}
 
 -- ---- ends
@@ -270,6 +270,7 @@ module _ {V O : Type 0} {v : volume.Ghosts V} (g : sink.Ghosts O) (reopens : Fil
     taken = [];
     told = Adds-none (g.taken p);
     silent = λ is. refl;
+    broken = unopened_broken u;
     ends = λ settled first h. record {
       on = on_unbegun lines task end h.1.files first un;
       stops = stops_unopened reopens _ _ _ (v.calls old) (v.calls new) first (early_of u, refl) (u.leaves h.0 settled) (of_kind kind reopens _ first h.1) (λ o r. exits_unbegun reopens packed task end first o un r);
@@ -278,10 +279,11 @@ module _ {V O : Type 0} {v : volume.Ghosts V} (g : sink.Ghosts O) (reopens : Fil
 
   -- recovery ended well, and the task was carried out over the space
   pub managed_run : {S : Type 0} {s : space.Ghosts S} {name : List ℕ} {most : ℕ} {vol w : V} {a t : S} (opens : Files → Contents → Type 0) {end : End} {p q : O} → OpensNamed s v name most vol a → Closes s v t w → ManagesOver s g opens reopens lines packed task end a t p q → FilesManaged v.tells g opens reopens lines packed task end (v.calls vol) (v.calls w) p q
-  managed_run opens {end} o closed run = record {
+  managed_run {S} {s} {name} {most} {vol} {w} opens {end} o closed run = record {
     taken = run.taken;
     told = run.told;
     silent = run.silent;
+    broken = opened_whole o end (v.calls w);
     ends = λ settled first h.
         let r = run.ends first (begins_so o opens first h) in
         record {

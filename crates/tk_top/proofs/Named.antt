@@ -24,11 +24,12 @@ use Rattle.ty_world.specs.World.{Mark}
 use Rattle.ty_rounds.specs.Kept.{StandFor, Reopens}
 use Rattle.ty_rounds.proofs.Telling.{Adds-none}
 use Rattle.tk_top.specs.declared.ends.End.{End}
-use Rattle.tk_top.specs.declared.ends.End.TheVariants.{Done, NoMemory, TurnsSpent}
+use Rattle.tk_top.specs.declared.ends.End.TheVariants.{Done, VolumeFault, NoMemory, TurnsSpent}
 use Rattle.tk_top.specs.Ends.{end_of_undo}
 use Rattle.tk_top.specs.Naming.{EndsUnopened, LeavesOpening, OpensNamed, OpensOver}
-use Rattle.tk_top.specs.Over.{AsOpening, BeginsAt, IsOver, Recover, StandsFor}
+use Rattle.tk_top.specs.Over.{BeginsAt, IsOver, Recover, StandsFor}
 use Rattle.tk_top.specs.Serving.{Begins}
+use Rattle.tk_top.specs.Staying.{AsOpening, BreaksLog, LeavesBroken}
 use Rattle.tk_top.specs.Stops.{IsEarly}
 
 at_moment : (cs : Calls) (ims : Files) → ImagesSince cs (length cs) ims → Images cs ims
@@ -49,6 +50,9 @@ leads_back old new settled moments o left = let x = left_leads old new o settled
 
 some_is : (a b : Files) → Some a ≡ Some b → a ≡ b
 some_is a b e = cc
+
+pub no_files : (old : Calls) (rule : Rule) (files : Files) → undo (now old 1) (now old) ≡ Err rule → recovered (now old) ≡ Some files → ⊥
+no_files old rule files broken is = absurd (let both = sym (ap (λ (r : Result Files Rule). files_of r) broken) ∙ is in cc)
 
 -- ---- it was refused
 
@@ -78,14 +82,14 @@ early_undo undo_err.Fault = tt
 early_undo (undo_err.Broken rule) = tt
 early_undo undo_err.Memory = tt
 
-pub refused_rule : (why : UndoErr) (told : Type 0) (old bound new : Calls) → (told → bound ≡ old) → (told → IsRefused why bound new) → OnRule why (λ rule. told → undo (now old 1) (now old) ≡ Err rule)
+pub refused_rule : (why : UndoErr) (told : Type 0) (old bound new : Calls) → (told → bound ≡ old) → (told → IsRefused why bound new) → OnRule why (λ rule. told → BreaksLog old new rule)
 refused_rule undo_err.Fault told old bound new same refused = tt
-refused_rule (undo_err.Broken rule) told old bound new same refused = λ t. subst (λ (cs : Calls). undo (now cs 1) (now cs) ≡ Err rule) (same t) (refused t).broken.0
+refused_rule (undo_err.Broken rule) told old bound new same refused = λ t. subst (λ (cs : Calls). BreaksLog cs new rule) (same t) (let b = (refused t).broken in record { broken = b.0; only = b.1 })
 refused_rule undo_err.Memory told old bound new same refused = tt
 
 -- there was no memory before any call
 pub ends_unnamed : {V : Type 0} (v : volume.Ghosts V) (name : List ℕ) (vol : V) → EndsUnopened v name NoMemory vol vol
-ends_unnamed v name vol = record { why = undo_err.Memory; is = refl; broken = tt; names = inr (Adds-none (v.names vol)); caused = λ count count'. tt; leaves = λ t settled. unbound_leaves (v.calls vol) (v.calls vol) refl }
+ends_unnamed v name vol = record { why = undo_err.Memory; is = refl; broken = tt; no_memory = λ is. refl; names = inr (Adds-none (v.names vol)); caused = λ count count'. tt; leaves = λ t settled. unbound_leaves (v.calls vol) (v.calls vol) refl }
 
 module _ {V : Type 0} {v : volume.Ghosts V} {name : List ℕ} {end : End} {old new : V} (u : EndsUnopened v name end old new) where
   pub early_of : IsEarly end
@@ -93,6 +97,14 @@ module _ {V : Type 0} {v : volume.Ghosts V} {name : List ℕ} {end : End} {old n
 
   pub not_ended : (end ≢ Done) × (end ≢ TurnsSpent)
   not_ended = (λ is. subst IsEarly is early_of, λ is. subst IsEarly is early_of)
+
+  pub unopened_broken : v.tells → LeavesBroken end (v.calls old) (v.calls new)
+  unopened_broken told = record { stays = λ rule broken. which u.why u.is u.broken u.no_memory }
+    where
+      which : (why : UndoErr) → end ≡ end_of_undo why → OnRule why (λ rule. v.tells → BreaksLog (v.calls old) (v.calls new) rule) → (why ≡ undo_err.Memory → new ≡ old) → (end ≡ VolumeFault) ⊎ ((v.calls new ≡ v.calls old) ⊎ (v.calls new ≡ (1, synced) ∷ v.calls old))
+      which undo_err.Fault is b none = inl is
+      which (undo_err.Broken rule) is b none = inr (inr (b told).only)
+      which undo_err.Memory is b none = inr (inl (ap v.calls (none refl)))
 
 -- ---- it was opened
 
@@ -111,6 +123,10 @@ opens_over s told most old bound ca a names given faults count same kept limits 
 module _ {S V : Type 0} {s : space.Ghosts S} {v : volume.Ghosts V} {name : List ℕ} {most : ℕ} {vol : V} {a : S} (o : OpensNamed s v name most vol a) where
   pub same_files : (files : Files) → v.tells → recovered (now (v.calls vol)) ≡ Some files → files ≡ s.now a
   same_files files t is = some_is files (s.now a) (sym is ∙ (o.over t).files)
+
+  -- over a broken log none is opened
+  pub opened_whole : (end : End) (new : Calls) → v.tells → LeavesBroken end (v.calls vol) new
+  opened_whole end new t = record { stays = λ rule broken. absurd (no_files (v.calls vol) rule (s.now a) broken (o.over t).files) }
 
   pub limits_so : (limit : ℕ → ℕ) → limit ≡ s.limit a → v.tells → (files : Files) → recovered (now (v.calls vol)) ≡ Some files → (f : ℕ) → is_data f ≡ true → limit f ≡ max most (length (files f))
   limits_so limit same t files is f isd = ap (λ (l : ℕ → ℕ). l f) same ∙ (o.over t).limits f isd ∙ ap (λ (fs : Files). max most (length (fs f))) (sym (same_files files t is))

@@ -27,6 +27,7 @@ use Rattle.tk_top.specs.declared.ends.End.{End}
 use Rattle.tk_top.specs.declared.ends.End.TheVariants.{Done, WireFault, TurnsSpent}
 use Rattle.tk_top.specs.Runs.{Ends, FullRun}
 use Rattle.tk_top.specs.Serving.{ServesAt, PlaysAll, RunsOver}
+use Rattle.tk_top.proofs.Events.{had_none}
 use Rattle.tk_top.proofs.Fresh.{Fresh}
 use Rattle.tk_top.proofs.Running.{Known, still_stands}
 
@@ -59,6 +60,7 @@ unserved end turns at opens first es is which other last = record {
     rested = subst IsRested is (refl, refl);
     calls = inl refl;
     marks = subst (λ (w : World). MarksMore w (started opens first)) is (record { more = inl (refl, refl) });
+    within = inr (refl, subst (λ (w : World). w.events ≤ turns) is (omega arith));
   };
   spent = λ e. absurd (last e);
   opens = ⊎_elim (λ e. inl e) (λ e. inr (e, other, last)) which;
@@ -77,6 +79,7 @@ module _ {S B W : Type 0} (s : space.Ghosts S) (g : wire.Ghosts W) (holds : B �
     entries = [];
     told = told;
     opened = inl refl;
+    events = had_none WireFault turns (λ e. absurd cc) (λ e. absurd cc);
     ends = λ first h. record {
       asked = tt;
       serves = unserved WireFault turns at [] first [] refl (inr refl) (λ e. absurd cc) (λ e. absurd cc);
@@ -89,6 +92,7 @@ module _ {S B W : Type 0} (s : space.Ghosts S) (g : wire.Ghosts W) (holds : B �
     entries = Open at ∷ [];
     told = told;
     opened = inr ([], refl, tt);
+    events = had_none WireFault turns (λ e. absurd cc) (λ e. absurd cc);
     ends = λ first h. record {
       asked = (tt, tt);
       serves = unserved WireFault turns at (at ∷ []) first (Open at ∷ []) refl (inl refl) (λ e. absurd cc) (λ e. absurd cc);
@@ -104,6 +108,7 @@ module _ {S B W : Type 0} (s : space.Ghosts S) (g : wire.Ghosts W) (holds : B �
     entries = Open at ∷ ends.entries;
     told = Adds-then (g.transcript x) (g.transcript y) (g.transcript z) (Open at ∷ []) ends.entries told ends.told;
     opened = inr (ends.entries, refl, ends.served);
+    events = ends.events;
     ends = λ first h. let e = ends.ends first h (at ∷ []) in record {
       asked = (tt, e.asked);
       serves = record {
@@ -115,7 +120,7 @@ module _ {S B W : Type 0} (s : space.Ghosts S) (g : wire.Ghosts W) (holds : B �
             let d = all_done ends.entries (at ∷ []) first e.asked e.came shut in
             (shut, (each_answered _ e.replies.0 d.0, each_answered _ e.replies.1 d.1));
         rested = e.rested;
-        last = record { earlier = Open at ∷ e.last.earlier; last = e.last.last; parts = ap (λ (l : List Entry). Open at ∷ l) e.last.parts; rested = e.last.rested; calls = e.last.calls; marks = e.last.marks };
+        last = record { earlier = Open at ∷ e.last.earlier; last = e.last.last; parts = ap (λ (l : List Entry). Open at ∷ l) e.last.parts; rested = e.last.rested; calls = e.last.calls; marks = e.last.marks; within = e.last.within };
         spent = e.spent;
         opens = inl e.opens_are;
       };

@@ -1,5 +1,5 @@
 -- A run, turn by turn.
-use Rattle.std.proofs.Common.{◌≡◌, ◌⊎◌, ◌+◌, ◌≢◌, inl, inr, ⊎_elim, ℕ, true, List, [], ◌∷◌, ◌++◌, map, refl, sym, ap, subst, ◌∙◌, arith}
+use Rattle.std.proofs.Common.{◌≡◌, ◌⊎◌, ◌<◌, ◌+◌, ◌≢◌, inl, inr, ⊎_elim, ℕ, true, List, [], ◌∷◌, ◌++◌, map, refl, sym, ap, subst, ◌∙◌, arith}
 use Rattle.std.specs.Prelude.{Option, Some, None, Result, Ok, Err}
 use Rattle.std.proofs.lemmas.List.{append-nil}
 use Rattle.tc_base.specs.Files.{Files}
@@ -27,6 +27,8 @@ use Rattle.ty_rounds.proofs.Entries.{after_more, asked_more, came_more}
 use Rattle.tk_top.specs.declared.ends.End.{End}
 use Rattle.tk_top.specs.declared.ends.End.TheVariants.{Done, VolumeFault, NoMemory, Full, WireFault, TurnsSpent}
 use Rattle.tk_top.specs.Ends.{IsStopped, end_of_turn}
+use Rattle.tk_top.specs.Events.{events_of}
+use Rattle.tk_top.proofs.Events.{had_all, had_last, turn_events, went_more, went_none}
 use Rattle.tk_top.proofs.Opened.{served_then, turn_served}
 use Rattle.tk_top.specs.Runs.{IsAt, RunsTo, EndsTurn, RunEnds, Ends, FullRun, conns_of}
 use Rattle.tk_top.proofs.Fresh.{Fresh}
@@ -74,6 +76,7 @@ module _ {S B W : Type 0} (s : space.Ghosts S) (g : wire.Ghosts W) (holds : B �
     entries = [];
     told = Adds-none (g.transcript x);
     served = tt;
+    went = went_none;
     plays = Plays-none (g.plays x);
     at = λ first h opens. record {
       asked = tt;
@@ -91,6 +94,7 @@ module _ {S B W : Type 0} (s : space.Ghosts S) (g : wire.Ghosts W) (holds : B �
     entries = run.entries ++ turned.entries;
     told = Adds-then (g.transcript x) (g.transcript y) (g.transcript z) run.entries turned.entries run.told turned.told;
     served = served_then run.entries turned.entries run.served (turn_served (g.conns y) (Ok Went) turned.entries turned.calls);
+    went = went_more (g.conns y) n run.entries turned.entries run.went turned.calls;
     plays = Plays-then (g.plays x) (g.plays y) (g.plays z) run.entries turned.entries run.plays turned.plays;
     at = λ first h opens.
         let w = world_after run.entries (started opens first) in
@@ -108,17 +112,18 @@ module _ {S B W : Type 0} (s : space.Ghosts S) (g : wire.Ghosts W) (holds : B �
   }
 
   -- the last turn, however it ended
-  run_ended : (b base base' : B) (s0 a t : S) (x y z : W) (k k' : Walk) (ps ps' : List Peer) (n turns : ℕ) (res : Result Outcome TurnErr) (end : End) → Wired (g.conns y) ps → RunsTo s g holds reopens b base s0 a x y k ps n → (turned : Turns s g holds reopens res base base' a t y z k k' ps ps')
+  run_ended : (b base base' : B) (s0 a t : S) (x y z : W) (k k' : Walk) (ps ps' : List Peer) (n turns : ℕ) (res : Result Outcome TurnErr) (end : End) → n < turns → Wired (g.conns y) ps → RunsTo s g holds reopens b base s0 a x y k ps n → (turned : Turns s g holds reopens res base base' a t y z k k' ps ps')
       → ((end ≡ Done) ⊎ (end ≡ TurnsSpent) → Plays (g.plays y) (g.plays z) turned.entries)
       → ((conns : List ℕ) → IsTurn conns res turned.entries → EndsTurn end conns turned.entries)
       → ((w v : World) → TurnEnds s reopens res t (Known base' t) (g.given z) k' ps' w v → (o : Option Files) → s.left t (s.moment t) o → Reopens reopens o (mark_of v) ⊎ (IsStopped end × Reopens reopens o (mark_of w)))
       → ((w v : World) → TurnEnds s reopens res t (Known base' t) (g.given z) k' ps' w v → end ≡ Done → (v.shut ≡ true) × IsRested v)
       → end ≢ TurnsSpent
       → Ends s g holds reopens end turns b s0 t x z
-  run_ended b base base' s0 a t x y z k k' ps ps' n turns res end wired run turned plays calls exits done other = record {
+  run_ended b base base' s0 a t x y z k k' ps ps' n turns res end few wired run turned plays calls exits done other = record {
     entries = run.entries ++ turned.entries;
     told = Adds-then (g.transcript x) (g.transcript y) (g.transcript z) run.entries turned.entries run.told turned.told;
     served = served_then run.entries turned.entries run.served (turn_served (g.conns y) res turned.entries turned.calls);
+    events = had_last end turns n (g.conns y) run.entries turned.entries few run.went (turn_events (g.conns y) res turned.entries turned.calls) (calls (g.conns y) turned.calls) other;
     plays = λ e. Plays-then (g.plays x) (g.plays y) (g.plays z) run.entries turned.entries run.plays (plays e);
     ends = λ first h opens.
         let w = world_after run.entries (started opens first) in
@@ -137,6 +142,7 @@ module _ {S B W : Type 0} (s : space.Ghosts S) (g : wire.Ghosts W) (holds : B �
             rested = at.stands.rested;
             calls = inr (calls (conns_of w) (subst (λ (cs : List ℕ). IsTurn cs res turned.entries) conns turned.calls));
             marks = e.marks;
+            within = inl (let n = at.events in omega (arith, n, few));
           };
           exit = exits w (world_after turned.entries w) e.ends;
           moments = moments_more s0 a t w (world_after turned.entries w) at.stands.older at.stands.marked e.marks at.moments e.moments;
@@ -147,25 +153,25 @@ module _ {S B W : Type 0} (s : space.Ghosts S) (g : wire.Ghosts W) (holds : B �
     enough = λ first h acts given p le. other;
   }
 
-  pub run_shut : (b base base' : B) (s0 a t : S) (x y z : W) (k k' : Walk) (ps ps' : List Peer) (n turns : ℕ) → Fresh s t → Wired (g.conns y) ps → RunsTo s g holds reopens b base s0 a x y k ps n → Turns s g holds reopens (Ok Shut) base base' a t y z k k' ps ps' → Ends s g holds reopens Done turns b s0 t x z
-  run_shut b base base' s0 a t x y z k k' ps ps' n turns only wired run turned =
-      run_ended b base base' s0 a t x y z k k' ps ps' n turns (Ok Shut) Done wired run turned (λ i. turned.plays) (λ conns c. c)
+  pub run_shut : (b base base' : B) (s0 a t : S) (x y z : W) (k k' : Walk) (ps ps' : List Peer) (n turns : ℕ) → n < turns → Fresh s t → Wired (g.conns y) ps → RunsTo s g holds reopens b base s0 a x y k ps n → Turns s g holds reopens (Ok Shut) base base' a t y z k k' ps ps' → Ends s g holds reopens Done turns b s0 t x z
+  run_shut b base base' s0 a t x y z k k' ps ps' n turns few only wired run turned =
+      run_ended b base base' s0 a t x y z k k' ps ps' n turns (Ok Shut) Done few wired run turned (λ i. turned.plays) (λ conns c. c)
       (λ w v e o l. inl (still_stands base' t (mark_of v) only e.0.mark o l))
       (λ w v e i. (e.1, e.0.rested))
       (λ i. absurd cc)
 
-  pub run_err : (b base base' : B) (s0 a t : S) (x y z : W) (k k' : Walk) (ps ps' : List Peer) (n turns : ℕ) (e : TurnErr) → Wired (g.conns y) ps → RunsTo s g holds reopens b base s0 a x y k ps n → Turns s g holds reopens (Err e) base base' a t y z k k' ps ps' → Ends s g holds reopens (end_of_turn e) turns b s0 t x z
-  run_err b base base' s0 a t x y z k k' ps ps' n turns turn.Wire wired run turned =
-      run_ended b base base' s0 a t x y z k k' ps ps' n turns (Err turn.Wire) WireFault wired run turned (λ i. absurd (⊎_elim (λ j. cc) (λ j. cc) i)) (λ conns c. c)
+  pub run_err : (b base base' : B) (s0 a t : S) (x y z : W) (k k' : Walk) (ps ps' : List Peer) (n turns : ℕ) (e : TurnErr) → n < turns → Wired (g.conns y) ps → RunsTo s g holds reopens b base s0 a x y k ps n → Turns s g holds reopens (Err e) base base' a t y z k k' ps ps' → Ends s g holds reopens (end_of_turn e) turns b s0 t x z
+  run_err b base base' s0 a t x y z k k' ps ps' n turns turn.Wire few wired run turned =
+      run_ended b base base' s0 a t x y z k k' ps ps' n turns (Err turn.Wire) WireFault few wired run turned (λ i. absurd (⊎_elim (λ j. cc) (λ j. cc) i)) (λ conns c. c)
       (λ w v e o l. inl (e o l)) (λ w v e i. absurd cc) (λ i. absurd cc)
-  run_err b base base' s0 a t x y z k k' ps ps' n turns turn.Volume wired run turned =
-      run_ended b base base' s0 a t x y z k k' ps ps' n turns (Err turn.Volume) VolumeFault wired run turned (λ i. absurd (⊎_elim (λ j. cc) (λ j. cc) i)) (λ conns c. c)
+  run_err b base base' s0 a t x y z k k' ps ps' n turns turn.Volume few wired run turned =
+      run_ended b base base' s0 a t x y z k k' ps ps' n turns (Err turn.Volume) VolumeFault few wired run turned (λ i. absurd (⊎_elim (λ j. cc) (λ j. cc) i)) (λ conns c. c)
       (λ w v e o l. ⊎_elim (λ r. inl r) (λ r. inr (tt, r)) (e o l)) (λ w v e i. absurd cc) (λ i. absurd cc)
-  run_err b base base' s0 a t x y z k k' ps ps' n turns turn.Full wired run turned =
-      run_ended b base base' s0 a t x y z k k' ps ps' n turns (Err turn.Full) Full wired run turned (λ i. absurd (⊎_elim (λ j. cc) (λ j. cc) i)) (λ conns c. c)
+  run_err b base base' s0 a t x y z k k' ps ps' n turns turn.Full few wired run turned =
+      run_ended b base base' s0 a t x y z k k' ps ps' n turns (Err turn.Full) Full few wired run turned (λ i. absurd (⊎_elim (λ j. cc) (λ j. cc) i)) (λ conns c. c)
       (λ w v e o l. ⊎_elim (λ r. inl r) (λ r. inr (tt, r)) (e o l)) (λ w v e i. absurd cc) (λ i. absurd cc)
-  run_err b base base' s0 a t x y z k k' ps ps' n turns turn.Memory wired run turned =
-      run_ended b base base' s0 a t x y z k k' ps ps' n turns (Err turn.Memory) NoMemory wired run turned (λ i. absurd (⊎_elim (λ j. cc) (λ j. cc) i)) (λ conns c. c)
+  run_err b base base' s0 a t x y z k k' ps ps' n turns turn.Memory few wired run turned =
+      run_ended b base base' s0 a t x y z k k' ps ps' n turns (Err turn.Memory) NoMemory few wired run turned (λ i. absurd (⊎_elim (λ j. cc) (λ j. cc) i)) (λ conns c. c)
       (λ w v e o l. ⊎_elim (λ r. inl r) (λ r. inr (tt, r)) (e o l)) (λ w v e i. absurd cc) (λ i. absurd cc)
 
   pub run_spent : (b base : B) (s0 a : S) (x y : W) (k : Walk) (ps : List Peer) (n turns : ℕ) → n ≡ turns → Fresh s a → RunsTo s g holds reopens b base s0 a x y k ps n → Ends s g holds reopens TurnsSpent turns b s0 a x y
@@ -173,13 +179,14 @@ module _ {S B W : Type 0} (s : space.Ghosts S) (g : wire.Ghosts W) (holds : B �
     entries = run.entries;
     told = run.told;
     served = run.served;
+    events = had_all turns n (events_of run.entries) all run.went;
     plays = λ e. run.plays;
     ends = λ first h opens. let at = run.at first h opens in record {
       asked = at.asked;
       came = at.came;
       replies = (hold_fine ps _ at.stands.each, at.stands.past);
       opens_are = at.opens_are;
-      last = record { earlier = run.entries; last = []; parts = sym (append-nil run.entries); rested = at.stands.rested; calls = inl refl; marks = record { more = inl (refl, refl) } };
+      last = record { earlier = run.entries; last = []; parts = sym (append-nil run.entries); rested = at.stands.rested; calls = inl refl; marks = record { more = inl (refl, refl) }; within = inr (refl, (let n = at.events in omega (arith, n, all))) };
       exit = λ o l. inl (still_stands base a (mark_of (world_after run.entries (started opens first))) only at.stands.mark o l);
       moments = at.moments;
       done = λ e. absurd cc;

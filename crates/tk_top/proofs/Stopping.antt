@@ -20,9 +20,10 @@ use Rattle.tk_top.specs.Over.{BeginsAt, FilesRun, FullFiles, Recover}
 use Rattle.tk_top.specs.Runs.{AtExit}
 use Rattle.tk_top.specs.Serving.{Begins, RunsOver}
 use Rattle.tk_top.specs.Stops.{StopsAt}
+use Rattle.tk_top.proofs.Events.{had_none}
 use Rattle.tk_top.proofs.Over.{not_played, unserved}
 use Rattle.tk_top.proofs.Kept.{full_opened}
-use Rattle.tk_top.proofs.Named.{begins_so, fills_so, not_ended, of_kind}
+use Rattle.tk_top.proofs.Named.{begins_so, fills_so, not_ended, of_kind, opened_whole, unopened_broken}
 use Rattle.tk_top.proofs.Stops.{Closes, stops_run, stops_unopened}
 
 -- the run never came to an open space
@@ -31,6 +32,8 @@ files_unopened {V} {W} {v} g kind reopens {name} end turns at {old} {new} x u = 
   entries = [];
   told = Adds-none (g.transcript x);
   opened = inl refl;
+  events = had_none end turns other.0 other.1;
+  broken = unopened_broken u;
   ends = λ settled first h.
       let w = started [] first in
       let stops : (before : Mark) → StopsAt reopens (AtExit reopens end before w) (◌≡◌ {A = List Entry} [] []) (first ∷ []) (v.calls old) (v.calls new) = λ before.
@@ -46,6 +49,8 @@ module _ {S V : Type 0} {s : space.Ghosts S} {v : volume.Ghosts V} {name : List 
     entries = run.entries;
     told = run.told;
     opened = run.opened;
+    events = run.events;
+    broken = opened_whole o end (v.calls w);
     ends = λ settled first h.
         let r = run.ends first (begins_so o opens first h) in
         let last = world_after run.entries (started [] first) in

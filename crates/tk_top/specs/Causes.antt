@@ -15,3 +15,15 @@ Caused NoMemory vol vol' wire wire' = Unit {0}
 Caused Full vol vol' wire wire' = Unit {0}
 Caused WireFault vol vol' wire wire' = Rose wire wire'
 Caused TurnsSpent vol vol' wire wire' = Unit {0}
+
+-- of a space or a volume and of a wire or a sink, which count the faults of their calls
+abbrev pub CausedIn : {S W : Type 0} → (S → ℕ) → (W → ℕ) → End → S → S → W → W → Type 0
+CausedIn faults others end old new x y = Caused end (faults old) (faults new) (others x) (others y)
+
+-- of a space or a volume alone
+abbrev pub CausedByVolume : {S : Type 0} → (S → ℕ) → End → S → S → Type 0
+CausedByVolume faults end old new = (count count' : ℕ) → Caused end (faults old) (faults new) count count'
+
+-- of a wire or a sink alone
+abbrev pub CausedByWire : {W : Type 0} → (W → ℕ) → End → W → W → Type 0
+CausedByWire faults end x y = (count count' : ℕ) → Caused end count count' (faults x) (faults y)

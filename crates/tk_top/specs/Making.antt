@@ -1,8 +1,9 @@
 -- What making a file anew leaves of a volume.
-use Rattle.std.specs.Prelude.{◌≡◌, ℕ, max, true, [], ◌∷◌, length, Option, Some}
+use Rattle.std.specs.Prelude.{◌≡◌, ◌^◌, ℕ, max, true, [], ◌∷◌, length, Option, Some}
 use Rattle.tc_base.specs.Files.{Files}
 use Rattle.tc_base.specs.declared.kind.Rule.{Rule}
 use Rattle.tc_io.specs.Images.{Calls, now}
+use Rattle.tc_io.specs.declared.volume.Volume as volume
 use Rattle.tc_space.specs.declared.space.Space as space
 use Rattle.ud_log.specs.Undo.{is_data, recovered}
 use Rattle.ud_state.specs.State.{IsSettled}
@@ -12,8 +13,9 @@ use Rattle.ty_rounds.specs.Kept.{AtMark, Reopens}
 use Rattle.tk_mgr.specs.Managing.{with_contents}
 use Rattle.tk_top.specs.declared.ends.End.{End}
 use Rattle.tk_top.specs.declared.ends.End.TheVariants.{Done, Words, Refused, VolumeFault, Broken, NoMemory, Full, WireFault, TurnsSpent}
-use Rattle.tk_top.specs.Over.{BeginsAt}
-use Rattle.tk_top.specs.Staying.{StaysAt}
+use Rattle.tk_top.specs.Over.{BeginsAt, BreaksOn}
+use Rattle.tk_top.specs.Serving.{Begins}
+use Rattle.tk_top.specs.Staying.{LeavesBroken, StaysAt}
 use Rattle.tk_top.specs.Stops.{IsEarly, StopsAt, StopsOver}
 
 -- an end of making a file: no wire, and nothing is printed
@@ -28,6 +30,10 @@ JudgedMaking Full empty breaks some = empty
 JudgedMaking WireFault empty breaks some = ⊥
 JudgedMaking TurnsSpent empty breaks some = ⊥
 
+-- the main file isn't empty
+abbrev pub IsThere : Files → Type 0
+IsThere files = files 0 ≡ [] → ⊥
+
 -- the volume reads and recovers to files, and the main file is empty; or it isn't, and they stay
 pub record MainIsEmpty (old : Calls) : Type 0 where
   pub files : Files
@@ -38,7 +44,7 @@ pub record MainIsThere (old new : Calls) : Type 0 where
   pub files : Files
   pub is : recovered (now old) ≡ Some files
   pub some : files 0 ≡ [] → ⊥
-  pub stay : IsSettled old → StaysAt files new
+  pub stay : IsSettled old → StaysAt files old new
 
 -- files that stand for no data, and whose head has these numbers
 pub record IsMade (reopens : Files → Contents → Type 0) (numbers : Files → Type 0) (made : Mark) (o : Option Files) : Type 0 where
@@ -56,8 +62,10 @@ pub record ExitsMaking (reopens : Files → Contents → Type 0) (numbers : File
 abbrev pub MakingOver : {S : Type 0} → space.Ghosts S → (Files → Contents → Type 0) → (Files → Type 0) → Contents → End → S → S → Mark → Type 0
 MakingOver s reopens numbers anew end old new first = StopsOver s reopens (ExitsMaking reopens numbers anew end first) (with_contents first anew ∷ first ∷ []) old new
 
--- over a volume that was settled and whose files, as they read, recovered and reopened to a mark
+-- what making a file leaves of a volume
 pub record FilesMade (tells : Type 0) (opens reopens : Files → Contents → Type 0) (numbers : Files → Type 0) (anew : Contents) (end : End) (old new : Calls) : Type 0 where
+  pub broken : tells → LeavesBroken end old new
+  -- where it was settled, and its files, as they read, recovered and reopened to a mark
   pub ends : IsSettled old → (first : Mark) → BeginsAt tells opens old first → StopsAt reopens (ExitsMaking reopens numbers anew end first) (IsEarly end) (with_contents first anew ∷ first ∷ []) old new
 
 -- a space of this volume that has no room for the file; each of its data files may have so many bytes, or as many as it had where that is more
@@ -66,3 +74,28 @@ pub record FilesLack {S V : Type 0} (s : space.Ghosts S) (under : S → V) (tell
   pub vol_is : under space ≡ vol
   pub limits : tells → (files : Files) → recovered (now old) ≡ Some files → (f : ℕ) → is_data f ≡ true → s.limit space f ≡ max most (length (files f))
   pub lack : tells → lacks space
+
+-- ---- of a space
+
+module _ {S : Type 0} (s : space.Ghosts S) where
+  -- at whichever mark it began
+  abbrev pub MakesOver : (Files → Contents → Type 0) → (Files → Type 0) → Contents → End → S → S → Type 0
+  MakesOver reopens numbers anew end old new = (first : Mark) → Begins s reopens old first → MakingOver s reopens numbers anew end old new first
+
+  -- what it is made in had an empty main file; where it is refused it hadn't, and is left alone; and no rule is named
+  abbrev pub JudgedMakingOver : End → S → S → Type 0
+  JudgedMakingOver end old new = JudgedMaking end (s.tells → s.now old 0 ≡ []) (λ file rule. ⊥) ((s.tells → s.now old 0 ≡ [] → ⊥) × (new ≡ old))
+
+-- ---- of a volume
+
+module _ {V : Type 0} (v : volume.Ghosts V) where
+  abbrev pub MakesOn : (Files → Contents → Type 0) → (Files → Type 0) → Contents → End → V → V → Type 0
+  MakesOn reopens numbers anew end old new = FilesMade v.tells reopens reopens numbers anew end (v.calls old) (v.calls new)
+
+  -- a rule that is named is one of the log
+  abbrev pub JudgedMakingOn : End → V → V → Type 0
+  JudgedMakingOn end old new = JudgedMaking end (v.tells → MainIsEmpty (v.calls old)) (BreaksOn v (λ files f r. ⊥) old new) (v.tells → MainIsThere (v.calls old) (v.calls new))
+
+  -- of files that may have so many bytes as any may
+  abbrev pub LacksOn : {S N : Type 0} → space.Ghosts S → (S → V) → (S → N → Type 0) → N → V → V → Type 0
+  LacksOn s under lacks shape old new = FilesLack s under v.tells (λ space. lacks space shape) (2 ^ 40) (v.calls old) new

@@ -1,5 +1,5 @@
 -- What the naming and opening of a volume leaves of it.
-use Rattle.std.specs.Prelude.{◌≡◌, ◌⊎◌, ◌≤◌, ℕ, max, true, false, List, [], ◌∷◌, length, Option, Some, Err}
+use Rattle.std.specs.Prelude.{◌≡◌, ◌⊎◌, ◌≤◌, ℕ, max, true, false, List, [], ◌∷◌, length, Option, Some}
 use Rattle.tc_base.specs.Files.{Files}
 use Rattle.tc_io.specs.Images.{Calls, now, Images, ImagesSince, IsLostSync}
 use Rattle.tc_io.specs.Told.{Adds}
@@ -7,12 +7,13 @@ use Rattle.tc_io.specs.declared.volume.Volume as volume
 use Rattle.tc_space.specs.declared.space.Space as space
 use Rattle.tc_undo.specs.Errors.{OnRule}
 use Rattle.tc_undo.specs.declared.errors.UndoErr.{UndoErr}
-use Rattle.ud_log.specs.Undo.{is_data, recovered, undo}
+use Rattle.tc_undo.specs.declared.errors.UndoErr.TheVariants as undo_error
+use Rattle.ud_log.specs.Undo.{is_data, recovered}
 use Rattle.ud_state.specs.State.{IsSettled}
 use Rattle.tk_top.specs.declared.ends.End.{End}
-use Rattle.tk_top.specs.Causes.{Caused}
+use Rattle.tk_top.specs.Causes.{CausedByVolume}
 use Rattle.tk_top.specs.Ends.{end_of_undo}
-use Rattle.tk_top.specs.Over.{AsOpening}
+use Rattle.tk_top.specs.Staying.{AsOpening, BreaksLog}
 
 -- a space was opened over a volume that told its calls
 pub record OpensOver {S : Type 0} (s : space.Ghosts S) (most : ℕ) (old : Calls) (a : S) : Type 0 where
@@ -32,6 +33,10 @@ pub record LeavesOpening (old new : Calls) : Type 0 where
   -- at any moment, as an opening image
   pub moments : (ims : Files) → ImagesSince new (length old) ims → AsOpening old (recovered ims)
 
+-- the names that it was given grew by this one, or by nothing
+abbrev pub NamesOnce : {V : Type 0} → volume.Ghosts V → List ℕ → V → V → Type 0
+NamesOnce v name old new = Adds (v.names old) (v.names new) (name ∷ []) ⊎ Adds (v.names old) (v.names new) []
+
 -- a volume was given a name, and a space was opened over it
 pub record OpensNamed {S V : Type 0} (s : space.Ghosts S) (v : volume.Ghosts V) (name : List ℕ) (most : ℕ) (vol : V) (a : S) : Type 0 where
   pub sound : s.sound a
@@ -44,9 +49,10 @@ pub record OpensNamed {S V : Type 0} (s : space.Ghosts S) (v : volume.Ghosts V) 
 pub record EndsUnopened {V : Type 0} (v : volume.Ghosts V) (name : List ℕ) (end : End) (old new : V) : Type 0 where
   pub why : UndoErr
   pub is : end ≡ end_of_undo why
-  -- a rule is named where the log breaks it first
-  pub broken : OnRule why (λ rule. v.tells → undo (now (v.calls old) 1) (now (v.calls old)) ≡ Err rule)
-  -- the names that the volume was given grew by this one, or by nothing
-  pub names : Adds (v.names old) (v.names new) (name ∷ []) ⊎ Adds (v.names old) (v.names new) []
-  pub caused : (count count' : ℕ) → Caused end (v.faults old) (v.faults new) count count'
+  -- a rule is named where the log breaks it first, and then no file was changed
+  pub broken : OnRule why (λ rule. v.tells → BreaksLog (v.calls old) (v.calls new) rule)
+  -- recovery takes no memory
+  pub no_memory : why ≡ undo_error.Memory → new ≡ old
+  pub names : NamesOnce v name old new
+  pub caused : CausedByVolume v.faults end old new
   pub leaves : v.tells → IsSettled (v.calls old) → LeavesOpening (v.calls old) (v.calls new)

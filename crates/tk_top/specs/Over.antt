@@ -1,21 +1,24 @@
 -- What a run over a volume leaves of it.
-use Rattle.std.specs.Prelude.{◌≡◌, ◌⊎◌, ℕ, max, true, false, List, [], length, Option, Some, Err}
+use Rattle.std.specs.Prelude.{◌≡◌, ◌⊎◌, ℕ, max, true, false, List, [], length, Option, Some}
 use Rattle.tc_base.specs.Files.{Files}
+use Rattle.tc_base.specs.declared.kind.Kind.{Kind}
 use Rattle.tc_base.specs.declared.kind.Rule.{Rule}
 use Rattle.tc_io.specs.Images.{Calls, now, Images, ImagesSince, IsLostSync}
 use Rattle.tc_io.specs.Told.{Adds}
 use Rattle.tc_io.specs.declared.act.Act.{Act}
+use Rattle.tc_io.specs.declared.volume.Volume as volume
 use Rattle.tc_io.specs.declared.wire.Wire as wire
 use Rattle.tc_io.specs.declared.wire.At.{At}
 use Rattle.tc_io.specs.declared.wire.Entry.{Entry}
 use Rattle.tc_space.specs.declared.space.Space as space
-use Rattle.ud_log.specs.Undo.{data_of, is_data, undo, recovered}
+use Rattle.ud_log.specs.Undo.{data_of, is_data, recovered}
 use Rattle.ud_state.specs.Since.{LeftSince}
 use Rattle.ud_state.specs.State.{IsSettled}
 use Rattle.tc_model.specs.Contents.{Contents}
 use Rattle.ty_world.specs.World.{World, Mark, mark_of, started, world_after, AllAsked}
 use Rattle.ty_world.specs.Playing.{unplayed}
 use Rattle.ty_base.specs.Holding.{IsReady}
+use Rattle.ty_base.specs.Opening.{CanOpen, OpensTo}
 use Rattle.ty_rounds.specs.Kept.{HoldsMark, Reopens, AtMark}
 use Rattle.ty_rounds.specs.Turns.{Told}
 use Rattle.tk_top.specs.declared.ends.End.{End}
@@ -23,13 +26,8 @@ use Rattle.tk_top.specs.declared.ends.End.TheVariants.{Done, Words, Refused, Vol
 use Rattle.tk_top.specs.Opened.{OpensOnly}
 use Rattle.tk_top.specs.Runs.{AtExit, FullRun}
 use Rattle.tk_top.specs.Serving.{Begins, ServesAt, PlaysAll}
-use Rattle.tk_top.specs.Staying.{FilesStay}
-
--- it is recovered to what an image of the opening volume is recovered to
-pub record AsOpening (opening : Calls) (o : Option Files) : Type 0 where
-  pub image : Files
-  pub is_one : Images opening image
-  pub same : o ≡ recovered image
+use Rattle.tk_top.specs.Events.{HadEvents, events_of}
+use Rattle.tk_top.specs.Staying.{AsOpening, BreaksLog, BreaksOver, FilesStay, LeavesBroken}
 
 -- a run over a volume whose files, as they read, recovered and reopened to this mark. The files as they read are one of the images
 pub record VolumeRun (reopens : Files → Contents → Type 0) (end : End) (turns : ℕ) (at : At) (old new : Calls) (first : Mark) (es : List Entry) (v : World) : Type 0 where
@@ -48,18 +46,21 @@ BeginsAt tells opens old first = tells × Reopens opens (recovered (now old)) fi
 pub record FilesRun {W : Type 0} (tells : Type 0) (g : wire.Ghosts W) (opens reopens : Files → Contents → Type 0) (end : End) (turns : ℕ) (at : At) (old new : Calls) (x y : W) : Type 0 where
   pub entries : List Entry
   pub told : Adds (g.transcript x) (g.transcript y) entries
-  -- whatever the volume tells
+  -- whatever the volume tells, and whatever its files are
   pub opened : OpensOnly at entries
+  pub events : HadEvents end turns (events_of entries)
   pub ends : IsSettled old → (first : Mark) → BeginsAt tells opens old first → VolumeRun reopens end turns at old new first entries (world_after entries (started [] first))
   pub plays : (first : Mark) → BeginsAt tells opens old first → (acts : List Act) (given : ℕ) → g.plays x ≡ Some (unplayed acts given) → PlaysAll turns (g.plays y) end acts given
+  pub broken : tells → LeavesBroken end old new
 
 -- a limit was reached where the files were opened, or in the round of the last event
 pub record FullFiles (tells : Type 0) (fills : Contents → Contents → Type 0) (opens : Contents → Type 0) (start : Mark → Type 0) (a b : Told) : Type 0 where
   pub which : (tells → (c : Contents) × opens c × fills c c) ⊎ FullRun fills start [] a b
 
--- a rule that is broken is one of the log; or it is one of the layout, of what the log makes of the files, and where the main file isn't empty they stay
+-- a rule that is broken is one of the log, and no file was changed; or it is one of the layout, of what the log makes of the files, and where the main file
+-- isn't empty they stay
 pub record BreaksAt (breaks : Files → ℕ → Rule → Type 0) (old new : Calls) (file : ℕ) (rule : Rule) : Type 0 where
-  pub which : ((file ≡ 1) × (undo (now old 1) (now old) ≡ Err rule)) ⊎ ((files : Files) × (recovered (now old) ≡ Some files) × breaks files file rule)
+  pub which : ((file ≡ 1) × BreaksLog old new rule) ⊎ ((files : Files) × (recovered (now old) ≡ Some files) × breaks files file rule)
   pub stays : FilesStay (λ files. files 0 ≡ [] → ⊥) old new
 
 -- these are files, and they may be opened as the contents
@@ -108,3 +109,30 @@ pub record FilesFull {S V : Type 0} (s : space.Ghosts S) (under : S → V) (tell
   pub vol_is : under space ≡ vol
   pub limits : tells → (files : Files) → recovered (now old) ≡ Some files → (f : ℕ) → is_data f ≡ true → s.limit space f ≡ max most (length (files f))
   pub full : FullFiles tells (fills space) (Recover opens (recovered (now old))) (BeginsAt tells opens old) a b
+
+-- ---- of a space
+
+module _ {S : Type 0} (s : space.Ghosts S) where
+  abbrev pub JudgedOver : (Files → Contents → Type 0) → (Kind → Files → ℕ → Rule → Type 0) → Kind → End → S → S → Type 0
+  JudgedOver reopens breaks kind end old new = Judged end (CanOpen s reopens kind old) (BreaksOver s (breaks kind) old new)
+
+  abbrev pub FullOver : {W : Type 0} → wire.Ghosts W → (S → Contents → Contents → Type 0) → (Files → Contents → Type 0) → S → S → W → W → Type 0
+  FullOver g fills opens old new x y = FullFiles s.tells (fills new) (opens (s.now old)) (Begins s opens old) (g.transcript x) (g.transcript y)
+
+-- ---- of a volume
+
+module _ {V : Type 0} (v : volume.Ghosts V) where
+  abbrev pub CanStand : (Files → Contents → Type 0) → V → Type 0
+  CanStand opens old = v.tells → StandsFor opens (v.calls old)
+
+  abbrev pub BreaksOn : (Files → ℕ → Rule → Type 0) → V → V → ℕ → Rule → Type 0
+  BreaksOn breaks old new = λ file rule. v.tells → BreaksAt breaks (v.calls old) (v.calls new) file rule
+
+  abbrev pub JudgedOn : (Files → Contents → Type 0) → (Files → ℕ → Rule → Type 0) → End → V → V → Type 0
+  JudgedOn opens breaks end old new = Judged end (CanStand opens old) (BreaksOn breaks old new)
+
+  abbrev pub RunsOn : {W : Type 0} → wire.Ghosts W → (Files → Contents → Type 0) → Kind → End → ℕ → At → V → V → W → W → Type 0
+  RunsOn g reopens kind end turns at old new x y = FilesRun v.tells g (OpensTo kind reopens) reopens end turns at (v.calls old) (v.calls new) x y
+
+  abbrev pub FullOn : {S W : Type 0} → space.Ghosts S → wire.Ghosts W → (S → V) → (S → Contents → Contents → Type 0) → (Files → Contents → Type 0) → ℕ → V → V → W → W → Type 0
+  FullOn s g under fills opens most old new x y = FilesFull s under v.tells fills opens most (v.calls old) new (g.transcript x) (g.transcript y)

@@ -1,6 +1,7 @@
 -- What a run that serves leaves, of its transcript and of a space.
 use Rattle.std.specs.Prelude.{◌≡◌, ◌⊎◌, ◌≢◌, ◌<◌, ◌+◌, ℕ, true, false, List, [], ◌∷◌, length, Option, Some}
 use Rattle.tc_base.specs.Files.{Files}
+use Rattle.tc_base.specs.declared.kind.Kind.{Kind}
 use Rattle.tc_io.specs.Told.{Adds}
 use Rattle.tc_io.specs.Script.{Script}
 use Rattle.tc_io.specs.declared.act.Act.{Act}
@@ -13,10 +14,12 @@ use Rattle.ty_world.specs.World.{World, Mark, mark_of, started, world_after, All
 use Rattle.ty_world.specs.Answers.{AllSpelled, AllAnswered, AreInOrder}
 use Rattle.ty_world.specs.Measure.{requests_in}
 use Rattle.ty_world.specs.Playing.{unplayed}
-use Rattle.ty_rounds.specs.Kept.{StandFor, LeavesMarks}
+use Rattle.ty_base.specs.Opening.{OpensTo}
+use Rattle.ty_rounds.specs.Kept.{HoldsMark, StandFor, LeavesMarks}
 use Rattle.ty_rounds.specs.Holding.{IsFine}
 use Rattle.tk_top.specs.declared.ends.End.{End}
 use Rattle.tk_top.specs.declared.ends.End.TheVariants.{Done, TurnsSpent}
+use Rattle.tk_top.specs.Events.{HadEvents, events_of}
 use Rattle.tk_top.specs.Opened.{OpensOnly}
 use Rattle.tk_top.specs.Runs.{IsLast, AtExit}
 
@@ -33,7 +36,7 @@ pub record ServesAt (end : End) (turns : ℕ) (at : At) (first : Mark) (es : Lis
   -- each connection was sent all or its last send took not all, and none that is over is left open
   pub rested : (end ≡ Done) ⊎ (end ≡ TurnsSpent) → IsRested v
   -- however it ended, this holds before the last turn
-  pub last : IsLast end [] first es v
+  pub last : IsLast end turns [] first es v
   -- no event was the last, and there were as many as there are turns
   pub spent : end ≡ TurnsSpent → (v.shut ≡ false) × (v.events ≡ turns)
   -- this address was opened once, or the run didn't come to it
@@ -56,9 +59,19 @@ pub record RunsOver {S W : Type 0} (s : space.Ghosts S) (g : wire.Ghosts W) (reo
   pub entries : List Entry
   pub told : Adds (g.transcript x) (g.transcript y) entries
   pub opened : OpensOnly at entries
+  pub events : HadEvents end turns (events_of entries)
   pub ends : (first : Mark) → start first → SpaceRun s reopens end turns at old new first entries (world_after entries (started [] first))
   pub plays : (first : Mark) → start first → (acts : List Act) (given : ℕ) → g.plays x ≡ Some (unplayed acts given) → PlaysAll turns (g.plays y) end acts given
 
 -- a space whose files are told, and stand for a mark
 abbrev pub Begins : {S : Type 0} → space.Ghosts S → (Files → Contents → Type 0) → S → Mark → Type 0
 Begins s opens space m = s.tells × StandFor opens (s.now space) m
+
+module _ {S W : Type 0} (s : space.Ghosts S) (g : wire.Ghosts W) (reopens : Files → Contents → Type 0) where
+  -- of a database that is held
+  abbrev pub RunsHeld : {B : Type 0} → (B → Files → Contents → Type 0) → B → End → ℕ → At → S → S → W → W → Type 0
+  RunsHeld holds base end turns at old new x y = RunsOver s g reopens end turns at old new x y (HoldsMark s holds reopens base old)
+
+  -- of files that are opened as this kind
+  abbrev pub RunsOpened : Kind → End → ℕ → At → S → S → W → W → Type 0
+  RunsOpened kind end turns at old new x y = RunsOver s g reopens end turns at old new x y (Begins s (OpensTo kind reopens) old)

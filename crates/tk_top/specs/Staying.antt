@@ -1,11 +1,11 @@
 -- Files that a run leaves as they are, and ends at which nothing is printed.
-use Rattle.std.specs.Prelude.{◌≡◌, ◌⊎◌, ℕ, List, [], Some}
+use Rattle.std.specs.Prelude.{◌≡◌, ◌⊎◌, ℕ, [], ◌∷◌, length, Option, Some, Err}
 use Rattle.tc_base.specs.Files.{Files}
 use Rattle.tc_base.specs.declared.kind.Rule.{Rule}
-use Rattle.tc_io.specs.Images.{Calls, now, Images}
+use Rattle.tc_io.specs.Images.{Calls, synced, now, Images, ImagesSince}
 use Rattle.tc_space.specs.Frames.{OnlyReads}
 use Rattle.tc_space.specs.declared.space.Space as space
-use Rattle.ud_log.specs.Undo.{recovered}
+use Rattle.ud_log.specs.Undo.{recovered, undo}
 use Rattle.ud_state.specs.State.{IsSettled}
 use Rattle.tk_top.specs.declared.ends.End.{End}
 use Rattle.tk_top.specs.declared.ends.End.TheVariants.{Done, Words, Refused, VolumeFault, Broken, NoMemory, Full, WireFault, TurnsSpent}
@@ -23,20 +23,36 @@ IsSilent WireFault = ⊥
 IsSilent TurnsSpent = ⊥
 
 -- a call of the volume failed, or there was no memory
-abbrev pub IsStopped : End → Type 0
-IsStopped Done = ⊥
-IsStopped Words = ⊥
-IsStopped Refused = ⊥
-IsStopped VolumeFault = Unit {0}
-IsStopped (Broken file rule) = ⊥
-IsStopped NoMemory = Unit {0}
-IsStopped Full = ⊥
-IsStopped WireFault = ⊥
-IsStopped TurnsSpent = ⊥
+abbrev pub IsHindered : End → Type 0
+IsHindered Done = ⊥
+IsHindered Words = ⊥
+IsHindered Refused = ⊥
+IsHindered VolumeFault = Unit {0}
+IsHindered (Broken file rule) = ⊥
+IsHindered NoMemory = Unit {0}
+IsHindered Full = ⊥
+IsHindered WireFault = ⊥
+IsHindered TurnsSpent = ⊥
 
--- at the exit each image recovers to these files
-abbrev pub StaysAt : Files → Calls → Type 0
-StaysAt files new = (ims : Files) → Images new ims → recovered ims ≡ Some files
+-- it is recovered to what an image of the opening volume is recovered to
+pub record AsOpening (opening : Calls) (o : Option Files) : Type 0 where
+  pub image : Files
+  pub is_one : Images opening image
+  pub same : o ≡ recovered image
+
+-- these files are looked at, and no more: at the exit each image recovers to them, and at any moment each is as an opening image
+pub record StaysAt (files : Files) (old new : Calls) : Type 0 where
+  pub exit : (ims : Files) → Images new ims → recovered ims ≡ Some files
+  pub moments : (ims : Files) → ImagesSince new (length old) ims → AsOpening old (recovered ims)
+
+-- a rule of the log is broken, and no file was changed: nothing was called but the sync of the log that recovery begins with
+pub record BreaksLog (old new : Calls) (rule : Rule) : Type 0 where
+  pub broken : undo (now old 1) (now old) ≡ Err rule
+  pub only : new ≡ (1, synced) ∷ old
+
+-- over a volume whose log breaks a rule nothing was called but that sync, or a call of the volume failed
+pub record LeavesBroken (end : End) (old new : Calls) : Type 0 where
+  pub stays : (rule : Rule) → undo (now old 1) (now old) ≡ Err rule → (end ≡ VolumeFault) ⊎ ((new ≡ old) ⊎ (new ≡ (1, synced) ∷ old))
 
 -- of a space: a rule of the layout is broken, and where the main file isn't empty nothing was written
 pub record BreaksOver {S : Type 0} (s : space.Ghosts S) (breaks : Files → ℕ → Rule → Type 0) (old new : S) (file : ℕ) (rule : Rule) : Type 0 where
@@ -45,4 +61,4 @@ pub record BreaksOver {S : Type 0} (s : space.Ghosts S) (breaks : Files → ℕ 
 
 -- the volume was settled, and what its files, as they read, recover to stays where this holds of it
 pub record FilesStay (which : Files → Type 0) (old new : Calls) : Type 0 where
-  pub stay : IsSettled old → (files : Files) → recovered (now old) ≡ Some files → which files → StaysAt files new
+  pub stay : IsSettled old → (files : Files) → recovered (now old) ≡ Some files → which files → StaysAt files old new

@@ -1,15 +1,16 @@
 -- What a stop leaves of a command on files.
-use Rattle.std.specs.Prelude.{◌⊎◌, length, List, Option}
+use Rattle.std.specs.Prelude.{◌≡◌, ◌⊎◌, length, List, Option, Some}
 use Rattle.tc_base.specs.Files.{Files}
-use Rattle.tc_io.specs.Images.{Calls, Images, ImagesSince, IsLostSync}
+use Rattle.tc_io.specs.Images.{Calls, now, Images, ImagesSince, IsLostSync}
 use Rattle.tc_space.specs.declared.space.Space as space
 use Rattle.ud_log.specs.Undo.{recovered}
+use Rattle.ud_state.specs.State.{IsSettled}
 use Rattle.tc_model.specs.Contents.{Contents}
 use Rattle.ty_world.specs.World.{Mark}
 use Rattle.ty_rounds.specs.Kept.{AtMark, LeavesMarks}
 use Rattle.tk_top.specs.declared.ends.End.{End}
 use Rattle.tk_top.specs.declared.ends.End.TheVariants.{Done, Words, Refused, VolumeFault, Broken, NoMemory, Full, WireFault, TurnsSpent}
-use Rattle.tk_top.specs.Over.{AsOpening}
+use Rattle.tk_top.specs.Staying.{AsOpening, IsHindered}
 
 -- an end that may come before the files were recovered
 abbrev pub IsEarly : End → Type 0
@@ -27,6 +28,14 @@ IsEarly TurnsSpent = ⊥
 pub record StopsOver {S : Type 0} (s : space.Ghosts S) (reopens : Files → Contents → Type 0) (exits : Option Files → Type 0) (marks : List Mark) (old new : S) : Type 0 where
   pub exit : (o : Option Files) → s.left new (s.moment new) o → exits o
   pub moments : LeavesMarks s reopens old new marks
+
+-- over a volume whose files, as they read, are refused: the run is, if no call failed before and there was memory, and they stay
+pub record LeavesAlone (wrong : Files → Type 0) (end : End) (old new : Calls) : Type 0 where
+  pub ends : (files : Files) → recovered (now old) ≡ Some files → wrong files → (end ≡ Refused) ⊎ IsHindered end
+  -- at the exit, however it ended; where it ended before the log was brought to the disk, as an opening image
+  pub stays : IsSettled old → (files : Files) → recovered (now old) ≡ Some files → wrong files → (ims : Files) → Images new ims → (recovered ims ≡ Some files) ⊎ (IsEarly end × IsLostSync old new 1 × AsOpening old (recovered ims))
+  -- at any moment, as an opening image
+  pub moments : IsSettled old → (files : Files) → recovered (now old) ≡ Some files → wrong files → (ims : Files) → ImagesSince new (length old) ims → AsOpening old (recovered ims)
 
 -- over a volume
 pub record StopsAt (reopens : Files → Contents → Type 0) (exits : Option Files → Type 0) (early : Type 0) (marks : List Mark) (old new : Calls) : Type 0 where

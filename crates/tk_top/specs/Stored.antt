@@ -12,8 +12,8 @@ use Rattle.tc_hashdb.specs.Filling.{FillsWith}
 use Rattle.tc_hashdb.specs.Holding as hash
 use Rattle.tc_hashdb.specs.Informing as hash_lines
 use Rattle.tc_hashdb.specs.Shapes as hash_shape
-use Rattle.tc_ids.specs.Holding as fixed
-use Rattle.tc_ids.specs.Shapes as fixed_shape
+use Rattle.tc_fixeddb.specs.Holding as fixed
+use Rattle.tc_fixeddb.specs.Shapes as fixed_shape
 use Rattle.tk_top.specs.declared.words.Shape.{Shape}
 use Rattle.tk_top.specs.declared.words.Shape.TheVariants as shapes
 use Rattle.tk_top.specs.declared.words.Stored.{Stored}

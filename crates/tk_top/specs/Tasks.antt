@@ -1,16 +1,19 @@
 -- What a command on files leaves of them, and of what it prints to.
-use Rattle.std.specs.Prelude.{◌≡◌, ◌≢◌, ◌⊎◌, ℕ, max, Bool, true, false, List, [], length, Option, Some, Result, Ok, Err}
+use Rattle.std.specs.Prelude.{◌≡◌, ◌≢◌, ◌⊎◌, ◌^◌, ℕ, max, Bool, true, false, List, [], length, Option, Some, Result, Ok, Err}
 use Rattle.tc_base.specs.Files.{Files}
 use Rattle.tc_base.specs.declared.kind.Form.{Form}
+use Rattle.tc_base.specs.declared.kind.Kind.{Kind}
 use Rattle.tc_base.specs.declared.kind.Rule.{Rule}
 use Rattle.tc_io.specs.Images.{Calls, now}
 use Rattle.tc_io.specs.Told.{Adds}
 use Rattle.tc_io.specs.declared.sink.Sink as sink
+use Rattle.tc_io.specs.declared.volume.Volume as volume
 use Rattle.tc_space.specs.declared.space.Space as space
 use Rattle.ud_log.specs.Undo.{is_data, recovered}
 use Rattle.ud_state.specs.State.{IsSettled}
 use Rattle.tc_model.specs.Contents.{Contents}
 use Rattle.ty_world.specs.World.{Mark}
+use Rattle.ty_base.specs.Opening.{CanOpen, OpensTo}
 use Rattle.ty_rounds.specs.Kept.{AtMark, Reopens}
 use Rattle.tk_mgr.specs.Managing.{ArePacked, FillsTask, IsFrontOf, last_mark, marks_of, packing, writes_files}
 use Rattle.tk_mgr.specs.Tasks.{Prints, ok_of}
@@ -20,9 +23,9 @@ use Rattle.tk_mgr.specs.declared.task.Task.{Task}
 use Rattle.tk_mgr.specs.declared.task.Task.TheVariants.{Drill}
 use Rattle.tk_top.specs.declared.ends.End.{End}
 use Rattle.tk_top.specs.declared.ends.End.TheVariants.{Done, Words, Refused, VolumeFault, Broken, NoMemory, Full, WireFault, TurnsSpent}
-use Rattle.tk_top.specs.Over.{BeginsAt, Recover}
+use Rattle.tk_top.specs.Over.{BeginsAt, BreaksOn, CanStand, Recover}
 use Rattle.tk_top.specs.Serving.{Begins}
-use Rattle.tk_top.specs.Staying.{FilesStay, IsSilent, IsStopped}
+use Rattle.tk_top.specs.Staying.{BreaksOver, IsSilent, LeavesBroken}
 use Rattle.tk_top.specs.Stops.{IsEarly, StopsAt, StopsOver}
 
 -- ---- which files a task is for
@@ -116,12 +119,8 @@ pub record FilesManaged {O : Type 0} (tells : Type 0) (g : sink.Ghosts O) (opens
   pub taken : List ℕ
   pub told : Adds (g.taken p) (g.taken q) taken
   pub silent : IsSilent end → taken ≡ []
+  pub broken : tells → LeavesBroken end old new
   pub ends : IsSettled old → (first : Mark) (b : BeginsAt tells opens old first) → TaskRun reopens lines packed task end b.1.files old new taken first
-
--- a main file that isn't as the task wants it: the run is refused, if no call failed before and there was memory, and the files stay
-pub record Misplaces (task : Task) (end : End) (old new : Calls) : Type 0 where
-  pub ends : (files : Files) → recovered (now old) ≡ Some files → IsMisplaced task files → (end ≡ Refused) ⊎ IsStopped end
-  pub stays : FilesStay (λ files. IsMisplaced task files × (end ≡ Refused)) old new
 
 -- why a task was refused over a space
 pub record ReasonOver {S : Type 0} (s : space.Ghosts S) (opens : Files → Contents → Type 0) (task : Task) (old : S) : Type 0 where
@@ -142,3 +141,29 @@ pub record FilesFullTask {S V : Type 0} (s : space.Ghosts S) (under : S → V) (
   pub vol_is : under space ≡ vol
   pub limits : tells → (files : Files) → recovered (now old) ≡ Some files → (f : ℕ) → is_data f ≡ true → s.limit space f ≡ max most (length (files f))
   pub full : FullTask tells (fills space) (Recover opens (recovered (now old))) (BeginsAt tells opens old) task
+
+-- ---- of a space
+
+module _ {S : Type 0} (s : space.Ghosts S) (reopens : Files → Contents → Type 0) where
+  -- of files that are opened as this kind
+  abbrev pub ManagesAs : {O : Type 0} → sink.Ghosts O → (Files → List ℕ → Type 0) → (Form → Files → Type 0) → Kind → Task → End → S → S → O → O → Type 0
+  ManagesAs g lines packed kind task end old new p q = ManagesOver s g (OpensTo kind reopens) reopens lines packed task end old new p q
+
+  abbrev pub JudgedTaskOver : (Kind → Files → ℕ → Rule → Type 0) → Kind → Task → End → S → S → Type 0
+  JudgedTaskOver breaks kind task end old new = JudgedTask end (CanOpen s reopens kind old) (BreaksOver s (breaks kind) old new) (ReasonOver s (OpensTo kind reopens) task old)
+
+  abbrev pub FullTaskOver : (S → Contents → Contents → Type 0) → Kind → Task → S → S → Type 0
+  FullTaskOver fills kind task old new = FullTask s.tells (fills new) (OpensTo kind reopens (s.now old)) (Begins s (OpensTo kind reopens) old) task
+
+-- ---- of a volume
+
+module _ {V : Type 0} (v : volume.Ghosts V) where
+  abbrev pub ManagesOn : {O : Type 0} → sink.Ghosts O → (Files → Contents → Type 0) → (Files → List ℕ → Type 0) → (Form → Files → Type 0) → Kind → Task → End → V → V → O → O → Type 0
+  ManagesOn g reopens lines packed kind task end old new p q = FilesManaged v.tells g (OpensTo kind reopens) reopens lines packed task end (v.calls old) (v.calls new) p q
+
+  abbrev pub JudgedTaskOn : (Files → Contents → Type 0) → (Files → ℕ → Rule → Type 0) → Task → End → V → V → Type 0
+  JudgedTaskOn opens breaks task end old new = JudgedTask end (CanStand v opens old) (BreaksOn v breaks old new) (v.tells → RefusedAt opens task (v.calls old))
+
+  -- of files that may have so many bytes as any may
+  abbrev pub FullTaskOn : {S : Type 0} → space.Ghosts S → (S → V) → (S → Contents → Contents → Type 0) → (Files → Contents → Type 0) → Task → V → V → Type 0
+  FullTaskOn s under fills opens task old new = FilesFullTask s under v.tells fills opens task (2 ^ 40) (v.calls old) new

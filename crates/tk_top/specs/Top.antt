@@ -1,5 +1,5 @@
 -- What the top call leaves.
-use Rattle.std.specs.Prelude.{◌≡◌, ◌⊎◌, ◌<◌, ◌≤◌, ◌-◌, ◌^◌, ℕ, max, min, true, false, List, [], ◌∷◌, length, Option, Some, None}
+use Rattle.std.specs.Prelude.{◌≡◌, ◌⊎◌, ◌<◌, ◌≤◌, ◌-◌, ◌^◌, ℕ, max, min, true, false, List, [], length, Option, Some, None}
 use Rattle.tc_base.specs.Files.{Files}
 use Rattle.tc_base.specs.declared.kind.Kind.{Kind}
 use Rattle.tc_base.specs.declared.kind.Kind.TheVariants.{MemHash, MemTree}
@@ -25,12 +25,14 @@ use Rattle.tk_words.specs.Words.{Word}
 use Rattle.tk_top.specs.declared.ends.End.{End}
 use Rattle.tk_top.specs.declared.ends.End.TheVariants.{Done, Words, Refused, VolumeFault, Broken, NoMemory, Full, WireFault, TurnsSpent}
 use Rattle.tk_top.specs.Ends.{line_of}
-use Rattle.tk_top.specs.Causes.{Caused}
-use Rattle.tk_top.specs.Making.{FilesMade, JudgedMaking, MainIsEmpty, MainIsThere}
-use Rattle.tk_top.specs.Over.{BeginsAt, BreaksAt, FilesRun, FullFiles, Judged, Recover, StandsFor}
+use Rattle.tk_top.specs.Causes.{CausedIn, CausedByVolume, CausedByWire}
+use Rattle.tk_top.specs.Making.{IsThere, JudgedMakingOn, MakesOn}
+use Rattle.tk_top.specs.Naming.{NamesOnce}
+use Rattle.tk_top.specs.Over.{BeginsAt, CanStand, FullFiles, JudgedOn, Recover, RunsOn}
 use Rattle.tk_top.specs.Serving.{ServesAt, PlaysAll}
 use Rattle.tk_top.specs.Stored.{anew_of, breaks_of, fills_of, kind_in, lacks_of, lines_in, numbers_of, packed_in, reopens_of, stored_as}
-use Rattle.tk_top.specs.Tasks.{FilesManaged, FullTask, JudgedTask, Misplaces, RefusedAt}
+use Rattle.tk_top.specs.Stops.{LeavesAlone}
+use Rattle.tk_top.specs.Tasks.{FullTask, IsMisplaced, JudgedTaskOn, ManagesOn}
 use Rattle.tk_top.specs.Words.{asked_of}
 use Rattle.tk_top.specs.declared.words.Asked.{Asked}
 use Rattle.tk_top.specs.declared.words.Asked.TheVariants as asked
@@ -86,14 +88,15 @@ pub record IsFull {V : Type 0} (v : volume.Ghosts V) (stored : Stored) (most : �
 
 -- a run that serves the database that the files of a name keep, at an address
 pub record FileRun {V W : Type 0} (v : volume.Ghosts V) (g : wire.Ghosts W) (end : End) (name : List ℕ) (stored : Stored) (limit : ℕ) (at : At) (turns : ℕ) (vol vol' : V) (x y : W) : Type 0 where
-  -- the names that the volume was given grew by this one, or by nothing
-  pub names : Adds (v.names vol) (v.names vol') (name ∷ []) ⊎ Adds (v.names vol) (v.names vol') []
+  pub names : NamesOnce v name vol vol'
   -- what came of the wire, and what any stop leaves of a volume that was settled and whose files stood for contents
-  pub told : FilesRun v.tells g (Opens stored) (reopens_of stored) end turns at (v.calls vol) (v.calls vol') x y
+  pub told : RunsOn v g (reopens_of stored) (kind_in stored) end turns at vol vol' x y
   -- where it was served, the files stood for contents; and where a rule is named, it is the first that is broken
-  pub judged : Judged end (v.tells → StandsFor (Opens stored) (v.calls vol)) (λ file rule. v.tells → BreaksAt (breaks_of stored) (v.calls vol) (v.calls vol') file rule)
+  pub judged : JudgedOn v (Opens stored) (breaks_of stored) end vol vol'
+  -- however it ended, the wire was used only where they did
+  pub begun : (y ≡ x) ⊎ CanStand v (Opens stored) vol
   pub full : end ≡ Full → IsFull v stored limit vol vol' (g.transcript x) (g.transcript y)
-  pub caused : Caused end (v.faults vol) (v.faults vol') (g.faults x) (g.faults y)
+  pub caused : CausedIn v.faults g.faults end vol vol' x y
 
 -- a run that serves what it is asked to; with a database in memory the volume is left alone, and no limit of a file is above 2 ^ 40 bytes
 abbrev pub SourceRun : {V W : Type 0} → volume.Ghosts V → wire.Ghosts W → End → Source → At → ℕ → V → V → W → W → Type 0
@@ -111,14 +114,17 @@ pub record IsFullTask {V : Type 0} (v : volume.Ghosts V) (stored : Stored) (task
 
 -- a run that carries out a task on the files of a name
 pub record TaskOnFiles {V O : Type 0} (v : volume.Ghosts V) (o : sink.Ghosts O) (end : End) (name : List ℕ) (stored : Stored) (task : Task) (vol vol' : V) (p q : O) : Type 0 where
-  pub names : Adds (v.names vol) (v.names vol') (name ∷ []) ⊎ Adds (v.names vol) (v.names vol') []
+  pub names : NamesOnce v name vol vol'
   -- what was printed, and what any stop leaves of a volume that was settled and whose files stood for contents
-  pub told : FilesManaged v.tells o (Opens stored) (reopens_of stored) (lines_in stored) (packed_in stored) task end (v.calls vol) (v.calls vol') p q
+  pub told : ManagesOn v o (reopens_of stored) (lines_in stored) (packed_in stored) (kind_in stored) task end vol vol' p q
   -- where it was carried out, the files stood for contents; where it was refused, for a reason; and where a rule is named, it is the first that is broken
-  pub judged : JudgedTask end (v.tells → StandsFor (Opens stored) (v.calls vol)) (λ file rule. v.tells → BreaksAt (breaks_of stored) (v.calls vol) (v.calls vol') file rule) (v.tells → RefusedAt (Opens stored) task (v.calls vol))
-  pub misplaced : v.tells → Misplaces task end (v.calls vol) (v.calls vol')
+  pub judged : JudgedTaskOn v (Opens stored) (breaks_of stored) task end vol vol'
+  -- however it ended, something was printed only where they did
+  pub begun : (q ≡ p) ⊎ CanStand v (Opens stored) vol
+  -- a main file that isn't as the task wants it is looked at, and no more
+  pub misplaced : v.tells → LeavesAlone (IsMisplaced task) end (v.calls vol) (v.calls vol')
   pub full : end ≡ Full → IsFullTask v stored task vol vol'
-  pub caused : Caused end (v.faults vol) (v.faults vol') (o.faults p) (o.faults q)
+  pub caused : CausedIn v.faults o.faults end vol vol' p q
 
 -- there was no room for a file made anew
 pub record IsLacking {V : Type 0} (v : volume.Ghosts V) (shape : Shape) (vol vol' : V) : Type 0 where
@@ -128,13 +134,15 @@ pub record IsLacking {V : Type 0} (v : volume.Ghosts V) (shape : Shape) (vol vol
 
 -- a run that makes the files of a name anew
 pub record MakesFiles {V : Type 0} (v : volume.Ghosts V) (end : End) (name : List ℕ) (shape : Shape) (vol vol' : V) : Type 0 where
-  pub names : Adds (v.names vol) (v.names vol') (name ∷ []) ⊎ Adds (v.names vol) (v.names vol') []
+  pub names : NamesOnce v name vol vol'
   -- what any stop leaves of a volume that was settled and whose files stood for contents
-  pub made : FilesMade v.tells (reopens_of (stored_as shape)) (reopens_of (stored_as shape)) (numbers_of shape) (anew_of shape) end (v.calls vol) (v.calls vol')
+  pub made : MakesOn v (reopens_of (stored_as shape)) (numbers_of shape) (anew_of shape) end vol vol'
   -- where it was made, the main file was empty; where it was refused, it wasn't; and where a rule is named, it is one of the log
-  pub judged : JudgedMaking end (v.tells → MainIsEmpty (v.calls vol)) (λ file rule. v.tells → BreaksAt (λ files f r. ⊥) (v.calls vol) (v.calls vol') file rule) (v.tells → MainIsThere (v.calls vol) (v.calls vol'))
+  pub judged : JudgedMakingOn v end vol vol'
+  -- a main file that is there is looked at, and no more
+  pub there : v.tells → LeavesAlone IsThere end (v.calls vol) (v.calls vol')
   pub full : end ≡ Full → IsLacking v shape vol vol'
-  pub caused : (count count' : ℕ) → Caused end (v.faults vol) (v.faults vol') count count'
+  pub caused : CausedByVolume v.faults end vol vol'
 
 -- an end of a drill in memory
 abbrev pub IsDrilled : End → Type 0
@@ -155,7 +163,7 @@ pub record DrillsMemory {O : Type 0} (o : sink.Ghosts O) (end : End) (memory : M
   pub told : Adds (o.taken p) (o.taken q) taken
   pub front : IsPrefix taken (text_of (tasks.Drill seed count) (no_keys memory).contents)
   pub done : end ≡ Done → taken ≡ text_of (tasks.Drill seed count) (no_keys memory).contents
-  pub caused : (count count' : ℕ) → Caused end count count' (o.faults p) (o.faults q)
+  pub caused : CausedByWire o.faults end p q
 
 -- ---- what is asked for
 
@@ -167,8 +175,8 @@ AskedRun v g o end (asked.Create name shape) vol vol' x y p q = MakesFiles v end
 AskedRun v g o end (asked.Drill memory seed count) vol vol' x y p q = DrillsMemory o end memory seed count p q × ((y ≡ x) × (vol' ≡ vol))
 
 -- a fault comes only of the volume, of the wire, or of the sink that is printed to
-abbrev pub CausedBy : End → ℕ → ℕ → ℕ → ℕ → ℕ → ℕ → Type 0
-CausedBy end vol vol' wire wire' out out' = Caused end vol vol' wire wire' ⊎ Caused end vol vol' out out'
+abbrev pub CausedBy : {V W O : Type 0} → (V → ℕ) → (W → ℕ) → (O → ℕ) → End → V → V → W → W → O → O → Type 0
+CausedBy vols wires sinks end vol vol' x y p q = CausedIn vols wires end vol vol' x y ⊎ CausedIn vols sinks end vol vol' p q
 
 -- a run where this is asked for, or nothing that is carried out
 pub record RunsAsked {V W O : Type 0} (v : volume.Ghosts V) (g : wire.Ghosts W) (o : sink.Ghosts O) (want : Option Asked) (end : End) (vol vol' : V) (x y : W) (p q : O) : Type 0 where
@@ -177,7 +185,7 @@ pub record RunsAsked {V W O : Type 0} (v : volume.Ghosts V) (g : wire.Ghosts W) 
   pub words : end ≡ Words → want ≡ None
   pub refused : want ≡ None → (end ≡ Words) ⊎ (end ≡ NoMemory)
   pub unserved : want ≡ None → (y ≡ x) × ((vol' ≡ vol) × (q ≡ p))
-  pub caused : CausedBy end (v.faults vol) (v.faults vol') (g.faults x) (g.faults y) (o.faults p) (o.faults q)
+  pub caused : CausedBy v.faults g.faults o.faults end vol vol' x y p q
 
 -- a run on these words
 pub record Runs {V W O E : Type 0} (v : volume.Ghosts V) (g : wire.Ghosts W) (o : sink.Ghosts O) (e : sink.Ghosts E) (ws : List Word) (end : End) (vol vol' : V) (x y : W) (p q : O) (r s : E) : Type 0 where

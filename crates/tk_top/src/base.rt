@@ -1,13 +1,12 @@
 //! A database that was opened, served.
 ghost use Rattle.std.specs.Prelude.{◌≡◌, ◌≤◌, false, []};
-ghost use Rattle.tc_space.specs.Effects.{Follows};
+ghost use Rattle.tc_space.specs.Frames.{Follows};
 ghost use Rattle.ty_base.specs.Holding.{IsReady};
-ghost use Rattle.ty_rounds.specs.Kept.{HoldsMark};
 ghost use Rattle.tk_top.specs.declared.ends.End.TheVariants.{Full};
-ghost use Rattle.tk_top.specs.Causes.{Caused};
 ghost use Rattle.tk_top.specs.Ends.{IsEnd};
-ghost use Rattle.tk_top.specs.Runs.{FullRun};
-ghost use Rattle.tk_top.specs.Serving.{RunsOver};
+ghost use Rattle.tk_top.specs.Causes.{CausedIn};
+ghost use Rattle.tk_top.specs.Serving.{RunsHeld};
+ghost use Rattle.tk_top.specs.Runs.{FullRunOf};
 
 use crate::ends::End;
 use crate::serving::serve;
@@ -32,11 +31,11 @@ pub fn serve_base<B: Base + Drop, W: Wire, K: Clock>(
     requires opened { W.opened wire.old ≡ false }
     requires ready { IsReady B.S.Space B.holds base space.old }
     requires untouched { B.S.touched space.old ≡ false }
-    ensures told { RunsOver B.S.Space W.Wire B.reopens result turns at.now space.old space.new wire.old wire.new (HoldsMark B.S.Space B.holds B.reopens base space.old) }
-    ensures full { result ≡ Full → FullRun (B.fills space.new) (HoldsMark B.S.Space B.holds B.reopens base space.old) [] (W.transcript wire.old) (W.transcript wire.new) }
-    ensures follows { Follows B.S.faults B.S.limit B.S.names space.old space.new }
+    ensures told { RunsHeld B.S.Space W.Wire B.reopens B.holds base result turns at.now space.old space.new wire.old wire.new }
+    ensures full { result ≡ Full → FullRunOf B.S.Space W.Wire B.holds B.reopens B.fills [] base space.old space.new wire.old wire.new }
+    ensures follows { Follows B.S.Space space.old space.new }
     ensures later_wire { W.faults wire.old ≤ W.faults wire.new }
-    ensures caused { Caused result (B.S.faults space.old) (B.S.faults space.new) (W.faults wire.old) (W.faults wire.new) }
+    ensures caused { CausedIn B.S.faults W.faults result space.old space.new wire.old wire.new }
     ensures ends { IsEnd result }
 {
     match wire.open(at) {

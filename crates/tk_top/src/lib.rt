@@ -1,5 +1,5 @@
 //! The program's work.
-#![tactic(auto, using(tc_space::specs::Effects::follows_then, tc_space::specs::Effects::follows_refl))]
+#![tactic(auto, using(tc_space::specs::Frames::follows_then, tc_space::specs::Frames::follows_refl))]
 
 mod base;
 mod ends;

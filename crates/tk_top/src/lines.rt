@@ -1,5 +1,5 @@
 //! The line that says how a run ended.
-ghost use Rattle.std.specs.Prelude.{◌≡◌, [], OnOk};
+ghost use Rattle.std.specs.Prelude.{◌≡◌, OnOk};
 ghost use Rattle.tc_io.specs.Causes.{HasCause};
 ghost use Rattle.tc_io.specs.Told.{Adds};
 ghost use Rattle.tk_top.specs.declared.ends.End.TheVariants.{Done as is_done};

@@ -1,25 +1,22 @@
 //! A task on a database in files.
-ghost use Rattle.std.specs.Prelude.{◌≡◌, ◌≤◌, ◌⊎◌, ◌^◌, ◌∷◌, [], ℕ, List, length, false, IsTrue, IsFalse};
+ghost use Rattle.std.specs.Prelude.{◌≡◌, ◌⊎◌, ◌≤◌, ℕ, List, length, false, IsTrue, IsFalse};
 ghost use Rattle.tc_io.specs.Images.{now};
-ghost use Rattle.tc_io.specs.Told.{Adds};
-ghost use Rattle.tc_space.specs.Effects.{Follows};
-ghost use Rattle.tc_model.specs.Contents.{Contents};
-ghost use Rattle.ty_base.specs.Opening.{OpensTo};
+ghost use Rattle.tc_space.specs.Frames.{Follows};
+ghost use Rattle.ty_base.specs.Opening.{CanOpen, OpensTo};
 ghost use Rattle.tk_top.specs.declared.ends.End.TheVariants.{Full, Refused};
-ghost use Rattle.tk_top.specs.Causes.{Caused};
-ghost use Rattle.tk_top.specs.Over.{BreaksAt, StandsFor};
-ghost use Rattle.tk_top.specs.Staying.{BreaksOver};
-ghost use Rattle.tk_top.specs.Serving.{Begins};
-ghost use Rattle.tk_top.specs.Tasks.{FilesFullTask, FilesManaged, FullTask, IsMisplaced, JudgedTask, ManagesOver, Misplaces, ReasonOver, RefusedAt, end_of_task, is_refused_by, wants_empty};
+ghost use Rattle.tk_top.specs.Tasks.{FullTaskOn, FullTaskOver, IsMisplaced, JudgedTaskOn, JudgedTaskOver, ManagesAs, ManagesOn, end_of_task, is_refused_by, wants_empty};
+ghost use Rattle.tk_top.specs.Causes.{CausedIn};
+ghost use Rattle.tk_top.specs.Over.{CanStand};
+ghost use Rattle.tk_top.specs.Stops.{LeavesAlone};
+ghost use Rattle.tk_top.specs.Naming.{NamesOnce};
 
 use crate::ends::{End, Stopped};
 use crate::files::open_kept;
 use crate::naming::open_named;
 use crate::volumes::OnVolume;
-use crate::words::MOST;
 use std::alloc::Global;
 use std::mem::ManuallyDrop;
-use tc_base::Kind;
+use tc_base::{FILE_MOST, Kind};
 use tc_io::Sink;
 use tc_space::Space;
 use tk_mgr::{MgrErr, Task, manage};
@@ -63,7 +60,7 @@ fn is_placed(empty: bool, len: u64) -> bool
 }
 
 /// Carries out a task on the database that the files of a space keep. The task is refused where the main file isn't as it wants it.
-pub fn manage_opened<B: Opens + Drop, O: Sink>(
+pub fn manage_opened<B: Base + Opens + Drop, O: Sink>(
     alloc: Global,
     kind: Kind,
     task: Task,
@@ -72,14 +69,15 @@ pub fn manage_opened<B: Opens + Drop, O: Sink>(
 ) -> End
     requires sound { B.S.sound space.old }
     requires untouched { B.S.touched space.old ≡ false }
-    ensures told { ManagesOver B.S.Space O.Sink (OpensTo kind B.reopens) B.reopens B.lines B.packed task result space.old space.new out.old out.new }
-    ensures judged { JudgedTask result (B.S.tells → (c : Contents) × OpensTo kind B.reopens (B.S.now space.old) c) (BreaksOver B.S.Space (B.breaks kind) space.old space.new) (ReasonOver B.S.Space (OpensTo kind B.reopens) task space.old) }
+    ensures told { ManagesAs B.S.Space B.reopens O.Sink B.lines B.packed kind task result space.old space.new out.old out.new }
+    ensures judged { JudgedTaskOver B.S.Space B.reopens B.breaks kind task result space.old space.new }
+    ensures begun { (out.new ≡ out.old) ⊎ CanOpen B.S.Space B.reopens kind space.old }
     // A main file that isn't as the task wants it is looked at, and no more.
     ensures misplaced { B.S.tells → IsMisplaced task (B.S.now space.old) → (result ≡ Refused) × (space.new ≡ space.old) }
-    ensures full { result ≡ Full → FullTask B.S.tells (B.fills space.new) (OpensTo kind B.reopens (B.S.now space.old)) (Begins B.S.Space (OpensTo kind B.reopens) space.old) task }
-    ensures follows { Follows B.S.faults B.S.limit B.S.names space.old space.new }
+    ensures full { result ≡ Full → FullTaskOver B.S.Space B.reopens B.fills kind task space.old space.new }
+    ensures follows { Follows B.S.Space space.old space.new }
     ensures later_sink { O.faults out.old ≤ O.faults out.new }
-    ensures caused { Caused result (B.S.faults space.old) (B.S.faults space.new) (O.faults out.old) (O.faults out.new) }
+    ensures caused { CausedIn B.S.faults O.faults result space.old space.new out.old out.new }
 {
     if !is_placed(wants_empty(&task), space.len(0)) {
         return End::Refused;
@@ -94,7 +92,7 @@ pub fn manage_opened<B: Opens + Drop, O: Sink>(
 }
 
 /// Carries out a task on the database that the files of a volume keep under a name.
-pub fn manage_files<S: OnVolume, B: Opens<S = S> + Drop, O: Sink>(
+pub fn manage_files<S: OnVolume, B: Base + Opens<S = S> + Drop, O: Sink>(
     alloc: Global,
     name: &str,
     kind: Kind,
@@ -102,17 +100,18 @@ pub fn manage_files<S: OnVolume, B: Opens<S = S> + Drop, O: Sink>(
     task: Task,
     out: &mut O,
 ) -> Stopped<S::V>
-    // The names that `bind` was given grew by this one, or by nothing.
-    ensures names { Adds (S.V.names vol) (S.V.names result.vol) (name.now ∷ []) ⊎ Adds (S.V.names vol) (S.V.names result.vol) [] }
+    ensures names { NamesOnce S.V.Volume name.now vol result.vol }
     // What was printed, and what any stop leaves of a volume that was settled and whose files stood for contents.
-    ensures told { FilesManaged S.V.tells O.Sink (OpensTo kind B.reopens) B.reopens B.lines B.packed task result.end (S.V.calls vol) (S.V.calls result.vol) out.old out.new }
+    ensures told { ManagesOn S.V.Volume O.Sink B.reopens B.lines B.packed kind task result.end vol result.vol out.old out.new }
     // Where it was carried out, the files stood for contents; where it was refused, for a reason; and where a rule is named, it is broken.
-    ensures judged { JudgedTask result.end (S.V.tells → StandsFor (OpensTo kind B.reopens) (S.V.calls vol)) (λ file rule. S.V.tells → BreaksAt (B.breaks kind) (S.V.calls vol) (S.V.calls result.vol) file rule) (S.V.tells → RefusedAt (OpensTo kind B.reopens) task (S.V.calls vol)) }
-    ensures misplaced { S.V.tells → Misplaces task result.end (S.V.calls vol) (S.V.calls result.vol) }
-    ensures full { result.end ≡ Full → FilesFullTask S.Space S.under S.V.tells B.fills (OpensTo kind B.reopens) task (2 ^ 40) (S.V.calls vol) result.vol }
-    ensures caused { Caused result.end (S.V.faults vol) (S.V.faults result.vol) (O.faults out.old) (O.faults out.new) }
+    ensures judged { JudgedTaskOn S.V.Volume (OpensTo kind B.reopens) (B.breaks kind) task result.end vol result.vol }
+    // However it ended, something was printed only where they did.
+    ensures begun { (out.new ≡ out.old) ⊎ CanStand S.V.Volume (OpensTo kind B.reopens) vol }
+    ensures misplaced { S.V.tells → LeavesAlone (IsMisplaced task) result.end (S.V.calls vol) (S.V.calls result.vol) }
+    ensures full { result.end ≡ Full → FullTaskOn S.V.Volume S.Space S.under B.fills (OpensTo kind B.reopens) task vol result.vol }
+    ensures caused { CausedIn S.V.faults O.faults result.end vol result.vol out.old out.new }
 {
-    let mut space = match open_named::<S>(name, vol, MOST) {
+    let mut space = match open_named::<S>(name, vol, FILE_MOST) {
         Ok(space) => space,
         Err(stopped) => return stopped,
     };

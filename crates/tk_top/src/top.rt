@@ -1,13 +1,13 @@
 //! The top call.
-ghost use Rattle.std.specs.Prelude.{◌≡◌, ◌≤◌, ◌^◌, ℕ, Some, false};
-ghost use Rattle.tc_mem.specs.Engines.{contents_in};
+ghost use Rattle.std.specs.Prelude.{◌≡◌, ◌≤◌, ◌^◌, Some, false};
+ghost use Rattle.tc_memdb.specs.Engines.{contents_in};
 ghost use Rattle.ty_answers.specs.Engines.{engine_of};
 ghost use Rattle.tk_words.specs.Words.{texts};
 ghost use Rattle.tk_top.specs.declared.ends.End.{End};
-ghost use Rattle.tk_top.specs.Causes.{Caused};
 ghost use Rattle.tk_top.specs.Ends.{status_of};
 ghost use Rattle.tk_top.specs.Top.{AskedRun, CausedBy, DrillsMemory, FileRun, MakesFiles, MemoryRun, Runs, RunsAsked, SourceRun, TaskOnFiles, no_keys};
 ghost use Rattle.tk_top.specs.Words.{Fits, MayBeMade, asked_in, asked_of};
+ghost use Rattle.tk_top.specs.Causes.{CausedByWire, CausedIn};
 
 use crate::base::serve_base;
 use crate::ends::{End, Stopped};
@@ -15,18 +15,18 @@ use crate::files::run_files;
 use crate::lines::put_line;
 use crate::making::make_files;
 use crate::managing::{end_of, manage_files};
-use crate::words::{Asked, MOST, Memory, Shape, Source, Stored, what_is_asked};
+use crate::words::{Asked, Memory, Shape, Source, Stored, what_is_asked};
 use std::alloc::Global;
 use std::mem::ManuallyDrop;
-use tc_base::Kind;
+use tc_base::{FILE_MOST, Kind};
+use tc_fixeddb::FixedEngine;
 use tc_hashdb::HashEngine;
-use tc_ids::FixedEngine;
 use tc_io::{At, Clock, Sink, Volume, Wire};
-use tc_mem::MemEngine;
+use tc_memdb::MemEngine;
 use tc_space::NoSpace;
 use tc_undo::Undo;
 use tk_mgr::{Task, manage};
-use tk_words::{Order, parse};
+use tk_words::{CommandLine, parse};
 use ty_answers::Database;
 
 /// The status, and the volume.
@@ -58,7 +58,7 @@ fn serve_memory<W: Wire, K: Clock>(
 ) -> End
     requires opened { W.opened wire.old ≡ false }
     ensures served { MemoryRun W.Wire result memory at.now turns wire.old wire.new }
-    ensures caused { (count count' : ℕ) → Caused result count count' (W.faults wire.old) (W.faults wire.new) }
+    ensures caused { CausedByWire W.faults result wire.old wire.new }
 {
     let mut space = NoSpace::new();
     serve_base(
@@ -126,7 +126,7 @@ fn serve_source<V: Volume, W: Wire, K: Clock>(
 ) -> Stopped<V>
     requires opened { W.opened wire.old ≡ false }
     ensures served { SourceRun V.Volume W.Wire result.end source.now at.now turns vol result.vol wire.old wire.new }
-    ensures caused { Caused result.end (V.faults vol) (V.faults result.vol) (W.faults wire.old) (W.faults wire.new) }
+    ensures caused { CausedIn V.faults W.faults result.end vol result.vol wire.old wire.new }
 {
     match source {
         Source::Memory(memory) => Stopped {
@@ -142,7 +142,7 @@ fn serve_source<V: Volume, W: Wire, K: Clock>(
             name.as_str(),
             *stored,
             vol,
-            (*limit).min(MOST),
+            (*limit).min(FILE_MOST),
             at,
             wire,
             clock,
@@ -226,7 +226,7 @@ fn carry_out<V: Volume, W: Wire, O: Sink, K: Clock>(
     requires opened { W.opened wire.old ≡ false }
     requires fits { Fits asked }
     ensures run { AskedRun V.Volume W.Wire O.Sink result.end asked vol result.vol wire.old wire.new out.old out.new }
-    ensures caused { CausedBy result.end (V.faults vol) (V.faults result.vol) (W.faults wire.old) (W.faults wire.new) (O.faults out.old) (O.faults out.new) }
+    ensures caused { CausedBy V.faults W.faults O.faults result.end vol result.vol wire.old wire.new out.old out.new }
 {
     match asked {
         Asked::Serve { source, at, turns } => {
@@ -250,7 +250,7 @@ fn carry_out<V: Volume, W: Wire, O: Sink, K: Clock>(
 // What an order asks for.
 fn follow<V: Volume, W: Wire, O: Sink, K: Clock>(
     alloc: Global,
-    order: Order,
+    order: CommandLine,
     vol: V,
     wire: &mut W,
     out: &mut O,

@@ -3,7 +3,7 @@ use Rattle.std.proofs.Common.{◌≡◌, refl, [], ◌∷◌, Some, None, true, 
 use Rattle.std.specs.Prelude.{codes}
 use Rattle.tc_base.specs.Decimal.{decimal}
 use Rattle.tc_base.specs.declared.kind.Kind.TheVariants.{Hash, Tree, Fixed, Table}
-use Rattle.tk_words.specs.declared.order.Order.TheVariants as order
+use Rattle.tk_words.specs.declared.order.CommandLine.TheVariants as order
 use Rattle.tk_words.specs.declared.order.PutWord.TheVariants.{Over, Cat, Dup}
 use Rattle.tk_words.specs.Options.{options_of}
 use Rattle.tk_words.specs.Commands.{order_of}

@@ -4,8 +4,8 @@ use Rattle.tc_base.specs.declared.kind.Kind.{Kind}
 use Rattle.tc_base.specs.declared.kind.Kind.TheVariants.{Hash, Tree, Fixed, Table}
 use Rattle.tk_words.specs.declared.numbers.Range.{Range}
 use Rattle.tk_words.specs.declared.options.Takes.TheVariants.{Nothing, Text, Number, Index, Sort}
-use Rattle.tk_words.specs.declared.order.Order.{Order}
-use Rattle.tk_words.specs.declared.order.Order.TheVariants as order
+use Rattle.tk_words.specs.declared.order.CommandLine.{CommandLine}
+use Rattle.tk_words.specs.declared.order.CommandLine.TheVariants as order
 use Rattle.tk_words.specs.declared.order.PutWord.{PutWord}
 use Rattle.tk_words.specs.declared.order.PutWord.TheVariants.{Over, Keep, Cat, Dup}
 use Rattle.tk_words.specs.Words.{Word, ◌>>=◌, only_if, or_else, is_word, front, is_end, lone}
@@ -17,13 +17,13 @@ use Rattle.tk_words.specs.Options.{Opt, Choices, has, text_of, number_of, code_o
 pub record Command : Type 0 where
   pub word : Word
   pub options : List Opt
-  pub build : Choices → List Word → Option Order
+  pub build : Choices → List Word → Option CommandLine
 
 -- options, and then what the words behind them make
-abbrev pub order_by : Command → List Word → Option Order
+abbrev pub order_by : Command → List Word → Option CommandLine
 order_by c ws = options_of c.options ws >>= λ r. c.build r.0 r.1
 
-abbrev pub pick : List Command → Word → List Word → Option Order
+abbrev pub pick : List Command → Word → List Word → Option CommandLine
 pick [] w ws = None
 pick (c ∷ cs) w ws = if is_word w c.word then order_by c ws else pick cs w ws
 
@@ -38,7 +38,7 @@ abbrev pub next : Range → ℕ → List Word → Option (ℕ × List Word)
 next range default [] = Some (default, [])
 next range default (w ∷ ws) = number range w >>= λ n. Some (n, ws)
 
-abbrev pub ended : List Word → Order → Option Order
+abbrev pub ended : List Word → CommandLine → Option CommandLine
 ended ws o = only_if (is_end ws) o
 
 -- ---- serving
@@ -64,7 +64,7 @@ serves g name =
     (if has g (codes "-mhost") then has g (codes "-mport") && has g (codes "-ulog") else not (has g (codes "-mport")))
     && not (has g (codes "-ulog") && is_memory name)
 
-abbrev pub serve_order : Choices → Word → Order
+abbrev pub serve_order : Choices → Word → CommandLine
 serve_order g name =
     order.Serve
     name
@@ -100,19 +100,19 @@ create_options Fixed = []
 create_options _ = (codes "-tl", Nothing) ∷ []
 
 -- a hash file, or that of a table's rows
-abbrev pub map_of : Kind → Bool → Word → List Word → Option Order
+abbrev pub map_of : Kind → Bool → Word → List Word → Option CommandLine
 map_of kind large name ws =
     next buckets_range 131071 ws >>= λ b. next alignment_range 4 b.1 >>= λ a. next pool_range 10 a.1 >>= λ f. ended f.1 (order.Create kind name b.0 a.0 f.0 false 0 0 0 0 large)
 
-abbrev pub tree_of : Bool → Bool → Word → List Word → Option Order
+abbrev pub tree_of : Bool → Bool → Word → List Word → Option CommandLine
 tree_of decimal large name ws =
     next members_range 128 ws >>= λ l. next members_range 256 l.1 >>= λ n. next buckets_range 32749 n.1 >>= λ b. next alignment_range 8 b.1 >>= λ a. next pool_range 10 a.1 >>= λ f.
     ended f.1 (order.Create Tree name b.0 a.0 f.0 decimal l.0 n.0 0 0 large)
 
-abbrev pub fixed_of : Word → List Word → Option Order
+abbrev pub fixed_of : Word → List Word → Option CommandLine
 fixed_of name ws = next width_range 255 ws >>= λ w. next size_range 268435456 w.1 >>= λ l. ended l.1 (order.Create Fixed name 0 0 0 false 0 0 w.0 l.0 false)
 
-abbrev pub create_order : Kind → Choices → Word → List Word → Option Order
+abbrev pub create_order : Kind → Choices → Word → List Word → Option CommandLine
 create_order Tree g name ws = tree_of (has g (codes "-cd")) (large g) name ws
 create_order Fixed g name ws = fixed_of name ws
 create_order kind g name ws = map_of kind (large g) name ws
@@ -193,7 +193,7 @@ are_conditions _ = false
 abbrev pub search_options : List Opt
 search_options = (codes "-ord", Sort) ∷ (codes "-m", Number answers_range) ∷ (codes "-sk", Number answers_range) ∷ (codes "-pv", Nothing) ∷ (codes "-rm", Nothing) ∷ []
 
-abbrev pub search_order : Choices → Word → List Word → Order
+abbrev pub search_order : Choices → Word → List Word → CommandLine
 search_order g name ws =
     order.Search
     name
@@ -230,9 +230,9 @@ kind_of w =
     else (if is_word w (codes "tree") then Some Tree else (if is_word w (codes "fixed") then Some Fixed else (if is_word w (codes "table") then Some Table else None)))
 
 -- a command of a kind has its own word behind the kind's
-abbrev pub order_under : Option Kind → Word → List Word → Option Order
+abbrev pub order_under : Option Kind → Word → List Word → Option CommandLine
 order_under (Some kind) w ws = front ws >>= λ c. pick (kind_commands kind) c.0 c.1
 order_under None w ws = pick own_commands w ws
 
-unfoldable pub order_of : List Word → Option Order
+unfoldable pub order_of : List Word → Option CommandLine
 order_of ws = front ws >>= λ w. order_under (kind_of w.0) w.0 w.1

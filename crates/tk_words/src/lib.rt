@@ -12,5 +12,5 @@ mod serving;
 mod tables;
 mod words;
 
-pub use order::{DbName, Order, PutWord};
+pub use order::{CommandLine, DbName, PutWord};
 pub use parsing::parse;

@@ -9,10 +9,10 @@ ghost use Rattle.tk_words.specs.Seen.{Gives, choices, seen};
 use crate::names::name_first;
 use crate::numbers::{Range, number_in};
 use crate::options::{Options, Takes, options_first};
-use crate::order::{DbName, Order};
+use crate::order::{CommandLine, DbName};
 use crate::words::{are_done, first};
 use std::alloc::{AllocError, Global};
-use tc_base::Kind;
+use tc_base::{FILE_LIMIT_LEAST, FILE_MOST, Kind, WIDTH_MOST};
 
 const BUCKETS: Range = Range {
     least: 1,
@@ -31,13 +31,13 @@ const MEMBERS: Range = Range {
 
 const WIDTHS: Range = Range {
     least: 1,
-    most: 1_048_576,
+    most: WIDTH_MOST as u64,
 };
 
 // In bytes.
 const SIZES: Range = Range {
-    least: 512,
-    most: 1_099_511_627_776,
+    least: FILE_LIMIT_LEAST,
+    most: FILE_MOST,
 };
 
 // A number that may be left out with all that is behind it, and the words behind it.
@@ -61,7 +61,7 @@ fn map(
     large: bool,
     name: &str,
     words: &[String],
-) -> Result<Option<Order>, AllocError>
+) -> Result<Option<CommandLine>, AllocError>
     ensures { IfOk result (λ o. o ≡ map_of kind large name.now (texts words.now)) }
 {
     let Some((bnum, rest)) = number_first(BUCKETS, 131_071, words) else {
@@ -76,7 +76,7 @@ fn map(
     if !are_done(rest) {
         return Ok(None);
     }
-    Ok(Some(Order::Create {
+    Ok(Some(CommandLine::Create {
         kind,
         name: DbName::of(alloc, name)?,
         bnum,
@@ -97,7 +97,7 @@ fn tree(
     large: bool,
     name: &str,
     words: &[String],
-) -> Result<Option<Order>, AllocError>
+) -> Result<Option<CommandLine>, AllocError>
     ensures { IfOk result (λ o. o ≡ tree_of decimal large name.now (texts words.now)) }
 {
     let Some((lmemb, rest)) = number_first(MEMBERS, 128, words) else {
@@ -118,7 +118,7 @@ fn tree(
     if !are_done(rest) {
         return Ok(None);
     }
-    Ok(Some(Order::Create {
+    Ok(Some(CommandLine::Create {
         kind: Kind::Tree,
         name: DbName::of(alloc, name)?,
         bnum,
@@ -133,7 +133,7 @@ fn tree(
     }))
 }
 
-fn fixed(alloc: Global, name: &str, words: &[String]) -> Result<Option<Order>, AllocError>
+fn fixed(alloc: Global, name: &str, words: &[String]) -> Result<Option<CommandLine>, AllocError>
     ensures { IfOk result (λ o. o ≡ fixed_of name.now (texts words.now)) }
 {
     let Some((width, rest)) = number_first(WIDTHS, 255, words) else {
@@ -145,7 +145,7 @@ fn fixed(alloc: Global, name: &str, words: &[String]) -> Result<Option<Order>, A
     if !are_done(rest) {
         return Ok(None);
     }
-    Ok(Some(Order::Create {
+    Ok(Some(CommandLine::Create {
         kind: Kind::Fixed,
         name: DbName::of(alloc, name)?,
         bnum: 0,
@@ -166,7 +166,7 @@ fn made(
     options: &Options,
     name: &str,
     words: &[String],
-) -> Result<Option<Order>, AllocError>
+) -> Result<Option<CommandLine>, AllocError>
     ensures { IfOk result (λ o. o ≡ create_order kind (choices options.now.taken.items) name.now (texts words.now)) }
 {
     let large = options.has("-tl");
@@ -206,7 +206,7 @@ pub(crate) fn create(
     alloc: Global,
     kind: Kind,
     words: &[String],
-) -> Result<Option<Order>, AllocError>
+) -> Result<Option<CommandLine>, AllocError>
     ensures { IfOk result (λ o. o ≡ order_by (command.create kind) (texts words.now)) }
 {
     let Some(options) = options_of_kind(alloc, kind, words)? else {

@@ -10,7 +10,7 @@ ghost use Rattle.tk_words.specs.Seen.{Gives, choices, seen};
 use crate::names::name_first;
 use crate::numbers::ANY;
 use crate::options::{Options, Takes, options_first};
-use crate::order::{DbName, Order, PutWord};
+use crate::order::{CommandLine, DbName, PutWord};
 use crate::tables::{ANSWERS, maximum};
 use crate::words::{are_done, copies, first, only};
 use std::alloc::{AllocError, Global};
@@ -20,7 +20,7 @@ pub(crate) fn inform(
     alloc: Global,
     kind: Kind,
     words: &[String],
-) -> Result<Option<Order>, AllocError>
+) -> Result<Option<CommandLine>, AllocError>
     ensures { IfOk result (λ o. o ≡ order_by (command.inform kind) (texts words.now)) }
 {
     let Some(options) = options_first(alloc, &[], words)? else {
@@ -32,7 +32,7 @@ pub(crate) fn inform(
     if !are_done(rest) {
         return Ok(None);
     }
-    Ok(Some(Order::Inform {
+    Ok(Some(CommandLine::Inform {
         kind,
         name: DbName::of(alloc, name)?,
     }))
@@ -93,7 +93,11 @@ fn can_be_put(kind: Kind, words: &[String]) -> bool
     }
 }
 
-pub(crate) fn put(alloc: Global, kind: Kind, words: &[String]) -> Result<Option<Order>, AllocError>
+pub(crate) fn put(
+    alloc: Global,
+    kind: Kind,
+    words: &[String],
+) -> Result<Option<CommandLine>, AllocError>
     ensures { IfOk result (λ o. o ≡ order_by (command.put kind) (texts words.now)) }
 {
     let Some(options) = put_options(alloc, kind, words)? else {
@@ -108,7 +112,7 @@ pub(crate) fn put(alloc: Global, kind: Kind, words: &[String]) -> Result<Option<
     if !options.at_most_one() || !can_be_put(kind, values) {
         return Ok(None);
     }
-    Ok(Some(Order::Put {
+    Ok(Some(CommandLine::Put {
         kind,
         name: DbName::of(alloc, name)?,
         word: word_of(&options),
@@ -117,7 +121,11 @@ pub(crate) fn put(alloc: Global, kind: Kind, words: &[String]) -> Result<Option<
     }))
 }
 
-pub(crate) fn out(alloc: Global, kind: Kind, words: &[String]) -> Result<Option<Order>, AllocError>
+pub(crate) fn out(
+    alloc: Global,
+    kind: Kind,
+    words: &[String],
+) -> Result<Option<CommandLine>, AllocError>
     ensures { IfOk result (λ o. o ≡ order_by (command.out kind) (texts words.now)) }
 {
     let Some(options) = options_first(alloc, &[], words)? else {
@@ -129,14 +137,18 @@ pub(crate) fn out(alloc: Global, kind: Kind, words: &[String]) -> Result<Option<
     let Some(key) = only(rest) else {
         return Ok(None)
     };
-    Ok(Some(Order::Out {
+    Ok(Some(CommandLine::Out {
         kind,
         name: DbName::of(alloc, name)?,
         key: Blob::from_slice(alloc, key.as_bytes())?,
     }))
 }
 
-pub(crate) fn get(alloc: Global, kind: Kind, words: &[String]) -> Result<Option<Order>, AllocError>
+pub(crate) fn get(
+    alloc: Global,
+    kind: Kind,
+    words: &[String],
+) -> Result<Option<CommandLine>, AllocError>
     ensures { IfOk result (λ o. o ≡ order_by (command.get kind) (texts words.now)) }
 {
     let Some(options) = options_first(alloc, &[], words)? else {
@@ -148,14 +160,18 @@ pub(crate) fn get(alloc: Global, kind: Kind, words: &[String]) -> Result<Option<
     let Some(key) = only(rest) else {
         return Ok(None)
     };
-    Ok(Some(Order::Get {
+    Ok(Some(CommandLine::Get {
         kind,
         name: DbName::of(alloc, name)?,
         key: Blob::from_slice(alloc, key.as_bytes())?,
     }))
 }
 
-pub(crate) fn list(alloc: Global, kind: Kind, words: &[String]) -> Result<Option<Order>, AllocError>
+pub(crate) fn list(
+    alloc: Global,
+    kind: Kind,
+    words: &[String],
+) -> Result<Option<CommandLine>, AllocError>
     ensures { IfOk result (λ o. o ≡ order_by (command.list kind) (texts words.now)) }
 {
     let table = [("-m", Takes::Number(ANSWERS)), ("-pv", Takes::Nothing)];
@@ -168,7 +184,7 @@ pub(crate) fn list(alloc: Global, kind: Kind, words: &[String]) -> Result<Option
     if !are_done(rest) {
         return Ok(None);
     }
-    Ok(Some(Order::List {
+    Ok(Some(CommandLine::List {
         kind,
         name: DbName::of(alloc, name)?,
         maximum: maximum(&options),
@@ -199,7 +215,7 @@ pub(crate) fn optimize(
     alloc: Global,
     kind: Kind,
     words: &[String],
-) -> Result<Option<Order>, AllocError>
+) -> Result<Option<CommandLine>, AllocError>
     ensures { IfOk result (λ o. o ≡ order_by (command.optimize kind) (texts words.now)) }
 {
     let Some(options) = optimize_options(alloc, kind, words)? else {
@@ -211,7 +227,7 @@ pub(crate) fn optimize(
     if !are_done(rest) {
         return Ok(None);
     }
-    Ok(Some(Order::Optimize {
+    Ok(Some(CommandLine::Optimize {
         kind,
         name: DbName::of(alloc, name)?,
         large: options.has("-tl"),
@@ -222,7 +238,7 @@ pub(crate) fn restore(
     alloc: Global,
     kind: Kind,
     words: &[String],
-) -> Result<Option<Order>, AllocError>
+) -> Result<Option<CommandLine>, AllocError>
     ensures { IfOk result (λ o. o ≡ order_by (command.restore kind) (texts words.now)) }
 {
     let table = [("-ts", Takes::Number(ANY))];
@@ -235,7 +251,7 @@ pub(crate) fn restore(
     if !are_done(rest) {
         return Ok(None);
     }
-    Ok(Some(Order::Restore {
+    Ok(Some(CommandLine::Restore {
         kind,
         name: DbName::of(alloc, name)?,
         stamp: options.number(ANY, "-ts").unwrap_or(ANY.most),

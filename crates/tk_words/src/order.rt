@@ -58,7 +58,7 @@ pub enum PutWord {
 
 /// What the words ask for.
 #[derive(Debug, Drop)]
-pub enum Order {
+pub enum CommandLine {
     /// Serves standard input and output.
     Pipe {
         name: DbName,

@@ -5,7 +5,7 @@ ghost use Rattle.tk_words.specs.Commands.{pick, table_commands, kind_commands, o
 
 use crate::making::create;
 use crate::managing::{get, inform, list, optimize, out, put, restore};
-use crate::order::Order;
+use crate::order::CommandLine;
 use crate::serving::{drill, pipe, serve};
 use crate::tables::{search, setindex};
 use crate::words::{first, is};
@@ -29,7 +29,11 @@ fn kind_named(word: &str) -> Option<Kind>
 }
 
 // A command that tables alone have.
-fn of_tables(alloc: Global, command: &str, words: &[String]) -> Result<Option<Order>, AllocError>
+fn of_tables(
+    alloc: Global,
+    command: &str,
+    words: &[String],
+) -> Result<Option<CommandLine>, AllocError>
     ensures { IfOk result (λ o. o ≡ pick (table_commands Kind.Table) command.now (texts words.now)) }
 {
     if is(command, "setindex") {
@@ -46,7 +50,7 @@ fn of_some(
     kind: Kind,
     command: &str,
     words: &[String],
-) -> Result<Option<Order>, AllocError>
+) -> Result<Option<CommandLine>, AllocError>
     ensures { IfOk result (λ o. o ≡ pick (table_commands kind) command.now (texts words.now)) }
 {
     match kind {
@@ -65,7 +69,7 @@ fn of_kind(
     kind: Kind,
     command: &str,
     words: &[String],
-) -> Result<Option<Order>, AllocError>
+) -> Result<Option<CommandLine>, AllocError>
     ensures { IfOk result (λ o. o ≡ pick (kind_commands kind) command.now (texts words.now)) }
 {
     if is(command, "create") {
@@ -90,7 +94,11 @@ fn of_kind(
 }
 
 // A command that has no kind.
-fn of_program(alloc: Global, command: &str, words: &[String]) -> Result<Option<Order>, AllocError>
+fn of_program(
+    alloc: Global,
+    command: &str,
+    words: &[String],
+) -> Result<Option<CommandLine>, AllocError>
     ensures { IfOk result (λ o. o ≡ pick own_commands command.now (texts words.now)) }
 {
     if is(command, "pipe") {
@@ -106,7 +114,7 @@ fn of_program(alloc: Global, command: &str, words: &[String]) -> Result<Option<O
 
 /// The order that the words behind the program's name give, None exactly where they aren't in the set of commands.
 #[tactic(auto, unfolding(crate::specs::Commands::order_of))]
-pub fn parse(alloc: Global, words: &Vec<String>) -> Result<Option<Order>, AllocError>
+pub fn parse(alloc: Global, words: &Vec<String>) -> Result<Option<CommandLine>, AllocError>
     ensures { IfOk result (λ o. o ≡ order_of (texts words.now.items)) }
 {
     let Some((word, rest)) = first(words.as_slice()) else {

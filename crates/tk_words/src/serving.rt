@@ -10,7 +10,7 @@ ghost use Rattle.tk_words.specs.Seen.{Gives, choices, seen};
 use crate::names::{names_any, names_memory};
 use crate::numbers::{ANY, Range, number_in};
 use crate::options::{Options, Takes, options_first};
-use crate::order::{DbName, Order};
+use crate::order::{CommandLine, DbName};
 use crate::words::{first, only};
 use std::alloc::{AllocError, Global};
 use tc_base::Blob;
@@ -41,7 +41,7 @@ const COUNTS: Range = Range {
     most: 1_000_000,
 };
 
-pub(crate) fn pipe(alloc: Global, words: &[String]) -> Result<Option<Order>, AllocError>
+pub(crate) fn pipe(alloc: Global, words: &[String]) -> Result<Option<CommandLine>, AllocError>
     ensures { IfOk result (λ o. o ≡ order_by command.pipe (texts words.now)) }
 {
     let Some(options) = options_first(alloc, &[], words)? else {
@@ -53,12 +53,12 @@ pub(crate) fn pipe(alloc: Global, words: &[String]) -> Result<Option<Order>, All
     if !names_any(name) {
         return Ok(None);
     }
-    Ok(Some(Order::Pipe {
+    Ok(Some(CommandLine::Pipe {
         name: DbName::of(alloc, name)?,
     }))
 }
 
-pub(crate) fn drill(alloc: Global, words: &[String]) -> Result<Option<Order>, AllocError>
+pub(crate) fn drill(alloc: Global, words: &[String]) -> Result<Option<CommandLine>, AllocError>
     ensures { IfOk result (λ o. o ≡ order_by command.drill (texts words.now)) }
 {
     let Some(options) = options_first(alloc, &[], words)? else {
@@ -82,7 +82,7 @@ pub(crate) fn drill(alloc: Global, words: &[String]) -> Result<Option<Order>, Al
     if !names_any(name) {
         return Ok(None);
     }
-    Ok(Some(Order::Drill {
+    Ok(Some(CommandLine::Drill {
         seed,
         count: count as u32,
         name: DbName::of(alloc, name)?,
@@ -139,10 +139,10 @@ fn server_id(options: &Options) -> u16
     }
 }
 
-fn serve_as(alloc: Global, options: &Options, name: &str) -> Result<Order, AllocError>
+fn serve_as(alloc: Global, options: &Options, name: &str) -> Result<CommandLine, AllocError>
     ensures { IfOk result (λ o. o ≡ serve_order (choices options.now.taken.items) name.now) }
 {
-    Ok(Order::Serve {
+    Ok(CommandLine::Serve {
         name: DbName::of(alloc, name)?,
         host: host(alloc, options)?,
         port: port(options, "-port", 1978),
@@ -171,7 +171,7 @@ fn serve_options<'a>(alloc: Global, words: &'a [String]) -> Result<Option<Option
     options_first(alloc, &table, words)
 }
 
-pub(crate) fn serve(alloc: Global, words: &[String]) -> Result<Option<Order>, AllocError>
+pub(crate) fn serve(alloc: Global, words: &[String]) -> Result<Option<CommandLine>, AllocError>
     ensures { IfOk result (λ o. o ≡ order_by command.serve (texts words.now)) }
 {
     let Some(options) = serve_options(alloc, words)? else {

@@ -10,7 +10,7 @@ ghost use Rattle.tk_words.specs.Seen.{Gives, choices, seen, operator_front};
 use crate::names::name_first;
 use crate::numbers::{Range, digits_only};
 use crate::options::{Options, Takes, options_first};
-use crate::order::{DbName, Order};
+use crate::order::{CommandLine, DbName};
 use crate::words::{are_done, copies, first, only};
 use std::alloc::{AllocError, Global};
 use tc_base::{Blob, Kind};
@@ -41,7 +41,7 @@ fn skipped(options: &Options) -> u32
     }
 }
 
-pub(crate) fn setindex(alloc: Global, words: &[String]) -> Result<Option<Order>, AllocError>
+pub(crate) fn setindex(alloc: Global, words: &[String]) -> Result<Option<CommandLine>, AllocError>
     ensures { IfOk result (λ o. o ≡ order_by command.setindex (texts words.now)) }
 {
     let table = [("-it", Takes::Index)];
@@ -54,7 +54,7 @@ pub(crate) fn setindex(alloc: Global, words: &[String]) -> Result<Option<Order>,
     let Some(column) = only(rest) else {
         return Ok(None)
     };
-    Ok(Some(Order::SetIndex {
+    Ok(Some(CommandLine::SetIndex {
         name: DbName::of(alloc, name)?,
         column: Blob::from_slice(alloc, column.as_bytes())?,
         code: options.code("-it").unwrap_or(0),
@@ -95,10 +95,10 @@ fn search_as(
     options: &Options,
     name: &str,
     triples: &[String],
-) -> Result<Order, AllocError>
+) -> Result<CommandLine, AllocError>
     ensures { IfOk result (λ o. o ≡ search_order (choices options.now.taken.items) name.now (texts triples.now)) }
 {
-    Ok(Order::Search {
+    Ok(CommandLine::Search {
         name: DbName::of(alloc, name)?,
         triples: copies(alloc, triples)?,
         sort: options.sort(alloc, "-ord")?,
@@ -122,7 +122,7 @@ fn search_options<'a>(alloc: Global, words: &'a [String]) -> Result<Option<Optio
     options_first(alloc, &table, words)
 }
 
-pub(crate) fn search(alloc: Global, words: &[String]) -> Result<Option<Order>, AllocError>
+pub(crate) fn search(alloc: Global, words: &[String]) -> Result<Option<CommandLine>, AllocError>
     ensures { IfOk result (λ o. o ≡ order_by command.search (texts words.now)) }
 {
     let Some(options) = search_options(alloc, words)? else {

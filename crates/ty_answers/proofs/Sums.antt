@@ -3,10 +3,9 @@ use Rattle.std.proofs.Common.{◌≡◌, ◌∙◌, ℕ, Bool, true, false, cond
 use Rattle.std.specs.Prelude.{not}
 use Rattle.tc_base.specs.declared.kind.Mode.TheVariants.{Over}
 use Rattle.tc_base.specs.declared.request.Reply.TheVariants.{Done, Four}
-use Rattle.tc_model.specs.Bodies.{is_narrow, is_table}
 use Rattle.std.specs.FinMap.{empty}
 use Rattle.tc_model.specs.Apply.{Effect}
-use Rattle.tc_model.specs.Contents.{Contents, hash, tree, fixed, table}
+use Rattle.tc_model.specs.Contents.{Contents, hash, tree, fixed, table, is_narrow, is_table}
 use Rattle.tc_model.specs.Stores.{add, held, put, shift, store, with_sum}
 use Rattle.tc_model.specs.Values.{last, spelled, sum_of}
 use Rattle.tc_engine.specs.Changes.{stored}

@@ -1,9 +1,11 @@
 -- What a request leaves of an engine, and of the bytes of replies.
-use Rattle.std.specs.Prelude.{◌≡◌, ◌++◌, ◌&&◌, ℕ, Bool, false, List, [], Option, Some, None, if◌then◌else◌, option_map}
+use Rattle.std.specs.Prelude.{◌≡◌, ◌++◌, ◌&&◌, ℕ, Bool, true, false, List, [], Option, Some, None, Result, IfOk, IsErrOf, if◌then◌else◌, option_map}
 use Rattle.tc_base.specs.Files.{Files}
 use Rattle.tc_base.specs.declared.request.Reply.{Reply}
 use Rattle.tc_base.specs.declared.request.Reply.TheVariants as reply
 use Rattle.tc_space.specs.Frames.{OnlyReads}
+use Rattle.tc_space.specs.declared.errors.RecErr.{RecErr}
+use Rattle.tc_space.specs.declared.errors.RecErr.TheVariants as rec
 use Rattle.tc_space.specs.declared.space.Space.{Ghosts}
 use Rattle.ty_wire.specs.Spelling.{reply_bytes}
 use Rattle.tc_model.specs.Contents.{Contents}
@@ -66,3 +68,29 @@ pub record Answers {S E : Type 0} (s : Ghosts S) (holds : E → Files → Conten
 -- a limit is reached, as the space stands, between the contents and those that the request was to leave
 pub record IsFullBy {S E : Type 0} (s : Ghosts S) (holds : E → Files → Contents → Type 0) (fills : S → Contents → Contents → Type 0) (effect : Request) (e : E) (a b : S) : Type 0 where
   pub by : (c : Contents) → Held s holds e a c → fills b c (contents_of (effect c) c)
+
+-- ---- by the result of a call
+
+-- a refusal comes for want of memory alone
+abbrev pub OnlyMemory : {T : Type 0} → Result T RecErr → Type 0
+OnlyMemory result = (IsErrOf result rec.Fault → ⊥) × (IsErrOf result rec.Full → ⊥)
+
+module _ {S E : Type 0} (s : Ghosts S) (holds : E → Files → Contents → Type 0) where
+  -- a request that may change contents
+  abbrev pub AnswersBy : Result Bool RecErr → Request → Reply → Bool → E → E → S → S → List ℕ → List ℕ → Type 0
+  AnswersBy result effect refusal updating e e' a b old new = IfOk result (λ done. Answers s holds effect refusal updating done e e' a b old new)
+
+  -- one that only asks
+  abbrev pub TellsBy : Result Bool RecErr → Request → Reply → E → E → S → S → List ℕ → List ℕ → Type 0
+  TellsBy result effect refusal e e' a b old new = IfOk result (λ done. Answers s holds effect refusal false done e e' a b old new)
+
+  -- one that is a change, by how it is answered
+  abbrev pub AnswersChange : Result Bool RecErr → Voice → Change → E → E → S → S → List ℕ → List ℕ → Type 0
+  AnswersChange result voice f e e' a b old new = IfOk result (λ done. Answers s holds (changed_by (done_reply voice) f) (fail_reply voice) true done e e' a b old new)
+
+  module _ (fills : S → Contents → Contents → Type 0) (result : Result Bool RecErr) where
+    abbrev pub FullAnswer : Request → E → S → S → Type 0
+    FullAnswer effect e a b = IsErrOf result rec.Full → IsFullBy s holds fills effect e a b
+
+    abbrev pub FullChange : Voice → Change → E → S → S → Type 0
+    FullChange voice f e a b = IsErrOf result rec.Full → IsFullBy s holds fills (changed_by (done_reply voice) f) e a b

@@ -1,8 +1,10 @@
 -- What a request, of whichever sort, leaves of an engine, of the walk and of the bytes of replies.
-use Rattle.std.specs.Prelude.{◌≡◌, ◌++◌, ◌&&◌, ℕ, Bool, true, false, List}
+use Rattle.std.specs.Prelude.{◌≡◌, ◌++◌, ◌&&◌, ℕ, Bool, true, false, List, Result, IfOk, IsErrOf}
 use Rattle.tc_base.specs.Files.{Files}
 use Rattle.tc_base.specs.declared.request.Request.{Request}
 use Rattle.tc_space.specs.Frames.{OnlyReads}
+use Rattle.tc_space.specs.declared.errors.RecErr.{RecErr}
+use Rattle.tc_space.specs.declared.errors.RecErr.TheVariants.{Full}
 use Rattle.tc_space.specs.declared.space.Space.{Ghosts}
 use Rattle.ty_wire.specs.Spelling.{reply_bytes}
 use Rattle.tc_model.specs.Contents.{Contents, Walk}
@@ -28,3 +30,10 @@ pub record Steps {S E : Type 0} (s : Ghosts S) (holds : E → Files → Contents
 pub record IsFullStep {S E : Type 0} (s : Ghosts S) (holds : E → Files → Contents → Type 0) (fills : S → Contents → Contents → Type 0) (r : Request) (w : Walk) (e : E) (a b : S) : Type 0 where
   pub writes : may_write r ≡ true
   pub by : (c : Contents) → Held s holds e a c → fills b c (applied r c w).contents
+
+module _ {S E : Type 0} (s : Ghosts S) (holds : E → Files → Contents → Type 0) (result : Result Bool RecErr) where
+  abbrev pub StepsBy : Request → E → E → S → S → Walk → Walk → List ℕ → List ℕ → Type 0
+  StepsBy r e e' a b w w' old new = IfOk result (λ done. Steps s holds r done e e' a b w w' old new)
+
+  abbrev pub FullStep : (S → Contents → Contents → Type 0) → Request → Walk → E → S → S → Type 0
+  FullStep fills r w e a b = IsErrOf result Full → IsFullStep s holds fills r w e a b

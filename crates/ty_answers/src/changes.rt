@@ -1,14 +1,13 @@
 //! Requests that change contents in one call of the engine.
-ghost use Rattle.std.specs.Prelude.{◌≡◌, ◌++◌, true, false, List, ℕ, Some, OnOk, OnErr, IfOk, IsErrOf};
-ghost use Rattle.tc_io.specs.Causes.{Rose};
-ghost use Rattle.tc_space.specs.Frames.{Keeps, Refuses};
-ghost use Rattle.ty_base.specs.Holding.{Held, IsReady};
+ghost use Rattle.std.specs.Prelude.{true, Some, OnOk, IsErrOf};
+ghost use Rattle.tc_space.specs.Frames.{Keeps};
+ghost use Rattle.tc_space.specs.Refusals.{OnFault};
+ghost use Rattle.ty_base.specs.Holding.{FillsAsIs, IsReady, RefusesHeld};
 ghost use Rattle.ty_wire.specs.Prefixes.{IsPrefix};
 ghost use Rattle.tc_engine.specs.Changes.{all_cleared, all_gone, all_pushed, all_stored, pushed, stored, taken};
 ghost use Rattle.tc_base.specs.declared.kind.Form.TheVariants.{Keep};
 ghost use Rattle.tc_base.specs.declared.request.Reply.TheVariants as answer;
-ghost use Rattle.tc_model.specs.Contents.{Contents};
-ghost use Rattle.ty_answers.specs.Answers.{Answers, IsFullBy, changed_by, done_reply, fail_reply, told_by};
+ghost use Rattle.ty_answers.specs.Answers.{AnswersBy, AnswersChange, FullChange, told_by};
 
 use crate::reads::done;
 use crate::voice::Voice;
@@ -27,12 +26,12 @@ pub fn store<E: Engine>(
     reply: &mut Blob,
 ) -> Result<bool, RecErr>
     requires { IsReady E.S.Space E.holds engine.old space.old }
-    ensures answers { IfOk result (λ done. Answers E.S.Space E.holds (changed_by (done_reply voice) (stored mode key value)) (fail_reply voice) true done engine.old engine.new space.old space.new reply.old reply.new) }
-    ensures refused { OnErr result (Refuses E.S.Space (Held E.S.Space E.holds) engine.old engine.new space.old space.new) }
+    ensures answers { AnswersChange E.S.Space E.holds result voice (stored mode key value) engine.old engine.new space.old space.new reply.old reply.new }
+    ensures refused { RefusesHeld E.S.Space E.holds result engine.old engine.new space.old space.new }
     ensures front { IsPrefix reply.old reply.new }
-    ensures full { IsErrOf result RecErr.Full → IsFullBy E.S.Space E.holds E.fills (changed_by (done_reply voice) (stored mode key value)) engine.old space.old space.new }
+    ensures full { FullChange E.S.Space E.holds E.fills result voice (stored mode key value) engine.old space.old space.new }
     ensures keeps { Keeps E.S.Space space.old space.new }
-    ensures cause { IsErrOf result RecErr.Fault → Rose (E.S.faults space.old) (E.S.faults space.new) }
+    ensures cause { OnFault E.S.Space result space.old space.new }
 {
     let begin = reply.len();
     voice.say(reply)?;
@@ -51,12 +50,12 @@ pub fn push<E: Engine>(
     reply: &mut Blob,
 ) -> Result<bool, RecErr>
     requires { IsReady E.S.Space E.holds engine.old space.old }
-    ensures answers { IfOk result (λ done. Answers E.S.Space E.holds (changed_by (done_reply voice) (pushed key value)) (fail_reply voice) true done engine.old engine.new space.old space.new reply.old reply.new) }
-    ensures refused { OnErr result (Refuses E.S.Space (Held E.S.Space E.holds) engine.old engine.new space.old space.new) }
+    ensures answers { AnswersChange E.S.Space E.holds result voice (pushed key value) engine.old engine.new space.old space.new reply.old reply.new }
+    ensures refused { RefusesHeld E.S.Space E.holds result engine.old engine.new space.old space.new }
     ensures front { IsPrefix reply.old reply.new }
-    ensures full { IsErrOf result RecErr.Full → IsFullBy E.S.Space E.holds E.fills (changed_by (done_reply voice) (pushed key value)) engine.old space.old space.new }
+    ensures full { FullChange E.S.Space E.holds E.fills result voice (pushed key value) engine.old space.old space.new }
     ensures keeps { Keeps E.S.Space space.old space.new }
-    ensures cause { IsErrOf result RecErr.Fault → Rose (E.S.faults space.old) (E.S.faults space.new) }
+    ensures cause { OnFault E.S.Space result space.old space.new }
 {
     let begin = reply.len();
     voice.say(reply)?;
@@ -74,12 +73,12 @@ pub fn out<E: Engine>(
     reply: &mut Blob,
 ) -> Result<bool, RecErr>
     requires { IsReady E.S.Space E.holds engine.old space.old }
-    ensures answers { IfOk result (λ done. Answers E.S.Space E.holds (changed_by (done_reply voice) (taken key.now)) (fail_reply voice) true done engine.old engine.new space.old space.new reply.old reply.new) }
-    ensures refused { OnErr result (Refuses E.S.Space (Held E.S.Space E.holds) engine.old engine.new space.old space.new) }
+    ensures answers { AnswersChange E.S.Space E.holds result voice (taken key.now) engine.old engine.new space.old space.new reply.old reply.new }
+    ensures refused { RefusesHeld E.S.Space E.holds result engine.old engine.new space.old space.new }
     ensures front { IsPrefix reply.old reply.new }
-    ensures full { IsErrOf result RecErr.Full → IsFullBy E.S.Space E.holds E.fills (changed_by (done_reply voice) (taken key.now)) engine.old space.old space.new }
+    ensures full { FullChange E.S.Space E.holds E.fills result voice (taken key.now) engine.old space.old space.new }
     ensures keeps { Keeps E.S.Space space.old space.new }
-    ensures cause { IsErrOf result RecErr.Fault → Rose (E.S.faults space.old) (E.S.faults space.new) }
+    ensures cause { OnFault E.S.Space result space.old space.new }
 {
     let begin = reply.len();
     voice.say(reply)?;
@@ -97,12 +96,12 @@ pub fn store_all<E: Engine>(
     reply: &mut Blob,
 ) -> Result<bool, RecErr>
     requires { IsReady E.S.Space E.holds engine.old space.old }
-    ensures answers { IfOk result (λ done. Answers E.S.Space E.holds (changed_by (done_reply voice) (all_stored pairs)) (fail_reply voice) true done engine.old engine.new space.old space.new reply.old reply.new) }
-    ensures refused { OnErr result (Refuses E.S.Space (Held E.S.Space E.holds) engine.old engine.new space.old space.new) }
+    ensures answers { AnswersChange E.S.Space E.holds result voice (all_stored pairs) engine.old engine.new space.old space.new reply.old reply.new }
+    ensures refused { RefusesHeld E.S.Space E.holds result engine.old engine.new space.old space.new }
     ensures front { IsPrefix reply.old reply.new }
-    ensures full { IsErrOf result RecErr.Full → IsFullBy E.S.Space E.holds E.fills (changed_by (done_reply voice) (all_stored pairs)) engine.old space.old space.new }
+    ensures full { FullChange E.S.Space E.holds E.fills result voice (all_stored pairs) engine.old space.old space.new }
     ensures keeps { Keeps E.S.Space space.old space.new }
-    ensures cause { IsErrOf result RecErr.Fault → Rose (E.S.faults space.old) (E.S.faults space.new) }
+    ensures cause { OnFault E.S.Space result space.old space.new }
 {
     let begin = reply.len();
     voice.say(reply)?;
@@ -120,12 +119,12 @@ pub fn push_all<E: Engine>(
     reply: &mut Blob,
 ) -> Result<bool, RecErr>
     requires { IsReady E.S.Space E.holds engine.old space.old }
-    ensures answers { IfOk result (λ done. Answers E.S.Space E.holds (changed_by (done_reply voice) (all_pushed pairs)) (fail_reply voice) true done engine.old engine.new space.old space.new reply.old reply.new) }
-    ensures refused { OnErr result (Refuses E.S.Space (Held E.S.Space E.holds) engine.old engine.new space.old space.new) }
+    ensures answers { AnswersChange E.S.Space E.holds result voice (all_pushed pairs) engine.old engine.new space.old space.new reply.old reply.new }
+    ensures refused { RefusesHeld E.S.Space E.holds result engine.old engine.new space.old space.new }
     ensures front { IsPrefix reply.old reply.new }
-    ensures full { IsErrOf result RecErr.Full → IsFullBy E.S.Space E.holds E.fills (changed_by (done_reply voice) (all_pushed pairs)) engine.old space.old space.new }
+    ensures full { FullChange E.S.Space E.holds E.fills result voice (all_pushed pairs) engine.old space.old space.new }
     ensures keeps { Keeps E.S.Space space.old space.new }
-    ensures cause { IsErrOf result RecErr.Fault → Rose (E.S.faults space.old) (E.S.faults space.new) }
+    ensures cause { OnFault E.S.Space result space.old space.new }
 {
     let begin = reply.len();
     voice.say(reply)?;
@@ -143,12 +142,12 @@ pub fn clear_all<E: Engine>(
     reply: &mut Blob,
 ) -> Result<bool, RecErr>
     requires { IsReady E.S.Space E.holds engine.old space.old }
-    ensures answers { IfOk result (λ done. Answers E.S.Space E.holds (changed_by (done_reply voice) (all_cleared keys)) (fail_reply voice) true done engine.old engine.new space.old space.new reply.old reply.new) }
-    ensures refused { OnErr result (Refuses E.S.Space (Held E.S.Space E.holds) engine.old engine.new space.old space.new) }
+    ensures answers { AnswersChange E.S.Space E.holds result voice (all_cleared keys) engine.old engine.new space.old space.new reply.old reply.new }
+    ensures refused { RefusesHeld E.S.Space E.holds result engine.old engine.new space.old space.new }
     ensures front { IsPrefix reply.old reply.new }
-    ensures full { IsErrOf result RecErr.Full → IsFullBy E.S.Space E.holds E.fills (changed_by (done_reply voice) (all_cleared keys)) engine.old space.old space.new }
+    ensures full { FullChange E.S.Space E.holds E.fills result voice (all_cleared keys) engine.old space.old space.new }
     ensures keeps { Keeps E.S.Space space.old space.new }
-    ensures cause { IsErrOf result RecErr.Fault → Rose (E.S.faults space.old) (E.S.faults space.new) }
+    ensures cause { OnFault E.S.Space result space.old space.new }
 {
     let begin = reply.len();
     voice.say(reply)?;
@@ -165,12 +164,12 @@ pub fn clear<E: Engine>(
     reply: &mut Blob,
 ) -> Result<bool, RecErr>
     requires { IsReady E.S.Space E.holds engine.old space.old }
-    ensures answers { IfOk result (λ done. Answers E.S.Space E.holds (changed_by (done_reply voice) all_gone) (fail_reply voice) true done engine.old engine.new space.old space.new reply.old reply.new) }
-    ensures refused { OnErr result (Refuses E.S.Space (Held E.S.Space E.holds) engine.old engine.new space.old space.new) }
+    ensures answers { AnswersChange E.S.Space E.holds result voice all_gone engine.old engine.new space.old space.new reply.old reply.new }
+    ensures refused { RefusesHeld E.S.Space E.holds result engine.old engine.new space.old space.new }
     ensures front { IsPrefix reply.old reply.new }
-    ensures full { IsErrOf result RecErr.Full → IsFullBy E.S.Space E.holds E.fills (changed_by (done_reply voice) all_gone) engine.old space.old space.new }
+    ensures full { FullChange E.S.Space E.holds E.fills result voice all_gone engine.old space.old space.new }
     ensures keeps { Keeps E.S.Space space.old space.new }
-    ensures cause { IsErrOf result RecErr.Fault → Rose (E.S.faults space.old) (E.S.faults space.new) }
+    ensures cause { OnFault E.S.Space result space.old space.new }
 {
     let begin = reply.len();
     voice.say(reply)?;
@@ -187,19 +186,14 @@ pub fn optimize<E: Engine>(
 ) -> Result<bool, RecErr>
     requires { IsReady E.S.Space E.holds engine.old space.old }
     ensures tight { OnOk result (E.tight engine.new Keep) }
-    ensures answers { IfOk result (λ done. Answers E.S.Space E.holds (told_by (λ c. Some answer.Done)) answer.Fail true done engine.old engine.new space.old space.new reply.old reply.new) }
-    ensures refused { OnErr result (Refuses E.S.Space (Held E.S.Space E.holds) engine.old engine.new space.old space.new) }
+    ensures answers { AnswersBy E.S.Space E.holds result (told_by (λ c. Some answer.Done)) answer.Fail true engine.old engine.new space.old space.new reply.old reply.new }
+    ensures refused { RefusesHeld E.S.Space E.holds result engine.old engine.new space.old space.new }
     ensures front { IsPrefix reply.old reply.new }
-    ensures full { IsErrOf result RecErr.Full → (c : Contents) → Held E.S.Space E.holds engine.old space.old c → E.fills space.new c c }
+    ensures full { IsErrOf result RecErr.Full → FillsAsIs E.S.Space E.holds E.fills engine.old space.old space.new }
     ensures keeps { Keeps E.S.Space space.old space.new }
-    ensures cause { IsErrOf result RecErr.Fault → Rose (E.S.faults space.old) (E.S.faults space.new) }
+    ensures cause { OnFault E.S.Space result space.old space.new }
 {
-    match done(reply) {
-        Ok(_) => {}
-        Err(e) => return Err(e),
-    }
-    match engine.pack(space, Form::Keep) {
-        Ok(()) => Ok(true),
-        Err(e) => Err(e),
-    }
+    done(reply)?;
+    engine.pack(space, Form::Keep)?;
+    Ok(true)
 }

@@ -1,16 +1,14 @@
 //! A database behind requests, over any engine.
-ghost use Rattle.std.specs.Prelude.{◌≡◌, ◌++◌, true, false, List, ℕ, OnOk, OnErr, IfOk, IsErrOf};
-ghost use Rattle.tc_base.specs.Files.{Files};
+ghost use Rattle.std.specs.Prelude.{◌≡◌, true, OnOk, OnErr};
 ghost use Rattle.tc_base.specs.declared.kind.Form.TheVariants.{Keep};
-ghost use Rattle.tc_io.specs.Causes.{Rose};
-ghost use Rattle.tc_space.specs.Frames.{Keeps, Refuses};
-ghost use Rattle.ty_base.specs.Holding.{AreApart, Declines, Held, IsReady};
+ghost use Rattle.tc_space.specs.Frames.{Keeps};
+ghost use Rattle.tc_space.specs.Refusals.{OnFault};
+ghost use Rattle.ty_base.specs.Holding.{Declines, IsReady};
 ghost use Rattle.ty_wire.specs.Prefixes.{IsPrefix};
 ghost use Rattle.tc_model.specs.Apply.{updates};
-ghost use Rattle.tc_model.specs.Contents.{Contents};
 ghost use Rattle.tc_model.specs.Packing.{is_optimize};
 ghost use Rattle.ty_answers.specs.Engines.{engine_of};
-ghost use Rattle.ty_answers.specs.Steps.{IsFullStep, Steps};
+ghost use Rattle.ty_answers.specs.Steps.{FullStep, StepsBy};
 
 use crate::changes::{clear, optimize, out, store};
 use crate::failing::fail;
@@ -21,10 +19,10 @@ use crate::voice::Voice;
 use crate::walks::{begin, step};
 use std::alloc::Global;
 use tc_base::{Blob, Form, Kind, Mode, Request};
-use tc_engine::{Engine, Opens};
+use tc_engine::Engine;
 use tc_model::{Applied, Walk};
 use tc_space::RecErr;
-use ty_base::{AnyErr, Base};
+use ty_base::{AnyErr, Base, Opens, Storage};
 use ty_wire::is_updating;
 
 /// An engine behind requests.
@@ -54,13 +52,13 @@ fn serve<E: Engine>(
 ) -> Result<bool, RecErr>
     requires ready { IsReady E.S.Space E.holds engine.old space.old }
     requires updating { updating ≡ updates request }
-    ensures steps { IfOk result (λ done. Steps E.S.Space E.holds request done engine.old engine.new space.old space.new walk.old walk.new reply.old reply.new) }
+    ensures steps { StepsBy E.S.Space E.holds result request engine.old engine.new space.old space.new walk.old walk.new reply.old reply.new }
     ensures tight { OnOk result (is_optimize request ≡ true → E.tight engine.new Keep) }
     ensures declines { OnErr result (Declines E.S.Space E.holds engine.old engine.new space.old space.new walk.old walk.new) }
     ensures front { IsPrefix reply.old reply.new }
-    ensures full { IsErrOf result RecErr.Full → IsFullStep E.S.Space E.holds E.fills request walk.old engine.old space.old space.new }
+    ensures full { FullStep E.S.Space E.holds result E.fills request walk.old engine.old space.old space.new }
     ensures keeps { Keeps E.S.Space space.old space.new }
-    ensures cause { IsErrOf result RecErr.Fault → Rose (E.S.faults space.old) (E.S.faults space.new) }
+    ensures cause { OnFault E.S.Space result space.old space.new }
 {
     let plain = Voice::Plain;
     match request {
@@ -89,14 +87,14 @@ fn serve<E: Engine>(
             fwmkeys(alloc, engine, space, &prefix, maximum, reply)
         }
         Request::AddInt { key, number } => add(alloc, engine, space, key, number, reply),
-        Request::AddDouble { .. } => fail(plain, reply),
-        Request::Ext { .. } => fail(plain, reply),
         Request::Sync => done(reply),
         Request::Optimize { .. } => optimize(engine, space, reply),
         Request::Vanish => clear(engine, space, plain, reply),
-        Request::Copy { .. } => fail(plain, reply),
-        Request::Restore { .. } => fail(plain, reply),
-        Request::SetMst { .. } => fail(plain, reply),
+        Request::AddDouble { .. }
+        | Request::Ext { .. }
+        | Request::Copy { .. }
+        | Request::Restore { .. }
+        | Request::SetMst { .. } => fail(plain, reply),
         Request::Rnum => rnum(engine, space, reply),
         Request::Size => size(engine, space, reply),
         Request::Stat => stat(alloc, engine, space, reply),
@@ -109,7 +107,7 @@ fn serve<E: Engine>(
     }
 }
 
-impl<E: Engine> Base for Database<E> {
+impl<E: Storage> Storage for Database<E> {
     type S = E::S;
 
     ghost holds = { λ b. E.holds (engine_of b) };
@@ -130,32 +128,6 @@ impl<E: Engine> Base for Database<E> {
         self.engine.kind()
     }
 
-    fn apply(
-        &mut self,
-        space: &mut E::S,
-        request: Request,
-        walk: &mut Walk,
-        reply: &mut Blob,
-    ) -> Result<Applied, RecErr> {
-        let updating = is_updating(&request);
-        let ok = match serve(
-            self.alloc,
-            &mut self.engine,
-            space,
-            request,
-            updating,
-            walk,
-            reply,
-        ) {
-            Ok(ok) => ok,
-            Err(e) => return Err(e),
-        };
-        Ok(Applied {
-            ok,
-            updated: ok & updating,
-        })
-    }
-
     fn settle(&mut self, space: &mut E::S) -> Result<(), RecErr> {
         self.engine.settle(space)
     }
@@ -169,7 +141,32 @@ impl<E: Engine> Base for Database<E> {
     }
 }
 
-impl<E: Opens> ty_base::Opens for Database<E> {
+impl<E: Engine> Base for Database<E> {
+    fn apply(
+        &mut self,
+        space: &mut E::S,
+        request: Request,
+        walk: &mut Walk,
+        reply: &mut Blob,
+    ) -> Result<Applied, RecErr> {
+        let updating = is_updating(&request);
+        let ok = serve(
+            self.alloc,
+            &mut self.engine,
+            space,
+            request,
+            updating,
+            walk,
+            reply,
+        )?;
+        Ok(Applied {
+            ok,
+            updated: ok & updating,
+        })
+    }
+}
+
+impl<E: Opens> Opens for Database<E> {
     type Shape = E::Shape;
 
     ghost may_be = { E.may_be };

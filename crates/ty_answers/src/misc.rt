@@ -1,14 +1,14 @@
 //! Misc requests.
-ghost use Rattle.std.specs.Prelude.{◌≡◌, ◌++◌, ◌%◌, ◌==◌, ◌&&◌, true, false, List, ℕ, OnOk, OnErr, IfOk, IsErrOf};
+ghost use Rattle.std.specs.Prelude.{◌≡◌, ◌%◌, ◌==◌, ◌&&◌, true, IsErrOf};
 ghost use Rattle.tc_base.specs.declared.request.Reply.TheVariants.{FailMisc};
-ghost use Rattle.tc_io.specs.Causes.{Rose};
-ghost use Rattle.tc_space.specs.Frames.{Keeps, Refuses};
-ghost use Rattle.ty_base.specs.Holding.{Held, IsReady};
+ghost use Rattle.tc_space.specs.Frames.{Keeps};
+ghost use Rattle.tc_space.specs.Refusals.{OnFault};
+ghost use Rattle.ty_base.specs.Holding.{IsReady, RefusesHeld};
 ghost use Rattle.ty_wire.specs.Prefixes.{IsPrefix};
 ghost use Rattle.tc_model.specs.Apply.{called};
 ghost use Rattle.tc_model.specs.Misc.{updates_call};
-ghost use Rattle.ty_answers.specs.Answers.{Answers, IsFullBy};
 ghost use Rattle.ty_answers.specs.Calls.{meant, misc_updates};
+ghost use Rattle.ty_answers.specs.Answers.{AnswersBy, FullAnswer};
 
 use crate::changes::{clear, clear_all, out, push, push_all, store, store_all};
 use crate::failing::fail;
@@ -29,13 +29,13 @@ fn perform<E: Engine>(
     reply: &mut Blob,
 ) -> Result<bool, RecErr>
     requires { IsReady E.S.Space E.holds engine.old space.old }
-    ensures answers { IfOk result (λ done. Answers E.S.Space E.holds (meant misc) FailMisc (misc_updates misc) done engine.old engine.new space.old space.new reply.old reply.new) }
-    ensures refused { OnErr result (Refuses E.S.Space (Held E.S.Space E.holds) engine.old engine.new space.old space.new) }
+    ensures answers { AnswersBy E.S.Space E.holds result (meant misc) FailMisc (misc_updates misc) engine.old engine.new space.old space.new reply.old reply.new }
+    ensures refused { RefusesHeld E.S.Space E.holds result engine.old engine.new space.old space.new }
     ensures front { IsPrefix reply.old reply.new }
     ensures writes { IsErrOf result RecErr.Full → misc_updates misc ≡ true }
-    ensures full { IsErrOf result RecErr.Full → IsFullBy E.S.Space E.holds E.fills (meant misc) engine.old space.old space.new }
+    ensures full { FullAnswer E.S.Space E.holds E.fills result (meant misc) engine.old space.old space.new }
     ensures keeps { Keeps E.S.Space space.old space.new }
-    ensures cause { IsErrOf result RecErr.Fault → Rose (E.S.faults space.old) (E.S.faults space.new) }
+    ensures cause { OnFault E.S.Space result space.old space.new }
 {
     let voice = Voice::Misc;
     match misc {
@@ -53,10 +53,8 @@ fn perform<E: Engine>(
             misc_range(alloc, engine, space, from, &maximum, to, reply)
         }
         Misc::Vanish => clear(engine, space, voice, reply),
-        Misc::PutRow { .. } => fail(voice, reply),
-        Misc::GetRow { .. } => fail(voice, reply),
-        Misc::SetIndex { .. } => fail(voice, reply),
-        Misc::Search { .. } => fail(voice, reply),
+        Misc::PutRow { .. } | Misc::GetRow { .. } | Misc::SetIndex { .. } | Misc::Search { .. } =>
+            fail(voice, reply),
     }
 }
 
@@ -80,13 +78,13 @@ pub fn call<E: Engine>(
 ) -> Result<bool, RecErr>
     requires ready { IsReady E.S.Space E.holds engine.old space.old }
     requires updating { updating ≡ updates_call name.now args.now }
-    ensures answers { IfOk result (λ done. Answers E.S.Space E.holds (called name.now options args.now) FailMisc (updates_call name.now args.now) done engine.old engine.new space.old space.new reply.old reply.new) }
-    ensures refused { OnErr result (Refuses E.S.Space (Held E.S.Space E.holds) engine.old engine.new space.old space.new) }
+    ensures answers { AnswersBy E.S.Space E.holds result (called name.now options args.now) FailMisc (updates_call name.now args.now) engine.old engine.new space.old space.new reply.old reply.new }
+    ensures refused { RefusesHeld E.S.Space E.holds result engine.old engine.new space.old space.new }
     ensures front { IsPrefix reply.old reply.new }
     ensures writes { IsErrOf result RecErr.Full → updates_call name.now args.now ≡ true }
-    ensures full { IsErrOf result RecErr.Full → IsFullBy E.S.Space E.holds E.fills (called name.now options args.now) engine.old space.old space.new }
+    ensures full { FullAnswer E.S.Space E.holds E.fills result (called name.now options args.now) engine.old space.old space.new }
     ensures keeps { Keeps E.S.Space space.old space.new }
-    ensures cause { IsErrOf result RecErr.Fault → Rose (E.S.faults space.old) (E.S.faults space.new) }
+    ensures cause { OnFault E.S.Space result space.old space.new }
 {
     if is_omitted(options, updating) {
         return fail(Voice::Misc, reply);

@@ -1,13 +1,13 @@
 //! Requests that make a new value of the one that is held.
-ghost use Rattle.std.specs.Prelude.{◌≡◌, ◌++◌, true, false, [], List, ℕ, OnErr, IfOk, IsErrOf, unwrap_or};
+ghost use Rattle.std.specs.Prelude.{◌≡◌, ◌++◌, true, [], IfOk, unwrap_or};
 ghost use Rattle.tc_model.specs.Values.{last};
 ghost use Rattle.tc_base.specs.declared.request.Reply.TheVariants.{Fail};
-ghost use Rattle.tc_io.specs.Causes.{Rose};
-ghost use Rattle.tc_space.specs.Frames.{Keeps, Refuses};
-ghost use Rattle.ty_base.specs.Holding.{Held, IsReady};
+ghost use Rattle.tc_space.specs.Frames.{Keeps};
+ghost use Rattle.tc_space.specs.Refusals.{OnFault};
+ghost use Rattle.ty_base.specs.Holding.{IsReady, RefusesHeld};
 ghost use Rattle.ty_wire.specs.Prefixes.{IsPrefix};
-ghost use Rattle.ty_answers.specs.Answers.{Answers, IsFullBy};
 ghost use Rattle.ty_answers.specs.Requests.{added, shifted};
+ghost use Rattle.ty_answers.specs.Answers.{AnswersBy, FullAnswer};
 
 use crate::changes::store;
 use crate::failing::fail;
@@ -45,12 +45,12 @@ pub fn shift<E: Engine>(
     reply: &mut Blob,
 ) -> Result<bool, RecErr>
     requires { IsReady E.S.Space E.holds engine.old space.old }
-    ensures answers { IfOk result (λ done. Answers E.S.Space E.holds (shifted key value.now width) Fail true done engine.old engine.new space.old space.new reply.old reply.new) }
-    ensures refused { OnErr result (Refuses E.S.Space (Held E.S.Space E.holds) engine.old engine.new space.old space.new) }
+    ensures answers { AnswersBy E.S.Space E.holds result (shifted key value.now width) Fail true engine.old engine.new space.old space.new reply.old reply.new }
+    ensures refused { RefusesHeld E.S.Space E.holds result engine.old engine.new space.old space.new }
     ensures front { IsPrefix reply.old reply.new }
-    ensures full { IsErrOf result RecErr.Full → IsFullBy E.S.Space E.holds E.fills (shifted key value.now width) engine.old space.old space.new }
+    ensures full { FullAnswer E.S.Space E.holds E.fills result (shifted key value.now width) engine.old space.old space.new }
     ensures keeps { Keeps E.S.Space space.old space.new }
-    ensures cause { IsErrOf result RecErr.Fault → Rose (E.S.faults space.old) (E.S.faults space.new) }
+    ensures cause { OnFault E.S.Space result space.old space.new }
 {
     let held = engine.value(space, &key)?;
     let after = shifted(alloc, held, value, width)?;
@@ -67,12 +67,12 @@ pub fn add<E: Engine>(
     reply: &mut Blob,
 ) -> Result<bool, RecErr>
     requires { IsReady E.S.Space E.holds engine.old space.old }
-    ensures answers { IfOk result (λ done. Answers E.S.Space E.holds (added key number) Fail true done engine.old engine.new space.old space.new reply.old reply.new) }
-    ensures refused { OnErr result (Refuses E.S.Space (Held E.S.Space E.holds) engine.old engine.new space.old space.new) }
+    ensures answers { AnswersBy E.S.Space E.holds result (added key number) Fail true engine.old engine.new space.old space.new reply.old reply.new }
+    ensures refused { RefusesHeld E.S.Space E.holds result engine.old engine.new space.old space.new }
     ensures front { IsPrefix reply.old reply.new }
-    ensures full { IsErrOf result RecErr.Full → IsFullBy E.S.Space E.holds E.fills (added key number) engine.old space.old space.new }
+    ensures full { FullAnswer E.S.Space E.holds E.fills result (added key number) engine.old space.old space.new }
     ensures keeps { Keeps E.S.Space space.old space.new }
-    ensures cause { IsErrOf result RecErr.Fault → Rose (E.S.faults space.old) (E.S.faults space.new) }
+    ensures cause { OnFault E.S.Space result space.old space.new }
 {
     if !engine.takes_numbers() {
         return fail(Voice::Plain, reply);

@@ -1,23 +1,22 @@
 //! Requests that only read.
-ghost use Rattle.std.specs.Prelude.{◌≡◌, ◌<◌, ◌^◌, ◌++◌, false, true, length, map, flat_map, List, ℕ, OnOk, OnErr, IfOk, IsErrOf};
+ghost use Rattle.std.specs.Prelude.{◌≡◌, ◌<◌, ◌^◌, ◌++◌, true, length, flat_map, List, ℕ, OnOk, OnErr, IfOk};
 ghost use Rattle.tc_base.specs.declared.request.Reply.TheVariants as answer;
-ghost use Rattle.tc_io.specs.Causes.{Rose};
-ghost use Rattle.tc_space.specs.Frames.{Keeps, Reads};
-ghost use Rattle.ty_base.specs.Holding.{Held, IsReady};
+ghost use Rattle.tc_space.specs.Frames.{Keeps};
+ghost use Rattle.tc_space.specs.Refusals.{Blames};
+ghost use Rattle.ty_base.specs.Holding.{IsReady, ReadsHeld};
 ghost use Rattle.ty_wire.specs.Prefixes.{IsPrefix};
 ghost use Rattle.ty_wire.specs.Spelling.{reply_bytes};
 ghost use Rattle.tc_model.specs.declared.misc.Misc.TheVariants as misc;
-ghost use Rattle.tc_model.specs.Contents.{Contents};
 ghost use Rattle.tc_model.specs.Apply.{at_most};
 ghost use Rattle.tc_model.specs.Meaning.{ranged};
-ghost use Rattle.tc_model.specs.Rows.{texts_of};
 ghost use Rattle.tc_model.specs.Stores.{all_pairs, first_pair};
 ghost use Rattle.tc_engine.specs.Changes.{first_of};
-ghost use Rattle.tc_engine.specs.Rows.{Adds, Extends, item_row, pair_rows};
-ghost use Rattle.ty_answers.specs.Answers.{Answers};
+ghost use Rattle.tc_engine.specs.Rows.{Extends, pair_rows, text_rows};
+ghost use Rattle.ty_answers.specs.Answers.{OnlyMemory, TellsBy};
 ghost use Rattle.ty_answers.specs.Calls.{meant};
 ghost use Rattle.ty_answers.specs.Lists.{Says};
 ghost use Rattle.ty_answers.specs.Requests.{counted_keys, got, got_all, got_keys, got_len, lines_told, sized};
+ghost use Rattle.tc_engine.specs.Effects.{AddsOf};
 
 use crate::failing::fail;
 use crate::listing::{end_list, give_back, open_list, open_value};
@@ -34,7 +33,7 @@ pub fn done(reply: &mut Blob) -> Result<bool, RecErr>
     ensures ok { IfOk result (λ done. (done ≡ true) × (reply.new ≡ reply.old ++ reply_bytes answer.Done)) }
     ensures err { OnErr result (reply.new ≡ reply.old) }
     ensures prefix { IsPrefix reply.old reply.new }
-    ensures cause { (IsErrOf result RecErr.Fault → ⊥) × (IsErrOf result RecErr.Full → ⊥) }
+    ensures cause { OnlyMemory result }
 {
     reply.push(0)?;
     Ok(true)
@@ -45,7 +44,7 @@ fn eight(number: u64, reply: &mut Blob) -> Result<bool, RecErr>
     ensures ok { IfOk result (λ done. Says (answer.Eight number) done reply.old reply.new) }
     ensures err { OnErr result (reply.new ≡ reply.old) }
     ensures prefix { IsPrefix reply.old reply.new }
-    ensures cause { (IsErrOf result RecErr.Fault → ⊥) × (IsErrOf result RecErr.Full → ⊥) }
+    ensures cause { OnlyMemory result }
 {
     write_reply(&Reply::Eight { number }, reply)?;
     Ok(true)
@@ -57,7 +56,7 @@ fn four(length: u64, reply: &mut Blob) -> Result<bool, RecErr>
     ensures ok { IfOk result (λ done. Says (answer.Four length) done reply.old reply.new) }
     ensures err { OnErr result (reply.new ≡ reply.old) }
     ensures prefix { IsPrefix reply.old reply.new }
-    ensures cause { (IsErrOf result RecErr.Fault → ⊥) × (IsErrOf result RecErr.Full → ⊥) }
+    ensures cause { OnlyMemory result }
 {
     let number = length as u32;
     write_reply(&Reply::Four { number }, reply)?;
@@ -69,7 +68,7 @@ fn spell_value(value: &[u8], reply: &mut Blob) -> Result<(), RecErr>
     requires { length value.now < 2 ^ 32 }
     ensures ok { OnOk result (reply.new ≡ reply.old ++ reply_bytes (answer.Value value.now)) }
     ensures front { IsPrefix reply.old reply.new }
-    ensures cause { (IsErrOf result RecErr.Fault → ⊥) × (IsErrOf result RecErr.Full → ⊥) }
+    ensures cause { OnlyMemory result }
 {
     reply.push(0)?;
     reply.append(&(value.len() as u32).to_be_bytes())?;
@@ -81,7 +80,7 @@ fn spell_value(value: &[u8], reply: &mut Blob) -> Result<(), RecErr>
 pub fn say_value(value: &[u8], reply: &mut Blob) -> Result<bool, RecErr>
     ensures ok { IfOk result (λ done. Says (answer.Value value.now) done reply.old reply.new) }
     ensures front { IsPrefix reply.old reply.new }
-    ensures cause { (IsErrOf result RecErr.Fault → ⊥) × (IsErrOf result RecErr.Full → ⊥) }
+    ensures cause { OnlyMemory result }
 {
     if value.len() > REPLY_MOST - 5 {
         return fail(Voice::Plain, reply);
@@ -99,11 +98,11 @@ pub fn get<E: Engine>(
     reply: &mut Blob,
 ) -> Result<bool, RecErr>
     requires { IsReady E.S.Space E.holds engine.old space.old }
-    ensures answers { IfOk result (λ done. Answers E.S.Space E.holds (got key.now) answer.Fail false done engine.old engine.new space.old space.new reply.old reply.new) }
-    ensures reads { Reads E.S.Space (Held E.S.Space E.holds) engine.old engine.new space.old space.new }
+    ensures answers { TellsBy E.S.Space E.holds result (got key.now) answer.Fail engine.old engine.new space.old space.new reply.old reply.new }
+    ensures reads { ReadsHeld E.S.Space E.holds engine.old engine.new space.old space.new }
     ensures front { IsPrefix reply.old reply.new }
     ensures keeps { Keeps E.S.Space space.old space.new }
-    ensures cause { (IsErrOf result RecErr.Fault → Rose (E.S.faults space.old) (E.S.faults space.new)) × (IsErrOf result RecErr.Full → ⊥) }
+    ensures cause { Blames E.S.Space result space.old space.new }
 {
     let begin = reply.len();
     let mut rows = open_value(alloc, reply)?;
@@ -119,11 +118,11 @@ pub fn vsiz<E: Engine>(
     reply: &mut Blob,
 ) -> Result<bool, RecErr>
     requires { IsReady E.S.Space E.holds engine.old space.old }
-    ensures answers { IfOk result (λ done. Answers E.S.Space E.holds (got_len key.now) answer.Fail false done engine.old engine.new space.old space.new reply.old reply.new) }
-    ensures reads { Reads E.S.Space (Held E.S.Space E.holds) engine.old engine.new space.old space.new }
+    ensures answers { TellsBy E.S.Space E.holds result (got_len key.now) answer.Fail engine.old engine.new space.old space.new reply.old reply.new }
+    ensures reads { ReadsHeld E.S.Space E.holds engine.old engine.new space.old space.new }
     ensures front { IsPrefix reply.old reply.new }
     ensures keeps { Keeps E.S.Space space.old space.new }
-    ensures cause { (IsErrOf result RecErr.Fault → Rose (E.S.faults space.old) (E.S.faults space.new)) × (IsErrOf result RecErr.Full → ⊥) }
+    ensures cause { Blames E.S.Space result space.old space.new }
 {
     let Some(len) = engine.value_len(space, key)? else {
         return fail(Voice::Plain, reply);
@@ -142,11 +141,11 @@ fn fill_pairs<E: Engine>(
     into: &mut Rows,
 ) -> Result<(), RecErr>
     requires { IsReady E.S.Space E.holds engine.old space.old }
-    ensures rows { OnOk result ((c : Contents) → Held E.S.Space E.holds engine.old space.old c → Adds into.old into.new (pair_rows (flat_map (first_pair c) keys.now))) }
+    ensures rows { AddsOf E.S.Space E.holds result (λ c. pair_rows (flat_map (first_pair c) keys.now)) engine.old space.old into.old into.new }
     ensures front { Extends into.old into.new }
-    ensures reads { Reads E.S.Space (Held E.S.Space E.holds) engine.old engine.new space.old space.new }
+    ensures reads { ReadsHeld E.S.Space E.holds engine.old engine.new space.old space.new }
     ensures keeps { Keeps E.S.Space space.old space.new }
-    ensures cause { (IsErrOf result RecErr.Fault → Rose (E.S.faults space.old) (E.S.faults space.new)) × (IsErrOf result RecErr.Full → ⊥) }
+    ensures cause { Blames E.S.Space result space.old space.new }
 {
     for key in keys {
         engine.pair(space, key, into)?;
@@ -163,11 +162,11 @@ pub fn mget<E: Engine>(
     reply: &mut Blob,
 ) -> Result<bool, RecErr>
     requires { IsReady E.S.Space E.holds engine.old space.old }
-    ensures answers { IfOk result (λ done. Answers E.S.Space E.holds (got_all keys.now) answer.Fail false done engine.old engine.new space.old space.new reply.old reply.new) }
-    ensures reads { Reads E.S.Space (Held E.S.Space E.holds) engine.old engine.new space.old space.new }
+    ensures answers { TellsBy E.S.Space E.holds result (got_all keys.now) answer.Fail engine.old engine.new space.old space.new reply.old reply.new }
+    ensures reads { ReadsHeld E.S.Space E.holds engine.old engine.new space.old space.new }
     ensures front { IsPrefix reply.old reply.new }
     ensures keeps { Keeps E.S.Space space.old space.new }
-    ensures cause { (IsErrOf result RecErr.Fault → Rose (E.S.faults space.old) (E.S.faults space.new)) × (IsErrOf result RecErr.Full → ⊥) }
+    ensures cause { Blames E.S.Space result space.old space.new }
 {
     let begin = reply.len();
     let mut rows = open_list(alloc, reply)?;
@@ -202,11 +201,11 @@ pub fn fwmkeys<E: Engine>(
     reply: &mut Blob,
 ) -> Result<bool, RecErr>
     requires { IsReady E.S.Space E.holds engine.old space.old }
-    ensures answers { IfOk result (λ done. Answers E.S.Space E.holds (got_keys prefix.now maximum) answer.Fail false done engine.old engine.new space.old space.new reply.old reply.new) }
-    ensures reads { Reads E.S.Space (Held E.S.Space E.holds) engine.old engine.new space.old space.new }
+    ensures answers { TellsBy E.S.Space E.holds result (got_keys prefix.now maximum) answer.Fail engine.old engine.new space.old space.new reply.old reply.new }
+    ensures reads { ReadsHeld E.S.Space E.holds engine.old engine.new space.old space.new }
     ensures front { IsPrefix reply.old reply.new }
     ensures keeps { Keeps E.S.Space space.old space.new }
-    ensures cause { (IsErrOf result RecErr.Fault → Rose (E.S.faults space.old) (E.S.faults space.new)) × (IsErrOf result RecErr.Full → ⊥) }
+    ensures cause { Blames E.S.Space result space.old space.new }
 {
     let begin = reply.len();
     let mut rows = open_list(alloc, reply)?;
@@ -222,25 +221,24 @@ pub fn fwmkeys<E: Engine>(
 }
 
 /// Answers the number of pairs of a tree, else of keys.
-pub fn rnum<E: Engine>(engine: &E, space: &E::S, reply: &mut Blob) -> Result<bool, RecErr>
-    requires { IsReady E.S.Space E.holds engine.now space.now }
-    ensures answers { IfOk result (λ done. Answers E.S.Space E.holds counted_keys answer.Fail false done engine.now engine.now space.now space.now reply.old reply.new) }
+pub fn rnum<E: Engine>(engine: &E, _space: &E::S, reply: &mut Blob) -> Result<bool, RecErr>
+    requires { IsReady E.S.Space E.holds engine.now _space.now }
+    ensures answers { TellsBy E.S.Space E.holds result counted_keys answer.Fail engine.now engine.now _space.now _space.now reply.old reply.new }
     ensures err { OnErr result (reply.new ≡ reply.old) }
     ensures front { IsPrefix reply.old reply.new }
-    ensures cause { (IsErrOf result RecErr.Fault → ⊥) × (IsErrOf result RecErr.Full → ⊥) }
+    ensures cause { OnlyMemory result }
 {
-    let _ = space;
     eight(engine.count(), reply)
 }
 
 /// Answers the bytes of all keys and values.
 pub fn size<E: Engine>(engine: &mut E, space: &mut E::S, reply: &mut Blob) -> Result<bool, RecErr>
     requires { IsReady E.S.Space E.holds engine.old space.old }
-    ensures answers { IfOk result (λ done. Answers E.S.Space E.holds sized answer.Fail false done engine.old engine.new space.old space.new reply.old reply.new) }
-    ensures reads { Reads E.S.Space (Held E.S.Space E.holds) engine.old engine.new space.old space.new }
+    ensures answers { TellsBy E.S.Space E.holds result sized answer.Fail engine.old engine.new space.old space.new reply.old reply.new }
+    ensures reads { ReadsHeld E.S.Space E.holds engine.old engine.new space.old space.new }
     ensures front { IsPrefix reply.old reply.new }
     ensures keeps { Keeps E.S.Space space.old space.new }
-    ensures cause { (IsErrOf result RecErr.Fault → Rose (E.S.faults space.old) (E.S.faults space.new)) × (IsErrOf result RecErr.Full → ⊥) }
+    ensures cause { Blames E.S.Space result space.old space.new }
 {
     let number = engine.size(space)?;
     eight(number, reply)
@@ -254,11 +252,11 @@ pub fn stat<E: Engine>(
     reply: &mut Blob,
 ) -> Result<bool, RecErr>
     requires { IsReady E.S.Space E.holds engine.old space.old }
-    ensures answers { IfOk result (λ done. Answers E.S.Space E.holds lines_told answer.Fail false done engine.old engine.new space.old space.new reply.old reply.new) }
-    ensures reads { Reads E.S.Space (Held E.S.Space E.holds) engine.old engine.new space.old space.new }
+    ensures answers { TellsBy E.S.Space E.holds result lines_told answer.Fail engine.old engine.new space.old space.new reply.old reply.new }
+    ensures reads { ReadsHeld E.S.Space E.holds engine.old engine.new space.old space.new }
     ensures front { IsPrefix reply.old reply.new }
     ensures keeps { Keeps E.S.Space space.old space.new }
-    ensures cause { (IsErrOf result RecErr.Fault → Rose (E.S.faults space.old) (E.S.faults space.new)) × (IsErrOf result RecErr.Full → ⊥) }
+    ensures cause { Blames E.S.Space result space.old space.new }
 {
     let (kind, count) = (engine.kind(), engine.count());
     let size = engine.size(space)?;
@@ -275,11 +273,11 @@ pub fn misc_get<E: Engine>(
     reply: &mut Blob,
 ) -> Result<bool, RecErr>
     requires { IsReady E.S.Space E.holds engine.old space.old }
-    ensures answers { IfOk result (λ done. Answers E.S.Space E.holds (meant (misc.Get key.now)) answer.FailMisc false done engine.old engine.new space.old space.new reply.old reply.new) }
-    ensures reads { Reads E.S.Space (Held E.S.Space E.holds) engine.old engine.new space.old space.new }
+    ensures answers { TellsBy E.S.Space E.holds result (meant (misc.Get key.now)) answer.FailMisc engine.old engine.new space.old space.new reply.old reply.new }
+    ensures reads { ReadsHeld E.S.Space E.holds engine.old engine.new space.old space.new }
     ensures front { IsPrefix reply.old reply.new }
     ensures keeps { Keeps E.S.Space space.old space.new }
-    ensures cause { (IsErrOf result RecErr.Fault → Rose (E.S.faults space.old) (E.S.faults space.new)) × (IsErrOf result RecErr.Full → ⊥) }
+    ensures cause { Blames E.S.Space result space.old space.new }
 {
     let begin = reply.len();
     let mut rows = open_list(alloc, reply)?;
@@ -295,11 +293,11 @@ fn fill_all<E: Engine>(
     into: &mut Rows,
 ) -> Result<(), RecErr>
     requires { IsReady E.S.Space E.holds engine.old space.old }
-    ensures rows { OnOk result ((c : Contents) → Held E.S.Space E.holds engine.old space.old c → Adds into.old into.new (map item_row (texts_of (flat_map (all_pairs c) keys)))) }
+    ensures rows { AddsOf E.S.Space E.holds result (λ c. text_rows (flat_map (all_pairs c) keys)) engine.old space.old into.old into.new }
     ensures front { Extends into.old into.new }
-    ensures reads { Reads E.S.Space (Held E.S.Space E.holds) engine.old engine.new space.old space.new }
+    ensures reads { ReadsHeld E.S.Space E.holds engine.old engine.new space.old space.new }
     ensures keeps { Keeps E.S.Space space.old space.new }
-    ensures cause { (IsErrOf result RecErr.Fault → Rose (E.S.faults space.old) (E.S.faults space.new)) × (IsErrOf result RecErr.Full → ⊥) }
+    ensures cause { Blames E.S.Space result space.old space.new }
 {
     for key in keys.into_vec() {
         let key = Key::new(key);
@@ -317,11 +315,11 @@ pub fn misc_getlist<E: Engine>(
     reply: &mut Blob,
 ) -> Result<bool, RecErr>
     requires { IsReady E.S.Space E.holds engine.old space.old }
-    ensures answers { IfOk result (λ done. Answers E.S.Space E.holds (meant (misc.GetList keys)) answer.FailMisc false done engine.old engine.new space.old space.new reply.old reply.new) }
-    ensures reads { Reads E.S.Space (Held E.S.Space E.holds) engine.old engine.new space.old space.new }
+    ensures answers { TellsBy E.S.Space E.holds result (meant (misc.GetList keys)) answer.FailMisc engine.old engine.new space.old space.new reply.old reply.new }
+    ensures reads { ReadsHeld E.S.Space E.holds engine.old engine.new space.old space.new }
     ensures front { IsPrefix reply.old reply.new }
     ensures keeps { Keeps E.S.Space space.old space.new }
-    ensures cause { (IsErrOf result RecErr.Fault → Rose (E.S.faults space.old) (E.S.faults space.new)) × (IsErrOf result RecErr.Full → ⊥) }
+    ensures cause { Blames E.S.Space result space.old space.new }
 {
     let begin = reply.len();
     let mut rows = open_list(alloc, reply)?;
@@ -339,11 +337,11 @@ fn fill_range<E: Engine>(
     into: &mut Rows,
 ) -> Result<(), RecErr>
     requires { IsReady E.S.Space E.holds engine.old space.old }
-    ensures rows { OnOk result ((c : Contents) → Held E.S.Space E.holds engine.old space.old c → Adds into.old into.new (map item_row (texts_of (ranged c from to most)))) }
+    ensures rows { AddsOf E.S.Space E.holds result (λ c. text_rows (ranged c from to most)) engine.old space.old into.old into.new }
     ensures front { Extends into.old into.new }
-    ensures reads { Reads E.S.Space (Held E.S.Space E.holds) engine.old engine.new space.old space.new }
+    ensures reads { ReadsHeld E.S.Space E.holds engine.old engine.new space.old space.new }
     ensures keeps { Keeps E.S.Space space.old space.new }
-    ensures cause { (IsErrOf result RecErr.Fault → Rose (E.S.faults space.old) (E.S.faults space.new)) × (IsErrOf result RecErr.Full → ⊥) }
+    ensures cause { Blames E.S.Space result space.old space.new }
 {
     let from = Key::new(from);
     match to {
@@ -366,11 +364,11 @@ pub fn misc_range<E: Engine>(
     reply: &mut Blob,
 ) -> Result<bool, RecErr>
     requires { IsReady E.S.Space E.holds engine.old space.old }
-    ensures answers { IfOk result (λ done. Answers E.S.Space E.holds (meant (misc.Range from maximum.now to)) answer.FailMisc false done engine.old engine.new space.old space.new reply.old reply.new) }
-    ensures reads { Reads E.S.Space (Held E.S.Space E.holds) engine.old engine.new space.old space.new }
+    ensures answers { TellsBy E.S.Space E.holds result (meant (misc.Range from maximum.now to)) answer.FailMisc engine.old engine.new space.old space.new reply.old reply.new }
+    ensures reads { ReadsHeld E.S.Space E.holds engine.old engine.new space.old space.new }
     ensures front { IsPrefix reply.old reply.new }
     ensures keeps { Keeps E.S.Space space.old space.new }
-    ensures cause { (IsErrOf result RecErr.Fault → Rose (E.S.faults space.old) (E.S.faults space.new)) × (IsErrOf result RecErr.Full → ⊥) }
+    ensures cause { Blames E.S.Space result space.old space.new }
 {
     let Some(most) = maximum_of(maximum.as_slice()) else {
         return fail(Voice::Misc, reply);

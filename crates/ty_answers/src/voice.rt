@@ -1,5 +1,5 @@
 //! How changes are answered.
-ghost use Rattle.std.specs.Prelude.{◌≡◌, ◌++◌, ℕ, List, take, false, OnOk, OnErr, if◌then◌else◌};
+ghost use Rattle.std.specs.Prelude.{◌≡◌, ◌++◌, take, false, OnOk, OnErr, if◌then◌else◌};
 ghost use Rattle.ty_wire.specs.Prefixes.{IsPrefix};
 ghost use Rattle.ty_wire.specs.Spelling.{reply_bytes};
 ghost use Rattle.ty_answers.specs.Answers.{done_reply, fail_reply};

@@ -1,16 +1,15 @@
 //! The walk over the keys.
-ghost use Rattle.std.specs.Prelude.{◌≡◌, ◌<◌, ◌+◌, ◌++◌, drop, option_map, length, None, IfSome, MatchOption, OnErr, IfOk, IsErrOf};
+ghost use Rattle.std.specs.Prelude.{◌≡◌, ◌<◌, length, None, IfSome, MatchOption, OnErr, IfOk};
 ghost use Rattle.tc_base.specs.declared.request.Request.TheVariants as request;
-ghost use Rattle.tc_io.specs.Causes.{Rose};
-ghost use Rattle.tc_space.specs.Frames.{Keeps, Reads};
-ghost use Rattle.ty_base.specs.Holding.{Held, IsReady};
+ghost use Rattle.tc_space.specs.Frames.{Keeps};
+ghost use Rattle.tc_space.specs.Refusals.{Blames};
+ghost use Rattle.ty_base.specs.Holding.{IsReady, ReadsHeld, OfHeld};
 ghost use Rattle.ty_wire.specs.Prefixes.{IsPrefix};
-ghost use Rattle.tc_model.specs.Contents.{Contents};
 ghost use Rattle.tc_model.specs.Apply.{next_of};
 ghost use Rattle.tc_model.specs.Steps.{IsAt};
 ghost use Rattle.tc_model.specs.Walks.{HasKeys};
-ghost use Rattle.ty_answers.specs.Steps.{Steps};
 ghost use Rattle.ty_answers.specs.Walking.{SaysNext};
+ghost use Rattle.ty_answers.specs.Steps.{StepsBy};
 
 use crate::failing::fail;
 use crate::reads::{done, say_value};
@@ -28,12 +27,12 @@ pub fn begin<E: Engine>(
     reply: &mut Blob,
 ) -> Result<bool, RecErr>
     requires { IsReady E.S.Space E.holds engine.old space.old }
-    ensures steps { IfOk result (λ done. Steps E.S.Space E.holds request.IterInit done engine.old engine.new space.old space.new walk.old walk.new reply.old reply.new) }
-    ensures reads { Reads E.S.Space (Held E.S.Space E.holds) engine.old engine.new space.old space.new }
+    ensures steps { StepsBy E.S.Space E.holds result request.IterInit engine.old engine.new space.old space.new walk.old walk.new reply.old reply.new }
+    ensures reads { ReadsHeld E.S.Space E.holds engine.old engine.new space.old space.new }
     ensures walk { OnErr result (walk.new ≡ walk.old) }
     ensures front { IsPrefix reply.old reply.new }
     ensures keeps { Keeps E.S.Space space.old space.new }
-    ensures cause { (IsErrOf result RecErr.Fault → Rose (E.S.faults space.old) (E.S.faults space.new)) × (IsErrOf result RecErr.Full → ⊥) }
+    ensures cause { Blames E.S.Space result space.old space.new }
 {
     let keys = engine.keys(space)?;
     let done = done(reply)?;
@@ -48,11 +47,11 @@ fn first_held<E: Engine>(
     keys: &[Key],
 ) -> Result<Option<usize>, RecErr>
     requires { IsReady E.S.Space E.holds engine.old space.old }
-    ensures place { IfOk result (λ o. (c : Contents) → Held E.S.Space E.holds engine.old space.old c → MatchOption o (next_of c keys.now ≡ None) (λ i. IsAt c keys.now i)) }
+    ensures place { IfOk result (λ o. OfHeld E.S.Space E.holds engine.old space.old (λ c. MatchOption o (next_of c keys.now ≡ None) (λ i. IsAt c keys.now i))) }
     ensures inside { IfOk result (λ o. IfSome o (λ i. i < length keys.now)) }
-    ensures reads { Reads E.S.Space (Held E.S.Space E.holds) engine.old engine.new space.old space.new }
+    ensures reads { ReadsHeld E.S.Space E.holds engine.old engine.new space.old space.new }
     ensures keeps { Keeps E.S.Space space.old space.new }
-    ensures cause { (IsErrOf result RecErr.Fault → Rose (E.S.faults space.old) (E.S.faults space.new)) × (IsErrOf result RecErr.Full → ⊥) }
+    ensures cause { Blames E.S.Space result space.old space.new }
 {
     for (i, key) in keys.iter().enumerate() {
         if engine.value_len(space, key)?.is_some() {
@@ -70,12 +69,12 @@ fn say_next<E: Engine>(
     reply: &mut Blob,
 ) -> Result<Option<usize>, RecErr>
     requires { IsReady E.S.Space E.holds engine.old space.old }
-    ensures says { IfOk result (λ o. (c : Contents) → Held E.S.Space E.holds engine.old space.old c → SaysNext c walk.now o reply.old reply.new) }
+    ensures says { IfOk result (λ o. OfHeld E.S.Space E.holds engine.old space.old (λ c. SaysNext c walk.now o reply.old reply.new)) }
     ensures there { IfOk result (λ o. IfSome o (λ n. HasKeys n walk.now)) }
-    ensures reads { Reads E.S.Space (Held E.S.Space E.holds) engine.old engine.new space.old space.new }
+    ensures reads { ReadsHeld E.S.Space E.holds engine.old engine.new space.old space.new }
     ensures front { IsPrefix reply.old reply.new }
     ensures keeps { Keeps E.S.Space space.old space.new }
-    ensures cause { (IsErrOf result RecErr.Fault → Rose (E.S.faults space.old) (E.S.faults space.new)) × (IsErrOf result RecErr.Full → ⊥) }
+    ensures cause { Blames E.S.Space result space.old space.new }
 {
     let Some(keys) = walk.keys() else {
         fail(Voice::Plain, reply)?;
@@ -99,12 +98,12 @@ pub fn step<E: Engine>(
     reply: &mut Blob,
 ) -> Result<bool, RecErr>
     requires { IsReady E.S.Space E.holds engine.old space.old }
-    ensures steps { IfOk result (λ done. Steps E.S.Space E.holds request.IterNext done engine.old engine.new space.old space.new walk.old walk.new reply.old reply.new) }
-    ensures reads { Reads E.S.Space (Held E.S.Space E.holds) engine.old engine.new space.old space.new }
+    ensures steps { StepsBy E.S.Space E.holds result request.IterNext engine.old engine.new space.old space.new walk.old walk.new reply.old reply.new }
+    ensures reads { ReadsHeld E.S.Space E.holds engine.old engine.new space.old space.new }
     ensures walk { OnErr result (walk.new ≡ walk.old) }
     ensures front { IsPrefix reply.old reply.new }
     ensures keeps { Keeps E.S.Space space.old space.new }
-    ensures cause { (IsErrOf result RecErr.Fault → Rose (E.S.faults space.old) (E.S.faults space.new)) × (IsErrOf result RecErr.Full → ⊥) }
+    ensures cause { Blames E.S.Space result space.old space.new }
 {
     let Some(n) = say_next(engine, space, walk, reply)? else {
         return Ok(false);

@@ -1,6 +1,8 @@
 -- Refusals, and the causes that they name.
-use Rattle.std.proofs.Common.{rules, ◌≡◌, ◌∙◌, ℕ, List, [], ◌∷◌, length, refl, sym, arith}
-use Rattle.std.specs.Prelude.{Err, IsErrOf}
+use Rattle.std.proofs.Common.{rules, ◌≡◌, ◌∙◌, ℕ, List, [], ◌∷◌, length, refl, sym, ap, arith}
+use Rattle.std.specs.Prelude.{Result, Ok, Err, OnOk, OnErr, IsErrOf}
+use Rattle.std.specs.Result.{IsErrAnd}
+use Rattle.std.proofs.lemmas.Result.{err_from_is_err_and}
 use Rattle.tc_base.specs.declared.kind.Rule.{Rule}
 use Rattle.tc_space.specs.declared.errors.RecErr.{RecErr}
 use Rattle.tc_space.specs.declared.errors.RecErr.TheVariants as rec
@@ -11,6 +13,19 @@ use Rattle.ty_base.specs.Opening.{Breaks, IsNotBroken, any_of}
 pub no_bytes : (xs : List ℕ) → length xs ≡ 0 → xs ≡ []
 no_bytes [] e = refl
 no_bytes (x ∷ xs) e = absurd (omega (arith, e))
+
+-- what holds whatever the answer is
+pub on_ok_of : {T E A : Type 0} (r : Result T E) → A → OnOk r A
+on_ok_of (Ok x) holds = holds
+on_ok_of (Err e) holds = tt
+
+pub on_err_of : {T E A : Type 0} (r : Result T E) → A → OnErr r A
+on_err_of (Ok x) holds = tt
+on_err_of (Err e) holds = holds
+
+-- what the exit of a `?` answers
+pub err_is : {T E : Type 0} (r : Result T E) (e : E) → IsErrAnd r (λ f. f ≡ e) → r ≡ Err e
+err_is r e is = let p = err_from_is_err_and r is in p.1 ∙ ap (λ f. Err f) p.2
 
 -- a refusal, whatever the answer would have been
 pub same_refusal : {T U E : Type 0} (e f : E) → IsErrOf {T = T} (Err e) f → IsErrOf {T = U} (Err e) f
@@ -27,6 +42,10 @@ full_only rec.Memory is = search (rules, is)
 -- a refusal for want of room
 pub full_of : {T : Type 0} (e : RecErr) (a : AnyErr) → a ≡ any_of e → IsErrOf {T = T} (Err a) any.Full → e ≡ rec.Full
 full_of e a is full = full_only e (sym is ∙ cause_is a any.Full full)
+
+-- the same at the exit of a `?`
+pub full_from : {T U : Type 0} (r : Result T AnyErr) (e : RecErr) → IsErrAnd r (λ a. a ≡ any_of e) → IsErrOf r any.Full → IsErrOf {T = U} (Err e) rec.Full
+full_from r e is full = let p = err_from_is_err_and r is in ap (λ x. Err x) (full_of e p.0 p.2 (sym p.1 ∙ full))
 
 -- whatever is asked of a rule
 pub breaks_none : (e : AnyErr) (P : ℕ → Rule → Type 0) → IsNotBroken e → Breaks e P

@@ -1,13 +1,14 @@
 -- What a database holds over the files of its space.
-use Rattle.std.specs.Prelude.{◌≡◌, ◌≢◌, ◌⊎◌, ◌||◌, ℕ, Bool, true, false, List}
+use Rattle.std.specs.Prelude.{◌≡◌, ◌≢◌, ◌⊎◌, ◌||◌, ◌++◌, ℕ, Bool, true, false, List, Result, IfOk, OnErr}
 use Rattle.std.proofs.Common.{◌∙◌, arith, refl, sym}
 use Rattle.tc_base.specs.Files.{Files}
+use Rattle.tc_base.specs.declared.kind.Form.{Form}
 use Rattle.tc_base.specs.declared.request.Request.{Request}
-use Rattle.tc_space.specs.Frames.{OnlyReads, Others, Reads, only_reads_refl}
+use Rattle.tc_space.specs.Frames.{OnlyReads, Others, Reads, Refuses, only_reads_refl}
 use Rattle.tc_space.specs.Stores.{Only}
 use Rattle.tc_space.specs.declared.space.Space.{Ghosts}
 use Rattle.tc_model.specs.Contents.{Contents, Walk}
-use Rattle.tc_model.specs.Apply.{Step, updates}
+use Rattle.tc_model.specs.Apply.{Step, apply, updates}
 use Rattle.tc_model.specs.Applying.{Applies}
 use Rattle.tc_model.specs.Packing.{is_optimize}
 use Rattle.tc_model.specs.declared.applied.Applied.{Applied}
@@ -16,11 +17,64 @@ use Rattle.tc_model.specs.declared.applied.Applied.{Applied}
 abbrev pub Held : {S B : Type 0} → Ghosts S → (B → Files → Contents → Type 0) → B → S → Contents → Type 0
 Held s holds base space c = s.tells × holds base (s.now space) c
 
+module _ {S B : Type 0} (s : Ghosts S) (holds : B → Files → Contents → Type 0) where
+  -- of whatever is held
+  abbrev pub OfHeld : B → S → (Contents → Type 0) → Type 0
+  OfHeld base space P = (c : Contents) → Held s holds base space c → P c
+
+  -- this is found in whatever is held
+  abbrev pub FindsHeld : {A E : Type 0} → Result A E → (Contents → A) → B → S → Type 0
+  FindsHeld result f base space = IfOk result (λ x. OfHeld base space (λ c. x ≡ f c))
+
+  -- nothing is written, and what is held stays
+  abbrev pub ReadsHeld : B → B → S → S → Type 0
+  ReadsHeld base base' old new = Reads s (Held s holds) base base' old new
+
+  -- after a refusal the space may not be used any more, or files and contents stay
+  abbrev pub RefusesHeld : {A E : Type 0} → Result A E → B → B → S → S → Type 0
+  RefusesHeld result base base' old new = OnErr result (Refuses s (Held s holds) base base' old new)
+
+  -- what was held is held
+  abbrev pub Remains : B → B → S → S → Type 0
+  Remains base base' old new = OfHeld base old (λ c. Held s holds base' new c)
+
+  -- besides, the files stand for it
+  abbrev pub SettlesHeld : (Files → Contents → Type 0) → B → B → S → S → Type 0
+  SettlesHeld reopens base base' old new = OfHeld base old (λ c. Held s holds base' new c × reopens (s.now new) c)
+
+  -- the files stand for what is held
+  abbrev pub FilesStand : (Files → Contents → Type 0) → B → S → Type 0
+  FilesStand reopens base space = s.tells → (c : Contents) × holds base (s.now space) c × reopens (s.now space) c
+
+  -- in which form it was packed, in that the files are now
+  abbrev pub PacksHeld : (B → Form → Type 0) → (Form → Files → Type 0) → B → S → S → Type 0
+  PacksHeld tight packed base old new = (form : Form) (c : Contents) → tight base form → Held s holds base old c → packed form (s.now new)
+
+  -- a limit is reached where what is held is to be written as it is
+  abbrev pub FillsAsIs : (S → Contents → Contents → Type 0) → B → S → S → Type 0
+  FillsAsIs fills base old new = OfHeld base old (λ c. fills new c c)
+
+-- these lines are told of the files
+abbrev pub TellsLines : {S : Type 0} → Ghosts S → (Files → List ℕ → Type 0) → S → List ℕ → List ℕ → Type 0
+TellsLines s lines space old new = s.tells → (text : List ℕ) × lines (s.now space) text × (new ≡ old ++ text)
+
 -- what a request makes of the contents is held now
 pub record Serves {S B : Type 0} (s : Ghosts S) (held : B → Files → Contents → Type 0) (step : Step) (r : Request) (a : Applied) (base : B) (space : S) (w : Walk) (old new : List ℕ) : Type 0 where
   pub contents : Contents
   pub holds : Held s held base space contents
   pub applies : Applies step r a contents w old new
+
+-- of whatever was held, on a replica or not
+abbrev pub ServedBy : {S B : Type 0} → Ghosts S → (B → Files → Contents → Type 0) → Bool → Request → Applied → B → B → S → S → Walk → Walk → List ℕ → List ℕ → Type 0
+ServedBy s holds replica r a base base' old new w w' reply reply' = OfHeld s holds base old (λ c. Serves s holds (apply replica r c w) r a base' new w' reply reply')
+
+-- the contents after a request
+abbrev pub contents_after : Bool → Request → Walk → Contents → Contents
+contents_after replica r w c = (apply replica r c w).contents
+
+-- it was no change of the contents, and didn't pack the files
+abbrev pub is_idle : Request → Applied → Type 0
+is_idle r a = (a.updated ≡ false) × (is_optimize r ≡ false)
 
 -- a request that may write files: one that may change contents, or pack the files
 abbrev pub may_write : Request → Bool

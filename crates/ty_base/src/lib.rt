@@ -4,7 +4,9 @@
 mod base;
 mod errors;
 mod opens;
+mod storage;
 
 pub use base::Base;
 pub use errors::AnyErr;
 pub use opens::Opens;
+pub use storage::Storage;

@@ -11,12 +11,14 @@ use Rattle.tc_model.specs.Apply.{Step, apply, is_updated, refusal_of, updates}
 use Rattle.tc_model.specs.Applying.{Applies}
 use Rattle.tc_model.specs.declared.applied.Applied.{Applied}
 use Rattle.tc_model.specs.Contents.{Contents, Walk}
-use Rattle.tc_model.proofs.Updating.{apply_refused}
+use Rattle.tc_model.proofs.Updating.{apply_refused, apply_same}
 use Rattle.tc_space.specs.declared.space.Space.{Ghosts}
 use Rattle.ty_wire.specs.Prefixes.{IsPrefix}
 use Rattle.ty_wire.specs.Reading.{request_at}
 use Rattle.ty_wire.specs.Spelling.{spelling, Fits, reply_bytes}
 use Rattle.tc_model.specs.Packing.{is_optimize}
+use Rattle.ty_base.specs.Holding as holding
+use Rattle.ty_base.specs.Holding.{ServedBy}
 use Rattle.ty_core.specs.declared.serving.Served.{Served}
 use Rattle.ty_core.specs.declared.taking.Taken.{Taken}
 use Rattle.ty_core.specs.Serving.{IsTaken, IsWhole, Serves, ServesFront, TakesOff, feed_of, update_of}
@@ -30,6 +32,11 @@ refused_applies replica r c w old new u e = let is = sym (apply_refused replica 
   ok = ap (λ (s : Step). s.ok) is;
   updated = ap (λ (s : Step). is_updated r s) is;
 }
+
+-- what serves on no replica does on one, where it doesn't update there
+pub served_alike : {S B : Type 0} (s : Ghosts S) (holds : B → Files → Contents → Type 0) (replica : Bool) (r : Request) (a : Applied) (base base' : B) (x y : S) (w w' : Walk) (old new : List ℕ) → (replica && updates r) ≡ false → ServedBy s holds false r a base base' x y w w' old new
+    → ServedBy s holds replica r a base base' x y w w' old new
+served_alike s holds replica r a base base' x y w w' old new idle served c h = subst (λ (p : Step). holding.Serves s holds p r a base' y w' old new) (sym (apply_same replica r c w idle)) (served c h)
 
 -- ---- the request at the front
 

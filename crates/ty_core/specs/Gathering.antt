@@ -2,8 +2,8 @@
 use Rattle.std.specs.Prelude.{◌≡◌, ◌<◌, ◌≤◌, ℕ, List, [], ◌∷◌, ◌++◌, length, Option, Some, None, MatchOption}
 use Rattle.std.specs.Int.{w32, to_be_bytes}
 use Rattle.ty_wire.specs.declared.reading.Front.{Front}
-use Rattle.ty_wire.specs.declared.looking.Seen.{Seen}
-use Rattle.ty_wire.specs.Seen.{IsSeen}
+use Rattle.ty_look.specs.declared.looking.Seen.{Seen}
+use Rattle.ty_look.specs.Seen.{IsSeen}
 use Rattle.ty_wire.specs.Taking.{Takes, IsRead}
 use Rattle.ty_core.specs.declared.large.Large.{Large}
 

@@ -1,7 +1,7 @@
 -- What holds of the fields of a connection's bytes.
 use Rattle.std.specs.Prelude.{ℕ, List, Option}
 use Rattle.ty_wire.specs.declared.reading.Front.{Front}
-use Rattle.ty_wire.specs.declared.looking.Seen.{Seen}
+use Rattle.ty_look.specs.declared.looking.Seen.{Seen}
 use Rattle.ty_core.specs.declared.large.Large.{Large}
 use Rattle.ty_core.specs.Gathering.{IsSighted, MayGather, all_of}
 

@@ -11,6 +11,7 @@ use Rattle.tc_model.specs.Contents.{Contents, Walk}
 use Rattle.tc_model.specs.Apply.{Step, apply, is_updated, updates}
 use Rattle.tc_model.specs.Packing.{is_optimize}
 use Rattle.ty_base.specs.Holding.{FillsBy, Held}
+use Rattle.ty_core.specs.Queues.{Queue}
 use Rattle.ty_core.specs.declared.serving.Feed.{Feed}
 use Rattle.ty_core.specs.declared.serving.Served.{Served}
 use Rattle.ty_core.specs.declared.taking.Taken.{Taken}
@@ -67,8 +68,19 @@ pub record ServesFront {S B : Type 0} (s : Ghosts S) (holds : B → Files → Co
   pub few : length waiting' ≤ length waiting + reply_most d.feeds
   pub serves : (c : Contents) → Held s holds base old c → (e : Contents) × Held s holds base' new e × Serves replica logs request d c e w w' waiting waiting'
 
+-- the same of a request that was taken off bytes, whichever they were
+abbrev pub ServesTaken : {S B : Type 0} → Ghosts S → (B → Files → Contents → Type 0) → Taken → Bool → Served → B → B → S → S → Walk → Walk → List ℕ → List ℕ → Type 0
+ServesTaken s holds t replica d base base' old new w w' waiting waiting' = (logs : Bool) (unread rest : List ℕ) → IsTaken t logs unread rest → ServesFront s holds replica logs d base base' old new w w' unread rest waiting waiting'
+
+-- the same of a connection's queues
+abbrev pub ServesQueue : {S B : Type 0} → Ghosts S → (B → Files → Contents → Type 0) → Bool → Bool → Served → B → B → S → S → Walk → Walk → Queue → Queue → Type 0
+ServesQueue s holds replica logs d base base' old new w w' q q' = ServesFront s holds replica logs d base base' old new w w' q.unread q'.unread q.waiting q'.waiting
+
 -- a limit is reached, where the request at the front may write, between contents and what it makes of them
 pub record FillsFront {S B : Type 0} (s : Ghosts S) (holds : B → Files → Contents → Type 0) (fills : Contents → Contents → Type 0) (replica : Bool) (base : B) (old : S) (w : Walk) (unread : List ℕ) : Type 0 where
   pub request : Request
   pub begins : Begins request unread
   pub full : FillsBy s holds fills request base old (λ c. (apply replica request c w).contents)
+
+abbrev pub FillsTaken : {S B : Type 0} → Ghosts S → (B → Files → Contents → Type 0) → (Contents → Contents → Type 0) → Taken → Bool → B → S → Walk → Type 0
+FillsTaken s holds fills t replica base old w = (logs : Bool) (unread rest : List ℕ) → IsTaken t logs unread rest → FillsFront s holds fills replica base old w unread

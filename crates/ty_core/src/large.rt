@@ -1,6 +1,5 @@
 //! A put of a large value, whose bytes come in pieces.
-ghost use Rattle.std.specs.Prelude.{◌≡◌, ◌++◌, ◌+◌, ◌≤◌, [], ◌∷◌, List, length, drop, take, OnOk, OnErr, IfOk, IfSome, if◌then◌else◌, Option, Some, None};
-ghost use Rattle.tc_base.specs.declared.request.Request.{Request};
+ghost use Rattle.std.specs.Prelude.{◌≡◌, ◌++◌, ◌+◌, ◌≤◌, [], ◌∷◌, length, drop, take, OnOk, OnErr, IfOk, IfSome, if◌then◌else◌, Some, None};
 ghost use Rattle.ty_wire.specs.Taking.{Takes, IsRead};
 ghost use Rattle.ty_core.specs.Gathering.{Adds, BeginsPut, Gathers, all_of};
 

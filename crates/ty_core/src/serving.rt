@@ -1,15 +1,12 @@
 //! A request, served.
-ghost use Rattle.std.specs.Prelude.{◌≡◌, ◌≢◌, ◌⊎◌, ◌≤◌, ◌++◌, ◌&&◌, ℕ, Bool, true, false, List, Option, OnOk, OnErr, IfOk, IsErrOf, IsTrue, Ok, length, drop, if◌then◌else◌, Some, None};
-ghost use Rattle.tc_base.specs.declared.request.Request.{Request};
-ghost use Rattle.tc_io.specs.Causes.{Rose};
+ghost use Rattle.std.specs.Prelude.{◌≡◌, false, OnErr, IfOk, IsErrOf, if◌then◌else◌, None};
 ghost use Rattle.tc_space.specs.Frames.{Keeps};
-ghost use Rattle.tc_model.specs.Contents.{Contents};
-ghost use Rattle.tc_model.specs.Apply.{apply, refusal_of, updates};
+ghost use Rattle.tc_space.specs.Refusals.{OnFault};
+ghost use Rattle.tc_model.specs.Apply.{refusal_of};
 ghost use Rattle.ty_wire.specs.Prefixes.{IsPrefix};
-ghost use Rattle.ty_base.specs.Holding.{Declines, FillsBy, Held, IsReady, Leaves};
-ghost use Rattle.ty_base.specs.Holding as holding;
+ghost use Rattle.ty_base.specs.Holding.{Declines, FillsBy, IsReady, Leaves, ServedBy, contents_after, is_idle};
 ghost use Rattle.tc_model.specs.Packing.{is_optimize};
-ghost use Rattle.ty_core.specs.Serving.{FillsFront, IsTaken, ServesFront, feed_of, reply_most};
+ghost use Rattle.ty_core.specs.Serving.{FillsTaken, ServesTaken, feed_of, reply_most};
 
 use crate::taking::{Taken, if_updating};
 use tc_base::{Blob, REPLY_MOST, Reply, Request};
@@ -94,13 +91,13 @@ pub fn answer<B: Base>(
     reply: &mut Blob,
 ) -> Result<Applied, RecErr>
     requires ready { IsReady B.S.Space B.holds base.old space.old }
-    ensures applied { IfOk result (λ a. (c : Contents) → Held B.S.Space B.holds base.old space.old c → holding.Serves B.S.Space B.holds (apply replica request c walk.old) request a base.new space.new walk.new reply.old reply.new) }
-    ensures leaves { IfOk result (λ a. Leaves B.S.Space ((a.updated ≡ false) × (is_optimize request ≡ false)) space.old space.new) }
+    ensures applied { IfOk result (λ a. ServedBy B.S.Space B.holds replica request a base.old base.new space.old space.new walk.old walk.new reply.old reply.new) }
+    ensures leaves { IfOk result (λ a. Leaves B.S.Space (is_idle request a) space.old space.new) }
     ensures refused { OnErr result (Declines B.S.Space B.holds base.old base.new space.old space.new walk.old walk.new) }
     ensures reply_front { IsPrefix reply.old reply.new }
-    ensures full { IsErrOf result RecErr.Full → FillsBy B.S.Space B.holds (B.fills space.new) request base.old space.old (λ c. (apply replica request c walk.old).contents) }
+    ensures full { IsErrOf result RecErr.Full → FillsBy B.S.Space B.holds (B.fills space.new) request base.old space.old (contents_after replica request walk.old) }
     ensures keeps { Keeps B.S.Space space.old space.new }
-    ensures cause { IsErrOf result RecErr.Fault → Rose (B.S.faults space.old) (B.S.faults space.new) }
+    ensures cause { OnFault B.S.Space result space.old space.new }
 {
     if if_updating(&request, replica) {
         write_reply(&refusal(&request), reply)?;
@@ -109,10 +106,7 @@ pub fn answer<B: Base>(
             updated: false,
         });
     }
-    match base.apply(space, request, walk, reply) {
-        Ok(applied) => Ok(applied),
-        Err(e) => Err(e),
-    }
+    base.apply(space, request, walk, reply)
 }
 
 /// Serves a request that was taken off. Where its bytes were asked for, those of one that updates are given back. A reply that is longer
@@ -127,22 +121,19 @@ pub fn serve_taken<B: Base>(
     replica: bool,
 ) -> Result<Served, RecErr>
     requires ready { IsReady B.S.Space B.holds base.old space.old }
-    ensures served { IfOk result (λ d. (logs : Bool) (unread rest : List ℕ) → IsTaken taken logs unread rest → ServesFront B.S.Space B.holds replica logs d base.old base.new space.old space.new walk.old walk.new unread rest waiting.old waiting.new) }
+    ensures served { IfOk result (λ d. ServesTaken B.S.Space B.holds taken replica d base.old base.new space.old space.new walk.old walk.new waiting.old waiting.new) }
     ensures leaves { IfOk result (λ d. Leaves B.S.Space (d.commits ≡ false) space.old space.new) }
     ensures refused { OnErr result (Declines B.S.Space B.holds base.old base.new space.old space.new walk.old walk.new) }
     ensures waiting_front { IsPrefix waiting.old waiting.new }
-    ensures full { IsErrOf result RecErr.Full → (logs : Bool) (unread rest : List ℕ) → IsTaken taken logs unread rest → FillsFront B.S.Space B.holds (B.fills space.new) replica base.old space.old walk.old unread }
+    ensures full { IsErrOf result RecErr.Full → FillsTaken B.S.Space B.holds (B.fills space.new) taken replica base.old space.old walk.old }
     ensures keeps { Keeps B.S.Space space.old space.new }
-    ensures cause { IsErrOf result RecErr.Fault → Rose (B.S.faults space.old) (B.S.faults space.new) }
+    ensures cause { OnFault B.S.Space result space.old space.new }
 {
     let Taken { request, copied } = taken;
     let packs = is_packing(&request);
     let feeds = asked_feed(&request);
     let before = waiting.len();
-    let applied = match answer(base, space, request, walk, replica, waiting) {
-        Ok(applied) => applied,
-        Err(e) => return Err(e),
-    };
+    let applied = answer(base, space, request, walk, replica, waiting)?;
     if waiting.len() - before > most_of(&feeds) {
         space.spoil();
         return Err(RecErr::Memory);

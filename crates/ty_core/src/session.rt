@@ -1,12 +1,12 @@
 //! One connection's bytes.
 ghost use Rattle.std.specs.Prelude.{◌≡◌, ◌≤◌, ◌++◌, ℕ, false, [], OnOk, OnErr, IfOk, IsErrOf, length, drop};
-ghost use Rattle.tc_io.specs.Causes.{Rose};
 ghost use Rattle.tc_space.specs.Frames.{Keeps};
+ghost use Rattle.tc_space.specs.Refusals.{OnFault};
 ghost use Rattle.ty_wire.specs.declared.reading.Front.TheVariants.{Whole};
 ghost use Rattle.ty_wire.specs.Taking.{Takes, IsRead};
 ghost use Rattle.ty_base.specs.Holding.{Declines, IsReady, Leaves};
 ghost use Rattle.ty_core.specs.Queues.{queue};
-ghost use Rattle.ty_core.specs.Serving.{FillsFront, ServesFront};
+ghost use Rattle.ty_core.specs.Serving.{FillsFront, ServesQueue};
 
 use crate::serving::{Served, serve_taken};
 use crate::unread::Unread;
@@ -124,18 +124,14 @@ impl Session {
         requires whole { (n : ℕ) × IsRead self.old.unread (Whole n) }
         requires quiet { self.old.waiting ≡ [] }
         requires ready { IsReady B.S.Space B.holds base.old space.old }
-        ensures served { IfOk result (λ d. ServesFront B.S.Space B.holds replica logs d base.old base.new space.old space.new walk.old walk.new self.old.unread self.new.unread self.old.waiting self.new.waiting) }
+        ensures served { IfOk result (λ d. ServesQueue B.S.Space B.holds replica logs d base.old base.new space.old space.new walk.old walk.new self.old self.new) }
         ensures leaves { IfOk result (λ d. Leaves B.S.Space (d.commits ≡ false) space.old space.new) }
         ensures refused { OnErr result (Declines B.S.Space B.holds base.old base.new space.old space.new walk.old walk.new) }
         ensures full { IsErrOf result RecErr.Full → FillsFront B.S.Space B.holds (B.fills space.new) replica base.old space.old walk.old self.old.unread }
         ensures keeps { Keeps B.S.Space space.old space.new }
-        ensures cause { IsErrOf result RecErr.Fault → Rose (B.S.faults space.old) (B.S.faults space.new) }
+        ensures cause { OnFault B.S.Space result space.old space.new }
     {
         let taken = self.unread.take(logs)?;
-        let served = match serve_taken(taken, &mut self.waiting, base, space, walk, replica) {
-            Ok(served) => served,
-            Err(e) => return Err(e),
-        };
-        Ok(served)
+        serve_taken(taken, &mut self.waiting, base, space, walk, replica)
     }
 }

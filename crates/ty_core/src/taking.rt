@@ -1,6 +1,5 @@
 //! The request at the front of bytes, taken off them.
 ghost use Rattle.std.specs.Prelude.{◌≡◌, ◌≤◌, ◌&&◌, List, ℕ, IfOk, length, drop, if◌then◌else◌, Some, None};
-ghost use Rattle.tc_base.specs.declared.request.Request.{Request};
 ghost use Rattle.tc_model.specs.Apply.{updates};
 ghost use Rattle.ty_core.specs.Gathering.{BeginsPut, MayGather, all_of};
 ghost use Rattle.ty_core.specs.Serving.{IsTaken, IsWhole};

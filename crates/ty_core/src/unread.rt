@@ -1,7 +1,7 @@
 //! The bytes of a connection that no request took yet.
-ghost use Rattle.std.specs.Prelude.{◌≡◌, ◌++◌, ℕ, [], Some, length, IfOk, OnOk, OnErr};
+ghost use Rattle.std.specs.Prelude.{◌≡◌, ◌++◌, ℕ, [], IfOk, OnOk, OnErr};
 ghost use Rattle.ty_wire.specs.declared.reading.Front.TheVariants.{Whole};
-ghost use Rattle.ty_wire.specs.Seen.{IsSeen};
+ghost use Rattle.ty_look.specs.Seen.{IsSeen};
 ghost use Rattle.ty_wire.specs.Taking.{Takes, IsRead};
 ghost use Rattle.ty_core.specs.Gathering.{IsSighted, MayGather, all_of};
 ghost use Rattle.ty_core.specs.Serving.{IsTaken};
@@ -11,7 +11,8 @@ use crate::taking::{Taken, take_front};
 use bytes::BytesMut;
 use std::alloc::{AllocError, Global};
 use std::marker::Model;
-use ty_wire::{Front, Seen, look};
+use ty_look::{Seen, look};
+use ty_wire::Front;
 
 /// Bytes in the order in which they came, seen as a list, and what stands at their front.
 #[derive(Drop)]

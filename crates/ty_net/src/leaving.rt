@@ -5,8 +5,8 @@ use std::alloc::Global;
 use std::rt;
 use std::time::{Duration, Instant};
 
-// So many of them at most; beyond, the oldest is given up.
-const MOST: usize = 64;
+// So many leavers at most; beyond, the oldest is given up.
+const LEAVERS_MOST: usize = 64;
 
 // So many seconds a peer has for the system to take what is written for it.
 const PATIENCE: u64 = 30;
@@ -96,7 +96,7 @@ impl Leaving {
         if leaver.line.owes() {
             leaver.since = Instant::now(rt).ok();
         }
-        if self.leavers.len() >= MOST {
+        if self.leavers.len() >= LEAVERS_MOST {
             let _ = self.leavers.remove(0);
         }
         let _ = self.leavers.push(leaver);

@@ -28,7 +28,7 @@ const EVENTS: usize = 256;
 // ahead is short and counts as a half.
 const HALVES_MOST: u32 = 128;
 
-// So many go by where nothing is ready, but requests wait to be served.
+// So many halves of turns go by where nothing is ready, but requests wait to be served.
 const BUSY_HALVES_MOST: u32 = 16;
 
 // So many turns a reply waits at most, to be written in a row with others.
@@ -45,7 +45,7 @@ pub enum Found {
 #[derive(Clone, Copy, PartialEq, Eq)]
 pub enum Of {
     All,
-    /// Those whose end was told.
+    /// The connections whose end was told.
     Closing,
 }
 

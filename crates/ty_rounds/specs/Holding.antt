@@ -20,6 +20,10 @@ AllHold (p ∷ ps) (k ∷ ks) = Holds p k × AllHold ps ks
 AllHold [] (k ∷ ks) = ⊥
 AllHold (p ∷ ps) [] = ⊥
 
+-- whatever clients the old ones stood for, the new ones stand for what this makes of them
+abbrev pub HoldsAs : (List Client → List Client) → List Peer → List Peer → Type 0
+HoldsAs f ps ps' = (ks : List Client) → AllHold ps ks → AllHold ps' (f ks)
+
 abbrev pub AreApart : List ℕ → Type 0
 AreApart [] = Unit {0}
 AreApart (c ∷ cs) = (list_any (nat_eq c) cs ≡ false) × AreApart cs

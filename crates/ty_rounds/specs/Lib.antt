@@ -8,6 +8,7 @@ pub mod Peers
 pub mod Ready
 pub mod Repls
 pub mod Sending
+pub mod Servers
 pub mod Serving
 pub mod Spans
 pub mod Turns

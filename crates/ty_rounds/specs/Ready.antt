@@ -1,12 +1,12 @@
 -- What a server, its space and its wire are between two turns.
-use Rattle.std.specs.Prelude.{◌≡◌, ◌≤◌, true, false, List, [], ◌∷◌, length}
+use Rattle.std.specs.Prelude.{◌≡◌, ◌≤◌, ℕ, true, false, List, [], ◌∷◌, length, nat_eq}
 use Rattle.std.specs.List.{list_any}
 use Rattle.tc_base.specs.Files.{Files}
 use Rattle.tc_io.specs.declared.wire.Wire as wire
 use Rattle.tc_space.specs.declared.space.Space as space
 use Rattle.tc_model.specs.Contents.{Contents}
 use Rattle.ty_base.specs.Holding as holding
-use Rattle.ty_rounds.specs.Peers.{is_over, waits}
+use Rattle.ty_rounds.specs.Peers.{is_over, waiting_numbers, waits}
 use Rattle.ty_rounds.specs.Holding.{Wired}
 use Rattle.ty_rounds.specs.declared.peer.Peer.{Peer}
 
@@ -37,6 +37,10 @@ pub record StayFew (ps ps' : List Peer) : Type 0 where
 
 abbrev pub NoneOver : List Peer → Type 0
 NoneOver ps = list_any is_over ps ≡ false
+
+-- a read of at most 4,096 bytes of a connection that doesn't wait leaves few
+abbrev pub AddsFew : ℕ → List ℕ → List Peer → List Peer → Type 0
+AddsFew conn bytes ps ps' = list_any (nat_eq conn) (waiting_numbers ps) ≡ false → NoneOver ps → length bytes ≤ 4096 → StayFew ps ps'
 
 -- a turn may be made: the wire's connections are the server's, none of them is to be closed, and all that was written is kept
 pub record IsReady {S B W : Type 0} (s : space.Ghosts S) (g : wire.Ghosts W) (holds : B → Files → Contents → Type 0) (base : B) (space : S) (wire : W) (ps : List Peer) : Type 0 where

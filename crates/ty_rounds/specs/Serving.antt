@@ -7,7 +7,7 @@ use Rattle.tc_base.specs.Files.{Files}
 use Rattle.tc_base.specs.declared.request.Request.{Request}
 use Rattle.tc_space.specs.declared.space.Space as space
 use Rattle.ty_base.specs.Holding as holding
-use Rattle.ty_base.specs.Holding.{Held, Leaves, may_write}
+use Rattle.ty_base.specs.Holding.{Held, Leaves, OfHeld, may_write}
 use Rattle.ty_core.specs.Serving.{Begins}
 use Rattle.ty_rounds.specs.Holding.{Holds, AllHold, RoundsTo}
 use Rattle.ty_rounds.specs.Peers.{numbers}
@@ -51,6 +51,14 @@ pub record FillsAt (fills : Contents → Contents → Type 0) (c : Contents) (w 
 -- and in the round of an event
 abbrev pub FillsIn : (Contents → Contents → Type 0) → World → Ev → List ℕ → Type 0
 FillsIn fills w ev bytes = FillsAt fills w.contents w.walk (heard (map unstopped w.there) ev bytes)
+
+-- of whatever contents and clients, a limit is reached in the round
+abbrev pub FullRound : {S B : Type 0} → space.Ghosts S → (B → Files → Contents → Type 0) → (S → Contents → Contents → Type 0) → B → S → S → Walk → List Peer → Type 0
+FullRound s holds fills base old new w ps = OfHeld s holds base old (λ c. (ks : List Client) → AllHold ps ks → FillsAt (fills new) c w ks)
+
+-- and in the request of one of them
+abbrev pub FullOne : {S B : Type 0} → space.Ghosts S → (B → Files → Contents → Type 0) → (S → Contents → Contents → Type 0) → B → S → S → Walk → Peer → Type 0
+FullOne s holds fills base old new w p = OfHeld s holds base old (λ c. (k : Client) → Holds p k → MayWrite k × fills new c (round_one c w k).contents)
 
 -- the round was made: its numbers stay, no connection holds more but for one reply, and the space may be used; nothing is written where it has nothing to commit
 pub record Rounds {S B : Type 0} (s : space.Ghosts S) (holds : B → Files → Contents → Type 0) (commits : Bool) (base base' : B) (old new : S) (w w' : Walk) (ps ps' : List Peer) : Type 0 where

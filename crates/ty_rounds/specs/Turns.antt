@@ -2,7 +2,7 @@
 use Rattle.std.specs.Prelude.{◌≡◌, ◌⊎◌, ◌≤◌, ℕ, suc, Bool, true, false, List, [], ◌∷◌, map, Option, Result, Ok, Err, OnOk}
 use Rattle.tc_base.specs.Files.{Files}
 use Rattle.tc_io.specs.Told.{Adds}
-use Rattle.tc_io.specs.Script.{Script, Plays}
+use Rattle.tc_io.specs.Script.{Plays}
 use Rattle.tc_io.specs.Lines.{open_after, given_after}
 use Rattle.tc_io.specs.declared.wire.Wire as wire
 use Rattle.tc_io.specs.declared.wire.Ev.{Ev}
@@ -23,12 +23,9 @@ use Rattle.ty_rounds.specs.declared.outcome.Outcome.TheVariants.{Went, Shut}
 use Rattle.ty_rounds.specs.declared.outcome.TurnErr.{TurnErr}
 use Rattle.ty_rounds.specs.declared.outcome.TurnErr.TheVariants.{Volume, Full, Wire, Memory}
 
--- what a wire tells: its transcript, and what it will still play
+-- what a wire tells: its transcript
 abbrev pub Told : Type 0
 Told = Option (List Entry)
-
-abbrev pub MayPlay : Type 0
-MayPlay = Option Script
 
 module _ {W : Type 0} (g : wire.Ghosts W) where
   -- `next` was called once, with those that wait paused and busily where there are any

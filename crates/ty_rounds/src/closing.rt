@@ -1,5 +1,5 @@
 //! Closings: of the connections that are over.
-ghost use Rattle.std.specs.Prelude.{◌≡◌, ◌≤◌, true, OnOk};
+ghost use Rattle.std.specs.Prelude.{◌≡◌, true, OnOk};
 ghost use Rattle.tc_io.specs.Causes.{HasCause};
 ghost use Rattle.ty_rounds.specs.Holding.{Wired};
 ghost use Rattle.ty_rounds.specs.Ready.{NoneOver, StayFew};

@@ -1,11 +1,8 @@
 //! What was done is brought to the files and kept.
 ghost use Rattle.std.specs.Prelude.{◌≡◌, false, true, OnOk, IfErr, IsErrOf};
-ghost use Rattle.tc_base.specs.declared.kind.Form.{Form};
 ghost use Rattle.tc_io.specs.Causes.{Rose};
-ghost use Rattle.tc_space.specs.Effects.{Follows};
-ghost use Rattle.tc_space.specs.Frames.{OnlyReads};
-ghost use Rattle.tc_model.specs.Contents.{Contents};
-ghost use Rattle.ty_base.specs.Holding.{Held};
+ghost use Rattle.tc_space.specs.Frames.{Follows, OnlyReads};
+ghost use Rattle.ty_base.specs.Holding.{FillsAsIs, PacksHeld};
 ghost use Rattle.ty_world.specs.World.{Mark};
 ghost use Rattle.ty_rounds.specs.declared.outcome.TurnErr.TheVariants.{Wire as wire_err};
 ghost use Rattle.ty_rounds.specs.Kept.{HasMark, MovesTo};
@@ -21,12 +18,12 @@ use ty_base::Base;
 pub fn keep<B: Base>(base: &mut B, space: &mut B::S, commits: bool) -> Result<(), TurnErr>
     requires may { MayKeep B.S.Space B.holds commits base.old space.old }
     ensures kept { OnOk result (IsKept B.S.Space B.holds B.reopens commits base.old base.new space.old space.new) }
-    ensures packs { OnOk result (commits ≡ true → (form : Form) (c : Contents) → B.tight base.old form → Held B.S.Space B.holds base.old space.old c → B.packed form (B.S.now space.new)) }
+    ensures packs { OnOk result (commits ≡ true → PacksHeld B.S.Space B.holds B.tight B.packed base.old space.old space.new) }
     ensures moments { (m : Mark) → HasMark B.S.Space B.holds base.old space.old m → MovesTo B.S.Space B.reopens space.old space.new m }
     ensures idle { commits ≡ false → OnlyReads B.S.Space space.old space.new }
     ensures not_wire { IfErr result (λ e. e ≡ wire_err → ⊥) }
-    ensures full { IsErrOf result TurnErr.Full → (commits ≡ true) × ((c : Contents) → Held B.S.Space B.holds base.old space.old c → B.fills space.new c c) }
-    ensures follows { Follows B.S.faults B.S.limit B.S.names space.old space.new }
+    ensures full { IsErrOf result TurnErr.Full → (commits ≡ true) × FillsAsIs B.S.Space B.holds B.fills base.old space.old space.new }
+    ensures follows { Follows B.S.Space space.old space.new }
     ensures cause { IsErrOf result TurnErr.Volume → Rose (B.S.faults space.old) (B.S.faults space.new) }
 {
     if !commits {

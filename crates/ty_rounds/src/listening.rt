@@ -1,15 +1,15 @@
 //! One event of the wire, which the server takes in.
-ghost use Rattle.std.specs.Prelude.{◌≡◌, ◌≤◌, ◌++◌, ◌∷◌, ℕ, true, false, List, [], Some, length, map, nat_eq, slice_get, OnOk, IfOk, IfErr, IfSome, IfNone, IsErrOf};
+ghost use Rattle.std.specs.Prelude.{◌≡◌, ◌≤◌, ◌++◌, ◌∷◌, true, false, [], Some, length, map, nat_eq, slice_get, OnOk, IfOk, IfErr, IfSome, IfNone, IsErrOf};
 ghost use Rattle.std.specs.List.{list_any};
 ghost use Rattle.tc_io.specs.Causes.{Rose};
 ghost use Rattle.tc_io.specs.Lines.{open_after};
 ghost use Rattle.tc_io.specs.Transcript.{bytes_of};
-ghost use Rattle.ty_world.specs.World.{Client, IsBytes, heard, new_client, at_conn, with_read, with_end};
+ghost use Rattle.ty_world.specs.World.{IsBytes, heard, new_client, at_conn, with_read, with_end};
 ghost use Rattle.ty_rounds.specs.declared.peer.Peer.{Peer};
 ghost use Rattle.ty_rounds.specs.Events.{MayHear};
-ghost use Rattle.ty_rounds.specs.Holding.{AllHold, AreApart, Wired};
+ghost use Rattle.ty_rounds.specs.Holding.{AreApart, HoldsAs, Wired};
 ghost use Rattle.ty_rounds.specs.Peers.{numbers, waiting_numbers};
-ghost use Rattle.ty_rounds.specs.Ready.{NoneOver, StayFew};
+ghost use Rattle.ty_rounds.specs.Ready.{AddsFew, NoneOver, StayFew};
 ghost use Rattle.ty_rounds.specs.Spans.{IsSpan};
 ghost use Rattle.ty_rounds.specs.Turns.{Hears, HearErr};
 
@@ -85,9 +85,9 @@ fn take_read(
     bytes: &[u8],
 ) -> Result<(), AllocError>
     requires { AreApart (numbers peers.old.items) }
-    ensures heard { OnOk result ((ks : List Client) → AllHold peers.old.items ks → AllHold peers.new.items (map (at_conn conn (with_read bytes.now)) ks)) }
+    ensures heard { OnOk result (HoldsAs (λ ks. map (at_conn conn (with_read bytes.now)) ks) peers.old.items peers.new.items) }
     ensures numbers { numbers peers.new.items ≡ numbers peers.old.items }
-    ensures few { OnOk result (list_any (nat_eq conn) (waiting_numbers peers.old.items) ≡ false → NoneOver peers.old.items → length bytes.now ≤ 4096 → StayFew peers.old.items peers.new.items) }
+    ensures few { OnOk result (AddsFew conn bytes.now peers.old.items peers.new.items) }
     ensures calm { OnOk result (IsSpan span.old peers.old.items → IsSpan span.new peers.new.items) }
 {
     let Some(i) = index_of(peers, conn) else {
@@ -104,7 +104,7 @@ fn take_read(
 // No more bytes come of a connection.
 fn take_end(peers: &mut Vec<Peer>, span: &mut Span, conn: u32)
     requires { AreApart (numbers peers.old.items) }
-    ensures heard { (ks : List Client) → AllHold peers.old.items ks → AllHold peers.new.items (map (at_conn conn with_end) ks) }
+    ensures heard { HoldsAs (λ ks. map (at_conn conn with_end) ks) peers.old.items peers.new.items }
     ensures numbers { numbers peers.new.items ≡ numbers peers.old.items }
     ensures few { StayFew peers.old.items peers.new.items }
     ensures calm { IsSpan span.old peers.old.items → IsSpan span.new peers.new.items }
@@ -125,7 +125,7 @@ fn take_opened(
     span: &mut Span,
     conn: u32,
 ) -> Result<(), AllocError>
-    ensures heard { OnOk result ((ks : List Client) → AllHold peers.old.items ks → AllHold peers.new.items (ks ++ new_client conn (length ks) ∷ [])) }
+    ensures heard { OnOk result (HoldsAs (λ ks. ks ++ new_client conn (length ks) ∷ []) peers.old.items peers.new.items) }
     ensures numbers { OnOk result (numbers peers.new.items ≡ numbers peers.old.items ++ conn ∷ []) }
     ensures few { OnOk result (StayFew peers.old.items peers.new.items) }
     ensures calm { OnOk result (IsSpan span.old peers.old.items → IsSpan span.new peers.new.items) }
@@ -147,7 +147,7 @@ fn hear(
 ) -> Result<(), AllocError>
     requires may { MayHear peers.old.items ev }
     requires apart { AreApart (numbers peers.old.items) }
-    ensures heard { OnOk result ((ks : List Client) → AllHold peers.old.items ks → AllHold peers.new.items (heard ks ev (bytes_of ev buffer.now))) }
+    ensures heard { OnOk result (HoldsAs (λ ks. heard ks ev (bytes_of ev buffer.now)) peers.old.items peers.new.items) }
     ensures numbers { OnOk result (numbers peers.new.items ≡ open_after (numbers peers.old.items) ev) }
     ensures few { OnOk result (NoneOver peers.old.items → StayFew peers.old.items peers.new.items) }
     ensures calm { OnOk result (IsSpan span.old peers.old.items → IsSpan span.new peers.new.items) }
@@ -186,8 +186,6 @@ pub fn listen<W: Wire>(
     list_waiting(peers.as_slice(), *span, &mut buffers.paused)?;
     let busy = !buffers.paused.is_empty();
     let ev = wire.next(buffers.paused.as_slice(), busy, &mut buffers.bytes)?;
-    let Ok(()) = hear(alloc, peers, span, ev, &buffers.bytes) else {
-        return Err(TurnErr::Memory);
-    };
+    hear(alloc, peers, span, ev, &buffers.bytes)?;
     Ok(ev)
 }

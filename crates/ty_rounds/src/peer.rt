@@ -1,7 +1,8 @@
 //! One connection.
-ghost use Rattle.std.specs.Prelude.{◌≡◌, ◌==◌, ◌<◌, ◌||◌, [], IsTrue, ◌↔◌, Bool, ℕ, true, false, length, not};
+ghost use Rattle.std.specs.Prelude.{◌≡◌, ◌||◌, [], ℕ, true, false, not};
 
 use std::alloc::Global;
+use tc_base::CLIENTS_MOST;
 use ty_core::Session;
 use ty_wire::Front;
 
@@ -19,9 +20,6 @@ pub struct Peer {
     // false only where it neither waits nor is over: a turn passes it by
     pub stirs: bool,
 }
-
-/// The most connections that are served at once.
-pub const CLIENTS_MOST: usize = 64;
 
 ghost use Rattle.ty_core.specs.Queues.{queue};
 

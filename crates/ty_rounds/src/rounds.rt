@@ -1,20 +1,18 @@
 //! A round: one request of each connection.
-ghost use Rattle.std.specs.Prelude.{◌≡◌, [], ◌∷◌, ℕ, List, OnOk, IfOk, IsErrOf};
+ghost use Rattle.std.specs.Prelude.{◌≡◌, OnOk, IfOk, IfErr, IsErrOf};
+ghost use Rattle.tc_base.specs.declared.request.Request.{Request};
 ghost use Rattle.tc_io.specs.Causes.{Rose};
 ghost use Rattle.tc_space.specs.Frames.{Keeps};
-ghost use Rattle.tc_model.specs.Contents.{Contents};
+ghost use Rattle.tc_space.specs.Refusals.{OnFault};
 ghost use Rattle.ty_base.specs.Holding as holding;
-ghost use Rattle.ty_base.specs.Holding.{Held};
-ghost use Rattle.ty_world.specs.World.{Client, round_one};
-ghost use Rattle.ty_rounds.specs.Spans.{IsSpan};
-ghost use Rattle.ty_rounds.specs.Serving.{ServesReady, FillsAt, MayWrite, Rounds};
-ghost use Rattle.ty_rounds.specs.Holding.{Holds, AllHold};
-ghost use Rattle.ty_rounds.specs.Ready.{IsCalm};
-ghost use Rattle.tc_base.specs.declared.request.Request.{Request};
 ghost use Rattle.ty_core.specs.Serving.{feed_of};
-ghost use Rattle.ty_core.specs.declared.serving.Feed.{Feed};
+ghost use Rattle.ty_rounds.specs.Ready.{IsCalm};
 ghost use Rattle.ty_rounds.specs.Repls.{OwesRepl};
+ghost use Rattle.ty_rounds.specs.Serving.{FullOne, FullRound, Rounds, ServesReady};
+ghost use Rattle.ty_rounds.specs.Spans.{IsSpan};
+ghost use Rattle.ty_rounds.specs.declared.outcome.TurnErr.TheVariants.{Wire as wire_err};
 
+use crate::outcome::TurnErr;
 use crate::peer::Peer;
 use crate::span::Span;
 use tc_model::Walk;
@@ -44,9 +42,9 @@ fn serve_one<B: Base>(
     requires ready { holding.IsReady B.S.Space B.holds base.old space.old }
     requires calm { IsCalm p.old }
     ensures served { IfOk result (λ u. ServesReady B.S.Space B.holds u base.old base.new space.old space.new walk.old walk.new p.old p.new) }
-    ensures full { IsErrOf result RecErr.Full → (c : Contents) → Held B.S.Space B.holds base.old space.old c → (k : Client) → Holds p.old k → MayWrite k × B.fills space.new c (round_one c walk.old k).contents }
+    ensures full { IsErrOf result RecErr.Full → FullOne B.S.Space B.holds B.fills base.old space.old space.new walk.old p.old }
     ensures keeps { Keeps B.S.Space space.old space.new }
-    ensures cause { IsErrOf result RecErr.Fault → Rose (B.S.faults space.old) (B.S.faults space.new) }
+    ensures cause { OnFault B.S.Space result space.old space.new }
 {
     if !p.stirs {
         return Ok(false);
@@ -60,10 +58,7 @@ fn serve_one<B: Base>(
     if !p.has_whole() {
         return Ok(false);
     }
-    let served = match p.session.serve(base, space, walk, false, false) {
-        Ok(served) => served,
-        Err(e) => return Err(e),
-    };
+    let served = p.session.serve(base, space, walk, false, false)?;
     owe_repl(p, &served.feeds)?;
     Ok(served.commits)
 }
@@ -75,22 +70,20 @@ pub fn round_of_all<B: Base>(
     base: &mut B,
     space: &mut B::S,
     walk: &mut Walk,
-) -> Result<bool, RecErr>
+) -> Result<bool, TurnErr>
     requires ready { holding.IsReady B.S.Space B.holds base.old space.old }
     requires calm { IsSpan span peers.old.items }
     ensures rounds { IfOk result (λ u. Rounds B.S.Space B.holds u base.old base.new space.old space.new walk.old walk.new peers.old.items peers.new.items) }
-    ensures full { IsErrOf result RecErr.Full → (c : Contents) → Held B.S.Space B.holds base.old space.old c → (ks : List Client) → AllHold peers.old.items ks → FillsAt (B.fills space.new) c walk.old ks }
+    ensures not_wire { IfErr result (λ e. e ≡ wire_err → ⊥) }
+    ensures full { IsErrOf result TurnErr.Full → FullRound B.S.Space B.holds B.fills base.old space.old space.new walk.old peers.old.items }
     ensures span { OnOk result (IsSpan span peers.new.items) }
     ensures keeps { Keeps B.S.Space space.old space.new }
-    ensures cause { IsErrOf result RecErr.Fault → Rose (B.S.faults space.old) (B.S.faults space.new) }
+    ensures cause { IsErrOf result TurnErr.Volume → Rose (B.S.faults space.old) (B.S.faults space.new) }
 {
     let mut commits = false;
     for i in span.from..span.to {
         let p = &mut peers[i];
-        let one = match serve_one(p, base, space, walk) {
-            Ok(one) => one,
-            Err(e) => return Err(e),
-        };
+        let one = serve_one(p, base, space, walk)?;
         commits = commits || one;
     }
     Ok(commits)

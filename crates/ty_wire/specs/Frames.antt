@@ -1,4 +1,4 @@
--- The whole requests at the front of a text of bytes.
+-- The frames of a text of bytes: the whole requests at its front.
 use Rattle.std.specs.Prelude.{◌≡◌, ℕ, List, ◌++◌, All}
 use Rattle.std.specs.List.{flat_map}
 use Rattle.tc_base.specs.declared.request.Request.{Request}
@@ -10,11 +10,6 @@ pub record StandsAs (bytes : List ℕ) (requests : List Request) (rest : List �
   pub parts : bytes ≡ flat_map spelling requests ++ rest
   pub fit : All Fits requests
 
--- no whole request stands at the front
+-- no whole request stands at the front: behind the frames, it is all of them
 abbrev pub HasNone : List ℕ → Type 0
 HasNone rest = (r : Request) → Fits r → IsPrefix (spelling r) rest → ⊥
-
--- these are the frames: all whole requests, and a rest with none at its front
-pub record AreFrames (bytes : List ℕ) (requests : List Request) (rest : List ℕ) : Type 0 where
-  pub stand : StandsAs bytes requests rest
-  pub none : HasNone rest

@@ -4,7 +4,6 @@ pub mod Items
 pub mod Parsed
 pub mod Prefixes
 pub mod Reading
-pub mod Seen
 pub mod Spelling
 pub mod Taking
 pub mod Updating

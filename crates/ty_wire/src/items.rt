@@ -25,13 +25,9 @@ pub fn skip_items(most: usize, count: usize, left: usize, bytes: &[u8]) -> Resul
     let mut spare = left;
     for i in 0..count {
         let limit = most.min(spare - 4 * (count - i));
-        match read_item(limit, rest) {
-            Ok((item, behind)) => {
-                spare = spare - 4 - item.len();
-                rest = behind;
-            }
-            Err(e) => return Err(e),
-        }
+        let (item, behind) = read_item(limit, rest)?;
+        spare = spare - 4 - item.len();
+        rest = behind;
     }
     Ok(rest)
 }

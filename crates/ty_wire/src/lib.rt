@@ -1,16 +1,16 @@
 //! Requests and replies as bytes: one spelling each, read exactly.
 #![tactic(auto)]
 
-mod ends;
+mod copies;
 mod items;
-mod looking;
 mod parsed;
 mod reading;
 mod shapes;
 mod updating;
 mod writing;
 
-pub use looking::{Seen, look};
+pub use items::read_item;
 pub use reading::{Front, read_request, take};
-pub use updating::is_updating;
+pub use shapes::{Read, long_of, word_of};
+pub use updating::{is_updating, is_updating_call};
 pub use writing::write_reply;

@@ -12,32 +12,57 @@ pub struct Items<'a> {
     pub bytes: &'a [u8],
 }
 
+/// What stores a value under a key.
 #[derive(Clone, Copy)]
-pub enum Parsed<'a> {
-    Put(&'a [u8], &'a [u8]),
-    PutKeep(&'a [u8], &'a [u8]),
-    PutCat(&'a [u8], &'a [u8]),
-    PutShl(&'a [u8], &'a [u8], u32),
-    PutNr(&'a [u8], &'a [u8]),
-    Out(&'a [u8]),
-    Get(&'a [u8]),
-    MGet(Items<'a>),
-    Vsiz(&'a [u8]),
+pub enum Stores {
+    Put,
+    PutKeep,
+    PutCat,
+    PutShl(u32),
+    PutNr,
+}
+
+/// What has a key, and numbers at most.
+#[derive(Clone, Copy)]
+pub enum Keyed {
+    Out,
+    Get,
+    Vsiz,
+    FwmKeys(i32),
+    AddInt(u32),
+    AddDouble(u64, u64),
+}
+
+/// What has a text that is no key, and numbers at most.
+#[derive(Clone, Copy)]
+pub enum Texted {
+    Optimize,
+    Copy,
+    Restore(u64, u32),
+    SetMst(u32, u64, u32),
+}
+
+/// What has numbers at most.
+#[derive(Clone, Copy)]
+pub enum Bare {
     IterInit,
     IterNext,
-    FwmKeys(&'a [u8], i32),
-    AddInt(&'a [u8], u32),
-    AddDouble(&'a [u8], u64, u64),
-    Ext(&'a [u8], u32, &'a [u8], &'a [u8]),
     Sync,
-    Optimize(&'a [u8]),
     Vanish,
-    Copy(&'a [u8]),
-    Restore(&'a [u8], u64, u32),
-    SetMst(&'a [u8], u32, u64, u32),
     Rnum,
     Size,
     Stat,
-    Misc(&'a [u8], u32, Items<'a>),
     Repl(u64, u32),
+}
+
+/// A request by the texts that it has.
+#[derive(Clone, Copy)]
+pub enum Parsed<'a> {
+    Stores(Stores, &'a [u8], &'a [u8]),
+    Keyed(Keyed, &'a [u8]),
+    Texted(Texted, &'a [u8]),
+    Bare(Bare),
+    MGet(Items<'a>),
+    Ext(&'a [u8], u32, &'a [u8], &'a [u8]),
+    Misc(&'a [u8], u32, Items<'a>),
 }

@@ -9,17 +9,15 @@ ghost use Rattle.ty_wire.specs.Spelling.{key_text, spelling, Fits};
 ghost use Rattle.ty_wire.specs.Prefixes.{IsPrefix};
 ghost use Rattle.ty_wire.specs.Taking.{HasOneAtMost, Takes, IsRead};
 
-use crate::items::{copy_items, keys_from, skip_items};
-use crate::parsed::{Items, Parsed};
+use crate::copies::copied;
+use crate::items::skip_items;
+use crate::parsed::{Bare, Items, Keyed, Parsed, Stores, Texted};
 use crate::shapes::{
     Read, ext_of, key_longs_of, key_of, key_word_of, master_of, pair_of, repl_of, restore_of,
     shift_of, word_of,
 };
 use std::alloc::{AllocError, Global};
-use tc_base::{
-    Blob, Blobs, KEY_MOST, Key, Keys, NotWhole, REQUEST_MOST, Request, VALUE_MOST, read_bytes,
-    read_size,
-};
+use tc_base::{KEY_MOST, NotWhole, REQUEST_MOST, Request, VALUE_MOST, read_bytes, read_size};
 
 /// What stands at the front of bytes.
 #[derive(Clone, Copy, Debug, PartialEq, Eq)]
@@ -78,11 +76,17 @@ fn named_of(command: u8, bytes: &[u8]) -> Read<'_, Parsed<'_>>
     match command {
         0x74 => {
             let ((path, timestamp, options), rest) = restore_of(bytes)?;
-            Ok((Parsed::Restore(path, timestamp, options), rest))
+            Ok((
+                Parsed::Texted(Texted::Restore(timestamp, options), path),
+                rest,
+            ))
         }
         0x78 => {
             let ((host, port, timestamp, options), rest) = master_of(bytes)?;
-            Ok((Parsed::SetMst(host, port, timestamp, options), rest))
+            Ok((
+                Parsed::Texted(Texted::SetMst(port, timestamp, options), host),
+                rest,
+            ))
         }
         0x90 => {
             let ((name, options, args), rest) = call_of(bytes)?;
@@ -90,7 +94,7 @@ fn named_of(command: u8, bytes: &[u8]) -> Read<'_, Parsed<'_>>
         }
         0xA0 => {
             let ((timestamp, server), rest) = repl_of(bytes)?;
-            Ok((Parsed::Repl(timestamp, server), rest))
+            Ok((Parsed::Bare(Bare::Repl(timestamp, server)), rest))
         }
         _ => Err(NotWhole::Bad),
     }
@@ -103,15 +107,21 @@ fn number_of(command: u8, bytes: &[u8]) -> Read<'_, Parsed<'_>>
     match command {
         0x58 => {
             let ((prefix, maximum), rest) = key_word_of(bytes)?;
-            Ok((Parsed::FwmKeys(prefix, maximum.cast_signed()), rest))
+            Ok((
+                Parsed::Keyed(Keyed::FwmKeys(maximum.cast_signed()), prefix),
+                rest,
+            ))
         }
         0x60 => {
             let ((key, number), rest) = key_word_of(bytes)?;
-            Ok((Parsed::AddInt(key, number), rest))
+            Ok((Parsed::Keyed(Keyed::AddInt(number), key), rest))
         }
         0x61 => {
             let ((key, integer, fraction), rest) = key_longs_of(bytes)?;
-            Ok((Parsed::AddDouble(key, integer, fraction), rest))
+            Ok((
+                Parsed::Keyed(Keyed::AddDouble(integer, fraction), key),
+                rest,
+            ))
         }
         0x68 => {
             let ((name, options, key, value), rest) = ext_of(bytes)?;
@@ -126,13 +136,13 @@ fn bare_of(command: u8, bytes: &[u8]) -> Read<'_, Parsed<'_>>
     ensures whole { IfOk result (λ x. IsWhole x.0) }
 {
     match command {
-        0x50 => Ok((Parsed::IterInit, bytes)),
-        0x51 => Ok((Parsed::IterNext, bytes)),
-        0x70 => Ok((Parsed::Sync, bytes)),
-        0x72 => Ok((Parsed::Vanish, bytes)),
-        0x80 => Ok((Parsed::Rnum, bytes)),
-        0x81 => Ok((Parsed::Size, bytes)),
-        0x88 => Ok((Parsed::Stat, bytes)),
+        0x50 => Ok((Parsed::Bare(Bare::IterInit), bytes)),
+        0x51 => Ok((Parsed::Bare(Bare::IterNext), bytes)),
+        0x70 => Ok((Parsed::Bare(Bare::Sync), bytes)),
+        0x72 => Ok((Parsed::Bare(Bare::Vanish), bytes)),
+        0x80 => Ok((Parsed::Bare(Bare::Rnum), bytes)),
+        0x81 => Ok((Parsed::Bare(Bare::Size), bytes)),
+        0x88 => Ok((Parsed::Bare(Bare::Stat), bytes)),
         _ => number_of(command, bytes),
     }
 }
@@ -144,11 +154,11 @@ fn keyed_of(command: u8, bytes: &[u8]) -> Read<'_, Parsed<'_>>
     match command {
         0x20 => {
             let (key, rest) = key_of(bytes)?;
-            Ok((Parsed::Out(key), rest))
+            Ok((Parsed::Keyed(Keyed::Out, key), rest))
         }
         0x30 => {
             let (key, rest) = key_of(bytes)?;
-            Ok((Parsed::Get(key), rest))
+            Ok((Parsed::Keyed(Keyed::Get, key), rest))
         }
         0x31 => {
             let (keys, rest) = keys_of(bytes)?;
@@ -156,15 +166,15 @@ fn keyed_of(command: u8, bytes: &[u8]) -> Read<'_, Parsed<'_>>
         }
         0x38 => {
             let (key, rest) = key_of(bytes)?;
-            Ok((Parsed::Vsiz(key), rest))
+            Ok((Parsed::Keyed(Keyed::Vsiz, key), rest))
         }
         0x71 => {
             let (text, rest) = key_of(bytes)?;
-            Ok((Parsed::Optimize(text), rest))
+            Ok((Parsed::Texted(Texted::Optimize, text), rest))
         }
         0x73 => {
             let (path, rest) = key_of(bytes)?;
-            Ok((Parsed::Copy(path), rest))
+            Ok((Parsed::Texted(Texted::Copy, path), rest))
         }
         _ => bare_of(command, bytes),
     }
@@ -177,23 +187,23 @@ fn stored_of(command: u8, bytes: &[u8]) -> Read<'_, Parsed<'_>>
     match command {
         0x10 => {
             let ((key, value), rest) = pair_of(bytes)?;
-            Ok((Parsed::Put(key, value), rest))
+            Ok((Parsed::Stores(Stores::Put, key, value), rest))
         }
         0x11 => {
             let ((key, value), rest) = pair_of(bytes)?;
-            Ok((Parsed::PutKeep(key, value), rest))
+            Ok((Parsed::Stores(Stores::PutKeep, key, value), rest))
         }
         0x12 => {
             let ((key, value), rest) = pair_of(bytes)?;
-            Ok((Parsed::PutCat(key, value), rest))
+            Ok((Parsed::Stores(Stores::PutCat, key, value), rest))
         }
         0x13 => {
             let ((key, value, width), rest) = shift_of(bytes)?;
-            Ok((Parsed::PutShl(key, value, width), rest))
+            Ok((Parsed::Stores(Stores::PutShl(width), key, value), rest))
         }
         0x18 => {
             let ((key, value), rest) = pair_of(bytes)?;
-            Ok((Parsed::PutNr(key, value), rest))
+            Ok((Parsed::Stores(Stores::PutNr, key, value), rest))
         }
         _ => keyed_of(command, bytes),
     }
@@ -222,129 +232,6 @@ pub fn take(bytes: &[u8]) -> Front
         Ok((_, rest)) => Front::Whole(bytes.len() - rest.len()),
         Err(NotWhole::Part) => Front::Part,
         Err(NotWhole::Bad) => Front::Bad,
-    }
-}
-
-fn blob(alloc: Global, bytes: &[u8]) -> Result<Blob, AllocError>
-    ensures { IfOk result (λ b. b ≡ bytes.now) }
-{
-    Blob::from_slice(alloc, bytes)
-}
-
-fn both(alloc: Global, key: &[u8], value: &[u8]) -> Result<(Key, Blob), AllocError>
-    ensures { IfOk result (λ b. (b.0 ≡ key.now) × (b.1 ≡ value.now)) }
-{
-    Ok((Key::from_slice(alloc, key)?, blob(alloc, value)?))
-}
-
-fn list(alloc: Global, items: Items<'_>) -> Result<Blobs, AllocError>
-    requires { AreWhole items }
-    ensures { IfOk result (λ b. b ≡ texts items.entry) }
-{
-    copy_items(alloc, items.most, items.count, items.left, items.bytes)
-}
-
-fn key_list(alloc: Global, items: Items<'_>) -> Result<Keys, AllocError>
-    requires { AreWhole items }
-    ensures { IfOk result (λ keys. keys ≡ texts items.entry) }
-{
-    keys_from(alloc, list(alloc, items)?)
-}
-
-// A copy of a request whose texts lie where they were read.
-fn copied(alloc: Global, p: Parsed<'_>) -> Result<Request, AllocError>
-    requires { IsWhole p }
-    ensures { IfOk result (λ r. r ≡ parsed p.entry) }
-{
-    match p {
-        Parsed::Put(key, value) => {
-            let (key, value) = both(alloc, key, value)?;
-            Ok(Request::Put { key, value })
-        }
-        Parsed::PutKeep(key, value) => {
-            let (key, value) = both(alloc, key, value)?;
-            Ok(Request::PutKeep { key, value })
-        }
-        Parsed::PutCat(key, value) => {
-            let (key, value) = both(alloc, key, value)?;
-            Ok(Request::PutCat { key, value })
-        }
-        Parsed::PutShl(key, value, width) => {
-            let (key, value) = both(alloc, key, value)?;
-            Ok(Request::PutShl { key, value, width })
-        }
-        Parsed::PutNr(key, value) => {
-            let (key, value) = both(alloc, key, value)?;
-            Ok(Request::PutNr { key, value })
-        }
-        Parsed::Out(key) => Ok(Request::Out {
-            key: Key::from_slice(alloc, key)?,
-        }),
-        Parsed::Get(key) => Ok(Request::Get {
-            key: Key::from_slice(alloc, key)?,
-        }),
-        Parsed::MGet(keys) => Ok(Request::MGet {
-            keys: key_list(alloc, keys)?,
-        }),
-        Parsed::Vsiz(key) => Ok(Request::Vsiz {
-            key: Key::from_slice(alloc, key)?,
-        }),
-        Parsed::IterInit => Ok(Request::IterInit),
-        Parsed::IterNext => Ok(Request::IterNext),
-        Parsed::FwmKeys(prefix, maximum) => Ok(Request::FwmKeys {
-            prefix: Key::from_slice(alloc, prefix)?,
-            maximum,
-        }),
-        Parsed::AddInt(key, number) => Ok(Request::AddInt {
-            key: Key::from_slice(alloc, key)?,
-            number,
-        }),
-        Parsed::AddDouble(key, integer, fraction) => Ok(Request::AddDouble {
-            key: Key::from_slice(alloc, key)?,
-            integer,
-            fraction,
-        }),
-        Parsed::Ext(name, options, key, value) => {
-            let name = blob(alloc, name)?;
-            let (key, value) = both(alloc, key, value)?;
-            Ok(Request::Ext {
-                name,
-                options,
-                key,
-                value,
-            })
-        }
-        Parsed::Sync => Ok(Request::Sync),
-        Parsed::Optimize(text) => Ok(Request::Optimize {
-            text: blob(alloc, text)?,
-        }),
-        Parsed::Vanish => Ok(Request::Vanish),
-        Parsed::Copy(path) => Ok(Request::Copy {
-            path: blob(alloc, path)?,
-        }),
-        Parsed::Restore(path, timestamp, options) => Ok(Request::Restore {
-            path: blob(alloc, path)?,
-            timestamp,
-            options,
-        }),
-        Parsed::SetMst(host, port, timestamp, options) => Ok(Request::SetMst {
-            host: blob(alloc, host)?,
-            port,
-            timestamp,
-            options,
-        }),
-        Parsed::Rnum => Ok(Request::Rnum),
-        Parsed::Size => Ok(Request::Size),
-        Parsed::Stat => Ok(Request::Stat),
-        Parsed::Misc(name, options, args) => {
-            let name = blob(alloc, name)?;
-            Ok(Request::Misc {
-                name,
-                options,
-                args: list(alloc, args)?,
-            })
-        }
-        Parsed::Repl(timestamp, server) => Ok(Request::Repl { timestamp, server }),
     }
 }
 

@@ -37,13 +37,14 @@ fn has_out(args: &[Blob]) -> bool
     false
 }
 
-fn is_updating_call(name: &[u8], args: &[Blob]) -> bool
+/// Whether a misc of this name changes contents where it succeeds: `search` does where `out` is among its arguments.
+pub fn is_updating_call(name: &[u8], args: &[Blob]) -> bool
     ensures { IsTrue result ↔ IsUpdatingCall name.now args.now }
 {
     stores(name) || (is(name, b"search") && has_out(args))
 }
 
-/// Whether a request changes contents where it succeeds. Of a misc its name decides, of `search` whether `out` is among its arguments.
+/// Whether a request changes contents where it succeeds; of a misc `is_updating_call` says so.
 pub fn is_updating(r: &Request) -> bool
     ensures { IsTrue result ↔ IsUpdating r.now }
 {

@@ -80,7 +80,7 @@ read_right bytes b k h = record {
 heard_right : (ks : List Client) (ev : Ev) (bytes : List ℕ) → IsBytes bytes → Right ks → Right (heard ks ev bytes)
 heard_right ks (Opened c) bytes b h = each_more ks (new_client c (length ks) ∷ []) h (record { spelled = record { parts = refl; fit = All-nil Fits }; are_bytes = λ i. omega arith }, tt)
 heard_right ks (Read c n) bytes b h = each_map (at_conn c (with_read bytes)) (at_right c (with_read bytes) (read_right bytes b)) ks h
-heard_right ks (Ended c) bytes b h = each_map (at_conn c with_end) (at_right c with_end (λ k r. record { spelled = record { parts = r.spelled.parts; fit = r.spelled.fit }; are_bytes = r.are_bytes })) ks h
+heard_right ks (Ended c) bytes b h = each_map (at_conn c with_end) (at_right c with_end (λ k r. record { spelled = r.spelled; are_bytes = r.are_bytes })) ks h
 heard_right ks Quiet bytes b h = h
 heard_right ks Shut bytes b h = h
 
@@ -112,12 +112,12 @@ round_right c w [] h = tt
 round_right c w (k ∷ ks) h = (one_right c w k h.0, round_right (round_one c w k).contents (round_one c w k).walk ks h.1)
 
 sent_right : (bytes : List ℕ) (answer : Sent) (k : Client) → IsRight k → IsRight (sent bytes answer k)
-sent_right bytes (Took n) k h = record { spelled = record { parts = h.spelled.parts; fit = h.spelled.fit }; are_bytes = h.are_bytes }
-sent_right bytes NotYet k h = record { spelled = record { parts = h.spelled.parts; fit = h.spelled.fit }; are_bytes = h.are_bytes }
-sent_right bytes Gone k h = record { spelled = record { parts = h.spelled.parts; fit = h.spelled.fit }; are_bytes = h.are_bytes }
+sent_right bytes (Took n) k h = record { spelled = h.spelled; are_bytes = h.are_bytes }
+sent_right bytes NotYet k h = record { spelled = h.spelled; are_bytes = h.are_bytes }
+sent_right bytes Gone k h = record { spelled = h.spelled; are_bytes = h.are_bytes }
 
 unstopped_right : (k : Client) → IsRight k → IsRight (unstopped k)
-unstopped_right k h = record { spelled = record { parts = h.spelled.parts; fit = h.spelled.fit }; are_bytes = h.are_bytes }
+unstopped_right k h = record { spelled = h.spelled; are_bytes = h.are_bytes }
 
 rights : (es : List Entry) (w : World) → AllCame w es → Right w.there → Right w.past → Right (world_after es w).there × Right (world_after es w).past
 rights [] w came there past = (there, past)

@@ -1,14 +1,11 @@
 -- What is true of every connection of a run.
-use Rattle.std.specs.Prelude.{◌≡◌, ◌<◌, ℕ, false, List, [], ◌∷◌, ◌++◌, All}
-use Rattle.std.specs.List.{flat_map}
-use Rattle.ty_wire.specs.Spelling.{spelling, Fits}
-use Rattle.ty_wire.specs.Frames.{HasNone}
+use Rattle.std.specs.Prelude.{◌≡◌, ◌<◌, ℕ, false, List, [], ◌∷◌}
+use Rattle.ty_wire.specs.Frames.{StandsAs, HasNone}
 use Rattle.ty_world.specs.World.{Client, World}
 
--- what came is the spellings of the requests placed, and then the unread bytes
-pub record IsSpelled (k : Client) : Type 0 where
-  pub parts : k.input ≡ flat_map spelling k.placed ++ k.unread
-  pub fit : All Fits k.placed
+-- what came is the requests placed, as frames, and then the unread bytes
+abbrev pub IsSpelled : Client → Type 0
+IsSpelled k = StandsAs k.input k.placed k.unread
 
 abbrev pub EachSpelled : List Client → Type 0
 EachSpelled [] = Unit {0}

@@ -15,7 +15,7 @@ pub record Scanned (log lens : List ℕ) (place : ℕ) (fine : Bool) : Type 0 wh
   pub inside : all_inside lens done ≡ fine
   pub enough : length log ≤ place + most
 
--- the same of all whole entries
+-- all whole entries were scanned, up to a place
 pub record ScannedAll (log lens : List ℕ) (place : ℕ) (fine : Bool) : Type 0 where
   pub spelled : drop 152 log ≡ entries_bytes (entries log) ++ drop place log
   pub there : place ≡ 152 + length (entries_bytes (entries log))

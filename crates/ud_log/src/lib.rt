@@ -12,6 +12,6 @@ mod spell;
 mod tests;
 
 pub use laws::grammar_is_exact;
-pub use reading::{Head, read_again, read_head, read_lens};
+pub use reading::{EntryFront, read_again, read_head, read_lens};
 pub use spell::{DATA_FILES, HEADER, file_at, frame, header_of, place};
 pub use tests::{are_short, begins_well, is_formed};

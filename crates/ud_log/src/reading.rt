@@ -1,3 +1,4 @@
+//! Numbers read from the bytes of a log.
 ghost use Rattle.std.specs.Prelude.{◌≡◌, ◌+◌, ◌≤◌, ◌<◌, ◌*◌, ◌++◌, length, take, drop};
 ghost use Rattle.tc_base.specs.Bytes.{IsBytes};
 ghost use Rattle.ud_log.specs.Log.{number, lengths};
@@ -6,7 +7,7 @@ use crate::spell::{DATA_FILES, HEADER};
 
 /// The numbers at the front of an entry.
 #[derive(Clone, Copy, Debug, PartialEq, Eq)]
-pub struct Head {
+pub struct EntryFront {
     pub file: u32,
     pub at: u64,
     pub size: u32,
@@ -36,13 +37,13 @@ pub fn read_again(bytes: &[u8; 4]) -> u32
 }
 
 /// The numbers at the front of an entry.
-pub fn read_head(bytes: &[u8; 16]) -> Head
+pub fn read_head(bytes: &[u8; 16]) -> EntryFront
     ensures file { result.file ≡ number (take 4 bytes.now) }
     ensures at { result.at ≡ number (take 8 (drop 4 bytes.now)) }
     ensures size { result.size ≡ number (take 4 (drop 12 bytes.now)) }
     ensures bytes { IsBytes bytes.now }
 {
-    Head {
+    EntryFront {
         file: four(bytes, 0),
         at: eight(bytes, 4),
         size: four(bytes, 12),

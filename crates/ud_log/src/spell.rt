@@ -1,3 +1,4 @@
+//! The header and the frame of an entry, as bytes.
 ghost use Rattle.std.specs.Prelude.{◌≡◌, ◌+◌, ◌≤◌, ◌<◌, ◌++◌, true, length, take, drop};
 ghost use Rattle.ud_log.specs.Log.{spelled, framed, magic, numbers_bytes};
 ghost use Rattle.ud_log.specs.Undo.{is_data, place_of};

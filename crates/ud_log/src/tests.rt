@@ -1,8 +1,9 @@
+//! Tests on the bytes and the numbers of a log.
 ghost use Rattle.std.specs.Prelude.{◌≡◌, ◌&&◌, nat_le, nat_eq};
 ghost use Rattle.ud_log.specs.Log.{magic};
 ghost use Rattle.ud_log.specs.Undo.{agrees, all_short, is_data};
 
-const LONGEST: u64 = 1 << 40;
+use tc_base::FILE_MOST;
 
 const MAGIC: [u8; 8] = [84, 75, 117, 110, 100, 111, 48, 49];
 
@@ -23,7 +24,7 @@ pub fn are_short(lens: &[u64; 18]) -> bool
     ensures { result ≡ all_short lens.now }
 {
     for len in lens {
-        if *len > LONGEST {
+        if *len > FILE_MOST {
             return false;
         }
     }

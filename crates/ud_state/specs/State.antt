@@ -29,7 +29,7 @@ pub record Pending (cs : Calls) (kept : Files) (es : List Entry) : Type 0 where
   pub tail : (f : ℕ) → is_data f ≡ true → (p : ℕ) → length (now cs f) ≤ p → p < length (kept f) → Covers (of_file f es) p
   pub fits : (f : ℕ) → is_data f ≡ true → length (now cs f) ≤ 2 ^ 40
 
--- the same with all of the log on the disk
+-- a transaction is open over these kept files, and all of its log is on the disk
 pub record Tx (cs : Calls) (kept : Files) (es : List Entry) : Type 0 where
   pub files : Data cs kept es
   pub log : now cs 1 ≡ log_bytes kept es
@@ -76,7 +76,7 @@ pub record Secured (cs : Calls) (recorded : List ℕ) (f from to : ℕ) : Type 0
 abbrev pub Durable : Calls → ℕ → Type 0
 Durable cs f = (i : List ℕ) → Image (of f cs) i → i ≡ now cs f
 
--- so is each data file that isn't marked as changed
+-- each data file that isn't marked as changed is on the disk as it reads
 pub record Unchanged (cs : Calls) (changed : List Bool) : Type 0 where
   pub long : length changed ≡ 18
   pub each : (f : ℕ) → is_data f ≡ true → get_or changed (place_of f) false ≡ false → Durable cs f

@@ -1,6 +1,11 @@
-use Rattle.std.proofs.Common.{sym}
-use Rattle.bt_slots.proofs.ReadBack.{number_at}
+use Rattle.std.proofs.Common.{ap, sym}
+use Rattle.bt_slots.specs.Reads.{or_none, number_in}
 use Rattle.bt_slots.proofs.fronts.number.Goals as goal
 
-pub returns-then-last-lt128 : goal.returns-then-last-lt128
-returns-then-last-lt128 c = sym (number_at c.of_one.result.0 c.args.bytes.now c.of_one.result.1.now c.of_one.ensures.small c.of_one.ensures.is)
+pub returns-in-Ok : goal.returns-in-Ok
+unfolding number_in
+returns-in-Ok c = sym (ap or_none c.in-Ok.ensures)
+
+pub returns-in-Err : goal.returns-in-Err
+unfolding number_in
+returns-in-Err c = sym (ap or_none c.in-Err.ensures)

@@ -1,14 +1,14 @@
 use Rattle.std.proofs.Common.{◌≡◌, ◌∙◌, ◌++◌, ◌∷◌, [], ap, List, ℕ, arith, sym, refl}
 use Rattle.std.specs.List.{flat_map}
 use Rattle.std.proofs.lemmas.List.{append-nil}
-use Rattle.bt_page.specs.declared.page.Entry.{Entry}
+use Rattle.bt_page.specs.declared.page.NodeEntry.{NodeEntry}
 use Rattle.bt_page.specs.Pages.{EntryFits, entry_bytes}
 use Rattle.bt_page.proofs.Runs.{progress_start, progress_step, progress_none}
 use Rattle.bt_page.proofs.AtFronts.{entry_free, entry_some, some_left, none_left}
 use Rattle.bt_slots.proofs.Scanned.{starts_none, starts_step}
 use Rattle.bt_slots.proofs.scanning.starts_of_entries.Goals as goal
 
-abbrev Ends : List Entry → List ℕ → Type 0
+abbrev Ends : List NodeEntry → List ℕ → Type 0
 Ends all tail = tail ≡ []
 
 pub loop-rest-init : goal.loop-rest-init
@@ -17,23 +17,23 @@ loop-rest-init c = record { few = omega arith; read = ([], starts_none entry_byt
 pub loop-rest-preserved : goal.loop-rest-preserved
 loop-rest-preserved c =
     let p = c.loop-rest.invariant.read in
-    let x = c.in-Ok.ensures.found in
+    let x = c.in_ok-rest.ensures.found in
     record {
       few = c.in_ok-count.ensures.few;
       read = (
         p.0 ++ x.0 ∷ [],
         starts_step entry_bytes c.args.end c.args.entries.now c.loop-rest.rest.now p.0 x.0 _ _ p.1 p.2.is c.requires c.in_ok-count.ensures.noted,
-        progress_step EntryFits entry_bytes Ends c.args.entries.now p.0 c.loop-rest.rest.now x.0 c.in-Ok.rest.now entry_free p.2 x.1 (λ tail t e. some_left c.loop-rest.rest.now tail c.loop-rest-test.ensures t e),
+        progress_step EntryFits entry_bytes Ends c.args.entries.now p.0 c.loop-rest.rest.now x.0 c.in_ok-rest.rest.now entry_free p.2 x.1 (λ tail t e. some_left c.loop-rest.rest.now tail c.loop-rest-test.ensures t e),
       );
     }
 
 pub loop-rest-smaller : goal.loop-rest-smaller
-loop-rest-smaller c = let x = c.in-Ok.ensures.found in entry_some c.loop-rest.rest.now c.in-Ok.rest.now x.0 x.1
+loop-rest-smaller c = let x = c.in_ok-rest.ensures.found in entry_some c.loop-rest.rest.now c.in_ok-rest.rest.now x.0 x.1
 
-pub returns-in-Err-clause-bad : goal.returns-in-Err-clause-bad
-returns-in-Err-clause-bad c = λ h all fit e.
+pub returns-in_err-rest-clause-bad : goal.returns-in_err-rest-clause-bad
+returns-in_err-rest-clause-bad c = λ h all fit e.
     let p = c.loop-rest.invariant.read in
-    progress_none EntryFits entry_bytes Ends c.args.entries.now p.0 c.loop-rest.rest.now p.2 c.in-Err.ensures.bad (λ tail t e. some_left c.loop-rest.rest.now tail c.loop-rest-test.ensures t e) all [] refl fit (e ∙ sym (append-nil _))
+    progress_none EntryFits entry_bytes Ends c.args.entries.now p.0 c.loop-rest.rest.now p.2 c.in_err-rest.ensures.bad (λ tail t e. some_left c.loop-rest.rest.now tail c.loop-rest-test.ensures t e) all [] refl fit (e ∙ sym (append-nil _))
 
 pub returns-clause-found : goal.returns-clause-found
 returns-clause-found c =

@@ -17,23 +17,23 @@ loop-rest-init c = record { few = omega arith; read = ([], starts_none item_byte
 pub loop-rest-preserved : goal.loop-rest-preserved
 loop-rest-preserved c =
     let p = c.loop-rest.invariant.read in
-    let x = c.in-Ok.ensures.found in
+    let x = c.in_ok-rest.ensures.found in
     record {
       few = c.in_ok-count.ensures.few;
       read = (
         p.0 ++ x.0 ∷ [],
         starts_step item_bytes c.args.end c.args.items.now c.loop-rest.rest.now p.0 x.0 _ _ p.1 p.2.is c.requires c.in_ok-count.ensures.noted,
-        progress_step ItemFits item_bytes Ends c.args.items.now p.0 c.loop-rest.rest.now x.0 c.in-Ok.rest.now item_free p.2 x.1 (λ tail t e. some_left c.loop-rest.rest.now tail c.loop-rest-test.ensures t e),
+        progress_step ItemFits item_bytes Ends c.args.items.now p.0 c.loop-rest.rest.now x.0 c.in_ok-rest.rest.now item_free p.2 x.1 (λ tail t e. some_left c.loop-rest.rest.now tail c.loop-rest-test.ensures t e),
       );
     }
 
 pub loop-rest-smaller : goal.loop-rest-smaller
-loop-rest-smaller c = let x = c.in-Ok.ensures.found in item_some c.loop-rest.rest.now c.in-Ok.rest.now x.0 x.1
+loop-rest-smaller c = let x = c.in_ok-rest.ensures.found in item_some c.loop-rest.rest.now c.in_ok-rest.rest.now x.0 x.1
 
-pub returns-in-Err-clause-bad : goal.returns-in-Err-clause-bad
-returns-in-Err-clause-bad c = λ h all fit e.
+pub returns-in_err-rest-clause-bad : goal.returns-in_err-rest-clause-bad
+returns-in_err-rest-clause-bad c = λ h all fit e.
     let p = c.loop-rest.invariant.read in
-    progress_none ItemFits item_bytes Ends c.args.items.now p.0 c.loop-rest.rest.now p.2 c.in-Err.ensures.bad (λ tail t e. some_left c.loop-rest.rest.now tail c.loop-rest-test.ensures t e) all [] refl fit (e ∙ sym (append-nil _))
+    progress_none ItemFits item_bytes Ends c.args.items.now p.0 c.loop-rest.rest.now p.2 c.in_err-rest.ensures.bad (λ tail t e. some_left c.loop-rest.rest.now tail c.loop-rest-test.ensures t e) all [] refl fit (e ∙ sym (append-nil _))
 
 pub returns-clause-found : goal.returns-clause-found
 returns-clause-found c =

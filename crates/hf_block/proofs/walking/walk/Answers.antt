@@ -1,8 +1,7 @@
-use Rattle.std.proofs.Common.{◌≡◌, ◌∙◌, ℕ, ◌^◌, ◌≤◌, Bool, List, [], length, drop, refl, sym, ap, subst, arith, lit<, length-append, length-take, length-drop, Result, Err}
+use Rattle.std.proofs.Common.{◌≡◌, ◌∙◌, ℕ, ◌^◌, ◌≤◌, Bool, List, [], length, drop, refl, sym, ap, subst, arith, lit<, length-append, length-take, length-drop}
 use Rattle.std.proofs.Math.Nat.{pow-le-pow_right}
+use Rattle.hf_block.proofs.Broken.{broken_on}
 use Rattle.hf_block.specs.declared.block.BlockAt.{BlockAt}
-use Rattle.hf_block.specs.declared.walking.WalkErr.{WalkErr}
-use Rattle.hf_block.specs.declared.walking.WalkErr.TheVariants.{Broken}
 use Rattle.hf_head.specs.Heads.{wide, unit}
 use Rattle.hf_block.specs.Pieces.{IsFilled}
 use Rattle.hf_block.specs.Rows.{StandInRow}
@@ -10,9 +9,6 @@ use Rattle.hf_block.specs.Walks.{Walked, between}
 use Rattle.tc_space.specs.Frames.{only_reads_refl, only_reads_then}
 use Rattle.hf_block.proofs.Listing.{walked_none, walked_then, between_on}
 use Rattle.hf_block.proofs.walking.walk.Goals as goal
-
-same_error : {A B : Type 0} (e f : WalkErr) → ◌≡◌ {A = Result A WalkErr} (Err e) (Err f) → ◌≡◌ {A = Result B WalkErr} (Err e) (Err f)
-same_error e f h = let s : e ≡ f = cc in ap (λ (x : WalkErr). Err x) s
 
 pub loop-at-init : goal.loop-at-init
 loop-at-init g c = record {
@@ -35,22 +31,22 @@ loop-at-preserved g c =
     let n = c.min-len.result in
     let sized : length c.walk_piece.new.chunk ≡ n = omega (arith, c.walk_piece.auto.chunk, length-take n c.loop-at.chunk, v.long, c.min-len.ensures) in
     record {
-      reads = only_reads_then g.S.Space c.args.space.now c.loop-at.space c.walk_piece.new.space v.reads c.in-Ok.ensures.reads;
-      low = omega (arith, v.low, c.in-Ok.ensures.on.on);
-      high = c.in-Ok.ensures.on.within;
+      reads = only_reads_then g.S.Space c.args.space.now c.loop-at.space c.walk_piece.new.space v.reads c.in_ok-at.ensures.reads;
+      low = omega (arith, v.low, c.in_ok-at.ensures.on.on);
+      high = c.in_ok-at.ensures.on.within;
       long = omega (arith, sized, v.long, length-append c.walk_piece.new.chunk (drop n c.loop-at.chunk), length-drop n c.loop-at.chunk, c.min-len.ensures);
-      row = c.in-Ok.ensures.on.row c.args.head.now.first v.row;
+      row = c.in_ok-at.ensures.on.row c.args.head.now.first v.row;
       walked = λ t.
           let f : List ℕ = g.S.Space.now c.args.space.now c.args.file in
           let rest = ap (λ (l : List ℕ). between c.loop-at.at c.args.head.now.size l) (v.reads.files t c.args.file) ∙ between_on c.args.head.now.first c.loop-at.at c.args.head.now.size f v.low v.high in
-          walked_then (wide c.is_large-large.result) c.unit-unit.result c.args.head.now.first c.loop-at.at c.in-Ok.next (between c.args.head.now.first c.args.head.now.size f) [] c.loop-at.blocks c.walk_piece.new.blocks (v.walked t)
-          (subst (λ (l : List ℕ). Walked (wide c.is_large-large.result) c.unit-unit.result c.loop-at.at c.in-Ok.next l c.loop-at.blocks c.walk_piece.new.blocks) rest (c.in-Ok.ensures.walked t));
+          walked_then (wide c.is_large-large.result) c.unit-unit.result c.args.head.now.first c.loop-at.at c.in_ok-at.at (between c.args.head.now.first c.args.head.now.size f) [] c.loop-at.blocks c.walk_piece.new.blocks (v.walked t)
+          (subst (λ (l : List ℕ). Walked (wide c.is_large-large.result) c.unit-unit.result c.loop-at.at c.in_ok-at.at l c.loop-at.blocks c.walk_piece.new.blocks) rest (c.in_ok-at.ensures.walked t));
     }
 
-pub returns-in-Err-clause-broken : goal.returns-in-Err-clause-broken
-returns-in-Err-clause-broken g c = λ rule e.
+pub returns-in_err-at-clause-broken : goal.returns-in_err-at-clause-broken
+returns-in_err-at-clause-broken g c = broken_on c.from_residual.result c.in_err-at.field-0.0 _ c.from_residual.ensures.1 (λ rule e.
     let v = c.loop-at.invariant in
-    let b = c.in-Err.ensures.broken rule (same_error c.in-Err.e (Broken rule) e) in
+    let b = c.in_err-at.ensures.broken rule e in
     record {
       rule_is = b.rule_is;
       none = λ t ps filled.
@@ -58,4 +54,4 @@ returns-in-Err-clause-broken g c = λ rule e.
           let rest = ap (λ (l : List ℕ). between c.loop-at.at c.args.head.now.size l) (v.reads.files t c.args.file) ∙ between_on c.args.head.now.first c.loop-at.at c.args.head.now.size f v.low v.high in
           let q = (v.walked t).rest ps (subst (λ (u : ℕ). IsFilled (wide c.is_large-large.result) u (between c.args.head.now.first c.args.head.now.size f) ps) (sym c.unit-unit.ensures) (subst (λ (b : Bool). IsFilled (wide b) (unit c.args.head.now) (between c.args.head.now.first c.args.head.now.size f) ps) (sym c.is_large-large.ensures) filled)) in
           b.none t q.0 (subst (λ (l : List ℕ). IsFilled (wide c.is_large-large.result) c.unit-unit.result l q.0) (sym rest) q.1);
-    }
+    })

@@ -2,7 +2,7 @@ use Rattle.std.proofs.Common.{rules, ◌∙◌, ◌+◌, ◌^◌, ◌<◌, ℕ, 
 use Rattle.hf_tree.specs.Keys.{bucket_of}
 use Rattle.hf_tree.specs.Trees.{nodes}
 use Rattle.tc_space.specs.Frames.{only_reads_then}
-use Rattle.hf_chain.specs.Heads.{HasRecord, IsRecordAt}
+use Rattle.hf_chain.specs.Heads.{HasRecord, IsHeadOf, IsRecordAt}
 use Rattle.hf_chain.specs.Costs.{step_most}
 use Rattle.hf_chain.proofs.Descents.{unit_small, entry_inside, spot_start, spot_gap, spot_end, spot_next, next_there, next_here, next_down}
 use Rattle.hf_chain.proofs.Paying.{paid_one, paid_then, within_by, one_more}
@@ -50,14 +50,14 @@ look_at-requires-clause-there g c = λ t.
     let n = spot_next c.args.head.now w.end w.pieces (g.S.Space.now c.args.space.now c.args.file) (bucket_of c.args.head.now.buckets c.args.key.now) w.tree c.args.key.now c.loop-depth.from c.loop-depth.at c.loop-depth.depth x.blocks (c.loop-depth.invariant.spot t w.end w.pieces w.tree x) c.if-at-eq0.false in
     subst (λ (l : List ℕ). IsRecordAt c.args.head.now c.loop-depth.at l) (sym (c.loop-depth.invariant.reads.files t c.args.file)) (next_there c.args.head.now w.end w.pieces (g.S.Space.now c.args.space.now c.args.file) (bucket_of c.args.head.now.buckets c.args.key.now) w.tree c.args.key.now c.loop-depth.from c.loop-depth.at c.loop-depth.depth n)
 
-pub returns-in_err-step-clause-within : goal.returns-in_err-step-clause-within
-returns-in_err-step-clause-within g c = λ t end ps u w.
+pub returns-in_err-look-clause-within : goal.returns-in_err-look-clause-within
+returns-in_err-look-clause-within g c = λ t end ps u w.
     let n = spot_next c.args.head.now end ps (g.S.Space.now c.args.space.now c.args.file) (bucket_of c.args.head.now.buckets c.args.key.now) u c.args.key.now c.loop-depth.from c.loop-depth.at c.loop-depth.depth w.blocks (c.loop-depth.invariant.spot t end ps u w) c.if-at-eq0.false in
     let m : ℕ = step_most (length c.args.key.now) in
     within_by (1 + nodes u) (c.loop-depth.depth + 1 + 1) m c.args.steps.now c.count_step-in-loop-depth.new.steps (g.S.Space.bytes_read c.args.space.now) (g.S.Space.bytes_read c.look_at.new.space) (omega (arith, c.count_step-in-loop-depth.ensures.more, c.loop-depth.invariant.count)) (omega (arith, one_more (c.loop-depth.depth + 1) m, c.loop-depth.invariant.read, c.look_at.ensures.counted)) (omega (arith, n.few))
 
-pub returns-in_err-step-clause-paid : goal.returns-in_err-step-clause-paid
-returns-in_err-step-clause-paid g c = paid_then (step_most (length c.args.key.now)) c.args.steps.now c.loop-depth.steps c.count_step-in-loop-depth.new.steps (g.S.Space.bytes_read c.args.space.now) (g.S.Space.bytes_read c.loop-depth.space) (g.S.Space.bytes_read c.look_at.new.space) c.loop-depth.invariant.paid (paid_one (step_most (length c.args.key.now)) c.loop-depth.steps c.count_step-in-loop-depth.new.steps (g.S.Space.bytes_read c.loop-depth.space) (g.S.Space.bytes_read c.look_at.new.space) c.count_step-in-loop-depth.ensures.later c.count_step-in-loop-depth.ensures.more (omega (arith, c.look_at.ensures.counted)))
+pub returns-in_err-look-clause-paid : goal.returns-in_err-look-clause-paid
+returns-in_err-look-clause-paid g c = paid_then (step_most (length c.args.key.now)) c.args.steps.now c.loop-depth.steps c.count_step-in-loop-depth.new.steps (g.S.Space.bytes_read c.args.space.now) (g.S.Space.bytes_read c.loop-depth.space) (g.S.Space.bytes_read c.look_at.new.space) c.loop-depth.invariant.paid (paid_one (step_most (length c.args.key.now)) c.loop-depth.steps c.count_step-in-loop-depth.new.steps (g.S.Space.bytes_read c.loop-depth.space) (g.S.Space.bytes_read c.look_at.new.space) c.count_step-in-loop-depth.ensures.later c.count_step-in-loop-depth.ensures.more (omega (arith, c.look_at.ensures.counted)))
 
 pub returns-in_default-clause-within : goal.returns-in_default-clause-within
 returns-in_default-clause-within g c = λ t end ps u w.
@@ -72,8 +72,20 @@ pub returns-in_default-clause-found : goal.returns-in_default-clause-found
 returns-in_default-clause-found g c = λ t end ps u w.
     let n = spot_next c.args.head.now end ps (g.S.Space.now c.args.space.now c.args.file) (bucket_of c.args.head.now.buckets c.args.key.now) u c.args.key.now c.loop-depth.from c.loop-depth.at c.loop-depth.depth w.blocks (c.loop-depth.invariant.spot t end ps u w) c.if-at-eq0.false in
     let now : HasRecord c.args.head.now n.held.r c.loop-depth.at (g.S.Space.now c.loop-depth.space c.args.file) = subst (λ (l : List ℕ). HasRecord c.args.head.now n.held.r c.loop-depth.at l) (sym (c.loop-depth.invariant.reads.files t c.args.file)) n.held.has in
-    let step = c.in_ok-step.ensures.step t n.held.r now n.held.hash in
+    let step = c.in_ok-look.ensures.step t n.held.r now n.held.hash in
     next_here c.args.head.now end ps (g.S.Space.now c.args.space.now c.args.file) (bucket_of c.args.head.now.buckets c.args.key.now) u c.args.key.now c.loop-depth.from c.loop-depth.at c.loop-depth.depth n (sym c.in_default.is ∙ step)
+
+pub returns-in_default-clause-head : goal.returns-in_default-clause-head
+returns-in_default-clause-head g c =
+    let same = λ (t : g.S.Space.tells). c.loop-depth.invariant.reads.files t c.args.file in
+    record {
+      fits = c.in_ok-look.ensures.fits;
+      is = λ t. subst (λ (l : List ℕ). IsHeadOf c.args.head.now c.loop-depth.at l c.in_ok-look.look.rec) (same t) (c.in_ok-look.ensures.head t);
+      long = λ t. (let r : c.len-most.result < 2 ^ 64 = search rules in omega (arith, c.len-most.ensures t, r));
+    }
+
+pub returns-in_default-clause-reads : goal.returns-in_default-clause-reads
+returns-in_default-clause-reads g c = only_reads_then g.S.Space c.args.space.now c.loop-depth.space c.look_at.new.space c.loop-depth.invariant.reads c.look_at.ensures.reads
 
 pub loop-depth-preserved : goal.loop-depth-preserved
 loop-depth-preserved g c = record {
@@ -81,7 +93,7 @@ loop-depth-preserved g c = record {
   spot = λ t end ps u w.
       let n = spot_next c.args.head.now end ps (g.S.Space.now c.args.space.now c.args.file) (bucket_of c.args.head.now.buckets c.args.key.now) u c.args.key.now c.loop-depth.from c.loop-depth.at c.loop-depth.depth w.blocks (c.loop-depth.invariant.spot t end ps u w) c.if-at-eq0.false in
       let now : HasRecord c.args.head.now n.held.r c.loop-depth.at (g.S.Space.now c.loop-depth.space c.args.file) = subst (λ (l : List ℕ). HasRecord c.args.head.now n.held.r c.loop-depth.at l) (sym (c.loop-depth.invariant.reads.files t c.args.file)) n.held.has in
-      let step = c.in_ok-step.ensures.step t n.held.r now n.held.hash in
+      let step = c.in_ok-look.ensures.step t n.held.r now n.held.hash in
       let room : length (g.S.Space.now c.args.space.now c.args.file) < 2 ^ 64 = (let r : c.len-most.result < 2 ^ 64 = search rules in omega (arith, c.len-most.ensures t, r)) in
       next_down c.args.head.now end ps (g.S.Space.now c.args.space.now c.args.file) (bucket_of c.args.head.now.buckets c.args.key.now) u c.args.key.now c.loop-depth.from c.loop-depth.at c.loop-depth.depth w.blocks room n c.in-Some.link c.in-Some.place (sym c.in-Some.is ∙ step);
   count = omega (arith, c.count_step-in-loop-depth.ensures.more, c.loop-depth.invariant.count);

@@ -24,8 +24,8 @@ compare-requires-clause-read g c = λ t.
       long = x.long;
     })
 
-pub turn-requires : goal.turn-requires
-turn-requires g c = omega (arith, unit_small c.args.head.now c.requires.ready.valid, c.unit.ensures)
+pub turn-step-requires : goal.turn-step-requires
+turn-step-requires g c = omega (arith, unit_small c.args.head.now c.requires.ready.valid, c.unit.ensures)
 
 pub returns-clause-step : goal.returns-clause-step
 returns-clause-step g c = λ t r a hash.
@@ -34,4 +34,11 @@ returns-clause-step g c = λ t r a hash.
     let w = front_cut (length c.args.front.now) c.args.at (unit c.args.head.now) r f c.read.new.into a.is (c.in_ok-read.ensures.bytes t) x.room.inside x.room.enough in
     let h : c.head_in-rec.result ≡ head_of r = c.head_in-rec.ensures.head (unit c.args.head.now) r a.is.rest (a.wide ∙ ap wide (sym c.is_large.ensures)) a.is.whole w.0 w.1 in
     let now = subst (λ (l : List ℕ). HasRecord c.args.head.now r c.args.at l) (sym (c.in_ok-read.ensures.now t c.args.file)) a in
-    c.turn.ensures r h ∙ ap (step_of c.unit.result c.args.at r) (c.in_ok-order.ensures.order t r now h hash) ∙ ap (λ (u : ℕ). step_of u c.args.at r (key_cmp c.args.key.now r.key)) c.unit.ensures
+    c.turn-step.ensures r h ∙ ap (step_of c.unit.result c.args.at r) (c.in_ok-order.ensures.order t r now h hash) ∙ ap (λ (u : ℕ). step_of u c.args.at r (key_cmp c.args.key.now r.key)) c.unit.ensures
+
+pub returns-clause-head : goal.returns-clause-head
+returns-clause-head g c = λ t r a.
+    let x = c.requires.front t in
+    let f : List ℕ = g.S.Space.now c.args.space.now c.args.file in
+    let w = front_cut (length c.args.front.now) c.args.at (unit c.args.head.now) r f c.read.new.into a.is (c.in_ok-read.ensures.bytes t) x.room.inside x.room.enough in
+    c.head_in-rec.ensures.head (unit c.args.head.now) r a.is.rest (a.wide ∙ ap wide (sym c.is_large.ensures)) a.is.whole w.0 w.1

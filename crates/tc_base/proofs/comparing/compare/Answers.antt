@@ -1,4 +1,4 @@
-use Rattle.std.proofs.Common.{◌≡◌, ◌<◌, ℕ, length, sym, ap, ◌∙◌, arith}
+use Rattle.std.proofs.Common.{◌<◌, ℕ, length, sym, ap, ◌∙◌, arith}
 use Rattle.std.specs.Ordering.{nat_cmp}
 use Rattle.tc_base.proofs.Foreseeing.{decided_at, ended_at, same_at}
 use Rattle.tc_base.proofs.comparing.compare.Goals.{then-eight-test+else-at-b, else-eight-test}

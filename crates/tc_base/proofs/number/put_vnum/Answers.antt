@@ -1,4 +1,4 @@
-use Rattle.std.proofs.Common.{rules, ◌≡◌, ℕ, List, ◌++◌, sym, ap, ◌∙◌, arith}
+use Rattle.std.proofs.Common.{rules}
 use Rattle.tc_base.specs.Vnum.{vnum}
 use Rattle.tc_base.proofs.Vnums.{groups-low}
 use Rattle.tc_base.proofs.number.put_vnum.Goals as goal

@@ -1,4 +1,4 @@
-use Rattle.std.proofs.Common.{◌≡◌, ◌∙◌, ℕ, Ok, get_or, refl, ap, arith}
+use Rattle.std.proofs.Common.{◌∙◌, ℕ, Ok, get_or, refl, ap, arith}
 use Rattle.tc_base.proofs.Vnums.{scanned_one}
 use Rattle.tc_base.proofs.number.scan_front.Goals as goal
 

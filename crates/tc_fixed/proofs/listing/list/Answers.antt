@@ -1,7 +1,7 @@
 use Rattle.std.proofs.Common.{ℕ, List, length, length-append, arith, ap, subst}
 use Rattle.tc_space.specs.Frames.{only_reads_refl, only_reads_then}
 use Rattle.tc_fixed.proofs.Listed.{listed_none, listed_more, listed_all, listed_full}
-use Rattle.tc_window.proofs.Viewing.{shows_at}
+use Rattle.tc_reach.proofs.Viewing.{shows_at}
 use Rattle.tc_fixed.specs.Cells.{cell_at}
 use Rattle.tc_fixed.specs.Looks.{Sees}
 use Rattle.tc_fixed.specs.Listing.{noted}
@@ -22,12 +22,12 @@ loop-id-preserved g c =
     let v = c.loop-id.invariant in
     record {
       on = omega (arith, v.on);
-      more = omega (arith, v.more, ap (λ (l : List ℕ). length l) c.in-Ok-note.ensures, length-append c.loop-id.into.items (noted c.in-Ok.found c.loop-id.id));
+      more = omega (arith, v.more, ap (λ (l : List ℕ). length l) c.in_ok-note.ensures, length-append c.loop-id.into.items (noted c.in_ok-found.found c.loop-id.id));
       reads = only_reads_then g.S.Space c.args.space.now c.loop-id.space c.look.new.space v.reads c.look.ensures.reads;
-      shows = λ t. shows_at c.look.new.window (g.S.Space.now c.loop-id.space 0) (g.S.Space.now c.args.space.now 0) (v.reads.files t 0) (c.in-Ok.ensures.shows t);
-      so = λ t m cells. listed_more m c.args.width c.args.from c.loop-id.id c.args.to c.args.most c.args.into.now.items c.loop-id.into.items c.note.new.into.items (g.S.Space.now c.args.space.now 0) c.in-Ok.found _
-          (v.so t m cells) v.on c.requires.ids.0 c.loop-id-test.true cells (subst (λ (l : List ℕ). Sees c.args.width c.in-Ok.found (cell_at c.args.width c.loop-id.id l)) (v.reads.files t 0) (c.in-Ok.ensures.sees t))
-          (omega (arith, c.len.ensures, c.len-start.ensures)) (c.has_room.ensures.yes c.if-has_room.true) c.in-Ok-note.ensures;
+      shows = λ t. shows_at c.look.new.window (g.S.Space.now c.loop-id.space 0) (g.S.Space.now c.args.space.now 0) (v.reads.files t 0) (c.in_ok-found.ensures.shows t);
+      so = λ t m cells. listed_more m c.args.width c.args.from c.loop-id.id c.args.to c.args.most c.args.into.now.items c.loop-id.into.items c.note.new.into.items (g.S.Space.now c.args.space.now 0) c.in_ok-found.found _
+          (v.so t m cells) v.on c.requires.ids.0 c.loop-id-test.true cells (subst (λ (l : List ℕ). Sees c.args.width c.in_ok-found.found (cell_at c.args.width c.loop-id.id l)) (v.reads.files t 0) (c.in_ok-found.ensures.sees t))
+          (omega (arith, c.len.ensures, c.len-start.ensures)) (c.has_room.ensures.yes c.if-has_room.true) c.in_ok-note.ensures;
     }
 
 pub returns-clause-listed : goal.returns-clause-listed

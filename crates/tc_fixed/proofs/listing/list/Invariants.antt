@@ -1,7 +1,7 @@
 use Rattle.std.proofs.Common.{◌-◌, ◌≤◌, length}
 use Rattle.tc_model.specs.Arrays.{Array}
 use Rattle.tc_space.specs.Frames.{OnlyReads}
-use Rattle.tc_window.specs.Windows.{Shows}
+use Rattle.tc_reach.specs.Windows.{Shows}
 use Rattle.tc_fixed.specs.Cells.{HasCellsOf}
 use Rattle.tc_fixed.proofs.Listed.{AreSoFar}
 use Rattle.tc_fixed.proofs.listing.list.Given as goal

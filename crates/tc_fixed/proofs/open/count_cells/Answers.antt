@@ -1,7 +1,7 @@
 use Rattle.std.proofs.Common.{◌≡◌, ◌∙◌, ◌+◌, ◌-◌, ℕ, List, arith, subst, sym}
 use Rattle.tc_base.specs.declared.kind.Rule.{Rule}
 use Rattle.tc_space.specs.Frames.{only_reads_refl, only_reads_then}
-use Rattle.tc_window.proofs.Viewing.{shows_at}
+use Rattle.tc_reach.proofs.Viewing.{shows_at}
 use Rattle.tc_fixed.specs.declared.cells.Look.{Look}
 use Rattle.tc_fixed.specs.Cells.{cell_at}
 use Rattle.tc_fixed.specs.Looks.{Sees}
@@ -28,21 +28,21 @@ loop-id-preserved g c =
       some = omega arith;
       high = omega (arith, c.loop-id-test.true);
       reads = only_reads_then g.S.Space c.args.space.now c.loop-id.space c.look.new.space v.reads c.look.ensures.reads;
-      shows = λ t. shows_at c.look.new.window (g.S.Space.now c.loop-id.space 0) (g.S.Space.now c.args.space.now 0) (v.reads.files t 0) (c.in-Ok.ensures.shows t);
+      shows = λ t. shows_at c.look.new.window (g.S.Space.now c.loop-id.space 0) (g.S.Space.now c.args.space.now 0) (v.reads.files t 0) (c.in_ok-found.ensures.shows t);
       so = λ t.
           let now = g.S.Space.now c.args.space.now 0 in
-          subst (λ n. IsCountedTo w n c.in-Some.now now) same (c.in-Some.ensures.some w now c.requires.numbers.width_most (v.so t) (subst (λ (l : List ℕ). Sees w c.in-Ok.found (cell_at w c.loop-id.id l)) (v.reads.files t 0) (c.in-Ok.ensures.sees t)));
+          subst (λ n. IsCountedTo w n c.in-Some.now now) same (c.in-Some.ensures.some w now c.requires.numbers.width_most (v.so t) (subst (λ (l : List ℕ). Sees w c.in_ok-found.found (cell_at w c.loop-id.id l)) (v.reads.files t 0) (c.in_ok-found.ensures.sees t)));
     }
 
-pub returns-in-None-clause-broken : goal.returns-in-None-clause-broken
-returns-in-None-clause-broken g c = λ f rule e.
+pub returns-in_default-clause-broken : goal.returns-in_default-clause-broken
+returns-in_default-clause-broken g c = λ f rule e.
     let v = c.loop-id.invariant in
     let h = c.args.head.now in
     names_rule 3 f rule (λ (r : Rule). g.S.Space.tells → IsBroken (g.S.Space.now c.args.space.now 0) r)
     (λ t.
     let now = g.S.Space.now c.args.space.now 0 in
-    let sees = subst (λ (l : List ℕ). Sees h.width c.in-Ok.found (cell_at h.width c.loop-id.id l)) (v.reads.files t 0) (c.in-Ok.ensures.sees t) in
-    let bad = subst (λ (look : Look). Sees h.width look (cell_at h.width c.loop-id.id now)) c.in-None.ensures.none sees in
+    let sees = subst (λ (l : List ℕ). Sees h.width c.in_ok-found.found (cell_at h.width c.loop-id.id l)) (v.reads.files t 0) (c.in_ok-found.ensures.sees t) in
+    let bad = subst (λ (look : Look). Sees h.width look (cell_at h.width c.loop-id.id now)) c.in_default.ensures.none sees in
     no_cell h c.loop-id.id now (c.requires.is t).0 (c.requires.is t).1 v.some c.loop-id-test.true bad)
     (sym c.broken.ensures ∙ e)
 

@@ -1,6 +1,6 @@
 use Rattle.std.proofs.Common.{◌+◌, ◌-◌, ◌≤◌}
 use Rattle.tc_space.specs.Frames.{OnlyReads}
-use Rattle.tc_window.specs.Windows.{Shows}
+use Rattle.tc_reach.specs.Windows.{Shows}
 use Rattle.tc_fixed.specs.Opening.{IsCountedTo}
 use Rattle.tc_fixed.proofs.open.count_cells.Given as goal
 

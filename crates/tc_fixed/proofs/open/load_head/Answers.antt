@@ -13,12 +13,12 @@ pub returns-then-len-head-clause-broken : goal.returns-then-len-head-clause-brok
 returns-then-len-head-clause-broken g c = λ f rule e.
     let h = c.in-Some.head in
     names_rule 2 f rule (λ (r : Rule). g.S.Space.tells → IsBroken (g.S.Space.now c.args.space.now 0) r)
-    (λ t. too_short h (record { long = omega (arith, c.len-len.ensures t, c.if-len-lt256.false); numbers = c.in-Some.ensures.some.0; spells = subst (λ (l : List ℕ). SpellsFixed h l) (c.in-Ok.ensures.bytes t) c.in-Some.ensures.some.1 })
+    (λ t. too_short h (record { long = omega (arith, c.len-len.ensures t, c.if-len-lt256.false); numbers = c.in-Some.ensures.some.0; spells = subst (λ (l : List ℕ). SpellsFixed h l) (c.in_ok-read_into.ensures.bytes t) c.in-Some.ensures.some.1 })
     (λ long. omega (arith, long, c.len-len.ensures t, c.if-len-head.true)))
     (sym c.broken-then-len-head.ensures ∙ e)
 
-pub returns-in-None-clause-broken : goal.returns-in-None-clause-broken
-returns-in-None-clause-broken g c = λ f rule e.
+pub returns-in_default-clause-broken : goal.returns-in_default-clause-broken
+returns-in_default-clause-broken g c = λ f rule e.
     names_rule 1 f rule (λ (r : Rule). g.S.Space.tells → IsBroken (g.S.Space.now c.args.space.now 0) r)
-    (λ t. no_head (λ h has. c.in-None.ensures.none h has.numbers (subst (λ (l : List ℕ). SpellsFixed h l) (sym (c.in-Ok.ensures.bytes t)) has.spells)))
-    (sym c.broken-in-None.ensures ∙ e)
+    (λ t. no_head (λ h has. c.in_default.ensures.none h has.numbers (subst (λ (l : List ℕ). SpellsFixed h l) (sym (c.in_ok-read_into.ensures.bytes t)) has.spells)))
+    (sym c.broken-in_default.ensures ∙ e)

@@ -1,7 +1,7 @@
 use Rattle.std.proofs.Common.{◌≤◌}
 use Rattle.tc_model.specs.Arrays.{Array}
 use Rattle.tc_space.specs.Frames.{OnlyReads}
-use Rattle.tc_window.specs.Windows.{Shows}
+use Rattle.tc_reach.specs.Windows.{Shows}
 use Rattle.tc_fixed.specs.Cells.{HasCellsOf}
 use Rattle.tc_fixed.proofs.Ended.{NoneBehind}
 use Rattle.tc_fixed.proofs.scanning.last_held.Given as goal

@@ -1,4 +1,4 @@
-use Rattle.tc_hash.proofs.Valid.{has_fields, is_file}
+use Rattle.hf_record.proofs.Valid.{has_fields, is_file}
 use Rattle.tc_hash.proofs.open.held_open.Goals as goal
 
 pub invariant_of-result-clause-data : goal.invariant_of-result-clause-data

@@ -4,6 +4,9 @@ use Rattle.hf_head.specs.Heads.{unit}
 use Rattle.hf_block.specs.Rows.{StandApart}
 use Rattle.hf_pool.specs.Pools.{frees}
 use Rattle.tc_hash.specs.Sections.{IsListOf, section_of}
+use Rattle.tc_reach.proofs.Handed.{if_err_handed}
+use Rattle.tc_space.specs.declared.errors.OpenErr.{OpenErr}
+use Rattle.tc_hash.specs.Opening.{Breaks}
 use Rattle.tc_hash.proofs.Opened.{all_read, breaks_memory, err_is, laid_surveyed, links_break, no_list_breaks}
 use Rattle.tc_hash.proofs.open.read_pool.Goals as goal
 
@@ -25,8 +28,8 @@ build-requires-clause-size g c = subst (λ (u : ℕ). c.args.head.now.size % u �
 pub build-requires-clause-blocks : goal.build-requires-clause-blocks
 build-requires-clause-blocks g c = subst (λ (u : ℕ). StandApart u c.args.head.now.first c.args.head.now.size c.args.found.now.frees) (sym c.unit.ensures) c.requires.apart
 
-pub returns-in_default-clause-broken : goal.returns-in_default-clause-broken
-returns-in_default-clause-broken g c = breaks_memory g.S.Space.tells c.args.head.now.kind c.args.file (g.S.Space.now c.args.space.now c.args.file) _ refl
+pub returns-in_err-pool-clause-broken : goal.returns-in_err-pool-clause-broken
+returns-in_err-pool-clause-broken g c = if_err_handed c.from_residual.result _ (λ (e : OpenErr). Breaks g.S.Space.tells c.args.head.now.kind c.args.file (g.S.Space.now c.args.space.now c.args.file) e) c.from_residual.ensures.1 (breaks_memory g.S.Space.tells c.args.head.now.kind c.args.file (g.S.Space.now c.args.space.now c.args.file) _ refl)
 
 pub check_section-requires-clause-holds : goal.check_section-requires-clause-holds
 check_section-requires-clause-holds g c = record {
@@ -35,15 +38,16 @@ check_section-requires-clause-holds g c = record {
   inside = λ t. omega (arith, c.requires.head.valid.numbers.size_least, (c.requires.found t).is.facts.has.within, ap length (c.in-Ok.ensures.reads.files t c.args.file));
 }
 
-pub returns-in-Ok-check_section-clause-read : goal.returns-in-Ok-check_section-clause-read
-returns-in-Ok-check_section-clause-read g c = λ t.
+pub returns-clause-read : goal.returns-clause-read
+returns-clause-read g c = λ t.
     let file : List ℕ = g.S.Space.now c.args.space.now c.args.file in
-    all_read c.args.head.now (frees c.in-Ok-build.pool) file c.args.found.now c.requires.head.valid (c.requires.head.is t) (c.requires.found t) (c.in-Ok.ensures.hold t) (laid_surveyed c.args.head.now c.unit.result (frees c.in-Ok-build.pool) file c.args.found.now c.unit.ensures c.in-Ok-build.ensures.laid)
-    (subst (λ (l : List ℕ). IsListOf (unit c.args.head.now) (frees c.in-Ok-build.pool) (section_of c.args.head.now l)) (c.in-Ok.ensures.reads.files t c.args.file) (c.in-Ok-check_section.ensures.list t))
+    all_read c.args.head.now (frees c.in_ok-pool.pool) file c.args.found.now c.requires.head.valid (c.requires.head.is t) (c.requires.found t) (c.in-Ok.ensures.hold t) (laid_surveyed c.args.head.now c.unit.result (frees c.in_ok-pool.pool) file c.args.found.now c.unit.ensures c.in_ok-pool.ensures.laid)
+    (subst (λ (l : List ℕ). IsListOf (unit c.args.head.now) (frees c.in_ok-pool.pool) (section_of c.args.head.now l)) (c.in-Ok.ensures.reads.files t c.args.file) (c.in_ok-check_section.ensures.list t))
 
-pub returns-in-Err-check_section-clause-broken : goal.returns-in-Err-check_section-clause-broken
-returns-in-Err-check_section-clause-broken g c =
+pub returns-in_err-check_section-clause-broken : goal.returns-in_err-check_section-clause-broken
+returns-in_err-check_section-clause-broken g c =
     let file : List ℕ = g.S.Space.now c.args.space.now c.args.file in
-    no_list_breaks g.S.Space.tells c.args.file c.args.head.now (frees c.in-Ok-build.pool) file c.args.found.now c.in-Err-check_section.e
-    (λ f rule named. let w = c.in-Err-check_section.ensures.other f rule named in (w.0, λ t l. w.1 t (subst (λ (x : List ℕ). IsListOf (unit c.args.head.now) (frees c.in-Ok-build.pool) (section_of c.args.head.now x)) (sym (c.in-Ok.ensures.reads.files t c.args.file)) l)))
-    c.requires.head.valid c.requires.head.is c.requires.found c.in-Ok.ensures.hold (λ t. laid_surveyed c.args.head.now c.unit.result (frees c.in-Ok-build.pool) file c.args.found.now c.unit.ensures c.in-Ok-build.ensures.laid)
+    if_err_handed c.from_residual-in_err-check_section.result c.in_err-check_section.field-0.0 (λ (e : OpenErr). Breaks g.S.Space.tells c.args.head.now.kind c.args.file file e) c.from_residual-in_err-check_section.ensures.1
+    (no_list_breaks g.S.Space.tells c.args.file c.args.head.now (frees c.in_ok-pool.pool) file c.args.found.now c.in_err-check_section.field-0.0
+    (λ f rule named. let w = c.in_err-check_section.ensures.other f rule named in (w.0, λ t l. w.1 t (subst (λ (x : List ℕ). IsListOf (unit c.args.head.now) (frees c.in_ok-pool.pool) (section_of c.args.head.now x)) (sym (c.in-Ok.ensures.reads.files t c.args.file)) l)))
+    c.requires.head.valid c.requires.head.is c.requires.found c.in-Ok.ensures.hold (λ t. laid_surveyed c.args.head.now c.unit.result (frees c.in_ok-pool.pool) file c.args.found.now c.unit.ensures c.in_ok-pool.ensures.laid))

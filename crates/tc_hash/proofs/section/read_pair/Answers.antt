@@ -17,11 +17,11 @@ returns-then-difference-eq0-clause-none c = λ b rest some is there.
     let same = same_number c.read_vnum.result c.in-Ok.difference c.in-Ok.len b.0 (length (vnum b.0)) c.in-Ok.is (c.read_vnum.ensures.again b.0 (vnum b.1 ++ rest) (omega (arith, few.0)) is) in
     absurd (omega (arith, same, some, c.if-difference-eq0.true))
 
-pub returns-then-difference-clause-none : goal.returns-then-difference-clause-none
-returns-then-difference-clause-none c = λ b rest some is there.
+pub returns-then-difference-gt-FILE_MOST-clause-none : goal.returns-then-difference-gt-FILE_MOST-clause-none
+returns-then-difference-gt-FILE_MOST-clause-none c = λ b rest some is there.
     let few = units_small c.args.pool.now.unit c.args.pool.now.size (c.args.before + b.0) b.1 (frees c.args.pool.now) c.args.pool.now.some c.requires.size c.args.pool.now.within there in
     let same = same_number c.read_vnum.result c.in-Ok.difference c.in-Ok.len b.0 (length (vnum b.0)) c.in-Ok.is (c.read_vnum.ensures.again b.0 (vnum b.1 ++ rest) (omega (arith, few.0)) is) in
-    absurd (omega (arith, same, few.0, c.if-difference.true))
+    absurd (omega (arith, same, few.0, c.if-difference-gt-FILE_MOST.true))
 
 pub returns-then-not-is_free-clause-none : goal.returns-then-not-is_free-clause-none
 returns-then-not-is_free-clause-none c = λ b rest some is there.

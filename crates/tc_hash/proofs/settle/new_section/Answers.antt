@@ -1,6 +1,6 @@
-use Rattle.hf_pool.specs.Pools.{frees}
-use Rattle.tc_hash.proofs.Listing.{new_section_is}
+use Rattle.std.proofs.Common.{arith}
+use Rattle.tc_hash.proofs.Sectioned.{section_made}
 use Rattle.tc_hash.proofs.settle.new_section.Goals as goal
 
-pub returns-clause-some : goal.returns-clause-some
-returns-clause-some g c = new_section_is c.args.head.now c.args.pool.now.unit c.section_size-len.result (frees c.args.pool.now) c.new-section.result c.section.new.into c.new-section.ensures c.section_size-len.ensures.value c.in_ok-section.ensures.ok
+pub returns : goal.returns
+returns c = record { section = section_made c.args.body.now c.args.old.now c.append_zeros-2.new.into c.new-section.result c.pairs.new.into c.append_zeros.new.into c.section_size.result c.saturating_sub.result c.saturating_sub-2.result c.in_ok-pairs.ensures.ok c.new-section.ensures c.section_size.ensures.value c.in_ok-append_zeros.ensures.ok (omega (arith, c.saturating_sub.ensures, c.len.ensures, c.len-2.ensures)) c.in_ok-append_zeros-2.ensures.ok (omega (arith, c.saturating_sub-2.ensures, c.len-3.ensures, c.len-4.ensures)) }

@@ -1,12 +1,15 @@
-use Rattle.std.proofs.Common.{ℕ, ◌+◌, ◌≤◌, List, length, sym, ap, subst, arith, IfSome}
-use Rattle.tc_hash.specs.Settling.{section_at, section_len}
-use Rattle.tc_hash.proofs.Kept.{longer, suits_inside}
+use Rattle.std.proofs.Common.{rules, ◌≡◌, ℕ, List, length, sym, subst}
+use Rattle.tc_hash.proofs.Settled.{long_wrote, under_wrote}
+use Rattle.tc_hash.specs.Bringing.{StandsUnder}
 use Rattle.tc_hash.proofs.settle.write_front.Goals as goal
 
-pub write_section-requires-clause-inside : goal.write_section-requires-clause-inside
-write_section-requires-clause-inside g c =
-    let old : List ℕ = g.S.Space.now c.args.space.now c.args.file in
-    let new : List ℕ = g.S.Space.now c.write_head.new.space c.args.file in
-    subst (λ (n : ℕ). IfSome c.args.section.now (λ bytes. g.S.Space.tells → n + length bytes ≤ length new)) (sym c.section_place.ensures)
-    (suits_inside g.S.Space.tells (section_at c.args.head.now) (section_len c.args.head.now) (length new) c.args.section.now c.requires.section (λ t.
-    omega (arith, c.requires.holds.inside t, longer c.spelling.result old, ap length (c.in_ok-write_head.ensures.wrote t).here)))
+pub write_section-requires : goal.write_section-requires
+write_section-requires g c =
+    let long : length c.args.head.now ≡ 256 = search rules in
+    let here = λ (t : g.S.Space.tells). (c.in_ok-write_difference.ensures.wrote t).here in
+    let may = c.requires.section_may in
+    record {
+      sound = c.in_ok-write_difference.ensures.outcome.ok;
+      inside = long_wrote g.S.Space c.args.body.now c.as_slice.result.now c.args.head.now c.args.space.now c.write_difference.new.space here long may.inside;
+      under = under_wrote g.S.Space c.args.body.now c.as_slice.result.now c.args.section.now c.args.head.now c.args.space.now c.write_difference.new.space here long may.inside (subst (λ (l : List ℕ). StandsUnder g.S.Space c.args.body.now l c.args.section.now c.args.space.now) (sym c.as_slice.ensures) may.under);
+    }

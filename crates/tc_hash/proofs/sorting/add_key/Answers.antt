@@ -4,9 +4,9 @@ use Rattle.hf_tree.specs.Keys.{Key}
 use Rattle.hf_tree.proofs.Fields.{at_inside}
 use Rattle.hf_chain.specs.declared.heads.RecHead.{RecHead}
 use Rattle.hf_chain.specs.Heads.{head_size}
-use Rattle.tc_window.specs.Windows.{Shows}
+use Rattle.tc_reach.specs.Windows.{Shows}
 use Rattle.hf_chain.proofs.Fronts.{key_at, key_inside}
-use Rattle.tc_window.proofs.Viewing.{shows_at}
+use Rattle.tc_reach.proofs.Viewing.{shows_at}
 use Rattle.tc_hash.proofs.sorting.add_key.Goals as goal
 
 pub head_at-requires-clause-inside : goal.head_at-requires-clause-inside
@@ -15,17 +15,17 @@ head_at-requires-clause-inside g c = λ t. let w = (c.requires.there t).0 in ome
 pub fill-requires-clause-inside : goal.fill-requires-clause-inside
 fill-requires-clause-inside g c = λ t.
     let w = (c.requires.there t).0 in
-    let head = c.in-Ok.ensures.head t w.r w.has in
+    let head = c.in_ok-rec.ensures.head t w.r w.has in
     omega (arith, key_inside (unit c.args.head.now) w.r c.args.place (g.S.Space.now c.args.space.now c.args.file) w.has.is, ap (λ (x : RecHead). x.head) head, ap (λ (x : RecHead). x.key) head, c.saturating_add-start.ensures, ap length (c.head_at.ensures.reads.files t c.args.file))
 
-pub returns-in-Ok-push-clause-added : goal.returns-in-Ok-push-clause-added
-returns-in-Ok-push-clause-added g c = λ t r has.
+pub returns-clause-added : goal.returns-clause-added
+returns-clause-added g c = λ t r has.
     let f : List ℕ = g.S.Space.now c.args.space.now c.args.file in
     let now : List ℕ = g.S.Space.now c.head_at.new.space c.args.file in
     let e = c.head_at.ensures.reads.files t c.args.file in
-    let head = c.in-Ok.ensures.head t r has in
+    let head = c.in_ok-rec.ensures.head t r has in
     let inside = key_inside (unit c.args.head.now) r c.args.place f has.is in
     let start : c.saturating_add-start.result ≡ c.args.place + head_size r = omega (arith, c.saturating_add-start.ensures, ap (λ (x : RecHead). x.head) head, inside, c.head_at.ensures.long t) in
-    let shown : Shows c.fill.new.self now = c.in-Ok-fill.ensures.shows t (shows_at c.head_at.new.window f now (sym e) (c.in-Ok.ensures.shows t)) in
+    let shown : Shows c.fill.new.self now = c.in_ok-fill.ensures.shows t (shows_at c.head_at.new.window f now (sym e) (c.in_ok-rec.ensures.shows t)) in
     let key : c.get.result.now ≡ r.key = c.get.ensures.shows now shown ∙ (λ i. take (head i).key (drop (start i) (e i))) ∙ key_at (unit c.args.head.now) r c.args.place f has.is in
-    c.in-Ok-push.ensures.ok ∙ ap (λ (k : Key). c.args.keys.now ++ k ∷ []) (c.in-Ok-from_slice.ensures ∙ key)
+    c.in_ok-push.ensures.ok ∙ ap (λ (k : Key). c.args.keys.now ++ k ∷ []) (c.in_ok-key.ensures ∙ key)

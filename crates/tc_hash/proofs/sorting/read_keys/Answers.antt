@@ -1,7 +1,7 @@
 use Rattle.std.proofs.Common.{ℕ, List, arith, sym, subst}
 use Rattle.tc_space.specs.Frames.{only_reads_refl, only_reads_then}
 use Rattle.hf_chain.specs.Heads.{IsRecordAt, HasRecord}
-use Rattle.tc_window.proofs.Viewing.{shows_at}
+use Rattle.tc_reach.proofs.Viewing.{shows_at}
 use Rattle.tc_hash.proofs.KeysRead.{keys_start, keys_free, keys_more, keys_all, place_there}
 use Rattle.tc_hash.proofs.sorting.read_keys.Goals as goal
 
@@ -36,10 +36,10 @@ loop-i-preserved g c =
     let now : List ℕ = g.S.Space.now c.loop-i.space c.args.file in
     record {
       reads = only_reads_then g.S.Space c.args.space.now c.loop-i.space c.add_key.new.space c.loop-i.invariant.reads c.add_key.ensures.reads;
-      shows = λ t. shows_at c.add_key.new.window now f (c.loop-i.invariant.reads.files t c.args.file) (c.in-Ok.ensures.shows t);
+      shows = λ t. shows_at c.add_key.new.window now f (c.loop-i.invariant.reads.files t c.args.file) (c.in_ok-add_key.ensures.shows t);
       so = λ t ps listed.
           keys_more c.args.head.now ps f c.args.blocks.now c.loop-i.i c.loop-i.keys listed (c.loop-i.invariant.so t ps listed) c.at-block.result.now c.at-block.ensures c.if-block.false c.add_key.new.keys
-          (λ r has. c.in-Ok.ensures.added t r (subst (λ (l : List ℕ). HasRecord c.args.head.now r c.at-block.result.now.place l) (sym (c.loop-i.invariant.reads.files t c.args.file)) has));
+          (λ r has. c.in_ok-add_key.ensures.added t r (subst (λ (l : List ℕ). HasRecord c.args.head.now r c.at-block.result.now.place l) (sym (c.loop-i.invariant.reads.files t c.args.file)) has));
     }
 
 pub returns-clause-keys : goal.returns-clause-keys

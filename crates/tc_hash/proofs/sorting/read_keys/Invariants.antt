@@ -1,8 +1,8 @@
 use Rattle.std.proofs.Common.{List}
 use Rattle.tc_space.specs.Frames.{OnlyReads}
 use Rattle.hf_block.specs.Pieces.{Piece}
-use Rattle.tc_window.specs.Windows.{Shows}
-use Rattle.hf_chain.specs.Listing.{AreListed}
+use Rattle.tc_reach.specs.Windows.{Shows}
+use Rattle.hf_tree.specs.Listing.{AreListed}
 use Rattle.tc_hash.proofs.KeysRead.{KeysSo}
 use Rattle.tc_hash.proofs.sorting.read_keys.Given as goal
 

@@ -9,5 +9,5 @@ head_at-requires-clause-inside g c = λ t. let w = (c.requires.there t).0 in ome
 
 pub returns-in-Some-clause-added : goal.returns-in-Some-clause-added
 returns-in-Some-clause-added g c = λ t r has.
-    let head = c.in-Ok.ensures.head t r has in
+    let head = c.in_ok-rec.ensures.head t r has in
     omega (arith, c.in-Some.ensures, ap (λ (x : RecHead). x.key) head, ap (λ (x : RecHead). x.value) head)

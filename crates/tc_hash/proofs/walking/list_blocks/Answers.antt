@@ -1,6 +1,6 @@
 use Rattle.std.proofs.Common.{ℕ, List, sym, subst}
 use Rattle.hf_block.specs.Pieces.{Piece}
-use Rattle.hf_chain.specs.Listing.{AreListed}
+use Rattle.hf_tree.specs.Listing.{AreListed}
 use Rattle.tc_hash.proofs.Opened.{fills_blocks}
 use Rattle.tc_hash.proofs.Unique.{one_blocks}
 use Rattle.tc_hash.proofs.walking.list_blocks.Goals as goal

@@ -22,13 +22,13 @@ loop-at-init g c = record { quiet = λ t files lens r. quiet_refl _; restores = 
 pub put_back_one-requires-clause-ends : goal.put_back_one-requires-clause-ends
 put_back_one-requires-clause-ends g c = λ t. record { e = _; front = _; rest = _; is = entry_at _ _ _ c.args.end (c.requires.can t) (c.loop-at.invariant.restores t) c.loop-at-test.true }
 
-pub returns-in-Err-clause-quiet : goal.returns-in-Err-clause-quiet
-returns-in-Err-clause-quiet g c = λ t files lens rep.
+pub returns-in_err-at-clause-quiet : goal.returns-in_err-at-clause-quiet
+returns-in_err-at-clause-quiet g c = λ t files lens rep.
     let old = g.V.Volume.calls c.args.vol.now in
     let cs = g.V.Volume.calls c.loop-at.vol in
     let new = g.V.Volume.calls c.put_back_one.new.vol in
     let r = c.loop-at.invariant.restores t in
-    let lost = (c.in-Err.ensures.lost t).lost _ _ _ (entry_at old cs c.loop-at.at c.args.end (c.requires.can t) r c.loop-at-test.true) in
+    let lost = (c.in_err-at.ensures.lost t).lost _ _ _ (entry_at old cs c.loop-at.at c.args.end (c.requires.can t) r c.loop-at-test.true) in
     quiet_then old cs new (c.loop-at.invariant.quiet t files lens rep) (back_lost old cs c.loop-at.at c.args.end (c.requires.can t) r c.loop-at-test.true new (g.met.V.Volume.now_is_image c.loop-at.vol t) (g.met.V.Volume.now_is_image c.put_back_one.new.vol t) files lens rep lost)
 
 pub loop-at-preserved : goal.loop-at-preserved
@@ -38,14 +38,14 @@ loop-at-preserved g c = record {
       let cs = g.V.Volume.calls c.loop-at.vol in
       let new = g.V.Volume.calls c.put_back_one.new.vol in
       let r = c.loop-at.invariant.restores t in
-      let put = (c.in-Ok.ensures.put t).made _ _ _ (entry_at old cs c.loop-at.at c.args.end (c.requires.can t) r c.loop-at-test.true) in
+      let put = (c.in_ok-at.ensures.put t).made _ _ _ (entry_at old cs c.loop-at.at c.args.end (c.requires.can t) r c.loop-at-test.true) in
       quiet_then old cs new (c.loop-at.invariant.quiet t files lens rep) (back_quiet old cs c.loop-at.at c.args.end (c.requires.can t) r c.loop-at-test.true new (g.met.V.Volume.now_is_image c.loop-at.vol t) (g.met.V.Volume.now_is_image c.put_back_one.new.vol t) files lens rep put.0);
   restores = λ t.
       let old = g.V.Volume.calls c.args.vol.now in
       let cs = g.V.Volume.calls c.loop-at.vol in
       let new = g.V.Volume.calls c.put_back_one.new.vol in
       let r = c.loop-at.invariant.restores t in
-      let put = (c.in-Ok.ensures.put t).made _ _ _ (entry_at old cs c.loop-at.at c.args.end (c.requires.can t) r c.loop-at-test.true) in
+      let put = (c.in_ok-at.ensures.put t).made _ _ _ (entry_at old cs c.loop-at.at c.args.end (c.requires.can t) r c.loop-at-test.true) in
       subst (λ k. Restores old new k) (sym put.1) (back_made old cs c.loop-at.at c.args.end (c.requires.can t) r c.loop-at-test.true new put.0);
   stays = stays_then g.V.Volume c.args.vol.now c.loop-at.vol c.put_back_one.new.vol c.loop-at.invariant.stays c.put_back_one.ensures.stays;
 }

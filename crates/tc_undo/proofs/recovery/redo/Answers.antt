@@ -30,8 +30,8 @@ returns-in_err-set_lengths-clause-quiet g c = record {
       c.set_lengths.ensures.quiet t (undone_all lens es (now old)) es rep (c.requires.disk t).files;
 }
 
-pub returns-in-Err-clause-quiet : goal.returns-in-Err-clause-quiet
-returns-in-Err-clause-quiet g c = record {
+pub returns-in_err-put_back_all-clause-quiet : goal.returns-in_err-put_back_all-clause-quiet
+returns-in_err-put_back_all-clause-quiet g c = record {
   stays = search rules;
   quiet = λ t.
       let old = g.V.Volume.calls c.args.vol.now in
@@ -60,7 +60,7 @@ returns-in_err-sync_marked-clause-quiet g c = record {
       let rep : Replay old files lens es = replay_start old lens es f.log c.requires.short f.inside (c.requires.disk t).log (c.requires.disk t).files in
       let rep1 : Replay mid files lens es = c.in_ok-set_lengths.ensures.replay t files es rep (c.requires.disk t).files in
       let same : entries (now old 1) ≡ entries (now mid 1) = ap (λ s. entries (reads s)) (sym (c.in_ok-set_lengths.ensures.log t)) in
-      let rep2 : Replay put files lens es = subst (λ (l : List Entry). Replay put files lens l) (sym same) ((c.in-Ok.ensures.restored t).replay files lens (subst (λ (l : List Entry). Replay mid files lens l) same rep1)) in
+      let rep2 : Replay put files lens es = subst (λ (l : List Entry). Replay put files lens l) (sym same) ((c.in_ok-put_back_all.ensures.restored t).replay files lens (subst (λ (l : List Entry). Replay mid files lens l) same rep1)) in
       let so_far = quiet_then old mid put (c.set_lengths.ensures.quiet t files es rep (c.requires.disk t).files) (c.put_back_all.ensures.quiet t files lens (subst (λ (l : List Entry). Replay mid files lens l) same rep1)) in
       quiet_then old put (g.V.Volume.calls c.sync_marked.new.vol) so_far (c.sync_marked.ensures.quiet t (calm_undo put files (replay_undo put files lens es rep2) (g.met.V.Volume.now_is_image c.put_back_all.new.vol t)));
 }
@@ -79,7 +79,7 @@ returns-clause-quiet g c = record {
       let rep : Replay old files lens es = replay_start old lens es f.log c.requires.short f.inside (c.requires.disk t).log (c.requires.disk t).files in
       let rep1 : Replay mid files lens es = c.in_ok-set_lengths.ensures.replay t files es rep (c.requires.disk t).files in
       let same : entries (now old 1) ≡ entries (now mid 1) = ap (λ s. entries (reads s)) (sym (c.in_ok-set_lengths.ensures.log t)) in
-      let rep2 : Replay put files lens es = subst (λ (l : List Entry). Replay put files lens l) (sym same) ((c.in-Ok.ensures.restored t).replay files lens (subst (λ (l : List Entry). Replay mid files lens l) same rep1)) in
+      let rep2 : Replay put files lens es = subst (λ (l : List Entry). Replay put files lens l) (sym same) ((c.in_ok-put_back_all.ensures.restored t).replay files lens (subst (λ (l : List Entry). Replay mid files lens l) same rep1)) in
       let so_far = quiet_then old mid put (c.set_lengths.ensures.quiet t files es rep (c.requires.disk t).files) (c.put_back_all.ensures.quiet t files lens (subst (λ (l : List Entry). Replay mid files lens l) same rep1)) in
       quiet_then old put (g.V.Volume.calls c.sync_marked.new.vol) so_far (c.sync_marked.ensures.quiet t (calm_undo put files (replay_undo put files lens es rep2) (g.met.V.Volume.now_is_image c.put_back_all.new.vol t)));
 }
@@ -96,11 +96,11 @@ returns-clause-ready g c = λ t.
     let rep : Replay old files lens es = replay_start old lens es f.log c.requires.short f.inside (c.requires.disk t).log (c.requires.disk t).files in
     let rep1 : Replay mid files lens es = c.in_ok-set_lengths.ensures.replay t files es rep (c.requires.disk t).files in
     let same : entries (now old 1) ≡ entries (now mid 1) = ap (λ s. entries (reads s)) (sym (c.in_ok-set_lengths.ensures.log t)) in
-    let rep2 : Replay put files lens es = subst (λ (l : List Entry). Replay put files lens l) (sym same) ((c.in-Ok.ensures.restored t).replay files lens (subst (λ (l : List Entry). Replay mid files lens l) same rep1)) in
+    let rep2 : Replay put files lens es = subst (λ (l : List Entry). Replay put files lens l) (sym same) ((c.in_ok-put_back_all.ensures.restored t).replay files lens (subst (λ (l : List Entry). Replay mid files lens l) same rep1)) in
     let new = g.V.Volume.calls c.sync_marked.new.vol in
     let only = c.in_ok-sync_marked.ensures.synced t in
     ready_replay new files lens es (only.replay files lens es rep2) (g.met.V.Volume.now_is_image c.sync_marked.new.vol t) (λ h ish. c.in_ok-sync_marked.ensures.there t h ish (λ not. absurd (all_marked h ish not)))
-    (λ h ish. only.reads h ∙ (c.in-Ok.ensures.restored t).reads h ish ∙ (λ i. put_back (of_file h (sym same i)) (c.in_ok-set_lengths.ensures.reads t h ish i)) ∙ sym (ap (λ b. cond b (put_back (of_file h es) (resized (length_of lens h) (now old h))) []) ish))
+    (λ h ish. only.reads h ∙ (c.in_ok-put_back_all.ensures.restored t).reads h ish ∙ (λ i. put_back (of_file h (sym same i)) (c.in_ok-set_lengths.ensures.reads t h ish i)) ∙ sym (ap (λ b. cond b (put_back (of_file h es) (resized (length_of lens h) (now old h))) []) ish))
 
 pub returns-clause-same : goal.returns-clause-same
-returns-clause-same g c = λ t. (c.in_ok-sync_marked.ensures.synced t).log ∙ (c.in-Ok.ensures.restored t).log ∙ c.in_ok-set_lengths.ensures.log t
+returns-clause-same g c = λ t. (c.in_ok-sync_marked.ensures.synced t).log ∙ (c.in_ok-put_back_all.ensures.restored t).log ∙ c.in_ok-set_lengths.ensures.log t

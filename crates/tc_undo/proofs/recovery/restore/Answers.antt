@@ -17,16 +17,16 @@ returns-in_err-sync-clause-recovers g c = λ t settled. recovers_not _ _ settled
 pub returns-in_err-len-clause-recovers : goal.returns-in_err-len-clause-recovers
 returns-in_err-len-clause-recovers g c = λ t settled. recovers_since _ (g.V.Volume.calls c.len.new.self) settled (g.met.V.Volume.now_is_image c.args.vol.now t) (quiet_same _ _ (c.len.ensures.calls t ∙ c.in_ok-sync.ensures.made t))
 
-pub returns-in-Err-clause-recovers : goal.returns-in-Err-clause-recovers
-returns-in-Err-clause-recovers g c = λ t settled.
+pub returns-in_err-found-clause-recovers : goal.returns-in_err-found-clause-recovers
+returns-in_err-found-clause-recovers g c = λ t settled.
     let old = g.V.Volume.calls c.args.vol.now in
     let cs = g.V.Volume.calls c.look.new.vol in
     let after : cs ≡ (1, synced) ∷ old = c.look.ensures.reads.calls t ∙ c.len.ensures.calls t ∙ c.in_ok-sync.ensures.made t in
     let image = g.met.V.Volume.now_is_image c.args.vol.now t in
     recovers_since old cs settled image (quiet_same _ _ after)
 
-pub returns-in-Err-settle-clause-recovers : goal.returns-in-Err-settle-clause-recovers
-returns-in-Err-settle-clause-recovers g c = λ t settled.
+pub returns-in_err-settle-clause-recovers : goal.returns-in_err-settle-clause-recovers
+returns-in_err-settle-clause-recovers g c = λ t settled.
     let old = g.V.Volume.calls c.args.vol.now in
     let cs = g.V.Volume.calls c.look.new.vol in
     let after : cs ≡ (1, synced) ∷ old = c.look.ensures.reads.calls t ∙ c.len.ensures.calls t ∙ c.in_ok-sync.ensures.made t in
@@ -41,9 +41,9 @@ returns-in_err-drop_log-clause-recovers g c = λ t settled.
     let after : cs ≡ (1, synced) ∷ old = c.look.ensures.reads.calls t ∙ c.len.ensures.calls t ∙ c.in_ok-sync.ensures.made t in
     let image = g.met.V.Volume.now_is_image c.args.vol.now t in
     let calm : Calm cs = subst Calm (sym after) (sync_log_calm old settled image) in
-    let fin : Finds c.in-Ok.found.undoes (now cs) c.in-Ok.found.lens c.in-Ok.found.end = subst (λ (d : Calls). Finds c.in-Ok.found.undoes (now d) c.in-Ok.found.lens c.in-Ok.found.end) (sym (c.look.ensures.reads.calls t)) (c.in-Ok.ensures.found.finds t) in
-    let fs = finds_files c.in-Ok.found.undoes (now cs) c.in-Ok.found.lens c.in-Ok.found.end c.in-Ok.ensures.found.short fin in
-    let ready = c.in-Ok-settle.ensures.ready t fs.0 fs.1 in
+    let fin : Finds c.in_ok-found.found.undoes (now cs) c.in_ok-found.found.lens c.in_ok-found.found.end = subst (λ (d : Calls). Finds c.in_ok-found.found.undoes (now d) c.in_ok-found.found.lens c.in_ok-found.found.end) (sym (c.look.ensures.reads.calls t)) (c.in_ok-found.ensures.found.finds t) in
+    let fs = finds_files c.in_ok-found.found.undoes (now cs) c.in_ok-found.found.lens c.in_ok-found.found.end c.in_ok-found.ensures.found.short fin in
+    let ready = c.in_ok-settle.ensures.ready t fs.0 fs.1 in
     recovers_since old (g.V.Volume.calls c.drop_log.new.vol) settled image (subst (λ (d : Calls). Quiet d (g.V.Volume.calls c.drop_log.new.vol)) after (quiet_then cs (g.V.Volume.calls c.settle.new.vol) (g.V.Volume.calls c.drop_log.new.vol) (c.settle.ensures.quiet t calm) (c.drop_log.ensures.quiet t fs.0 ready)))
 
 pub returns-clause-recovers : goal.returns-clause-recovers
@@ -53,9 +53,9 @@ returns-clause-recovers g c = λ t settled.
     let after : cs ≡ (1, synced) ∷ old = c.look.ensures.reads.calls t ∙ c.len.ensures.calls t ∙ c.in_ok-sync.ensures.made t in
     let image = g.met.V.Volume.now_is_image c.args.vol.now t in
     let calm : Calm cs = subst Calm (sym after) (sync_log_calm old settled image) in
-    let fin : Finds c.in-Ok.found.undoes (now cs) c.in-Ok.found.lens c.in-Ok.found.end = subst (λ (d : Calls). Finds c.in-Ok.found.undoes (now d) c.in-Ok.found.lens c.in-Ok.found.end) (sym (c.look.ensures.reads.calls t)) (c.in-Ok.ensures.found.finds t) in
-    let fs = finds_files c.in-Ok.found.undoes (now cs) c.in-Ok.found.lens c.in-Ok.found.end c.in-Ok.ensures.found.short fin in
-    let ready = c.in-Ok-settle.ensures.ready t fs.0 fs.1 in
+    let fin : Finds c.in_ok-found.found.undoes (now cs) c.in_ok-found.found.lens c.in_ok-found.found.end = subst (λ (d : Calls). Finds c.in_ok-found.found.undoes (now d) c.in_ok-found.found.lens c.in_ok-found.found.end) (sym (c.look.ensures.reads.calls t)) (c.in_ok-found.ensures.found.finds t) in
+    let fs = finds_files c.in_ok-found.found.undoes (now cs) c.in_ok-found.found.lens c.in_ok-found.found.end c.in_ok-found.ensures.found.short fin in
+    let ready = c.in_ok-settle.ensures.ready t fs.0 fs.1 in
     recovers_since old (g.V.Volume.calls c.drop_log.new.vol) settled image (subst (λ (d : Calls). Quiet d (g.V.Volume.calls c.drop_log.new.vol)) after (quiet_then cs (g.V.Volume.calls c.settle.new.vol) (g.V.Volume.calls c.drop_log.new.vol) (c.settle.ensures.quiet t calm) (c.drop_log.ensures.quiet t fs.0 ready)))
 
 pub returns-clause-idle : goal.returns-clause-idle
@@ -64,9 +64,9 @@ returns-clause-idle g c = λ t.
     let cs = g.V.Volume.calls c.look.new.vol in
     let after : cs ≡ (1, synced) ∷ old = c.look.ensures.reads.calls t ∙ c.len.ensures.calls t ∙ c.in_ok-sync.ensures.made t in
     let image = g.met.V.Volume.now_is_image c.args.vol.now t in
-    let fin : Finds c.in-Ok.found.undoes (now cs) c.in-Ok.found.lens c.in-Ok.found.end = subst (λ (d : Calls). Finds c.in-Ok.found.undoes (now d) c.in-Ok.found.lens c.in-Ok.found.end) (sym (c.look.ensures.reads.calls t)) (c.in-Ok.ensures.found.finds t) in
-    let fs = finds_files c.in-Ok.found.undoes (now cs) c.in-Ok.found.lens c.in-Ok.found.end c.in-Ok.ensures.found.short fin in
-    let ready = c.in-Ok-settle.ensures.ready t fs.0 fs.1 in
+    let fin : Finds c.in_ok-found.found.undoes (now cs) c.in_ok-found.found.lens c.in_ok-found.found.end = subst (λ (d : Calls). Finds c.in_ok-found.found.undoes (now d) c.in_ok-found.found.lens c.in_ok-found.found.end) (sym (c.look.ensures.reads.calls t)) (c.in_ok-found.ensures.found.finds t) in
+    let fs = finds_files c.in_ok-found.found.undoes (now cs) c.in_ok-found.found.lens c.in_ok-found.found.end c.in_ok-found.ensures.found.short fin in
+    let ready = c.in_ok-settle.ensures.ready t fs.0 fs.1 in
     let idle : Idle (g.V.Volume.calls c.drop_log.new.vol) fs.0 = c.in_ok-drop_log.ensures.idle t fs.0 ready in
     let same : data_of (now (g.V.Volume.calls c.drop_log.new.vol)) ≡ fs.0 = idle_files _ fs.0 idle in
     subst (λ (x : Files). Idle (g.V.Volume.calls c.drop_log.new.vol) x) (sym same) idle
@@ -77,9 +77,9 @@ returns-clause-undone g c = λ t.
     let cs = g.V.Volume.calls c.look.new.vol in
     let after : cs ≡ (1, synced) ∷ old = c.look.ensures.reads.calls t ∙ c.len.ensures.calls t ∙ c.in_ok-sync.ensures.made t in
     let image = g.met.V.Volume.now_is_image c.args.vol.now t in
-    let fin : Finds c.in-Ok.found.undoes (now cs) c.in-Ok.found.lens c.in-Ok.found.end = subst (λ (d : Calls). Finds c.in-Ok.found.undoes (now d) c.in-Ok.found.lens c.in-Ok.found.end) (sym (c.look.ensures.reads.calls t)) (c.in-Ok.ensures.found.finds t) in
-    let fs = finds_files c.in-Ok.found.undoes (now cs) c.in-Ok.found.lens c.in-Ok.found.end c.in-Ok.ensures.found.short fin in
-    let ready = c.in-Ok-settle.ensures.ready t fs.0 fs.1 in
+    let fin : Finds c.in_ok-found.found.undoes (now cs) c.in_ok-found.found.lens c.in_ok-found.found.end = subst (λ (d : Calls). Finds c.in_ok-found.found.undoes (now d) c.in_ok-found.found.lens c.in_ok-found.found.end) (sym (c.look.ensures.reads.calls t)) (c.in_ok-found.ensures.found.finds t) in
+    let fs = finds_files c.in_ok-found.found.undoes (now cs) c.in_ok-found.found.lens c.in_ok-found.found.end c.in_ok-found.ensures.found.short fin in
+    let ready = c.in_ok-settle.ensures.ready t fs.0 fs.1 in
     let idle : Idle (g.V.Volume.calls c.drop_log.new.vol) fs.0 = c.in_ok-drop_log.ensures.idle t fs.0 ready in
     let same : data_of (now (g.V.Volume.calls c.drop_log.new.vol)) ≡ fs.0 = idle_files _ fs.0 idle in
     let here : now old ≡ now cs = (λ i h. sym (sync_reads old 1 h) i) ∙ ap now (sym after) in
@@ -87,16 +87,16 @@ returns-clause-undone g c = λ t.
 
 pub returns-clause-lens : goal.returns-clause-lens
 returns-clause-lens g c = record {
-  short = c.in-Ok.ensures.found.short;
+  short = c.in_ok-found.ensures.found.short;
   are = λ t.
       let old = g.V.Volume.calls c.args.vol.now in
       let cs = g.V.Volume.calls c.look.new.vol in
       let after : cs ≡ (1, synced) ∷ old = c.look.ensures.reads.calls t ∙ c.len.ensures.calls t ∙ c.in_ok-sync.ensures.made t in
       let image = g.met.V.Volume.now_is_image c.args.vol.now t in
-      let fin : Finds c.in-Ok.found.undoes (now cs) c.in-Ok.found.lens c.in-Ok.found.end = subst (λ (d : Calls). Finds c.in-Ok.found.undoes (now d) c.in-Ok.found.lens c.in-Ok.found.end) (sym (c.look.ensures.reads.calls t)) (c.in-Ok.ensures.found.finds t) in
-      let fs = finds_files c.in-Ok.found.undoes (now cs) c.in-Ok.found.lens c.in-Ok.found.end c.in-Ok.ensures.found.short fin in
-      let ready = c.in-Ok-settle.ensures.ready t fs.0 fs.1 in
+      let fin : Finds c.in_ok-found.found.undoes (now cs) c.in_ok-found.found.lens c.in_ok-found.found.end = subst (λ (d : Calls). Finds c.in_ok-found.found.undoes (now d) c.in_ok-found.found.lens c.in_ok-found.found.end) (sym (c.look.ensures.reads.calls t)) (c.in_ok-found.ensures.found.finds t) in
+      let fs = finds_files c.in_ok-found.found.undoes (now cs) c.in_ok-found.found.lens c.in_ok-found.found.end c.in_ok-found.ensures.found.short fin in
+      let ready = c.in_ok-settle.ensures.ready t fs.0 fs.1 in
       let idle : Idle (g.V.Volume.calls c.drop_log.new.vol) fs.0 = c.in_ok-drop_log.ensures.idle t fs.0 ready in
       let same : data_of (now (g.V.Volume.calls c.drop_log.new.vol)) ≡ fs.0 = idle_files _ fs.0 idle in
-      lens_now c.in-Ok.found.lens _ (lens_same c.in-Ok.found.lens fs.0 _ (sym same) (finds_lens c.in-Ok.found.undoes (now cs) c.in-Ok.found.lens c.in-Ok.found.end c.in-Ok.ensures.found.short fin fs.0 fs.1));
+      lens_now c.in_ok-found.found.lens _ (lens_same c.in_ok-found.found.lens fs.0 _ (sym same) (finds_lens c.in_ok-found.found.undoes (now cs) c.in_ok-found.found.lens c.in_ok-found.found.end c.in_ok-found.ensures.found.short fin fs.0 fs.1));
 }

@@ -1,4 +1,5 @@
-use Rattle.std.proofs.Common.{◌≡◌, subst}
+use Rattle.std.proofs.Common.{◌≡◌, ◌∙◌, subst}
+use Rattle.std.proofs.lemmas.Result.{on_ok_weaker}
 use Rattle.ud_state.specs.Recovery.{Ready}
 use Rattle.tc_base.specs.Files.{Files}
 use Rattle.tc_io.specs.Images.{now}
@@ -30,18 +31,18 @@ redo-requires-clause-disk g c = λ t. record {
   files = λ h ish. c.in_ok-sync_marked.ensures.there t h ish (λ not. absurd (all_marked h ish not));
 }
 
-pub returns-in-Ok-clause-quiet : goal.returns-in-Ok-clause-quiet
-returns-in-Ok-clause-quiet g c = λ t calm. quiet_then _ (g.V.Volume.calls c.sync_marked.new.vol) (g.V.Volume.calls c.redo.new.vol) (c.sync_marked.ensures.quiet t calm) (c.redo.ensures.quiet.quiet t)
+pub returns-clause-quiet : goal.returns-clause-quiet
+returns-clause-quiet g c = λ t calm. quiet_then _ (g.V.Volume.calls c.sync_marked.new.vol) (g.V.Volume.calls c.redo.new.vol) (c.sync_marked.ensures.quiet t calm) (c.redo.ensures.quiet.quiet t)
 
-pub returns-in-Err-clause-quiet : goal.returns-in-Err-clause-quiet
-returns-in-Err-clause-quiet g c = λ t calm. quiet_then _ (g.V.Volume.calls c.sync_marked.new.vol) (g.V.Volume.calls c.redo.new.vol) (c.sync_marked.ensures.quiet t calm) (c.redo.ensures.quiet.quiet t)
-
-pub returns-in-Ok-clause-ready : goal.returns-in-Ok-clause-ready
-returns-in-Ok-clause-ready g c = λ t.
+pub returns-clause-ready : goal.returns-clause-ready
+returns-clause-ready g c = on_ok_weaker c.redo.result (λ done t.
     let old = g.V.Volume.calls c.args.vol.now in
     let mid = g.V.Volume.calls c.sync_marked.new.vol in
     let only = c.in_ok-sync_marked.ensures.synced t in
     let here : now mid ≡ now old = λ i h. only.reads h i in
     let found = undo_of c.args.found.now.undoes (now old) c.args.found.now.lens c.args.found.now.end c.if-not-found.false (c.requires.found.finds t) in
-    let ready = subst (λ (fs : Files). Ready (g.V.Volume.calls c.redo.new.vol) (undone_all c.args.found.now.lens (entries (fs 1)) fs)) here (c.in-Ok.ensures.ready t) in
-    ready_undo (g.V.Volume.calls c.redo.new.vol) (now old) c.args.found.now.lens c.args.found.now.end found ready
+    let ready = subst (λ (fs : Files). Ready (g.V.Volume.calls c.redo.new.vol) (undone_all c.args.found.now.lens (entries (fs 1)) fs)) here (done t) in
+    ready_undo (g.V.Volume.calls c.redo.new.vol) (now old) c.args.found.now.lens c.args.found.now.end found ready) c.redo.ensures.ready
+
+pub returns-clause-same : goal.returns-clause-same
+returns-clause-same g c = on_ok_weaker c.redo.result (λ done t. done t ∙ (c.in_ok-sync_marked.ensures.synced t).log) c.redo.ensures.same

@@ -1,5 +1,5 @@
 use Rattle.std.proofs.Common.{refl}
-use Rattle.tc_mem.specs.Engines.{contents_in}
+use Rattle.tc_memdb.specs.Engines.{contents_in}
 use Rattle.ty_answers.specs.Engines.{engine_of}
 use Rattle.tests_model.proofs.bodies.ask_both.Goals as goal
 

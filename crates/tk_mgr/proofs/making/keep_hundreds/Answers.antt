@@ -1,5 +1,5 @@
 use Rattle.std.proofs.Common.{◌+◌, ◌*◌, rules, arith}
-use Rattle.tc_space.specs.Effects.{follows_refl, follows_then}
+use Rattle.tc_space.specs.Frames.{follows_refl, follows_then}
 use Rattle.tk_mgr.proofs.Hundreds.{hundred_more, hundreds_none, hundreds_within}
 use Rattle.tk_mgr.proofs.Secured.{secures_as, secures_none, secures_then}
 use Rattle.tk_mgr.proofs.Steps.{fills_within}
@@ -7,29 +7,29 @@ use Rattle.tk_mgr.proofs.making.keep_hundreds.Goals as goal
 
 pub loop-done-init : goal.loop-done-init
 loop-done-init g c = record {
-  secures = secures_none g.B.S.Space g.B.Base.holds g.B.Base.reopens _ _ _ c.requires.may;
-  moments = λ seed m st. hundreds_none g.B.S.Space g.B.Base.reopens _ seed m;
-  follows = follows_refl _ _ _ _;
+  secures = secures_none g.B.S.Space g.B.Storage.holds g.B.Storage.reopens _ _ _ c.requires.may;
+  moments = λ seed m st. hundreds_none g.B.S.Space g.B.Storage.reopens _ seed m;
+  follows = follows_refl g.B.S.Space _;
 }
 
 pub loop-done-preserved : goal.loop-done-preserved
 loop-done-preserved g c = let i = c.loop-done.invariant in record {
-  secures = secures_then g.B.S.Space g.B.Base.holds g.B.Base.reopens (100 * c.loop-done.done) 100 _ _ _ _ _ _ _ _ _ _ (omega arith) i.secures c.in-Ok.ensures.secures;
+  secures = secures_then g.B.S.Space g.B.Storage.holds g.B.Storage.reopens (100 * c.loop-done._done) 100 _ _ _ _ _ _ _ _ _ _ (omega arith) i.secures c.in_ok-keep_some.ensures.secures;
   moments = λ seed m st. let there = i.secures.each seed m st in
-      hundred_more g.B.S.Space g.B.Base.reopens g.B.Base.holds seed c.loop-done.done c.loop-done.run c.loop-done.base c.args.space.now c.loop-done.space c.keep_some.new.space m (omega arith) (λ t. g.met.B.S.Space.clean c.loop-done.space t i.secures.may.sound i.secures.may.untouched) there (i.moments seed m st) (c.keep_some.ensures.moments seed m there);
-  follows = follows_then _ _ _ _ _ _ i.follows c.keep_some.ensures.follows;
+      hundred_more g.B.S.Space g.B.Storage.reopens g.B.Storage.holds seed c.loop-done._done c.loop-done.run c.loop-done.base c.args.space.now c.loop-done.space c.keep_some.new.space m (omega arith) (λ t. g.met.B.S.Space.clean c.loop-done.space t i.secures.may.sound i.secures.may.untouched) there (i.moments seed m st) (c.keep_some.ensures.moments seed m there);
+  follows = follows_then g.B.S.Space _ _ _ i.follows c.keep_some.ensures.follows;
 }
 
 pub returns-clause-secures : goal.returns-clause-secures
-returns-clause-secures g c = secures_as g.B.S.Space g.B.Base.holds g.B.Base.reopens (100 * c.loop-done.done) _ _ _ _ _ _ _ (omega arith) c.loop-done.invariant.secures
+returns-clause-secures g c = secures_as g.B.S.Space g.B.Storage.holds g.B.Storage.reopens (100 * c.loop-done._done) _ _ _ _ _ _ _ (omega arith) c.loop-done.invariant.secures
 
 pub returns-clause-moments : goal.returns-clause-moments
-returns-clause-moments g c = λ seed m st. hundreds_within g.B.S.Space g.B.Base.reopens _ _ seed c.loop-done.done _ m (omega arith) (c.loop-done.invariant.moments seed m st)
+returns-clause-moments g c = λ seed m st. hundreds_within g.B.S.Space g.B.Storage.reopens _ _ seed c.loop-done._done _ m (omega arith) (c.loop-done.invariant.moments seed m st)
 
-pub returns-in-Err-clause-moments : goal.returns-in-Err-clause-moments
-returns-in-Err-clause-moments g c = λ seed m st. let i = c.loop-done.invariant in let there = i.secures.each seed m st in
-    hundreds_within g.B.S.Space g.B.Base.reopens c.args.space.now c.keep_some.new.space seed (c.loop-done.done + 1) c.args.most m (omega arith)
-    (hundred_more g.B.S.Space g.B.Base.reopens g.B.Base.holds seed c.loop-done.done c.loop-done.run c.loop-done.base c.args.space.now c.loop-done.space c.keep_some.new.space m (omega arith) (λ t. g.met.B.S.Space.clean c.loop-done.space t i.secures.may.sound i.secures.may.untouched) there (i.moments seed m st) (c.keep_some.ensures.moments seed m there))
+pub returns-in_err-keep_some-clause-moments : goal.returns-in_err-keep_some-clause-moments
+returns-in_err-keep_some-clause-moments g c = λ seed m st. let i = c.loop-done.invariant in let there = i.secures.each seed m st in
+    hundreds_within g.B.S.Space g.B.Storage.reopens c.args.space.now c.keep_some.new.space seed (c.loop-done._done + 1) c.args.most m (omega arith)
+    (hundred_more g.B.S.Space g.B.Storage.reopens g.B.Storage.holds seed c.loop-done._done c.loop-done.run c.loop-done.base c.args.space.now c.loop-done.space c.keep_some.new.space m (omega arith) (λ t. g.met.B.S.Space.clean c.loop-done.space t i.secures.may.sound i.secures.may.untouched) there (i.moments seed m st) (c.keep_some.ensures.moments seed m there))
 
-pub returns-in-Err-clause-full : goal.returns-in-Err-clause-full
-returns-in-Err-clause-full g c = λ is seed m st. let i = c.loop-done.invariant in fills_within _ seed (c.loop-done.run.made + 100) _ _ (omega arith) (c.in-Err.ensures.full (search rules) seed m (i.secures.each seed m st))
+pub returns-in_err-keep_some-clause-full : goal.returns-in_err-keep_some-clause-full
+returns-in_err-keep_some-clause-full g c = λ is seed m st. let i = c.loop-done.invariant in fills_within _ seed (c.loop-done.run.made + 100) _ _ (omega arith) (c.in_err-keep_some.ensures.full (search (rules, is)) seed m (i.secures.each seed m st))

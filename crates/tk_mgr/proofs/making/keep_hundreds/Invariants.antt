@@ -1,12 +1,12 @@
 use Rattle.std.proofs.Common.{◌*◌, ℕ}
-use Rattle.tc_space.specs.Effects.{Follows}
+use Rattle.tc_space.specs.Frames.{Follows}
 use Rattle.ty_world.specs.World.{Mark}
 use Rattle.tk_mgr.specs.Drilling.{LeavesHundreds, Secures, Stands}
 use Rattle.tk_mgr.proofs.making.keep_hundreds.Given as goal
 
 abbrev pub invariant-loop-done : goal.invariant-loop-done
-invariant-loop-done g l = let s = g.B.S.Space in let holds = g.B.Base.holds in let reopens = g.B.Base.reopens in record {
-  secures : Secures s holds reopens (100 * l.done) l.fn.run l.run l.fn.base l.base l.fn.space l.space;
-  moments : (seed : ℕ) (m : Mark) → Stands s holds reopens seed l.fn.run l.fn.base l.fn.space m → LeavesHundreds s reopens l.fn.space l.space seed l.done m;
-  follows : Follows s.faults s.limit s.names l.fn.space l.space;
+invariant-loop-done g l = let s = g.B.S.Space in let holds = g.B.Storage.holds in let reopens = g.B.Storage.reopens in record {
+  secures : Secures s holds reopens (100 * l._done) l.fn.run l.run l.fn.base l.base l.fn.space l.space;
+  moments : (seed : ℕ) (m : Mark) → Stands s holds reopens seed l.fn.run l.fn.base l.fn.space m → LeavesHundreds s reopens l.fn.space l.space seed l._done m;
+  follows : Follows s l.fn.space l.space;
 }

@@ -4,22 +4,22 @@ use Rattle.tk_mgr.proofs.Secured.{secured, secured_fills, secured_moves, stands_
 use Rattle.tk_mgr.proofs.making.keep_rest.Goals as goal
 
 pub tell_some-requires-clause-ready : goal.tell_some-requires-clause-ready
-tell_some-requires-clause-ready g c = ready_may g.B.S.Space g.B.Base.holds g.B.Base.reopens _ _ c.requires.may
+tell_some-requires-clause-ready g c = ready_may g.B.S.Space g.B.Storage.holds g.B.Storage.reopens _ _ c.requires.may
 
-pub returns-in-Err-clause-moments : goal.returns-in-Err-clause-moments
-returns-in-Err-clause-moments g c = unmade_moves g.B.S.Space g.B.Base.holds g.B.Base.reopens _ _ _ _ _ c.tell_some.ensures.keeps
+pub returns-in_err-text-clause-moments : goal.returns-in_err-text-clause-moments
+returns-in_err-text-clause-moments g c = unmade_moves g.B.S.Space g.B.Storage.holds g.B.Storage.reopens _ _ _ _ _ c.tell_some.ensures.keeps
 
-pub returns-in-Err-clause-full : goal.returns-in-Err-clause-full
-returns-in-Err-clause-full g c = λ is seed m st. c.in-Err.ensures.full (search rules) seed m (stands_hold g.B.S.Space g.B.Base.holds g.B.Base.reopens seed _ _ _ m st)
+pub returns-in_err-text-clause-full : goal.returns-in_err-text-clause-full
+returns-in_err-text-clause-full g c = λ is seed m st. c.in_err-text.ensures.full (search (rules, is)) seed m (stands_hold g.B.S.Space g.B.Storage.holds g.B.Storage.reopens seed _ _ _ m st)
 
-pub returns-in-Ok-save-clause-secures : goal.returns-in-Ok-save-clause-secures
-returns-in-Ok-save-clause-secures g c = secured g.B.S.Space g.B.Base.holds g.B.Base.reopens _ _ _ _ _ _ _ _ _ c.in-Ok.ensures.makes c.in-Ok-save.ensures.kept
+pub returns-clause-secures : goal.returns-clause-secures
+returns-clause-secures g c = secured g.B.S.Space g.B.Storage.holds g.B.Storage.reopens _ _ _ _ _ _ _ _ _ c.in_ok-text.ensures.makes c.in_ok-save.ensures.kept
 
-pub returns-in-Ok-save-clause-moments : goal.returns-in-Ok-save-clause-moments
-returns-in-Ok-save-clause-moments g c = secured_moves g.B.S.Space g.B.Base.holds g.B.Base.reopens _ _ _ _ _ c.save.new.base _ _ _ c.in-Ok.ensures.makes c.tell_some.ensures.keeps c.save.ensures.moments
+pub returns-clause-moments : goal.returns-clause-moments
+returns-clause-moments g c = secured_moves g.B.S.Space g.B.Storage.holds g.B.Storage.reopens _ _ _ _ _ c.save.new.base _ _ _ c.in_ok-text.ensures.makes c.tell_some.ensures.keeps c.save.ensures.moments
 
-pub returns-in-Err-save-clause-moments : goal.returns-in-Err-save-clause-moments
-returns-in-Err-save-clause-moments g c = secured_moves g.B.S.Space g.B.Base.holds g.B.Base.reopens _ _ _ _ _ c.save.new.base _ _ _ c.in-Ok.ensures.makes c.tell_some.ensures.keeps c.save.ensures.moments
+pub returns-in_err-save-clause-moments : goal.returns-in_err-save-clause-moments
+returns-in_err-save-clause-moments g c = secured_moves g.B.S.Space g.B.Storage.holds g.B.Storage.reopens _ _ _ _ _ c.save.new.base _ _ _ c.in_ok-text.ensures.makes c.tell_some.ensures.keeps c.save.ensures.moments
 
-pub returns-in-Err-save-clause-full : goal.returns-in-Err-save-clause-full
-returns-in-Err-save-clause-full g c = λ is. secured_fills g.B.S.Space g.B.Base.holds g.B.Base.reopens _ _ _ _ _ c.save.new.base _ _ c.save.new.space c.in-Ok.ensures.makes _ (c.in-Err-save.ensures.full (search rules))
+pub returns-in_err-save-clause-full : goal.returns-in_err-save-clause-full
+returns-in_err-save-clause-full g c = λ is. secured_fills g.B.S.Space g.B.Storage.holds g.B.Storage.reopens _ _ _ _ _ c.save.new.base _ _ c.save.new.space c.in_ok-text.ensures.makes _ (c.in_err-save.ensures.full (search (rules, is)))

@@ -4,16 +4,16 @@ use Rattle.tk_mgr.proofs.Steps.{fills_within, makes_as, makes_none, makes_then}
 use Rattle.tk_mgr.proofs.making.make_some.Goals as goal
 
 pub loop-done-init : goal.loop-done-init
-loop-done-init g c = record { makes = makes_none g.B.S.Space g.B.Base.holds _ _ _ c.requires.ready; keeps = keeps_refl g.B.S.Space _ }
+loop-done-init g c = record { makes = makes_none g.B.S.Space g.B.Storage.holds _ _ _ c.requires.ready; keeps = keeps_refl g.B.S.Space _ }
 
 pub loop-done-preserved : goal.loop-done-preserved
 loop-done-preserved g c = record {
-  makes = makes_then g.B.S.Space g.B.Base.holds c.loop-done.done 1 _ _ _ _ _ _ _ _ _ c.loop-done.invariant.makes c.in-Ok.ensures.makes;
+  makes = makes_then g.B.S.Space g.B.Storage.holds c.loop-done._done 1 _ _ _ _ _ _ _ _ _ c.loop-done.invariant.makes c.in_ok-make_one.ensures.makes;
   keeps = keeps_then g.B.S.Space _ _ _ c.loop-done.invariant.keeps c.make_one.ensures.keeps;
 }
 
 pub returns-clause-makes : goal.returns-clause-makes
-returns-clause-makes g c = makes_as g.B.S.Space g.B.Base.holds c.loop-done.done _ _ _ _ _ _ _ (omega arith) c.loop-done.invariant.makes
+returns-clause-makes g c = makes_as g.B.S.Space g.B.Storage.holds c.loop-done._done _ _ _ _ _ _ _ (omega arith) c.loop-done.invariant.makes
 
-pub returns-in-Err-clause-full : goal.returns-in-Err-clause-full
-returns-in-Err-clause-full g c = λ is seed m h. fills_within _ seed (c.loop-done.run.made + 1) _ _ (omega arith) (c.in-Err.ensures.full (search rules) seed m (c.loop-done.invariant.makes.each seed m h))
+pub returns-in_err-make_one-clause-full : goal.returns-in_err-make_one-clause-full
+returns-in_err-make_one-clause-full g c = λ is seed m h. fills_within _ seed (c.loop-done.run.made + 1) _ _ (omega arith) (c.in_err-make_one.ensures.full (search (rules, is)) seed m (c.loop-done.invariant.makes.each seed m h))

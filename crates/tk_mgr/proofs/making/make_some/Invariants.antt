@@ -4,6 +4,6 @@ use Rattle.tk_mgr.proofs.making.make_some.Given as goal
 
 abbrev pub invariant-loop-done : goal.invariant-loop-done
 invariant-loop-done g l = let s = g.B.S.Space in record {
-  makes : Makes s g.B.Base.holds l.done l.fn.run l.run l.fn.base l.base l.fn.space l.space;
+  makes : Makes s g.B.Storage.holds l._done l.fn.run l.run l.fn.base l.base l.fn.space l.space;
   keeps : Keeps s l.fn.space l.space;
 }

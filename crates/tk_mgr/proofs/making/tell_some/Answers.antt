@@ -1,12 +1,13 @@
-use Rattle.std.proofs.Common.{rules, arith}
+use Rattle.std.proofs.Common.{arith}
+use Rattle.std.proofs.lemmas.Result.{IfOk-weaker, on_ok_weaker}
 use Rattle.tk_mgr.proofs.Steps.{makes_as, makes_then, tells_then}
 use Rattle.tk_mgr.proofs.making.tell_some.Goals as goal
 
-pub returns-in-Ok-report-clause-text : goal.returns-in-Ok-report-clause-text
-returns-in-Ok-report-clause-text g c = tells_then g.B.S.Space g.B.Base.holds _ _ _ _ _ _ _ _ c.in-Ok.ensures.makes c.in-Ok-report.ensures.text
+pub returns-clause-text : goal.returns-clause-text
+returns-clause-text g c = IfOk-weaker c.report.result _ _ (λ text tells. tells_then g.B.S.Space g.B.Storage.holds _ _ _ _ _ _ _ text c.in_ok-make_some.ensures.makes tells) c.report.ensures.text
 
-pub returns-in-Ok-report-clause-makes : goal.returns-in-Ok-report-clause-makes
-returns-in-Ok-report-clause-makes g c = makes_as g.B.S.Space g.B.Base.holds _ _ _ _ _ _ _ _ (omega arith) (makes_then g.B.S.Space g.B.Base.holds _ 0 _ _ _ _ _ _ _ _ _ c.in-Ok.ensures.makes c.in-Ok-report.ensures.makes)
+pub returns-clause-makes : goal.returns-clause-makes
+returns-clause-makes g c = on_ok_weaker c.report.result (λ makes. makes_as g.B.S.Space g.B.Storage.holds _ _ _ _ _ _ _ _ (omega arith) (makes_then g.B.S.Space g.B.Storage.holds _ 0 _ _ _ _ _ _ _ _ _ c.in_ok-make_some.ensures.makes makes)) c.report.ensures.makes
 
-pub returns-in-Err-report-clause-full : goal.returns-in-Err-report-clause-full
-returns-in-Err-report-clause-full g c = λ is. absurd (c.in-Err-report.ensures.not_full (search rules))
+pub returns-clause-full : goal.returns-clause-full
+returns-clause-full g c = λ is. absurd (c.report.ensures.not_full is)

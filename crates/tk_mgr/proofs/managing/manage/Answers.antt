@@ -9,62 +9,62 @@ use Rattle.tk_mgr.proofs.managing.manage.Goals as goal
 
 pub returns-in-Put-clause-managed : goal.returns-in-Put-clause-managed
 returns-in-Put-clause-managed g c =
-    manages_as g.B.S.Space g.B.Base.reopens g.O.Sink g.B.Base.holds g.B.Base.lines _ (task.Put c.in-Put.word c.in-Put.key c.in-Put.value) _ _ _ _ _ _ c.in-Put.is
-    (carries_manages g.B.S.Space g.B.Base.reopens g.O.Sink g.B.Base.holds g.B.Base.lines (task.Put c.in-Put.word c.in-Put.key c.in-Put.value) (Some (put_request c.in-Put.word c.in-Put.key c.in-Put.value)) _ _ _ _ _ (λ d. refl) (λ d. refl) (λ f d. refl) c.put.ensures.carries)
+    manages_as g.B.S.Space g.B.Storage.reopens g.O.Sink g.B.Storage.holds g.B.Storage.lines _ (task.Put c.in-Put.word c.in-Put.key c.in-Put.value) _ _ _ _ _ _ c.in-Put.is
+    (carries_manages g.B.S.Space g.B.Storage.reopens g.O.Sink g.B.Storage.holds g.B.Storage.lines (task.Put c.in-Put.word c.in-Put.key c.in-Put.value) (Some (put_request c.in-Put.word c.in-Put.key c.in-Put.value)) _ _ _ _ _ (λ d. refl) (λ d. refl) (λ f d. refl) c.put.ensures.carries)
 
 pub returns-in-Out-clause-managed : goal.returns-in-Out-clause-managed
 returns-in-Out-clause-managed g c =
-    manages_as g.B.S.Space g.B.Base.reopens g.O.Sink g.B.Base.holds g.B.Base.lines _ (task.Out c.in-Out.key) _ _ _ _ _ _ c.in-Out.is
-    (carries_manages g.B.S.Space g.B.Base.reopens g.O.Sink g.B.Base.holds g.B.Base.lines (task.Out c.in-Out.key) (Some (request.Out c.in-Out.key)) _ _ _ _ _ (λ d. refl) (λ d. refl) (λ f d. refl) c.take_out.ensures.carries)
+    manages_as g.B.S.Space g.B.Storage.reopens g.O.Sink g.B.Storage.holds g.B.Storage.lines _ (task.Out c.in-Out.key) _ _ _ _ _ _ c.in-Out.is
+    (carries_manages g.B.S.Space g.B.Storage.reopens g.O.Sink g.B.Storage.holds g.B.Storage.lines (task.Out c.in-Out.key) (Some (request.Out c.in-Out.key)) _ _ _ _ _ (λ d. refl) (λ d. refl) (λ f d. refl) c.take_out.ensures.carries)
 
 pub returns-in-Optimize-clause-managed : goal.returns-in-Optimize-clause-managed
 returns-in-Optimize-clause-managed g c =
-    manages_as g.B.S.Space g.B.Base.reopens g.O.Sink g.B.Base.holds g.B.Base.lines _ (task.Optimize c.in-Optimize.large) _ _ _ _ _ _ c.in-Optimize.is
-    (carries_manages g.B.S.Space g.B.Base.reopens g.O.Sink g.B.Base.holds g.B.Base.lines (task.Optimize c.in-Optimize.large) None _ _ _ _ _ (λ d. refl) (λ d. refl) (λ f d. refl) c.optimize.ensures.carries)
+    manages_as g.B.S.Space g.B.Storage.reopens g.O.Sink g.B.Storage.holds g.B.Storage.lines _ (task.Optimize c.in-Optimize.large) _ _ _ _ _ _ c.in-Optimize.is
+    (carries_manages g.B.S.Space g.B.Storage.reopens g.O.Sink g.B.Storage.holds g.B.Storage.lines (task.Optimize c.in-Optimize.large) None _ _ _ _ _ (λ d. refl) (λ d. refl) (λ f d. refl) c.optimize.ensures.carries)
 
 pub returns-in-Get-clause-managed : goal.returns-in-Get-clause-managed
 returns-in-Get-clause-managed g c =
-    manages_as g.B.S.Space g.B.Base.reopens g.O.Sink g.B.Base.holds g.B.Base.lines _ (task.Get c.in-Get.key) _ _ _ _ _ _ c.in-Get.is
-    (shows_manages g.B.S.Space g.B.Base.reopens g.O.Sink g.B.Base.holds g.B.Base.lines (task.Get c.in-Get.key) _ _ _ _ _ _ (λ d. idle_stays (request.Get c.in-Get.key) d (record { updates_none = refl; packs_none = refl }))
+    manages_as g.B.S.Space g.B.Storage.reopens g.O.Sink g.B.Storage.holds g.B.Storage.lines _ (task.Get c.in-Get.key) _ _ _ _ _ _ c.in-Get.is
+    (shows_manages g.B.S.Space g.B.Storage.reopens g.O.Sink g.B.Storage.holds g.B.Storage.lines (task.Get c.in-Get.key) _ _ _ _ _ _ (λ d. idle_stays (request.Get c.in-Get.key) d (record { updates_none = refl; packs_none = refl }))
     (record { sound = c.requires.may.sound; only = λ o t l. g.met.B.S.Space.only_kept c.args.space.now o t c.requires.may.sound l; clean = λ t. g.met.B.S.Space.clean c.args.space.now t c.requires.may.sound c.requires.may.untouched })
     (λ t u o le l. g.met.B.S.Space.earlier c.get.new.space t u o le l) c.get.ensures.keeps c.get.ensures.shows)
 
 pub returns-in-List-clause-managed : goal.returns-in-List-clause-managed
 returns-in-List-clause-managed g c =
-    manages_as g.B.S.Space g.B.Base.reopens g.O.Sink g.B.Base.holds g.B.Base.lines _ (task.List c.in-List.maximum c.in-List.values) _ _ _ _ _ _ c.in-List.is
-    (shows_manages g.B.S.Space g.B.Base.reopens g.O.Sink g.B.Base.holds g.B.Base.lines (task.List c.in-List.maximum c.in-List.values) _ _ _ _ _ _ (λ d. idle_stays (request.FwmKeys [] (maximum_of c.in-List.maximum)) d (record { updates_none = refl; packs_none = refl }))
+    manages_as g.B.S.Space g.B.Storage.reopens g.O.Sink g.B.Storage.holds g.B.Storage.lines _ (task.List c.in-List.maximum c.in-List.values) _ _ _ _ _ _ c.in-List.is
+    (shows_manages g.B.S.Space g.B.Storage.reopens g.O.Sink g.B.Storage.holds g.B.Storage.lines (task.List c.in-List.maximum c.in-List.values) _ _ _ _ _ _ (λ d. idle_stays (request.FwmKeys [] (maximum_of c.in-List.maximum)) d (record { updates_none = refl; packs_none = refl }))
     (record { sound = c.requires.may.sound; only = λ o t l. g.met.B.S.Space.only_kept c.args.space.now o t c.requires.may.sound l; clean = λ t. g.met.B.S.Space.clean c.args.space.now t c.requires.may.sound c.requires.may.untouched })
     (λ t u o le l. g.met.B.S.Space.earlier c.list.new.space t u o le l) c.list.ensures.keeps c.list.ensures.shows)
 
 pub returns-in-Inform-clause-managed : goal.returns-in-Inform-clause-managed
 returns-in-Inform-clause-managed g c =
-    manages_as g.B.S.Space g.B.Base.reopens g.O.Sink g.B.Base.holds g.B.Base.lines _ task.Inform _ _ _ _ _ _ c.in-Inform.is
-    (shows_manages g.B.S.Space g.B.Base.reopens g.O.Sink g.B.Base.holds g.B.Base.lines task.Inform _ _ _ _ _ _ (λ d. refl)
+    manages_as g.B.S.Space g.B.Storage.reopens g.O.Sink g.B.Storage.holds g.B.Storage.lines _ task.Inform _ _ _ _ _ _ c.in-Inform.is
+    (shows_manages g.B.S.Space g.B.Storage.reopens g.O.Sink g.B.Storage.holds g.B.Storage.lines task.Inform _ _ _ _ _ _ (λ d. refl)
     (record { sound = c.requires.may.sound; only = λ o t l. g.met.B.S.Space.only_kept c.args.space.now o t c.requires.may.sound l; clean = λ t. g.met.B.S.Space.clean c.args.space.now t c.requires.may.sound c.requires.may.untouched })
     (λ t u o le l. g.met.B.S.Space.earlier c.inform.new.space t u o le l) c.inform.ensures.keeps c.inform.ensures.shows)
 
 -- ---- files packed
 
 pub returns-in-Put-clause-packs : goal.returns-in-Put-clause-packs
-returns-in-Put-clause-packs g c = λ m h. packs_as g.B.S.Space g.B.Base.reopens g.B.Base.packed _ (task.Put c.in-Put.word c.in-Put.key c.in-Put.value) _ _ c.in-Put.is (λ f is. absurd cc)
+returns-in-Put-clause-packs g c = λ m h. packs_as g.B.S.Space g.B.Storage.reopens g.B.Storage.packed _ (task.Put c.in-Put.word c.in-Put.key c.in-Put.value) _ _ c.in-Put.is (λ f is. absurd cc)
 
 pub returns-in-Out-clause-packs : goal.returns-in-Out-clause-packs
-returns-in-Out-clause-packs g c = λ m h. packs_as g.B.S.Space g.B.Base.reopens g.B.Base.packed _ (task.Out c.in-Out.key) _ _ c.in-Out.is (λ f is. absurd cc)
+returns-in-Out-clause-packs g c = λ m h. packs_as g.B.S.Space g.B.Storage.reopens g.B.Storage.packed _ (task.Out c.in-Out.key) _ _ c.in-Out.is (λ f is. absurd cc)
 
 pub returns-in-Get-clause-packs : goal.returns-in-Get-clause-packs
-returns-in-Get-clause-packs g c = λ m h. packs_as g.B.S.Space g.B.Base.reopens g.B.Base.packed _ (task.Get c.in-Get.key) _ _ c.in-Get.is (λ f is. absurd cc)
+returns-in-Get-clause-packs g c = λ m h. packs_as g.B.S.Space g.B.Storage.reopens g.B.Storage.packed _ (task.Get c.in-Get.key) _ _ c.in-Get.is (λ f is. absurd cc)
 
 pub returns-in-List-clause-packs : goal.returns-in-List-clause-packs
-returns-in-List-clause-packs g c = λ m h. packs_as g.B.S.Space g.B.Base.reopens g.B.Base.packed _ (task.List c.in-List.maximum c.in-List.values) _ _ c.in-List.is (λ f is. absurd cc)
+returns-in-List-clause-packs g c = λ m h. packs_as g.B.S.Space g.B.Storage.reopens g.B.Storage.packed _ (task.List c.in-List.maximum c.in-List.values) _ _ c.in-List.is (λ f is. absurd cc)
 
 pub returns-in-Inform-clause-packs : goal.returns-in-Inform-clause-packs
-returns-in-Inform-clause-packs g c = λ m h. packs_as g.B.S.Space g.B.Base.reopens g.B.Base.packed _ task.Inform _ _ c.in-Inform.is (λ f is. absurd cc)
+returns-in-Inform-clause-packs g c = λ m h. packs_as g.B.S.Space g.B.Storage.reopens g.B.Storage.packed _ task.Inform _ _ c.in-Inform.is (λ f is. absurd cc)
 
 pub returns-in-Drill-clause-packs : goal.returns-in-Drill-clause-packs
-returns-in-Drill-clause-packs g c = λ m h. packs_as g.B.S.Space g.B.Base.reopens g.B.Base.packed _ (task.Drill c.in-Drill.seed c.in-Drill.count) _ _ c.in-Drill.is (λ f is. absurd cc)
+returns-in-Drill-clause-packs g c = λ m h. packs_as g.B.S.Space g.B.Storage.reopens g.B.Storage.packed _ (task.Drill c.in-Drill.seed c.in-Drill.count) _ _ c.in-Drill.is (λ f is. absurd cc)
 
 pub returns-in-Optimize-clause-packs : goal.returns-in-Optimize-clause-packs
-returns-in-Optimize-clause-packs g c = λ m h. packs_as g.B.S.Space g.B.Base.reopens g.B.Base.packed _ (task.Optimize c.in-Optimize.large) _ _ c.in-Optimize.is (c.optimize.ensures.packs m h)
+returns-in-Optimize-clause-packs g c = λ m h. packs_as g.B.S.Space g.B.Storage.reopens g.B.Storage.packed _ (task.Optimize c.in-Optimize.large) _ _ c.in-Optimize.is (c.optimize.ensures.packs m h)
 
 -- ---- which may write files
 
@@ -92,16 +92,16 @@ returns-in-Inform-clause-writes g c = λ full. absurd (c.inform.ensures.not_full
 -- ---- limits
 
 pub returns-in-Put-clause-full : goal.returns-in-Put-clause-full
-returns-in-Put-clause-full g c = λ is m h. fills_as (g.B.Base.fills c.put.new.space) _ (task.Put c.in-Put.word c.in-Put.key c.in-Put.value) m.contents c.in-Put.is
-    (fills_asked (g.B.Base.fills c.put.new.space) (task.Put c.in-Put.word c.in-Put.key c.in-Put.value) (Some (put_request c.in-Put.word c.in-Put.key c.in-Put.value)) m.contents refl refl refl (c.put.ensures.full is m.contents h.has.held))
+returns-in-Put-clause-full g c = λ is m h. fills_as (g.B.Storage.fills c.put.new.space) _ (task.Put c.in-Put.word c.in-Put.key c.in-Put.value) m.contents c.in-Put.is
+    (fills_asked (g.B.Storage.fills c.put.new.space) (task.Put c.in-Put.word c.in-Put.key c.in-Put.value) (Some (put_request c.in-Put.word c.in-Put.key c.in-Put.value)) m.contents refl refl refl (c.put.ensures.full is m.contents h.has.held))
 
 pub returns-in-Out-clause-full : goal.returns-in-Out-clause-full
-returns-in-Out-clause-full g c = λ is m h. fills_as (g.B.Base.fills c.take_out.new.space) _ (task.Out c.in-Out.key) m.contents c.in-Out.is
-    (fills_asked (g.B.Base.fills c.take_out.new.space) (task.Out c.in-Out.key) (Some (request.Out c.in-Out.key)) m.contents refl refl refl (c.take_out.ensures.full is m.contents h.has.held))
+returns-in-Out-clause-full g c = λ is m h. fills_as (g.B.Storage.fills c.take_out.new.space) _ (task.Out c.in-Out.key) m.contents c.in-Out.is
+    (fills_asked (g.B.Storage.fills c.take_out.new.space) (task.Out c.in-Out.key) (Some (request.Out c.in-Out.key)) m.contents refl refl refl (c.take_out.ensures.full is m.contents h.has.held))
 
 pub returns-in-Optimize-clause-full : goal.returns-in-Optimize-clause-full
-returns-in-Optimize-clause-full g c = λ is m h. fills_as (g.B.Base.fills c.optimize.new.space) _ (task.Optimize c.in-Optimize.large) m.contents c.in-Optimize.is
-    (fills_before (g.B.Base.fills c.optimize.new.space) (task.Optimize c.in-Optimize.large) m.contents refl (c.optimize.ensures.full is m.contents h.has.held))
+returns-in-Optimize-clause-full g c = λ is m h. fills_as (g.B.Storage.fills c.optimize.new.space) _ (task.Optimize c.in-Optimize.large) m.contents c.in-Optimize.is
+    (fills_before (g.B.Storage.fills c.optimize.new.space) (task.Optimize c.in-Optimize.large) m.contents refl (c.optimize.ensures.full is m.contents h.has.held))
 
 pub returns-in-Get-clause-full : goal.returns-in-Get-clause-full
 returns-in-Get-clause-full g c = λ is m h. absurd (c.get.ensures.not_full is)

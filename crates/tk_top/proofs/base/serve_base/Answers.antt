@@ -13,26 +13,26 @@ use Rattle.tk_top.proofs.base.serve_base.Goals as goal
 pub serve-end-requires-clause-ready : goal.serve-end-requires-clause-ready
 serve-end-requires-clause-ready g c = let s = g.B.S.Space in let w = g.W.Wire in
     let opened : w.opened c.open.new.self ≡ true = search rules in
-    ready_at s w g.B.Base.holds c.args.base c.new-server.result.base c.args.space.now c.open.new.self c.new-server.result.peers.items c.new-server.ensures.base c.new-server.ensures.peers opened (c.open.ensures.lines.conns ∙ g.met.W.Wire.none_before c.args.wire.now c.requires.opened) c.requires.ready c.requires.untouched
+    ready_at s w g.B.Storage.holds c.args.base c.new-server.result.base c.args.space.now c.open.new.self c.new-server.result.peers.items c.new-server.ensures.base c.new-server.ensures.peers opened (c.open.ensures.lines.conns ∙ g.met.W.Wire.none_before c.args.wire.now c.requires.opened) c.requires.ready c.requires.untouched
 
 pub returns-in-Err-clause-told : goal.returns-in-Err-clause-told
 returns-in-Err-clause-told g c = let s = g.B.S.Space in let w = g.W.Wire in
     let told : Adds (w.transcript c.args.wire.now) (w.transcript c.open.new.self) [] ⊎ Adds (w.transcript c.args.wire.now) (w.transcript c.open.new.self) (Open c.args.at.now ∷ []) = search rules in
-    over_unopened s w g.B.Base.holds g.B.Base.reopens c.args.base c.args.turns c.args.at.now c.args.space.now _ _
+    over_unopened s w g.B.Storage.holds g.B.Storage.reopens c.args.base c.args.turns c.args.at.now c.args.space.now _ _
     (fresh g.B.S.Space c.args.space.now g.met.B.S.Space.only_kept g.met.B.S.Space.clean c.requires.ready.sound c.requires.untouched) told
 
 pub returns-clause-told : goal.returns-clause-told
 returns-clause-told g c = let s = g.B.S.Space in let w = g.W.Wire in
     let told : Adds (w.transcript c.args.wire.now) (w.transcript c.open.new.self) (Open c.args.at.now ∷ []) = search rules in
     let plays : Plays (w.plays c.args.wire.now) (w.plays c.open.new.self) (Open c.args.at.now ∷ []) = search rules in
-    over_served s w g.B.Base.holds g.B.Base.reopens c.args.base c.serve-end.result c.args.turns c.args.at.now c.args.space.now c.serve-end.new.space _ _ _ told plays
-    (subst (λ b. Ends s w g.B.Base.holds g.B.Base.reopens c.serve-end.result c.args.turns b c.args.space.now c.serve-end.new.space c.open.new.self c.serve-end.new.wire) c.new-server.ensures.base c.serve-end.ensures.told)
+    over_served s w g.B.Storage.holds g.B.Storage.reopens c.args.base c.serve-end.result c.args.turns c.args.at.now c.args.space.now c.serve-end.new.space _ _ _ told plays
+    (subst (λ b. Ends s w g.B.Storage.holds g.B.Storage.reopens c.serve-end.result c.args.turns b c.args.space.now c.serve-end.new.space c.open.new.self c.serve-end.new.wire) c.new-server.ensures.base c.serve-end.ensures.told)
 
 pub returns-clause-full : goal.returns-clause-full
 returns-clause-full g c = λ is. let s = g.B.S.Space in let w = g.W.Wire in
     let told : Adds (w.transcript c.args.wire.now) (w.transcript c.open.new.self) (Open c.args.at.now ∷ []) = search rules in
-    full_open (g.B.Base.fills c.serve-end.new.space) (HoldsMark s g.B.Base.holds g.B.Base.reopens c.args.base c.args.space.now) c.args.at.now _ _ _ told
-    (subst (λ b. FullRun (g.B.Base.fills c.serve-end.new.space) (HoldsMark s g.B.Base.holds g.B.Base.reopens b c.args.space.now) (c.args.at.now ∷ []) (w.transcript c.open.new.self) (w.transcript c.serve-end.new.wire)) c.new-server.ensures.base (c.serve-end.ensures.full is (c.args.at.now ∷ [])))
+    full_open (g.B.Storage.fills c.serve-end.new.space) (HoldsMark s g.B.Storage.holds g.B.Storage.reopens c.args.base c.args.space.now) c.args.at.now _ _ _ told
+    (subst (λ b. FullRun (g.B.Storage.fills c.serve-end.new.space) (HoldsMark s g.B.Storage.holds g.B.Storage.reopens b c.args.space.now) (c.args.at.now ∷ []) (w.transcript c.open.new.self) (w.transcript c.serve-end.new.wire)) c.new-server.ensures.base (c.serve-end.ensures.full is (c.args.at.now ∷ [])))
 
 pub returns-clause-caused : goal.returns-clause-caused
 returns-clause-caused g c = caused_later c.serve-end.result _ _ _ _ _ _ (omega arith) (omega (arith, c.open.ensures.cause.later)) c.serve-end.ensures.caused

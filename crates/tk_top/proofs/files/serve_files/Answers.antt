@@ -1,4 +1,4 @@
-use Rattle.std.proofs.Common.{◌≡◌, inl, inr, rules, sym, subst, ◌∙◌}
+use Rattle.std.proofs.Common.{◌≡◌, inl, inr, refl, rules, sym, subst, ◌∙◌}
 use Rattle.tc_model.specs.Contents.{Contents}
 use Rattle.tk_top.specs.declared.ends.End.{End}
 use Rattle.ty_base.specs.Opening.{OpensTo}
@@ -12,28 +12,34 @@ use Rattle.tk_top.proofs.Fresh.{fresh}
 use Rattle.tk_top.proofs.files.serve_files.Goals as goal
 
 pub returns-in-Err-clause-told : goal.returns-in-Err-clause-told
-returns-in-Err-clause-told g c = let s = g.B.S.Space in let b = g.B.Base in let w = g.W.Wire in
+returns-in-Err-clause-told g c = let s = g.B.S.Space in let b = g.B.Storage in let w = g.W.Wire in
     subst (λ end. RunsOver s w b.reopens end c.args.turns c.args.at.now c.args.space.now c.open_kept.new.space c.args.wire.now c.args.wire.now (Begins s (OpensTo c.args.kind b.reopens) c.args.space.now)) (sym c.from.ensures)
     (over_refused s w b.reopens (OpensTo c.args.kind b.reopens) (λ files d h. h.stand) c.in-Err.e c.args.turns c.args.at.now c.args.space.now c.open_kept.new.space c.args.wire.now
     (fresh g.B.S.Space c.args.space.now g.met.B.S.Space.only_kept g.met.B.S.Space.clean c.requires.sound c.requires.untouched)
     (g.met.B.S.Space.earlier c.open_kept.new.space) c.open_kept.ensures.moments)
 
 pub returns-in-Err-clause-judged : goal.returns-in-Err-clause-judged
-returns-in-Err-clause-judged g c = let s = g.B.S.Space in let opens = OpensTo c.args.kind g.B.Base.reopens in
+returns-in-Err-clause-judged g c = let s = g.B.S.Space in let opens = OpensTo c.args.kind g.B.Storage.reopens in
     let full : c.in-Err.e ≡ any.Full → s.tells → (d : Contents) × opens (s.now c.args.space.now) d = λ is t. let x = c.in-Err.ensures.full (search rules) t in (x.contents, x.stand) in
     let breaks = BreaksOver s (g.B.Opens.breaks c.args.kind) c.args.space.now c.open_kept.new.space in
     subst (λ (end : End). Judged end (s.tells → (d : Contents) × opens (s.now c.args.space.now) d) breaks) (sym c.from.ensures)
     (judged_err c.in-Err.e (s.tells → (d : Contents) × opens (s.now c.args.space.now) d) breaks c.in-Err.ensures.broken full)
 
+pub returns-in-Err-clause-begun : goal.returns-in-Err-clause-begun
+returns-in-Err-clause-begun g c = inl refl
+
+pub returns-clause-begun : goal.returns-clause-begun
+returns-clause-begun g c = inr c.in-Ok.ensures.stands
+
 pub returns-in-Err-clause-full : goal.returns-in-Err-clause-full
 returns-in-Err-clause-full g c = λ is. let e : c.in-Err.e ≡ any.Full = full_err c.in-Err.e (sym c.from.ensures ∙ is) in record { which = inl (λ t. let new = c.in-Err.ensures.full (search rules) t in (new.contents, new.stand, new.full)) }
 
 pub returns-clause-told : goal.returns-clause-told
-returns-clause-told g c = let s = g.B.S.Space in let b = g.B.Base in let w = g.W.Wire in
+returns-clause-told g c = let s = g.B.S.Space in let b = g.B.Storage in let w = g.W.Wire in
     over_opened s w b.reopens (OpensTo c.args.kind b.reopens) (λ files d h. h.stand) (HoldsMark s b.holds b.reopens c.in-Ok.base c.open_kept.new.space) c.serve_base.result c.args.turns c.args.at.now c.args.space.now c.open_kept.new.space c.serve_base.new.space c.args.wire.now c.serve_base.new.wire
     (fresh g.B.S.Space c.args.space.now g.met.B.S.Space.only_kept g.met.B.S.Space.clean c.requires.sound c.requires.untouched)
     c.open_kept.ensures.moments c.in-Ok.ensures.opened.marks c.serve_base.ensures.told
 
 pub returns-clause-full : goal.returns-clause-full
-returns-clause-full g c = λ is. let s = g.B.S.Space in let b = g.B.Base in
+returns-clause-full g c = λ is. let s = g.B.S.Space in let b = g.B.Storage in
     record { which = inr (full_opened (b.fills c.serve_base.new.space) (Begins s (OpensTo c.args.kind b.reopens) c.args.space.now) (HoldsMark s b.holds b.reopens c.in-Ok.base c.open_kept.new.space) (g.W.Wire.transcript c.args.wire.now) (g.W.Wire.transcript c.serve_base.new.wire) c.in-Ok.ensures.opened.marks (c.serve_base.ensures.full is)) }

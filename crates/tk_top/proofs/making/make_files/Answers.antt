@@ -1,17 +1,18 @@
 use Rattle.std.proofs.Common.{sym}
+use Rattle.tk_top.specs.Making.{IsThere}
 use Rattle.tk_top.proofs.Made.{judged_made, made_run, made_unopened}
 use Rattle.tk_top.proofs.Named.{limits_so}
 use Rattle.tk_top.proofs.Fresh.{fresh}
-use Rattle.tk_top.proofs.Staying.{made_unnamed, there_so}
+use Rattle.tk_top.proofs.Staying.{left_alone_so, left_alone_unnamed, made_unnamed, there_so}
 use Rattle.tk_top.proofs.Stops.{closes}
 use Rattle.tk_top.proofs.making.make_files.Goals as goal
 
 pub returns-in-Err-clause-made : goal.returns-in-Err-clause-made
-returns-in-Err-clause-made g c = let shape = c.args.shape.now in made_unopened g.B.Base.reopens (g.B.Opens.shaped shape) (g.B.Opens.anew shape) _ c.in-Err.ensures.unopened
+returns-in-Err-clause-made g c = let shape = c.args.shape.now in made_unopened g.B.Storage.reopens (g.B.Opens.shaped shape) (g.B.Opens.anew shape) _ c.in-Err.ensures.unopened
 
 pub returns-clause-made : goal.returns-clause-made
 returns-clause-made g c = let shape = c.args.shape.now in let end = c.make_opened-end.new.space in
-    made_run g.B.Base.reopens (g.B.Opens.shaped shape) (g.B.Opens.anew shape) c.in-Ok.ensures.opened (closes g.S.Space g.S.V.Volume g.S.OnVolume.under end _ c.close_over.ensures (g.met.S.OnVolume.is_over end)) c.make_opened-end.ensures.made
+    made_run g.B.Storage.reopens (g.B.Opens.shaped shape) (g.B.Opens.anew shape) c.in-Ok.ensures.opened (closes g.S.Space g.S.V.Volume g.S.OnVolume.under end _ c.close_over.ensures (g.met.S.OnVolume.is_over end)) c.make_opened-end.ensures.made
 
 pub returns-clause-judged : goal.returns-clause-judged
 returns-clause-judged g c = let o = c.in-Ok.ensures.opened in let end = c.make_opened-end.new.space in
@@ -23,6 +24,13 @@ returns-clause-judged g c = let o = c.in-Ok.ensures.opened in let end = c.make_o
 
 pub returns-in-Err-clause-judged : goal.returns-in-Err-clause-judged
 returns-in-Err-clause-judged g c = made_unnamed c.in-Err.ensures.unopened (λ files f r. ⊥) _ _
+
+pub returns-in-Err-clause-there : goal.returns-in-Err-clause-there
+returns-in-Err-clause-there g c = left_alone_unnamed c.in-Err.ensures.unopened IsThere
+
+pub returns-clause-there : goal.returns-clause-there
+returns-clause-there g c = let end = c.make_opened-end.new.space in
+    left_alone_so c.in-Ok.ensures.opened (closes g.S.Space g.S.V.Volume g.S.OnVolume.under end _ c.close_over.ensures (g.met.S.OnVolume.is_over end)) (λ x. fresh g.S.Space x g.met.S.Space.only_kept g.met.S.Space.clean) IsThere c.make_opened-end.result c.make_opened-end.ensures.there
 
 pub returns-clause-full : goal.returns-clause-full
 returns-clause-full g c = λ is. let o = c.in-Ok.ensures.opened in let end = c.make_opened-end.new.space in record {

@@ -1,4 +1,5 @@
-use Rattle.std.proofs.Common.{sym, subst, ◌∙◌}
+use Rattle.std.proofs.Common.{arith, sym, subst, ◌∙◌}
+use Rattle.std.proofs.lemmas.List.{nil_from_length}
 use Rattle.tk_top.specs.declared.ends.End.{End}
 use Rattle.tk_top.specs.declared.ends.End.TheVariants.{Done, VolumeFault}
 use Rattle.ty_rounds.specs.Kept.{StandFor}
@@ -12,7 +13,7 @@ use Rattle.tk_top.proofs.Fresh.{fresh}
 use Rattle.tk_top.proofs.making.make_opened.Goals as goal
 
 pub returns-in-Err-clause-made : goal.returns-in-Err-clause-made
-returns-in-Err-clause-made g c = λ first h. let s = g.B.S.Space in let b = g.B.Base in let old = c.args.space.now in let mid = c.create.new.space in
+returns-in-Err-clause-made g c = λ first h. let s = g.B.S.Space in let b = g.B.Storage in let old = c.args.space.now in let mid = c.create.new.space in
     subst (λ (end : End). MakingOver s b.reopens (g.B.Opens.shaped c.args.shape.now) (g.B.Opens.anew c.args.shape.now) end old mid first) (sym c.from.ensures)
     (making_over b.reopens (g.B.Opens.shaped c.args.shape.now) (g.B.Opens.anew c.args.shape.now) s (end_of c.in-Err.e) old mid first
     (fresh g.B.S.Space old g.met.B.S.Space.only_kept g.met.B.S.Space.clean c.requires.sound c.requires.untouched)
@@ -21,7 +22,7 @@ returns-in-Err-clause-made g c = λ first h. let s = g.B.S.Space in let b = g.B.
     (unbegun_of c.in-Err.e).not_refused (λ is. absurd ((unbegun_of c.in-Err.e).not_done is)))
 
 pub returns-in-Ok-commit-clause-made : goal.returns-in-Ok-commit-clause-made
-returns-in-Ok-commit-clause-made g c = λ first h. let s = g.B.S.Space in let b = g.B.Base in let old = c.args.space.now in let mid = c.create.new.space in let new = c.commit.new.self in
+returns-in-Ok-commit-clause-made g c = λ first h. let s = g.B.S.Space in let b = g.B.Storage in let old = c.args.space.now in let mid = c.create.new.space in let new = c.commit.new.self in
     let created = c.in-Ok.ensures.created h.0 in
     let stand : StandFor b.reopens (s.now mid) (with_contents first (g.B.Opens.anew c.args.shape.now)) = record { contents = created.stand; log = c.in-Ok.ensures.usable.log.same h.0 ∙ h.1.log } in
     making_over b.reopens (g.B.Opens.shaped c.args.shape.now) (g.B.Opens.anew c.args.shape.now) s Done old new first
@@ -36,10 +37,19 @@ returns-in-Ok-commit-clause-made g c = λ first h. let s = g.B.S.Space in let b 
     })
 
 pub returns-in-Err-commit-clause-made : goal.returns-in-Err-commit-clause-made
-returns-in-Err-commit-clause-made g c = λ first h. let s = g.B.S.Space in let b = g.B.Base in let old = c.args.space.now in let mid = c.create.new.space in let new = c.commit.new.self in
+returns-in-Err-commit-clause-made g c = λ first h. let s = g.B.S.Space in let b = g.B.Storage in let old = c.args.space.now in let mid = c.create.new.space in let new = c.commit.new.self in
     let created = c.in-Ok.ensures.created h.0 in
     making_over b.reopens (g.B.Opens.shaped c.args.shape.now) (g.B.Opens.anew c.args.shape.now) s VolumeFault old new first
     (fresh g.B.S.Space old g.met.B.S.Space.only_kept g.met.B.S.Space.clean c.requires.sound c.requires.untouched)
     (g.met.B.S.Space.earlier new) h
     (commit_moves s b.reopens old mid new (with_contents first (g.B.Opens.anew c.args.shape.now)) (c.in-Ok.ensures.keeps.steady h.0) (c.commit.ensures.moments h.0) (record { contents = created.stand; log = c.in-Ok.ensures.usable.log.same h.0 ∙ h.1.log }))
     (λ is. absurd cc) (λ is. absurd cc)
+
+pub returns-in-Err-clause-there : goal.returns-in-Err-clause-there
+returns-in-Err-clause-there g c = λ t some. absurd (some (nil_from_length _ (omega (arith, c.len.ensures t))))
+
+pub returns-in-Ok-commit-clause-there : goal.returns-in-Ok-commit-clause-there
+returns-in-Ok-commit-clause-there g c = λ t some. absurd (some (nil_from_length _ (omega (arith, c.len.ensures t))))
+
+pub returns-in-Err-commit-clause-there : goal.returns-in-Err-commit-clause-there
+returns-in-Err-commit-clause-there g c = λ t some. absurd (some (nil_from_length _ (omega (arith, c.len.ensures t))))

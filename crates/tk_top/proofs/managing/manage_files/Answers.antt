@@ -1,39 +1,46 @@
-use Rattle.std.proofs.Common.{sym}
+use Rattle.std.proofs.Common.{inl, inr, ⊎_elim, refl, sym}
 use Rattle.ty_base.specs.Opening.{OpensTo}
+use Rattle.tk_top.specs.Tasks.{IsMisplaced}
 use Rattle.tk_top.proofs.Managed.{full_task_so, judged_task_as, managed_run, managed_unopened, reason_so}
 use Rattle.tk_top.proofs.Named.{limits_so, stands_so}
 use Rattle.tk_top.proofs.Fresh.{fresh}
-use Rattle.tk_top.proofs.Staying.{breaks_so, misplaced_so, misplaced_unnamed, task_unnamed}
+use Rattle.tk_top.proofs.Staying.{breaks_so, left_alone_so, left_alone_unnamed, task_unnamed}
 use Rattle.tk_top.proofs.Stops.{closes}
 use Rattle.tk_top.proofs.managing.manage_files.Goals as goal
 
 pub returns-in-Err-clause-told : goal.returns-in-Err-clause-told
-returns-in-Err-clause-told g c = let b = g.B.Base in managed_unopened g.O.Sink b.reopens b.lines b.packed c.args.task c.args.kind _ c.args.out.now c.in-Err.ensures.unopened
+returns-in-Err-clause-told g c = let b = g.B.Storage in managed_unopened g.O.Sink b.reopens b.lines b.packed c.args.task c.args.kind _ c.args.out.now c.in-Err.ensures.unopened
 
 pub returns-clause-told : goal.returns-clause-told
-returns-clause-told g c = let b = g.B.Base in let end = c.manage_opened-end.new.space in
+returns-clause-told g c = let b = g.B.Storage in let end = c.manage_opened-end.new.space in
     managed_run g.O.Sink b.reopens b.lines b.packed c.args.task (OpensTo c.args.kind b.reopens) c.in-Ok.ensures.opened (closes g.S.Space g.S.V.Volume g.S.OnVolume.under end _ c.close_over.ensures (g.met.S.OnVolume.is_over end)) c.manage_opened-end.ensures.told
 
 pub returns-clause-judged : goal.returns-clause-judged
-returns-clause-judged g c = let o = c.in-Ok.ensures.opened in let opens = OpensTo c.args.kind g.B.Base.reopens in let end = c.manage_opened-end.new.space in
+returns-clause-judged g c = let o = c.in-Ok.ensures.opened in let opens = OpensTo c.args.kind g.B.Storage.reopens in let end = c.manage_opened-end.new.space in
     judged_task_as c.manage_opened-end.result _ _ _ _ _ _ (stands_so o opens)
-    (breaks_so o (closes g.S.Space g.S.V.Volume g.S.OnVolume.under end _ c.close_over.ensures (g.met.S.OnVolume.is_over end)) (λ x. fresh g.S.Space x g.met.S.Space.only_kept g.met.S.Space.clean) (g.B.Opens.breaks c.args.kind))
+    (breaks_so o (closes g.S.Space g.S.V.Volume g.S.OnVolume.under end _ c.close_over.ensures (g.met.S.OnVolume.is_over end)) (λ x. fresh g.S.Space x g.met.S.Space.only_kept g.met.S.Space.clean) (g.met.S.V.Volume.now_is_image c.args.vol) (g.B.Opens.breaks c.args.kind))
     (reason_so o opens c.args.task) c.manage_opened-end.ensures.judged
 
 pub returns-in-Err-clause-judged : goal.returns-in-Err-clause-judged
 returns-in-Err-clause-judged g c = task_unnamed c.in-Err.ensures.unopened (g.B.Opens.breaks c.args.kind) _ _
 
+pub returns-in-Err-clause-begun : goal.returns-in-Err-clause-begun
+returns-in-Err-clause-begun g c = inl refl
+
+pub returns-clause-begun : goal.returns-clause-begun
+returns-clause-begun g c = ⊎_elim (λ same. inl same) (λ can. inr (stands_so c.in-Ok.ensures.opened (OpensTo c.args.kind g.B.Storage.reopens) can)) c.manage_opened-end.ensures.begun
+
 pub returns-in-Err-clause-misplaced : goal.returns-in-Err-clause-misplaced
-returns-in-Err-clause-misplaced g c = misplaced_unnamed c.in-Err.ensures.unopened c.args.task
+returns-in-Err-clause-misplaced g c = left_alone_unnamed c.in-Err.ensures.unopened (IsMisplaced c.args.task)
 
 pub returns-clause-misplaced : goal.returns-clause-misplaced
 returns-clause-misplaced g c = let end = c.manage_opened-end.new.space in
-    misplaced_so c.in-Ok.ensures.opened (closes g.S.Space g.S.V.Volume g.S.OnVolume.under end _ c.close_over.ensures (g.met.S.OnVolume.is_over end)) (λ x. fresh g.S.Space x g.met.S.Space.only_kept g.met.S.Space.clean) c.args.task c.manage_opened-end.result c.manage_opened-end.ensures.misplaced
+    left_alone_so c.in-Ok.ensures.opened (closes g.S.Space g.S.V.Volume g.S.OnVolume.under end _ c.close_over.ensures (g.met.S.OnVolume.is_over end)) (λ x. fresh g.S.Space x g.met.S.Space.only_kept g.met.S.Space.clean) (IsMisplaced c.args.task) c.manage_opened-end.result c.manage_opened-end.ensures.misplaced
 
 pub returns-clause-full : goal.returns-clause-full
 returns-clause-full g c = λ is. let o = c.in-Ok.ensures.opened in let end = c.manage_opened-end.new.space in record {
   space = end;
   vol_is = sym c.close_over.ensures;
   limits = limits_so o (g.S.Space.limit end) c.manage_opened-end.ensures.follows.same_limit;
-  full = full_task_so o (OpensTo c.args.kind g.B.Base.reopens) c.args.task (g.B.Base.fills end) (c.manage_opened-end.ensures.full is);
+  full = full_task_so o (OpensTo c.args.kind g.B.Storage.reopens) c.args.task (g.B.Storage.fills end) (c.manage_opened-end.ensures.full is);
 }

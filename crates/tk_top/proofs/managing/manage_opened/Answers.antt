@@ -12,13 +12,13 @@ use Rattle.tk_top.proofs.Fresh.{fresh}
 use Rattle.tk_top.proofs.managing.manage_opened.Goals as goal
 
 pub returns-then-not-is_placed-clause-told : goal.returns-then-not-is_placed-clause-told
-returns-then-not-is_placed-clause-told g c = let s = g.B.S.Space in let b = g.B.Base in
+returns-then-not-is_placed-clause-told g c = let s = g.B.S.Space in let b = g.B.Storage in
     over_misplaced s g.O.Sink (OpensTo c.args.kind b.reopens) b.reopens (λ files d h. h.stand) b.lines b.packed c.args.task c.args.space.now c.args.out.now
     (fresh g.B.S.Space c.args.space.now g.met.B.S.Space.only_kept g.met.B.S.Space.clean c.requires.sound c.requires.untouched)
     (λ t. subst (λ (b : Bool). is_refused_by b (s.now c.args.space.now 0)) c.wants_empty.ensures (c.if-not-is_placed.ensures.no (search rules) (s.now c.args.space.now 0) (c.len.ensures t)))
 
 pub returns-in-Err-clause-told : goal.returns-in-Err-clause-told
-returns-in-Err-clause-told g c = let s = g.B.S.Space in let b = g.B.Base in
+returns-in-Err-clause-told g c = let s = g.B.S.Space in let b = g.B.Storage in
     subst (λ (end : End). ManagesOver s g.O.Sink (OpensTo c.args.kind b.reopens) b.reopens b.lines b.packed c.args.task end c.args.space.now c.open_kept.new.space c.args.out.now c.args.out.now) (sym c.from.ensures)
     (over_unopened s g.O.Sink (OpensTo c.args.kind b.reopens) b.reopens (λ files d h. h.stand) b.lines b.packed c.args.task c.in-Err.e c.args.space.now c.open_kept.new.space c.args.out.now
     (fresh g.B.S.Space c.args.space.now g.met.B.S.Space.only_kept g.met.B.S.Space.clean c.requires.sound c.requires.untouched)
@@ -37,7 +37,7 @@ manage-requires g c = let s = g.B.S.Space in record {
 }
 
 pub returns-clause-told : goal.returns-clause-told
-returns-clause-told g c = let s = g.B.S.Space in let b = g.B.Base in let old = c.args.space.now in let mid = c.open_kept.new.space in
+returns-clause-told g c = let s = g.B.S.Space in let b = g.B.Storage in let old = c.args.space.now in let mid = c.open_kept.new.space in
     let placed : s.tells → IsMisplaced c.args.task (s.now old) → ⊥ = λ t m. c.if-not-is_placed.ensures.yes (search rules) (s.now old 0) (c.len.ensures t) (subst (λ (e : Bool). is_refused_by e (s.now old 0)) (sym c.wants_empty.ensures) m) in
     subst (λ (end : End). ManagesOver s g.O.Sink (OpensTo c.args.kind b.reopens) b.reopens b.lines b.packed c.args.task end old c.manage.new.space c.args.out.now c.manage.new.out) (sym c.end_of-end.ensures)
     (over_managed s g.O.Sink (OpensTo c.args.kind b.reopens) b.reopens (λ files d h. h.stand) b.lines b.packed c.args.task b.holds c.manage.result c.in-Ok.base old mid c.manage.new.space c.args.out.now c.manage.new.out
@@ -48,7 +48,7 @@ returns-clause-told g c = let s = g.B.S.Space in let b = g.B.Base in let old = c
     placed c.manage.ensures.managed c.manage.ensures.packs)
 
 pub returns-clause-judged : goal.returns-clause-judged
-returns-clause-judged g c = let s = g.B.S.Space in let opens = OpensTo c.args.kind g.B.Base.reopens in let old = c.args.space.now in
+returns-clause-judged g c = let s = g.B.S.Space in let opens = OpensTo c.args.kind g.B.Storage.reopens in let old = c.args.space.now in
     let breaks = BreaksOver s (g.B.Opens.breaks c.args.kind) old c.manage.new.space in
     subst (λ (end : End). JudgedTask end (s.tells → (d : Contents) × opens (s.now old) d) breaks (ReasonOver s opens c.args.task old)) (sym c.end_of-end.ensures)
     (judged_begun c.manage.result (s.tells → (d : Contents) × opens (s.now old) d) (ReasonOver s opens c.args.task old) breaks c.in-Ok.ensures.stands
@@ -59,6 +59,15 @@ returns-clause-judged g c = let s = g.B.S.Space in let opens = OpensTo c.args.ki
           let hm = c.in-Ok.ensures.opened.marks m (t, record { contents = x.1; log = refl }) in
           inr (x.0, x.1, sym ((c.manage.ensures.managed.by m hm).ok false bad));
     }))
+
+pub returns-then-not-is_placed-clause-begun : goal.returns-then-not-is_placed-clause-begun
+returns-then-not-is_placed-clause-begun g c = inl refl
+
+pub returns-in-Err-clause-begun : goal.returns-in-Err-clause-begun
+returns-in-Err-clause-begun g c = inl refl
+
+pub returns-clause-begun : goal.returns-clause-begun
+returns-clause-begun g c = inr c.in-Ok.ensures.stands
 
 pub returns-then-not-is_placed-clause-misplaced : goal.returns-then-not-is_placed-clause-misplaced
 returns-then-not-is_placed-clause-misplaced g c = λ t not. (refl, refl)

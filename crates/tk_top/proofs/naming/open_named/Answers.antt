@@ -8,6 +8,7 @@ returns-in-Err-clause-unopened g c = record {
   why = undo_err.Fault;
   is = refl;
   broken = tt;
+  no_memory = λ is. absurd cc;
   names = search rules;
   caused = λ count count'. search rules;
   leaves = λ t settled. unbound_leaves _ _ (c.bind.ensures.calls t);
@@ -27,6 +28,7 @@ returns-in-Err-open_over-clause-unopened g c = let v = g.S.V.Volume in let refus
   why = refused.why;
   is = c.from.ensures;
   broken = refused_rule refused.why v.tells (v.calls c.args.vol) (v.calls c.bind.new.self) (v.calls refused.vol) c.bind.ensures.calls c.in-Err-open_over.ensures.refused;
+  no_memory = λ is. absurd (c.in-Err-open_over.ensures.cause.no_memory is);
   names = search rules;
   caused = λ count count'. search rules;
   leaves = λ t settled. refused_leaves (v.calls c.args.vol) (v.calls c.bind.new.self) (v.calls refused.vol) (c.bind.ensures.calls t) (g.met.S.V.Volume.now_is_image c.args.vol t) (c.in-Err-open_over.ensures.refused t).stops settled;

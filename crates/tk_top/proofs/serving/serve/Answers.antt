@@ -1,5 +1,5 @@
 use Rattle.std.proofs.Common.{arith, rules, ◌≡◌, ◌∙◌, subst, sym}
-use Rattle.tc_space.specs.Effects.{follows_then, follows_refl}
+use Rattle.tc_space.specs.Frames.{follows_then, follows_refl}
 use Rattle.ty_rounds.specs.declared.outcome.Outcome.TheVariants.{Went, Shut}
 use Rattle.ty_rounds.specs.declared.outcome.TurnErr.TheVariants as turn
 use Rattle.tk_top.specs.Causes.{Caused}
@@ -13,34 +13,34 @@ use Rattle.tk_top.proofs.serving.serve.Goals as goal
 pub loop-done-init : goal.loop-done-init
 loop-done-init g c = let s = g.B.S.Space in let w = g.W.Wire in record {
   ready = c.requires.ready;
-  told = run_start s w g.B.Base.holds g.B.Base.reopens _ _ _ _ _ c.requires.walk c.requires.peers;
+  told = run_start s w g.B.Storage.holds g.B.Storage.reopens _ _ _ _ _ c.requires.walk c.requires.peers;
   later_wire = omega arith;
-  follows = follows_refl s.faults s.limit s.names c.args.space.now;
+  follows = follows_refl s c.args.space.now;
 }
 
 pub loop-done-preserved : goal.loop-done-preserved
 loop-done-preserved g c = let s = g.B.S.Space in let w = g.W.Wire in record {
   ready = c.in-Ok.ensures.ready;
-  told = run_more s w g.B.Base.holds g.B.Base.reopens _ _ _ _ _ _ _ _ _ _ _ _ _ _ c.loop-done.invariant.told (turn_is s w g.B.Base.holds g.B.Base.reopens _ _ _ _ _ _ _ _ _ _ c.in-Ok.outcome Went c.in-Went.is c.in-Ok.ensures.told);
+  told = run_more s w g.B.Storage.holds g.B.Storage.reopens _ _ _ _ _ _ _ _ _ _ _ _ _ _ c.loop-done.invariant.told (turn_is s w g.B.Storage.holds g.B.Storage.reopens _ _ _ _ _ _ _ _ _ _ c.in-Ok.outcome Went c.in-Went.is c.in-Ok.ensures.told);
   later_wire = omega (arith, c.loop-done.invariant.later_wire, c.turn.ensures.later_wire);
-  follows = follows_then s.faults s.limit s.names c.args.space.now c.loop-done.space c.turn.new.space c.loop-done.invariant.follows c.turn.ensures.follows;
+  follows = follows_then s c.args.space.now c.loop-done.space c.turn.new.space c.loop-done.invariant.follows c.turn.ensures.follows;
 }
 
 pub returns-in-Shut-clause-told : goal.returns-in-Shut-clause-told
 returns-in-Shut-clause-told g c = let s = g.B.S.Space in let w = g.W.Wire in let ready = c.in-Ok.ensures.ready in
-    run_shut s w g.B.Base.holds g.B.Base.reopens _ _ _ _ _ _ _ _ _ _ _ _ _ _ _
+    run_shut s w g.B.Storage.holds g.B.Storage.reopens _ _ _ _ _ _ _ _ _ _ _ _ _ _ _ (omega arith)
     (fresh g.B.S.Space c.turn.new.space g.met.B.S.Space.only_kept g.met.B.S.Space.clean ready.base_is.sound ready.untouched)
-    c.loop-done.invariant.ready.wired c.loop-done.invariant.told (turn_is s w g.B.Base.holds g.B.Base.reopens _ _ _ _ _ _ _ _ _ _ c.in-Ok.outcome Shut c.in-Shut.is c.in-Ok.ensures.told)
+    c.loop-done.invariant.ready.wired c.loop-done.invariant.told (turn_is s w g.B.Storage.holds g.B.Storage.reopens _ _ _ _ _ _ _ _ _ _ c.in-Ok.outcome Shut c.in-Shut.is c.in-Ok.ensures.told)
 
 pub returns-in-Err-clause-told : goal.returns-in-Err-clause-told
 returns-in-Err-clause-told g c = let s = g.B.S.Space in let w = g.W.Wire in
-    subst (λ end. Ends s w g.B.Base.holds g.B.Base.reopens end c.args.turns c.args.server.now.base c.args.space.now c.turn.new.space c.args.wire.now c.turn.new.wire) (sym c.from.ensures)
-    (run_err s w g.B.Base.holds g.B.Base.reopens _ _ _ _ _ _ _ _ _ _ _ _ _ _ _ c.in-Err.e c.loop-done.invariant.ready.wired c.loop-done.invariant.told c.in-Err.ensures.told)
+    subst (λ end. Ends s w g.B.Storage.holds g.B.Storage.reopens end c.args.turns c.args.server.now.base c.args.space.now c.turn.new.space c.args.wire.now c.turn.new.wire) (sym c.from.ensures)
+    (run_err s w g.B.Storage.holds g.B.Storage.reopens _ _ _ _ _ _ _ _ _ _ _ _ _ _ _ c.in-Err.e (omega arith) c.loop-done.invariant.ready.wired c.loop-done.invariant.told c.in-Err.ensures.told)
 
 pub returns-in-Err-clause-full : goal.returns-in-Err-clause-full
 returns-in-Err-clause-full g c = λ is opens. let s = g.B.S.Space in let w = g.W.Wire in
     let e : c.in-Err.e ≡ turn.Full = full_turn c.in-Err.e (sym c.from.ensures ∙ is) in
-    run_fills s w g.B.Base.holds g.B.Base.reopens (g.B.Base.fills c.turn.new.space) _ _ _ _ _ _ _ _ _ _ opens c.loop-done.invariant.told (c.in-Err.ensures.full (search (rules)))
+    run_fills s w g.B.Storage.holds g.B.Storage.reopens (g.B.Storage.fills c.turn.new.space) _ _ _ _ _ _ _ _ _ _ opens c.loop-done.invariant.told (c.in-Err.ensures.full (search (rules)))
 
 pub returns-in-Err-clause-caused : goal.returns-in-Err-clause-caused
 returns-in-Err-clause-caused g c = let s = g.B.S.Space in let w = g.W.Wire in
@@ -52,7 +52,7 @@ returns-in-Err-clause-ends g c = subst IsEnd (sym c.from.ensures) (is_end_turn c
 
 pub returns-clause-told : goal.returns-clause-told
 returns-clause-told g c = let s = g.B.S.Space in let w = g.W.Wire in let ready = c.loop-done.invariant.ready in
-    let all : c.loop-done.done ≡ c.args.turns = search rules in
-    run_spent s w g.B.Base.holds g.B.Base.reopens _ _ _ _ _ _ _ _ c.loop-done.done c.args.turns all
+    let all : c.loop-done._done ≡ c.args.turns = search rules in
+    run_spent s w g.B.Storage.holds g.B.Storage.reopens _ _ _ _ _ _ _ _ c.loop-done._done c.args.turns all
     (fresh g.B.S.Space c.loop-done.space g.met.B.S.Space.only_kept g.met.B.S.Space.clean ready.base_is.sound ready.untouched)
     c.loop-done.invariant.told

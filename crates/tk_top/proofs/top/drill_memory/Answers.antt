@@ -1,6 +1,6 @@
 use Rattle.std.proofs.Common.{⊎_elim, refl, sym, subst, arith}
 use Rattle.tc_io.specs.Causes.{Rose}
-use Rattle.tc_mem.specs.Engines.{contents_in}
+use Rattle.tc_memdb.specs.Engines.{contents_in}
 use Rattle.ty_answers.specs.Engines.{engine_of}
 use Rattle.tk_top.specs.declared.ends.End.{End}
 use Rattle.tk_top.specs.Top.{DrillsMemory, no_keys}

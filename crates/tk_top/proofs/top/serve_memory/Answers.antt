@@ -1,5 +1,5 @@
 use Rattle.std.proofs.Common.{refl}
-use Rattle.tc_mem.specs.Engines.{contents_in}
+use Rattle.tc_memdb.specs.Engines.{contents_in}
 use Rattle.ty_answers.specs.Engines.{engine_of}
 use Rattle.tk_top.specs.Top.{no_keys}
 use Rattle.tk_top.proofs.Memory.{memory_run, no_volume, serving_caused, serving_is, wire_fault}

@@ -12,7 +12,7 @@ use Rattle.ty_answers.proofs.misc.call.Goals as goal
 pub returns-then-not-has_short_keys-clause-answers : goal.returns-then-not-has_short_keys-clause-answers
 returns-then-not-has_short_keys-clause-answers g c =
     let s = g.E.S.Space in
-    let holds = g.E.Engine.holds in
+    let holds = g.E.Storage.holds in
     let name = c.args.name.now in
     let args = c.args.args.now in
     let options = c.args.options in
@@ -27,7 +27,7 @@ returns-then-not-has_short_keys-clause-answers g c =
 pub returns-clause-answers : goal.returns-clause-answers
 returns-clause-answers g c =
     let s = g.E.S.Space in
-    let holds = g.E.Engine.holds in
+    let holds = g.E.Storage.holds in
     let name = c.args.name.now in
     let args = c.args.args.now in
     let options = c.args.options in
@@ -43,7 +43,7 @@ returns-clause-answers g c =
 pub returns-clause-full : goal.returns-clause-full
 returns-clause-full g c =
     let s = g.E.S.Space in
-    let holds = g.E.Engine.holds in
+    let holds = g.E.Storage.holds in
     let name = c.args.name.now in
     let args = c.args.args.now in
     let options = c.args.options in
@@ -51,7 +51,7 @@ returns-clause-full g c =
     let kept = ap (λ u. options % 2 == 1 && u) (sym c.requires.updating) ∙ (sym c.is_omitted.ensures ∙ c.if-is_omitted.false) in
     let read = ap (λ n. misc_of n args c.kind.result) (sym c.as_slice.ensures) ∙ (sym c.in_ok-misc.ensures ∙ c.in-Some.is) in
     let short = sym c.has_short_keys.ensures ∙ c.if-not-has_short_keys.false in
-    λ is. shown_full s holds g.E.Engine.fills (called name options args) (meant misc) c.args.engine.now c.args.space.now c.perform.new.space
+    λ is. shown_full s holds g.E.Storage.fills (called name options args) (meant misc) c.args.engine.now c.args.space.now c.perform.new.space
     (λ m h. called_is name options args misc m kept (ap (misc_of name args) (sym (c.kind.ensures _ m h.1)) ∙ read) short)
     (c.perform.ensures.full is)
 

@@ -6,7 +6,7 @@ use Rattle.tc_engine.specs.Changes.{stored}
 use Rattle.ty_answers.specs.Answers.{changed_by}
 use Rattle.ty_answers.specs.Requests.{added}
 use Rattle.ty_answers.proofs.Making.{after_reads, closed, kept_front, made}
-use Rattle.tc_model.specs.Bodies.{is_narrow}
+use Rattle.tc_model.specs.Contents.{is_narrow}
 use Rattle.ty_answers.proofs.Sums.{not_narrow, shows_sum}
 use Rattle.ty_answers.proofs.numbers.add.Goals as goal
 
@@ -19,7 +19,7 @@ returns-clause-front g c = kept_front c.args.reply.now _ c.write_reply.new.into 
 pub returns-clause-answers : goal.returns-clause-answers
 returns-clause-answers g c =
     let s = g.E.S.Space in
-    let holds = g.E.Engine.holds in
+    let holds = g.E.Storage.holds in
     let sum = c.in-Some.sum in
     let done = c.in_ok-done.done in
     let said = c.write_reply.new.into in

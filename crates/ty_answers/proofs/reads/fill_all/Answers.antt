@@ -8,7 +8,7 @@ use Rattle.ty_answers.proofs.reads.fill_all.Goals as goal
 
 pub loop-key-preserved-in_ok-pairs : goal.loop-key-preserved-in_ok-pairs
 loop-key-preserved-in_ok-pairs g c = record {
-  reads = reads_then g.E.S.Space (Held g.E.S.Space g.E.Engine.holds) _ _ _ _ _ _ c.loop-key.invariant.reads c.pairs.ensures.reads;
+  reads = reads_then g.E.S.Space (Held g.E.S.Space g.E.Storage.holds) _ _ _ _ _ _ c.loop-key.invariant.reads c.pairs.ensures.reads;
   keeps = keeps_then g.E.S.Space _ _ _ c.loop-key.invariant.keeps c.pairs.ensures.keeps;
   front = extends_then c.args.into.now c.loop-key.into c.pairs.new.into c.loop-key.invariant.front c.pairs.ensures.front;
   rows = λ k h. texts_more (all_pairs k) c.args.into.now c.loop-key.into c.pairs.new.into c.loop-key.yielded c.in-Some.key (c.loop-key.invariant.rows k h)
@@ -17,7 +17,7 @@ loop-key-preserved-in_ok-pairs g c = record {
 
 pub loop-key-preserved : goal.loop-key-preserved
 loop-key-preserved g c = record {
-  reads = reads_then g.E.S.Space (Held g.E.S.Space g.E.Engine.holds) _ _ _ _ _ _ c.loop-key.invariant.reads c.pairs.ensures.reads;
+  reads = reads_then g.E.S.Space (Held g.E.S.Space g.E.Storage.holds) _ _ _ _ _ _ c.loop-key.invariant.reads c.pairs.ensures.reads;
   keeps = keeps_then g.E.S.Space _ _ _ c.loop-key.invariant.keeps c.pairs.ensures.keeps;
   front = extends_then c.args.into.now c.loop-key.into c.pairs.new.into c.loop-key.invariant.front c.pairs.ensures.front;
   rows = λ k h. texts_more (all_pairs k) c.args.into.now c.loop-key.into c.pairs.new.into c.loop-key.yielded c.in-Some.key (c.loop-key.invariant.rows k h)

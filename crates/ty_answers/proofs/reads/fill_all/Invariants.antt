@@ -9,7 +9,7 @@ use Rattle.ty_answers.proofs.reads.fill_all.Given as goal
 
 abbrev pub invariant-loop-key : goal.invariant-loop-key
 invariant-loop-key g l =
-    let held = Held g.E.S.Space g.E.Engine.holds in
+    let held = Held g.E.S.Space g.E.Storage.holds in
     record {
       reads : Reads g.E.S.Space held l.initial.engine l.engine l.initial.space l.space;
       keeps : Keeps g.E.S.Space l.initial.space l.space;

@@ -8,7 +8,7 @@ use Rattle.ty_answers.proofs.reads.fill_pairs.Given as goal
 
 abbrev pub invariant-loop-key : goal.invariant-loop-key
 invariant-loop-key g l =
-    let held = Held g.E.S.Space g.E.Engine.holds in
+    let held = Held g.E.S.Space g.E.Storage.holds in
     record {
       reads : Reads g.E.S.Space held l.fn.engine l.engine l.fn.space l.space;
       keeps : Keeps g.E.S.Space l.fn.space l.space;

@@ -1,12 +1,13 @@
 use Rattle.std.proofs.Common.{sym, ap, ◌∙◌, subst}
 use Rattle.std.specs.Prelude.{[], ◌++◌}
 use Rattle.std.proofs.lemmas.List.{append-nil}
+use Rattle.std.proofs.lemmas.Result.{IfOk-weaker}
 use Rattle.tc_base.specs.declared.request.Reply.{Reply}
 use Rattle.ty_wire.specs.Spelling.{reply_bytes}
 use Rattle.tc_model.specs.Apply.{Step}
 use Rattle.tc_model.proofs.Updating.{apply_same}
-use Rattle.ty_base.specs.Holding.{Serves, leaves_nothing}
-use Rattle.ty_core.proofs.Fronts.{refused_applies}
+use Rattle.ty_base.specs.Holding.{leaves_nothing}
+use Rattle.ty_core.proofs.Fronts.{refused_applies, served_alike}
 use Rattle.ty_core.proofs.serving.answer.Goals as goal
 
 pub returns-then-if_updating-clause-applied : goal.returns-then-if_updating-clause-applied
@@ -19,14 +20,13 @@ returns-then-if_updating-clause-applied g c = λ d h. record {
 pub returns-then-if_updating-clause-leaves : goal.returns-then-if_updating-clause-leaves
 returns-then-if_updating-clause-leaves g c = leaves_nothing g.B.S.Space _ c.args.space.now c.requires.ready.sound
 
-pub returns-in-Ok-clause-applied : goal.returns-in-Ok-clause-applied
-returns-in-Ok-clause-applied g c = λ d h.
-    subst (λ (s : Step). Serves g.B.S.Space g.B.Base.holds s c.args.request c.in-Ok.applied c.apply.new.self c.apply.new.space c.apply.new.walk c.args.reply.now c.apply.new.reply) (sym (apply_same c.args.replica c.args.request d c.args.walk.now (sym c.if_updating.ensures ∙ c.if-if_updating.false))) (c.in-Ok.ensures.applied d h)
+pub returns-clause-applied : goal.returns-clause-applied
+returns-clause-applied g c = IfOk-weaker c.apply.result _ _ (λ a served. served_alike g.B.S.Space g.B.Storage.holds c.args.replica c.args.request a c.args.base.now c.apply.new.self c.args.space.now c.apply.new.space c.args.walk.now c.apply.new.walk c.args.reply.now c.apply.new.reply (sym c.if_updating.ensures ∙ c.if-if_updating.false) served) c.apply.ensures.applied
 
-pub returns-in-Err-clause-full : goal.returns-in-Err-clause-full
-returns-in-Err-clause-full g c = λ is. let full = c.in-Err.ensures.full is in record {
+pub returns-clause-full : goal.returns-clause-full
+returns-clause-full g c = λ is. let full = c.apply.ensures.full is in record {
   writes = full.writes;
-  by = λ d h. subst (λ (s : Step). g.B.Base.fills c.apply.new.space d s.contents) (sym (apply_same c.args.replica c.args.request d c.args.walk.now (sym c.if_updating.ensures ∙ c.if-if_updating.false))) (full.by d h);
+  by = λ d h. subst (λ (s : Step). g.B.Storage.fills c.apply.new.space d s.contents) (sym (apply_same c.args.replica c.args.request d c.args.walk.now (sym c.if_updating.ensures ∙ c.if-if_updating.false))) (full.by d h);
 }
 
 pub returns-in_err-write_reply-clause-reply_front : goal.returns-in_err-write_reply-clause-reply_front

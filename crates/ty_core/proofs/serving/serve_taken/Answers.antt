@@ -10,17 +10,17 @@ returns-clause-served g c = λ logs unread rest k. record {
   request = c.args.taken.request;
   takes = taken_off c.args.taken logs unread rest _ k c.asked_feed-feeds.ensures;
   few = search rules;
-  serves = λ d h. let x = c.in-Ok.ensures.applied d h in (
+  serves = λ d h. let x = c.in_ok-applied.ensures.applied d h in (
     x.contents,
     x.holds,
-    serves c.args.replica logs c.args.taken.request c.in-Ok.applied _ _ d x.contents _ _ _ _ (spelling c.args.taken.request) refl c.is_packing-packs.ensures
-        (c.kept-update.ensures ∙ ap (λ (o : Option (List ℕ)). if c.in-Ok.applied.updated then o else None) k.copied) refl x.applies,
+    serves c.args.replica logs c.args.taken.request c.in_ok-applied.applied _ _ d x.contents _ _ _ _ (spelling c.args.taken.request) refl c.is_packing-packs.ensures
+        (c.kept-update.ensures ∙ ap (λ (o : Option (List ℕ)). if c.in_ok-applied.applied.updated then o else None) k.copied) refl x.applies,
   );
 }
 
-pub returns-in-Err-clause-full : goal.returns-in-Err-clause-full
-returns-in-Err-clause-full g c = λ is logs unread rest k. record {
+pub returns-in_err-applied-clause-full : goal.returns-in_err-applied-clause-full
+returns-in_err-applied-clause-full g c = λ is logs unread rest k. record {
   request = c.args.taken.request;
   begins = record { rest = rest; front = whole unread c.args.taken.request rest k.fits k.spelled };
-  full = c.in-Err.ensures.full (search rules);
+  full = c.in_err-applied.ensures.full (search (rules, is));
 }

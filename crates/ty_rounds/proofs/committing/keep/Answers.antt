@@ -4,7 +4,7 @@ use Rattle.ty_rounds.proofs.Keeping.{nothing_kept, is_kept, kept_packed, none_mo
 use Rattle.ty_rounds.proofs.committing.keep.Goals as goal
 
 pub returns-then-not-commits-clause-kept : goal.returns-then-not-commits-clause-kept
-returns-then-not-commits-clause-kept g c = nothing_kept g.B.S.Space g.B.Base.holds g.B.Base.reopens _ _ _ c.requires.may.ready (c.requires.may.untouched (search rules)) (search rules)
+returns-then-not-commits-clause-kept g c = nothing_kept g.B.S.Space g.B.Storage.holds g.B.Storage.reopens _ _ _ c.requires.may.ready (c.requires.may.untouched (search rules)) (search rules)
 
 pub returns-then-not-commits-clause-moments : goal.returns-then-not-commits-clause-moments
 returns-then-not-commits-clause-moments g c = λ m h. none_moved g.B.S.Space _ _ m
@@ -19,10 +19,10 @@ pub returns-in_err-settle-clause-full : goal.returns-in_err-settle-clause-full
 returns-in_err-settle-clause-full g c = λ is. (search rules, c.in_err-settle.ensures.full (search rules))
 
 pub returns-in-Ok-clause-kept : goal.returns-in-Ok-clause-kept
-returns-in-Ok-clause-kept g c = is_kept g.B.S.Space g.B.Base.holds g.B.Base.reopens _ _ _ _ c.settle.new.space _ c.requires.may.ready c.in_ok-settle.ensures.settled c.in_ok-settle.ensures.log c.in-Ok.ensures.now (search rules) (search rules)
+returns-in-Ok-clause-kept g c = is_kept g.B.S.Space g.B.Storage.holds g.B.Storage.reopens _ _ _ _ c.settle.new.space _ c.requires.may.ready c.in_ok-settle.ensures.settled c.in_ok-settle.ensures.log c.in-Ok.ensures.now (search rules) (search rules)
 
 pub returns-in-Ok-clause-packs : goal.returns-in-Ok-clause-packs
-returns-in-Ok-clause-packs g c = λ is form d tight h. kept_packed g.B.S.Space (g.B.Base.packed form) c.settle.new.space _ (c.in-Ok.ensures.now h.0) (c.in_ok-settle.ensures.packs form d tight h)
+returns-in-Ok-clause-packs g c = λ is form d tight h. kept_packed g.B.S.Space (g.B.Storage.packed form) c.settle.new.space _ (c.in-Ok.ensures.now h.0) (c.in_ok-settle.ensures.packs form d tight h)
 
 pub returns-in-Ok-clause-moments : goal.returns-in-Ok-clause-moments
 returns-in-Ok-clause-moments g c = λ m h. committed_moves g.B.S.Space _ _ _ _ _ c.settle.new.space _ m c.settle.ensures.keeps c.in_ok-settle.ensures.settled c.in_ok-settle.ensures.log c.commit.ensures.moments h

@@ -22,17 +22,17 @@ loop-i-init g c = record {
 
 pub loop-i-preserved : goal.loop-i-preserved
 loop-i-preserved g c = let s = g.B.S.Space in
-    let is : c.if-commits.commits ≡ (c.loop-i.commits || c.in-Ok.one) = search rules in
-    let one = c.in-Ok.ensures.served in
+    let is : c.if-commits.commits ≡ (c.loop-i.commits || c.in_ok-one.one) = search rules in
+    let one = c.in_ok-one.ensures.served in
     let i = c.loop-i.invariant in
     record {
       numbers = numbers_kept _ _ c.index_mut-p.result.now _ (search rules) (search rules) one.conn ∙ i.numbers;
       unread = λ h. let few = i.unread h in each_set FewUnread _ _ _ (one.unread (each_at FewUnread _ c.loop-i.i c.index_mut-p.result.now (search rules) (search rules) few)) few;
       waiting = λ h. let few = i.waiting h in each_set FewWaiting _ _ _ (one.waiting (each_at FewWaiting _ c.loop-i.i c.index_mut-p.result.now (search rules) (search rules) few)) few;
       calm = span_inside c.args.span _ c.loop-i.i _ (search rules) (search rules) (search rules) one.calm i.calm;
-      round = λ d h ks a. more_is _ c.loop-i.commits c.in-Ok.one d _ _ _ _ _ _ _ ks _ c.index_mut-p.result.now c.serve_one.new.p is (i.round d h ks a) (search rules) (search rules) one.each;
+      round = λ d h ks a. more_is _ c.loop-i.commits c.in_ok-one.one d _ _ _ _ _ _ _ ks _ c.index_mut-p.result.now c.serve_one.new.p is (i.round d h ks a) (search rules) (search rules) one.each;
       ready = one.ready;
-      leaves = leaves_then s _ c.loop-i.commits c.in-Ok.one _ c.loop-i.space _ is i.leaves one.leaves;
+      leaves = leaves_then s _ c.loop-i.commits c.in_ok-one.one _ c.loop-i.space _ is i.leaves one.leaves;
       keeps = keeps_then s c.args.space.now c.loop-i.space c.serve_one.new.space i.keeps c.serve_one.ensures.keeps;
     }
 
@@ -47,9 +47,9 @@ returns-clause-rounds g c = let i = c.loop-i.invariant in record {
   leaves = i.leaves;
 }
 
-pub returns-in-Err-clause-full : goal.returns-in-Err-clause-full
-returns-in-Err-clause-full g c = λ is d h ks a.
-    fills_at (g.B.Base.fills c.serve_one.new.space) _ d _ _ c.loop-i.walk _ _ ks _ c.index_mut-p.result.now (c.loop-i.invariant.round d h ks a) (search rules) (search rules) (c.in-Err.ensures.full (search rules))
+pub returns-in_err-one-clause-full : goal.returns-in_err-one-clause-full
+returns-in_err-one-clause-full g c = λ is d h ks a.
+    fills_at (g.B.Storage.fills c.serve_one.new.space) _ d _ _ c.loop-i.walk _ _ ks _ c.index_mut-p.result.now (c.loop-i.invariant.round d h ks a) (search rules) (search rules) (c.in_err-one.ensures.full (search (rules, is)))
 
 pub serve_one-requires-clause-calm : goal.serve_one-requires-clause-calm
 serve_one-requires-clause-calm g c = each_at IsCalm _ c.loop-i.i c.index_mut-p.result.now (search rules) (search rules) c.loop-i.invariant.calm.calm

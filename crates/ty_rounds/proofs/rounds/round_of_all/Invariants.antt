@@ -11,7 +11,7 @@ use Rattle.ty_rounds.specs.Spans.{IsSpan}
 use Rattle.ty_rounds.proofs.rounds.round_of_all.Given as goal
 
 abbrev pub invariant-loop-i : goal.invariant-loop-i
-invariant-loop-i g l = let s = g.B.S.Space in let holds = g.B.Base.holds in record {
+invariant-loop-i g l = let s = g.B.S.Space in let holds = g.B.Storage.holds in record {
   numbers : numbers l.peers.items ≡ numbers l.fn.peers.items;
   unread : Each FewUnread l.fn.peers.items → Each FewUnread l.peers.items;
   waiting : Each FewWaiting l.fn.peers.items → Each FewWaiting l.peers.items;

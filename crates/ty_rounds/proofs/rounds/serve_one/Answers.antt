@@ -51,19 +51,19 @@ returns-then-not-has_whole-clause-served g c = record {
 }
 
 pub returns-clause-served : goal.returns-clause-served
-returns-clause-served g c = let s = c.in-Ok.ensures.served in let o = c.in_ok-owe_repl.ensures.owes s.request s.takes.feeds in record {
+returns-clause-served g c = let s = c.in_ok-served.ensures.served in let o = c.in_ok-owe_repl.ensures.owes s.request s.takes.feeds in record {
   conn = o.conn;
-  unread = fewer_unread c.args.p.now c.owe_repl.new.p c.serve.new.self s.request c.in-Ok.served s.takes o;
-  waiting = few_waiting c.args.p.now c.owe_repl.new.p c.serve.new.self s.request c.in-Ok.served s.takes.feeds s.few (search rules) o;
+  unread = fewer_unread c.args.p.now c.owe_repl.new.p c.serve.new.self s.request c.in_ok-served.served s.takes o;
+  waiting = few_waiting c.args.p.now c.owe_repl.new.p c.serve.new.self s.request c.in_ok-served.served s.takes.feeds s.few (search rules) o;
   calm = calm_stirs c.owe_repl.new.p (o.stirs ∙ search rules);
-  each = λ d h. let x = s.serves d h in one_served _ d x.0 _ _ c.args.p.now c.owe_repl.new.p c.serve.new.self s.request c.in-Ok.served (search rules) (search rules) s.takes x.2 o x.1;
-  ready = still_ready g.B.S.Space g.B.Base.holds false c.in-Ok.served _ _ _ _ _ _ _ _ _ _ _ c.requires.ready s c.in-Ok.ensures.leaves;
-  leaves = c.in-Ok.ensures.leaves;
+  each = λ d h. let x = s.serves d h in one_served _ d x.0 _ _ c.args.p.now c.owe_repl.new.p c.serve.new.self s.request c.in_ok-served.served (search rules) (search rules) s.takes x.2 o x.1;
+  ready = still_ready g.B.S.Space g.B.Storage.holds false c.in_ok-served.served _ _ _ _ _ _ _ _ _ _ _ c.requires.ready s c.in_ok-served.ensures.leaves;
+  leaves = c.in_ok-served.ensures.leaves;
 }
 
-pub returns-in-Err-clause-full : goal.returns-in-Err-clause-full
-returns-in-Err-clause-full g c = λ is d h k held.
-    let x = c.in-Err.ensures.full (search rules) in (
+pub returns-in_err-served-clause-full : goal.returns-in_err-served-clause-full
+returns-in_err-served-clause-full g c = λ is d h k held.
+    let x = c.in_err-served.ensures.full (search (rules, is)) in (
       record { request = x.request; begins = subst (λ (bytes : List ℕ). Begins x.request bytes) (sym held.unread) x.begins; writes = x.full.writes },
-      subst (λ (e : Contents). g.B.Base.fills c.serve.new.space d e) (sym (one_contents d c.args.walk.now c.args.p.now k x.request x.begins.rest (search rules) (search rules) x.begins.front held)) (x.full.by d h),
+      subst (λ (e : Contents). g.B.Storage.fills c.serve.new.space d e) (sym (one_contents d c.args.walk.now c.args.p.now k x.request x.begins.rest (search rules) (search rules) x.begins.front held)) (x.full.by d h),
     )

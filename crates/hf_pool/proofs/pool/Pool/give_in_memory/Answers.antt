@@ -4,8 +4,8 @@ use Rattle.hf_pool.specs.Pools.{frees}
 use Rattle.hf_pool.proofs.Aligned.{multiples_insert, front_aligned, back_aligned, within_insert, front_inside, back_inside}
 use Rattle.hf_pool.proofs.pool.Pool.give_in_memory.Goals as goal
 
-pub invariant_of-self-clause-multiples : goal.invariant_of-self-clause-multiples
-invariant_of-self-clause-multiples c =
+pub invariant_of-self-2-clause-multiples : goal.invariant_of-self-2-clause-multiples
+invariant_of-self-2-clause-multiples c =
     let unit : ℕ = c.args.self.now.unit in
     let mid = c.join_front-start.new.self in
     let last = c.join_back-total.new.self in
@@ -14,8 +14,8 @@ invariant_of-self-clause-multiples c =
     let back = back_aligned unit (frees mid) (frees last) _ c.join_front-start.result.1 c.join_back-total.result (subst (λ (n : ℕ). AreMultiples n (frees mid)) c.join_front-start.ensures.unit mid.multiples) front.1 c.join_back-total.ensures.joined in
     multiples_insert c.insert.result last.unit (frees last) _ c.join_front-start.result.0 c.join_back-total.result last.multiples (subst (λ (n : ℕ). c.join_front-start.result.0 % n ≡ 0) (sym same) front.0) (subst (λ (n : ℕ). c.join_back-total.result % n ≡ 0) (sym same) back) c.insert.ensures.ok c.insert.ensures.err
 
-pub invariant_of-self-clause-within : goal.invariant_of-self-clause-within
-invariant_of-self-clause-within c =
+pub invariant_of-self-2-clause-within : goal.invariant_of-self-2-clause-within
+invariant_of-self-2-clause-within c =
     let end : ℕ = c.args.self.now.size in
     let mid = c.join_front-start.new.self in
     let last = c.join_back-total.new.self in

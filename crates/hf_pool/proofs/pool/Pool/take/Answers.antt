@@ -18,15 +18,15 @@ returns-in_default-clause-file g c = record {
   lends = λ t. lends_behind c.args.self.now.unit c.args.self.now.size (frees c.args.self.now) _ c.args.size (g.S.Space.now c.args.space.now c.args.file) c.in_default.ensures.none (λ q. refl);
 }
 
-pub returns-in_default-mark-clause-file : goal.returns-in_default-mark-clause-file
-returns-in_default-mark-clause-file g c = record {
+pub returns-in_ok-mark-clause-file : goal.returns-in_ok-mark-clause-file
+returns-in_ok-mark-clause-file g c = record {
   aligned = (c.args.self.now.multiples c.in-Some.place c.in-Some.found c.in-Some.ensures.some.there).0;
-  others = record { same = λ t h other. (c.in_default-mark.ensures.marked t).others h other };
+  others = record { same = λ t h other. (c.in_ok-mark.ensures.marked t).others h other };
   bytes = search rules;
   lends = λ t.
       let bytes : List ℕ = g.S.Space.now c.args.space.now c.args.file in
       let after : List ℕ = g.S.Space.now c.mark.new.space c.args.file in
-      lends_block c.args.self.now.unit c.args.self.now.size (frees c.args.self.now) (frees c.part_in_memory.new.self) c.args.size c.in-Some.place c.in-Some.found bytes after c.in-Some.ensures.some c.requires.may.some c.requires.may.aligned c.in-Ok.ensures.ok.left ((c.in_default-mark.ensures.marked t).here ∙ sym (parted_front c.in-Some.place c.args.size c.in-Some.found bytes c.if-found-size.true));
+      lends_block c.args.self.now.unit c.args.self.now.size (frees c.args.self.now) (frees c.part_in_memory.new.self) c.args.size c.in-Some.place c.in-Some.found bytes after c.in-Some.ensures.some c.requires.may.some c.requires.may.aligned c.in-Ok.ensures.ok.left ((c.in_ok-mark.ensures.marked t).here ∙ sym (parted_front c.in-Some.place c.args.size c.in-Some.found bytes c.if-found-size.true));
 }
 
 pub returns-else-found-size-clause-file : goal.returns-else-found-size-clause-file

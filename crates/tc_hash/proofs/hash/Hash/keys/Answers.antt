@@ -1,22 +1,14 @@
-use Rattle.std.proofs.Common.{ℕ, List}
-use Rattle.hf_head.specs.Heads.{unit}
-use Rattle.hf_pool.specs.Pools.{frees}
-use Rattle.hf_tree.specs.Links.{links_of}
-use Rattle.tc_hash.proofs.Keyed.{single}
-use Rattle.tc_hash.proofs.KeysRead.{blocks_now}
-use Rattle.tc_hash.proofs.Ordered.{sorted_keys}
+use Rattle.std.proofs.Common.{arith}
+use Rattle.tc_hash.proofs.KeysRead.{can_list, listed_keys}
+use Rattle.tc_hash.proofs.Records.{looks_again}
+use Rattle.tc_hash.proofs.Stored.{both_if_ok}
 use Rattle.tc_hash.proofs.hash.Hash.keys.Goals as goal
 
-pub list_keys-requires-clause-filled : goal.list_keys-requires-clause-filled
-list_keys-requires-clause-filled g c = λ t.
-    let self = c.args.self.now in
-    let w = c.requires.held t in
-    (w.1.1.has.pieces, blocks_now self.head c.head_now-head.result self.pool.size self.records self.region (frees self.pool) w.0 (g.S.Space.now c.args.space.now self.file) c.head_now-head.ensures w.1.1.has)
+pub list_keys-requires : goal.list_keys-requires
+list_keys-requires g c = can_list g.S.Space c.args.self.now c.head_now-head.result c.args.space.now c.head_now-head.ensures (omega arith) (omega arith) c.requires
 
-pub returns-in-Ok-clause-value : goal.returns-in-Ok-clause-value
-returns-in-Ok-clause-value g c = λ m w.
-    let self = c.args.self.now in
-    let has = w.1.has in
-    let bytes : List ℕ = g.S.Space.now c.args.space.now self.file in
-    sorted_keys (unit self.head) self.head.first has.pieces m c.in-Ok.keys has.is.laid.filled.whole (single (links_of self.head has.pieces bytes) self.head.first has.pieces self.head.buckets has.places has.is.hang) has.is.map
-    (c.in-Ok.ensures.keys w.0 has.pieces (blocks_now self.head c.head_now-head.result self.pool.size self.records self.region (frees self.pool) m bytes c.head_now-head.ensures has)) c.in-Ok.ensures.order
+pub returns-clause-value : goal.returns-clause-value
+returns-clause-value g c = both_if_ok _ (λ ks are order. listed_keys g.S.Space c.args.self.now c.head_now-head.result c.args.space.now c.head_now-head.ensures ks are order) c.list_keys.ensures.keys c.list_keys.ensures.order
+
+pub returns-clause-reads : goal.returns-clause-reads
+returns-clause-reads g c = looks_again g.S.Space c.args.self.now c.args.space.now c.list_keys.new.space c.list_keys.ensures.reads

@@ -1,36 +1,56 @@
-use Rattle.std.proofs.Common.{◌∙◌, inl, inr, ⊎_elim, ℕ, subst, sym, arith, ◌<◌}
-use Rattle.tc_hash.proofs.Cleared.{some_zeros}
+use Rattle.std.proofs.Common.{◌∙◌, ◌<◌, inl, inr, ⊎_elim, ℕ, sym, ap, subst, arith}
+use Rattle.hf_head.specs.declared.head.Head.{Head}
+use Rattle.hf_pool.specs.Pools.{frees}
+use Rattle.hf_pool.specs.declared.pool.Pool.{Pool}
+use Rattle.hf_record.proofs.Valid.{is_data}
+use Rattle.tc_hash.proofs.Cleared.{emptied, some_zeros}
+use Rattle.tc_hash.proofs.Created.{new_bytes}
 use Rattle.tc_hash.proofs.Enlarged.{large_fields, large_holds}
-use Rattle.tc_hash.proofs.Valid.{is_data}
+use Rattle.tc_hash.specs.Packing.{IsLargeOf}
+use Rattle.tc_reach.proofs.Handed.{err_handed}
 use Rattle.tc_hash.proofs.hash.Hash.make_large.Goals as goal
 
 pub new_pool-requires-clause-valid : goal.new_pool-requires-clause-valid
-new_pool-requires-clause-valid g c = large_fields c.args.self.now.head c.large_head-head.result c.args.self.now.valid c.large_head-head.ensures.new (omega (arith, c.if-head.false))
+new_pool-requires-clause-valid g c = large_fields c.args.self.now.body.head c.large_head-head.result c.args.self.now.body.valid c.large_head-head.ensures.new (omega (arith, c.if-head-gt-FILE_MOST.false))
 
 pub write_anew-requires-clause-always : goal.write_anew-requires-clause-always
-write_anew-requires-clause-always g c = (c.requires.sound, is_data c.args.self.now.file c.args.self.now.data)
+write_anew-requires-clause-always g c = (c.requires.sound, is_data c.args.self.now.body.file c.args.self.now.body.data)
 
 pub write_anew-requires-clause-zeros : goal.write_anew-requires-clause-zeros
 write_anew-requires-clause-zeros g c = some_zeros c.deref.result.now 65536 (omega arith) (c.deref.ensures.value ∙ c.in_ok-zeros.ensures.items_if_clones_equal (λ y e. e))
 
-pub invariant_of-self : goal.invariant_of-self
-invariant_of-self g c = record { «data» = c.args.self.now.data; valid = large_fields c.args.self.now.head c.large_head-head.result c.args.self.now.valid c.large_head-head.ensures.new (omega (arith, c.if-head.false)); unit_is = c.in_ok-pool.ensures.unit }
+pub empty-requires-clause-head : goal.empty-requires-clause-head
+empty-requires-clause-head g c = large_fields c.args.self.now.body.head c.large_head-head.result c.args.self.now.body.valid c.large_head-head.ensures.new (omega (arith, c.if-head-gt-FILE_MOST.false))
 
-pub returns-in-Ok-clause-made : goal.returns-in-Ok-clause-made
-returns-in-Ok-clause-made g c =
+pub returns-clause-made : goal.returns-clause-made
+returns-clause-made g c =
     let self = c.args.self.now in
+    let e = c.empty.ensures in
+    let done = c.in_ok-write_anew.ensures in
+    emptied g.S.Space self c.empty.new.self c.large_head-head.result c.in_ok-pool.pool (new_bytes c.large_head-head.result) c.args.space.now c.write_anew.new.space e.body.0 e.body.1 e.body.2 e.numbers.0 e.numbers.1 c.in_ok-pool.ensures.noted done.outcome.ok done.wrote
+    (λ t. large_holds self.body.head c.large_head-head.result c.in_ok-pool.pool (g.S.Space.now c.write_anew.new.space self.body.file) self.body.valid c.large_head-head.ensures.new (omega (arith, c.if-head-gt-FILE_MOST.false)) c.in_ok-pool.ensures.unit c.in_ok-pool.ensures.size c.in_ok-pool.ensures.none c.in_ok-pool.ensures.laid done.spells.0 done.spells.1 (done.wrote t).here)
+
+pub returns-clause-nothing : goal.returns-clause-nothing
+returns-clause-nothing g c = λ q. ap (λ (p : Pool). frees p q) c.empty.ensures.body.2 ∙ c.in_ok-pool.ensures.none q
+
+pub returns-clause-new : goal.returns-clause-new
+returns-clause-new g c = subst (λ (h : Head). IsLargeOf c.args.self.now h) (sym c.empty.ensures.body.1) c.large_head-head.ensures.new
+
+pub returns-clause-stays : goal.returns-clause-stays
+returns-clause-stays g c =
+    let e = c.empty.ensures in
+    let is = c.large_head-head.ensures.new in
     record {
-      sound = c.in-Ok.ensures.outcome.ok;
-      means = λ m w. (
-        w.0,
-        large_holds self.head c.large_head-head.result c.in_ok-pool.pool (g.S.Space.now c.write_anew.new.space self.file) self.valid c.large_head-head.ensures.new (omega (arith, c.if-head.false)) c.in_ok-pool.ensures.unit c.in_ok-pool.ensures.size c.in_ok-pool.ensures.none c.in_ok-pool.ensures.laid c.in-Ok.ensures.spells.0 c.in-Ok.ensures.spells.1 (c.in-Ok.ensures.wrote w.0).here,
-      );
-      others = record { same = λ t f other. (c.in-Ok.ensures.wrote t).others f other };
+      map = record { file = e.body.0; region_same = e.stays.0; gets_same = e.stays.1 };
+      kind = ap (λ (h : Head). h.kind) e.body.1 ∙ is.kind_is;
+      apow = ap (λ (h : Head). h.apow) e.body.1 ∙ is.apow_is;
+      fpow = ap (λ (h : Head). h.fpow) e.body.1 ∙ is.fpow_is;
+      buckets = ap (λ (h : Head). h.buckets) e.body.1 ∙ is.buckets_is;
     }
 
-pub returns-clause-full : goal.returns-clause-full
-returns-clause-full g c = λ full t. record {
+pub returns-in_err-write_anew-clause-full : goal.returns-in_err-write_anew-clause-full
+returns-in_err-write_anew-clause-full g c = λ full t. record {
   head = c.large_head-head.result;
   is_new = c.large_head-head.ensures.new;
-  lacks = ⊎_elim (λ past. inl (subst (λ (l : ℕ → ℕ). l c.args.self.now.file < c.large_head-head.result.first) (sym c.write_anew.ensures.keeps.same_limit) past)) (λ log. inr (inr log)) (c.in-Err.ensures.full full t);
+  lacks = ⊎_elim (λ past. inl (subst (λ (l : ℕ → ℕ). l c.args.self.now.body.file < c.large_head-head.result.first) (sym c.write_anew.ensures.keeps.same_limit) past)) (λ log. inr (inr log)) (c.in_err-write_anew.ensures.full (err_handed c.from_residual-in_err-write_anew.result c.in_err-write_anew.field-0.0 _ c.from_residual-in_err-write_anew.ensures.1 full) t);
 }

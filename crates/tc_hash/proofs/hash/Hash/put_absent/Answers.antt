@@ -1,41 +1,17 @@
-use Rattle.hf_pool.specs.Pools.{frees}
-use Rattle.std.proofs.Common.{None}
-use Rattle.tc_hash.proofs.Records.{count_in, may_change, no_value}
-use Rattle.tc_hash.proofs.Stored.{room_at}
-use Rattle.tc_hash.proofs.Valid.{is_valid}
+use Rattle.std.proofs.Common.{inl, arith}
+use Rattle.tc_hash.proofs.Answered.{lacks_new, past_new, stores_new}
+use Rattle.tc_hash.proofs.Stored.{lacks_room}
+use Rattle.tc_reach.proofs.Handed.{err_handed, on_err_any}
 use Rattle.tc_hash.proofs.hash.Hash.put_absent.Goals as goal
 
-pub put_new-requires-clause-may : goal.put_new-requires-clause-may
-put_new-requires-clause-may g c = may_change g.S.Space c.args.self.now c.args.space.now c.requires.ready
+pub returns-then-value-most-clause-put : goal.returns-then-value-most-clause-put
+returns-then-value-most-clause-put g c = λ mode. past_new g.S.Space mode c.args.key.now c.args.value.now c.args.most c.args.self.now c.args.self.now c.args.space.now c.args.space.now c.args.to.now c.requires.gap c.requires.ready.sound (omega (arith, c.if-value-most.true))
 
-pub returns-in-Ok-clause-put : goal.returns-in-Ok-clause-put
-returns-in-Ok-clause-put g c =
-    let self = c.args.self.now in
-    let put = c.in-Ok.ensures.put.1 in
-    record {
-      writes = record {
-        sound = put.sound;
-        means = λ m w. (
-          w.0,
-          record {
-            has = (put.map w.0 m w.1.has).has;
-            count = count_in self.head self.pool.size (frees self.pool) m (g.S.Space.now c.args.space.now self.file) c.args.key.now (is_valid self.head self.valid) w.1.has c.args.to.now c.args.value.now self.records (c.requires.gap w.0) w.1.count;
-          },
-        );
-        others = put.edits.others;
-      };
-      edits = λ m w. put.edits;
-      placed = λ m w. record {
-        was = None;
-        stood = no_value self.head self.pool.size (frees self.pool) m (g.S.Space.now c.args.space.now self.file) c.args.key.now (is_valid self.head self.valid) w.1.has c.args.to.now (c.requires.gap w.0);
-        place = c.in-Ok.ensures.put.0;
-        allocates = c.in-Ok.ensures.put.2;
-        stands = put.map w.0 m w.1.has;
-      };
-    }
+pub returns-clause-put : goal.returns-clause-put
+returns-clause-put g c = λ mode. stores_new g.S.Space mode c.args.key.now c.args.value.now c.args.most c.args.self.now c.insert.new.self c.args.space.now c.insert.new.space c.args.to.now c.requires.gap (omega (arith, c.if-value-most.false)) c.in_ok-insert.ensures.put
 
-pub returns-in-Ok-clause-takes : goal.returns-in-Ok-clause-takes
-returns-in-Ok-clause-takes g c = (c.in-Ok.ensures.put.0, c.in-Ok.ensures.put.2)
+pub returns-in_err-insert-clause-refused : goal.returns-in_err-insert-clause-refused
+returns-in_err-insert-clause-refused g c = on_err_any c.from_residual.result (inl c.in_err-insert.ensures.outcome.err)
 
-pub returns-in-Err-clause-full : goal.returns-in-Err-clause-full
-returns-in-Err-clause-full g c = λ full t. room_at g.S.Space c.args.self.now c.args.space.now c.put_new.new.space _ c.in-Err.ensures.writes.keeps (c.in-Err.ensures.full full t)
+pub returns-in_err-insert-clause-full : goal.returns-in_err-insert-clause-full
+returns-in_err-insert-clause-full g c = λ full mode. lacks_new g.S.Space mode c.args.key.now c.args.value.now c.args.most c.args.self.now c.insert.new.self c.args.space.now c.insert.new.space c.args.to.now c.requires.gap (omega (arith, c.if-value-most.false)) (lacks_room g.S.Space c.args.key.now c.args.value.now c.args.self.now c.args.space.now c.insert.new.space (c.in_err-insert.ensures.full (err_handed c.from_residual.result c.in_err-insert.field-0.0 _ c.from_residual.ensures.1 full)))

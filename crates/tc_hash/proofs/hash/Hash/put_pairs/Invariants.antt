@@ -9,7 +9,7 @@ use Rattle.tc_hash.proofs.hash.Hash.put_pairs.Given as goal
 abbrev pub invariant-loop-i : goal.invariant-loop-i
 invariant-loop-i g l = record {
   writes : Writes g.S.Space (Only (file_of l.fn.self)) (In g.S.Space file_of holds) (λ m. with_pairs m (take l.i l.pairs)) l.fn.self l.self l.fn.space l.space;
-  nothing : (q : ℕ) → frees l.self.pool q ≡ None;
+  nothing : (q : ℕ) → frees l.self.body.pool q ≡ None;
   keeps : Keeps g.S.Space l.fn.space l.space;
   stays : StaysOpen l.fn.self l.self;
 }

@@ -1,66 +1,53 @@
-use Rattle.std.proofs.Common.{◌∙◌, ℕ, List, length, sym, ap, subst, arith}
-use Rattle.hf_head.specs.declared.head.Head.{Head}
-use Rattle.hf_head.specs.Heads.{sections}
-use Rattle.hf_block.specs.Pieces.{Piece}
-use Rattle.hf_layout.specs.Frees.{Frees}
-use Rattle.hf_layout.specs.Layout.{Keeps, LaidOut}
-use Rattle.hf_pool.specs.Pools.{frees}
-use Rattle.tc_hash.proofs.Kept.{reaches, settle_brought, settle_front, trimmed_holds}
-use Rattle.tc_hash.proofs.Valid.{is_data, is_valid}
+use Rattle.std.proofs.Common.{inl, inr, refl}
+use Rattle.tc_hash.proofs.Settled.{all_settled, front_of, marked_map, may_write, none_taken, trims_looks, trims_map, trims_ready, trims_taken}
+use Rattle.tc_reach.proofs.Handed.{on_err_any}
 use Rattle.tc_hash.proofs.hash.Hash.settle.Goals as goal
 
-pub new_section-requires-clause-holds : goal.new_section-requires-clause-holds
-new_section-requires-clause-holds g c = record {
-  sound = c.requires.sound;
-  data_file = is_data c.args.self.now.file c.args.self.now.data;
-  inside = λ t. let w = c.requires.held t in reaches c.args.self.now.head c.args.self.now.pool.size c.args.self.now.records (frees c.args.self.now.pool) w.0 (g.S.Space.now c.args.space.now c.args.self.now.file) w.1.1;
-}
+pub take_front-requires : goal.take_front-requires
+take_front-requires g c = trims_ready g.S.Space c.args.self.now _ c.args.space.now (record { file = refl; head = refl; records = refl; lower = c.trim.ensures.trimmed.lower; laid = c.trim.ensures.laid; notes = c.trim.ensures.notes }) (inl refl) c.requires
 
-pub new_section-requires-clause-head : goal.new_section-requires-clause-head
-new_section-requires-clause-head g c = is_valid c.args.self.now.head c.args.self.now.valid
+pub returns-in_err-front-clause-trimmed : goal.returns-in_err-front-clause-trimmed
+returns-in_err-front-clause-trimmed g c = λ m bytes held. trims_map c.args.self.now c.take_front.new.self bytes m (trims_taken c.args.self.now _ c.take_front.new.self c.take_front.ensures.stays (record { file = refl; head = refl; records = refl; lower = c.trim.ensures.trimmed.lower; laid = c.trim.ensures.laid; notes = c.trim.ensures.notes })) held
 
-pub write_front-requires-clause-buckets : goal.write_front-requires-clause-buckets
-write_front-requires-clause-buckets g c = omega (arith, ap (λ (h : Head). h.buckets) c.head_now.ensures, c.args.self.now.valid.numbers.few_buckets)
+pub returns-in_err-front-clause-refused : goal.returns-in_err-front-clause-refused
+returns-in_err-front-clause-refused g c = on_err_any c.from_residual.result (inr (trims_looks g.S.Space c.args.self.now c.take_front.new.self c.args.space.now c.take_front.new.space (trims_taken c.args.self.now _ c.take_front.new.self c.take_front.ensures.stays (record { file = refl; head = refl; records = refl; lower = c.trim.ensures.trimmed.lower; laid = c.trim.ensures.laid; notes = c.trim.ensures.notes })) (inr (none_taken _ c.take_front.new.self c.take_front.ensures.stays refl)) c.take_front.ensures.reads))
 
-pub write_front-requires-clause-holds : goal.write_front-requires-clause-holds
-write_front-requires-clause-holds g c = record {
-  sound = c.in-Ok.ensures.reads.is_sound;
-  data_file = is_data c.args.self.now.file c.args.self.now.data;
-  inside = λ t.
-      let w = c.requires.held t in
-      let r = reaches c.args.self.now.head c.args.self.now.pool.size c.args.self.now.records (frees c.args.self.now.pool) w.0 (g.S.Space.now c.args.space.now c.args.self.now.file) w.1.1 in
-      omega (arith, ap (λ (h : Head). sections h) c.head_now.ensures, c.args.self.now.valid.numbers.first_behind, r, ap length (c.in-Ok.ensures.reads.files t c.args.self.now.file));
-}
+pub returns-in_err-section-clause-trimmed : goal.returns-in_err-section-clause-trimmed
+returns-in_err-section-clause-trimmed g c = λ m bytes held. trims_map c.args.self.now c.take_front.new.self bytes m (trims_taken c.args.self.now _ c.take_front.new.self c.take_front.ensures.stays (record { file = refl; head = refl; records = refl; lower = c.trim.ensures.trimmed.lower; laid = c.trim.ensures.laid; notes = c.trim.ensures.notes })) held
 
-pub returns-in-Ok-write_front-clause-trimmed : goal.returns-in-Ok-write_front-clause-trimmed
-returns-in-Ok-write_front-clause-trimmed g c = λ m bytes held. trimmed_holds c.args.self.now.head c.args.self.now.pool.unit c.args.self.now.pool.size c.trim.new.self.size (frees c.args.self.now.pool) (frees c.trim.new.self) c.args.self.now.records m bytes c.args.self.now.unit_is c.trim.ensures.laid c.trim.ensures.trimmed.lower held
+pub returns-in_err-section-clause-refused : goal.returns-in_err-section-clause-refused
+returns-in_err-section-clause-refused g c = on_err_any c.from_residual-in_err-section.result (inr (trims_looks g.S.Space c.args.self.now c.take_front.new.self c.args.space.now c.take_front.new.space (trims_taken c.args.self.now _ c.take_front.new.self c.take_front.ensures.stays (record { file = refl; head = refl; records = refl; lower = c.trim.ensures.trimmed.lower; laid = c.trim.ensures.laid; notes = c.trim.ensures.notes })) (inr (none_taken _ c.take_front.new.self c.take_front.ensures.stays refl)) c.take_front.ensures.reads))
 
-pub returns-in-Err-clause-trimmed : goal.returns-in-Err-clause-trimmed
-returns-in-Err-clause-trimmed g c = λ m bytes held. trimmed_holds c.args.self.now.head c.args.self.now.pool.unit c.args.self.now.pool.size c.trim.new.self.size (frees c.args.self.now.pool) (frees c.trim.new.self) c.args.self.now.records m bytes c.args.self.now.unit_is c.trim.ensures.laid c.trim.ensures.trimmed.lower held
+pub write_front-requires : goal.write_front-requires
+write_front-requires g c = may_write g.S.Space c.args.self.now c.take_front.new.self c.in_ok-front.front c.new_section.new.old c.in_ok-section.section c.args.space.now c.take_front.new.space c.requires (trims_taken c.args.self.now _ c.take_front.new.self c.take_front.ensures.stays (record { file = refl; head = refl; records = refl; lower = c.trim.ensures.trimmed.lower; laid = c.trim.ensures.laid; notes = c.trim.ensures.notes })) c.take_front.ensures.reads (front_of g.S.Space c.args.self.now _ c.in_ok-front.front c.args.space.now c.in_ok-front.ensures.front (record { file = refl; head = refl; records = refl; lower = c.trim.ensures.trimmed.lower; laid = c.trim.ensures.laid; notes = c.trim.ensures.notes }) refl) c.in_ok-section.ensures.section
+
+pub returns-in_err-write_front-clause-trimmed : goal.returns-in_err-write_front-clause-trimmed
+returns-in_err-write_front-clause-trimmed g c = λ m bytes held. trims_map c.args.self.now c.take_front.new.self bytes m (trims_taken c.args.self.now _ c.take_front.new.self c.take_front.ensures.stays (record { file = refl; head = refl; records = refl; lower = c.trim.ensures.trimmed.lower; laid = c.trim.ensures.laid; notes = c.trim.ensures.notes })) held
+
+pub returns-clause-settled : goal.returns-clause-settled
+returns-clause-settled g c =
+    all_settled g.S.Space c.args.self.now c.take_front.new.self _ c.in_ok-front.front (record { head = c.spelling-head.result; section = c.unwrap_or-section.result }) c.head_now.result c.new_section.new.old c.in_ok-section.section c.size-size.result c.args.space.now c.take_front.new.space c.write_front.new.space
+    (record {
+      trims = (trims_taken c.args.self.now _ c.take_front.new.self c.take_front.ensures.stays (record { file = refl; head = refl; records = refl; lower = c.trim.ensures.trimmed.lower; laid = c.trim.ensures.laid; notes = c.trim.ensures.notes }));
+      forgets = (none_taken _ c.take_front.new.self c.take_front.ensures.stays refl);
+      reads = c.take_front.ensures.reads;
+      front = (front_of g.S.Space c.args.self.now _ c.in_ok-front.front c.args.space.now c.in_ok-front.ensures.front (record { file = refl; head = refl; records = refl; lower = c.trim.ensures.trimmed.lower; laid = c.trim.ensures.laid; notes = c.trim.ensures.notes }) refl);
+      is = c.in_ok-section.ensures.section;
+      now_is = c.head_now.ensures;
+      long = c.spelling-head.ensures.long;
+      spells = c.spelling-head.ensures.spells;
+      sound = c.in_ok-write_front.ensures.outcome.ok;
+      end_is = c.size-size.ensures;
+      head_is = c.spelling-head.ensures.bytes;
+      section_is = c.unwrap_or-section.ensures;
+      wrote = c.in_ok-write_front.ensures.wrote;
+      head = refl;
+      records = refl;
+      region = refl;
+      same = c.mark_written.ensures.same;
+      known = refl;
+    })
+    c.requires.held
 
 pub returns-clause-trimmed : goal.returns-clause-trimmed
-returns-clause-trimmed g c = λ m bytes held. trimmed_holds c.args.self.now.head c.args.self.now.pool.unit c.args.self.now.pool.size c.trim.new.self.size (frees c.args.self.now.pool) (frees c.trim.new.self) c.args.self.now.records m bytes c.args.self.now.unit_is c.trim.ensures.laid c.trim.ensures.trimmed.lower held
-
-pub returns-in-Ok-write_front-clause-settled : goal.returns-in-Ok-write_front-clause-settled
-returns-in-Ok-write_front-clause-settled g c =
-    let self = c.args.self.now in
-    let pool = c.trim.new.self in
-    let old : List ℕ = g.S.Space.now c.args.space.now self.file in
-    let mid : List ℕ = g.S.Space.now c.new_section.new.space self.file in
-    let new : List ℕ = g.S.Space.now c.write_front.new.space self.file in
-    let unit_is = c.trim.ensures.unit ∙ self.unit_is in
-    let low = c.trim.ensures.trimmed.lower in
-    let spells = c.write_front.ensures.spells in
-    let trim = subst (λ (u : ℕ). (first : ℕ) (ps : List Piece) (lent : Frees) (bs : List ℕ) → LaidOut u first self.pool.size ps (frees self.pool) lent bs → Keeps u first pool.size ps (frees pool) lent bs) (sym c.trim.ensures.unit) c.trim.ensures.laid in
-    record {
-      sound = c.in-Ok-write_front.ensures.outcome.ok;
-      others = record { same = λ t f other. (c.in-Ok-write_front.ensures.wrote t).others f other ∙ c.in-Ok.ensures.reads.files t f };
-      brought = λ t m held.
-          settle_brought self.head c.head_now.result pool.unit self.pool.size pool.size self.records (frees self.pool) (frees pool) m self.region c.in-Ok.section old mid new
-          self.valid unit_is pool.aligned pool.multiples low trim c.head_now.ensures spells.0 spells.1 (c.in-Ok.ensures.reads.files t self.file)
-          c.in-Ok.ensures.some (c.in-Ok.ensures.same t) (c.in-Ok-write_front.ensures.wrote t).here held;
-      front = λ t. let w = c.requires.held t in
-          settle_front self.head c.head_now.result pool.unit self.pool.size pool.size self.records (frees self.pool) (frees pool) w.0 self.region c.in-Ok.section old mid new
-          self.valid unit_is low trim c.head_now.ensures spells.1 (c.in-Ok.ensures.reads.files t self.file)
-          c.in-Ok.ensures.some (c.in-Ok-write_front.ensures.wrote t).here w.1.1;
-    }
+returns-clause-trimmed g c = λ m bytes held. marked_map c.take_front.new.self.body.head c.take_front.new.self.body.pool c.mark_written.new.self c.take_front.new.self.records m bytes c.mark_written.ensures.same (trims_map c.args.self.now c.take_front.new.self bytes m (trims_taken c.args.self.now _ c.take_front.new.self c.take_front.ensures.stays (record { file = refl; head = refl; records = refl; lower = c.trim.ensures.trimmed.lower; laid = c.trim.ensures.laid; notes = c.trim.ensures.notes })) held)

@@ -1,8 +1,13 @@
-use Rattle.tc_hash.proofs.Packed.{settled_same, trimmed_refuses}
+use Rattle.tc_space.specs.Changes.{same}
+use Rattle.tc_hash.proofs.Packed.{settled_same, settled_stands}
+use Rattle.tc_hash.proofs.Stored.{from_done, log_by}
 use Rattle.tc_hash.proofs.mapping.HashRecords.settle.Goals as goal
 
-pub returns-in-Ok-clause-settled : goal.returns-in-Ok-clause-settled
-returns-in-Ok-clause-settled g c = settled_same g.S.Space c.args.self.now c.settle.new.self c.args.space.now c.settle.new.space c.settle.ensures.stays.map.file c.in-Ok.ensures.settled
+pub returns-clause-settled : goal.returns-clause-settled
+returns-clause-settled g c = from_done _ c.settle.ensures.settled (λ done. settled_same g.S.Space c.args.self.now c.settle.new.self c.args.space.now c.settle.new.space c.settle.ensures.stays.map.file done)
 
-pub returns-in-Err-clause-refused : goal.returns-in-Err-clause-refused
-returns-in-Err-clause-refused g c = trimmed_refuses g.S.Space c.args.self.now c.settle.new.self c.args.space.now c.settle.new.space c.settle.ensures.stays.map.file c.settle.ensures.trimmed c.in-Err.ensures.refused
+pub returns-clause-stands : goal.returns-clause-stands
+returns-clause-stands g c = from_done _ c.settle.ensures.settled (λ done. settled_stands g.S.Space c.args.self.now c.settle.new.self c.args.space.now c.settle.new.space c.settle.ensures.stays.map.region_same done)
+
+pub returns-clause-full : goal.returns-clause-full
+returns-clause-full g c = λ full. log_by g.S.Space same c.args.self.now c.args.space.now c.settle.new.space (c.settle.ensures.full full)

@@ -1,12 +1,13 @@
-use Rattle.tc_hashdb.specs.Lifting.{ready_down, refuses_up}
+use Rattle.std.proofs.lemmas.Result.{IfOk-weaker}
+use Rattle.tc_hashdb.specs.Lifting.{ready_down, refused_up}
 use Rattle.tc_hashdb.proofs.Asked.{clears}
 use Rattle.tc_hashdb.proofs.engine.HashEngineEngine.clear.Goals as goal
 
 pub clear_all_keys-requires : goal.clear_all_keys-requires
-clear_all_keys-requires g c = record { ready = ready_down g.S.Space c.args.self.now c.args.space.now c.requires }
+clear_all_keys-requires g c = ready_down g.S.Space c.args.self.now c.args.space.now c.requires
 
-pub returns-in-Ok-clause-makes : goal.returns-in-Ok-clause-makes
-returns-in-Ok-clause-makes g c = clears g.S.Space _ _ _ _ c.in-Ok.done c.in-Ok.ensures.takes
+pub returns-clause-makes : goal.returns-clause-makes
+returns-clause-makes g c = IfOk-weaker _ _ _ (λ done takes. clears g.S.Space _ _ _ _ done takes) c.clear_all_keys.ensures.takes
 
-pub returns-in-Err-clause-refused : goal.returns-in-Err-clause-refused
-returns-in-Err-clause-refused g c = refuses_up g.S.Space _ _ _ _ c.in-Err.ensures.refused
+pub returns-clause-refused : goal.returns-clause-refused
+returns-clause-refused g c = refused_up g.S.Space c.clear_all_keys.result c.args.self.now c.clear_all_keys.new.self c.args.space.now c.clear_all_keys.new.space c.clear_all_keys.ensures.refused

@@ -4,14 +4,14 @@ use Rattle.tc_hashdb.proofs.engine.HashEngineEngine.item.Goals as goal
 pub find-requires : goal.find-requires
 find-requires g c = ready_down g.S.Space c.args.self.now c.args.space.now c.requires
 
-pub returns-in-Ok-None-clause-reads : goal.returns-in-Ok-None-clause-reads
-returns-in-Ok-None-clause-reads g c = reads_up g.S.Space _ _ _ _ c.find.ensures.reads
-
-pub returns-in-Err-clause-reads : goal.returns-in-Err-clause-reads
-returns-in-Err-clause-reads g c = reads_up g.S.Space _ _ _ _ c.find.ensures.reads
+pub returns-in_err-found-clause-reads : goal.returns-in_err-found-clause-reads
+returns-in_err-found-clause-reads g c = reads_up g.S.Space _ _ _ _ c.find.ensures.reads
 
 pub returns-in_default-clause-reads : goal.returns-in_default-clause-reads
 returns-in_default-clause-reads g c = reads_up g.S.Space _ _ _ _ c.find.ensures.reads
+
+pub returns-in_err-item-clause-reads : goal.returns-in_err-item-clause-reads
+returns-in_err-item-clause-reads g c = reads_up g.S.Space _ _ _ _ c.find.ensures.reads
 
 pub returns-clause-reads : goal.returns-clause-reads
 returns-clause-reads g c = reads_up g.S.Space _ _ _ _ c.find.ensures.reads

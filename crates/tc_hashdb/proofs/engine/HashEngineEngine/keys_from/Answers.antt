@@ -5,17 +5,17 @@ use Rattle.tc_hashdb.proofs.engine.HashEngineEngine.keys_from.Goals as goal
 pub list-requires : goal.list-requires
 list-requires g c = ready_down g.S.Space c.args.self.now c.args.space.now c.requires
 
-pub returns-in-Err-clause-reads : goal.returns-in-Err-clause-reads
-returns-in-Err-clause-reads g c = reads_up g.S.Space _ _ _ _ c.list.ensures.reads
+pub returns-in_err-all-clause-reads : goal.returns-in_err-all-clause-reads
+returns-in_err-all-clause-reads g c = reads_up g.S.Space _ _ _ _ c.list.ensures.reads
 
-pub returns-in_default-clause-reads : goal.returns-in_default-clause-reads
-returns-in_default-clause-reads g c = reads_up g.S.Space _ _ _ _ c.list.ensures.reads
+pub returns-in_err-found-clause-reads : goal.returns-in_err-found-clause-reads
+returns-in_err-found-clause-reads g c = reads_up g.S.Space _ _ _ _ c.list.ensures.reads
 
-pub returns-in_default-add_texts-clause-reads : goal.returns-in_default-add_texts-clause-reads
-returns-in_default-add_texts-clause-reads g c = reads_up g.S.Space _ _ _ _ c.list.ensures.reads
+pub returns-in_err-add_texts-clause-reads : goal.returns-in_err-add_texts-clause-reads
+returns-in_err-add_texts-clause-reads g c = reads_up g.S.Space _ _ _ _ c.list.ensures.reads
 
 pub returns-clause-reads : goal.returns-clause-reads
 returns-clause-reads g c = reads_up g.S.Space _ _ _ _ c.list.ensures.reads
 
 pub returns-clause-rows : goal.returns-clause-rows
-returns-clause-rows g c = λ k h. listed g.S.Space c.args.self.now c.args.space.now k c.args.prefix.now c.as_slice.result.now c.args.most c.in-Ok.all c.in-Ok-beginning.found c.as_slice-2.result.now c.args.into.now c.add_texts.new.rows c.as_slice.ensures c.as_slice-2.ensures c.in-Ok.ensures.value c.in-Ok-beginning.ensures h c.in-Ok-add_texts.ensures.rows
+returns-clause-rows g c = λ k h. listed g.S.Space c.args.self.now c.args.space.now k c.args.prefix.now c.as_slice.result.now c.args.most c.in_ok-all.all c.in_ok-found.found c.as_slice-2.result.now c.args.into.now c.add_texts.new.rows c.as_slice.ensures c.as_slice-2.ensures c.in_ok-all.ensures.value c.in_ok-found.ensures h c.in_ok-add_texts.ensures.rows

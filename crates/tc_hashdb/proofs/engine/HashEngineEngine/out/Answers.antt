@@ -1,12 +1,13 @@
-use Rattle.tc_hashdb.specs.Lifting.{ready_down, refuses_up}
+use Rattle.std.proofs.lemmas.Result.{IfOk-weaker}
+use Rattle.tc_hashdb.specs.Lifting.{ready_down, refused_up}
 use Rattle.tc_hashdb.proofs.Asked.{takes_key}
 use Rattle.tc_hashdb.proofs.engine.HashEngineEngine.out.Goals as goal
 
 pub out_at-requires : goal.out_at-requires
-out_at-requires g c = record { ready = ready_down g.S.Space c.args.self.now c.args.space.now c.requires }
+out_at-requires g c = ready_down g.S.Space c.args.self.now c.args.space.now c.requires
 
-pub returns-in-Ok-clause-makes : goal.returns-in-Ok-clause-makes
-returns-in-Ok-clause-makes g c = takes_key g.S.Space _ _ _ _ c.args.key.now c.as_slice.result.now c.in-Ok.done c.as_slice.ensures c.in-Ok.ensures.takes
+pub returns-clause-makes : goal.returns-clause-makes
+returns-clause-makes g c = IfOk-weaker _ _ _ (λ done takes. takes_key g.S.Space _ _ _ _ c.args.key.now c.as_slice.result.now done c.as_slice.ensures takes) c.out_at.ensures.takes
 
-pub returns-in-Err-clause-refused : goal.returns-in-Err-clause-refused
-returns-in-Err-clause-refused g c = refuses_up g.S.Space _ _ _ _ c.in-Err.ensures.refused
+pub returns-clause-refused : goal.returns-clause-refused
+returns-clause-refused g c = refused_up g.S.Space c.out_at.result c.args.self.now c.out_at.new.self c.args.space.now c.out_at.new.space c.out_at.ensures.refused

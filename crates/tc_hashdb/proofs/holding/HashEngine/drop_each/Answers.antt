@@ -1,9 +1,8 @@
 use Rattle.tc_space.specs.Frames.{keeps_then}
 use Rattle.tc_space.specs.Stores.{Only, ready_writes}
-use Rattle.tc_space.specs.declared.errors.RecErr.TheVariants.{Full}
 use Rattle.tc_hashdb.specs.Holding.{Means}
 use Rattle.tc_hashdb.proofs.Dropped.{fills_dropped, out_more}
-use Rattle.ty_base.proofs.Refusals.{same_refusal}
+use Rattle.tc_reach.proofs.Handed.{err_handed}
 use Rattle.tc_hashdb.proofs.holding.HashEngine.drop_each.Goals as goal
 
 pub drop_key-requires : goal.drop_key-requires
@@ -11,9 +10,9 @@ drop_key-requires g c = record { ready = ready_writes g.S.Space (Means g.S.Space
 
 pub loop-key-preserved : goal.loop-key-preserved
 loop-key-preserved g c = record {
-  writes = out_more g.S.Space _ _ _ _ _ _ c.args.keys.now c.loop-key.key-index c.key-item.result c.as_slice.result.now c.loop-key-test.true c.key-item.is c.as_slice.ensures c.loop-key.invariant.writes c.in-Ok.ensures.out;
+  writes = out_more g.S.Space _ _ _ _ _ _ c.args.keys.now c.loop-key.key-index c.key-item.result c.as_slice.result.now c.loop-key-test.true c.key-item.is c.as_slice.ensures c.loop-key.invariant.writes c.in_ok-drop_key.ensures.out;
   keeps = keeps_then g.S.Space _ _ _ c.loop-key.invariant.keeps c.drop_key.ensures.keeps;
 }
 
-pub returns-in-Err-clause-full : goal.returns-in-Err-clause-full
-returns-in-Err-clause-full g c = λ full. fills_dropped g.S.Space _ _ _ _ _ c.args.keys.now c.loop-key.key-index c.key-item.result c.as_slice.result.now c.as_slice.ensures c.loop-key.invariant.writes (c.in-Err.ensures.full (same_refusal c.in-Err.e Full full))
+pub returns-in_err-drop_key-clause-full : goal.returns-in_err-drop_key-clause-full
+returns-in_err-drop_key-clause-full g c = λ full. fills_dropped g.S.Space _ _ _ _ _ c.args.keys.now c.loop-key.key-index c.key-item.result c.as_slice.result.now c.as_slice.ensures c.loop-key.invariant.writes (c.in_err-drop_key.ensures.full (err_handed c.from_residual.result c.in_err-drop_key.field-0.0 _ c.from_residual.ensures.1 full))

@@ -1,20 +1,22 @@
-use Rattle.tc_space.specs.Frames.{refuses_then}
-use Rattle.tc_space.specs.Stores.{ready_reads}
-use Rattle.tc_space.specs.declared.errors.RecErr.TheVariants.{Full}
+use Rattle.std.proofs.Common.{ℕ, refl, subst, Option}
+use Rattle.tc_hash.specs.Putting.{TakesLen}
+use Rattle.tc_hashdb.proofs.Kept.{ready_hash, refuses_again}
+use Rattle.tc_hashdb.proofs.Stored.{lacks_log, takes_none, takes_out}
 use Rattle.tc_model.specs.Maps.{without}
-use Rattle.tc_hashdb.specs.Holding.{Means}
-use Rattle.ty_base.proofs.Refusals.{same_refusal}
-use Rattle.tc_hashdb.proofs.Stored.{lacks_after, takes_after}
+use Rattle.tc_reach.proofs.Handed.{err_handed, on_err_any}
 use Rattle.tc_hashdb.proofs.holding.HashEngine.out_at.Goals as goal
 
-pub take_key-requires-clause-ready : goal.take_key-requires-clause-ready
-take_key-requires-clause-ready g c = ready_reads g.S.Space (Means g.S.Space) _ _ _ _ c.find_len.ensures.reads c.requires.ready
+pub out-requires : goal.out-requires
+out-requires g c = ready_hash g.S.Space c.args.self.now c.args.space.now c.requires
 
-pub returns-in-Ok-clause-takes : goal.returns-in-Ok-clause-takes
-returns-in-Ok-clause-takes g c = takes_after g.S.Space (λ m. without m c.args.key.now) c.in-Ok.done _ _ _ _ _ _ c.find_len.ensures.reads c.in-Ok.ensures.takes
+pub returns-in_default-clause-takes : goal.returns-in_default-clause-takes
+returns-in_default-clause-takes g c = takes_none g.S.Space c.args.key.now c.args.self.now _ c.args.space.now c.out.new.space (subst (λ (o : Option ℕ). TakesLen g.S.Space c.args.key.now o c.args.self.now.hash c.out.new.self c.args.space.now c.out.new.space) c.in_default.is c.in_ok-old.ensures.out) c.out.ensures.stays refl
 
-pub returns-in-Err-take_key-clause-refused : goal.returns-in-Err-take_key-clause-refused
-returns-in-Err-take_key-clause-refused g c = refuses_then g.S.Space (Means g.S.Space) _ _ _ _ _ _ c.find_len.ensures.reads c.in-Err-take_key.ensures.refused
+pub returns-clause-takes : goal.returns-clause-takes
+returns-clause-takes g c = takes_out g.S.Space c.args.key.now c.in-Some.old _ c.args.self.now _ c.args.space.now c.out.new.space c.requires (subst (λ (o : Option ℕ). TakesLen g.S.Space c.args.key.now o c.args.self.now.hash c.out.new.self c.args.space.now c.out.new.space) c.in-Some.is c.in_ok-old.ensures.out) c.out.ensures.stays refl c.counted_without-self.ensures
 
-pub returns-in-Err-take_key-clause-full : goal.returns-in-Err-take_key-clause-full
-returns-in-Err-take_key-clause-full g c = λ full. lacks_after g.S.Space (λ m. without m c.args.key.now) _ _ _ _ _ c.find_len.ensures.reads (c.in-Err-take_key.ensures.full (same_refusal c.in-Err-take_key.e Full full))
+pub returns-in_err-old-clause-full : goal.returns-in_err-old-clause-full
+returns-in_err-old-clause-full g c = λ full. lacks_log g.S.Space (λ m. without m c.args.key.now) c.args.self.now c.args.space.now c.out.new.space (c.in_err-old.ensures.full (err_handed c.from_residual.result c.in_err-old.field-0.0 _ c.from_residual.ensures.1 full))
+
+pub returns-in_err-old-clause-refused : goal.returns-in_err-old-clause-refused
+returns-in_err-old-clause-refused g c = on_err_any c.from_residual.result (refuses_again g.S.Space c.args.self.now _ c.args.space.now c.out.new.space c.in_err-old.ensures.refused c.out.ensures.stays.map.file c.out.ensures.stays.head refl)

@@ -1,5 +1,5 @@
 use Rattle.std.proofs.Common.{List, ℕ, [], subst, sym}
-use Rattle.ty_wire.specs.Seen.{IsSeen}
+use Rattle.ty_look.specs.Seen.{IsSeen}
 use Rattle.ty_wire.specs.Taking.{Takes, IsRead}
 use Rattle.ty_core.proofs.unread.Unread.new.Goals as goal
 

@@ -1,6 +1,6 @@
 use Rattle.std.proofs.Common.{List, ℕ, subst, sym}
-use Rattle.ty_wire.specs.Seen.{IsSeen}
-use Rattle.ty_wire.proofs.Ongoing.{seen_more}
+use Rattle.ty_look.specs.Seen.{IsSeen}
+use Rattle.ty_look.proofs.Ongoing.{seen_more}
 use Rattle.ty_core.specs.Gathering.{all_of}
 use Rattle.ty_core.proofs.unread.Unread.push.Goals as goal
 

@@ -1,9 +1,0 @@
-use Rattle.std.proofs.Common.{◌≡◌, length}
-use Rattle.hf_chain.specs.Batches.{ChainsOn}
-use Rattle.hf_chain.proofs.reaching.follow_row.Given as goal
-
-abbrev pub invariant-loop-k : goal.invariant-loop-k
-invariant-loop-k l = record {
-  long : length l.marks ≡ length l.facts;
-  chains : ChainsOn l.facts l.fn.items l.fn.marks l.items l.marks l.from l.k;
-}

@@ -1,0 +1,16 @@
+pub mod Paying
+pub mod Bucketing
+pub mod Bytes
+pub mod Differ
+pub mod Finding
+pub mod Fronts
+pub mod Maps
+pub mod Outs
+pub mod Puts
+pub mod Records
+pub mod Room
+pub mod Searched
+pub mod Spared
+pub mod Valid
+pub mod Values
+pub mod Writing

@@ -1,0 +1,9 @@
+pub mod Allocating
+pub mod Asking
+pub mod Changing
+pub mod Costs
+pub mod Fields
+pub mod Filling
+pub mod Holding
+pub mod Moves
+pub mod Searching

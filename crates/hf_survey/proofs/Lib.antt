@@ -1,0 +1,16 @@
+pub mod TwoPlaces
+pub mod Rows
+pub mod Lists
+pub mod FactRows
+pub mod Viewing
+pub mod Halving
+pub mod KeyFronts
+pub mod Keyed
+pub mod Findings
+pub mod Named
+pub mod Followed
+pub mod Steps
+pub mod Batches
+pub mod Batched
+pub mod Judged
+pub mod Surveyed

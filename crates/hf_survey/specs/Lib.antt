@@ -1,0 +1,9 @@
+pub mod Batches
+pub mod Entries
+pub mod Facts
+pub mod Holding
+pub mod Orders
+pub mod Passes
+pub mod Reaching
+pub mod Surveys
+pub mod Trees

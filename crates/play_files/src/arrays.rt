@@ -1,0 +1,182 @@
+//! Cases of fixed-length files.
+ghost use Rattle.std.specs.Prelude.{◌≡◌, ◌≤◌, ◌^◌, true, OnOk};
+
+use crate::failures::Failure;
+use crate::looks::{are_bytes, is_number, is_so, is_value};
+use play_text::{Line, Script, Wrong, is_same};
+use std::alloc::Global;
+use tc_base::Blob;
+use tc_fixed::Fixed;
+use tc_memstores::OneFile;
+use tc_space::RecErr;
+
+// A value put where it may be.
+fn put(fixed: &mut Fixed<OneFile>, space: &mut OneFile, id: u64, value: &[u8]) -> Result<(), RecErr>
+    requires { space.old.sound ≡ true }
+    ensures { OnOk result (space.new.sound ≡ true) }
+{
+    if id == 0 || id > fixed.max_id() || value.len() > fixed.width() as usize {
+        return Err(RecErr::Full);
+    }
+    fixed.put(space, id, value)
+}
+
+// A value.
+fn value(fixed: &mut Fixed<OneFile>, space: &mut OneFile, id: u64) -> Result<Option<Blob>, RecErr>
+    requires { space.old.sound ≡ true }
+    ensures { OnOk result (space.new.sound ≡ true) }
+{
+    fixed.get(space, id)
+}
+
+// How long a value is.
+fn long(fixed: &mut Fixed<OneFile>, space: &mut OneFile, id: u64) -> Result<Option<u64>, RecErr>
+    requires { space.old.sound ≡ true }
+    ensures { OnOk result (space.new.sound ≡ true) }
+{
+    fixed.value_len(space, id)
+}
+
+// An id taken out; false where it isn't held.
+fn out(fixed: &mut Fixed<OneFile>, space: &mut OneFile, id: u64) -> Result<bool, RecErr>
+    requires { space.old.sound ≡ true }
+    ensures { OnOk result (space.new.sound ≡ true) }
+{
+    fixed.out(space, id)
+}
+
+// A line that asks for an id: `get ID = VALUE`, `none ID`, `length ID N`.
+fn get_line(
+    alloc: Global,
+    fixed: &mut Fixed<OneFile>,
+    space: &mut OneFile,
+    what: &str,
+    line: &mut Line<'_>,
+) -> Result<(), Failure>
+    requires { space.old.sound ≡ true }
+    ensures { OnOk result (space.new.sound ≡ true) }
+{
+    let id = line.number()?;
+    if what == "length" {
+        let found = long(fixed, space, id)?;
+        let wanted = line.number()?;
+        return is_so(found == Some(wanted));
+    }
+    let found = value(fixed, space, id)?;
+    if what == "none" {
+        let length = long(fixed, space, id)?;
+        is_so(length.is_none())?;
+        return is_value(alloc, None, &found);
+    }
+    is_value(alloc, Some(&line.wanted()?), &found)
+}
+
+// A line that changes the file: `put ID => VALUE`, `out ID`, `no_out ID`, `clear`, `settle`.
+fn change_line(
+    fixed: &mut Fixed<OneFile>,
+    space: &mut OneFile,
+    what: &str,
+    line: &mut Line<'_>,
+) -> Result<(), Failure>
+    requires { space.old.sound ≡ true }
+    ensures { OnOk result (space.new.sound ≡ true) }
+{
+    match what {
+        "settle" => Ok(fixed.settle(space)?),
+        "clear" => Ok(fixed.clear(space)?),
+        "put" => {
+            let id = line.number()?;
+            let value = line.wanted()?;
+            Ok(put(fixed, space, id, value.as_slice())?)
+        }
+        _ => {
+            let taken = out(fixed, space, line.number()?)?;
+            is_so(taken == (what == "out"))
+        }
+    }
+}
+
+// A line that lists ids: `ids FIRST LAST MOST ID ID ..`, from one id to another, at most so many; `all` for any number.
+fn ids_line(
+    alloc: Global,
+    fixed: &mut Fixed<OneFile>,
+    space: &mut OneFile,
+    line: &mut Line<'_>,
+) -> Result<(), Failure>
+    requires { space.old.sound ≡ true }
+    ensures { OnOk result (space.new.sound ≡ true) }
+{
+    let first = line.number()?;
+    let last = line.number()?;
+    let most = match line.word() {
+        "all" => None,
+        word => play_text::number_of(word),
+    };
+    let mut ids = Vec::new(alloc);
+    fixed.ids_in(space, first, last, most, &mut ids)?;
+    Ok(is_same(alloc, line.rest(), format!(in alloc; "{ids:?}")?)?)
+}
+
+// A line on what is held: `numbers LEAST GREATEST COUNT SIZE`, `most_id N`, `bytes PLACE BYTES`, `ends N`.
+fn look(
+    alloc: Global,
+    fixed: &Fixed<OneFile>,
+    file: &[u8],
+    what: &str,
+    line: &mut Line<'_>,
+) -> Result<(), Failure> {
+    match what {
+        "numbers" => {
+            let found = format!(in alloc;
+                "{} {} {} {}",
+                fixed.least(),
+                fixed.greatest(),
+                fixed.count(),
+                fixed.size()
+            )?;
+            Ok(is_same(alloc, line.rest(), found)?)
+        }
+        "most_id" => is_number(alloc, line, fixed.max_id()),
+        "bytes" => are_bytes(alloc, line, file),
+        "ends" => is_number(alloc, line, file.len() as u64),
+        _ => Err(Failure::Line(Wrong::Unread)),
+    }
+}
+
+// Plays a line.
+fn play_line(
+    alloc: Global,
+    fixed: &mut Fixed<OneFile>,
+    space: &mut OneFile,
+    what: &str,
+    line: &mut Line<'_>,
+) -> Result<(), Failure>
+    requires { space.old.sound ≡ true }
+    ensures { OnOk result (space.new.sound ≡ true) }
+{
+    match what {
+        "get" | "none" | "length" => get_line(alloc, fixed, space, what, line),
+        "put" | "out" | "no_out" | "clear" | "settle" => change_line(fixed, space, what, line),
+        "ids" => ids_line(alloc, fixed, space, line),
+        _ => look(alloc, fixed, space.bytes(), what, line),
+    }
+}
+
+/// Plays a case of a fixed-length file: `array WIDTH LIMIT`.
+pub fn play_array(
+    alloc: Global,
+    line: &mut Line<'_>,
+    script: &mut Script<'_>,
+) -> Result<(), Failure> {
+    let mut space = OneFile::of(Vec::new(alloc));
+    let width = line.small()?.min(1_048_576).max(1);
+    let limit = line.number()?.min(1 << 40).max(512);
+    let mut fixed = Fixed::create(alloc, &mut space, width, limit)?;
+    for _ in 0..script.len() {
+        let Some((what, mut line)) = script.next_line() else {
+            return Ok(());
+        };
+        play_line(alloc, &mut fixed, &mut space, what, &mut line)?;
+    }
+    Ok(())
+}

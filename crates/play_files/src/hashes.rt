@@ -1,0 +1,94 @@
+//! Cases of hash files.
+ghost use Rattle.std.specs.Prelude.{◌≡◌, ◌≤◌, ◌^◌, true, OnOk};
+
+use crate::failures::Failure;
+use crate::looks::{are_bytes, is_number, is_so};
+use crate::maps::play_map;
+use play_text::{Line, Script, Wrong};
+use std::alloc::Global;
+use tc_base::{Blob, Steps};
+use tc_hash::Hash;
+use tc_memstores::OneFile;
+use tc_space::{RecErr, Records};
+
+// How long the value of a key is.
+fn long(hash: &mut Hash<OneFile>, space: &mut OneFile, key: &[u8]) -> Result<Option<u64>, RecErr>
+    requires { space.old.sound ≡ true }
+    ensures { OnOk result (space.new.sound ≡ true) }
+{
+    let mut steps: Steps<()> = Steps::new();
+    hash.get_len(space, key, &mut steps)
+}
+
+// A line on a hash file: `length KEY = N`, `no_length KEY`, `bytes PLACE BYTES`, `ends N` for its length, `size N` for that of its blocks, `opens`; `mark`, which keeps its bytes, and `same`, that they
+// are as they were there.
+fn look(
+    alloc: Global,
+    hash: &mut Hash<OneFile>,
+    space: &mut OneFile,
+    marked: &mut Blob,
+    what: &str,
+    line: &mut Line<'_>,
+) -> Result<(), Failure>
+    requires { space.old.sound ≡ true }
+    ensures { OnOk result (space.new.sound ≡ true) }
+{
+    match what {
+        "length" => {
+            let key = line.bytes_up_to(" = ")?;
+            let wanted = line.number()?;
+            let found = long(hash, space, key.as_slice())?;
+            is_so(found == Some(wanted))
+        }
+        "no_length" => {
+            let key = line.bytes()?;
+            let found = long(hash, space, key.as_slice())?;
+            is_so(found.is_none())
+        }
+        "bytes" => are_bytes(alloc, line, space.bytes()),
+        "ends" => is_number(alloc, line, space.bytes().len() as u64),
+        "size" => is_number(alloc, line, hash.size()),
+        "mark" => {
+            *marked = Blob::from_slice(alloc, space.bytes())?;
+            Ok(())
+        }
+        "same" => is_so(marked.as_slice() == space.bytes()),
+        "opens" => {
+            let mut again = OneFile::new(alloc, space.bytes())?;
+            let _opened: Hash<OneFile> = Hash::open(alloc, &mut again, 0, 0)?;
+            Ok(())
+        }
+        _ => Err(Failure::Line(Wrong::Unread)),
+    }
+}
+
+// A new file of no records, with a unit of 16 and a pool of 68 bytes: `hash BUCKETS small|large`.
+fn created(
+    alloc: Global,
+    space: &mut OneFile,
+    line: &mut Line<'_>,
+) -> Result<Hash<OneFile>, Failure>
+    requires { space.old.sound ≡ true }
+    ensures { OnOk result (space.new.sound ≡ true) }
+{
+    let buckets = line.number()?.min(1 << 38).max(1);
+    Ok(Hash::create(alloc, space, 0, 0, 4, 0, buckets, line.word() == "large")?)
+}
+
+/// Plays a case of a hash file.
+pub fn play_hash(
+    alloc: Global,
+    line: &mut Line<'_>,
+    script: &mut Script<'_>,
+) -> Result<(), Failure> {
+    let mut space = OneFile::of(Vec::new(alloc));
+    let mut hash = created(alloc, &mut space, line)?;
+    let mut marked = Blob::new(alloc);
+    for _ in 0..script.len() {
+        let Some((what, mut line)) = play_map(alloc, &mut hash, &mut space, script)? else {
+            return Ok(());
+        };
+        look(alloc, &mut hash, &mut space, &mut marked, what, &mut line)?;
+    }
+    Ok(())
+}

@@ -1,0 +1,79 @@
+//! What a wire was asked, in order.
+
+use crate::plan::sent_of;
+use play_text::{Line, Wrong, told};
+use std::alloc::Global;
+use tc_io::{At, Entry, Sent};
+
+// Whether a call is one that a script tells.
+fn is_told(entry: &Entry) -> bool {
+    !matches!(entry, Entry::Event { .. })
+}
+
+/// The place of the next call that a script tells, from a place on.
+pub fn next_told(log: &[Entry], from: usize) -> Option<usize> {
+    for (place, entry) in log.iter().enumerate() {
+        if place >= from && is_told(entry) {
+            return Some(place);
+        }
+    }
+    None
+}
+
+// A call as text.
+fn text_of(alloc: Global, entry: &Entry) -> Result<String, Wrong> {
+    Ok(format!(in alloc; "{entry:?}")?)
+}
+
+// Whether a call is another than the line says.
+fn other(alloc: Global, entry: &Entry) -> Result<(), Wrong> {
+    Err(Wrong::Differs(text_of(alloc, entry)?))
+}
+
+// Whether an address is that of the line.
+fn is_address(line: &mut Line<'_>, host: &[u8], port: u16) -> Result<bool, Wrong> {
+    Ok(line.word().as_bytes() == host && line.number()? == u64::from(port))
+}
+
+// Whether a send is that of the line: its connection, its answer and its bytes.
+fn is_send(
+    alloc: Global,
+    line: &mut Line<'_>,
+    conn: u32,
+    bytes: &[u8],
+    answer: Sent,
+) -> Result<(), Wrong> {
+    let to = line.small()?;
+    let wanted = sent_of(line, bytes.len())?;
+    told(alloc, &line.bytes()?, bytes)?;
+    if to == conn && wanted == answer {
+        return Ok(());
+    }
+    Err(Wrong::Differs(format!(in alloc; "to {conn}, {answer:?}")?))
+}
+
+/// Whether a call is that of a line: `pipe`, `serve HOST PORT`, `send CONN ANSWER BYTES`, `close CONN`.
+pub fn is_call(alloc: Global, line: &mut Line<'_>, entry: &Entry) -> Result<(), Wrong> {
+    let fits = match (line.word(), entry) {
+        ("pipe", Entry::Open { at: At::Pipe }) => true,
+        (
+            "serve",
+            Entry::Open {
+                at: At::Host { host, port },
+            },
+        ) => is_address(line, host.as_slice(), *port)?,
+        (
+            "send",
+            Entry::Send {
+                conn,
+                bytes,
+                answer,
+            },
+        ) => {
+            return is_send(alloc, line, *conn, bytes.as_slice(), *answer);
+        }
+        ("close", Entry::Close { conn }) => line.small()? == *conn,
+        _ => false,
+    };
+    if fits { Ok(()) } else { other(alloc, entry) }
+}

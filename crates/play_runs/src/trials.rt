@@ -1,0 +1,172 @@
+//! A run stopped or failed at each call of its volume, and so the run that opens what is left.
+
+use crate::outcome::{Outcome, ran};
+use crate::plan::Plan;
+use play_stops::{Seen, Trouble, WHOLE, choices};
+use play_text::{Line, Pattern, Wrong, shown};
+use std::alloc::Global;
+use tc_fakes::MemVolume;
+
+/// The words of the run that opens what is left, what it is asked and answered, and how many calls of the volume a run may make.
+#[derive(Drop)]
+pub struct Trial {
+    again: Vec<String>,
+    asks: Pattern,
+    before: Pattern,
+    after: Pattern,
+    pub calls: u64,
+}
+
+impl Trial {
+    pub fn new(alloc: Global) -> Trial {
+        Trial {
+            again: Vec::new(alloc),
+            asks: Pattern::new(alloc),
+            before: Pattern::new(alloc),
+            after: Pattern::new(alloc),
+            calls: 0,
+        }
+    }
+
+    /// Takes a line.
+    pub fn take(&mut self, what: &str, line: &mut Line<'_>) -> Result<(), Wrong> {
+        match what {
+            "again" => self.again = line.words()?,
+            "asks" => self.asks = line.bytes()?,
+            "before" => self.before = line.bytes()?,
+            _ => self.after = line.bytes()?,
+        }
+        Ok(())
+    }
+}
+
+/// How a trial goes on: how its calls go wrong, whether the run had ended well, and what was opened again without trouble and with it.
+#[derive(Drop)]
+struct Course<'a> {
+    alloc: Global,
+    trial: &'a Trial,
+    again: &'a Plan,
+    trouble: Trouble,
+    ended: bool,
+    opened: Seen,
+    troubled: Seen,
+}
+
+// What a run that opens what is left found instead.
+fn lost(alloc: Global, outcome: &Outcome) -> Result<(), Wrong> {
+    let found = shown(alloc, outcome.wire.sent(0))?;
+    Err(Wrong::Differs(format!(in alloc; "status {}, {found}", outcome.status)?))
+}
+
+// There were more calls than a run may make.
+const ENDLESS: Wrong = Wrong::Not("more calls than a run may make");
+
+impl<'a> Course<'a> {
+    fn new(
+        alloc: Global,
+        trial: &'a Trial,
+        again: &'a Plan,
+        trouble: Trouble,
+        ended: bool,
+    ) -> Course<'a> {
+        Course {
+            alloc,
+            trial,
+            again,
+            trouble,
+            ended,
+            opened: Seen::new(alloc),
+            troubled: Seen::new(alloc),
+        }
+    }
+
+    // A volume, opened again, has the old contents or the new ones; where the run had ended well, the new ones.
+    fn holds(&self, vol: MemVolume) -> Result<(), Wrong> {
+        let (outcome, _) = ran(self.alloc, self.again, vol)?;
+        let found = outcome.wire.sent(0);
+        let kept = self.trial.after.fits(found) || (!self.ended && self.trial.before.fits(found));
+        if outcome.status == 0 && kept {
+            Ok(())
+        } else {
+            lost(self.alloc, &outcome)
+        }
+    }
+
+    // What a second stop leaves of a volume does.
+    fn reopens(&mut self, vol: &MemVolume) -> Result<(), Wrong> {
+        for image in self.opened.unseen(vol, &choices()[..2])? {
+            self.holds(image)?;
+        }
+        Ok(())
+    }
+
+    // The same of what is left by a run that opens a volume and meets trouble, at each of its calls.
+    fn reopens_twice(&mut self, vol: &MemVolume) -> Result<(), Wrong> {
+        for call in 1..self.trial.calls {
+            let mut copy = vol.image(&WHOLE)?;
+            self.trouble.meet(self.alloc, &mut copy, call)?;
+            let (_, left) = ran(self.alloc, self.again, copy)?;
+            self.reopens(&left)?;
+            if left.calls() < call {
+                return Ok(());
+            }
+        }
+        Err(ENDLESS)
+    }
+
+    // What a first stop leaves of a volume does, also where the run that opens it meets such trouble.
+    fn survives(&mut self, vol: &MemVolume) -> Result<(), Wrong> {
+        for image in self.troubled.unseen(vol, &choices())? {
+            self.reopens_twice(&image)?;
+            self.holds(image)?;
+        }
+        Ok(())
+    }
+}
+
+// A run that met trouble ends with 3 and sends nothing.
+fn is_met(alloc: Global, outcome: &Outcome) -> Result<(), Wrong> {
+    if outcome.status == 3 && outcome.wire.sent(0).is_empty() {
+        return Ok(());
+    }
+    lost(alloc, outcome)
+}
+
+// A run that met no trouble any more is answered, and what it leaves has the new contents.
+fn is_done(
+    course: &mut Course<'_>,
+    outcome: &Outcome,
+    left: &MemVolume,
+    call: u64,
+) -> Result<(), Wrong> {
+    let unmet = left.calls() < call || (course.trouble == Trouble::Stop && left.calls() == call);
+    if !unmet {
+        return lost(course.alloc, outcome);
+    }
+    course.survives(left)
+}
+
+/// Each call goes wrong in turn, until none does.
+pub fn try_all(
+    alloc: Global,
+    plan: &Plan,
+    trial: &Trial,
+    files: &MemVolume,
+    trouble: Trouble,
+) -> Result<(), Wrong> {
+    let again = Plan::asking(alloc, trial.again.clone()?, trial.asks.as_slice())?;
+    let mut course = Course::new(alloc, trial, &again, trouble, false);
+    for call in 1..trial.calls {
+        let mut vol = files.image(&WHOLE)?;
+        trouble.meet(alloc, &mut vol, call)?;
+        let (outcome, left) = ran(alloc, plan, vol)?;
+        if outcome.status == 0 {
+            outcome.is_answered(alloc, plan)?;
+            let mut course = Course::new(alloc, trial, &again, trouble, true);
+            return is_done(&mut course, &outcome, &left, call);
+        }
+        is_met(alloc, &outcome)?;
+        course.survives(&left)?;
+    }
+    Err(ENDLESS)
+}

@@ -1,0 +1,133 @@
+//! A case, and what it is played for.
+
+use crate::numbers::number_of;
+use crate::terms::at_blank;
+use crate::wrongs::Wrong;
+use std::alloc::{AllocError, Global};
+
+// A mark, and the texts that stand for it, one in each play.
+#[derive(Drop)]
+struct Each {
+    mark: String,
+    texts: Vec<String>,
+}
+
+/// A name, lines, and what marks in them stand for.
+#[derive(Drop)]
+pub struct Case<'a> {
+    alloc: Global,
+    name: &'a str,
+    eaches: Vec<Each>,
+    lines: Vec<&'a str>,
+}
+
+// A text with another in each place of a mark.
+fn replaced(alloc: Global, text: &str, mark: &str, other: &str) -> Result<String, AllocError> {
+    let mut all = String::new(alloc);
+    for (number, part) in text.split(mark).enumerate() {
+        if number > 0 {
+            all.push_str(other)?;
+        }
+        all.push_str(part)?;
+    }
+    Ok(all)
+}
+
+// Adds the numbers from one to another.
+fn add_numbers(
+    alloc: Global,
+    first: u64,
+    last: u64,
+    texts: &mut Vec<String>,
+) -> Result<(), AllocError> {
+    for number in first..=last {
+        texts.push(format!(in alloc; "{number}")?)?;
+    }
+    Ok(())
+}
+
+// Adds the texts that a word stands for: `first..=last` for numbers, `''` for an empty one, else itself.
+fn add_texts(alloc: Global, word: &str, texts: &mut Vec<String>) -> Result<(), Wrong> {
+    if let Some((first, last)) = word.split_once("..=") {
+        let (Some(first), Some(last)) = (number_of(first), number_of(last)) else {
+            return Err(Wrong::Unread);
+        };
+        return Ok(add_numbers(alloc, first, last, texts)?);
+    }
+    let word = if word == "''" { "" } else { word };
+    texts.push(String::from_str(alloc, word)?)?;
+    Ok(())
+}
+
+impl<'a> Case<'a> {
+    pub fn new(alloc: Global, name: &'a str) -> Case<'a> {
+        Case {
+            alloc,
+            name,
+            eaches: Vec::new(alloc),
+            lines: Vec::new(alloc),
+        }
+    }
+
+    // Takes what a mark stands for.
+    fn add_each(&mut self, text: &str) -> Result<(), Wrong> {
+        let (mark, rest) = at_blank(text);
+        let mark = format!(in self.alloc; "@{mark}")?;
+        let mut texts = Vec::new(self.alloc);
+        let between = if rest.contains(" | ") { " | " } else { " " };
+        for word in rest.split(between) {
+            add_texts(self.alloc, word, &mut texts)?;
+        }
+        self.eaches.push(Each { mark, texts })?;
+        Ok(())
+    }
+
+    /// Takes a line more.
+    pub fn add(&mut self, line: &'a str) -> Result<(), Wrong> {
+        match line.strip_prefix("each ") {
+            Some(text) => self.add_each(text),
+            None => Ok(self.lines.push(line)?),
+        }
+    }
+
+    /// How many plays it has.
+    pub fn plays(&self) -> usize {
+        let mut plays: usize = 1;
+        for each in self.eaches.iter() {
+            plays = plays.saturating_mul(each.texts.len());
+        }
+        plays
+    }
+
+    // A text as it is in the play of a number.
+    fn text_in(&self, play: usize, text: &str) -> Result<String, AllocError> {
+        let mut all = String::from_str(self.alloc, text)?;
+        let mut left = play;
+        for each in self.eaches.iter() {
+            let count = each.texts.len().max(1);
+            if let Some(other) = each.texts.get(left % count) {
+                all = replaced(self.alloc, all.as_str(), each.mark.as_str(), other.as_str())?;
+            }
+            left /= count;
+        }
+        Ok(all)
+    }
+
+    /// Its name in the play of a number.
+    pub fn name_in(&self, play: usize) -> Result<String, AllocError> {
+        let mut name = self.text_in(play, self.name)?;
+        if !self.eaches.is_empty() {
+            name.push_str(format!(in self.alloc; " (play {play})")?.as_str())?;
+        }
+        Ok(name)
+    }
+
+    /// Its lines in the play of a number.
+    pub fn lines_in(&self, play: usize) -> Result<Vec<String>, AllocError> {
+        let mut lines = Vec::new(self.alloc);
+        for line in self.lines.iter() {
+            lines.push(self.text_in(play, line)?)?;
+        }
+        Ok(lines)
+    }
+}

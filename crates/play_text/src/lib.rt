@@ -1,0 +1,24 @@
+//! Cases as text: what a file of cases says, and the play of it.
+#![tactic(auto)]
+
+mod cases;
+mod files;
+mod lines;
+mod names;
+mod numbers;
+mod patterns;
+mod playing;
+mod reports;
+mod scripts;
+mod terms;
+mod wrongs;
+
+pub use files::play_files;
+pub use lines::{Line, words_of};
+pub use names::Names;
+pub use numbers::number_of;
+pub use patterns::Pattern;
+pub use playing::{Player, play_text};
+pub use reports::Report;
+pub use scripts::Script;
+pub use wrongs::{Wrong, is_same, shown, told};

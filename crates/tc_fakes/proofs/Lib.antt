@@ -1,0 +1,6 @@
+mod ChosenImages
+mod Emptied
+mod Feeds
+mod PlayedReads
+mod Taken
+mod TornWrites

@@ -1,0 +1,12 @@
+pub mod Answers
+pub mod Chosen
+pub mod Counted
+pub mod Feeding
+pub mod History
+pub mod Honest
+pub mod Kept
+pub mod Peers
+pub mod Play
+pub mod Transcripts
+pub mod Whole
+pub mod Wires

@@ -1,6 +1,0 @@
-use Rattle.std.proofs.Common.{◌-◌, arith}
-use Rattle.tc_fixed.proofs.Grown.{zeros_none}
-use Rattle.tc_fixed.proofs.spaces.clear_up_to.Goals as goal
-
-pub returns-then-to-from-clause-wrote : goal.returns-then-to-from-clause-wrote
-returns-then-to-from-clause-wrote g c = λ t. zeros_none g.S.Space.now c.args.space.now c.args.from (c.args.to - c.args.from) (omega (arith, c.if-to-from.true))

@@ -1,6 +1,0 @@
-use Rattle.std.proofs.Common.{◌≡◌, drop}
-use Rattle.tc_ids.specs.Naming.{all_named}
-use Rattle.tc_ids.proofs.naming.all_named.Given as goal
-
-abbrev pub invariant-loop-pair : goal.invariant-loop-pair
-invariant-loop-pair l = all_named l.most l.least l.greatest (drop l.pair-index l.pairs) ≡ all_named l.fn.most l.fn.least l.fn.greatest l.pairs

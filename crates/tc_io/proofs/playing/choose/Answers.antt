@@ -1,4 +1,0 @@
-use Rattle.tc_io.proofs.playing.choose.Goals as goal
-
-pub returns-in-Give-clause-may : goal.returns-in-Give-clause-may
-returns-in-Give-clause-may c = c.in-Give.ensures.may c.args.busy

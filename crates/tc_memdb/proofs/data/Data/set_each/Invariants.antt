@@ -1,0 +1,6 @@
+use Rattle.std.proofs.Common.{◌≡◌, fold}
+use Rattle.tc_memdb.specs.Holding.{contents_of, set}
+use Rattle.tc_memdb.proofs.data.Data.set_each.Given as goal
+
+abbrev pub invariant-loop-pair : goal.invariant-loop-pair
+invariant-loop-pair l = contents_of l.self ≡ fold (λ c p. set c p.key p.value) (contents_of l.fn.self) l.yielded

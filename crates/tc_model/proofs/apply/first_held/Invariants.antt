@@ -1,7 +1,0 @@
-use Rattle.std.proofs.Common.{◌≡◌, drop}
-use Rattle.tc_model.specs.Apply.{next_of}
-use Rattle.tc_model.specs.Views.{contents_of}
-use Rattle.tc_model.proofs.apply.first_held.Given as goal
-
-abbrev pub invariant-loop-i : goal.invariant-loop-i
-invariant-loop-i l = next_of (contents_of l.data) l.keys ≡ next_of (contents_of l.data) (drop l.i l.keys)

@@ -1,7 +1,0 @@
-use Rattle.std.proofs.Common.{◌≡◌, ◌++◌, drop}
-use Rattle.std.specs.Prelude.{map}
-use Rattle.tc_model.specs.Bodies.{given}
-use Rattle.tc_model.proofs.rows.given_all.Given as goal
-
-abbrev pub invariant-loop-pair : goal.invariant-loop-pair
-invariant-loop-pair l = l.found ++ map (given l.one) (drop l.pair-index l.row) ≡ map (given l.one) l.row

@@ -1,0 +1,4 @@
+pub mod Handed
+pub mod Viewing
+pub mod Written
+pub mod Zeroed

@@ -1,6 +1,0 @@
-use Rattle.std.proofs.Common.{◌≡◌, ◌++◌, drop}
-use Rattle.tc_base.specs.Lists.{values}
-use Rattle.tc_stores.proofs.lists.values_of.Given as goal
-
-abbrev pub invariant-loop-pair : goal.invariant-loop-pair
-invariant-loop-pair l = l.all ++ values (drop l.pair-index l.pairs) l.key ≡ values l.pairs l.key

@@ -1,5 +1,0 @@
-use Rattle.std.proofs.Common.{refl}
-use Rattle.tests_pool.proofs.walks.listed.Goals as goal
-
-pub walk-requires-clause-head : goal.walk-requires-clause-head
-walk-requires-clause-head c = ((c.in-Ok.ensures.ok c.in-Ok.head).0 refl).0

@@ -1,0 +1,80 @@
+//! What keeps contents in the files of a space.
+ghost use Rattle.std.specs.Prelude.{◌≡◌, ℕ, List, OnOk, IsErrOf};
+ghost use Rattle.tc_base.specs.Files.{Files};
+ghost use Rattle.tc_base.specs.declared.kind.Form.{Form};
+ghost use Rattle.tc_space.specs.Frames.{Keeps};
+ghost use Rattle.tc_space.specs.Refusals.{OnFault};
+ghost use Rattle.ty_wire.specs.Prefixes.{IsPrefix};
+ghost use Rattle.tc_model.specs.Contents.{Contents, kind_of};
+ghost use Rattle.ty_base.specs.Holding.{AreApart, FillsAsIs, IsReady, FilesStand, ReadsHeld, PacksHeld, RefusesHeld, Remains, SettlesHeld, Stays, TellsLines};
+
+use tc_base::{Blob, Form, Kind};
+use tc_space::{RecErr, Space};
+
+/// What holds contents over a space, and brings them to its files.
+///
+/// After a refusal the space isn't sound, or nothing has changed: neither files nor contents. It leaves file 2 alone.
+pub trait Storage {
+    type S: Space;
+
+    /// Over these files it holds these contents. What stands in memory holds them over any.
+    ghost holds: { Self → Files → Contents → Type 0 };
+
+    /// Whether files, read with an empty undo log, reopen to contents. Of what stands in memory any files do.
+    ghost reopens: { Files → Contents → Type 0 };
+
+    /// A limit is reached, as the space stands, between contents before a change and after it; never in memory.
+    ghost fills: { Self.S → Contents → Contents → Type 0 };
+
+    /// What an inspection tells of files behind what it tells of contents; nothing in memory.
+    ghost lines: { Files → List ℕ → Type 0 };
+
+    /// It was packed in a form since it was last changed.
+    ghost tight: { Self → Form → Type 0 };
+
+    /// Files are packed in a form: no space lies free in them.
+    ghost packed: { Form → Files → Type 0 };
+
+    /// Its kind.
+    fn kind(&self) -> Kind
+        ensures { (files : Files) (c : Contents) → holds self.now files c → result ≡ kind_of c };
+
+    /// Brings what is held in memory to the files, which then stand for the contents.
+    fn settle(&mut self, space: &mut Self::S) -> Result<(), RecErr>
+        requires ready { IsReady Self.S.Space holds self.old space.old }
+        ensures packs { OnOk result (PacksHeld Self.S.Space holds tight packed self.old space.old space.new) }
+        ensures settled { OnOk result (SettlesHeld Self.S.Space holds reopens self.old self.new space.old space.new) }
+        ensures sound { OnOk result (Self.S.sound space.new) }
+        ensures log { OnOk result (Stays Self.S.Space 2 space.old space.new) }
+        ensures refused { RefusesHeld Self.S.Space holds result self.old self.new space.old space.new }
+        ensures full { IsErrOf result RecErr.Full → FillsAsIs Self.S.Space holds fills self.old space.old space.new }
+        ensures keeps { Keeps Self.S.Space space.old space.new }
+        ensures cause { OnFault Self.S.Space result space.old space.new };
+
+    /// Packs the files, in place or in the large form. The contents stay, and stand in the files once it is settled.
+    fn pack(&mut self, space: &mut Self::S, form: Form) -> Result<(), RecErr>
+        requires ready { IsReady Self.S.Space holds self.old space.old }
+        ensures tight { OnOk result (tight self.new form) }
+        ensures packed { OnOk result (Remains Self.S.Space holds self.old self.new space.old space.new) }
+        ensures sound { OnOk result (Self.S.sound space.new) }
+        ensures log { OnOk result (Stays Self.S.Space 2 space.old space.new) }
+        ensures refused { RefusesHeld Self.S.Space holds result self.old self.new space.old space.new }
+        ensures full { IsErrOf result RecErr.Full → FillsAsIs Self.S.Space holds fills self.old space.old space.new }
+        ensures keeps { Keeps Self.S.Space space.old space.new }
+        ensures cause { OnFault Self.S.Space result space.old space.new };
+
+    /// Adds what an inspection tells of the files, which must stand for the contents. On an `Err` some more bytes stand behind the old ones.
+    fn inform(&mut self, space: &mut Self::S, into: &mut Blob) -> Result<(), RecErr>
+        requires sound { Self.S.sound space.old }
+        requires settled { FilesStand Self.S.Space holds reopens self.old space.old }
+        ensures told { OnOk result (TellsLines Self.S.Space lines space.old into.old into.new) }
+        ensures front { IsPrefix into.old into.new }
+        ensures reads { OnOk result (ReadsHeld Self.S.Space holds self.old self.new space.old space.new) }
+        ensures refused { RefusesHeld Self.S.Space holds result self.old self.new space.old space.new }
+        ensures not_full { IsErrOf result RecErr.Full → ⊥ }
+        ensures keeps { Keeps Self.S.Space space.old space.new }
+        ensures cause { OnFault Self.S.Space result space.old space.new };
+
+    /// What it holds, and what files reopen to, has nothing to do with file 2.
+    ghost apart: { (b : Self) (f g : Files) (c : Contents) → AreApart f g → (holds b f c → holds b g c) × (reopens f c → reopens g c) };
+}

@@ -1,0 +1,3 @@
+pub mod FieldEnds
+pub mod Ongoing
+pub mod WholeEnds

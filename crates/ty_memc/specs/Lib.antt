@@ -1,0 +1,10 @@
+pub mod Answers
+pub mod Ends
+pub mod Fitting
+pub mod Fronts
+pub mod Grammar
+pub mod Lines
+pub mod Reading
+pub mod Seen
+pub mod Taking
+pub mod Words
