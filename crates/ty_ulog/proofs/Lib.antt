@@ -1,0 +1,12 @@
+pub mod Exact
+pub mod Taken
+pub mod Sole
+pub mod Updating
+pub mod Rows
+pub mod Marking
+pub mod Passing
+pub mod Pieces
+pub mod Noting
+pub mod Asking
+pub mod Worked
+pub mod Feeding

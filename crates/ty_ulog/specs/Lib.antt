@@ -1,0 +1,10 @@
+pub mod Errors
+pub mod Feeds
+pub mod Holding
+pub mod Log
+pub mod Noting
+pub mod Ongoing
+pub mod Pieces
+pub mod Records
+pub mod Steps
+pub mod Updates
