@@ -1,6 +1,6 @@
 -- Columns with distinct names.
 use Rattle.std.proofs.Common.{◌≡◌, ◌∙◌, ℕ, Bool, true, false, cond, List, [], ◌∷◌, ◌++◌, map, refl, sym, ap, subst, append_assoc}
-use Rattle.std.specs.Prelude.{◌&&◌, not, find, fold, Option, Some, None, option_map, is_some}
+use Rattle.std.specs.Prelude.{not, find, fold, Some, None, option_map, is_some}
 use Rattle.std.specs.List.{list_all}
 use Rattle.std.specs.Cmp.Lexicographic.{nat_list_eq_equiv}
 use Rattle.std.proofs.lemmas.Bool.{and_parts, and_from}

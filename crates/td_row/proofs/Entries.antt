@@ -1,6 +1,6 @@
 -- A row is the entries of its map, in their order.
 use Rattle.std.proofs.Common.{◌≡◌, ◌∙◌, ℕ, Bool, true, false, cond, List, [], ◌∷◌, ◌++◌, map, refl, sym, ap, subst}
-use Rattle.std.specs.Prelude.{◌&&◌, not, find, Option, Some, None, option_map, is_some}
+use Rattle.std.specs.Prelude.{not, find, Option, Some, None, option_map, is_some}
 use Rattle.std.specs.Map.{lookup}
 use Rattle.std.specs.Cmp.Lexicographic.{same_text, nat_list_eq_equiv}
 use Rattle.std.proofs.lemmas.Bool.{and_parts}

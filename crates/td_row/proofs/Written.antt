@@ -1,15 +1,15 @@
 -- A row is written column by column.
-use Rattle.std.proofs.Common.{◌≡◌, ◌∙◌, ℕ, zero, suc, ◌+◌, ◌<◌, List, [], ◌∷◌, ◌++◌, length, take, refl, sym, ap, arith, append_assoc}
+use Rattle.std.proofs.Common.{◌≡◌, ◌∙◌, ℕ, zero, suc, ◌+◌, ◌<◌, List, [], ◌∷◌, ◌++◌, length, take, sym, ap, arith, append_assoc}
 use Rattle.std.specs.Prelude.{Option, Some, None, slice_get}
-use Rattle.std.specs.List.{flat_map, join_with_byte}
+use Rattle.std.specs.List.{flat_map}
 use Rattle.std.proofs.lemmas.List.{append-nil, take_more, flat_map_more}
 use Rattle.std.proofs.lemmas.List.Concat.{flat_map-append}
 use Rattle.std.proofs.lemmas.Option.{slice_get_within, get_or_from_slice_get, same_Some}
 use Rattle.tc_base.specs.declared.seq.Pair.{Pair}
 use Rattle.tc_base.specs.Lists.{pair}
 use Rattle.tc_base.specs.Vnum.{vnum}
-use Rattle.tc_model.specs.Rows.{Row, texts_of, row_text}
-use Rattle.td_row.specs.Spelling.{sizes_bytes, column_bytes, row_bytes}
+use Rattle.tc_model.specs.Rows.{Row, row_text}
+use Rattle.td_row.specs.Spelling.{column_bytes, row_bytes}
 
 pub taken : (row : Row) (i : ℕ) (p : Pair) → slice_get row i ≡ Some p → take (i + 1) row ≡ take i row ++ p ∷ []
 taken row i p at = take_more row i p (slice_get_within row i p at) ∙ ap (λ (q : Pair). take i row ++ q ∷ []) (get_or_from_slice_get row i p p at)

@@ -1,4 +1,4 @@
-use Rattle.std.proofs.Common.{◌≡◌, ◌∙◌, sym, ap}
+use Rattle.std.proofs.Common.{◌∙◌, ap}
 use Rattle.tc_model.specs.Rows.{Row, column}
 use Rattle.td_row.proofs.Entries.{shown_get}
 use Rattle.td_row.proofs.row.Row.find.Goals as goal

@@ -1,9 +1,7 @@
-use Rattle.std.proofs.Common.{◌≡◌, ◌∙◌, ◌∷◌, [], List, ℕ, sym, ap, subst}
+use Rattle.std.proofs.Common.{◌∙◌, ◌∷◌, List, ℕ, ap}
 use Rattle.std.specs.Option.{option_copied}
-use Rattle.tc_model.specs.Rows.{Row, pairs_of, row_of_text}
-use Rattle.tc_model.specs.Texts.{parts}
 use Rattle.td_row.specs.Texts.{left_parts}
-use Rattle.td_row.proofs.Parts.{row_onto, part_set, part_refused, moved}
+use Rattle.td_row.proofs.Parts.{part_set, part_refused, moved}
 use Rattle.td_row.proofs.row.Row.from_text.Goals as goal
 
 pub loop-left-preserved : goal.loop-left-preserved

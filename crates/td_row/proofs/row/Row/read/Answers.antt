@@ -1,4 +1,4 @@
-use Rattle.std.proofs.Common.{◌≡◌, [], List, ℕ, sym, subst}
+use Rattle.std.proofs.Common.{List, ℕ, sym, subst}
 use Rattle.tc_base.specs.Lists.{pair}
 use Rattle.tc_model.specs.Rows.{Row, has}
 use Rattle.td_row.proofs.Reading.{Progress, progress_start, progress_put, stopped, repeated, ended, ended_only, shorter, none_left, some_left, is_absent, is_there}

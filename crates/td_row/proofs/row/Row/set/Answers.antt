@@ -1,4 +1,4 @@
-use Rattle.std.proofs.Common.{◌≡◌, ◌∙◌, sym, ap, subst, List, ℕ}
+use Rattle.std.proofs.Common.{◌≡◌, ◌∙◌, sym, ap, subst}
 use Rattle.tc_base.specs.Lists.{pair}
 use Rattle.std.specs.Prelude.{is_some}
 use Rattle.tc_model.specs.Rows.{Row, column, with_column}
