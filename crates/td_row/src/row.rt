@@ -1,5 +1,5 @@
 //! A row.
-ghost use Rattle.std.specs.Prelude.{◌≡◌, ◌<◌, [], length, not, slice_get, Some, IfOk, OnOk, OnErr, IsErrOf, true, false};
+ghost use Rattle.std.specs.Prelude.{◌≡◌, ◌⊎◌, ◌<◌, ◌∷◌, ◌++◌, [], length, not, slice_get, Some, IfOk, OnOk, OnErr, IsErrOf, true, false};
 ghost use Rattle.std.specs.Option.{option_copied};
 ghost use Rattle.tc_base.specs.Lists.{pair};
 ghost use Rattle.tc_model.specs.Rows.{column, has, is_part, is_column, with_column};
@@ -149,9 +149,27 @@ impl Row {
         self.set(name, value)
     }
 
-    /// Sets a column: a new one comes last, and a name that is there keeps its place. Bad exactly where the name is empty, or one of both is too long or has
-    /// a zero byte. An `Err` changes nothing.
+    /// Adds a column behind the others. Bad exactly where the name is empty, one of both is too long or has a zero byte, or a column has the name; Memory where
+    /// it found no room. An `Err` changes nothing.
     pub fn add(&mut self, name: &[u8], value: &[u8]) -> Result<(), RowErr>
+        ensures added { OnOk result (self.new ≡ self.old ++ pair name.now value.now ∷ []) }
+        ensures column { OnOk result ((is_column (pair name.now value.now) ≡ true) × (has self.old name.now ≡ false)) }
+        ensures bad { IsErrOf result RowErr.Bad → (is_column (pair name.now value.now) ≡ false) ⊎ (has self.old name.now ≡ true) }
+        ensures err { OnErr result (self.new ≡ self.old) }
+    {
+        if !is_column(name, value) {
+            return Err(RowErr::Bad);
+        }
+        if self.has(name) {
+            return Err(RowErr::Bad);
+        }
+        self.put(name, value)?;
+        Ok(())
+    }
+
+    // Sets a column: a new one comes last, and a name that is there keeps its place. Bad exactly where the name is empty, or one of both is too long or has
+    // a zero byte. An `Err` changes nothing.
+    pub(crate) fn replace(&mut self, name: &[u8], value: &[u8]) -> Result<(), RowErr>
         ensures column { OnOk result (is_column (pair name.now value.now) ≡ true) }
         ensures added { OnOk result (self.new ≡ with_column self.old (pair name.now value.now)) }
         ensures bad { IsErrOf result RowErr.Bad → is_column (pair name.now value.now) ≡ false }

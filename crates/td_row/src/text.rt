@@ -69,7 +69,7 @@ impl Row {
                 return Ok(row);
             };
             let (value, more) = part_of(behind);
-            match row.add(name, value) {
+            match row.replace(name, value) {
                 Ok(()) => {}
                 Err(e) => return Err(e),
             }

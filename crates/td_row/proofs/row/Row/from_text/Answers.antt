@@ -6,7 +6,7 @@ use Rattle.td_row.proofs.row.Row.from_text.Goals as goal
 
 pub loop-left-preserved : goal.loop-left-preserved
 loop-left-preserved c =
-    part_set c.loop-left.row c.add.new.self _ _ c.part_of.result.0.now c.part_of-in-Some.result.0.now _
+    part_set c.loop-left.row c.replace.new.self _ _ c.part_of.result.0.now c.part_of-in-Some.result.0.now _
     (ap (λ o. left_parts (option_copied o)) c.in-Some.is ∙ c.part_of.ensures.parts
     ∙ ap (λ o. c.part_of.result.0.now ∷ left_parts (option_copied o)) c.in-Some-behind.is
     ∙ ap (λ (ps : List (List ℕ)). c.part_of.result.0.now ∷ ps) c.part_of-in-Some.ensures.parts)
