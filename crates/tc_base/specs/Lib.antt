@@ -5,6 +5,8 @@ pub mod Endian
 pub mod Files
 pub mod Fronts
 pub mod Hashes
+pub mod LabelTexts
+pub mod Labels
 pub mod Lists
 pub mod Maps
 pub mod OrderLaws

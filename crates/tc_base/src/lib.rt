@@ -11,6 +11,7 @@ mod fronts;
 mod hashes;
 mod key;
 mod kind;
+mod label;
 mod limits;
 mod long;
 mod number;
@@ -28,10 +29,11 @@ pub use fields::{NotWhole, read_bytes, read_size};
 pub use hashes::{bucket_of, second_hash};
 pub use key::Key;
 pub use kind::{Form, Kind, Mode, Rule};
+pub use label::{Label, is_label, label_rows};
 pub use limits::{
     BLOCK_MOST, BUCKETS_MOST, CLIENTS_MOST, COLUMN_MOST, FILE_LIMIT_LEAST, FILE_MOST,
-    FOUR_BYTES_END, ID_MOST, INDEXES_MOST, KEY_MOST, LOG_MOST, PAGE_END, REPLY_MOST, REQUEST_MOST,
-    SMALL_STARTS, VALUE_MOST, WIDTH_MOST,
+    FOUR_BYTES_END, ID_MOST, INDEXES_MOST, KEY_MOST, LABEL_MOST, LOG_MOST, PAGE_END, REPLY_MOST,
+    REQUEST_MOST, SMALL_STARTS, VALUE_MOST, WIDTH_MOST,
 };
 pub use number::{NumErr, put_vnum, read_number, read_three, read_two, read_vnum, vnum_len};
 pub use order::{Cut, Decimal, Lexical, Order, Side, value_part};

@@ -15,6 +15,9 @@ pub const REPLY_MOST: usize = 67_108_864;
 /// The most bytes of a column's name, and of its value.
 pub const COLUMN_MOST: usize = 1_048_576;
 
+/// The most bytes of the label of a copy.
+pub const LABEL_MOST: usize = 64;
+
 /// The most columns that have an index.
 pub const INDEXES_MOST: usize = 16;
 

@@ -1,5 +1,6 @@
 pub mod Answers
 pub mod Chosen
+pub mod Copied
 pub mod Counted
 pub mod Feeding
 pub mod History

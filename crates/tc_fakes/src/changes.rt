@@ -1,6 +1,7 @@
 //! Calls that changed a file.
-ghost use Rattle.std.specs.Prelude.{◌≤◌};
+ghost use Rattle.std.specs.Prelude.{◌≡◌, ◌≤◌, IfOk};
 
+use std::alloc::{AllocError, Global};
 use tc_base::Blob;
 
 /// What a call made of a file.
@@ -18,4 +19,35 @@ pub struct Call {
     pub file: u32,
     pub change: Change,
     pub ghost in_range: { file ≤ 18 },
+}
+
+impl Change {
+    fn copied(&self, alloc: Global) -> Result<Change, AllocError>
+        ensures { IfOk result (λ c. c ≡ self.now) }
+    {
+        match self {
+            Change::Loaded(bytes) => {
+                let bytes = Blob::from_slice(alloc, bytes.as_slice())?;
+                Ok(Change::Loaded(bytes))
+            }
+            Change::Written(at, bytes) => {
+                let bytes = Blob::from_slice(alloc, bytes.as_slice())?;
+                Ok(Change::Written(*at, bytes))
+            }
+            Change::CutTo(len) => Ok(Change::CutTo(*len)),
+            Change::Synced => Ok(Change::Synced),
+        }
+    }
+}
+
+impl Call {
+    /// The same call once more.
+    pub fn copied(&self, alloc: Global) -> Result<Call, AllocError>
+        ensures { IfOk result (λ c. c ≡ self.now) }
+    {
+        Ok(Call {
+            file: self.file,
+            change: self.change.copied(alloc)?,
+        })
+    }
 }

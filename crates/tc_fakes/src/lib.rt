@@ -5,6 +5,7 @@ mod answered;
 mod book;
 mod changes;
 mod choice;
+mod copied;
 mod counts;
 mod disk;
 mod entries;

@@ -1,4 +1,5 @@
 pub mod Causes
+pub mod Copies
 pub mod Images
 pub mod Lines
 pub mod Script

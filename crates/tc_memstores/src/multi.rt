@@ -118,16 +118,24 @@ impl<S: Space, O: Order> Multi for MemMulti<S, O> {
 
     type O = O;
 
-    ghost use Rattle.std.specs.Prelude.{◌≡◌};
+    ghost use Rattle.std.specs.Prelude.{◌≡◌, None};
     ghost use Rattle.tc_base.specs.Lists.{Rises};
 
     ghost file_of = { λ r. r.file };
 
     ghost holds = { λ r bytes ps. (r.pairs ≡ ps) × Rises O.cmp ps };
 
-    ghost stands = { λ bytes ps. Unit {0} };
+    ghost made = { λ r. record { sort = 0; code = O.CODE; leaf = 0; node = 0; column = None } };
 
-    ghost fills = { λ r space ps qs. ⊥ };
+    ghost stands = { λ made bytes ps. Unit {0} };
+
+    ghost fills = { λ r old new ps qs. ⊥ };
+
+    ghost lacks_large = { λ r old new. ⊥ };
+
+    ghost tight = { λ r form. Unit {0} };
+
+    ghost packed = { λ form bytes. Unit {0} };
 
     ghost gets = { λ r. 0 };
 

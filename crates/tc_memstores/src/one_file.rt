@@ -64,6 +64,7 @@ impl Space for OneFile {
     ghost use Rattle.std.specs.Prelude.{[], Some, None, ℕ, List, Option, true};
     ghost use Rattle.std.proofs.Common.{refl};
     ghost use Rattle.tc_base.specs.Files.{Files};
+    ghost use Rattle.tc_io.specs.Copies.{unnamed};
     ghost use Rattle.tc_space.specs.NoFiles.{no_files};
 
     ghost tells = { ⊥ };
@@ -73,6 +74,8 @@ impl Space for OneFile {
     ghost kept = { λ _. Some no_files };
 
     ghost moment = { λ _. 0 };
+
+    ghost files_at = { λ _ t. no_files };
 
     ghost left = { λ _ t o. o ≡ Some no_files };
 
@@ -84,7 +87,7 @@ impl Space for OneFile {
 
     ghost limit = { λ _ f. 1099511627776 };
 
-    ghost names = { λ _. None };
+    ghost names = { λ _. unnamed };
 
     ghost overfills = { λ _ f at size. ⊥ };
 
@@ -103,6 +106,8 @@ impl Space for OneFile {
     ghost within = { λ s file told sound is. absurd told };
 
     ghost earlier = { λ s t u o le left. left };
+
+    ghost present = { λ s told. refl };
 
     ghost flagged = { λ s sound. sound };
 
@@ -148,6 +153,12 @@ impl Space for OneFile {
 
     fn commit(&mut self) -> Result<(), Fault> {
         self.touched = false;
+        Ok(())
+    }
+
+    // It has no volume to copy to.
+    fn copy(&mut self, label: &[u8]) -> Result<(), Fault> {
+        let _ = label;
         Ok(())
     }
 

@@ -123,11 +123,19 @@ impl<S: Space> Records for MemRecords<S> {
 
     ghost holds = { λ r bytes m. r.map ≡ m };
 
-    ghost stands = { λ bytes m region. Unit {0} };
+    ghost sort = { λ r. 0 };
+
+    ghost stands = { λ sort bytes m region. Unit {0} };
 
     ghost region = { λ r. r.region };
 
-    ghost fills = { λ r space m n. ⊥ };
+    ghost lacks = { λ r old new key value. ⊥ };
+
+    ghost lacks_large = { λ r old new. ⊥ };
+
+    ghost tight = { λ r form. Unit {0} };
+
+    ghost packed = { λ form bytes. Unit {0} };
 
     ghost gets = { λ r. r.gets };
 
@@ -192,6 +200,11 @@ impl<S: Space> Records for MemRecords<S> {
     }
 
     fn settle(&mut self, space: &mut S) -> Result<(), RecErr> {
+        Ok(())
+    }
+
+    fn clear(&mut self, space: &mut S) -> Result<(), RecErr> {
+        self.map = Cells::new(self.alloc);
         Ok(())
     }
 

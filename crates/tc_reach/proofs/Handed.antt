@@ -21,6 +21,10 @@ pub on_err_any : {A E P : Type 0} (r : Result A E) → P → OnErr r P
 on_err_any (Ok x) p = tt
 on_err_any (Err e) p = p
 
+-- what an error leaves, where this one came
+pub on_err_of : {A E P : Type 0} (r : Result A E) (e : E) → OnErr r P → IsErrOf r e → P
+on_err_of {A} {E} {P} r e p is = subst (λ (z : Result A E). OnErr z P) is p
+
 -- what is true of the error that came is true of the one that is handed on
 pub if_err_handed : {A E : Type 0} (r : Result A E) (w : E) (P : E → Type 0) → IsErrAnd r (λ y. y ≡ w) → P w → IfErr r P
 if_err_handed (Ok x) w P is p = tt

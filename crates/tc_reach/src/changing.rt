@@ -58,16 +58,14 @@ pub fn write_difference<S: Space>(
     if is_same(old, bytes) {
         return Ok(());
     }
-    // the bytes lie inside the file, and so does their front
-    let _ = space.len(file);
     let end = same_back(old, bytes);
     let front = same_front(&old[..end], &bytes[..end]);
-    write_over(
-        space,
-        file,
-        at.saturating_add(front as u64),
-        &bytes[front..end],
-    )
+    // no file has such places
+    let Some(start) = at.checked_add(front as u64) else {
+        give_up(space);
+        return Err(RecErr::Memory);
+    };
+    write_over(space, file, start, &bytes[front..end])
 }
 
 /// Writes bytes over others of a file, from the first to the last that differs from those that stand there, and nothing where none does: those are

@@ -10,7 +10,7 @@ mod zeros;
 
 pub use changing::{write_changed, write_difference};
 pub use errors::ReadErr;
-pub use reading::{is_same, read_into};
+pub use reading::read_into;
 pub use window::Window;
 pub use writing::{cut_to, give_up, write_at, write_over};
 pub use zeros::{append_zeros, clear_up_to, write_zeros};

@@ -19,8 +19,8 @@ pub fn read_into<S: Space>(space: &mut S, file: u32, at: u64, into: &mut [u8]) -
     space.read(file, at, into)
 }
 
-/// Whether they are equal.
-pub fn is_same(a: &[u8], b: &[u8]) -> bool
+// Whether they are equal.
+pub(crate) fn is_same(a: &[u8], b: &[u8]) -> bool
     ensures { IsTrue result ↔ (a.now ≡ b.now) }
 {
     a == b

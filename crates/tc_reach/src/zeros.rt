@@ -1,5 +1,5 @@
 //! Zeros written over bytes of a file, or added behind bytes.
-ghost use Rattle.std.specs.Prelude.{◌≡◌, ◌-◌, ◌≤◌, ◌⊎◌, ◌++◌, length, replicate, OnOk, OnErr, IsErrOf, false};
+ghost use Rattle.std.specs.Prelude.{◌≡◌, ◌-◌, ◌⊎◌, ◌++◌, replicate, OnOk, OnErr, IsErrOf, false};
 ghost use Rattle.tc_base.specs.Files.{wrote};
 ghost use Rattle.tc_space.specs.Effects.{Changes, Outcome};
 ghost use Rattle.tc_space.specs.Frames.{OnlyReads, OnlyWrites};

@@ -238,3 +238,11 @@ read_within start at n bytes file low high e =
     ap (λ (l : List ℕ). take n l) (read_from start (at - start) bytes file (omega arith) e)
     ∙ take-take n (length bytes - (at - start)) (drop (start + (at - start)) file) (omega arith)
     ∙ ap (λ m. take n (drop m file)) (omega arith)
+
+-- a piece of bytes that were read from a place of a file
+pub piece_of : (at skip n : ℕ) (bytes file : List ℕ) → skip + n ≤ length bytes → bytes ≡ take (length bytes) (drop at file) → take n (drop skip bytes) ≡ take (length (take n (drop skip bytes))) (drop (at + skip) file)
+piece_of at skip n bytes file inside read =
+    let long : length (take n (drop skip bytes)) ≡ n = simp (length-take, length-drop) (omega (arith, inside)) in
+    ap (λ (l : List ℕ). take n l) (read_from at skip bytes file (omega (arith, inside)) read)
+    ∙ take-take n (length bytes - skip) (drop (at + skip) file) (omega (arith, inside))
+    ∙ ap (λ k. take k (drop (at + skip) file)) (sym long)

@@ -1,2 +1,4 @@
 pub mod Changes
+pub mod Gathering
+pub mod Labelled
 pub mod Paging

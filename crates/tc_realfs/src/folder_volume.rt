@@ -1,13 +1,14 @@
 //! The volume over real files. It tells nothing of content.
-ghost use Rattle.std.specs.Prelude.{◌≡◌, false};
+ghost use Rattle.std.specs.Prelude.{◌≡◌, None, false, IfOk, Ok};
 ghost use Rattle.tc_io.specs.Causes.{HasCause};
 
-use crate::names::{folder_of, path_of};
+use crate::bound_copy::BoundCopy;
+use crate::file_list::{cut_of, len_of, open_all, sync_of, write_of};
+use crate::names::folder_of;
 use crate::real_file::RealFile;
 use std::alloc::Global;
 use std::fs::File;
 use std::io;
-use std::io::ErrorKind;
 use std::rt::Files;
 use tc_base::Fault;
 use tc_io::Volume;
@@ -17,6 +18,9 @@ use tc_io::Volume;
 ///
 /// A `bind` opens those that are there, and makes none; a file is made at its first write. The main file and the undo log are locked against another process
 /// from when they are opened or made: of two processes one has a fault at its `bind` or at its first write. Each failed call of the system is a fault.
+///
+/// The copy of `x.tch` under a label is `x.LABEL.tch`, with files of the same endings behind that name. They are open and locked from `bind_copy` to `end_copy`.
+/// A file of a copy that is absent costs no call of the system but the one that looks for it.
 #[derive(Drop)]
 pub struct FolderVolume<'a, R> {
     rt: &'a R,
@@ -24,17 +28,15 @@ pub struct FolderVolume<'a, R> {
     name: String,
     files: Vec<RealFile>,
     is_bound: bool,
+    copy: BoundCopy,
     faults: u64,
-}
-
-fn missing() -> io::Error {
-    ErrorKind::NotFound.into()
 }
 
 impl<'a, R: Files<File = File>> FolderVolume<'a, R> {
     /// A volume that isn't bound yet. It calls nothing of the system and takes no memory.
     pub fn new(rt: &'a R, alloc: Global) -> FolderVolume<'a, R>
-        ensures { result.is_bound ≡ false }
+        ensures bound { result.is_bound ≡ false }
+        ensures copy { result.copy.label ≡ None }
     {
         FolderVolume {
             rt,
@@ -42,62 +44,15 @@ impl<'a, R: Files<File = File>> FolderVolume<'a, R> {
             name: String::new(alloc),
             files: Vec::new(alloc),
             is_bound: false,
+            copy: BoundCopy::none(alloc),
             faults: 0,
         }
     }
 }
 
-// Opens the files of a name that are there, the main file first.
-fn open_all<R: Files<File = File>>(rt: &R, alloc: Global, name: &str) -> io::Result<Vec<RealFile>> {
-    let mut files = Vec::with_capacity(alloc, 19)?;
-    for file in 0..19u32 {
-        let path = path_of(alloc, name, file)?;
-        files.push(RealFile::open(rt, alloc, path, file <= 1)?)?;
-    }
-    Ok(files)
-}
-
-// A file by its number.
-fn file_of(files: &mut [RealFile], file: u32) -> io::Result<&mut RealFile> {
-    let Some(one) = files.get_mut(file as usize) else {
-        return Err(missing());
-    };
-    Ok(one)
-}
-
-fn len_of(files: &mut [RealFile], file: u32) -> io::Result<u64> {
-    Ok(file_of(files, file)?.len())
-}
-
-fn read_of(files: &mut [RealFile], file: u32, at: u64, into: &mut [u8]) -> io::Result<()> {
-    file_of(files, file)?.read(at, into)
-}
-
-fn write_of<R: Files<File = File>>(
-    files: &mut [RealFile],
-    rt: &R,
-    file: u32,
-    at: u64,
-    bytes: &[u8],
-) -> io::Result<()> {
-    file_of(files, file)?.write(rt, at, bytes)
-}
-
-fn cut_of(files: &mut [RealFile], file: u32, len: u64) -> io::Result<()> {
-    file_of(files, file)?.cut(len)
-}
-
-fn sync_of<R: Files<File = File>>(
-    files: &mut [RealFile],
-    rt: &R,
-    file: u32,
-    folder: &str,
-) -> io::Result<()> {
-    file_of(files, file)?.sync(rt, folder)
-}
-
 // The answer to a call, after a fault was counted where it failed.
 fn counted<T>(faults: &mut u64, done: io::Result<T>) -> Result<T, Fault>
+    ensures value { IfOk result (λ value. done ≡ Ok value) }
     ensures cause { HasCause faults.old faults.new result }
 {
     match done {
@@ -111,6 +66,7 @@ fn counted<T>(faults: &mut u64, done: io::Result<T>) -> Result<T, Fault>
 
 impl<'a, R: Files<File = File>> Volume for FolderVolume<'a, R> {
     ghost use Rattle.std.specs.Prelude.{None, []};
+    ghost use Rattle.tc_realfs.specs.Labelled.{text_in};
 
     ghost tells = { ⊥ };
 
@@ -118,11 +74,13 @@ impl<'a, R: Files<File = File>> Volume for FolderVolume<'a, R> {
 
     ghost bound = { λ v. v.is_bound };
 
-    ghost names = { λ _. None };
+    ghost names = { λ v. record { told = None; label = text_in v.copy.label; copies = λ l. [] } };
 
     ghost faults = { λ v. v.faults };
 
     ghost now_is_image = { λ v told. absurd told };
+
+    ghost copy_is_image = { λ v label told. absurd told };
 
     fn bind(&mut self, name: &str) -> Result<(), Fault> {
         let opened = open_all(self.rt, self.alloc, name);
@@ -132,6 +90,7 @@ impl<'a, R: Files<File = File>> Volume for FolderVolume<'a, R> {
             self.faults = self.faults.saturating_add(1);
             return Err(Fault);
         };
+        self.copy.forget_ahead();
         self.name = copy;
         self.files = files;
         self.is_bound = true;
@@ -144,16 +103,18 @@ impl<'a, R: Files<File = File>> Volume for FolderVolume<'a, R> {
     }
 
     fn read(&mut self, file: u32, at: u64, into: &mut [u8]) -> Result<(), Fault> {
-        let done = read_of(&mut self.files, file, at, into);
+        let done = self.copy.read_source(&mut self.files, file, at, into);
         counted(&mut self.faults, done)
     }
 
     fn write(&mut self, file: u32, at: u64, bytes: &[u8]) -> Result<(), Fault> {
+        self.copy.forget_ahead();
         let done = write_of(&mut self.files, self.rt, file, at, bytes);
         counted(&mut self.faults, done)
     }
 
     fn cut(&mut self, file: u32, len: u64) -> Result<(), Fault> {
+        self.copy.forget_ahead();
         let done = cut_of(&mut self.files, file, len);
         counted(&mut self.faults, done)
     }
@@ -162,5 +123,46 @@ impl<'a, R: Files<File = File>> Volume for FolderVolume<'a, R> {
         let folder = folder_of(self.name.as_str());
         let done = sync_of(&mut self.files, self.rt, file, folder);
         counted(&mut self.faults, done)
+    }
+
+    fn bind_copy(&mut self, label: &[u8]) -> Result<(), Fault> {
+        let sent = self.copy.send(self.rt);
+        counted(&mut self.faults, sent)?;
+        self.copy = BoundCopy::none(self.alloc);
+        let opened = BoundCopy::open(self.rt, self.alloc, self.name.as_str(), label);
+        let copy = counted(&mut self.faults, opened)?;
+        self.copy = copy;
+        Ok(())
+    }
+
+    fn copy_len(&mut self, file: u32) -> Result<u64, Fault> {
+        let len = self.copy.len(self.rt, file);
+        counted(&mut self.faults, len)
+    }
+
+    fn copy_read(&mut self, file: u32, at: u64, into: &mut [u8]) -> Result<(), Fault> {
+        let done = self.copy.read(self.rt, file, at, into);
+        counted(&mut self.faults, done)
+    }
+
+    fn copy_write(&mut self, file: u32, at: u64, bytes: &[u8]) -> Result<(), Fault> {
+        let done = self.copy.write(self.rt, file, at, bytes);
+        counted(&mut self.faults, done)
+    }
+
+    fn copy_cut(&mut self, file: u32, len: u64) -> Result<(), Fault> {
+        let done = self.copy.cut(self.rt, file, len);
+        counted(&mut self.faults, done)
+    }
+
+    fn copy_sync(&mut self, file: u32) -> Result<(), Fault> {
+        let done = self.copy.sync(self.rt, file);
+        counted(&mut self.faults, done)
+    }
+
+    fn end_copy(&mut self) {
+        let sent = self.copy.send(self.rt);
+        let _ = counted(&mut self.faults, sent);
+        self.copy = BoundCopy::none(self.alloc);
     }
 }

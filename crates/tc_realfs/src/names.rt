@@ -1,6 +1,8 @@
 //! The names of the files of a database.
 
 use std::alloc::{AllocError, Global};
+use std::io;
+use std::io::ErrorKind;
 
 /// The path of a file by its number: the name itself, and the name with `.undo`, with `.ulog` and with `.idx.00` to `.idx.15`.
 pub fn path_of(alloc: Global, name: &str, file: u32) -> Result<String, AllocError> {
@@ -21,5 +23,19 @@ pub fn folder_of(name: &str) -> &str {
         Some((folder, _)) if folder.is_empty() => "/",
         Some((folder, _)) => folder,
         None => ".",
+    }
+}
+
+/// The name of the copy under a label: the label stands before the ending of the name, as in `h.mon.tch` of `h.tch`. A name without an ending has no copies, since
+/// behind it a label could name one of its own files.
+pub fn copy_of(alloc: Global, name: &str, label: &[u8]) -> io::Result<String> {
+    let Ok(label) = str::from_utf8(label) else {
+        return Err(ErrorKind::InvalidInput.into());
+    };
+    match name.rsplit_once('.') {
+        Some((front, ending)) if !ending.contains('/') => {
+            Ok(format!(in alloc; "{front}.{label}.{ending}")?)
+        }
+        _ => Err(ErrorKind::InvalidInput.into()),
     }
 }

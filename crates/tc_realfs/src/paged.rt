@@ -27,8 +27,8 @@ impl<'a> Source for &'a File {
     }
 }
 
-// Fills bytes with those from a place on, of bytes that stand at a place before it.
-fn take_from(start: u64, bytes: &[u8], at: u64, into: &mut [u8])
+/// Fills bytes with those from a place on, of bytes that stand at a place before it.
+pub fn take_from(start: u64, bytes: &[u8], at: u64, into: &mut [u8])
     requires behind { start ≤ at }
     requires inside { at + length into.old ≤ start + length bytes.now }
     ensures { (file : List ℕ) → bytes.now ≡ take (length bytes.now) (drop start file) → into.new ≡ take (length into.old) (drop at file) }
@@ -90,7 +90,7 @@ fn read_both<S: Source>(
 }
 
 /// Fills bytes with those from a place on of a file of a length, by one call at most. Less than a page is read of the pages that it lies in, of which those
-/// that aren't there are read whole.
+/// that aren't there are read whole; of more than that the pages that lie whole in it are kept.
 pub fn read<S: Source + Drop>(
     pages: &mut Pages,
     source: S,
@@ -103,8 +103,13 @@ pub fn read<S: Source + Drop>(
     ensures shows { StillShowsTold (S.bytes source) pages.old pages.new }
 {
     let end = at + into.len() as u64;
-    if into.len() as u64 >= PAGE || end > len {
+    if end > len {
         return source.read_at(at, into);
+    }
+    if into.len() as u64 >= PAGE {
+        source.read_at(at, into)?;
+        pages.keep_whole(at, into);
+        return Ok(());
     }
     let here = into.len().min((PAGE - at % PAGE) as usize);
     let next = at + here as u64;

@@ -71,8 +71,8 @@ fn put_over(into: &mut Vec<u8>, at: usize, bytes: &[u8])
     put_at(into, at, over);
 }
 
-// So many bytes, with zeros where there were fewer. They are copied, since filling takes a step for each.
-fn resize(room: &mut Vec<u8>, count: usize) -> Result<(), AllocError>
+/// So many bytes, with zeros where there were fewer. They are copied, since filling takes a step for each.
+pub fn resize(room: &mut Vec<u8>, count: usize) -> Result<(), AllocError>
     ensures { OnOk result (length room.new.items ≡ count) }
 {
     room.truncate(count);
@@ -226,6 +226,19 @@ impl Pages {
         };
         room.copy_from_slice(bytes);
         self.fill(number, room);
+    }
+
+    /// Keeps copies of the pages that lie whole in bytes from a place on, as far as there is memory for them.
+    pub fn keep_whole(&mut self, at: u64, bytes: &[u8])
+        requires inside { at + length bytes.now < 2 ^ 64 }
+        ensures { (file : List ℕ) → bytes.now ≡ take (length bytes.now) (drop at file) → Shows self.old file → Shows self.new file }
+    {
+        let mut done = ((PAGE - at % PAGE) % PAGE) as usize;
+        while done < bytes.len() && bytes.len() - done >= PAGE as usize {
+            let number = (at + done as u64) / PAGE;
+            self.keep(number, &bytes[done..done + PAGE as usize]);
+            done += PAGE as usize;
+        }
     }
 
     // Brings in what was written from a place on in one page.

@@ -1,5 +1,6 @@
 //! One file of a folder, which may be absent.
 
+use crate::ahead::Ahead;
 use crate::paged;
 use crate::pages::Pages;
 use std::alloc::Global;
@@ -86,6 +87,18 @@ impl RealFile {
             return Ok(());
         };
         paged::read(&mut self.pages, file, self.len, at, into)
+    }
+
+    /// Fills bytes from a place on, and reads those behind them ahead. The system is asked once at most.
+    pub fn read_ahead(&self, ahead: &mut Ahead, at: u64, into: &mut [u8]) -> io::Result<()> {
+        let size = into.len() as u64;
+        if at > self.len || size > self.len - at {
+            return Err(outside());
+        }
+        let Some(file) = &self.handle else {
+            return Ok(());
+        };
+        ahead.read(file, self.len, at, into)
     }
 
     // Makes it where it is absent.

@@ -4,9 +4,9 @@ use Rattle.std.proofs.Common.{◌∙◌, arith, refl, inl, inr, ⊎_elim}
 use Rattle.tc_space.specs.Moments.{Steady, steady_refl, steady_then}
 use Rattle.tc_space.specs.declared.space.Space.{Ghosts}
 
--- whatever the call answers: a stop leaves what is kept, and that stays; limits and names stay, and faults are only added
+-- whatever the call answers: a stop leaves what is kept, and that stays; so do limits, names and what was, and faults are only added
 pub record Keeps {S : Type 0} (s : Ghosts S) (old new : S) : Type 0 where
-  pub steady : s.tells → Steady s.moment s.left s.kept old new
+  pub steady : s.tells → Steady s.moment s.files_at s.left s.kept old new
   pub same_limit : s.limit new ≡ s.limit old
   pub same_names : s.names new ≡ s.names old
   pub later : s.faults old ≤ s.faults new
@@ -31,11 +31,11 @@ pub record OnlyWrites {S : Type 0} (s : Ghosts S) (old new : S) : Type 0 where
 
 module _ {S : Type 0} (s : Ghosts S) where
   pub keeps_refl : (a : S) → Keeps s a a
-  keeps_refl a = record { steady = λ t. steady_refl s.moment s.left s.kept a; same_limit = refl; same_names = refl; later = omega arith }
+  keeps_refl a = record { steady = λ t. steady_refl s.moment s.left s.files_at s.kept a; same_limit = refl; same_names = refl; later = omega arith }
 
   pub keeps_then : (a b c : S) → Keeps s a b → Keeps s b c → Keeps s a c
   keeps_then a b c first second = record {
-    steady = λ t. steady_then s.moment s.left s.kept a b c (first.steady t) (second.steady t);
+    steady = λ t. steady_then s.moment s.left s.files_at s.kept a b c (first.steady t) (second.steady t);
     same_limit = second.same_limit ∙ first.same_limit;
     same_names = second.same_names ∙ first.same_names;
     later = omega (arith, first.later, second.later);

@@ -2,6 +2,7 @@ pub mod Changes
 pub mod Effects
 pub mod Errors
 pub mod Frames
+pub mod Lists
 pub mod Moments
 pub mod NoFiles
 pub mod Ranges

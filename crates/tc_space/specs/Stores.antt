@@ -1,8 +1,13 @@
 -- What a call does to a map, or to a list of pairs, that is kept in one file of a space.
 use Rattle.std.specs.Prelude.{◌≡◌, ◌⊎◌, ℕ, ◌+◌, ◌-◌, ◌^◌, ◌≤◌, min, List, Bool, true, false, Option, None, IsSome, Result, IfOk, OnErr}
+use Rattle.std.specs.FinMap.{get}
 use Rattle.std.proofs.Common.{inl, inr, ⊎_elim, refl, arith}
+use Rattle.tc_base.specs.Maps.{Map}
+use Rattle.tc_base.specs.declared.kind.Form.{Form}
+use Rattle.tc_base.specs.declared.kind.Form.TheVariants.{Large}
 use Rattle.tc_base.specs.declared.kind.Mode.{Mode}
 use Rattle.tc_base.specs.declared.kind.Mode.TheVariants.{Keep}
+use Rattle.tc_space.specs.Changes.{put_value}
 use Rattle.tc_space.specs.Frames.{In, Reads, Refuses, Writes}
 use Rattle.tc_space.specs.declared.space.Space.{Ghosts}
 
@@ -15,15 +20,17 @@ pub record IsReady {S V M : Type 0} (s : Ghosts S) (Means : V → S → M → Ty
 abbrev pub Only : ℕ → ℕ → Type 0
 Only file g = g ≡ file
 
--- the file, the region and the count of gets stay
-pub record StaysMap {V : Type 0} (file_of : V → ℕ) (region : V → List ℕ) (gets : V → ℕ) (old new : V) : Type 0 where
+-- the file, its type, the region and the count of gets stay
+pub record StaysMap {V : Type 0} (file_of sort : V → ℕ) (region : V → List ℕ) (gets : V → ℕ) (old new : V) : Type 0 where
   pub file : file_of new ≡ file_of old
+  pub sort_same : sort new ≡ sort old
   pub region_same : region new ≡ region old
   pub gets_same : gets new ≡ gets old
 
--- the file and the region stay, and a get is counted
-pub record CountsGet {V : Type 0} (file_of : V → ℕ) (region : V → List ℕ) (gets : V → ℕ) (old new : V) : Type 0 where
+-- the file, its type and the region stay, and a get is counted
+pub record CountsGet {V : Type 0} (file_of sort : V → ℕ) (region : V → List ℕ) (gets : V → ℕ) (old new : V) : Type 0 where
   pub file : file_of new ≡ file_of old
+  pub sort_same : sort new ≡ sort old
   pub region_same : region new ≡ region old
   pub counted : gets new ≡ min (gets old + 1) (2 ^ 64 - 1)
 
@@ -47,6 +54,19 @@ pub record TakesOut {S V M : Type 0} (s : Ghosts S) (own : ℕ → Type 0) (Mean
 -- a limit is reached, as the space stands, on the way from what was held to what the call was to make of it
 pub record FullBy {S V M : Type 0} (Means : V → S → M → Type 0) (fills : V → S → M → M → Type 0) (f : M → M) (v : V) (old new : S) : Type 0 where
   pub by : (m : M) → Means v old m → fills v new m (f m)
+
+-- a put to a map had no room. With Keep the key isn't held; and the undo log is full, or there was no block for the record of the key with its value
+pub record FullPut {S V : Type 0} (s : Ghosts S) (Means : V → S → Map → Type 0) (lacks : V → S → S → List ℕ → List ℕ → Type 0) (mode : Mode) (key value : List ℕ) (v : V) (old new : S) : Type 0 where
+  pub free : mode ≡ Keep → (m : Map) → Means v old m → get m key ≡ None
+  pub by : (m : Map) → Means v old m → s.log_full new ⊎ lacks v old new key (put_value mode (get m key) value)
+
+-- a packing had no room: the undo log is full, or a file written anew in the large form had none
+abbrev pub FullPack : {S V : Type 0} → Ghosts S → (V → S → S → Type 0) → Form → V → S → S → Type 0
+FullPack s lacks_large form v old new = s.tells → s.log_full new ⊎ ((form ≡ Large) × lacks_large v old new)
+
+-- what was packed in a form is so still
+abbrev pub KeepsTight : {V : Type 0} → (V → Form → Type 0) → V → V → Type 0
+KeepsTight tight old new = (form : Form) → tight old form → tight new form
 
 -- a counter rose by at least as much as the count of gets did, or stands where it stops
 pub record Ticks (gets gets' steps steps' : ℕ) : Type 0 where
@@ -83,6 +103,12 @@ module _ {S V M : Type 0} (s : Ghosts S) (file : V → ℕ) (holds : V → List 
 
   abbrev pub FullIn : (V → S → M → M → Type 0) → (M → M) → V → S → S → Type 0
   FullIn fills f v old new = FullBy (In s file holds) fills f v old new
+
+-- ---- of a map
+
+module _ {S V : Type 0} (s : Ghosts S) (file : V → ℕ) (holds : V → List ℕ → Map → Type 0) where
+  abbrev pub FullPutIn : (V → S → S → List ℕ → List ℕ → Type 0) → Mode → List ℕ → List ℕ → V → S → S → Type 0
+  FullPutIn lacks mode key value v old new = FullPut s (In s file holds) lacks mode key value v old new
 
 -- ---- it may be called again
 

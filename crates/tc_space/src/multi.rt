@@ -1,11 +1,13 @@
 //! A list of pairs over one file.
 ghost use Rattle.std.specs.Prelude.{◌≡◌, ℕ, List, length, OnOk, IsErrOf};
 ghost use Rattle.tc_base.specs.Lists.{Rises};
+ghost use Rattle.tc_base.specs.declared.kind.Form.{Form};
 ghost use Rattle.tc_base.specs.declared.seq.Pair.{Pair};
 ghost use Rattle.tc_space.specs.Changes.{all_out, first_in, first_out, has_pair, inside_first, put_first, put_last, same, values_in};
 ghost use Rattle.tc_space.specs.Frames.{In, Keeps};
-ghost use Rattle.tc_space.specs.Refusals.{Blamed, Blames, OnFault};
-ghost use Rattle.tc_space.specs.Stores.{AnswersIn, ExistsIn, FullIn, PutsIn, ReadsIn, ReadyIn, RefusesIn, TakesIn, Ticks, WritesIn};
+ghost use Rattle.tc_space.specs.Lists.{FullFrom, Made, StaysList, StaysPacked};
+ghost use Rattle.tc_space.specs.Refusals.{Blamed, Blames, OnFault, OnlyLogIsFull};
+ghost use Rattle.tc_space.specs.Stores.{AnswersIn, ExistsIn, FullPack, PutsIn, ReadsIn, ReadyIn, RefusesIn, TakesIn, Ticks, WritesIn};
 
 use crate::errors::{PutErr, RecErr};
 use crate::space::Space;
@@ -26,11 +28,23 @@ pub trait Multi {
     /// With these bytes in its file it holds these pairs.
     ghost holds: { Self → List ℕ → List Pair → Type 0 };
 
-    /// A file of these bytes opens to these pairs.
-    ghost stands: { List ℕ → List Pair → Type 0 };
+    /// What it was made with.
+    ghost made: { Self → Made };
 
-    /// A limit is reached, as the space stands, on the way from a list to another.
-    ghost fills: { Self → Self.S → List Pair → List Pair → Type 0 };
+    /// A file of these bytes opens to these pairs, in a list that was made so.
+    ghost stands: { Made → List ℕ → List Pair → Type 0 };
+
+    /// By the list and the space before a call, as the space stands at its end: a limit is reached on the way from these pairs to those.
+    ghost fills: { Self → Self.S → Self.S → List Pair → List Pair → Type 0 };
+
+    /// So it is of a file that was to be written anew in the large form, with the records that it has: its sections or one of these had no room.
+    ghost lacks_large: { Self → Self.S → Self.S → Type 0 };
+
+    /// It was packed in this form, and nothing was put or taken out since.
+    ghost tight: { Self → Form → Type 0 };
+
+    /// These bytes are a file that is packed in this form.
+    ghost packed: { Form → List ℕ → Type 0 };
 
     /// How often the map that it stands on was asked for a key, up to the greatest number.
     ghost gets: { Self → ℕ };
@@ -54,7 +68,7 @@ pub trait Multi {
         ensures value { AnswersIn Self.S.Space file_of holds result (first_in key.now) self.old space.old }
         ensures reads { ReadsIn Self.S.Space file_of holds self.old self.new space.old space.new }
         ensures keeps { Keeps Self.S.Space space.old space.new }
-        ensures file { file_of self.new ≡ file_of self.old }
+        ensures stays { StaysPacked file_of made tight self.old self.new }
         ensures steps { Ticks (gets self.old) (gets self.new) steps.old steps.new }
         ensures cause { Blames Self.S.Space result space.old space.new };
 
@@ -64,7 +78,7 @@ pub trait Multi {
         ensures value { AnswersIn Self.S.Space file_of holds result (values_in key.now) self.old space.old }
         ensures reads { ReadsIn Self.S.Space file_of holds self.old self.new space.old space.new }
         ensures keeps { Keeps Self.S.Space space.old space.new }
-        ensures file { file_of self.new ≡ file_of self.old }
+        ensures stays { StaysPacked file_of made tight self.old self.new }
         ensures cause { Blames Self.S.Space result space.old space.new };
 
     /// Replaces the first value of a key, or joins behind it, or adds the pair where the key isn't held. Exists comes exactly with `Keep` on
@@ -80,9 +94,9 @@ pub trait Multi {
         ensures put { OnOk result (PutsIn Self.S.Space file_of holds mode (first_in key.now) (put_first Self.O.cmp mode key.now value.now) self.old self.new space.old space.new) }
         ensures exists { IsErrOf result PutErr.Exists → ExistsIn Self.S.Space file_of holds mode (first_in key.now) self.old self.new space.old space.new }
         ensures refused { RefusesIn Self.S.Space file_of holds result self.old self.new space.old space.new }
-        ensures full { IsErrOf result PutErr.Full → FullIn Self.S.Space file_of holds fills (put_first Self.O.cmp mode key.now value.now) self.old space.old space.new }
+        ensures full { IsErrOf result PutErr.Full → FullFrom (In Self.S.Space file_of holds) fills (put_first Self.O.cmp mode key.now value.now) self.old space.old space.new }
         ensures keeps { Keeps Self.S.Space space.old space.new }
-        ensures file { file_of self.new ≡ file_of self.old }
+        ensures stays { StaysList file_of made self.old self.new }
         ensures cause { Blamed Self.S.Space (IsErrOf result PutErr.Fault) space.old space.new };
 
     /// Adds a pair behind those of its key.
@@ -90,9 +104,9 @@ pub trait Multi {
         requires { ReadyIn Self.S.Space file_of holds self.old space.old }
         ensures put { OnOk result (WritesIn Self.S.Space file_of holds (put_last Self.O.cmp key.now value.now) self.old self.new space.old space.new) }
         ensures refused { RefusesIn Self.S.Space file_of holds result self.old self.new space.old space.new }
-        ensures full { IsErrOf result RecErr.Full → FullIn Self.S.Space file_of holds fills (put_last Self.O.cmp key.now value.now) self.old space.old space.new }
+        ensures full { IsErrOf result RecErr.Full → FullFrom (In Self.S.Space file_of holds) fills (put_last Self.O.cmp key.now value.now) self.old space.old space.new }
         ensures keeps { Keeps Self.S.Space space.old space.new }
-        ensures file { file_of self.new ≡ file_of self.old }
+        ensures stays { StaysList file_of made self.old self.new }
         ensures cause { OnFault Self.S.Space result space.old space.new };
 
     /// Takes the first pair of a key out. False comes exactly where the key isn't held.
@@ -100,9 +114,9 @@ pub trait Multi {
         requires { ReadyIn Self.S.Space file_of holds self.old space.old }
         ensures out { TakesIn Self.S.Space file_of holds result (has_pair key.now) (first_out Self.O.cmp key.now) self.old self.new space.old space.new }
         ensures refused { RefusesIn Self.S.Space file_of holds result self.old self.new space.old space.new }
-        ensures full { IsErrOf result RecErr.Full → FullIn Self.S.Space file_of holds fills (first_out Self.O.cmp key.now) self.old space.old space.new }
+        ensures full { IsErrOf result RecErr.Full → FullFrom (In Self.S.Space file_of holds) fills (first_out Self.O.cmp key.now) self.old space.old space.new }
         ensures keeps { Keeps Self.S.Space space.old space.new }
-        ensures file { file_of self.new ≡ file_of self.old }
+        ensures stays { StaysList file_of made self.old self.new }
         ensures cause { OnFault Self.S.Space result space.old space.new };
 
     /// Takes all pairs of a key out. False comes exactly where the key isn't held.
@@ -110,9 +124,9 @@ pub trait Multi {
         requires { ReadyIn Self.S.Space file_of holds self.old space.old }
         ensures out { TakesIn Self.S.Space file_of holds result (has_pair key.now) (all_out Self.O.cmp key.now) self.old self.new space.old space.new }
         ensures refused { RefusesIn Self.S.Space file_of holds result self.old self.new space.old space.new }
-        ensures full { IsErrOf result RecErr.Full → FullIn Self.S.Space file_of holds fills (all_out Self.O.cmp key.now) self.old space.old space.new }
+        ensures full { IsErrOf result RecErr.Full → FullFrom (In Self.S.Space file_of holds) fills (all_out Self.O.cmp key.now) self.old space.old space.new }
         ensures keeps { Keeps Self.S.Space space.old space.new }
-        ensures file { file_of self.new ≡ file_of self.old }
+        ensures stays { StaysList file_of made self.old self.new }
         ensures cause { OnFault Self.S.Space result space.old space.new };
 
     /// The first pairs of a stretch of keys, at most `max`.
@@ -127,29 +141,31 @@ pub trait Multi {
         ensures value { AnswersIn Self.S.Space file_of holds result (inside_first max (C.side_of cut.now)) self.old space.old }
         ensures reads { ReadsIn Self.S.Space file_of holds self.old self.new space.old space.new }
         ensures keeps { Keeps Self.S.Space space.old space.new }
-        ensures file { file_of self.new ≡ file_of self.old }
+        ensures stays { StaysPacked file_of made tight self.old self.new }
         ensures steps { Ticks (gets self.old) (gets self.new) steps.old steps.new }
         ensures cause { Blames Self.S.Space result space.old space.new };
 
-    /// Brings what is held in memory to the file, which then stands for the pairs.
+    /// Brings what is held in memory to the file, which then stands for the pairs; where it was packed it is a packed file. It is full only where the undo log is.
     fn settle(&mut self, space: &mut Self::S) -> Result<(), RecErr>
         requires { ReadyIn Self.S.Space file_of holds self.old space.old }
         ensures settled { OnOk result (WritesIn Self.S.Space file_of holds same self.old self.new space.old space.new) }
-        ensures stands { OnOk result ((ps : List Pair) → In Self.S.Space file_of holds self.old space.old ps → stands (Self.S.now space.new (file_of self.old)) ps) }
+        ensures stands { OnOk result ((ps : List Pair) → In Self.S.Space file_of holds self.old space.old ps → stands (made self.old) (Self.S.now space.new (file_of self.old)) ps) }
+        ensures packs { OnOk result ((form : Form) (ps : List Pair) → tight self.old form → In Self.S.Space file_of holds self.old space.old ps → packed form (Self.S.now space.new (file_of self.old))) }
         ensures refused { RefusesIn Self.S.Space file_of holds result self.old self.new space.old space.new }
-        ensures full { IsErrOf result RecErr.Full → FullIn Self.S.Space file_of holds fills same self.old space.old space.new }
+        ensures full { OnlyLogIsFull Self.S.Space result space.new }
         ensures keeps { Keeps Self.S.Space space.old space.new }
-        ensures file { file_of self.new ≡ file_of self.old }
+        ensures stays { StaysPacked file_of made tight self.old self.new }
         ensures cause { OnFault Self.S.Space result space.old space.new };
 
-    /// Packs the file, in the form that it has or in the large one. The pairs stay.
+    /// Packs the file, in the form that it has or in the large one. The pairs stay. In the form that it has it is full only where the undo log is.
     fn pack(&mut self, space: &mut Self::S, form: Form) -> Result<(), RecErr>
         requires { ReadyIn Self.S.Space file_of holds self.old space.old }
         ensures packed { OnOk result (WritesIn Self.S.Space file_of holds same self.old self.new space.old space.new) }
+        ensures tight { OnOk result (tight self.new form) }
         ensures refused { RefusesIn Self.S.Space file_of holds result self.old self.new space.old space.new }
-        ensures full { IsErrOf result RecErr.Full → FullIn Self.S.Space file_of holds fills same self.old space.old space.new }
+        ensures full { IsErrOf result RecErr.Full → FullPack Self.S.Space lacks_large form self.old space.old space.new }
         ensures keeps { Keeps Self.S.Space space.old space.new }
-        ensures file { file_of self.new ≡ file_of self.old }
+        ensures stays { StaysList file_of made self.old self.new }
         ensures cause { OnFault Self.S.Space result space.old space.new };
 
     /// The pairs stand in the order of their keys.

@@ -33,6 +33,7 @@ impl Space for NoSpace {
     ghost use Rattle.std.specs.Prelude.{[], Some, None, ℕ, List, Option, true, ◌≤◌};
     ghost use Rattle.std.proofs.Common.{refl, arith};
     ghost use Rattle.tc_base.specs.Files.{Files};
+    ghost use Rattle.tc_io.specs.Copies.{unnamed};
     ghost use Rattle.tc_space.specs.NoFiles.{no_files};
 
     ghost tells = { Unit {0} };
@@ -42,6 +43,8 @@ impl Space for NoSpace {
     ghost kept = { λ _. Some no_files };
 
     ghost moment = { λ _. 0 };
+
+    ghost files_at = { λ _ t. no_files };
 
     ghost left = { λ _ t o. o ≡ Some no_files };
 
@@ -53,7 +56,7 @@ impl Space for NoSpace {
 
     ghost limit = { λ _ f. 0 };
 
-    ghost names = { λ _. None };
+    ghost names = { λ _. unnamed };
 
     ghost overfills = { λ _ f at size. ⊥ };
 
@@ -72,6 +75,8 @@ impl Space for NoSpace {
     ghost within = { λ s file told sound is. omega arith };
 
     ghost earlier = { λ s t u o le left. left };
+
+    ghost present = { λ s told. refl };
 
     ghost flagged = { λ s sound. sound };
 
@@ -104,6 +109,11 @@ impl Space for NoSpace {
 
     fn commit(&mut self) -> Result<(), Fault> {
         self.touched = false;
+        Ok(())
+    }
+
+    // A copy of no files.
+    fn copy(&mut self, _label: &[u8]) -> Result<(), Fault> {
         Ok(())
     }
 

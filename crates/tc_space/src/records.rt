@@ -1,11 +1,12 @@
 //! A map over one file.
 ghost use Rattle.std.specs.Prelude.{◌≡◌, ◌≤◌, ℕ, List, OnOk, IsErrOf};
-ghost use Rattle.std.specs.FinMap.{keys, len};
+ghost use Rattle.std.specs.FinMap.{empty, keys, len};
 ghost use Rattle.tc_base.specs.Maps.{Map};
+ghost use Rattle.tc_base.specs.declared.kind.Form.{Form};
 ghost use Rattle.tc_space.specs.Changes.{is_in, out_of, put_in, same, value_in};
 ghost use Rattle.tc_space.specs.Frames.{In, Keeps};
-ghost use Rattle.tc_space.specs.Refusals.{Blamed, Blames, OnFault};
-ghost use Rattle.tc_space.specs.Stores.{AnswersIn, CountsGet, ExistsIn, FullIn, PutsIn, ReadsIn, ReadyIn, RefusesIn, StaysMap, TakesIn, WritesIn};
+ghost use Rattle.tc_space.specs.Refusals.{Blamed, Blames, OnFault, OnlyLogIsFull};
+ghost use Rattle.tc_space.specs.Stores.{AnswersIn, CountsGet, ExistsIn, FullPack, FullPutIn, KeepsTight, PutsIn, ReadsIn, ReadyIn, RefusesIn, StaysMap, TakesIn, WritesIn};
 
 use crate::errors::{PutErr, RecErr};
 use crate::space::Space;
@@ -23,14 +24,26 @@ pub trait Records {
     /// With these bytes in its file it holds this map.
     ghost holds: { Self → List ℕ → Map → Type 0 };
 
-    /// A file of these bytes opens to this map and region.
-    ghost stands: { List ℕ → Map → List ℕ → Type 0 };
+    /// The type byte of its file.
+    ghost sort: { Self → ℕ };
+
+    /// A file of this type and these bytes opens to this map and region.
+    ghost stands: { ℕ → List ℕ → Map → List ℕ → Type 0 };
 
     /// The region.
     ghost region: { Self → List ℕ };
 
-    /// A limit is reached, as the space stands, on the way from a map to another.
-    ghost fills: { Self → Self.S → Map → Map → Type 0 };
+    /// By the store and the space before a call, as the space stands at its end: no block was to be had for a record of this key and value.
+    ghost lacks: { Self → Self.S → Self.S → List ℕ → List ℕ → Type 0 };
+
+    /// So it is of a file that was to be written anew in the large form, with the records that it has: its sections or one of these had no room.
+    ghost lacks_large: { Self → Self.S → Self.S → Type 0 };
+
+    /// It was packed in this form, and nothing was put or taken out since.
+    ghost tight: { Self → Form → Type 0 };
+
+    /// These bytes are a file that is packed in this form.
+    ghost packed: { Form → List ℕ → Type 0 };
 
     /// How often `get` was called, up to the greatest number.
     ghost gets: { Self → ℕ };
@@ -58,7 +71,8 @@ pub trait Records {
         ensures value { AnswersIn Self.S.Space file_of holds result (value_in key.now) self.old space.old }
         ensures reads { ReadsIn Self.S.Space file_of holds self.old self.new space.old space.new }
         ensures keeps { Keeps Self.S.Space space.old space.new }
-        ensures counts { CountsGet file_of region gets self.old self.new }
+        ensures counts { CountsGet file_of sort region gets self.old self.new }
+        ensures tight { KeepsTight tight self.old self.new }
         ensures steps { steps.old ≤ steps.new }
         ensures cause { Blames Self.S.Space result space.old space.new };
 
@@ -75,13 +89,13 @@ pub trait Records {
         ensures put { OnOk result (PutsIn Self.S.Space file_of holds mode (value_in key.now) (put_in mode key.now value.now) self.old self.new space.old space.new) }
         ensures exists { IsErrOf result PutErr.Exists → ExistsIn Self.S.Space file_of holds mode (value_in key.now) self.old self.new space.old space.new }
         ensures refused { RefusesIn Self.S.Space file_of holds result self.old self.new space.old space.new }
-        ensures full { IsErrOf result PutErr.Full → FullIn Self.S.Space file_of holds fills (put_in mode key.now value.now) self.old space.old space.new }
+        ensures full { IsErrOf result PutErr.Full → FullPutIn Self.S.Space file_of holds lacks mode key.now value.now self.old space.old space.new }
         ensures keeps { Keeps Self.S.Space space.old space.new }
-        ensures stays { StaysMap file_of region gets self.old self.new }
+        ensures stays { StaysMap file_of sort region gets self.old self.new }
         ensures steps { steps.old ≤ steps.new }
         ensures cause { Blamed Self.S.Space (IsErrOf result PutErr.Fault) space.old space.new };
 
-    /// Takes a key out. False comes exactly where it isn't held.
+    /// Takes a key out. False comes exactly where it isn't held. It is full only where the undo log is.
     fn out<L>(
         &mut self,
         space: &mut Self::S,
@@ -91,9 +105,9 @@ pub trait Records {
         requires { ReadyIn Self.S.Space file_of holds self.old space.old }
         ensures out { TakesIn Self.S.Space file_of holds result (is_in key.now) (out_of key.now) self.old self.new space.old space.new }
         ensures refused { RefusesIn Self.S.Space file_of holds result self.old self.new space.old space.new }
-        ensures full { IsErrOf result RecErr.Full → FullIn Self.S.Space file_of holds fills (out_of key.now) self.old space.old space.new }
+        ensures full { OnlyLogIsFull Self.S.Space result space.new }
         ensures keeps { Keeps Self.S.Space space.old space.new }
-        ensures stays { StaysMap file_of region gets self.old self.new }
+        ensures stays { StaysMap file_of sort region gets self.old self.new }
         ensures steps { steps.old ≤ steps.new }
         ensures cause { OnFault Self.S.Space result space.old space.new };
 
@@ -103,7 +117,8 @@ pub trait Records {
         ensures value { AnswersIn Self.S.Space file_of holds result keys self.old space.old }
         ensures reads { ReadsIn Self.S.Space file_of holds self.old self.new space.old space.new }
         ensures keeps { Keeps Self.S.Space space.old space.new }
-        ensures stays { StaysMap file_of region gets self.old self.new }
+        ensures stays { StaysMap file_of sort region gets self.old self.new }
+        ensures tight { KeepsTight tight self.old self.new }
         ensures steps { steps.old ≤ steps.new }
         ensures cause { Blames Self.S.Space result space.old space.new };
 
@@ -112,26 +127,42 @@ pub trait Records {
         ensures region { region self.new ≡ bytes.now }
         ensures means { (file : List ℕ) (m : Map) → holds self.old file m → holds self.new file m }
         ensures file { file_of self.new ≡ file_of self.old }
-        ensures gets { gets self.new ≡ gets self.old };
+        ensures gets { gets self.new ≡ gets self.old }
+        ensures sort { sort self.new ≡ sort self.old }
+        ensures tight { KeepsTight tight self.old self.new };
 
-    /// Brings what is held in memory to the file, which then stands for the map and the region.
+    /// Brings what is held in memory to the file, which then stands for the map and the region; where it was packed it is a packed file. It is full only where the
+    /// undo log is.
     fn settle(&mut self, space: &mut Self::S) -> Result<(), RecErr>
         requires { ReadyIn Self.S.Space file_of holds self.old space.old }
         ensures settled { OnOk result (WritesIn Self.S.Space file_of holds same self.old self.new space.old space.new) }
-        ensures stands { OnOk result ((m : Map) → In Self.S.Space file_of holds self.old space.old m → stands (Self.S.now space.new (file_of self.old)) m (region self.old)) }
+        ensures stands { OnOk result ((m : Map) → In Self.S.Space file_of holds self.old space.old m → stands (sort self.old) (Self.S.now space.new (file_of self.old)) m (region self.old)) }
+        ensures packs { OnOk result ((form : Form) (m : Map) → tight self.old form → In Self.S.Space file_of holds self.old space.old m → packed form (Self.S.now space.new (file_of self.old))) }
+        ensures tight { KeepsTight tight self.old self.new }
         ensures refused { RefusesIn Self.S.Space file_of holds result self.old self.new space.old space.new }
-        ensures full { IsErrOf result RecErr.Full → FullIn Self.S.Space file_of holds fills same self.old space.old space.new }
+        ensures full { OnlyLogIsFull Self.S.Space result space.new }
         ensures keeps { Keeps Self.S.Space space.old space.new }
-        ensures stays { StaysMap file_of region gets self.old self.new }
+        ensures stays { StaysMap file_of sort region gets self.old self.new }
         ensures cause { OnFault Self.S.Space result space.old space.new };
 
-    /// Packs the file, in the form that it has or in the large one. The map and the region stay.
+    /// Takes all keys out. The region stays. It is full only where the undo log is.
+    fn clear(&mut self, space: &mut Self::S) -> Result<(), RecErr>
+        requires { ReadyIn Self.S.Space file_of holds self.old space.old }
+        ensures cleared { OnOk result (WritesIn Self.S.Space file_of holds (λ m. empty) self.old self.new space.old space.new) }
+        ensures refused { RefusesIn Self.S.Space file_of holds result self.old self.new space.old space.new }
+        ensures full { OnlyLogIsFull Self.S.Space result space.new }
+        ensures keeps { Keeps Self.S.Space space.old space.new }
+        ensures stays { StaysMap file_of sort region gets self.old self.new }
+        ensures cause { OnFault Self.S.Space result space.old space.new };
+
+    /// Packs the file, in the form that it has or in the large one. The map and the region stay. In the form that it has it is full only where the undo log is.
     fn pack(&mut self, space: &mut Self::S, form: Form) -> Result<(), RecErr>
         requires { ReadyIn Self.S.Space file_of holds self.old space.old }
         ensures packed { OnOk result (WritesIn Self.S.Space file_of holds same self.old self.new space.old space.new) }
+        ensures tight { OnOk result (tight self.new form) }
         ensures refused { RefusesIn Self.S.Space file_of holds result self.old self.new space.old space.new }
-        ensures full { IsErrOf result RecErr.Full → FullIn Self.S.Space file_of holds fills same self.old space.old space.new }
+        ensures full { IsErrOf result RecErr.Full → FullPack Self.S.Space lacks_large form self.old space.old space.new }
         ensures keeps { Keeps Self.S.Space space.old space.new }
-        ensures stays { StaysMap file_of region gets self.old self.new }
+        ensures stays { StaysMap file_of sort region gets self.old self.new }
         ensures cause { OnFault Self.S.Space result space.old space.new };
 }

@@ -1,8 +1,10 @@
-ghost use Rattle.std.specs.Prelude.{◌≡◌, ◌+◌, ◌-◌, ◌^◌, ◌≤◌, ◌⊎◌, true, false, Bool, List, ℕ, length, take, drop, min, is_some, OnOk, OnErr, Option, Some, is_ok, if◌then◌else◌};
+ghost use Rattle.std.specs.Prelude.{◌≡◌, ◌+◌, ◌-◌, ◌^◌, ◌≤◌, ◌⊎◌, true, false, Bool, ℕ, length, take, drop, min, is_some, OnOk, OnErr, Option, Some, is_ok, if◌then◌else◌};
 ghost use Rattle.tc_base.specs.Files.{Files, wrote};
+ghost use Rattle.tc_base.specs.Labels.{is_label};
 ghost use Rattle.tc_io.specs.Causes.{Rose};
+ghost use Rattle.tc_io.specs.Copies.{IsCopied, Named};
 ghost use Rattle.tc_space.specs.Moments.{LeavesOnly};
-ghost use Rattle.tc_space.specs.Effects.{Caused, Changes, FollowsIn, IsFull, LacksRoom, Outcome, Stays, Touches};
+ghost use Rattle.tc_space.specs.Effects.{Caused, Changes, Copies, FollowsIn, IsFull, LacksRoom, Outcome, Stays, Touches};
 ghost use Rattle.tc_space.specs.Ranges.{IsDataFile, Passes, Reaches};
 
 use crate::errors::SpaceErr;
@@ -24,6 +26,9 @@ pub trait Space {
     /// The moment, as a number that doesn't fall.
     ghost moment: { Self → ℕ };
 
+    /// The files as they were at a moment up to now.
+    ghost files_at: { Self → ℕ → Files };
+
     /// What a stop at some moment from that one on leaves, once recovery is done.
     ghost left: { Self → ℕ → Option Files → Type 0 };
 
@@ -39,8 +44,8 @@ pub trait Space {
     /// The greatest length of each file.
     ghost limit: { Self → ℕ → ℕ };
 
-    /// The names that its volume was given, where they are told.
-    ghost names: { Self → Option (List (List ℕ)) };
+    /// The names that its volume was given, where they are told, and its copies, which only `copy` changes.
+    ghost names: { Self → Named };
 
     /// The undo log has no room for the old bytes of so many bytes of a file from a place on.
     ghost overfills: { Self → ℕ → ℕ → ℕ → Type 0 };
@@ -70,7 +75,7 @@ pub trait Space {
         requires reaches { Reaches tells (now self.old) file (at + length into.old) }
         ensures bytes { OnOk result (tells → into.new ≡ take (length into.old) (drop at (now self.old file))) }
         ensures now { tells → (g : ℕ) → now self.new g ≡ now self.old g }
-        ensures stays { Stays tells moment left kept faults limit names self.old self.new }
+        ensures stays { Stays tells moment files_at left kept faults limit names self.old self.new }
         ensures sound { sound self.new }
         ensures touched { touched self.new ≡ touched self.old }
         ensures counted { bytes_read self.new ≡ min (bytes_read self.old + length into.old) (2 ^ 64 - 1) }
@@ -81,7 +86,7 @@ pub trait Space {
         requires sound { sound self.old }
         requires reaches { Reaches tells (now self.old) file at }
         ensures wrote { OnOk result (tells → Changes now file (wrote at bytes.now (now self.old file)) self.old self.new) }
-        ensures stays { Stays tells moment left kept faults limit names self.old self.new }
+        ensures stays { Stays tells moment files_at left kept faults limit names self.old self.new }
         ensures outcome { Outcome sound flag result self.new }
         ensures touches { Touches touched bytes_read self.old self.new }
         ensures room { OnOk result (Passes (limit self.old file) (overfills self.old file at (length bytes.now)) at (length bytes.now) → ⊥) }
@@ -93,7 +98,7 @@ pub trait Space {
         requires sound { sound self.old }
         requires reaches { Reaches tells (now self.old) file len }
         ensures cut { OnOk result (tells → Changes now file (take len (now self.old file)) self.old self.new) }
-        ensures stays { Stays tells moment left kept faults limit names self.old self.new }
+        ensures stays { Stays tells moment files_at left kept faults limit names self.old self.new }
         ensures outcome { Outcome sound flag result self.new }
         ensures touches { Touches touched bytes_read self.old self.new }
         ensures room { OnOk result (tells → overfills self.old file len (length (now self.old file) - len) → ⊥) }
@@ -112,11 +117,26 @@ pub trait Space {
         ensures counted { bytes_read self.new ≡ bytes_read self.old }
         ensures cause { OnErr result (Rose (faults self.old) (faults self.new)) };
 
+    /// Makes the copy under a label one of the kept files, where nothing was written since the last commit. It takes no memory, and whatever it answers the copy is
+    /// let go and the space may be used as before.
+    ///
+    /// A stop at any moment leaves of the copy what one left before, one that can't be opened, or the kept files byte for byte; after `Ok` the last alone.
+    fn copy(&mut self, label: &[u8]) -> Result<(), Fault>
+        requires sound { sound self.old }
+        requires untouched { touched self.old ≡ false }
+        requires label { is_label label.now ≡ true }
+        ensures copies { Copies tells moment files_at left kept now faults limit names label.now self.old self.new }
+        ensures copied { OnOk result (tells → IsCopied (now self.old) ((names self.new).copies label.now)) }
+        ensures sound { sound self.new }
+        ensures touched { touched self.new ≡ false }
+        ensures counted { bytes_read self.new ≡ bytes_read self.old }
+        ensures cause { OnErr result (Rose (faults self.old) (faults self.new)) };
+
     /// Gives up what was written since the last commit: the space isn't sound any more, and the kept files stay.
     fn spoil(&mut self)
         ensures spoiled { flag self.new ≡ false }
         ensures now { tells → (g : ℕ) → now self.new g ≡ now self.old g }
-        ensures stays { Stays tells moment left kept faults limit names self.old self.new }
+        ensures stays { Stays tells moment files_at left kept faults limit names self.old self.new }
         ensures touched { touched self.new ≡ touched self.old }
         ensures counted { bytes_read self.new ≡ bytes_read self.old }
         ensures faults { faults self.new ≡ faults self.old };
@@ -135,6 +155,9 @@ pub trait Space {
 
     /// What is left from a later moment on is left from an earlier one on.
     ghost earlier: { (s : Self) (t u : ℕ) (o : Option Files) → t ≤ u → left s u o → left s t o };
+
+    /// At this moment they are the files now.
+    ghost present: { (s : Self) → tells → files_at s (moment s) ≡ now s };
 
     ghost flagged: { (s : Self) → sound s → flag s ≡ true };
 }

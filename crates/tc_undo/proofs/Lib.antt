@@ -6,3 +6,4 @@ pub mod Marked
 pub mod Settling
 pub mod Changing
 pub mod Volumes
+pub mod LettingGo

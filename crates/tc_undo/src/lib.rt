@@ -7,6 +7,7 @@
 #![tactic(auto, using(crate::proofs::Volumes::stays_then, crate::proofs::Volumes::reads_then, crate::proofs::Volumes::stays_quiet_then))]
 
 mod changes;
+mod copying;
 mod errors;
 mod finish;
 mod put_back;

@@ -2,12 +2,13 @@
 ghost use Rattle.std.specs.Prelude.{◌≡◌, ◌+◌, ◌-◌, ◌^◌, ◌≤◌, ◌<◌, ℕ, true, false, length, IfOk, IfErr, MatchResult, max};
 ghost use Rattle.tc_io.specs.Images.{now as reads_now};
 ghost use Rattle.ud_log.specs.Undo.{data_of, is_data, length_of, recovered};
-ghost use Rattle.ud_state.specs.Since.{Left};
+ghost use Rattle.ud_state.specs.Since.{Left, calls_at, calls_now};
 ghost use Rattle.ud_state.proofs.Valid.{valid_only, left_earlier};
 ghost use Rattle.tc_undo.specs.Opening.{HandsBack, IsRefused, OpensKept};
 ghost use Rattle.tc_undo.specs.Room.{needs, log_end, stop_of};
 ghost use Rattle.tc_undo.specs.Usable.{IsUsable, usable_clean, usable_kept, usable_within};
 
+use crate::copying::make_copy;
 use crate::errors::{RecoverErr, UndoErr, Unopened};
 use crate::finish::finish;
 use crate::recovery::restore;
@@ -82,6 +83,8 @@ impl<V: Volume> Undo<V> {
 }
 
 impl<V: Volume> Space for Undo<V> {
+    ghost use Rattle.std.proofs.Common.{ap};
+
     ghost tells = { V.tells };
 
     ghost now = { λ s. data_of (reads_now (V.calls s.vol)) };
@@ -89,6 +92,8 @@ impl<V: Volume> Space for Undo<V> {
     ghost kept = { λ s. recovered (reads_now (V.calls s.vol)) };
 
     ghost moment = { λ s. length (V.calls s.vol) };
+
+    ghost files_at = { λ s t. data_of (reads_now (calls_at t (V.calls s.vol))) };
 
     ghost left = { λ s. Left (V.calls s.vol) };
 
@@ -119,6 +124,8 @@ impl<V: Volume> Space for Undo<V> {
     ghost within = { λ s file t sound is. usable_within V.tells (V.calls s.vol) s.touched s.log s.lens s.limits t sound.1 file is };
 
     ghost earlier = { λ s t u o le left. left_earlier (V.calls s.vol) t u o le left };
+
+    ghost present = { λ s t. ap (λ cs. data_of (reads_now cs)) (calls_now (V.calls s.vol)) };
 
     ghost flagged = { λ s sound. sound.0 };
 
@@ -205,6 +212,11 @@ impl<V: Volume> Space for Undo<V> {
                 Err(e)
             }
         }
+    }
+
+    /// As many syncs as `copy_files` of `tk_copy`. The copy's files and locks are let go, whatever it answers.
+    fn copy(&mut self, label: &[u8]) -> Result<(), Fault> {
+        make_copy(&mut self.vol, label)
     }
 
     /// It calls nothing of the volume.

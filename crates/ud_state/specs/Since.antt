@@ -1,5 +1,5 @@
 -- What stops leave at the moments since one.
-use Rattle.std.specs.Prelude.{◌≡◌, ◌⊎◌, ℕ, ◌≤◌, List, [], ◌∷◌, length, Option}
+use Rattle.std.specs.Prelude.{◌≡◌, ◌⊎◌, ℕ, suc, ◌-◌, ◌≤◌, List, [], ◌∷◌, drop, length, Option}
 use Rattle.std.proofs.Common.{inl, inr, ⊎_elim, arith, refl, sym, subst, ap, ◌∙◌}
 use Rattle.tc_base.specs.Files.{Files}
 use Rattle.tc_io.specs.Images.{Step, Calls, Images, now}
@@ -52,6 +52,19 @@ since_later P old _ (more c cs since p) = omega (arith, since_later P old cs sin
 pub since_each : (P : Option Files → Type 0) (old new : Calls) → Since (AllLeft P) old new → (t : ℕ) (o : Option Files) → t ≤ length old → LeftSince new t o → LeftSince old t o ⊎ P o
 since_each P old _ here t o le left = inl left
 since_each P old _ (more c cs since p) t o le left = ⊎_elim (λ at_once. inr (p o at_once)) (λ earlier. since_each P old cs since t o le earlier.1) left
+
+-- the calls that had been made at a moment
+abbrev pub calls_at : ℕ → Calls → Calls
+calls_at t cs = drop (length cs - t) cs
+
+pub calls_now : (cs : Calls) → calls_at (length cs) cs ≡ cs
+calls_now cs = let none : length cs - length cs ≡ 0 = omega arith in ap (λ n. drop n cs) none
+
+pub since_at : (P : Calls → Type 0) (old new : Calls) → Since P old new → (t : ℕ) → t ≤ length old → calls_at t new ≡ calls_at t old
+since_at P old _ here t le = refl
+since_at P old _ (more c cs since p) t le =
+    let one : length (c ∷ cs) - t ≡ suc (length cs - t) = omega (arith, le, since_later P old cs since) in
+    ap (λ n. drop n (c ∷ cs)) one ∙ since_at P old cs since t le
 
 pub since_then : (P : Calls → Type 0) (a b c : Calls) → Since P a b → Since P b c → Since P a c
 since_then P a b _ first here = first

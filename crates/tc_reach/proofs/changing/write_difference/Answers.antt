@@ -20,6 +20,6 @@ returns-clause-wrote g c =
     let inside : front ≤ end = omega (arith, c.same_front-front.ensures.most, length-take-le end c.args.old.now c.same_back-end.ensures.most) in
     let most : end ≤ length x = omega (arith, c.same_back-end.ensures.most, c.requires.old.0) in
     on_ok_weaker c.write_over.result (λ wrote t. record {
-      here = (wrote t).here ∙ ap (λ n. wrote_at n (take (end - front) (drop front x)) f) (grind (arith, c.saturating_add.ensures, c.len.ensures t, c.len.type_inv, c.requires.reaches.inside t, inside, most)) ∙ wrote_between c.args.at front end c.args.old.now x f c.requires.old.0 (c.requires.old.1 t) inside most c.same_front-front.ensures.same c.same_back-end.ensures.same;
+      here = (wrote t).here ∙ ap (λ n. wrote_at n (take (end - front) (drop front x)) f) (grind (arith, c.in-Some.is, c.checked_add.ensures, inside, most)) ∙ wrote_between c.args.at front end c.args.old.now x f c.requires.old.0 (c.requires.old.1 t) inside most c.same_front-front.ensures.same c.same_back-end.ensures.same;
       others = (wrote t).others;
     }) c.write_over.ensures.wrote

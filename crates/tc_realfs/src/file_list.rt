@@ -1,0 +1,62 @@
+//! The files of a database by number.
+
+use crate::names::path_of;
+use crate::real_file::RealFile;
+use std::alloc::Global;
+use std::fs::File;
+use std::io;
+use std::io::ErrorKind;
+use std::rt::Files;
+
+/// Opens the files of a name that are there, the main file first.
+pub fn open_all<R: Files<File = File>>(
+    rt: &R,
+    alloc: Global,
+    name: &str,
+) -> io::Result<Vec<RealFile>> {
+    let mut files = Vec::with_capacity(alloc, 19)?;
+    for file in 0..19u32 {
+        let path = path_of(alloc, name, file)?;
+        files.push(RealFile::open(rt, alloc, path, file <= 1)?)?;
+    }
+    Ok(files)
+}
+
+/// A file by its number.
+pub fn file_of(files: &mut [RealFile], file: u32) -> io::Result<&mut RealFile> {
+    let Some(one) = files.get_mut(file as usize) else {
+        return Err(ErrorKind::NotFound.into());
+    };
+    Ok(one)
+}
+
+pub fn len_of(files: &mut [RealFile], file: u32) -> io::Result<u64> {
+    Ok(file_of(files, file)?.len())
+}
+
+pub fn read_of(files: &mut [RealFile], file: u32, at: u64, into: &mut [u8]) -> io::Result<()> {
+    file_of(files, file)?.read(at, into)
+}
+
+pub fn write_of<R: Files<File = File>>(
+    files: &mut [RealFile],
+    rt: &R,
+    file: u32,
+    at: u64,
+    bytes: &[u8],
+) -> io::Result<()> {
+    file_of(files, file)?.write(rt, at, bytes)
+}
+
+pub fn cut_of(files: &mut [RealFile], file: u32, len: u64) -> io::Result<()> {
+    file_of(files, file)?.cut(len)
+}
+
+pub fn sync_of<R: Files<File = File>>(
+    files: &mut [RealFile],
+    rt: &R,
+    file: u32,
+    folder: &str,
+) -> io::Result<()> {
+    file_of(files, file)?.sync(rt, folder)
+}

@@ -1,0 +1,2 @@
+pub mod Spoiled
+pub mod Steps
