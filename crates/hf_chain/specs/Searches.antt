@@ -7,6 +7,7 @@ use Rattle.hf_tree.specs.declared.parent.Found.TheVariants.{Here, Gap}
 use Rattle.hf_chain.specs.declared.finding.Place.{Place}
 use Rattle.hf_chain.specs.declared.finding.Search.{Search}
 use Rattle.hf_chain.specs.declared.finding.Search.TheVariants as search
+use Rattle.hf_chain.specs.Chains.{MayUnhang}
 use Rattle.hf_chain.specs.Fronts.{FitsLinks}
 use Rattle.hf_chain.specs.Heads.{IsHeadOf}
 
@@ -25,3 +26,8 @@ pub record HasHeadOf {S : Type 0} (s : Ghosts S) (h : Head) (file : ℕ) (space 
 abbrev pub KnowsHead : {S : Type 0} → Ghosts S → Head → ℕ → S → Search → Type 0
 KnowsHead s h file space (search.Here p) = HasHeadOf s h file space p
 KnowsHead s h file space (search.Gap to) = Unit {0}
+
+-- the record that was found hangs there, and its head is known
+pub record IsHanging {S : Type 0} (s : Ghosts S) (h : Head) (file : ℕ) (space : S) (p : Place) : Type 0 where
+  pub here : s.tells → MayUnhang h p.at p.from (s.now space file)
+  pub known : HasHeadOf s h file space p

@@ -1,5 +1,5 @@
 //! A key compared with that of a record in a file.
-ghost use Rattle.std.specs.Prelude.{◌≡◌, ℕ, ◌+◌, ◌^◌, ◌<◌, ◌≤◌, length, take, drop, IfOk};
+ghost use Rattle.std.specs.Prelude.{◌≡◌, ◌+◌, ◌^◌, ◌<◌, ◌≤◌, length, take, drop, IfOk};
 ghost use Rattle.tc_base.specs.Hashes.{second};
 ghost use Rattle.tc_io.specs.Causes.{HasCause};
 ghost use Rattle.tc_space.specs.Ranges.{IsDataFile};

@@ -1,5 +1,5 @@
 //! A record found by its key.
-ghost use Rattle.std.specs.Prelude.{◌≡◌, ℕ, ◌+◌, ◌^◌, ◌≤◌, List, length, IfOk};
+ghost use Rattle.std.specs.Prelude.{◌≡◌, ◌+◌, ◌^◌, ◌≤◌, length, IfOk};
 ghost use Rattle.tc_base.specs.Hashes.{second};
 ghost use Rattle.tc_io.specs.Causes.{HasCause};
 ghost use Rattle.tc_space.specs.Frames.{OnlyReads};
@@ -19,6 +19,7 @@ use hf_head::Head;
 use hf_tree::Parent;
 use std::cmp::Ordering;
 use tc_base::{Fault, Steps, bucket_of, second_hash};
+use tc_reach::read_into;
 use tc_space::Space;
 
 /// Where a search found the record of its key.
@@ -80,7 +81,7 @@ fn look_front<S: Space>(
     ensures counted { S.bytes_read space.new ≤ S.bytes_read space.old + (length front.old + length key.now) }
     ensures cause { HasCause (S.faults space.old) (S.faults space.new) result }
 {
-    space.read(file, at, front)?;
+    read_into(space, file, at, front)?;
     let rec = head_in(front, head.is_large());
     let order = compare(space, file, head, at, &rec, front, key, hash)?;
     let step = turn(order, at, &rec, head.unit());

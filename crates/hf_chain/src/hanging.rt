@@ -1,13 +1,13 @@
 //! Records hung and taken out.
-ghost use Rattle.std.specs.Prelude.{ℕ, List, Option, IfOk, OnOk, IsErrOf};
+ghost use Rattle.std.specs.Prelude.{◌≡◌, IfOk, OnOk, IsErrOf, false};
 ghost use Rattle.tc_io.specs.Causes.{HasCause};
 ghost use Rattle.tc_space.specs.Effects.{Outcome};
 ghost use Rattle.tc_space.specs.Frames.{OnlyReads, OnlyWrites, Keeps};
-ghost use Rattle.hf_chain.specs.Chains.{CanName, HasSubtree, IsLast, MayHang, MayUnhang};
+ghost use Rattle.hf_chain.specs.Chains.{CanName, HasSubtree, IsLast, MayHang};
 ghost use Rattle.hf_chain.specs.Costs.{CostsOut, CostsWalk, PaidBy};
 ghost use Rattle.hf_chain.specs.Files.{IsOpenFile};
 ghost use Rattle.hf_chain.specs.Limits.{FaultOrFull, IsFull};
-ghost use Rattle.hf_chain.specs.Searches.{HasHeadOf};
+ghost use Rattle.hf_chain.specs.Searches.{IsHanging};
 ghost use Rattle.hf_chain.specs.Linking.{ChangesBy, IsHung, IsOut, LooksFirst};
 
 use crate::counting::count_step;
@@ -70,7 +70,7 @@ fn rightmost<S: Space, L>(
 
 /// Takes the record of a key out of its bucket's tree: its one child, or its left one, takes its place, and the right one is hung on the
 /// rightmost record of the left. At most two links are written. Its head isn't read again; a step is the read of another record: at most as many as there
-/// are in the bucket. After a refusal nothing was written, or the space isn't sound.
+/// are in the bucket. After a refusal nothing was written, or the space isn't sound; where it is full the space isn't sound.
 pub fn unhang<S: Space, L>(
     space: &mut S,
     file: u32,
@@ -79,14 +79,13 @@ pub fn unhang<S: Space, L>(
     steps: &mut Steps<L>,
 ) -> Result<(), RecErr>
     requires ready { IsOpenFile S.Space head.now file space.old }
-    requires here { S.tells → MayUnhang head.now place.now.at place.now.from (S.now space.old file) }
-    requires known { HasHeadOf S.Space head.now file space.old place.now }
+    requires hangs { IsHanging S.Space head.now file space.old place.now }
     ensures out { OnOk result (ChangesBy S.Space file (IsOut head.now place.now.at place.now.from) space.old space.new) }
     ensures within { S.tells → CostsOut S.Space head.now place.now.at place.now.from file steps.old steps.new space.old space.new }
     ensures paid { PaidBy S.Space 40 steps.old steps.new space.old space.new }
     ensures outcome { LooksFirst S.Space result space.old space.new }
     ensures keeps { Keeps S.Space space.old space.new }
-    ensures full { IsErrOf result RecErr.Full → IsFull S.Space head.now file space.old space.new }
+    ensures full { IsErrOf result RecErr.Full → (S.flag space.new ≡ false) × IsFull S.Space head.now file space.old space.new }
     ensures cause { FaultOrFull S.Space result space.old space.new }
 {
     let rec = &place.rec;

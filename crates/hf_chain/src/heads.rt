@@ -1,5 +1,5 @@
 //! Heads of records, and entries of buckets, as they stand in a file.
-ghost use Rattle.std.specs.Prelude.{◌≡◌, ℕ, ◌+◌, ◌*◌, ◌-◌, ◌^◌, ◌<◌, ◌≤◌, ◌⊎◌, ◌++◌, List, length, take, true, IfOk, IfSome, IfNone, OnOk, IsErrOf};
+ghost use Rattle.std.specs.Prelude.{◌≡◌, ◌+◌, ◌*◌, ◌-◌, ◌^◌, ◌<◌, ◌≤◌, length, true, IfOk, IfSome, IfNone, OnOk, IsErrOf};
 ghost use Rattle.tc_io.specs.Causes.{HasCause};
 ghost use Rattle.tc_space.specs.Ranges.{IsDataFile};
 ghost use Rattle.tc_space.specs.Frames.{OnlyReads};

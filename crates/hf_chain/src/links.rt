@@ -1,5 +1,5 @@
 //! Links written into a file.
-ghost use Rattle.std.specs.Prelude.{◌≡◌, ℕ, ◌+◌, ◌-◌, ◌^◌, ◌<◌, ◌≤◌, length, take, OnOk, IsErrOf};
+ghost use Rattle.std.specs.Prelude.{◌≡◌, ◌+◌, ◌-◌, ◌^◌, ◌<◌, ◌≤◌, take, OnOk, IsErrOf};
 ghost use Rattle.tc_base.specs.Endian.{le_bytes};
 ghost use Rattle.tc_base.specs.Files.{wrote};
 ghost use Rattle.tc_space.specs.Ranges.{IsDataFile};

@@ -230,6 +230,19 @@ module _ (h : Head) (ps : List Piece) (old new : List ℕ) (end : ℕ) (v : IsVa
     short = omega (arith, end_is, moved_less f ps, ends);
   }
 
+-- what stands in front of what was written stays
+front_left : (n first end : ℕ) (old new xs : List ℕ) → n ≤ first → first ≤ length old → Written first end old new xs → take n new ≡ take n old
+front_left n first end old new xs low fits w =
+    let all : take first new ≡ take first old = shorter first end new (omega (arith, w.ends)) ∙ ap (take first) w.front ∙ take_at (take first old) xs first (length-take-le first old fits) in
+    shorter n first new low ∙ ap (take n) all ∙ sym (shorter n first old low)
+
+-- and so does the head, where records were moved and entries were renamed
+pub head_left : (h : Head) (ps : List Piece) (old mid new xs ys : List ℕ) (end array_end : ℕ) → IsValid h → HasBlocks h h.size ps old → Written h.first end old mid xs → Written 256 array_end mid new ys → take 256 new ≡ take 256 old
+head_left h ps old mid new xs ys end array_end v has first second =
+    let low : 256 ≤ h.first = omega (arith, sections_first h v) in
+    let fits : h.first ≤ length old = omega (arith, has.on, has.within) in
+    front_left 256 256 array_end mid new ys (omega arith) (omega (arith, first.long, low, fits)) second ∙ front_left 256 h.first end old mid xs low fits first
+
 -- a file whose records were moved and whose entries were renamed
 pub repacked : (h : Head) (ps : List Piece) (places : Key → Option ℕ) (old mid new : List ℕ) (end : ℕ) (f : ℕ → ℕ) → IsValid h → HasBlocks h h.size ps old → AllHang (links_of h ps old) (record_at h.first ps) h.buckets places → f ≡ renamed (unit h) (new_place h.first h.first ps) → Written h.first end old mid (spell_all (moved f ps))
     → Written 256 (256 + width h * h.buckets) mid new (entries_as f (width h) h.buckets (drop 256 mid)) → AllFit f (width h) h.buckets (drop 256 mid) → Repacked h end ps new

@@ -1,5 +1,5 @@
 //! The blocks of all records moved to the front.
-ghost use Rattle.std.specs.Prelude.{◌≡◌, ◌⊎◌, ◌+◌, ◌*◌, ◌≤◌, length, false, IfOk, OnOk, OnErr};
+ghost use Rattle.std.specs.Prelude.{◌≡◌, ◌⊎◌, ◌+◌, ◌*◌, ◌≤◌, length, take, false, IfOk, OnOk, OnErr};
 ghost use Rattle.tc_space.specs.Frames.{Keeps, OnlyReads, Others};
 ghost use Rattle.tc_space.specs.Refusals.{OnFault, OnlyLogIsFull};
 ghost use Rattle.tc_space.specs.Stores.{Only};
@@ -71,6 +71,7 @@ fn pack_with<S: Space>(
     requires ready { IsOpenFile S.Space head.now file space.old }
     requires listed { S.tells → WereListed head.now (S.now space.old file) blocks.now }
     ensures packed { IfOk result (PacksBy S.Space head.now file targets.now blocks.now space.old space.new) }
+    ensures head { OnOk result (S.tells → take 256 (S.now space.new file) ≡ take 256 (S.now space.old file)) }
     ensures writes { WritesOver S.Space file result space.old space.new }
 {
     let end = pack_records(alloc, space, file, head, blocks, targets)?;
@@ -79,8 +80,8 @@ fn pack_with<S: Space>(
 }
 
 /// Moves the blocks of all records to the front, in ascending place, and renames the links that name them: where the blocks end then. The blocks are those
-/// of the file, up to its head's size. Of each piece of 64 KiB only what differs from what stands there is written. After a refusal the space isn't sound,
-/// or nothing has changed.
+/// of the file, up to its head's size. Of each piece of 64 KiB only what differs from what stands there is written, and the head stays. After a refusal the
+/// space isn't sound, or nothing has changed.
 pub fn pack_blocks<S: Space>(
     alloc: Global,
     space: &mut S,
@@ -91,6 +92,7 @@ pub fn pack_blocks<S: Space>(
     requires ready { IsOpenFile S.Space head.now file space.old }
     requires listed { S.tells → WereListed head.now (S.now space.old file) blocks.now }
     ensures packed { IfOk result (Packs S.Space head.now file blocks.now space.old space.new) }
+    ensures head { OnOk result (S.tells → take 256 (S.now space.new file) ≡ take 256 (S.now space.old file)) }
     ensures done { OnOk result (S.sound space.new × Others S.Space (Only file) space.old space.new) }
     ensures refused { OnErr result ((S.flag space.new ≡ false) ⊎ OnlyReads S.Space space.old space.new) }
     ensures keeps { Keeps S.Space space.old space.new }

@@ -1,6 +1,6 @@
 -- What the calls of a pool do.
 use Rattle.std.specs.Prelude.{◌≡◌, ◌⊎◌, ℕ, ◌+◌, ◌-◌, ◌%◌, ◌^◌, ◌<◌, ◌≤◌, ◌==◌, false, List, length, if◌then◌else◌}
-use Rattle.std.proofs.Common.{◌∙◌, refl}
+use Rattle.std.proofs.Common.{refl}
 use Rattle.tc_space.specs.Effects.{Changes}
 use Rattle.tc_space.specs.Frames.{Others}
 use Rattle.tc_space.specs.Ranges.{IsDataFile, Passes}
@@ -69,13 +69,6 @@ pub record Notes (old new : Pool) : Type 0 where
 pub notes_refl : (a : Pool) → Notes a a
 notes_refl a = record { unit = refl; kept = λ no. no; same = λ no q. refl }
 
-pub notes_then : (a b c : Pool) → Notes a b → Notes b c → Notes a c
-notes_then a b c first second = record {
-  unit = second.unit ∙ first.unit;
-  kept = λ no. first.kept (second.kept no);
-  same = λ no q. second.same no q ∙ first.same (second.kept no) q;
-}
-
 -- what taking a block does to the bytes: the head of what is left over is written, and nothing where the block is taken whole or stands at the end
 pub record IsTaken (old : Frees) (size place : ℕ) (bytes bytes' : List ℕ) : Type 0 where
   pub parts : (found : ℕ) → IsBest old size place found → bytes' ≡ parted place size found bytes
@@ -106,8 +99,8 @@ module _ {S : Type 0} (s : Ghosts S) where
   LacksRoomToPart pool size file before after = (place : ℕ) × (found : ℕ) × IsBest (frees pool) size place found × (size < found) × Passes (s.limit before file) (s.log_full after) (place + size) 5
 
   -- a block was given back, and its head written
-  abbrev pub Gives : ℕ → Pool → Pool → ℕ → ℕ → S → S → Type 0
-  Gives file old new at size before after = (start : ℕ) × (total : ℕ) × GivesBack (frees old) (frees new) at size start total × (s.tells → Changes s.now file (marked start total (s.now before file)) before after)
+  abbrev pub GivesIn : ℕ → Pool → Pool → ℕ → ℕ → S → S → Type 0
+  GivesIn file old new at size before after = (start : ℕ) × (total : ℕ) × GivesBack (frees old) (frees new) at size start total × (s.tells → Changes s.now file (marked start total (s.now before file)) before after)
 
   abbrev pub GoesBackIn : ℕ → Pool → Pool → ℕ → ℕ → S → S → Type 0
   GoesBackIn file old new at size before after = GoesBack old.unit (frees old) (frees new) at size (s.now before file) (s.now after file)

@@ -23,21 +23,16 @@ pub struct Pool {
 }
 
 impl Pool {
-    ghost use Rattle.std.specs.Prelude.{◌≡◌, ◌≢◌, ℕ, ◌+◌, ◌-◌, ◌%◌, ◌<◌, ◌≤◌, ◌^◌, ◌⊎◌, ◌↔◌, ◌++◌, List, length, replicate, IfOk, OnOk, OnErr, IsErrOf, IsTrue, true, false};
-    ghost use Rattle.tc_io.specs.Causes.{Rose};
-    ghost use Rattle.tc_space.specs.Ranges.{Passes};
-    ghost use Rattle.hf_block.specs.Pieces.{Piece, AreBlocks, placed};
-    ghost use Rattle.hf_block.specs.Walks.{HoldsUpTo, between};
-    ghost use Rattle.hf_layout.specs.Frees.{Frees, IsThere, IsBest, MeetsNone, none};
-    ghost use Rattle.hf_layout.specs.Layout.{LaidOut, Keeps};
-    ghost use Rattle.hf_pool.specs.Pools.{Gives, GoesBackIn, HoldsFrees, IsLaidOut, KeepsLaid, LacksRoomToGive, LacksRoomToPart, MayGive, MayTake, Notes, Takes, TakesFree, TakesIn, frees};
-    ghost use Rattle.hf_pool.specs.Marks.{marked};
-    ghost use Rattle.tc_space.specs.Effects.{Changes, Outcome};
+    ghost use Rattle.std.specs.Prelude.{◌≡◌, ℕ, ◌+◌, ◌-◌, ◌%◌, ◌<◌, ◌≤◌, ◌^◌, ◌↔◌, ◌++◌, length, IfOk, OnOk, OnErr, IsErrOf, IsTrue, true, false};
+    ghost use Rattle.hf_block.specs.Walks.{HoldsUpTo};
+    ghost use Rattle.hf_layout.specs.Frees.{IsThere, IsBest, MeetsNone};
+    ghost use Rattle.hf_pool.specs.Pools.{GivesIn, GoesBackIn, HoldsFrees, IsLaidOut, KeepsLaid, LacksRoomToGive, LacksRoomToPart, MayGive, MayTake, Notes, Takes, TakesFree, TakesIn, frees};
+    ghost use Rattle.tc_space.specs.Effects.{Outcome};
     ghost use Rattle.tc_space.specs.Frames.{OnlyWrites};
     ghost use Rattle.hf_pool.specs.Multiples.{LieWithin};
     ghost use Rattle.hf_pool.specs.Joins.{FrontJoined, BackJoined, GivesBack};
     ghost use Rattle.hf_pool.specs.Trims.{Trimmed};
-    ghost use Rattle.hf_block.specs.Rows.{StandApart, IsListed, HaveSameFree};
+    ghost use Rattle.hf_block.specs.Rows.{StandApart, IsListed};
     ghost use Rattle.hf_pool.specs.Sections.{InOrder};
     ghost use Rattle.hf_pool.specs.Written.{AddsBlocks, AddsPairs, AddsSection};
     ghost use Rattle.tc_reach.specs.Limits.{AddsSome};
@@ -200,7 +195,7 @@ impl Pool {
     ) -> Result<(), RecErr>
         requires holds { HoldsUpTo S.Space space.old file (at + size) }
         requires may { MayGive self.old at size }
-        ensures given { OnOk result (Gives S.Space file self.old self.new at size space.old space.new) }
+        ensures given { OnOk result (GivesIn S.Space file self.old self.new at size space.old space.new) }
         ensures back { OnOk result (S.tells → GoesBackIn S.Space file self.old self.new at size space.old space.new) }
         ensures stays { Notes self.old self.new × OnOk result (self.new.size ≡ self.old.size) }
         ensures outcome { Outcome S.sound S.flag result space.new }
@@ -316,7 +311,7 @@ fn pair_len(difference: u64, units: u64) -> usize
     vnum_len(difference) + vnum_len(units)
 }
 
-ghost use Rattle.std.specs.Prelude.{◌≡◌, ℕ, ◌+◌, ◌%◌, ◌<◌, ◌≤◌, ◌^◌, ◌++◌, List, length, replicate, Some, OnOk, OnErr};
+ghost use Rattle.std.specs.Prelude.{◌≡◌, ℕ, ◌+◌, ◌%◌, ◌<◌, ◌≤◌, ◌^◌, ◌++◌, length, Some, OnOk, OnErr};
 ghost use Rattle.hf_pool.specs.Multiples.{AreMultiples, LieWithin};
 ghost use Rattle.tc_base.specs.Vnum.{vnum};
 ghost use Rattle.std.specs.Ordering.{nat_cmp};

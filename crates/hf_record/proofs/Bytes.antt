@@ -1,5 +1,5 @@
 -- The bytes of a record that is written.
-use Rattle.std.proofs.Common.{◌≡◌, ◌∙◌, ℕ, ◌%◌, ◌^◌, ◌<◌, ◌≤◌, List, [], ◌++◌, arith, lit<, Bool}
+use Rattle.std.proofs.Common.{◌≡◌, ◌∙◌, ℕ, ◌%◌, ◌^◌, ◌<◌, ◌≤◌, List, [], ◌++◌, length, replicate, sym, ap, arith, lit<, Bool}
 use Rattle.std.proofs.lemmas.List.{length-replicate}
 use Rattle.hf_head.specs.declared.head.Head.{Head}
 use Rattle.hf_head.specs.Heads.{IsValid, is_large, wide, unit}
@@ -19,6 +19,10 @@ unit_some h = pow_pos h.apow
 pub its_bytes : (h : Head) (large : Bool) (u hash left right : ℕ) (key value old bytes : List ℕ) → large ≡ is_large h → u ≡ unit h → old ≡ [] → bytes ≡ old ++ record_bytes (wide large) hash left right key value u → bytes ≡ spell (held (written (width h) hash left right key value (unit h)))
 unfolding record_bytes
 its_bytes h large u hash left right key value old bytes form units none is = is ∙ (λ i. none i ++ spell (held (written (wide (form i)) hash left right key value (units i))))
+
+-- its padding is zeros
+pub written_zeros : (w hash left right : ℕ) (key value : List ℕ) (u : ℕ) → (written w hash left right key value u).pad ≡ replicate (length (written w hash left right key value u).pad) 0
+written_zeros w hash left right key value u = ap (λ (n : ℕ). replicate n 0) (sym (length-replicate {A = ℕ} (padding u (content w key value)) 0))
 
 pub written_long : (w hash left right : ℕ) (key value : List ℕ) (u : ℕ) → size_of (held (written w hash left right key value u)) ≡ block_len w key value u
 unfolding record_bytes

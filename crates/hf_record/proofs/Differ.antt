@@ -7,7 +7,7 @@ use Rattle.tc_space.specs.Effects.{Changes}
 use Rattle.tc_space.specs.Frames.{OnlyReads, others_then}
 use Rattle.tc_space.specs.Stores.{Only}
 use Rattle.tc_space.specs.declared.space.Space.{Ghosts}
-use Rattle.hf_record.specs.Costs.{FewDiffer, Edits}
+use Rattle.hf_record.specs.Costs.{FewBeside, FewDiffer, Edits}
 
 byte_low : (p i : ℕ) (x bytes : List ℕ) → p ≤ length bytes → i < p → get_or (wrote p x bytes) i 0 ≡ get_or bytes i 0
 unfolding wrote
@@ -25,12 +25,13 @@ outside_parts : (a b : Ranges) (i : ℕ) → Outside (a ++ b) i → Outside a i 
 outside_parts [] b i o = (tt, o)
 outside_parts (r ∷ a) b i o = let p = outside_parts a b i o.1 in ((o.0, p.0), p.1)
 
+-- outside what was written
+outside_wrote : (p : ℕ) (x bytes : List ℕ) → p ≤ length bytes → (i : ℕ) → (i < p) ⊎ (p + length x ≤ i) → get_or (wrote p x bytes) i 0 ≡ get_or bytes i 0
+outside_wrote p x bytes low i (inl less) = byte_low p i x bytes low less
+outside_wrote p x bytes low i (inr more) = byte_high p i x bytes low more
+
 pub few_wrote : (p most : ℕ) (x bytes : List ℕ) → p ≤ length bytes → length x ≤ most → FewDiffer most bytes (wrote p x bytes)
-few_wrote p most x bytes low few = record { ranges = (p, length x) ∷ []; few = omega (arith, few); differ = λ i out. by i out.0 }
-  where
-    by : (i : ℕ) → (i < p) ⊎ (p + length x ≤ i) → get_or (wrote p x bytes) i 0 ≡ get_or bytes i 0
-    by i (inl less) = byte_low p i x bytes low less
-    by i (inr more) = byte_high p i x bytes low more
+few_wrote p most x bytes low few = record { ranges = (p, length x) ∷ []; few = omega (arith, few); differ = λ i out. outside_wrote p x bytes low i out.0 }
 
 pub few_same : (most : ℕ) (old new : List ℕ) → new ≡ old → FewDiffer most old new
 few_same most old new e = record { ranges = []; few = omega arith; differ = λ i out. ap (λ (l : List ℕ). get_or l i 0) e }
@@ -40,6 +41,28 @@ few_then m n most x y z le first second = record {
   ranges = first.ranges ++ second.ranges;
   few = omega (arith, first.few, second.few, le, total-append first.ranges second.ranges);
   differ = λ i out. (let p = outside_parts first.ranges second.ranges i out in second.differ i p.1 ∙ first.differ i p.0);
+}
+
+-- ---- besides bytes at a place
+
+pub beside_wrote : (p : ℕ) (x bytes new : List ℕ) → p ≤ length bytes → new ≡ wrote p x bytes → FewBeside p (length x) 0 bytes new
+beside_wrote p x bytes new low e = record { ranges = []; few = omega arith; differ = λ i out. ap (λ (l : List ℕ). get_or l i 0) e ∙ outside_wrote p x bytes low i out.0 }
+
+pub beside_more : (p size m most : ℕ) (x y : List ℕ) → m ≤ most → FewBeside p size m x y → FewBeside p size most x y
+beside_more p size m most x y le first = record { ranges = first.ranges; few = omega (arith, first.few, le); differ = first.differ }
+
+pub beside_then : (p size m n most : ℕ) (x y z : List ℕ) → m + n ≤ most → FewBeside p size m x y → FewDiffer n y z → FewBeside p size most x z
+beside_then p size m n most x y z le first second = record {
+  ranges = first.ranges ++ second.ranges;
+  few = omega (arith, first.few, second.few, le, total-append first.ranges second.ranges);
+  differ = λ i out. (let q = outside_parts first.ranges second.ranges i out.1 in second.differ i q.1 ∙ first.differ i (out.0, q.0));
+}
+
+pub beside_after : (p size m n most : ℕ) (x y z : List ℕ) → m + n ≤ most → FewDiffer m x y → FewBeside p size n y z → FewBeside p size most x z
+beside_after p size m n most x y z le first second = record {
+  ranges = first.ranges ++ second.ranges;
+  few = omega (arith, first.few, second.few, le, total-append first.ranges second.ranges);
+  differ = λ i out. (let q = outside_parts first.ranges second.ranges i out.1 in second.differ i (out.0, q.1) ∙ first.differ i q.0);
 }
 
 module _ {S : Type 0} (s : Ghosts S) (file : ℕ) where

@@ -1,5 +1,5 @@
 -- A new key put: a record is written where none was, and hung in the gap of its key.
-use Rattle.std.proofs.Common.{◌≡◌, ◌≢◌, ◌∙◌, inl, inr, ℕ, ◌*◌, ◌≤◌, ◌^◌, List, length, refl, sym, ap, arith, Option, Some, None, Bool, cond}
+use Rattle.std.proofs.Common.{◌≡◌, ◌≢◌, ◌∙◌, inl, inr, ℕ, ◌*◌, ◌≤◌, ◌^◌, List, length, replicate, refl, sym, ap, subst, arith, Option, Some, None, Bool, cond}
 use Rattle.std.specs.Prelude.{option_map}
 use Rattle.std.proofs.lemmas.Bool.{cases_eq, eq-eqb, ne_eqb}
 use Rattle.std.specs.declared.cmp.Ordering.TheVariants.{Less, Equal, Greater}
@@ -26,7 +26,7 @@ use Rattle.hf_tree.proofs.Off.{holds_off_same, seek_look}
 use Rattle.hf_tree.proofs.Ways.{key_is}
 use Rattle.hf_tree.proofs.Fields.{blocks_of}
 use Rattle.hf_chain.specs.Chains.{CanHang, MayHang, Rehung}
-use Rattle.hf_record.specs.Allocating.{HoldsAt}
+use Rattle.hf_record.specs.Allocating.{HoldsWritten}
 use Rattle.hf_record.specs.Holding.{HasMap, IsSearched}
 use Rattle.hf_record.specs.Moves.{Added}
 use Rattle.hf_record.proofs.Maps.{insert_here, insert_other}
@@ -182,25 +182,28 @@ module _ (h : Head) (end end' : ℕ) (free free' : Frees) (place : ℕ) (r : Rec
 
   pub put_done : (m : Map) (g : HasMap h end free m before) (a : Added (unit h) h.first end' g.pieces free' place r before middle) → end' ≤ 2 ^ 40
       → ((e : ℕ) (qs : List Piece) (f lent : Frees) (places : Key → Option ℕ) (k : Key) → LaidOut (unit h) h.first e qs f lent middle → HaveWidth (width h) h.first qs → CanHang (view_of h qs middle) h.buckets places k place to → Rehung h e qs f lent (with_key places k (Some place)) 1 middle bytes)
-      → HoldsAt h end' free' (insert m key r.value) key place (size_of (held r)) bytes
-  put_done m g a short hung =
+      → r.pad ≡ replicate (length r.pad) 0 → HoldsWritten h end' free' (insert m key r.value) key place (size_of (held r)) bytes
+  put_done m g a short hung zeros =
       let widths = added_widths h end' g.pieces free' place r before middle v a wide g.is.widths in
       let x = hung end' a.now.pieces free' none g.places key a.now.is widths (can_hang h end' g.pieces free' place r before middle v a g.places key to g.is.hang.holds (gap_in m g) its hash left right) in
       let here = is_now (record_at h.first a.now.pieces) (record_at h.first x.pieces) x.kept place r (added_here h end' g.pieces free' place r before middle v a) in
       record {
-        has = record {
-          pieces = x.pieces;
-          places = with_key g.places key (Some place);
-          is = record {
-            laid = x.is;
-            widths = x.widths;
-            hang = record { holds = x.holds; all = all_placed h end' g.pieces free' place r before middle v a (record_at h.first x.pieces) x.kept g.places key to g.is.hang (gap_in m g) its };
-            map = map_with h end' g.pieces free' place r before middle v a (record_at h.first x.pieces) x.kept g.places key to g.is.hang (gap_in m g) its m g.is.map;
+        holds = record {
+          has = record {
+            pieces = x.pieces;
+            places = with_key g.places key (Some place);
+            is = record {
+              laid = x.is;
+              widths = x.widths;
+              hang = record { holds = x.holds; all = all_placed h end' g.pieces free' place r before middle v a (record_at h.first x.pieces) x.kept g.places key to g.is.hang (gap_in m g) its };
+              map = map_with h end' g.pieces free' place r before middle v a (record_at h.first x.pieces) x.kept g.places key to g.is.hang (gap_in m g) its m g.is.map;
+            };
+            short = short;
           };
-          short = short;
+          r = here.rec;
+          there = here.at;
+          key_is = here.key ∙ its;
+          size_is = same_size here.rec r here.same;
         };
-        r = here.rec;
-        there = here.at;
-        key_is = here.key ∙ its;
-        size_is = same_size here.rec r here.same;
+        padded = subst (λ (l : List ℕ). l ≡ replicate (length l) 0) (sym (ap (λ (z : Record). z.pad) here.same)) zeros;
       }

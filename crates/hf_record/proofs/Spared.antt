@@ -17,10 +17,10 @@ use Rattle.hf_record.proofs.Fronts.{between_same}
 -- ---- the front
 
 pub leaves_then : (h : Head) (a b c : List ℕ) → LeavesFront h a b → LeavesFront h b c → LeavesFront h a c
-leaves_then h a b c first second = record { head = second.head ∙ first.head; section = second.section ∙ first.section }
+leaves_then h a b c first second = record { head = second.head ∙ first.head; behind_array = second.behind_array ∙ first.behind_array }
 
 pub leaves_same : (h : Head) (a b : List ℕ) → b ≡ a → LeavesFront h a b
-leaves_same h a b e = record { head = ap (take 256) e; section = ap (λ (l : List ℕ). take (h.first - (256 + width h * h.buckets)) (drop (256 + width h * h.buckets) l)) e }
+leaves_same h a b e = record { head = ap (take 256) e; behind_array = ap (λ (l : List ℕ). take (h.first - (256 + width h * h.buckets)) (drop (256 + width h * h.buckets) l)) e }
 
 front_front : (n first : ℕ) (bytes : List ℕ) → n ≤ first → take n (take first bytes) ≡ take n bytes
 front_front n first bytes low = same_lists _ _ (grind (arith, places)) (λ i d g. grind (arith, places))
@@ -29,11 +29,11 @@ front_front n first bytes low = same_lists _ _ (grind (arith, places)) (λ i d g
 pub leaves_first : (h : Head) (a b : List ℕ) → IsValid h → take h.first b ≡ take h.first a → LeavesFront h a b
 leaves_first h a b v e = record {
   head = (let low : 256 ≤ h.first = omega (arith, sections_first h v) in sym (front_front 256 h.first b low) ∙ ap (take 256) e ∙ front_front 256 h.first a low);
-  section = between_same (256 + width h * h.buckets) h.first h.first a b (omega arith) e;
+  behind_array = between_same (256 + width h * h.buckets) h.first h.first a b (omega arith) e;
 }
 
 pub leaves_links : (h : Head) (n : ℕ) (a b : List ℕ) → OnlyLinks h n a b → LeavesFront h a b
-leaves_links h n a b l = record { head = l.head; section = l.section }
+leaves_links h n a b l = record { head = l.head; behind_array = l.section }
 
 -- ---- lengths
 

@@ -1,5 +1,5 @@
 -- Records written: into a block that was taken, at the end, and over a block that a record has.
-use Rattle.std.proofs.Common.{◌≡◌, ◌≢◌, ◌∙◌, ◌⊎◌, inl, inr, ℕ, ◌+◌, ◌-◌, ◌*◌, ◌%◌, ◌/◌, ◌<◌, ◌≤◌, ◌^◌, List, length, take, false, refl, sym, ap, subst, arith, Option, Some, None, Bool, cond}
+use Rattle.std.proofs.Common.{◌≡◌, ◌≢◌, ◌∙◌, ◌⊎◌, inl, inr, ℕ, ◌+◌, ◌-◌, ◌*◌, ◌%◌, ◌/◌, ◌<◌, ◌≤◌, ◌^◌, List, length, replicate, take, false, refl, sym, ap, subst, arith, Option, Some, None, Bool, cond}
 use Rattle.std.specs.Prelude.{◌==◌, if◌then◌else◌}
 use Rattle.std.proofs.lemmas.Bool.{cases_eq, eq-eqb, ne_eqb}
 use Rattle.std.proofs.lemmas.List.{places, same_lists}
@@ -34,7 +34,7 @@ use Rattle.hf_tree.specs.Views.{Holds}
 use Rattle.hf_tree.specs.Links.{width, entry, left_of, right_of, key_of, links_of, view_of}
 use Rattle.hf_tree.specs.Standing.{IsMapOf}
 use Rattle.hf_tree.proofs.Orders.{three, same_key, equal_same}
-use Rattle.hf_record.specs.Allocating.{HoldsAt}
+use Rattle.hf_record.specs.Allocating.{HoldsWritten}
 use Rattle.hf_record.specs.Holding.{HasMap}
 use Rattle.tc_space.specs.Ranges.{Passes}
 use Rattle.hf_record.specs.Costs.{FewDiffer}
@@ -359,24 +359,27 @@ module _ (h : Head) (end : ℕ) (free free' : Frees) (m : Map) (key : Key) (at :
             insert_other m key r.value k off ∙ (g.is.map k val).1 (x.0, x.1, is, x.3, x.4))
       ]
 
-  pub over_done : HoldsAt h end free' (insert m key r.value) key at (size_of (held r)) bytes
-  over_done = record {
-    has = record {
-      pieces = o.pieces;
-      places = g.places;
-      is = record {
-        laid = o.is;
-        widths = λ q s is. elim (cases_eq q at) [
-          | inl e ↦ (let f : Some r ≡ Some s = sym put_here ∙ ap (record_at h.first o.pieces) (sym e) ∙ is in let i : r ≡ s = cc in sym (ap (λ (z : Record). z.wide) i) ∙ wide)
-          | inr ne ↦ g.is.widths q s (sym (put_off q ne) ∙ is)
-        ];
-        hang = record { holds = subst (λ z. Holds z h.buckets g.places) (sym views_same) g.is.hang.holds; all = all_placed };
-        map = map_with;
+  pub over_done : r.pad ≡ replicate (length r.pad) 0 → HoldsWritten h end free' (insert m key r.value) key at (size_of (held r)) bytes
+  over_done zeros = record {
+    holds = record {
+      has = record {
+        pieces = o.pieces;
+        places = g.places;
+        is = record {
+          laid = o.is;
+          widths = λ q s is. elim (cases_eq q at) [
+            | inl e ↦ (let f : Some r ≡ Some s = sym put_here ∙ ap (record_at h.first o.pieces) (sym e) ∙ is in let i : r ≡ s = cc in sym (ap (λ (z : Record). z.wide) i) ∙ wide)
+            | inr ne ↦ g.is.widths q s (sym (put_off q ne) ∙ is)
+          ];
+          hang = record { holds = subst (λ z. Holds z h.buckets g.places) (sym views_same) g.is.hang.holds; all = all_placed };
+          map = map_with;
+        };
+        short = g.short;
       };
-      short = g.short;
+      r = r;
+      there = put_here;
+      key_is = its;
+      size_is = refl;
     };
-    r = r;
-    there = put_here;
-    key_is = its;
-    size_is = refl;
+    padded = zeros;
   }

@@ -1,5 +1,5 @@
 -- The block of a record that is put: where the key's record stood and stands, and what becomes of the free blocks.
-use Rattle.std.specs.Prelude.{◌≡◌, ◌⊎◌, ℕ, ◌+◌, ◌-◌, ◌<◌, ◌≤◌, List, Option, Some, None}
+use Rattle.std.specs.Prelude.{◌≡◌, ◌⊎◌, ℕ, ◌+◌, ◌-◌, ◌<◌, ◌≤◌, List, length, replicate, Option, Some, None}
 use Rattle.std.specs.FinMap.{get}
 use Rattle.tc_base.specs.Maps.{Map}
 use Rattle.hf_head.specs.declared.head.Head.{Head}
@@ -19,6 +19,11 @@ pub record HoldsAt (h : Head) (end : ℕ) (free : Frees) (m : Map) (key : Key) (
   pub there : record_at h.first has.pieces at ≡ Some r
   pub key_is : r.key ≡ key
   pub size_is : size_of (held r) ≡ size
+
+-- so it does, and the padding of its block is zeros
+pub record HoldsWritten (h : Head) (end : ℕ) (free : Frees) (m : Map) (key : Key) (at size : ℕ) (bytes : List ℕ) : Type 0 where
+  pub holds : HoldsAt h end free m key at size bytes
+  pub padded : holds.r.pad ≡ replicate (length holds.r.pad) 0
 
 -- the place of a key's record in a map that is held, and the bytes of its block; none where the key isn't held
 abbrev pub Stands : Head → ℕ → Frees → Map → Key → List ℕ → Option (ℕ × ℕ) → Type 0
@@ -43,6 +48,12 @@ pub record Moves (size place : ℕ) (was : ℕ × ℕ) (old new : Pool) : Type 0
   pub middle : Pool
   pub gives : Gives was.0 was.1 old middle
   pub takes : Takes middle new size place
+
+-- the free blocks from which the block of a put's record is taken, by the one that the key's record had: as they are, or with that one given back, since it
+-- is too small
+abbrev pub TakesFrom : ℕ → Option (ℕ × ℕ) → Pool → Pool → Type 0
+TakesFrom size None old new = new ≡ old
+TakesFrom size (Some was) old new = (was.1 < size) × Gives was.0 was.1 old new
 
 -- the block of a put's record, by the one that the key's record had, if it had one
 abbrev pub Allocates : ℕ → ℕ → Option (ℕ × ℕ) → Pool → Pool → Type 0

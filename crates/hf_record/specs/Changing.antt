@@ -14,8 +14,8 @@ use Rattle.hf_tree.specs.Links.{width}
 use Rattle.hf_chain.specs.Chains.{CanName}
 use Rattle.hf_pool.specs.Pools.{frees, GoesBack, Notes, Takes}
 use Rattle.hf_record.specs.declared.body.Body.{Body}
-use Rattle.hf_record.specs.Allocating.{HoldsAt}
-use Rattle.hf_record.specs.Costs.{Edits, Spares}
+use Rattle.hf_record.specs.Allocating.{HoldsWritten}
+use Rattle.hf_record.specs.Costs.{Edits, FewBeside, Spares}
 use Rattle.hf_record.specs.Holding.{Has, HasMap}
 use Rattle.hf_record.specs.Moves.{Added, IsGiven, IsWithin, MayReplace, Replaced}
 
@@ -47,8 +47,9 @@ module _ {S : Type 0} (s : Ghosts S) where
   -- besides that so many bytes differ at most
   pub record PutsAt (key : Key) (value : List ℕ) (place most : ℕ) (old new : Body) (before after : S) : Type 0 where
     pub sound : s.sound after
-    pub map : s.tells → (m : Map) → Has old (s.now before old.file) m → HoldsAt old.head new.pool.size (frees new.pool) (insert m key value) key place (size_in old key value) (s.now after old.file)
+    pub map : s.tells → (m : Map) → Has old (s.now before old.file) m → HoldsWritten old.head new.pool.size (frees new.pool) (insert m key value) key place (size_in old key value) (s.now after old.file)
     pub spares : Spares s (size_in old key value + most) old new before after
+    pub beside : s.tells → FewBeside place (size_in old key value) most (s.now before old.file) (s.now after old.file)
     pub long : s.tells → length (s.now after old.file) ≡ max (length (s.now before old.file)) (place + size_in old key value)
 
   -- in a block that was taken for it
@@ -92,6 +93,7 @@ module _ {S : Type 0} (s : Ghosts S) where
     pub low : new.pool.size ≤ 2 ^ 40
     pub taken : Takes old.pool new.pool (length bytes) place
     pub spares : Spares s (length bytes + 5) old new before after
+    pub beside : s.tells → FewBeside place (length bytes) 5 (s.now before old.file) (s.now after old.file)
     pub long : s.tells → length (s.now after old.file) ≡ max (length (s.now before old.file)) (place + length bytes)
 
   -- the space may be used, and a record may be written over a block of so many bytes
@@ -104,6 +106,7 @@ module _ {S : Type 0} (s : Ghosts S) where
     pub replaced : s.tells → (ps : List Piece) (r : Record) → bytes ≡ spell (held r) → IsWhole old.pool.unit (held r) → LaidOut old.pool.unit old.head.first old.pool.size ps (frees old.pool) none (s.now before old.file)
         → HasBlock old.head.first ps at room → frees old.pool at ≡ None → Replaced old.pool.unit old.head.first old.pool.size ps (frees new.pool) at r (s.now before old.file) (s.now after old.file)
     pub spares : Spares s (length bytes + 5) old new before after
+    pub beside : s.tells → FewBeside at (length bytes) 5 (s.now before old.file) (s.now after old.file)
     pub long : s.tells → length (s.now after old.file) ≡ length (s.now before old.file)
 
   -- the space may be used, and a block of a file may be given back

@@ -1,5 +1,5 @@
 -- What calls write, and what they read.
-use Rattle.std.specs.Prelude.{◌≡◌, ℕ, ◌≤◌, ◌==◌, List, length, filter, take}
+use Rattle.std.specs.Prelude.{◌≡◌, ℕ, ◌≤◌, ◌==◌, List, ◌∷◌, length, filter, take}
 use Rattle.std.specs.FinMap.{keys}
 use Rattle.tc_base.specs.Maps.{Map}
 use Rattle.tc_space.specs.Frames.{Others}
@@ -17,6 +17,12 @@ pub record FewDiffer (most : ℕ) (old new : List ℕ) : Type 0 where
   pub few : total ranges ≤ most
   pub differ : DifferIn ranges old new
 
+-- outside some bytes at a place, and ranges of so many bytes in all, each byte is as before
+pub record FewBeside (place size most : ℕ) (old new : List ℕ) : Type 0 where
+  pub ranges : Ranges
+  pub few : total ranges ≤ most
+  pub differ : DifferIn ((place, size) ∷ ranges) old new
+
 -- one file was written, so many bytes of it at most
 pub record Edits {S : Type 0} (s : Ghosts S) (file most : ℕ) (old new : S) : Type 0 where
   pub others : Others s (Only file) old new
@@ -25,7 +31,7 @@ pub record Edits {S : Type 0} (s : Ghosts S) (file most : ℕ) (old new : S) : T
 -- the head stands there as before, and so does what stands between the bucket array and the first block
 pub record LeavesFront (h : Head) (old new : List ℕ) : Type 0 where
   pub head : take 256 new ≡ take 256 old
-  pub section : section_in h new ≡ section_in h old
+  pub behind_array : section_in h new ≡ section_in h old
 
 -- records were changed, and no more than so many bytes of their file: not its head nor its pool section. A change of free blocks is noted
 pub record Spares {S : Type 0} (s : Ghosts S) (most : ℕ) (old new : Body) (before after : S) : Type 0 where

@@ -1,5 +1,8 @@
 -- When no block is to be had.
-use Rattle.std.specs.Prelude.{◌≡◌, ◌⊎◌, ℕ, ◌+◌, ◌^◌, ◌<◌, ◌≤◌, false}
+use Rattle.std.specs.Prelude.{◌≡◌, ◌⊎◌, ℕ, ◌+◌, ◌^◌, ◌<◌, ◌≤◌, false, Result, IsErrOf}
+use Rattle.tc_space.specs.declared.errors.RecErr.{RecErr}
+use Rattle.tc_space.specs.declared.errors.RecErr.TheVariants.{Full}
+use Rattle.tc_space.specs.declared.space.Space.{Ghosts}
 use Rattle.hf_head.specs.declared.head.Head.{Head}
 use Rattle.hf_head.specs.Heads.{is_large}
 use Rattle.hf_layout.specs.Frees.{Frees, IsBest, HasNone}
@@ -20,3 +23,7 @@ pub record IsTooFar (h : Head) (end b : ℕ) (free : Frees) : Type 0 where
   pub is : IsPlaceFor free end b place
   pub within : place ≤ end
   pub far : 2 ^ (32 + h.apow) ≤ place
+
+-- the one limit that is named is the undo log's, and the space may not be used any more
+abbrev pub SpoilsFull : {S T : Type 0} → Ghosts S → Result T RecErr → S → Type 0
+SpoilsFull s result new = IsErrOf result Full → (s.flag new ≡ false) × (s.tells → s.log_full new)

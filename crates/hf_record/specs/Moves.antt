@@ -68,9 +68,9 @@ pub record IsBlockAt (h : Head) (at size : ℕ) (bytes : List ℕ) : Type 0 wher
 abbrev pub HasNoRoom : Head → ℕ → Frees → ℕ → ℕ → Type 0 → ℕ → Type 0
 HasNoRoom h end free limit long log_is_full b = ((end ≤ long) × (IsTooFar h end b free ⊎ IsTooLong limit end b free)) ⊎ log_is_full
 
--- or it is larger than a block may be
-abbrev pub IsRefusedFor : Head → ℕ → Frees → ℕ → ℕ → Type 0 → ℕ → Type 0
-IsRefusedFor h end free limit long log_is_full b = (2 ^ 30 < b) ⊎ HasNoRoom h end free limit long log_is_full b
+-- the same without the log; or it is larger than a block may be
+abbrev pub IsRefusedFor : Head → ℕ → Frees → ℕ → ℕ → ℕ → Type 0
+IsRefusedFor h end free limit long b = (2 ^ 30 < b) ⊎ ((end ≤ long) × (IsTooFar h end b free ⊎ IsTooLong limit end b free))
 
 module _ {S : Type 0} (s : Ghosts S) where
   -- the block of the record there has so many bytes
@@ -82,4 +82,4 @@ module _ {S : Type 0} (s : Ghosts S) where
   LacksPlace b space size = HasNoRoom b.head b.pool.size (frees b.pool) (s.limit space b.file) (length (s.now space b.file)) (s.log_full space) size
 
   abbrev pub LacksRoom : Body → S → ℕ → Type 0
-  LacksRoom b space size = IsRefusedFor b.head b.pool.size (frees b.pool) (s.limit space b.file) (length (s.now space b.file)) (s.log_full space) size
+  LacksRoom b space size = s.log_full space ⊎ IsRefusedFor b.head b.pool.size (frees b.pool) (s.limit space b.file) (length (s.now space b.file)) size

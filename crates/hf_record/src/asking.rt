@@ -1,11 +1,10 @@
 //! Values asked for by key.
-ghost use Rattle.std.specs.Prelude.{◌≡◌, ◌+◌, ◌≤◌, length, option_map, IfOk};
+ghost use Rattle.std.specs.Prelude.{◌≡◌, ◌≤◌, length, option_map, IfOk};
 ghost use Rattle.std.specs.FinMap.{get};
 ghost use Rattle.tc_base.specs.Maps.{Map};
 ghost use Rattle.tc_io.specs.Causes.{HasCause};
 ghost use Rattle.tc_space.specs.Frames.{OnlyReads};
 ghost use Rattle.tc_space.specs.Refusals.{Blames};
-ghost use Rattle.hf_chain.specs.Costs.{PaidBy, step_most};
 ghost use Rattle.hf_record.specs.Asking.{AskedBy, PaysFor, value_most};
 ghost use Rattle.hf_record.specs.Changing.{CanChange};
 ghost use Rattle.hf_record.specs.Holding.{Has};

@@ -1,5 +1,5 @@
 //! A block given back.
-ghost use Rattle.std.specs.Prelude.{◌≡◌, ℕ, ◌+◌, OnOk, IsTrue};
+ghost use Rattle.std.specs.Prelude.{ℕ, ◌+◌, OnOk, IsTrue};
 ghost use Rattle.tc_space.specs.Effects.{Outcome};
 ghost use Rattle.tc_space.specs.Frames.{OnlyWrites};
 ghost use Rattle.tc_space.specs.Refusals.{OnFault, OnlyLogIsFull};

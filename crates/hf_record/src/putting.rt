@@ -5,8 +5,8 @@ ghost use Rattle.tc_space.specs.Frames.{OnlyWrites};
 ghost use Rattle.tc_space.specs.Refusals.{OnFault, OnlyLogIsFull};
 ghost use Rattle.hf_record.specs.Allocating.{Shortens};
 ghost use Rattle.hf_record.specs.Changing.{CanChange, FitsInto, MayWriteOver, PutsAt, PutsNew, StaysBody, WritesOver, size_in};
-ghost use Rattle.hf_record.specs.Moves.{HasRoom, LacksRoom};
-ghost use Rattle.hf_record.specs.Searching.{IsFound, IsGap};
+ghost use Rattle.hf_record.specs.Moves.{LacksRoom};
+ghost use Rattle.hf_record.specs.Searching.{HasFound, IsGap};
 
 use crate::body::Body;
 use hf_chain::{Parent, Place, hang};
@@ -91,9 +91,7 @@ impl Body {
         place: &Place,
         room: u64,
     ) -> Result<(), RecErr>
-        requires may { CanChange S.Space self.old space.old }
-        requires found { IsFound S.Space self.old key.now space.old place.now }
-        requires block { HasRoom S.Space self.old place.now.at room space.old }
+        requires ready { HasFound S.Space self.old key.now space.old place.now room }
         requires fits { FitsInto self.old key.now value.now room }
         ensures put { OnOk result (PutsAt S.Space key.now value.now place.now.at 5 self.old self.new space.old space.new) }
         ensures pool { OnOk result (Shortens (size_in self.old key.now value.now) place.now.at room self.old.pool self.new.pool) }

@@ -1,11 +1,13 @@
 //! A record taken out.
-ghost use Rattle.std.specs.Prelude.{◌≡◌, ◌≤◌, ◌⊎◌, false, OnErr, OnOk};
+ghost use Rattle.std.specs.Prelude.{◌≡◌, ◌⊎◌, false, OnErr, OnOk};
 ghost use Rattle.tc_space.specs.Changes.{out_of};
 ghost use Rattle.tc_space.specs.Frames.{Keeps, OnlyReads};
-ghost use Rattle.tc_space.specs.Refusals.{OnFault, OnlyLogIsFull};
-ghost use Rattle.hf_record.specs.Changing.{CanChange, MapsBy, StaysBody};
-ghost use Rattle.hf_record.specs.Moves.{Gives, HasRoom};
-ghost use Rattle.hf_record.specs.Searching.{IsFound};
+ghost use Rattle.tc_space.specs.Refusals.{OnFault};
+ghost use Rattle.hf_chain.specs.Costs.{PaidBy};
+ghost use Rattle.hf_record.specs.Changing.{MapsBy, StaysBody};
+ghost use Rattle.hf_record.specs.Filling.{SpoilsFull};
+ghost use Rattle.hf_record.specs.Moves.{Gives};
+ghost use Rattle.hf_record.specs.Searching.{HasFound};
 
 use crate::body::Body;
 use hf_chain::{Place, unhang};
@@ -13,8 +15,8 @@ use tc_base::Steps;
 use tc_space::{RecErr, Space};
 
 impl Body {
-    /// Takes the record of a key out, whose block has `room` bytes: it is unhung, and its block given back. After a refusal nothing has changed, or the
-    /// space isn't sound.
+    /// Takes the record of a key out, whose block has `room` bytes: it is unhung, and its block given back. A step is the read of another record's head. After
+    /// a refusal nothing has changed, or the space isn't sound; where it is full the space isn't sound.
     pub fn take_out<S: Space, L>(
         &mut self,
         space: &mut S,
@@ -23,16 +25,14 @@ impl Body {
         room: u64,
         steps: &mut Steps<L>,
     ) -> Result<(), RecErr>
-        requires may { CanChange S.Space self.old space.old }
-        requires found { IsFound S.Space self.old key.now space.old place.now }
-        requires block { HasRoom S.Space self.old place.now.at room space.old }
+        requires { HasFound S.Space self.old key.now space.old place.now room }
         ensures out { OnOk result (MapsBy S.Space (out_of key.now) 21 self.old self.new space.old space.new) }
         ensures pool { OnOk result (Gives place.now.at room self.old.pool self.new.pool) }
         ensures stays { StaysBody self.old self.new }
         ensures refused { OnErr result ((S.flag space.new ≡ false) ⊎ (OnlyReads S.Space space.old space.new × (self.new ≡ self.old))) }
         ensures keeps { Keeps S.Space space.old space.new }
-        ensures rises { steps.old ≤ steps.new }
-        ensures full { OnlyLogIsFull S.Space result space.new }
+        ensures paid { PaidBy S.Space 40 steps.old steps.new space.old space.new }
+        ensures full { SpoilsFull S.Space result space.new }
         ensures cause { OnFault S.Space result space.old space.new }
     {
         unhang(space, self.file, &self.head, place, steps)?;

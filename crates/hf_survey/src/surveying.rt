@@ -191,13 +191,14 @@ fn survey_on<S: Space>(
     survey_one(space, file, head, at, window, found)
 }
 
-// Nothing was found yet. There is room for the head's number of records, but for no more than may stand in the file.
+// How many records room is made for at once. A head may name more than the file has.
+const ROOM: u64 = 65536;
+
+// Nothing was found yet. There is room for the head's number of records, as many as are made room for at once; it grows as they are found.
 fn nothing_yet(alloc: Global, head: &Head) -> Result<Survey, AllocError>
-    requires { IsValid head.now }
     ensures { IfOk result (λ s. (s.facts ≡ []) × (s.frees ≡ [])) }
 {
-    let most = head.size.saturating_sub(head.first) / head.unit();
-    let room = head.records.min(most) as usize;
+    let room = head.records.min(ROOM) as usize;
     let facts = Vec::with_capacity(alloc, room)?;
     Ok(Survey {
         facts: Facts::from_vec(facts),

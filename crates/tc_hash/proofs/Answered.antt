@@ -13,16 +13,20 @@ use Rattle.tc_space.specs.declared.space.Space.{Ghosts}
 use Rattle.hf_chain.specs.declared.finding.Place.{Place}
 use Rattle.hf_tree.specs.declared.parent.Parent.{Parent}
 use Rattle.hf_record.specs.Searching.{IsFound, IsGap}
-use Rattle.hf_record.proofs.Records.{is_there, no_value}
+use Rattle.hf_pool.specs.Pools.{frees}
+use Rattle.hf_record.specs.Allocating.{HoldsAt}
+use Rattle.hf_record.specs.Moves.{HasRoom, LacksRoom}
+use Rattle.hf_record.proofs.Differ.{edits_after}
+use Rattle.hf_record.proofs.Records.{is_there, no_value, stood}
 use Rattle.hf_record.proofs.Searched.{found_len}
 use Rattle.hf_record.proofs.Valid.{is_valid}
 use Rattle.tc_hash.specs.declared.hash.Hash.{Hash}
 use Rattle.tc_hash.specs.declared.put.Put.{Put}
 use Rattle.tc_hash.specs.declared.put.Put.TheVariants as put
-use Rattle.tc_hash.specs.Keeping.{GivesValue, LacksBlock, Means, TakesRecord, WantsBlock, file_of, size_for}
-use Rattle.tc_hash.specs.Putting.{Answers, IsKept, IsTooLong, LacksWithin, PutsValue, StoresWithin, TakesLen}
+use Rattle.tc_hash.specs.Keeping.{GivesValue, LacksBlock, Means, TakesRecord, file_of, size_for}
+use Rattle.tc_hash.specs.Putting.{Answers, IsKept, IsValueTooLong, LacksFor, LacksWithin, PutsValue, StoresWithin, TakesLen}
 use Rattle.tc_hash.proofs.Records.{looks_again, means_after, turns_after}
-use Rattle.tc_hash.proofs.Stored.{gives_after, gives_as, gives_more, lacks_after, put_fresh}
+use Rattle.tc_hash.proofs.Stored.{gives_after, gives_as, gives_more, lacks_after, lacks_as, lacks_fresh, lacks_large, put_fresh}
 
 -- the bytes of a value with more behind it
 pub joined_long : (mode : Mode) (was : ℕ) (o : Option (List ℕ)) (value : List ℕ) → mode ≡ Cat → Some was ≡ option_map length o → length (put_value mode o value) ≡ was + length value
@@ -58,17 +62,20 @@ module _ {S : Type 0} (s : Ghosts S) (mode : Mode) (key value : List ℕ) (most 
           fits = λ m w. subst (λ (x : List ℕ). length x ≤ most) (put_fresh mode (get m key) value (none m w)) few;
         }
 
-    pub past_new : s.sound a → most < length value → IsTooLong s mode key value most v v a a
+    pub past_new : s.sound a → most < length value → IsValueTooLong s mode key value most v v a a
     past_new sound past = record {
       long = λ m w. subst (λ (x : List ℕ). most < length x) (put_fresh mode (get m key) value (none m w)) past;
       free = λ keep m w. none m w;
       looks = looks_again s v a a (only_reads_refl s a sound);
     }
 
+    pub lacks_there : s.flag b ≡ false → (s.tells → LacksRoom s v.body b (size_for v key value)) → LacksBlock s Over key value v a b
+    lacks_there spoiled l = lacks_fresh s key value v a b spoiled none l
+
     pub lacks_new : length value ≤ most → LacksBlock s Over key value v a b → LacksWithin s mode key value most v a b
     lacks_new few l = record {
-      may = record { free = λ keep m w. none m w; fits = λ m w. subst (λ (x : List ℕ). length x ≤ most) (put_fresh mode (get m key) value (none m w)) few };
-      lacks = record { wants = λ m w. subst (λ (y : List ℕ). WantsBlock s v b (size_for v key y)) (put_fresh mode (get m key) value (none m w)) (l.wants m w) };
+      lacks = record { free = λ keep m w. none m w; block = lacks_as s mode key value value v a b (λ m w. put_fresh mode (get m key) value (none m w)) l };
+      fits = λ m w. subst (λ (x : List ℕ). length x ≤ most) (put_fresh mode (get m key) value (none m w)) few;
     }
 
   -- ---- where it was found
@@ -96,9 +103,9 @@ module _ {S : Type 0} (s : Ghosts S) (mode : Mode) (key value : List ℕ) (most 
         }
 
     pub lacks_held : (mode ≡ Keep → ⊥) → ((m : Map) → Means s v a m → length (put_value mode (get m key) value) ≤ most) → LacksBlock s mode key value v a b → LacksWithin s mode key value most v a b
-    lacks_held other fits l = record { may = record { free = λ keep. absurd (other keep); fits = fits }; lacks = l }
+    lacks_held other fits l = record { lacks = record { free = λ keep. absurd (other keep); block = l }; fits = fits }
 
-    pub past_held : s.sound a → (mode ≡ Keep → ⊥) → ((m : Map) → Means s v a m → most < length (put_value mode (get m key) value)) → IsTooLong s mode key value most v v a a
+    pub past_held : s.sound a → (mode ≡ Keep → ⊥) → ((m : Map) → Means s v a m → most < length (put_value mode (get m key) value)) → IsValueTooLong s mode key value most v v a a
     past_held sound other past = record { long = past; free = λ keep. absurd (other keep); looks = looks_again s v a a (only_reads_refl s a sound) }
 
   -- ---- by what it did
@@ -109,19 +116,19 @@ module _ {S : Type 0} (s : Ghosts S) (mode : Mode) (key value : List ℕ) (most 
   pub held_so : (p : Put) (v v' : Hash S) (a b : S) → p ≡ put.Held → Answers s mode key value most p v v' a b → IsKept s mode key v v' a b
   held_so p v v' a b e x = subst (λ (q : Put). Answers s mode key value most q v v' a b) e x
 
-  pub long_so : (p : Put) (v v' : Hash S) (a b : S) → p ≡ put.TooLong → Answers s mode key value most p v v' a b → IsTooLong s mode key value most v v' a b
+  pub long_so : (p : Put) (v v' : Hash S) (a b : S) → p ≡ put.TooLong → Answers s mode key value most p v v' a b → IsValueTooLong s mode key value most v v' a b
   long_so p v v' a b e x = subst (λ (q : Put). Answers s mode key value most q v v' a b) e x
 
   -- no block has so many bytes
-  pub lacks_long : (v v' : Hash S) (a b : S) → most ≡ 2 ^ 30 → IsTooLong s mode key value most v v' a b → LacksBlock s mode key value v a b
-  lacks_long v v' a b e x = record { wants = λ m w. record { pool = v.body.pool; since = inl refl; refused = inl (omega (arith, e, x.long m w)) } }
+  pub lacks_long : (v v' : Hash S) (a b c : S) → most ≡ 2 ^ 30 → s.flag c ≡ false → IsValueTooLong s mode key value most v v' a b → LacksFor s mode key value v a c
+  lacks_long v v' a b c e spoiled x = record { free = x.free; block = lacks_large s mode key value v a c spoiled (λ m w. omega (arith, e, x.long m w)) }
 
   -- ---- behind what only reads
 
   pub lacks_behind : (v : Hash S) (a b c : S) → OnlyReads s a b → LacksWithin s mode key value most v b c → LacksWithin s mode key value most v a c
   lacks_behind v a b c r x = record {
-    may = record { free = λ keep m w. x.may.free keep m (means_after s v a b m r w); fits = λ m w. x.may.fits m (means_after s v a b m r w) };
-    lacks = lacks_after s mode key value v a b c r x.lacks;
+    lacks = record { free = λ keep m w. x.lacks.free keep m (means_after s v a b m r w); block = lacks_after s mode key value v a b c r x.lacks.block };
+    fits = λ m w. x.fits m (means_after s v a b m r w);
   }
 
   pub answers_after : (p : Put) (v v' : Hash S) (a b c : S) → OnlyReads s a b → Answers s mode key value most p v v' b c → Answers s mode key value most p v v' a c
@@ -144,8 +151,8 @@ module _ {S : Type 0} (s : Ghosts S) (mode : Mode) (key value : List ℕ) (most 
 -- ---- a key taken out
 
 module _ {S : Type 0} (s : Ghosts S) (key : List ℕ) where
-  pub takes_len : (place : Place) (room : ℕ) (v v' : Hash S) (a b c : S) → OnlyReads s a b → IsFound s v.body key b place → TakesRecord s key place.at room v v' b c → TakesLen s key (Some place.rec.value) v v' a c
-  takes_len place room v v' a b c r found t =
+  pub takes_len : (place : Place) (room : ℕ) (v v' : Hash S) (a b c : S) → OnlyReads s a b → IsFound s v.body key b place → HasRoom s v.body place.at room b → TakesRecord s key place.at room v v' b c → TakesLen s key (Some place.rec.value) v v' a c
+  takes_len place room v v' a b c r found block t =
       let was : (m : Map) → Means s v a m → Some place.rec.value ≡ option_map length (get m key) = λ m w. found_len s v.body key a b place m w.0 r w.1.map.has found in
       record {
         was_is = was;
@@ -153,6 +160,19 @@ module _ {S : Type 0} (s : Ghosts S) (key : List ℕ) where
           held = λ m w. is_length (get m key) (was m w);
           out = λ is. turns_after s (out_of key) v v' a b c r t.writes;
           none = λ is. absurd cc;
+        };
+        own = λ is m w. record {
+          at = place.at;
+          size = room;
+          stood = subst (λ (l : List ℕ). HoldsAt v.body.head v.body.pool.size (frees v.body.pool) m key place.at room l) (r.files w.0 v.body.file)
+              (stood v.body.head v.body.pool.size (frees v.body.pool) m (s.now b v.body.file) key (is_valid v.body.head v.body.valid) (means_after s v a b m r w).1.map.has place.at place.from (found.here w.0) room (block w.0));
+          takes = record {
+            writes = turns_after s (out_of key) v v' a b c r t.writes;
+            edits = edits_after s v.body.file 21 a b c r t.edits;
+            gives = t.gives;
+            head = t.head;
+            long = λ tells. t.long tells ∙ ap length (r.files tells v.body.file);
+          };
         };
       }
     where
@@ -170,6 +190,7 @@ module _ {S : Type 0} (s : Ghosts S) (key : List ℕ) where
           out = λ is. absurd cc;
           none = λ is. looks_again s v a b r;
         };
+        own = λ is. absurd cc;
       }
 
 -- as the trait has it

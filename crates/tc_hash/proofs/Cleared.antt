@@ -1,12 +1,12 @@
 -- A file made anew with the numbers and in the form that it has.
-use Rattle.std.proofs.Common.{◌≡◌, ◌∙◌, ◌⊎◌, inl, inr, ℕ, zero, suc, ◌+◌, ◌-◌, ◌*◌, ◌%◌, ◌^◌, ◌<◌, ◌≤◌, true, false, List, [], length, replicate, refl, sym, ap, subst, arith, None}
+use Rattle.std.proofs.Common.{◌≡◌, ◌∙◌, ◌⊎◌, inl, inr, ℕ, zero, suc, ◌+◌, ◌-◌, ◌*◌, ◌%◌, ◌^◌, ◌<◌, ◌≤◌, true, false, List, [], length, replicate, take, refl, sym, ap, subst, arith, None}
 use Rattle.std.specs.Prelude.{◌==◌}
 use Rattle.std.specs.FinMap.{empty}
 use Rattle.std.proofs.lemmas.Bool.{cases_lt}
 use Rattle.std.proofs.lemmas.List.{length-replicate}
 use Rattle.std.proofs.Math.Nat.{mod-eq_of_lt}
 use Rattle.hf_head.specs.declared.head.Head.{Head}
-use Rattle.hf_head.specs.Heads.{Spells, is_large, sections, spelled, unit, wide}
+use Rattle.hf_head.specs.Heads.{Spells, head_in, is_large, sections, spelled, unit, wide}
 use Rattle.hf_layout.specs.Frees.{none}
 use Rattle.hf_layout.specs.Layout.{LaidOut}
 use Rattle.hf_layout.proofs.Segments.{rest_aligned}
@@ -17,13 +17,13 @@ use Rattle.tc_space.specs.Effects.{Changes}
 use Rattle.tc_space.specs.Ranges.{IsDataFile}
 use Rattle.tc_space.specs.declared.space.Space.{Ghosts}
 use Rattle.tc_reach.specs.Limits.{AreZeros}
-use Rattle.tc_hash.specs.Creating.{IsNew, MayBe}
+use Rattle.tc_hash.specs.Creating.{IsNew, MayBe, new_bytes}
 use Rattle.hf_record.specs.Fields.{HasFields}
-use Rattle.tc_hash.specs.Holding.{Holds, HoldsFile}
+use Rattle.tc_hash.specs.Holding.{Holds, HoldsFile, IsNumbered}
 use Rattle.tc_hash.specs.declared.hash.Hash.{Hash}
 use Rattle.tc_hash.specs.Keeping.{Turns}
-use Rattle.tc_hash.proofs.Fronted.{anew_as}
-use Rattle.tc_hash.proofs.Created.{create_brought, new_bytes, new_fields, zeros_are}
+use Rattle.tc_hash.proofs.Fronted.{anew_as, numbers_is}
+use Rattle.tc_hash.proofs.Created.{create_brought, create_head, new_fields, zeros_are}
 
 pub may_be : (h : Head) → HasFields h → MayBe h.kind h.apow h.fpow h.buckets
 may_be h f = record {
@@ -79,17 +79,21 @@ cleared h new p bytes f is same sized nothing laid spells long e =
     let b = create_brought h.kind h.apow h.fpow h.buckets (is_large h) new p bytes (may_be h f) is (anew_fields h new f is).numbers.size_most same sized nothing laid spells long e in
     subst (λ (n : ℕ). Holds new p.size (frees_in p) n empty bytes) is.records b.holds
 
+-- and its head stands in front
+pub numbers_anew : (h : Head) (bytes : List ℕ) → Spells h (spelled h) → length (spelled h) ≡ 256 → bytes ≡ new_bytes h → IsNumbered h bytes
+numbers_anew h bytes spells long e = numbers_is h (head_in (take 256 bytes)) (create_head h h bytes refl spells long e)
+
 -- bytes that the file had pass no limit
 pub within_log : {S : Type 0} (s : Ghosts S) → ((a : S) (file : ℕ) → s.tells → s.sound a → IsDataFile file → length (s.now a file) ≤ s.limit a file) → (file n : ℕ) (a : S) {L : Type 0} → s.tells → s.sound a → IsDataFile file → n ≤ length (s.now a file) → (s.limit a file < n) ⊎ L → L
 within_log s within file n a t sound numbered inside (inl past) = absurd (omega (arith, within a file t sound numbered, past, inside))
 within_log s within file n a t sound numbered inside (inr full) = full
 
 -- the file was made anew, and nothing is held
-pub emptied : {S : Type 0} (s : Ghosts S) (v v' : Hash S) (h : Head) (p : Pool) (bytes : List ℕ) (a b : S) → v'.body.file ≡ v.body.file → v'.body.head ≡ h → v'.body.pool ≡ p → v'.records ≡ 0 → v'.front ≡ None → p.changed ≡ true → s.sound b
-    → (s.tells → Changes s.now v.body.file bytes a b) → (s.tells → Holds h p.size (frees_in p) 0 empty (s.now b v.body.file)) → Turns s (λ m. empty) v v' a b
-emptied s v v' h p bytes a b file eh ep er ef noted sound wrote held = record {
+pub emptied : {S : Type 0} (s : Ghosts S) (v v' : Hash S) (h : Head) (p : Pool) (a b : S) → v'.body.file ≡ v.body.file → v'.body.head ≡ h → v'.body.pool ≡ p → v'.records ≡ 0 → v'.front ≡ None → p.changed ≡ true → s.sound b
+    → Spells h (spelled h) → length (spelled h) ≡ 256 → (s.tells → Changes s.now v.body.file (new_bytes h) a b) → (s.tells → Holds h p.size (frees_in p) 0 empty (s.now b v.body.file)) → Turns s (λ m. empty) v v' a b
+emptied s v v' h p a b file eh ep er ef noted sound spells long wrote held = record {
   sound = sound;
-  means = λ m w. (w.0, subst (λ (l : List ℕ). HoldsFile v' l empty) (sym (ap (s.now b) file)) (anew_as v' h p 0 (s.now b v.body.file) empty eh ep er ef noted (held w.0)));
+  means = λ m w. (w.0, subst (λ (l : List ℕ). HoldsFile v' l empty) (sym (ap (s.now b) file)) (anew_as v' h p 0 (s.now b v.body.file) empty eh ep er ef noted (held w.0) (numbers_anew h (s.now b v.body.file) spells long (wrote w.0).here)));
   others = record { same = λ t f other. (wrote t).others f other };
 }
 

@@ -29,7 +29,7 @@ use Rattle.hf_pool.proofs.Sectioning.{pairs-nil}
 use Rattle.hf_tree.specs.declared.parent.Parent.TheVariants.{Bucket}
 use Rattle.hf_tree.specs.Trees.{leaf}
 use Rattle.hf_tree.specs.Links.{array, links_of, width}
-use Rattle.tc_hash.specs.Creating.{IsNew, MayBe}
+use Rattle.tc_hash.specs.Creating.{IsNew, MayBe, new_bytes}
 use Rattle.hf_record.specs.Fields.{HasFields}
 use Rattle.hf_record.specs.Holding.{IsHeld}
 use Rattle.tc_hash.specs.Sections.{section_of}
@@ -55,10 +55,6 @@ zeros_between x n from to low on high =
     ap (λ (k : ℕ). drop k (x ++ replicate n 0)) (sym sum) ∙ sym (drop-drop (from - length x) (length x) (x ++ replicate n 0))
     ∙ ap (drop (from - length x)) (drop_at x (replicate n 0) (length x) refl) ∙ drop-replicate (from - length x) n 0 in
     ap (take (to - from)) tail ∙ take-replicate (to - from) (n - (from - length x)) 0 (omega (arith, low, on, high))
-
--- the bytes of a new file
-abbrev pub new_bytes : Head → List ℕ
-new_bytes h = spelled h ++ replicate (h.first - 256) 0
 
 no_links : (h : Head) (b : ℕ) → length (spelled h) ≡ 256 → sections h ≤ h.first → links_of h [] (new_bytes h) (Bucket b) ≡ 0
 unfolding links_of

@@ -1,5 +1,5 @@
 -- A file written anew in the large form with the pairs that it had.
-use Rattle.std.proofs.Common.{◌≡◌, ◌∙◌, ◌⊎◌, inl, inr, ⊎_elim, ℕ, zero, suc, ◌+◌, ◌^◌, ◌≤◌, true, List, [], ◌∷◌, ◌++◌, length, take, map, refl, sym, ap, subst, arith, Option, Some, None, Bool, add-one}
+use Rattle.std.proofs.Common.{◌≡◌, ◌∙◌, ◌⊎◌, inl, inr, ⊎_elim, ℕ, zero, suc, ◌+◌, ◌^◌, ◌≤◌, true, List, [], ◌∷◌, ◌++◌, length, take, drop, map, refl, sym, ap, subst, arith, Option, Some, None, Bool, add-one}
 use Rattle.std.specs.Prelude.{is_some, slice_get, ◌||◌}
 use Rattle.std.specs.FinMap.{empty, get, insert, keys, contains_key-keys, get-empty, same_map}
 use Rattle.std.specs.List.{list_any}
@@ -12,7 +12,7 @@ use Rattle.tc_base.specs.declared.seq.Pair.{Pair}
 use Rattle.tc_base.specs.declared.kind.Mode.TheVariants.{Over}
 use Rattle.tc_space.specs.Changes.{put_in, same as same_map_of}
 use Rattle.tc_space.specs.Frames.{In, Reads, Writes, reads_writes, writes_then}
-use Rattle.tc_space.specs.Stores.{FullBy, Only}
+use Rattle.tc_space.specs.Stores.{Only}
 use Rattle.tc_space.specs.declared.space.Space.{Ghosts}
 use Rattle.hf_block.specs.Written.{block_len}
 use Rattle.hf_tree.specs.Links.{width}
@@ -22,15 +22,15 @@ use Rattle.hf_head.specs.declared.head.Head.{Head}
 use Rattle.hf_head.specs.Heads.{Spells, spelled, unit}
 use Rattle.hf_pool.specs.declared.pool.Pool.{Pool}
 use Rattle.hf_pool.specs.Pools.{Takes, frees as frees_in}
-use Rattle.tc_hash.specs.Creating.{IsNew}
+use Rattle.tc_hash.specs.Creating.{IsNew, new_bytes}
 use Rattle.hf_record.specs.Fields.{HasFields}
 use Rattle.tc_hash.specs.Holding.{Holds}
 use Rattle.tc_hash.specs.declared.hash.Hash.{Hash}
 use Rattle.tc_hash.specs.Keeping.{file_of, holds, size_for, GivesValue, StaysOpen}
 use Rattle.hf_record.specs.Moves.{IsRefusedFor, LacksRoom}
-use Rattle.tc_hash.specs.Packing.{AllIn, ArePairs, LacksEnd, LacksOne, fills_enlarging, with_pairs}
+use Rattle.tc_hash.specs.Packing.{AllIn, ArePairs, IsLargeOf, LacksEnd, LacksLarge, LacksOne, LacksRecord, blocks_long, with_pairs}
 use Rattle.tc_hash.proofs.Cleared.{may_be}
-use Rattle.tc_hash.proofs.Created.{create_brought, new_bytes, new_fields}
+use Rattle.tc_hash.proofs.Created.{create_brought, new_fields}
 use Rattle.hf_record.proofs.Maps.{insert_here, insert_other, other_test, same_or_not}
 
 abbrev same : List ℕ → List ℕ → Bool
@@ -83,6 +83,28 @@ take_more i [] p e = absurd (let f : None ≡ Some p = e in cc)
 take_more zero (q ∷ ps) p e = let f : Some q ≡ Some p = e in let g : q ≡ p = cc in ap (λ (x : Pair). x ∷ []) g
 take_more (suc i) (q ∷ ps) p e = ap (λ (l : List Pair). q ∷ l) (take_more i ps p e)
 
+-- a pair, with those in front of it and behind it
+pub parted_at : (i : ℕ) (ps : List Pair) (p : Pair) → slice_get ps i ≡ Some p → ps ≡ take i ps ++ p ∷ drop (suc i) ps
+parted_at i [] p e = absurd (let f : None ≡ Some p = e in cc)
+parted_at zero (q ∷ ps) p e = let f : Some q ≡ Some p = e in let g : q ≡ p = cc in ap (λ (x : Pair). x ∷ ps) g
+parted_at (suc i) (q ∷ ps) p e = ap (λ (l : List Pair). q ∷ l) (parted_at i ps p e)
+
+none_before : (n : ℕ) → n + 0 ≡ 0 + n
+none_before n = omega arith
+
+one_before : (q a b c : ℕ) → a ≡ b + c → q + a ≡ q + b + c
+one_before q a b c e = omega (arith, e)
+
+ends_sum : (a b c x y z : ℕ) → a ≡ b + x → b ≡ c + y → z ≡ y + x → a ≡ c + z
+ends_sum a b c x y z p q r = omega (arith, p, q, r)
+
+blocks_one : (h : Head) (ps : List Pair) (p : Pair) → blocks_long h (ps ++ p ∷ []) ≡ blocks_long h ps + block_len (width h) p.key p.value (unit h)
+blocks_one h [] p = none_before (block_len (width h) p.key p.value (unit h))
+blocks_one h (q ∷ ps) p = one_before _ _ _ _ (blocks_one h ps p)
+
+pub blocks_more : (h : Head) (i : ℕ) (ps : List Pair) (p : Pair) → slice_get ps i ≡ Some p → blocks_long h (take (i + 1) ps) ≡ blocks_long h (take i ps) + block_len (width h) p.key p.value (unit h)
+blocks_more h i ps p e = ap (λ (n : ℕ). blocks_long h (take n ps)) (add-one i) ∙ ap (blocks_long h) (take_more i ps p e) ∙ blocks_one h (take i ps) p
+
 pub mapped_same : (ks : List (List ℕ)) → map (λ (k : List ℕ). k) ks ≡ ks
 mapped_same [] = refl
 mapped_same (k ∷ ks) = ap (λ (l : List (List ℕ)). k ∷ l) (mapped_same ks)
@@ -98,6 +120,11 @@ in_all m (q ∷ ps) (suc i) p e all = in_all m ps i p e all.1
 pub still_nothing : (size place : ℕ) (old new : Pool) → Takes old new size place → ((q : ℕ) → frees_in old q ≡ None) → (q : ℕ) → frees_in new q ≡ None
 still_nothing size place old new (inl w) nothing q = absurd (let e : None ≡ Some w.0 = sym (nothing place) ∙ w.1.best.there in cc)
 still_nothing size place old new (inr g) nothing q = g.same q ∙ nothing q
+
+-- and grows by each block
+pub ends_behind : (size place : ℕ) (old new : Pool) → Takes old new size place → ((q : ℕ) → frees_in old q ≡ None) → new.size ≡ old.size + size
+ends_behind size place old new (inl w) nothing = absurd (let e : None ≡ Some w.0 = sym (nothing place) ∙ w.1.best.there in cc)
+ends_behind size place old new (inr g) nothing = g.end
 
 -- ---- the file made anew
 
@@ -117,17 +144,20 @@ form_one h f ne = omega (arith, f.options, ne)
 -- ---- one put after the other
 
 module _ {S : Type 0} (s : Ghosts S) where
-  pub lacks_end : (v w : Hash S) (b : S) (key key' value value' : List ℕ) → key' ≡ key → value' ≡ value → StaysOpen v w → ((q : ℕ) → frees_in w.body.pool q ≡ None) → LacksRoom s w.body b (size_for w key' value') → LacksEnd s v.body.head v.body.file b key value
-  lacks_end v w b key key' value value' ek ev stays nothing lacks = record {
-    end = w.body.pool.size;
-    free = frees_in w.body.pool;
-    nothing = nothing;
-    refused =
-        subst (λ (k : List ℕ). IsRefusedFor v.body.head w.body.pool.size (frees_in w.body.pool) (s.limit b v.body.file) (length (s.now b v.body.file)) (s.log_full b) (block_len (width v.body.head) k value (unit v.body.head))) ek
-        (subst (λ (x : List ℕ). IsRefusedFor v.body.head w.body.pool.size (frees_in w.body.pool) (s.limit b v.body.file) (length (s.now b v.body.file)) (s.log_full b) (block_len (width v.body.head) key' x (unit v.body.head))) ev
-        (subst (λ (h : Head). IsRefusedFor h w.body.pool.size (frees_in w.body.pool) (s.limit b v.body.file) (length (s.now b v.body.file)) (s.log_full b) (block_len (width h) key' value' (unit h))) stays.head
-        (subst (λ (f : ℕ). IsRefusedFor w.body.head w.body.pool.size (frees_in w.body.pool) (s.limit b f) (length (s.now b f)) (s.log_full b) (size_for w key' value')) stays.map.file lacks)));
-  }
+  pub lacks_end : (v w : Hash S) (b : S) (end : ℕ) (key key' value value' : List ℕ) → key' ≡ key → value' ≡ value → StaysOpen v w → ((q : ℕ) → frees_in w.body.pool q ≡ None) → w.body.pool.size ≡ end → LacksRoom s w.body b (size_for w key' value') → s.log_full b ⊎ LacksEnd s v.body.head v.body.file end b key value
+  lacks_end v w b end key key' value value' ek ev stays nothing ends lacks = ⊎_elim
+      (λ log. inl log)
+      (λ none. inr (record {
+        free = frees_in w.body.pool;
+        nothing = nothing;
+        refused =
+            subst (λ (n : ℕ). IsRefusedFor v.body.head n (frees_in w.body.pool) (s.limit b v.body.file) (length (s.now b v.body.file)) (block_len (width v.body.head) key value (unit v.body.head))) ends
+            (subst (λ (k : List ℕ). IsRefusedFor v.body.head w.body.pool.size (frees_in w.body.pool) (s.limit b v.body.file) (length (s.now b v.body.file)) (block_len (width v.body.head) k value (unit v.body.head))) ek
+            (subst (λ (x : List ℕ). IsRefusedFor v.body.head w.body.pool.size (frees_in w.body.pool) (s.limit b v.body.file) (length (s.now b v.body.file)) (block_len (width v.body.head) key' x (unit v.body.head))) ev
+            (subst (λ (h : Head). IsRefusedFor h w.body.pool.size (frees_in w.body.pool) (s.limit b v.body.file) (length (s.now b v.body.file)) (block_len (width h) key' value' (unit h))) stays.head
+            (subst (λ (f : ℕ). IsRefusedFor w.body.head w.body.pool.size (frees_in w.body.pool) (s.limit b f) (length (s.now b f)) (size_for w key' value')) stays.map.file none))));
+      }))
+      lacks
 
   pub put_more : (u v w : Hash S) (a b c : S) (ps : List Pair) (i : ℕ) (p : Pair) (key value : List ℕ) → key ≡ p.key → value ≡ p.value → slice_get ps i ≡ Some p → StaysOpen u v → Writes s (Only (file_of u)) (In s file_of holds) (λ m. with_pairs m (take i ps)) u v a b → GivesValue s Over key value 13 v w b c → Writes s (Only (file_of u)) (In s file_of holds) (λ m. with_pairs m (take (i + 1) ps)) u w a c
   put_more u v w a b c ps i p key value ek ev at stays first second =
@@ -141,6 +171,13 @@ module _ {S : Type 0} (s : Ghosts S) where
     where
       next : (m : Map) → insert (with_pairs m (take i ps)) key value ≡ with_pairs m (take (i + 1) ps)
       next m = (λ j. insert (with_pairs m (take i ps)) (ek j) (ev j)) ∙ sym (with_one m (take i ps) p) ∙ ap (with_pairs m) (sym (take_more i ps p at)) ∙ ap (λ (n : ℕ). with_pairs m (take n ps)) (sym (add-one i))
+
+  -- where the blocks end behind one pair more
+  pub ends_more : (u v w : Hash S) (ps : List Pair) (i : ℕ) (p : Pair) (key value : List ℕ) → key ≡ p.key → value ≡ p.value → slice_get ps i ≡ Some p → StaysOpen u v → w.body.pool.size ≡ v.body.pool.size + size_for v key value
+      → v.body.pool.size ≡ u.body.pool.size + blocks_long u.body.head (take i ps) → w.body.pool.size ≡ u.body.pool.size + blocks_long u.body.head (take (i + 1) ps)
+  ends_more u v w ps i p key value ek ev at stays grows ends =
+      let sized : size_for v key value ≡ block_len (width u.body.head) p.key p.value (unit u.body.head) = λ j. block_len (width (stays.head j)) (ek j) (ev j) (unit (stays.head j)) in
+      ends_sum _ _ _ _ _ _ (grows ∙ ap (λ (n : ℕ). v.body.pool.size + n) sized) ends (blocks_more u.body.head i ps p at)
 
   -- ---- the whole
 
@@ -160,15 +197,21 @@ module _ {S : Type 0} (s : Ghosts S) where
         others = both.others;
       }
 
-  pub lacks_record : (u v : Hash S) (a c : S) (ps : List Pair) → v.body.file ≡ u.body.file → IsNew u.body.head.kind u.body.head.apow u.body.head.fpow u.body.head.buckets true v.body.head → ((m : Map) → In s file_of holds u a m → AllIn m ps × (with_pairs empty ps ≡ m)) → (s.tells → LacksOne s v.body.head v.body.file c ps) → FullBy (In s file_of holds) (fills_enlarging s) same_map_of u a c
-  lacks_record u v a c ps same_file new make lacks = record {
-    by = λ m holding.
-        let l = lacks holding.0 in
-        inr (inr (record { head = v.body.head; is_new = new; key = l.pair.key; value = l.pair.value; there = l.there m (make m holding).0; lacks = subst (λ (f : ℕ). LacksEnd s v.body.head f c l.pair.key l.pair.value) same_file l.lacks }));
+  pub lacks_record : (u v : Hash S) (a c : S) (ps : List Pair) → v.body.file ≡ u.body.file → IsLargeOf u v.body.head → v.body.pool.size ≡ v.body.head.first → ((m : Map) → In s file_of holds u a m → ArePairs m (keys m) ps) → LacksOne s v.body.head v.body.file v.body.pool.size c ps → LacksRecord s u a c
+  lacks_record u v a c ps same_file new ends are one = record {
+    head = v.body.head;
+    is_new = new;
+    pairs = ps;
+    are = are;
+    one = subst (λ (f : ℕ). LacksOne s v.body.head f v.body.head.first c ps) same_file (subst (λ (n : ℕ). LacksOne s v.body.head v.body.file n c ps) ends one);
   }
 
   pub packed_after : (v v' w : Hash S) (a b c : S) → Reads s (In s file_of holds) v v' a b → v'.body.file ≡ v.body.file → Writes s (Only (file_of v')) (In s file_of holds) same_map_of v' w b c → Writes s (Only (file_of v)) (In s file_of holds) same_map_of v w a c
   packed_after v v' w a b c reads same_file writes = reads_writes s (In s file_of holds) (Only (file_of v)) same_map_of v v' w a b c reads (subst (λ (f : ℕ). Writes s (Only f) (In s file_of holds) same_map_of v' w b c) same_file writes)
 
-  pub full_reads : (v v' : Hash S) (a b c : S) → Reads s (In s file_of holds) v v' a b → v' ≡ v → FullBy (In s file_of holds) (fills_enlarging s) same_map_of v' b c → FullBy (In s file_of holds) (fills_enlarging s) same_map_of v a c
-  full_reads v v' a b c reads e full = record { by = λ m holding. subst (λ (h : Hash S). fills_enlarging s h c m m) e (full.by m (reads.means m holding)) }
+  -- a file written anew lacked room, by what was held before what only reads
+  pub large_before : (v v' : Hash S) (a b c : S) → v' ≡ v → (s.tells → (g : ℕ) → s.now b g ≡ s.now a g) → LacksLarge s v' b c → LacksLarge s v a c
+  large_before v v' a b c e now lacks = ⊎_elim
+      (λ sections. inl sections)
+      (λ one. inr (record { head = one.head; is_new = one.is_new; pairs = one.pairs; are = λ m w. one.are m (w.0, subst (λ (l : List ℕ). holds v l m) (sym (now w.0 v.body.file)) w.1); one = one.one }))
+      (subst (λ (h : Hash S). LacksLarge s h b c) e lacks)

@@ -32,7 +32,7 @@ use Rattle.tc_hash.specs.Holding.{Holds}
 use Rattle.tc_hash.specs.Bringing.{IsNewSection, whole}
 use Rattle.tc_hash.specs.Fronts.{ShowsFrees}
 use Rattle.tc_hash.specs.Sections.{IsListOf, IsSectionOf, filled, section_at, section_len, section_of}
-use Rattle.tc_hash.specs.Settling.{Brought, head_now, patched, settled}
+use Rattle.tc_hash.specs.Settling.{Brought, head_now, patched}
 use Rattle.tc_hash.proofs.Listing.{section_lists}
 use Rattle.tc_hash.proofs.Keyed.{frees_same, list_same, map_same, map_of-len, single}
 
@@ -117,6 +117,10 @@ patched_before from to at long (Some x) a s low fits = between_before from to at
 section_patched : (at to long : ℕ) (o : Option (List ℕ)) (x a : List ℕ) → Suits long o → to ≡ at + long → length x ≤ at → to ≤ length a → between at to (patched at o (wrote 0 x a)) ≡ unwrap_or o (between at to a)
 section_patched at to long None x a s sum low fits = between_behind at to 0 x a (omega (arith, low)) (omega (arith, low, sum, fits))
 section_patched at to long (Some y) x a s sum low fits = between_at at to y (wrote 0 x a) (omega (arith, s, sum)) (omega (arith, s, sum, fits, length_over 0 x a (omega (arith, low, sum, fits))))
+
+-- the head written, the section where it has changed, and the file cut
+abbrev pub settled : Head → Option (List ℕ) → List ℕ → List ℕ
+settled h section bytes = take h.size (patched (section_at h) section (wrote 0 (spelled h) bytes))
 
 -- the bytes are those of before but for the head and the section
 pub record Settles (h : Head) (o : Option (List ℕ)) (old new : List ℕ) : Type 0 where
@@ -234,6 +238,7 @@ brought h u end records frees m region o a b f same aligned multiples spells is 
         region_is = refl;
       };
       head = ap (λ (l : List ℕ). head_in l) s.head ∙ spells.fields;
+      spells = s.head;
     }
 
 -- ---- settling, from what its calls say

@@ -1,16 +1,15 @@
 -- A file whose records were moved to its front.
-use Rattle.std.proofs.Common.{◌≡◌, inl, inr, ℕ, List, None, refl, sym, subst, arith}
+use Rattle.std.proofs.Common.{◌≡◌, ◌∙◌, ℕ, List, None, refl, sym, ap, subst, arith}
 use Rattle.std.specs.FinMap.{get}
 use Rattle.tc_base.specs.Maps.{Map}
 use Rattle.tc_base.specs.declared.kind.Form.{Form}
-use Rattle.tc_base.specs.declared.kind.Form.TheVariants as form
 use Rattle.tc_space.specs.Changes.{same}
 use Rattle.tc_space.specs.Frames.{In, OnlyReads, Writes}
 use Rattle.hf_block.specs.declared.block.BlockAt.{BlockAt}
 use Rattle.hf_pack.specs.Packing.{Packs}
 use Rattle.hf_tree.specs.Listing.{AreListed}
 use Rattle.tc_hash.specs.Listed.{OfBlocks}
-use Rattle.tc_space.specs.Stores.{FullBy, Only}
+use Rattle.tc_space.specs.Stores.{Only}
 use Rattle.tc_space.specs.declared.space.Space.{Ghosts}
 use Rattle.hf_head.specs.declared.head.Head.{Head}
 use Rattle.hf_head.specs.Heads.{unit}
@@ -26,9 +25,11 @@ use Rattle.hf_tree.specs.Standing.{AllHang}
 use Rattle.tc_hash.specs.declared.hash.Hash.{Hash}
 use Rattle.tc_hash.specs.Holding.{Holds}
 use Rattle.tc_hash.specs.Keeping.{file_of, holds}
-use Rattle.tc_hash.specs.Packing.{IsRepacked, fills_any, fills_packing}
+use Rattle.tc_hash.specs.Packing.{IsPacked, IsRepacked, IsTight}
 use Rattle.tc_hash.specs.Settling.{Settles, head_now}
-use Rattle.tc_hash.specs.Standing.{Stands}
+use Rattle.tc_hash.specs.Standing.{StandsWith}
+use Rattle.tc_hash.proofs.Tight.{packed_of, still_none}
+use Rattle.hf_pool.specs.Trims.{Trimmed}
 use Rattle.tc_hash.proofs.Kept.{links_head}
 
 abbrev Packing : Head → ℕ → List ℕ → List ℕ → Type 0
@@ -65,11 +66,6 @@ packed_holds h now p p' records region m old new end is packing sized nothing he
     }
 
 module _ {S : Type 0} (s : Ghosts S) where
-  -- a limit of a packing is one of some call
-  pub full_any : (v : Hash S) (f : Form) (a b : S) → FullBy (In s file_of holds) (fills_packing f s) same v a b → FullBy (In s file_of holds) (fills_any s) same v a b
-  full_any v form.Keep a b full = record { by = λ m w. inl (inl (full.by m w)) }
-  full_any v form.Large a b full = record { by = λ m w. inr (full.by m w) }
-
   -- what is held in memory was brought to the file
   pub settled_same : (v v' : Hash S) (a b : S) → v'.body.file ≡ v.body.file → Settles s v v' a b → Writes s (Only (file_of v)) (In s file_of holds) same v v' a b
   settled_same v v' a b file done = record {
@@ -78,8 +74,17 @@ module _ {S : Type 0} (s : Ghosts S) where
     others = done.others;
   }
 
-  pub settled_stands : (v v' : Hash S) (a b : S) → v'.region ≡ v.region → Settles s v v' a b → (m : Map) → In s file_of holds v a m → Stands (s.now b (file_of v)) m v.region
-  settled_stands v v' a b region done m w = subst (λ (r : List ℕ). Stands (s.now b v.body.file) m r) region (record { kind = v'.body.head.kind; is = (done.brought w.0 m w.1).stands })
+  pub settled_stands : (v v' : Hash S) (a b : S) → v'.body.head ≡ v.body.head → v'.region ≡ v.region → Settles s v v' a b → (m : Map) → In s file_of holds v a m → StandsWith v.body.head.kind (s.now b (file_of v)) m v.region
+  settled_stands v v' a b head region done m w =
+      subst (λ (r : List ℕ). StandsWith v.body.head.kind (s.now b v.body.file) m r) region
+      (subst (λ (h : Head). StandsWith h.kind (s.now b v.body.file) m v'.region) head (done.brought w.0 m w.1).stands)
+
+  -- where it was packed the file is
+  pub settled_packs : (v v' : Hash S) (a b : S) → v'.body.head ≡ v.body.head → Trimmed (frees_in v.body.pool) (frees_in v'.body.pool) v.body.pool.size v'.body.pool.size → Settles s v v' a b → (form : Form) (m : Map) → IsTight form v → In s file_of holds v a m → IsPacked form (s.now b (file_of v))
+  settled_packs v v' a b head dropped done form m tight w =
+      packed_of form v'.body.head v'.body.pool.size (frees_in v'.body.pool) v'.records v'.region m (s.now b v.body.file) (done.brought w.0 m w.1)
+      (still_none (frees_in v.body.pool) (frees_in v'.body.pool) v.body.pool.size v'.body.pool.size dropped tight.nothing)
+      (λ is. ap (λ (h : Head). h.options) head ∙ tight.large is)
 
   -- the blocks that were listed were packed
   pub packs_blocks : (h : Head) (file : ℕ) (a b c : S) (blocks : List BlockAt) (end : ℕ) → OnlyReads s a b → OfBlocks s h file a (λ ps. AreListed h ps (s.now b file) blocks) → Packs s h file blocks b c end → OfBlocks s h file a (λ ps. IsRepacked h end ps (s.now a file) (s.now c file))

@@ -1,15 +1,9 @@
 -- Calls on the records of a hash file that is held open, made of steps.
-use Rattle.std.proofs.Common.{◌≡◌, ◌∙◌, ◌⊎◌, inl, inr, ⊎_elim, ℕ, ◌^◌, ◌<◌, List, length, refl, sym, ap, subst, Option, Err, false}
-use Rattle.std.specs.Prelude.{IsErrOf}
+use Rattle.std.proofs.Common.{◌≡◌, ◌∙◌, ◌⊎◌, inl, inr, ⊎_elim, ℕ, ◌^◌, ◌<◌, List, length, refl, sym, ap, subst, Option, false}
 use Rattle.std.specs.FinMap.{get, len}
 use Rattle.tc_base.specs.Maps.{Map}
 use Rattle.tc_space.specs.Frames.{OnlyReads, reads_writes, refuses_then}
 use Rattle.tc_space.specs.Stores.{Only, ready_reads}
-use Rattle.tc_space.specs.Errors.{put_of}
-use Rattle.tc_space.specs.declared.errors.RecErr.{RecErr}
-use Rattle.tc_space.specs.declared.errors.RecErr.TheVariants as rec_err
-use Rattle.tc_space.specs.declared.errors.PutErr.{PutErr}
-use Rattle.tc_space.specs.declared.errors.PutErr.TheVariants as put_err
 use Rattle.tc_space.specs.declared.space.Space.{Ghosts}
 use Rattle.hf_head.specs.declared.head.Head.{Head}
 use Rattle.hf_pool.specs.Pools.{frees as frees_in}
@@ -25,22 +19,22 @@ use Rattle.hf_record.proofs.Valid.{is_valid}
 use Rattle.tc_hash.specs.declared.front.Front.{Front}
 use Rattle.tc_hash.specs.declared.hash.Hash.{Hash}
 use Rattle.tc_hash.specs.Fronts.{ShowsFrees, ShowsFront}
-use Rattle.tc_hash.specs.Holding.{Holds, HoldsFile}
+use Rattle.tc_hash.specs.Holding.{Holds, HoldsFile, IsNumbered}
 use Rattle.tc_hash.specs.Keeping.{CanCall, Looks, Means, Refused, Turns, holds}
-use Rattle.tc_hash.proofs.Fronted.{frees_shown, section_same, shows_same}
+use Rattle.tc_hash.proofs.Fronted.{frees_shown, numbers_left, section_same, shows_same}
 
 -- ---- what is held
 
 -- by its parts
 abbrev Parts : Body → ℕ → Option Front → List ℕ → Map → Type 0
-Parts b r f bytes m = Holds b.head b.pool.size (frees_in b.pool) r m bytes × ShowsFront b.head f bytes × ShowsFrees b.head b.pool bytes
+Parts b r f bytes m = Holds b.head b.pool.size (frees_in b.pool) r m bytes × ShowsFront b.head f bytes × ShowsFrees b.head b.pool bytes × IsNumbered b.head bytes
 
 module _ {S : Type 0} (s : Ghosts S) where
   pub same_holds : (v v' : Hash S) (x y : List ℕ) (m : Map) → v'.body ≡ v.body → v'.records ≡ v.records → v'.front ≡ v.front → y ≡ x → holds v x m → holds v' y m
   same_holds v v' x y m eb er ef e h =
-      let p : Parts v.body v.records v.front x m = (h.map, h.front, h.listed) in
+      let p : Parts v.body v.records v.front x m = (h.map, h.front, h.listed, h.numbers) in
       let q = subst (λ (z : Body). Parts z v'.records v'.front y m) (sym eb) (subst (λ (z : ℕ). Parts v.body z v'.front y m) (sym er) (subst (λ (z : Option Front). Parts v.body v.records z y m) (sym ef) (subst (λ (z : List ℕ). Parts v.body v.records v.front z m) (sym e) p))) in
-      record { map = q.0; front = q.1; listed = q.2 }
+      record { map = q.0; front = q.1; listed = q.2; numbers = q.3 }
 
   -- nothing is written, and what is held in memory stays
   pub looks_only : (v v' : Hash S) (a b : S) → v'.body ≡ v.body → v'.records ≡ v.records → v'.front ≡ v.front → OnlyReads s a b → Looks s v v' a b
@@ -109,25 +103,8 @@ module _ {S : Type 0} (s : Ghosts S) where
         let all : Holds h v'.body.pool.size (frees_in v'.body.pool) v'.records (f m) new = record { has = map w.0 m w.1.map.has; count = count m w } in
         let front : ShowsFront h v'.front new = subst (λ (o : Option Front). ShowsFront h o new) (sym ef) (shows_same h v.front old new valid left w.1.front) in
         let listed : ShowsFrees h v'.body.pool new = frees_shown h v.body.pool v'.body.pool old new spares.notes (section_same h old new valid left) w.1.listed in
-        let P : Head → Type 0 = λ x. Holds x v'.body.pool.size (frees_in v'.body.pool) v'.records (f m) new × ShowsFront x v'.front new × ShowsFrees x v'.body.pool new in
-        let p : P v'.body.head = subst P (sym stays.head) (all, front, listed) in
-        let here : HoldsFile v' new (f m) = record { map = p.0; front = p.1; listed = p.2 } in
+        let P : Head → Type 0 = λ x. Holds x v'.body.pool.size (frees_in v'.body.pool) v'.records (f m) new × ShowsFront x v'.front new × ShowsFrees x v'.body.pool new × IsNumbered x new in
+        let p : P v'.body.head = subst P (sym stays.head) (all, front, listed, numbers_left h old new left.head w.1.numbers) in
+        let here : HoldsFile v' new (f m) = record { map = p.0; front = p.1; listed = p.2; numbers = p.3 } in
         (w.0, subst (λ (n : ℕ). HoldsFile v' (s.now b n) (f m)) (sym stays.file) here);
   }
-
--- ---- refusals of puts
-
-pub put_full : {A B : Type 0} (e : RecErr) (f : PutErr) → f ≡ put_of e → IsErrOf {T = A} (Err f) put_err.Full → IsErrOf {T = B} (Err e) rec_err.Full
-put_full rec_err.Full f is g = refl
-put_full rec_err.Fault f is g = absurd (let a : f ≡ put_err.Full = cc in let b : put_err.Fault ≡ put_err.Full = sym is ∙ a in cc)
-put_full rec_err.Memory f is g = absurd (let a : f ≡ put_err.Full = cc in let b : put_err.Memory ≡ put_err.Full = sym is ∙ a in cc)
-
-pub put_fault : {A B : Type 0} (e : RecErr) (f : PutErr) → f ≡ put_of e → IsErrOf {T = A} (Err f) put_err.Fault → IsErrOf {T = B} (Err e) rec_err.Fault
-put_fault rec_err.Fault f is g = refl
-put_fault rec_err.Full f is g = absurd (let a : f ≡ put_err.Fault = cc in let b : put_err.Full ≡ put_err.Fault = sym is ∙ a in cc)
-put_fault rec_err.Memory f is g = absurd (let a : f ≡ put_err.Fault = cc in let b : put_err.Memory ≡ put_err.Fault = sym is ∙ a in cc)
-
-pub put_exists : {A : Type 0} (e : RecErr) (f : PutErr) → f ≡ put_of e → IsErrOf {T = A} (Err f) put_err.Exists → ⊥
-put_exists rec_err.Full f is g = let a : f ≡ put_err.Exists = cc in let b : put_err.Full ≡ put_err.Exists = sym is ∙ a in cc
-put_exists rec_err.Fault f is g = let a : f ≡ put_err.Exists = cc in let b : put_err.Fault ≡ put_err.Exists = sym is ∙ a in cc
-put_exists rec_err.Memory f is g = let a : f ≡ put_err.Exists = cc in let b : put_err.Memory ≡ put_err.Exists = sym is ∙ a in cc

@@ -1,6 +1,6 @@
 -- What is held in memory, brought to the file.
 use Rattle.std.proofs.Common.{◌≡◌, ◌∙◌, ◌⊎◌, inl, inr, ℕ, ◌+◌, ◌*◌, ◌≤◌, List, length, take, drop, replicate, refl, sym, ap, subst, arith, Option, Some, None, length-append}
-use Rattle.std.specs.Prelude.{unwrap_or}
+use Rattle.std.specs.Prelude.{unwrap_or, false, IsSome}
 use Rattle.std.proofs.lemmas.List.{length-replicate}
 use Rattle.tc_base.specs.Files.{wrote}
 use Rattle.tc_base.specs.Maps.{Map}
@@ -9,10 +9,11 @@ use Rattle.tc_space.specs.Frames.{OnlyReads, only_reads_refl}
 use Rattle.tc_space.specs.Stores.{ready_reads}
 use Rattle.tc_space.specs.declared.space.Space.{Ghosts}
 use Rattle.hf_head.specs.declared.head.Head.{Head}
-use Rattle.hf_head.specs.Heads.{Spells, sections, spelled, unit}
+use Rattle.hf_head.specs.Heads.{Spells, head_in, sections, spelled}
 use Rattle.hf_block.specs.Walks.{HoldsUpTo}
 use Rattle.hf_pool.specs.declared.pool.Pool.{Pool}
 use Rattle.hf_pool.specs.Pools.{KeepsLaid, Notes, frees}
+use Rattle.hf_pool.specs.Trims.{Trimmed}
 use Rattle.hf_tree.specs.Links.{width}
 use Rattle.hf_record.specs.declared.body.Body.{Body}
 use Rattle.hf_record.proofs.Valid.{is_data}
@@ -20,12 +21,12 @@ use Rattle.tc_hash.specs.declared.front.Front.{Front}
 use Rattle.tc_hash.specs.declared.hash.Hash.{Hash}
 use Rattle.tc_hash.specs.Bringing.{IsNewSection, MayWriteFront, StandsUnder, WritesFront, WritesSection, whole}
 use Rattle.tc_hash.specs.Fronts.{IsFront, ShowsFrees, ShowsFront}
-use Rattle.tc_hash.specs.Holding.{Holds, HoldsFile, HoldsMap}
+use Rattle.tc_hash.specs.Holding.{Holds, HoldsFile, HoldsMap, IsNumbered}
 use Rattle.tc_hash.specs.Keeping.{CanCall, Looks, Means}
 use Rattle.tc_hash.specs.Sections.{IsSectionOf, filled, section_at, section_len, section_of}
-use Rattle.tc_hash.specs.Settling.{Brought, ChangesFront, IsBrought, Settles, head_now, patched, settled}
-use Rattle.tc_hash.proofs.Fronted.{frees_shown}
-use Rattle.tc_hash.proofs.Kept.{Settles as SettlesBytes, between_behind, brought, front_few, front_shows, length_over, reaches, settles, trimmed_holds, whole_lists, whole_suits}
+use Rattle.tc_hash.specs.Settling.{Brought, ChangesFront, DropsEnd, IsBrought, Settles, head_now, patched}
+use Rattle.tc_hash.proofs.Fronted.{frees_shown, numbers_now}
+use Rattle.tc_hash.proofs.Kept.{Settles as SettlesBytes, between_behind, brought, front_few, front_shows, length_over, reaches, settled, settles, trimmed_holds, whole_lists, whole_suits}
 use Rattle.tc_hash.proofs.Sectioned.{filled_zeros, old_stands, wrote_whole}
 
 -- ---- free blocks at the end dropped
@@ -53,6 +54,7 @@ trims_file v t bytes m trims forgets held = record {
   map = trims_map v t bytes m trims held.map;
   front = shown forgets;
   listed = subst (λ (h : Head). ShowsFrees h t.body.pool bytes) (sym trims.head) (frees_shown v.body.head v.body.pool t.body.pool bytes bytes trims.notes refl held.listed);
+  numbers = subst (λ (h : Head). IsNumbered h bytes) (sym trims.head) held.numbers;
 }
   where
     shown : Forgets v t → ShowsFront t.body.head t.front bytes
@@ -100,8 +102,20 @@ trims_taken {S} v t u e trims = subst (λ (x : Hash S). Trims v x) (sym e) trims
 pub none_taken : {S : Type 0} (t u : Hash S) → u ≡ t → t.front ≡ None → u.front ≡ None
 none_taken {S} t u e none = ap (λ (x : Hash S). x.front) e ∙ none
 
-pub marked_map : (h : Head) (p p' : Pool) (r : ℕ) (m : Map) (bytes : List ℕ) → p' ≡ record p { changed = p'.changed } → Holds h p.size (frees p) r m bytes → Holds h p'.size (frees p') r m bytes
+marked_map : (h : Head) (p p' : Pool) (r : ℕ) (m : Map) (bytes : List ℕ) → p' ≡ record p { changed = p'.changed } → Holds h p.size (frees p) r m bytes → Holds h p'.size (frees p') r m bytes
 marked_map h p p' r m bytes e held = subst (λ (x : Pool). Holds h x.size (frees x) r m bytes) (sym e) held
+
+pub drops_end : {S : Type 0} (v t u : Hash S) → Trims v t → Trimmed (frees v.body.pool) (frees t.body.pool) v.body.pool.size t.body.pool.size → u ≡ t → DropsEnd v u
+drops_end {S} v t u trims dropped e = subst (λ (x : Hash S). DropsEnd v x) (sym e) (record { same = λ m bytes held. trims_map v t bytes m trims held; dropped = dropped })
+
+-- once it is noted that the section was written
+pub drops_marked : {S : Type 0} (v t v' : Hash S) → v'.body.head ≡ t.body.head → v'.records ≡ t.records → v'.body.pool ≡ record t.body.pool { changed = v'.body.pool.changed } → DropsEnd v t → DropsEnd v v'
+drops_marked v t v' eh er ep drops = record {
+  same = λ m bytes held.
+      subst (λ (h : Head). Holds h v'.body.pool.size (frees v'.body.pool) v'.records m bytes) (sym eh)
+      (subst (λ (n : ℕ). Holds t.body.head v'.body.pool.size (frees v'.body.pool) n m bytes) (sym er) (marked_map t.body.head t.body.pool v'.body.pool t.records m bytes ep (drops.same m bytes held)));
+  dropped = subst (λ (p : Pool). Trimmed (frees v.body.pool) (frees p) v.body.pool.size p.size) (sym ep) drops.dropped;
+}
 
 module _ {S : Type 0} (s : Ghosts S) where
   -- what stands in front of the blocks, by what was held before
@@ -192,6 +206,7 @@ pub record Writes {S : Type 0} (s : Ghosts S) (v t v' : Hash S) (f g : Front) (n
   pub region : v'.region ≡ t.region
   pub same : v'.body.pool ≡ record t.body.pool { changed = v'.body.pool.changed }
   pub known : v'.front ≡ Some g
+  pub written : v'.body.pool.changed ≡ false
 
 module _ {S : Type 0} (s : Ghosts S) (v t v' : Hash S) (f g : Front) (now : Head) (old : List ℕ) (o : Option (List ℕ)) (end : ℕ) (a b c : S) (w : Writes s v t v' f g now old o end a b c) where
   abbrev it_is : Head
@@ -236,8 +251,10 @@ module _ {S : Type 0} (s : Ghosts S) (v t v' : Hash S) (f g : Front) (now : Head
     sound = w.sound;
     others = record { same = λ tells n other. (w.wrote tells).others n (λ e. other (e ∙ w.trims.file)) ∙ w.reads.files tells n };
     brought = λ tells m held. (all tells m held).0;
-    held = λ tells m held. (let x = all tells m held in record { map = x.0.holds; front = x.1; listed = λ no. x.2 });
+    held = λ tells m held. (let x = all tells m held in record { map = x.0.holds; front = x.1; listed = λ no. x.2; numbers = numbers_now v'.body.head (head_in (take 256 (s.now c v.body.file))) v'.records v'.body.pool.size v'.region x.0.head });
     front = λ tells. (let h = some tells in front_as tells (changes t f old o (s.now a t.body.file) h.0 (old_held h.0 h.1.1) (old_front tells h.0 h.1.1) w.is long_is));
+    known = subst IsSome (sym w.known) refl;
+    noted = w.written;
   }
     where
       front_as : (tells : s.tells) → ChangesFront t.body.head t.body.pool.size (s.now a t.body.file) (settled it_is (whole t.body o) (s.now a t.body.file)) → ChangesFront v.body.head v'.body.pool.size (s.now a v.body.file) (s.now c v.body.file)

@@ -1,5 +1,5 @@
 -- Values given to keys, made of steps.
-use Rattle.std.proofs.Common.{◌≡◌, ◌∙◌, inl, inr, ℕ, ◌+◌, ◌-◌, ◌<◌, ◌≤◌, List, [], ◌++◌, length, max, refl, sym, ap, subst, arith, Option, None, Some}
+use Rattle.std.proofs.Common.{◌≡◌, ◌∙◌, ◌⊎◌, inl, inr, ⊎_elim, ℕ, ◌+◌, ◌-◌, ◌^◌, ◌<◌, ◌≤◌, List, [], ◌++◌, length, max, refl, sym, ap, subst, arith, false, Option, None, Some}
 use Rattle.std.specs.Prelude.{unwrap_or, Result, Ok, Err, IfOk, OnErr, OnOk}
 use Rattle.std.specs.Result.{IsErrAnd}
 use Rattle.std.proofs.lemmas.Result.{err_from_is_err_and}
@@ -9,7 +9,7 @@ use Rattle.tc_base.specs.declared.kind.Mode.{Mode}
 use Rattle.tc_base.specs.declared.kind.Mode.TheVariants.{Over, Keep, Cat}
 use Rattle.tc_space.specs.Changes.{out_of, put_in, put_value}
 use Rattle.tc_space.specs.Frames.{OnlyReads, Others, others_then}
-use Rattle.tc_space.specs.Stores.{FullBy, Only}
+use Rattle.tc_space.specs.Stores.{FullPut, Only}
 use Rattle.tc_space.specs.declared.space.Space.{Ghosts}
 use Rattle.hf_head.specs.declared.head.Head.{Head}
 use Rattle.hf_head.specs.Heads.{IsValid, unit}
@@ -18,19 +18,19 @@ use Rattle.hf_chain.specs.declared.finding.Place.{Place}
 use Rattle.hf_pool.specs.Pools.{frees, Takes}
 use Rattle.hf_tree.specs.declared.parent.Parent.{Parent}
 use Rattle.hf_tree.specs.Links.{width}
-use Rattle.hf_record.specs.Allocating.{Allocates, HoldsAt, Shortens, Stands}
+use Rattle.hf_record.specs.Allocating.{Allocates, HoldsAt, HoldsWritten, Shortens, Stands}
 use Rattle.hf_record.specs.Changing.{MapsBy, PutsAt, PutsNew, StaysBody}
-use Rattle.hf_record.specs.Costs.{Edits}
+use Rattle.hf_record.specs.Costs.{Edits, FewBeside}
 use Rattle.hf_record.specs.Holding.{Has}
 use Rattle.hf_record.specs.Moves.{Gives, HasRoom, IsRefusedFor, LacksRoom}
 use Rattle.hf_record.specs.Searching.{IsFound, IsGap}
-use Rattle.hf_record.proofs.Differ.{edits_after, edits_more, edits_then}
-use Rattle.hf_record.proofs.Maps.{insert_again, insert_here, remove_here}
+use Rattle.hf_record.proofs.Differ.{beside_after, beside_more, edits_after, edits_more, edits_then}
+use Rattle.hf_record.proofs.Maps.{insert_again, remove_here}
 use Rattle.hf_record.proofs.Records.{count_in, count_out, count_same, no_value, stood}
 use Rattle.hf_record.proofs.Valid.{is_valid}
 use Rattle.tc_hash.specs.declared.hash.Hash.{Hash}
-use Rattle.tc_hash.specs.Keeping.{GivesValue, IsPlaced, LacksBlock, Means, StaysOpen, TakesRecord, WantsBlock, size_for}
-use Rattle.tc_hash.specs.Packing.{fills_any}
+use Rattle.tc_hash.specs.Keeping.{GivesNew, GivesValue, IsPlaced, LacksBlock, LacksRecordOf, Means, StaysOpen, TakesRecord, WantsBlock, size_for}
+use Rattle.tc_hash.specs.Putting.{LacksFor}
 use Rattle.tc_hash.proofs.Records.{looks_again, turned, turns_after}
 
 -- a key that isn't held is given the same value in each mode
@@ -51,6 +51,11 @@ from_done (Err e) p f = tt
 pub from_refused : {A E P Q : Type 0} (r : Result A E) → OnErr r P → (P → Q) → OnErr r Q
 from_refused (Ok x) p f = tt
 from_refused (Err e) p f = f p
+
+-- what is true of each answer
+pub any_ok : {A E : Type 0} {P : A → Type 0} (r : Result A E) → ((x : A) → P x) → IfOk r P
+any_ok (Ok x) p = p x
+any_ok (Err e) p = tt
 
 -- nothing is done where an error came
 pub not_done : {A E : Type 0} (Q : Type 0) (P : E → Type 0) (r : Result A E) → IsErrAnd r P → OnOk r Q
@@ -76,7 +81,7 @@ module _ {S : Type 0} (s : Ghosts S) where
   gives_more mode key value most more v v' a b le g = record {
     writes = g.writes;
     edits = λ m w. (let n : ℕ = size_for v key (put_value mode (get m key) value) in edits_more s v.body.file (n + most) (n + more) a b (omega (arith, le)) (g.edits m w));
-    placed = g.placed;
+    placed = λ m w. (let p = g.placed m w in record { was = p.was; stood = p.stood; place = p.place; allocates = p.allocates; stands = p.stands; beside = beside_more p.place _ most more _ _ le p.beside; long = p.long });
   }
 
   -- what was read before
@@ -94,12 +99,30 @@ module _ {S : Type 0} (s : Ghosts S) where
               place = p.place;
               allocates = p.allocates;
               stands = p.stands;
+              beside = subst (λ (l : List ℕ). FewBeside p.place (size_for v key (put_value mode (get m key) value)) most l (s.now c v.body.file)) (r.files w.0 v.body.file) p.beside;
               long = p.long ∙ ap (λ (l : List ℕ). max (length l) (p.place + size_for v key (put_value mode (get m key) value))) (r.files w.0 v.body.file);
             };
       }
 
+  pub new_after : (key value : List ℕ) (v v' : Hash S) (a b c : S) → OnlyReads s a b → GivesNew s key value v v' b c → GivesNew s key value v v' a c
+  new_after key value v v' a b c r g = record { gives = gives_after Over key value 13 v v' a b c r g.gives; place = g.place; takes = g.takes }
+
+  wants_after : (key : List ℕ) (v : Hash S) (a b c : S) (m : Map) (size : ℕ) → s.tells → OnlyReads s a b → WantsBlock s v key m b c size → WantsBlock s v key m a c size
+  wants_after key v a b c m size t r (inl big) = inl big
+  wants_after key v a b c m size t r (inr lacks) = inr (record {
+    was = lacks.was;
+    stood = subst (λ (l : List ℕ). Stands v.body.head v.body.pool.size (frees v.body.pool) m key l lacks.was) (r.files t v.body.file) lacks.stood;
+    pool = lacks.pool;
+    since = lacks.since;
+    inside = lacks.inside;
+    refused = lacks.refused;
+  })
+
   pub lacks_after : (mode : Mode) (key value : List ℕ) (v : Hash S) (a b c : S) → OnlyReads s a b → LacksBlock s mode key value v b c → LacksBlock s mode key value v a c
-  lacks_after mode key value v a b c r l = record { wants = λ m w. l.wants m ((looks_again s v a b r).means m w) }
+  lacks_after mode key value v a b c r l = record {
+    spoiled = l.spoiled;
+    wants = λ m w. ⊎_elim (λ log. inl log) (λ wants. inr (wants_after key v a b c m _ w.0 r wants)) (l.wants m ((looks_again s v a b r).means m w));
+  }
 
   -- the value that was given is the one that the mode makes
   pub gives_as : (mode : Mode) (key value x : List ℕ) (most : ℕ) (v v' : Hash S) (a b : S) → ((m : Map) → Means s v a m → x ≡ put_value mode (get m key) value) → GivesValue s Over key x most v v' a b → GivesValue s mode key value most v v' a b
@@ -110,38 +133,43 @@ module _ {S : Type 0} (s : Ghosts S) where
       others = g.writes.others;
     };
     edits = λ m w. subst (λ (y : List ℕ). Edits s v.body.file (size_for v key y + most) a b) (each m w) (g.edits m w);
-    placed = λ m w. subst (λ (y : List ℕ). IsPlaced s key (size_for v key y) m (insert m key y) v v' a b) (each m w) (g.placed m w);
+    placed = λ m w. subst (λ (y : List ℕ). IsPlaced s key (size_for v key y) most m (insert m key y) v v' a b) (each m w) (g.placed m w);
   }
 
   pub lacks_as : (mode : Mode) (key value x : List ℕ) (v : Hash S) (a b : S) → ((m : Map) → Means s v a m → x ≡ put_value mode (get m key) value) → LacksBlock s Over key x v a b → LacksBlock s mode key value v a b
-  lacks_as mode key value x v a b each l = record { wants = λ m w. subst (λ (y : List ℕ). WantsBlock s v b (size_for v key y)) (each m w) (l.wants m w) }
+  lacks_as mode key value x v a b each l = record { spoiled = l.spoiled; wants = λ m w. subst (λ (y : List ℕ). s.log_full b ⊎ WantsBlock s v key m a b (size_for v key y)) (each m w) (l.wants m w) }
 
-  -- no block, from the free blocks that there were
-  pub lacks_room : (key value : List ℕ) (v : Hash S) (a b : S) → (s.tells → LacksRoom s v.body b (size_for v key value)) → LacksBlock s Over key value v a b
-  lacks_room key value v a b l = record { wants = λ m w. record { pool = v.body.pool; since = inl refl; refused = l w.0 } }
-
-  -- the log is full
-  pub lacks_log : (mode : Mode) (key value : List ℕ) (v : Hash S) (a b : S) → (s.tells → s.log_full b) → LacksBlock s mode key value v a b
-  lacks_log mode key value v a b full = record { wants = λ m w. record { pool = v.body.pool; since = inl refl; refused = inr (inr (full w.0)) } }
-
-  -- as the trait has it
-  pub full_by : (mode : Mode) (key value : List ℕ) (v : Hash S) (a b : S) → LacksBlock s mode key value v a b → FullBy (Means s) (fills_any s) (put_in mode key value) v a b
-  full_by mode key value v a b l = record {
-    by = λ m w. inl (inr (record { key = key; value = put_value mode (get m key) value; there = insert_here m key (put_value mode (get m key) value); wants = l.wants m w }));
+  -- no block for a key that isn't held, from the free blocks that there were
+  pub lacks_fresh : (key value : List ℕ) (v : Hash S) (a b : S) → s.flag b ≡ false → ((m : Map) → Means s v a m → get m key ≡ None) → (s.tells → LacksRoom s v.body b (size_for v key value)) → LacksBlock s Over key value v a b
+  lacks_fresh key value v a b spoiled none l = record {
+    spoiled = spoiled;
+    wants = λ m w. ⊎_elim
+        (λ log. inl log)
+        (λ why. inr (⊎_elim (λ big. inl big) (λ room. inr (record { was = None; stood = none m w; pool = v.body.pool; since = refl; inside = room.0; refused = room.1 })) why))
+        (l w.0);
   }
 
-  pub log_by : (f : Map → Map) (v : Hash S) (a b : S) → (s.tells → s.log_full b) → FullBy (Means s) (fills_any s) f v a b
-  log_by f v a b full = record { by = λ m w. inl (inl (full w.0)) }
+  -- the block would be too large
+  pub lacks_large : (mode : Mode) (key value : List ℕ) (v : Hash S) (a b : S) → s.flag b ≡ false → ((m : Map) → Means s v a m → 2 ^ 30 < size_for v key (put_value mode (get m key) value)) → LacksBlock s mode key value v a b
+  lacks_large mode key value v a b spoiled big = record { spoiled = spoiled; wants = λ m w. inr (inl (big m w)) }
 
-  pub lacks_fresh : (mode : Mode) (key value : List ℕ) (v : Hash S) (a c : S) → ((m : Map) → Means s v a m → get m key ≡ None) → (s.tells → LacksRoom s v.body c (size_for v key value)) → LacksBlock s mode key value v a c
-  lacks_fresh mode key value v a c none l = lacks_as mode key value value v a c (λ m w. put_fresh mode (get m key) value (none m w)) (lacks_room key value v a c l)
+  -- the log is full
+  pub lacks_log : (mode : Mode) (key value : List ℕ) (v : Hash S) (a b : S) → s.flag b ≡ false → (s.tells → s.log_full b) → LacksBlock s mode key value v a b
+  lacks_log mode key value v a b spoiled full = record { spoiled = spoiled; wants = λ m w. inl (full w.0) }
+
+  -- as the trait has it
+  pub full_put : (mode : Mode) (key value : List ℕ) (v : Hash S) (a b : S) → LacksFor s mode key value v a b → FullPut s (Means s) (LacksRecordOf s) mode key value v a b
+  full_put mode key value v a b l = record {
+    free = l.free;
+    by = λ m w. ⊎_elim (λ log. inl log) (λ wants. inr (record { held = m; means = w; wants = wants })) (l.block.wants m w);
+  }
 
   -- ---- of the steps on a record
 
   -- a record was hung
   pub gives_new : (key value : List ℕ) (to : Parent) (v v' : Hash S) (a b : S) → StaysBody v.body v'.body → v'.front ≡ v.front → v'.records ≡ v.records + 1 → IsGap s v.body key a to → PutsNew s key value v.body v'.body a b → GivesValue s Over key value 13 v v' a b
   gives_new key value to v v' a b stays ef counted gap p = record {
-    writes = turned s (put_in Over key value) (size_for v key value + 13) v v' a b stays ef p.puts.sound p.puts.spares (λ t m has. (p.puts.map t m has).has)
+    writes = turned s (put_in Over key value) (size_for v key value + 13) v v' a b stays ef p.puts.sound p.puts.spares (λ t m has. (p.puts.map t m has).holds.has)
         (λ m w. counted ∙ count_in v.body.head v.body.pool.size (frees v.body.pool) m (s.now a v.body.file) key valid w.1.map.has to value v.records (gap w.0) w.1.map.count);
     edits = λ m w. p.puts.spares.edits;
     placed = λ m w. record {
@@ -150,6 +178,7 @@ module _ {S : Type 0} (s : Ghosts S) where
       place = p.place;
       allocates = p.takes;
       stands = p.puts.map w.0 m w.1.map.has;
+      beside = p.puts.beside w.0;
       long = p.puts.long w.0;
     };
   }
@@ -161,7 +190,7 @@ module _ {S : Type 0} (s : Ghosts S) where
   pub gives_over : (key value : List ℕ) (place : Place) (room : ℕ) (v v' : Hash S) (a b : S) → StaysBody v.body v'.body → v'.front ≡ v.front → v'.records ≡ v.records → IsFound s v.body key a place → HasRoom s v.body place.at room a → size_for v key value ≤ room
       → PutsAt s key value place.at 5 v.body v'.body a b → Shortens (size_for v key value) place.at room v.body.pool v'.body.pool → GivesValue s Over key value 5 v v' a b
   gives_over key value place room v v' a b stays ef counted found block enough p shortens = record {
-    writes = turned s (put_in Over key value) (size_for v key value + 5) v v' a b stays ef p.sound p.spares (λ t m has. (p.map t m has).has)
+    writes = turned s (put_in Over key value) (size_for v key value + 5) v v' a b stays ef p.sound p.spares (λ t m has. (p.map t m has).holds.has)
         (λ m w. counted ∙ count_same v.body.head v.body.pool.size (frees v.body.pool) m (s.now a v.body.file) key valid w.1.map.has place.at place.from value v.records (found.here w.0) w.1.map.count);
     edits = λ m w. p.spares.edits;
     placed = λ m w. record {
@@ -170,6 +199,7 @@ module _ {S : Type 0} (s : Ghosts S) where
       place = place.at;
       allocates = inl (record { enough = enough; same = refl; shortens = shortens });
       stands = p.map w.0 m w.1.map.has;
+      beside = p.beside w.0;
       long = p.long w.0;
     };
   }
@@ -195,8 +225,8 @@ module _ {S : Type 0} (s : Ghosts S) where
   sized_same key value v v' e = ap (λ (h : Head). block_len (width h) key value (unit h)) e
 
   -- a key that isn't held gets a block from the pool as it is
-  takes_fresh : (key : List ℕ) (size : ℕ) (m n : Map) (v v' : Hash S) (a b : S) → get m key ≡ None → (p : IsPlaced s key size m n v v' a b) → Takes v.body.pool v'.body.pool size p.place
-  takes_fresh key size m n v v' a b none p = go p.was p.stood p.allocates
+  takes_fresh : (key : List ℕ) (size most : ℕ) (m n : Map) (v v' : Hash S) (a b : S) → get m key ≡ None → (p : IsPlaced s key size most m n v v' a b) → Takes v.body.pool v'.body.pool size p.place
+  takes_fresh key size most m n v v' a b none p = go p.was p.stood p.allocates
     where
       go : (was : Option (ℕ × ℕ)) → Stands v.body.head v.body.pool.size (frees v.body.pool) m key (s.now a v.body.file) was → Allocates size p.place was v.body.pool v'.body.pool → Takes v.body.pool v'.body.pool size p.place
       go None stands takes = takes
@@ -226,13 +256,16 @@ module _ {S : Type 0} (s : Ghosts S) where
             few = few;
             middle = w.body.pool;
             gives = t.gives;
-            takes = subst (λ (n : ℕ). Takes w.body.pool u.body.pool n p.place) long (takes_fresh key (size_for w key value) k (insert k key value) w u b c (remove_here m key) p);
+            takes = subst (λ (n : ℕ). Takes w.body.pool u.body.pool n p.place) long (takes_fresh key (size_for w key value) 13 k (insert k key value) w u b c (remove_here m key) p);
           });
           stands =
-              subst (λ (x : Map). HoldsAt v.body.head u.body.pool.size (frees u.body.pool) x key p.place (size_for v key value) (s.now c v.body.file)) (insert_again m key value)
-              (subst (λ (f : ℕ). HoldsAt v.body.head u.body.pool.size (frees u.body.pool) (insert k key value) key p.place (size_for v key value) (s.now c f)) same
-              (subst (λ (n : ℕ). HoldsAt v.body.head u.body.pool.size (frees u.body.pool) (insert k key value) key p.place n (s.now c w.body.file)) long
-              (subst (λ (x : Head). HoldsAt x u.body.pool.size (frees u.body.pool) (insert k key value) key p.place (size_for w key value) (s.now c w.body.file)) t.head p.stands)));
+              subst (λ (x : Map). HoldsWritten v.body.head u.body.pool.size (frees u.body.pool) x key p.place (size_for v key value) (s.now c v.body.file)) (insert_again m key value)
+              (subst (λ (f : ℕ). HoldsWritten v.body.head u.body.pool.size (frees u.body.pool) (insert k key value) key p.place (size_for v key value) (s.now c f)) same
+              (subst (λ (n : ℕ). HoldsWritten v.body.head u.body.pool.size (frees u.body.pool) (insert k key value) key p.place n (s.now c w.body.file)) long
+              (subst (λ (x : Head). HoldsWritten x u.body.pool.size (frees u.body.pool) (insert k key value) key p.place (size_for w key value) (s.now c w.body.file)) t.head p.stands)));
+          beside = beside_after p.place (size_for v key value) 21 13 34 (s.now a v.body.file) (s.now b v.body.file) (s.now c v.body.file) (omega arith) (t.edits.few h.0)
+              (subst (λ (f : ℕ). FewBeside p.place (size_for v key value) 13 (s.now b f) (s.now c f)) same
+              (subst (λ (n : ℕ). FewBeside p.place n 13 (s.now b w.body.file) (s.now c w.body.file)) long p.beside));
           long =
               subst (λ (l : ℕ). length (s.now c v.body.file) ≡ max l (p.place + size_for v key value)) (t.long h.0)
               (subst (λ (f : ℕ). length (s.now c f) ≡ max (length (s.now b f)) (p.place + size_for v key value)) same
@@ -240,19 +273,23 @@ module _ {S : Type 0} (s : Ghosts S) where
         };
   }
 
-  pub lacks_again : (key value : List ℕ) (at size : ℕ) (v w : Hash S) (a b c : S) → w.body.file ≡ v.body.file → TakesRecord s key at size v w a b → (s.tells → LacksRoom s w.body c (size_for w key value)) → LacksBlock s Over key value v a c
-  lacks_again key value at size v w a b c same t l = record {
-    wants = λ m h. record {
-      pool = w.body.pool;
-      since = inr (at, size, t.gives);
-      refused =
-          subst (λ (x : Head). IsRefusedFor x w.body.pool.size (frees w.body.pool) (s.limit c v.body.file) (length (s.now c v.body.file)) (s.log_full c) (block_len (width x) key value (unit x))) t.head
-          (subst (λ (f : ℕ). IsRefusedFor w.body.head w.body.pool.size (frees w.body.pool) (s.limit c f) (length (s.now c f)) (s.log_full c) (size_for w key value)) same (l h.0));
-    };
+  pub lacks_again : (key value : List ℕ) (at size : ℕ) (v w : Hash S) (a b c : S) → w.body.file ≡ v.body.file → s.flag c ≡ false → size < size_for v key value → ((m : Map) → Means s v a m → HoldsAt v.body.head v.body.pool.size (frees v.body.pool) m key at size (s.now a v.body.file))
+      → TakesRecord s key at size v w a b → (s.tells → LacksRoom s w.body c (size_for w key value)) → LacksBlock s Over key value v a c
+  lacks_again key value at size v w a b c same spoiled few stood t l = record {
+    spoiled = spoiled;
+    wants = λ m h. ⊎_elim
+        (λ log. inl log)
+        (λ why. inr (⊎_elim (λ big. inl big) (λ room. inr (record { was = Some (at, size); stood = stood m h; pool = w.body.pool; since = (few, t.gives); inside = room.0; refused = room.1 })) (refused why)))
+        (l h.0);
   }
+    where
+      refused : IsRefusedFor w.body.head w.body.pool.size (frees w.body.pool) (s.limit c w.body.file) (length (s.now c w.body.file)) (size_for w key value) → IsRefusedFor v.body.head w.body.pool.size (frees w.body.pool) (s.limit c v.body.file) (length (s.now c v.body.file)) (size_for v key value)
+      refused why =
+          subst (λ (x : Head). IsRefusedFor x w.body.pool.size (frees w.body.pool) (s.limit c v.body.file) (length (s.now c v.body.file)) (block_len (width x) key value (unit x))) t.head
+          (subst (λ (f : ℕ). IsRefusedFor w.body.head w.body.pool.size (frees w.body.pool) (s.limit c f) (length (s.now c f)) (size_for w key value)) same why)
 
 pub stays_then : {S : Type 0} (u v w : Hash S) → StaysOpen u v → StaysOpen v w → StaysOpen u w
 stays_then u v w first second = record {
-  map = record { file = second.map.file ∙ first.map.file; region_same = second.map.region_same ∙ first.map.region_same; gets_same = second.map.gets_same ∙ first.map.gets_same };
+  map = record { file = second.map.file ∙ first.map.file; sort_same = second.map.sort_same ∙ first.map.sort_same; region_same = second.map.region_same ∙ first.map.region_same; gets_same = second.map.gets_same ∙ first.map.gets_same };
   head = second.head ∙ first.head;
 }

@@ -1,5 +1,5 @@
 -- A packed file once it is settled.
-use Rattle.std.proofs.Common.{◌≡◌, ◌∙◌, ◌⊎◌, inl, inr, ℕ, ◌<◌, ◌≤◌, List, Option, None, refl, sym}
+use Rattle.std.proofs.Common.{◌≡◌, ◌∙◌, ◌⊎◌, inl, inr, ℕ, ◌<◌, ◌≤◌, List, Option, None, refl, sym, ap, subst}
 use Rattle.std.proofs.lemmas.Bool.{cases_lt}
 use Rattle.tc_base.specs.Maps.{Map}
 use Rattle.tc_base.specs.declared.kind.Form.{Form}
@@ -7,7 +7,9 @@ use Rattle.tc_base.specs.declared.kind.Form.TheVariants as form
 use Rattle.hf_head.specs.declared.head.Head.{Head}
 use Rattle.hf_layout.specs.Frees.{Frees}
 use Rattle.hf_layout.specs.Layout.{IsShared}
+use Rattle.hf_pool.specs.Pools.{frees}
 use Rattle.hf_pool.specs.Trims.{Trimmed}
+use Rattle.hf_record.specs.declared.body.Body.{Body}
 use Rattle.tc_hash.specs.declared.hash.Hash.{Hash}
 use Rattle.tc_hash.specs.Packing.{IsPacked, IsTight, Packs, options_for}
 use Rattle.tc_hash.specs.Settling.{Brought, head_now}
@@ -39,3 +41,17 @@ packed_of f h end frees records region m bytes brought nothing large =
       none_free = λ q. none_there _ _ _ (nothing q) refl (is.laid.shared q);
       large = large;
     }
+
+-- a file that was packed, whose free blocks and form are the same
+pub tight_same : {S : Type 0} (old new : Hash S) → new.body ≡ old.body → (f : Form) → IsTight f old → IsTight f new
+tight_same old new e f tight =
+    let P : Body → Type 0 = λ b. ((q : ℕ) → frees b.pool q ≡ None) × (f ≡ form.Large → b.head.options ≡ 1) in
+    let p = subst P (sym e) (tight.nothing, tight.large) in
+    record { nothing = p.0; large = p.1 }
+
+-- whose free blocks at the end were dropped
+pub tight_trimmed : {S : Type 0} (old new : Hash S) → new.body.head ≡ old.body.head → Trimmed (frees old.body.pool) (frees new.body.pool) old.body.pool.size new.body.pool.size → (f : Form) → IsTight f old → IsTight f new
+tight_trimmed old new head trimmed f tight = record {
+  nothing = still_none (frees old.body.pool) (frees new.body.pool) old.body.pool.size new.body.pool.size trimmed tight.nothing;
+  large = λ is. ap (λ (h : Head). h.options) head ∙ tight.large is;
+}

@@ -1,12 +1,12 @@
 -- A file made anew.
-use Rattle.std.specs.Prelude.{◌≡◌, ◌≢◌, ◌⊎◌, ℕ, ◌+◌, ◌%◌, ◌^◌, ◌<◌, ◌≤◌, Bool, [], replicate, take}
+use Rattle.std.specs.Prelude.{◌≡◌, ◌≢◌, ◌⊎◌, ℕ, ◌+◌, ◌-◌, ◌%◌, ◌^◌, ◌<◌, ◌≤◌, Bool, List, [], ◌++◌, replicate, take}
 use Rattle.std.specs.FinMap.{empty}
 use Rattle.tc_space.specs.Frames.{Others}
 use Rattle.tc_space.specs.Ranges.{IsDataFile}
 use Rattle.tc_space.specs.Stores.{Only}
 use Rattle.tc_space.specs.declared.space.Space.{Ghosts}
 use Rattle.hf_head.specs.declared.head.Head.{Head}
-use Rattle.hf_head.specs.Heads.{head_in, is_large, sections, unit}
+use Rattle.hf_head.specs.Heads.{head_in, is_large, sections, spelled, unit}
 use Rattle.tc_hash.specs.declared.hash.Hash.{Hash}
 use Rattle.tc_hash.specs.Keeping.{holds}
 use Rattle.tc_hash.specs.Settling.{IsBrought}
@@ -42,6 +42,10 @@ pub record IsEmptyIn {S : Type 0} (s : Ghosts S) (space : S) (file : ℕ) : Type
   pub data_file : IsDataFile file
   pub none : s.tells → s.now space file ≡ []
 
+-- the bytes of a file without blocks: the head, and zeros behind it
+abbrev pub new_bytes : Head → List ℕ
+new_bytes h = spelled h ++ replicate (h.first - 256) 0
+
 -- a file was made anew: it holds no key and has the head that is held, and other files stay
 pub record Creates {S : Type 0} (s : Ghosts S) (file : ℕ) (h : Hash S) (old new : S) : Type 0 where
   pub sound : s.sound new
@@ -49,6 +53,7 @@ pub record Creates {S : Type 0} (s : Ghosts S) (file : ℕ) (h : Hash S) (old ne
   pub brought : s.tells → IsBrought h empty (s.now new file)
   pub held : s.tells → holds h (s.now new file) empty
   pub head : s.tells → head_in (take 256 (s.now new file)) ≡ h.body.head
+  pub made : s.tells → s.now new file ≡ new_bytes h.body.head
 
 -- so many bytes pass the file's limit, or what a head can name, or the undo log is full
 abbrev pub HasNoRoom : ℕ → Type 0 → ℕ → Type 0

@@ -1,24 +1,30 @@
 -- What a hash file that is held open keeps, and what calls on its records do.
-use Rattle.std.specs.Prelude.{◌≡◌, ◌⊎◌, ℕ, ◌+◌, List, length, max, Option, Some}
+use Rattle.std.specs.Prelude.{◌≡◌, ◌⊎◌, ℕ, ◌+◌, ◌^◌, ◌<◌, ◌≤◌, false, List, length, max, Option}
 use Rattle.std.specs.FinMap.{get}
 use Rattle.tc_base.specs.Maps.{Map}
 use Rattle.tc_base.specs.declared.kind.Mode.{Mode}
+use Rattle.tc_base.specs.declared.kind.Mode.TheVariants.{Over}
 use Rattle.tc_space.specs.Changes.{out_of, put_in, put_value}
 use Rattle.tc_space.specs.Frames.{In, Reads, Refuses, Writes}
 use Rattle.tc_space.specs.Stores.{CountsGet, IsReady, Only, StaysMap}
 use Rattle.tc_space.specs.declared.space.Space.{Ghosts}
 use Rattle.hf_pool.specs.declared.pool.Pool.{Pool}
-use Rattle.hf_pool.specs.Pools.{frees}
-use Rattle.hf_record.specs.Allocating.{Allocates, HoldsAt, Stands}
+use Rattle.hf_pool.specs.Pools.{Takes, frees}
+use Rattle.hf_record.specs.Allocating.{Allocates, HoldsAt, HoldsWritten, Stands, TakesFrom}
 use Rattle.hf_record.specs.Asking.{Asked}
 use Rattle.hf_record.specs.Changing.{size_in}
-use Rattle.hf_record.specs.Costs.{Edits}
-use Rattle.hf_record.specs.Moves.{Gives, IsRefusedFor}
+use Rattle.hf_record.specs.Costs.{Edits, FewBeside}
+use Rattle.hf_record.specs.Filling.{IsTooFar, IsTooLong}
+use Rattle.hf_record.specs.Moves.{Gives}
 use Rattle.tc_hash.specs.declared.hash.Hash.{Hash}
 use Rattle.tc_hash.specs.Holding.{HoldsFile}
 
 abbrev pub file_of : {S : Type 0} → Hash S → ℕ
 file_of h = h.body.file
+
+-- the type of its file
+abbrev pub sort_of : {S : Type 0} → Hash S → ℕ
+sort_of h = h.body.head.kind
 
 abbrev pub region_of : {S : Type 0} → Hash S → List ℕ
 region_of h = h.region
@@ -27,15 +33,15 @@ region_of h = h.region
 abbrev pub gets_of : {S : Type 0} → Hash S → ℕ
 gets_of h = h.gets
 
--- the file, the region, the count of gets and the head as the file was opened or made with it stay
+-- the file, its type, the region, the count of gets and the head as the file was opened or made with it stay
 pub record StaysOpen {S : Type 0} (old new : Hash S) : Type 0 where
-  pub map : StaysMap file_of region_of gets_of old new
+  pub map : StaysMap file_of sort_of region_of gets_of old new
   pub head : new.body.head ≡ old.body.head
 
--- a get is counted, and the rest of them stays
+-- a get is counted, and the file, its type, the region, the head and the free blocks stay
 pub record CountsOne {S : Type 0} (old new : Hash S) : Type 0 where
-  pub map : CountsGet file_of region_of gets_of old new
-  pub head : new.body.head ≡ old.body.head
+  pub map : CountsGet file_of sort_of region_of gets_of old new
+  pub body : new.body ≡ old.body
 
 -- the numbers of its file and their form stay
 pub record SameShape {S : Type 0} (old new : Hash S) : Type 0 where
@@ -78,22 +84,25 @@ module _ {S : Type 0} (s : Ghosts S) where
 abbrev pub size_for : {S : Type 0} → Hash S → List ℕ → List ℕ → ℕ
 size_for h key value = size_in h.body key value
 
--- no block of so many bytes was to be had from the free blocks, or from those and one that was given back before; or the undo log is full
-pub record WantsBlock {S : Type 0} (s : Ghosts S) (h : Hash S) (space : S) (size : ℕ) : Type 0 where
+-- a key of a map that is held wanted a block of so many bytes for its record, and the free blocks, those of the file or those with the block given back that
+-- the record had, too small for it, have none: the place for it is too far, or the file, in which the blocks end, grows too long by it
+pub record LacksFree {S : Type 0} (s : Ghosts S) (h : Hash S) (key : List ℕ) (m : Map) (old new : S) (size : ℕ) : Type 0 where
+  pub was : Option (ℕ × ℕ)
+  pub stood : Stands h.body.head h.body.pool.size (frees h.body.pool) m key (s.now old h.body.file) was
   pub pool : Pool
-  pub since : (pool ≡ h.body.pool) ⊎ ((at : ℕ) × (long : ℕ) × Gives at long h.body.pool pool)
-  pub refused : IsRefusedFor h.body.head pool.size (frees pool) (s.limit space h.body.file) (length (s.now space h.body.file)) (s.log_full space) size
+  pub since : TakesFrom size was h.body.pool pool
+  pub inside : pool.size ≤ length (s.now new h.body.file)
+  pub refused : IsTooFar h.body.head pool.size size (frees pool) ⊎ IsTooLong (s.limit new h.body.file) pool.size size (frees pool)
 
--- the block was that of a record of this map
-pub record WantsRoom {S : Type 0} (s : Ghosts S) (h : Hash S) (space : S) (m : Map) : Type 0 where
-  pub key : List ℕ
-  pub value : List ℕ
-  pub there : get m key ≡ Some value
-  pub wants : WantsBlock s h space (size_for h key value)
+-- or a block may not have so many bytes
+abbrev pub WantsBlock : {S : Type 0} → Ghosts S → Hash S → List ℕ → Map → S → S → ℕ → Type 0
+WantsBlock s h key m old new size = (2 ^ 30 < size) ⊎ LacksFree s h key m old new size
 
--- a limit is reached, as the space stands, on the way to a map
-abbrev pub fills : {S : Type 0} → Ghosts S → Hash S → S → Map → Map → Type 0
-fills s h space m new = s.log_full space ⊎ WantsRoom s h space new
+-- the block was that of the record of a key and a value, which a key of some map that is held was to have
+pub record LacksRecordOf {S : Type 0} (s : Ghosts S) (h : Hash S) (old new : S) (key value : List ℕ) : Type 0 where
+  pub held : Map
+  pub means : Means s h old held
+  pub wants : WantsBlock s h key held old new (size_for h key value)
 
 -- a key's record was taken out, whose block of so many bytes stood there. The file is as long as before
 pub record TakesRecord {S : Type 0} (s : Ghosts S) (key : List ℕ) (at size : ℕ) (v v' : Hash S) (old new : S) : Type 0 where
@@ -103,22 +112,37 @@ pub record TakesRecord {S : Type 0} (s : Ghosts S) (key : List ℕ) (at size : �
   pub head : v'.body.head ≡ v.body.head
   pub long : s.tells → length (s.now new v.body.file) ≡ length (s.now old v.body.file)
 
+-- so was that of a key of a map that is held, out of the block in which it stood
+pub record TakesOwn {S : Type 0} (s : Ghosts S) (key : List ℕ) (m : Map) (v v' : Hash S) (old new : S) : Type 0 where
+  pub at : ℕ
+  pub size : ℕ
+  pub stood : HoldsAt v.body.head v.body.pool.size (frees v.body.pool) m key at size (s.now old v.body.file)
+  pub takes : TakesRecord s key at size v v' old new
+
 -- the record of a key that was put into a map stands at a place, in a block of so many bytes, which comes from the pool by what the key's record had before,
--- and by which alone the file may be longer
-pub record IsPlaced {S : Type 0} (s : Ghosts S) (key : List ℕ) (size : ℕ) (m n : Map) (v v' : Hash S) (old new : S) : Type 0 where
+-- and by which alone the file may be longer; besides that block at most so many bytes of the file differ
+pub record IsPlaced {S : Type 0} (s : Ghosts S) (key : List ℕ) (size most : ℕ) (m n : Map) (v v' : Hash S) (old new : S) : Type 0 where
   pub was : Option (ℕ × ℕ)
   pub stood : Stands v.body.head v.body.pool.size (frees v.body.pool) m key (s.now old v.body.file) was
   pub place : ℕ
   pub allocates : Allocates size place was v.body.pool v'.body.pool
-  pub stands : HoldsAt v.body.head v'.body.pool.size (frees v'.body.pool) n key place size (s.now new v.body.file)
+  pub stands : HoldsWritten v.body.head v'.body.pool.size (frees v'.body.pool) n key place size (s.now new v.body.file)
+  pub beside : FewBeside place size most (s.now old v.body.file) (s.now new v.body.file)
   pub long : length (s.now new v.body.file) ≡ max (length (s.now old v.body.file)) (place + size)
 
 -- a key was given a value, alone or behind the one that it had: its record stands in the least block that holds it, and besides that at most so many bytes differ
 pub record GivesValue {S : Type 0} (s : Ghosts S) (mode : Mode) (key value : List ℕ) (most : ℕ) (v v' : Hash S) (old new : S) : Type 0 where
   pub writes : Turns s (put_in mode key value) v v' old new
   pub edits : (m : Map) → Means s v old m → Edits s v.body.file (size_for v key (put_value mode (get m key) value) + most) old new
-  pub placed : (m : Map) → Means s v old m → IsPlaced s key (size_for v key (put_value mode (get m key) value)) m (put_in mode key value m) v v' old new
+  pub placed : (m : Map) → Means s v old m → IsPlaced s key (size_for v key (put_value mode (get m key) value)) most m (put_in mode key value m) v v' old new
 
--- the block for that record wasn't to be had
+-- one that had none was given a value, and the block of its record was taken for it
+pub record GivesNew {S : Type 0} (s : Ghosts S) (key value : List ℕ) (v v' : Hash S) (old new : S) : Type 0 where
+  pub gives : GivesValue s Over key value 13 v v' old new
+  pub place : ℕ
+  pub takes : Takes v.body.pool v'.body.pool (size_for v key value) place
+
+-- the undo log is full, or the block for that record wasn't to be had; the space may not be used any more
 pub record LacksBlock {S : Type 0} (s : Ghosts S) (mode : Mode) (key value : List ℕ) (v : Hash S) (old new : S) : Type 0 where
-  pub wants : (m : Map) → Means s v old m → WantsBlock s v new (size_for v key (put_value mode (get m key) value))
+  pub spoiled : s.flag new ≡ false
+  pub wants : (m : Map) → Means s v old m → s.log_full new ⊎ WantsBlock s v key m old new (size_for v key (put_value mode (get m key) value))

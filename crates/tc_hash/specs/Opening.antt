@@ -1,5 +1,5 @@
 -- The rules of a hash file, one after the other, and the first that fails.
-use Rattle.std.specs.Prelude.{◌≡◌, ℕ, ◌<◌, ◌≤◌, List, length, take}
+use Rattle.std.specs.Prelude.{◌≡◌, ℕ, ◌<◌, ◌≤◌, true, List, length, take}
 use Rattle.tc_base.specs.declared.kind.Rule.{Rule}
 use Rattle.hf_head.specs.declared.head.Head.{Head}
 use Rattle.hf_head.specs.Heads.{IsValid, Spells, unit}
@@ -13,6 +13,7 @@ use Rattle.tc_space.specs.declared.errors.OpenErr.{OpenErr}
 use Rattle.tc_space.specs.declared.errors.OpenErr.TheVariants as open_err
 use Rattle.hf_layout.specs.Frees.{Frees, none}
 use Rattle.hf_layout.specs.Layout.{record_at, frees_of, LaidOut}
+use Rattle.hf_pool.specs.declared.pool.Pool.{Pool}
 use Rattle.hf_tree.specs.Links.{links_of, width}
 use Rattle.hf_tree.specs.Rules.{rule_l, IsFirstBroken}
 use Rattle.hf_tree.specs.Standing.{Opens, count_of}
@@ -66,6 +67,12 @@ pub record IsRead (kind : ℕ) (bytes : List ℕ) (h : Head) (ps : List Piece) (
   pub hold : AllHold h ps bytes
   pub laid : LaidOut (unit h) h.first h.size ps frees none bytes
   pub list : IsListOf (unit h) frees (section_of h bytes)
+
+-- a pool with the unit of a head, whose blocks end where the head says; no section of its free blocks was written yet
+pub record IsPoolOf (h : Head) (pool : Pool) : Type 0 where
+  pub unit_is : pool.unit ≡ unit h
+  pub end_is : pool.size ≡ h.size
+  pub noted : pool.changed ≡ true
 
 abbrev pub WasRead : ℕ → List ℕ → Head → Frees → Type 0
 WasRead kind bytes h frees = (ps : List Piece) × IsRead kind bytes h ps frees

@@ -1,6 +1,6 @@
 -- A file packed: written anew in the large form, or in the form that it has.
-use Rattle.std.specs.Prelude.{◌≡◌, ◌⊎◌, ℕ, true, List, [], ◌∷◌, ◌++◌, length, map, take, Option, Some, None}
-use Rattle.std.specs.FinMap.{get, insert}
+use Rattle.std.specs.Prelude.{◌≡◌, ◌⊎◌, ℕ, ◌+◌, ◌^◌, ◌<◌, true, List, [], ◌∷◌, ◌++◌, length, map, take, Option, Some, None}
+use Rattle.std.specs.FinMap.{empty, get, insert, keys}
 use Rattle.tc_base.specs.Maps.{Map}
 use Rattle.tc_base.specs.declared.kind.Form.{Form}
 use Rattle.tc_base.specs.declared.kind.Form.TheVariants as form
@@ -19,8 +19,8 @@ use Rattle.hf_tree.specs.Links.{HasBlocks, links_of, width}
 use Rattle.hf_tree.specs.Keys.{Key}
 use Rattle.hf_tree.specs.Standing.{AllHang}
 use Rattle.tc_hash.specs.declared.hash.Hash.{Hash}
-use Rattle.tc_hash.specs.Creating.{HasNoRoom, IsNew}
-use Rattle.tc_hash.specs.Keeping.{fills, file_of, gets_of, region_of}
+use Rattle.tc_hash.specs.Creating.{IsNew}
+use Rattle.tc_hash.specs.Keeping.{Means, Turns, file_of, gets_of, region_of, sort_of}
 use Rattle.hf_record.specs.Moves.{IsRefusedFor}
 
 -- no free block is left, and this is the form of the file
@@ -44,8 +44,7 @@ pub record IsPacked (f : Form) (bytes : List ℕ) : Type 0 where
 
 -- the file, the region and the count of gets stay, and so do the numbers of the file
 pub record StaysNumbered {S : Type 0} (old new : Hash S) : Type 0 where
-  pub map : StaysMap file_of region_of gets_of old new
-  pub kind : new.body.head.kind ≡ old.body.head.kind
+  pub map : StaysMap file_of sort_of region_of gets_of old new
   pub apow : new.body.head.apow ≡ old.body.head.apow
   pub fpow : new.body.head.fpow ≡ old.body.head.fpow
   pub buckets : new.body.head.buckets ≡ old.body.head.buckets
@@ -82,47 +81,54 @@ with_pairs m (p ∷ ps) = with_pairs (insert m p.key p.value) ps
 
 -- ---- room
 
--- no block was to be had for a record in a file that has no free blocks
-pub record LacksEnd {S : Type 0} (s : Ghosts S) (h : Head) (file : ℕ) (space : S) (key value : List ℕ) : Type 0 where
-  pub end : ℕ
+-- the bytes of the blocks of pairs
+abbrev pub blocks_long : Head → List Pair → ℕ
+blocks_long h [] = 0
+blocks_long h (p ∷ ps) = block_len (width h) p.key p.value (unit h) + blocks_long h ps
+
+-- no block was to be had for a record in a file that has no free blocks and whose blocks end there
+pub record LacksEnd {S : Type 0} (s : Ghosts S) (h : Head) (file end : ℕ) (space : S) (key value : List ℕ) : Type 0 where
   pub free : Frees
   pub nothing : (q : ℕ) → free q ≡ None
-  pub refused : IsRefusedFor h end free (s.limit space file) (length (s.now space file)) (s.log_full space) (block_len (width h) key value (unit h))
+  pub refused : IsRefusedFor h end free (s.limit space file) (length (s.now space file)) (block_len (width h) key value (unit h))
 
--- so it was for one of these pairs
-pub record LacksOne {S : Type 0} (s : Ghosts S) (h : Head) (file : ℕ) (space : S) (pairs : List Pair) : Type 0 where
+-- so it was for one of these pairs, behind the blocks of those in front of it, the first of which stands there
+pub record LacksOne {S : Type 0} (s : Ghosts S) (h : Head) (file first : ℕ) (space : S) (pairs : List Pair) : Type 0 where
+  pub before : List Pair
   pub pair : Pair
-  pub there : (m : Map) → AllIn m pairs → get m pair.key ≡ Some pair.value
-  pub lacks : LacksEnd s h file space pair.key pair.value
+  pub after : List Pair
+  pub are : pairs ≡ before ++ pair ∷ after
+  pub lacks : LacksEnd s h file (first + blocks_long h before) space pair.key pair.value
 
 -- the head of a file without blocks, with the numbers that it has and in the large form
 abbrev pub IsLargeOf : {S : Type 0} → Hash S → Head → Type 0
 IsLargeOf h new = IsNew h.body.head.kind h.body.head.apow h.body.head.fpow h.body.head.buckets true new
 
--- the sections of a file made anew in the large form pass a limit
+-- it was made so, without records
+pub record MakesLarge {S : Type 0} (s : Ghosts S) (v v' : Hash S) (old new : S) : Type 0 where
+  pub empties : Turns s (λ m. empty) v v' old new
+  pub is_new : IsLargeOf v v'.body.head
+  pub nothing : (q : ℕ) → frees v'.body.pool q ≡ None
+  pub ends : v'.body.pool.size ≡ v'.body.head.first
+
+-- the sections of a file made anew in the large form pass the file's limit, or what a head can name
 pub record LacksSections {S : Type 0} (s : Ghosts S) (h : Hash S) (space : S) : Type 0 where
   pub head : Head
   pub is_new : IsLargeOf h head
-  pub lacks : HasNoRoom (s.limit space h.body.file) (s.log_full space) head.first
+  pub lacks : (s.limit space h.body.file < head.first) ⊎ (2 ^ 40 < head.first)
 
--- a file made anew in the large form had no room for the record of a key of the map
-pub record LacksRecord {S : Type 0} (s : Ghosts S) (h : Hash S) (space : S) (m : Map) : Type 0 where
+-- a file made anew in the large form had no room for one of the records of a map that is held, which are written in the order of their keys
+pub record LacksRecord {S : Type 0} (s : Ghosts S) (h : Hash S) (old new : S) : Type 0 where
   pub head : Head
   pub is_new : IsLargeOf h head
-  pub key : List ℕ
-  pub value : List ℕ
-  pub there : get m key ≡ Some value
-  pub lacks : LacksEnd s head h.body.file space key value
+  pub pairs : List Pair
+  pub are : (m : Map) → Means s h old m → ArePairs m (keys m) pairs
+  pub one : LacksOne s head h.body.file head.first new pairs
 
--- a limit is reached where a file is written anew in the large form
-abbrev pub fills_enlarging : {S : Type 0} → Ghosts S → Hash S → S → Map → Map → Type 0
-fills_enlarging s h space m new = s.log_full space ⊎ (LacksSections s h space ⊎ LacksRecord s h space new)
+-- a file written anew in the large form had no room
+abbrev pub LacksLarge : {S : Type 0} → Ghosts S → Hash S → S → S → Type 0
+LacksLarge s h old new = LacksSections s h new ⊎ LacksRecord s h old new
 
--- a limit is reached in a packing; in the form that a file has this is the log's alone
-abbrev pub fills_packing : {S : Type 0} → Form → Ghosts S → Hash S → S → Map → Map → Type 0
-fills_packing form.Keep s h space m new = s.log_full space
-fills_packing form.Large s h space m new = fills_enlarging s h space m new
-
--- a limit is reached in some call
-abbrev pub fills_any : {S : Type 0} → Ghosts S → Hash S → S → Map → Map → Type 0
-fills_any s h space m new = fills s h space m new ⊎ fills_enlarging s h space m new
+-- a packing had none, in the form that a file has only since the undo log is full
+abbrev pub LacksPacking : {S : Type 0} → Form → Ghosts S → Hash S → S → S → Type 0
+LacksPacking f s h old new = s.log_full new ⊎ ((f ≡ form.Large) × LacksLarge s h old new)

@@ -8,8 +8,3 @@ use Rattle.hf_tree.specs.Standing.{StandsFor}
 pub record StandsWith (kind : ℕ) (bytes : List ℕ) (m : Map) (region : List ℕ) : Type 0 where
   pub is : StandsFor kind bytes (get m)
   pub region_is : is.head.opaque ≡ region
-
--- a file of some kind does
-pub record Stands (bytes : List ℕ) (m : Map) (region : List ℕ) : Type 0 where
-  pub kind : ℕ
-  pub is : StandsWith kind bytes m region

@@ -1,19 +1,18 @@
 //! A file written anew in the large form.
-ghost use Rattle.std.specs.Prelude.{◌≡◌, ℕ, None, true, OnOk, OnErr, IfOk, IsErrOf};
-ghost use Rattle.std.specs.FinMap.{empty};
+ghost use Rattle.std.specs.Prelude.{◌≡◌, ◌⊎◌, ℕ, None, true, OnOk, OnErr, IfOk, IsErrOf};
+ghost use Rattle.std.specs.FinMap.{keys};
 ghost use Rattle.tc_base.specs.Maps.{Map};
 ghost use Rattle.tc_space.specs.Changes.{same};
 ghost use Rattle.tc_space.specs.Effects.{Outcome};
 ghost use Rattle.tc_space.specs.Frames.{Keeps, OnlyReads};
 ghost use Rattle.tc_space.specs.Refusals.{Blames, OnFault};
-ghost use Rattle.tc_space.specs.Stores.{FullBy};
 ghost use Rattle.hf_pool.specs.Pools.{frees};
 ghost use Rattle.hf_record.specs.Changing.{CanChange};
 ghost use Rattle.hf_record.specs.Fields.{HasFields};
 ghost use Rattle.hf_record.specs.Holding.{Has};
 ghost use Rattle.tc_hash.specs.Creating.{IsNew};
 ghost use Rattle.tc_hash.specs.Keeping.{CanCall, Means, Refused, StaysOpen, Turns};
-ghost use Rattle.tc_hash.specs.Packing.{AddsPair, AllIn, ArePairs, IsLargeOf, LacksOne, LacksSections, Packs, StaysNumbered, fills_enlarging, with_pairs};
+ghost use Rattle.tc_hash.specs.Packing.{AddsPair, ArePairs, LacksLarge, LacksOne, LacksSections, MakesLarge, Packs, StaysNumbered, with_pairs};
 
 use crate::clearing::write_anew;
 use crate::create::{PIECE, new_head, new_pool};
@@ -75,7 +74,7 @@ impl<S: Space> Hash<S> {
         ensures put { OnOk result (Turns S.Space (λ m. with_pairs m pairs.now) self.old self.new space.old space.new) }
         ensures nothing { OnOk result ((q : ℕ) → frees self.new.body.pool q ≡ None) }
         ensures outcome { Outcome S.sound S.flag result space.new }
-        ensures full { IsErrOf result RecErr.Full → S.tells → LacksOne S.Space self.old.body.head self.old.body.file space.new pairs.now }
+        ensures full { IsErrOf result RecErr.Full → S.tells → S.log_full space.new ⊎ LacksOne S.Space self.old.body.head self.old.body.file self.old.body.pool.size space.new pairs.now }
         ensures keeps { Keeps S.Space space.old space.new }
         ensures stays { StaysOpen self.old self.new }
         ensures cause { OnFault S.Space result space.old space.new }
@@ -96,11 +95,9 @@ impl<S: Space> Hash<S> {
     // Makes the file anew in the large form, without records. After a refusal the space isn't sound, or nothing has changed.
     fn make_large(&mut self, space: &mut S) -> Result<(), RecErr>
         requires { CanCall S.Space self.old space.old }
-        ensures made { OnOk result (Turns S.Space (λ m. empty) self.old self.new space.old space.new) }
-        ensures nothing { OnOk result ((q : ℕ) → frees self.new.body.pool q ≡ None) }
-        ensures new { OnOk result (IsLargeOf self.old self.new.body.head) }
+        ensures made { OnOk result (MakesLarge S.Space self.old self.new space.old space.new) }
         ensures refused { OnErr result (Refused S.Space self.old self.new space.old space.new) }
-        ensures full { IsErrOf result RecErr.Full → S.tells → LacksSections S.Space self.old space.new }
+        ensures full { IsErrOf result RecErr.Full → S.tells → S.log_full space.new ⊎ LacksSections S.Space self.old space.new }
         ensures keeps { Keeps S.Space space.old space.new }
         ensures stays { StaysNumbered self.old self.new }
         ensures cause { OnFault S.Space result space.old space.new }
@@ -119,10 +116,10 @@ impl<S: Space> Hash<S> {
     // Writes the file anew in the large form, with these pairs. After a refusal the space isn't sound, or nothing has changed.
     fn write_large(&mut self, space: &mut S, pairs: &Pairs) -> Result<(), RecErr>
         requires ready { CanCall S.Space self.old space.old }
-        requires pairs { (m : Map) → Means S.Space self.old space.old m → AllIn m pairs.now × (with_pairs empty pairs.now ≡ m) }
+        requires pairs { (m : Map) → Means S.Space self.old space.old m → ArePairs m (keys m) pairs.now }
         ensures packed { OnOk result (Turns S.Space same self.old self.new space.old space.new) }
         ensures refused { OnErr result (Refused S.Space self.old self.new space.old space.new) }
-        ensures full { IsErrOf result RecErr.Full → FullBy (Means S.Space) (fills_enlarging S.Space) same self.old space.old space.new }
+        ensures full { IsErrOf result RecErr.Full → S.tells → S.log_full space.new ⊎ LacksLarge S.Space self.old space.old space.new }
         ensures keeps { Keeps S.Space space.old space.new }
         ensures stays { StaysNumbered self.old self.new }
         ensures packs { OnOk result (Packs 1 self.new) }
@@ -139,7 +136,7 @@ impl<S: Space> Hash<S> {
         requires { CanCall S.Space self.old space.old }
         ensures packed { OnOk result (Turns S.Space same self.old self.new space.old space.new) }
         ensures refused { OnErr result (Refused S.Space self.old self.new space.old space.new) }
-        ensures full { IsErrOf result RecErr.Full → FullBy (Means S.Space) (fills_enlarging S.Space) same self.old space.old space.new }
+        ensures full { IsErrOf result RecErr.Full → S.tells → S.log_full space.new ⊎ LacksLarge S.Space self.old space.old space.new }
         ensures keeps { Keeps S.Space space.old space.new }
         ensures stays { StaysNumbered self.old self.new }
         ensures packs { OnOk result (Packs 1 self.new) }

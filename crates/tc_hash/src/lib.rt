@@ -20,7 +20,6 @@ mod open;
 mod out;
 mod packing;
 mod put;
-mod region;
 mod section;
 mod settle;
 mod sorting;

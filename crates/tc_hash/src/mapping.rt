@@ -1,7 +1,7 @@
 //! A hash file as a map over one file.
-ghost use Rattle.tc_hash.specs.Keeping.{file_of, gets_of, holds, region_of};
-ghost use Rattle.tc_hash.specs.Packing.{fills_any};
-ghost use Rattle.tc_hash.specs.Standing.{Stands};
+ghost use Rattle.tc_hash.specs.Keeping.{LacksRecordOf, file_of, gets_of, holds, region_of, sort_of};
+ghost use Rattle.tc_hash.specs.Packing.{IsPacked, IsTight, LacksLarge};
+ghost use Rattle.tc_hash.specs.Standing.{StandsWith};
 
 use crate::hash::Hash;
 use tc_base::{Blob, Blobs, Form, Mode, Steps};
@@ -14,11 +14,19 @@ impl<S: Space> Records for Hash<S> {
 
     ghost holds = { holds };
 
-    ghost stands = { Stands };
+    ghost sort = { sort_of };
+
+    ghost stands = { StandsWith };
 
     ghost region = { region_of };
 
-    ghost fills = { fills_any S.Space };
+    ghost lacks = { LacksRecordOf S.Space };
+
+    ghost lacks_large = { LacksLarge S.Space };
+
+    ghost tight = { λ h form. IsTight form h };
+
+    ghost packed = { IsPacked };
 
     ghost gets = { gets_of };
 
@@ -68,6 +76,10 @@ impl<S: Space> Records for Hash<S> {
 
     fn settle(&mut self, space: &mut S) -> Result<(), RecErr> {
         Hash::settle(self, space)
+    }
+
+    fn clear(&mut self, space: &mut S) -> Result<(), RecErr> {
+        Hash::clear(self, space)
     }
 
     fn pack(&mut self, space: &mut S, form: Form) -> Result<(), RecErr> {

@@ -1,5 +1,5 @@
 //! A file opened: its rules, checked one after the other.
-ghost use Rattle.std.specs.Prelude.{◌≡◌, ◌≤◌, ◌^◌, length, take, IfOk, IfErr, IfSome, IfNone, OnOk, IsErrOf, Err, true};
+ghost use Rattle.std.specs.Prelude.{◌≡◌, ◌≤◌, ◌^◌, length, take, IfOk, IfErr, IfSome, IfNone, OnOk, IsErrOf, Err};
 ghost use Rattle.std.specs.FinMap.{get};
 ghost use Rattle.tc_base.specs.Maps.{Map};
 ghost use Rattle.tc_space.specs.Frames.{OnlyReads};
@@ -15,7 +15,7 @@ ghost use Rattle.hf_survey.specs.Surveys.{WasSurveyed};
 ghost use Rattle.tc_hash.specs.Keeping.{holds};
 ghost use Rattle.tc_hash.specs.Sections.{IsListOf, section_len, section_of};
 ghost use Rattle.tc_hash.specs.Standing.{StandsWith};
-ghost use Rattle.tc_hash.specs.Opening.{Breaks, HasHead, HasHeadIn, IsNoList, WasRead, broken_at, open_of};
+ghost use Rattle.tc_hash.specs.Opening.{Breaks, HasHead, HasHeadIn, IsNoList, IsPoolOf, WasRead, broken_at, open_of};
 
 use crate::hash::Hash;
 use crate::section::{is_list, read_section, section_size};
@@ -178,9 +178,7 @@ fn read_pool<S: Space>(
     requires head { HasHeadIn S.Space space.old file head.now }
     requires apart { StandApart (unit head.now) head.now.first head.now.size found.now.frees }
     requires found { S.tells → WasSurveyed head.now (S.now space.old file) found.now }
-    ensures unit { IfOk result (λ pool. pool.unit ≡ unit head.now) }
-    ensures size { IfOk result (λ pool. pool.size ≡ head.now.size) }
-    ensures noted { IfOk result (λ pool. pool.changed ≡ true) }
+    ensures pool { IfOk result (IsPoolOf head.now) }
     ensures read { IfOk result (λ pool. S.tells → WasRead head.now.kind (S.now space.old file) head.now (frees pool)) }
     ensures broken { IfErr result (λ e. Breaks S.tells head.now.kind file (S.now space.old file) e) }
     ensures reads { OnlyReads S.Space space.old space.new }
@@ -200,9 +198,7 @@ fn read_parts<S: Space>(alloc: Global, space: &mut S, file: u32, kind: u8) -> Re
     requires sound { S.sound space.old }
     requires file { IsDataFile file }
     ensures valid { IfOk result (λ p. IsValid p.head × (p.head.kind ≡ kind)) }
-    ensures unit { IfOk result (λ p. p.pool.unit ≡ unit p.head) }
-    ensures size { IfOk result (λ p. p.pool.size ≡ p.head.size) }
-    ensures noted { IfOk result (λ p. p.pool.changed ≡ true) }
+    ensures pool { IfOk result (λ p. IsPoolOf p.head p.pool) }
     ensures read { IfOk result (λ p. S.tells → WasRead kind (S.now space.old file) p.head (frees p.pool)) }
     ensures broken { IfErr result (λ e. Breaks S.tells kind file (S.now space.old file) e) }
     ensures reads { OnlyReads S.Space space.old space.new }

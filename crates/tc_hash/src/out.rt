@@ -1,11 +1,11 @@
 //! Keys taken out.
-ghost use Rattle.std.specs.Prelude.{◌≤◌, IfOk, OnOk, OnErr};
+ghost use Rattle.std.specs.Prelude.{◌≤◌, length, IfOk, OnOk, OnErr};
 ghost use Rattle.tc_space.specs.Frames.{Keeps};
-ghost use Rattle.tc_space.specs.Refusals.{OnFault, OnlyLogIsFull};
-ghost use Rattle.hf_record.specs.Moves.{HasRoom};
-ghost use Rattle.hf_record.specs.Searching.{IsFound};
+ghost use Rattle.tc_space.specs.Refusals.{OnFault};
+ghost use Rattle.hf_chain.specs.Costs.{PaidBy, step_most};
+ghost use Rattle.hf_record.specs.Filling.{SpoilsFull};
 ghost use Rattle.tc_hash.specs.Keeping.{CanCall, Refused, StaysOpen, TakesRecord};
-ghost use Rattle.tc_hash.specs.Putting.{TakesLen};
+ghost use Rattle.tc_hash.specs.Putting.{CanCallIn, TakesLen};
 
 use crate::hash::Hash;
 use hf_record::{Place, Search, block_of};
@@ -22,15 +22,13 @@ impl<S: Space> Hash<S> {
         room: u64,
         steps: &mut Steps<L>,
     ) -> Result<(), RecErr>
-        requires ready { CanCall S.Space self.old space.old }
-        requires found { IsFound S.Space self.old.body key.now space.old place.now }
-        requires block { HasRoom S.Space self.old.body place.now.at room space.old }
+        requires { CanCallIn S.Space key.now place.now room self.old space.old }
         ensures taken { OnOk result (TakesRecord S.Space key.now place.now.at room self.old self.new space.old space.new) }
         ensures refused { OnErr result (Refused S.Space self.old self.new space.old space.new) }
-        ensures full { OnlyLogIsFull S.Space result space.new }
+        ensures full { SpoilsFull S.Space result space.new }
         ensures keeps { Keeps S.Space space.old space.new }
         ensures stays { StaysOpen self.old self.new }
-        ensures steps { steps.old ≤ steps.new }
+        ensures paid { PaidBy S.Space 40 steps.old steps.new space.old space.new }
         ensures cause { OnFault S.Space result space.old space.new }
     {
         self.body.take_out(space, key, place, room, steps)?;
@@ -38,8 +36,9 @@ impl<S: Space> Hash<S> {
         Ok(())
     }
 
-    /// Takes a key out, and answers how many bytes its value had; none exactly where it isn't held. The key is searched once, and its record's head is read
-    /// once. It is full only where the undo log is. After a refusal the space isn't sound, or nothing has changed.
+    /// Takes a key out, and answers how many bytes its value had; none exactly where it isn't held. The block of its record is given back, and no more than two
+    /// links are written besides. The key is searched once, and its record's head is read once: no more bytes are read than those of the steps. It is full only
+    /// where the undo log is. After a refusal the space isn't sound, or nothing has changed; where it is full it isn't sound.
     pub fn out<L>(
         &mut self,
         space: &mut S,
@@ -49,10 +48,11 @@ impl<S: Space> Hash<S> {
         requires { CanCall S.Space self.old space.old }
         ensures out { IfOk result (λ was. TakesLen S.Space key.now was self.old self.new space.old space.new) }
         ensures refused { OnErr result (Refused S.Space self.old self.new space.old space.new) }
-        ensures full { OnlyLogIsFull S.Space result space.new }
+        ensures full { SpoilsFull S.Space result space.new }
         ensures keeps { Keeps S.Space space.old space.new }
         ensures stays { StaysOpen self.old self.new }
         ensures steps { steps.old ≤ steps.new }
+        ensures paid { PaidBy S.Space (step_most (length key.now)) steps.old steps.new space.old space.new }
         ensures cause { OnFault S.Space result space.old space.new }
     {
         match self.body.search(space, key, steps)? {

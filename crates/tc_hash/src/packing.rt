@@ -1,15 +1,15 @@
 //! Files packed.
-ghost use Rattle.std.specs.Prelude.{◌≡◌, ◌⊎◌, ℕ, None, true, false, IfOk, OnOk, OnErr, IsErrOf};
+ghost use Rattle.std.specs.Prelude.{◌≡◌, ◌⊎◌, ℕ, None, take, true, false, IfOk, OnOk, OnErr, IsErrOf};
 ghost use Rattle.tc_space.specs.Changes.{same};
 ghost use Rattle.tc_space.specs.Frames.{Keeps, OnlyReads, Others};
 ghost use Rattle.tc_space.specs.Refusals.{OnFault, OnlyLogIsFull};
-ghost use Rattle.tc_space.specs.Stores.{FullBy, Only};
+ghost use Rattle.tc_space.specs.Stores.{Only};
 ghost use Rattle.hf_head.specs.Heads.{unit};
 ghost use Rattle.hf_pool.specs.Pools.{frees};
 ghost use Rattle.hf_record.specs.Fields.{HasFields};
-ghost use Rattle.tc_hash.specs.Keeping.{CanCall, Means, Refused, Turns};
+ghost use Rattle.tc_hash.specs.Keeping.{CanCall, Refused, Turns};
 ghost use Rattle.tc_hash.specs.Listed.{CanList, OfBlocks};
-ghost use Rattle.tc_hash.specs.Packing.{IsRepacked, Packs, StaysNumbered, fills_packing, options_for};
+ghost use Rattle.tc_hash.specs.Packing.{IsRepacked, LacksPacking, Packs, StaysNumbered, options_for};
 
 use crate::hash::Hash;
 use crate::walking::list_blocks;
@@ -44,6 +44,7 @@ fn no_free_blocks(alloc: Global, head: &Head, end: u64) -> Result<Pool, RecErr>
 fn pack_file<S: Space>(alloc: Global, space: &mut S, file: u32, head: &Head) -> Result<u64, RecErr>
     requires { CanList S.Space head.now file space.old }
     ensures packed { IfOk result (λ end. OfBlocks S.Space head.now file space.old (λ ps. IsRepacked head.now end ps (S.now space.old file) (S.now space.new file))) }
+    ensures head { OnOk result (S.tells → take 256 (S.now space.new file) ≡ take 256 (S.now space.old file)) }
     ensures done { OnOk result (S.sound space.new × Others S.Space (Only file) space.old space.new) }
     ensures refused { OnErr result ((S.flag space.new ≡ false) ⊎ OnlyReads S.Space space.old space.new) }
     ensures keeps { Keeps S.Space space.old space.new }
@@ -93,7 +94,7 @@ impl<S: Space> Hash<S> {
         requires { CanCall S.Space self.old space.old }
         ensures packed { OnOk result (Turns S.Space same self.old self.new space.old space.new) }
         ensures refused { OnErr result (Refused S.Space self.old self.new space.old space.new) }
-        ensures full { IsErrOf result RecErr.Full → FullBy (Means S.Space) (fills_packing form S.Space) same self.old space.old space.new }
+        ensures full { IsErrOf result RecErr.Full → S.tells → LacksPacking form S.Space self.old space.old space.new }
         ensures keeps { Keeps S.Space space.old space.new }
         ensures stays { StaysNumbered self.old self.new }
         ensures packs { OnOk result (Packs (options_for form self.old) self.new) }

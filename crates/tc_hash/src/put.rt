@@ -1,15 +1,17 @@
 //! Keys given values.
-ghost use Rattle.std.specs.Prelude.{ℕ, ◌+◌, ◌^◌, ◌≤◌, ◌<◌, ◌↔◌, IfOk, OnOk, OnErr, IsErrOf, IsTrue};
+ghost use Rattle.std.specs.Prelude.{◌≡◌, ◌+◌, ◌≤◌, ◌<◌, ◌↔◌, length, IfOk, OnOk, OnErr, IsErrOf, IsTrue};
 ghost use Rattle.tc_base.specs.declared.kind.Mode.{Mode};
 ghost use Rattle.tc_base.specs.declared.kind.Mode.TheVariants.{Over, Cat};
 ghost use Rattle.tc_space.specs.Effects.{Outcome};
 ghost use Rattle.tc_space.specs.Frames.{Keeps};
 ghost use Rattle.tc_space.specs.Refusals.{Blamed, OnFault, OnlyLogIsFull};
-ghost use Rattle.hf_pool.specs.Pools.{Takes};
-ghost use Rattle.hf_record.specs.Moves.{HasRoom, LacksRoom};
-ghost use Rattle.hf_record.specs.Searching.{IsFound, IsGap};
-ghost use Rattle.tc_hash.specs.Keeping.{CanCall, GivesValue, LacksBlock, Refused, StaysOpen, size_for};
-ghost use Rattle.tc_hash.specs.Putting.{Answers, IsKept, LacksWithin, PutsValue};
+ghost use Rattle.hf_chain.specs.Costs.{PaidBy, step_most};
+ghost use Rattle.hf_record.specs.Asking.{PaysFor};
+ghost use Rattle.hf_record.specs.Changing.{FitsInto};
+ghost use Rattle.hf_record.specs.Moves.{LacksRoom};
+ghost use Rattle.hf_record.specs.Searching.{IsGap};
+ghost use Rattle.tc_hash.specs.Keeping.{CanCall, GivesNew, GivesValue, LacksBlock, Refused, StaysOpen, size_for};
+ghost use Rattle.tc_hash.specs.Putting.{Answers, CanCallAt, CanCallIn, IsKept, LacksFor, LacksWithin, PutsValue, joined_to};
 
 use crate::hash::Hash;
 use hf_record::{Parent, Place, Search, block_of};
@@ -43,12 +45,12 @@ impl<S: Space> Hash<S> {
     fn insert(&mut self, space: &mut S, key: &[u8], value: &[u8], to: &Parent) -> Result<(), RecErr>
         requires ready { CanCall S.Space self.old space.old }
         requires gap { IsGap S.Space self.old.body key.now space.old to.now }
-        ensures put { OnOk result (GivesValue S.Space Over key.now value.now 13 self.old self.new space.old space.new) }
-        ensures takes { OnOk result ((place : ℕ) × Takes self.old.body.pool self.new.body.pool (size_for self.old key.now value.now) place) }
+        ensures put { OnOk result (GivesNew S.Space key.now value.now self.old self.new space.old space.new) }
         ensures outcome { Outcome S.sound S.flag result space.new }
         ensures full { IsErrOf result RecErr.Full → S.tells → LacksRoom S.Space self.old.body space.new (size_for self.old key.now value.now) }
         ensures keeps { Keeps S.Space space.old space.new }
         ensures stays { StaysOpen self.old self.new }
+        ensures counted { S.bytes_read space.new ≡ S.bytes_read space.old }
         ensures cause { OnFault S.Space result space.old space.new }
     {
         // no file has so many records
@@ -70,13 +72,12 @@ impl<S: Space> Hash<S> {
         steps: &mut Steps<L>,
     ) -> Result<(), RecErr>
         requires ready { CanCall S.Space self.old space.old }
-        ensures put { OnOk result (GivesValue S.Space Over key.now value.now 13 self.old self.new space.old space.new) }
-        ensures takes { OnOk result ((place : ℕ) × Takes self.old.body.pool self.new.body.pool (size_for self.old key.now value.now) place) }
+        ensures put { OnOk result (GivesNew S.Space key.now value.now self.old self.new space.old space.new) }
         ensures outcome { Outcome S.sound S.flag result space.new }
         ensures full { IsErrOf result RecErr.Full → S.tells → LacksRoom S.Space self.old.body space.new (size_for self.old key.now value.now) }
         ensures keeps { Keeps S.Space space.old space.new }
         ensures stays { StaysOpen self.old self.new }
-        ensures steps { steps.old ≤ steps.new }
+        ensures paid { PaidBy S.Space (step_most (length key.now)) steps.old steps.new space.old space.new }
         ensures cause { OnFault S.Space result space.old space.new }
     {
         match self.body.search(space, key, steps) {
@@ -102,16 +103,14 @@ impl<S: Space> Hash<S> {
         place: &Place,
         room: u64,
     ) -> Result<(), RecErr>
-        requires ready { CanCall S.Space self.old space.old }
-        requires found { IsFound S.Space self.old.body key.now space.old place.now }
-        requires block { HasRoom S.Space self.old.body place.now.at room space.old }
-        requires fits { size_for self.old key.now value.now ≤ room }
-        requires most { size_for self.old key.now value.now ≤ 2 ^ 30 }
+        requires block { CanCallIn S.Space key.now place.now room self.old space.old }
+        requires fits { FitsInto self.old.body key.now value.now room }
         ensures put { OnOk result (GivesValue S.Space Over key.now value.now 5 self.old self.new space.old space.new) }
         ensures outcome { Outcome S.sound S.flag result space.new }
         ensures full { OnlyLogIsFull S.Space result space.new }
         ensures keeps { Keeps S.Space space.old space.new }
         ensures stays { StaysOpen self.old self.new }
+        ensures counted { S.bytes_read space.new ≡ S.bytes_read space.old }
         ensures cause { OnFault S.Space result space.old space.new }
     {
         self.body.replace(space, key, value, place, room)
@@ -128,16 +127,14 @@ impl<S: Space> Hash<S> {
         room: u64,
         steps: &mut Steps<L>,
     ) -> Result<(), RecErr>
-        requires ready { CanCall S.Space self.old space.old }
-        requires found { IsFound S.Space self.old.body key.now space.old place.now }
-        requires block { HasRoom S.Space self.old.body place.now.at room space.old }
+        requires block { CanCallIn S.Space key.now place.now room self.old space.old }
         requires few { room < size_for self.old key.now value.now }
         ensures put { OnOk result (GivesValue S.Space Over key.now value.now 34 self.old self.new space.old space.new) }
         ensures refused { OnErr result (Refused S.Space self.old self.new space.old space.new) }
         ensures full { IsErrOf result RecErr.Full → LacksBlock S.Space Over key.now value.now self.old space.old space.new }
         ensures keeps { Keeps S.Space space.old space.new }
         ensures stays { StaysOpen self.old self.new }
-        ensures steps { steps.old ≤ steps.new }
+        ensures paid { PaidBy S.Space (step_most (length key.now)) steps.old steps.new space.old space.new }
         ensures cause { OnFault S.Space result space.old space.new }
     {
         self.take_record(space, key, place, room, steps)?;
@@ -153,14 +150,13 @@ impl<S: Space> Hash<S> {
         place: &Place,
         steps: &mut Steps<L>,
     ) -> Result<(), RecErr>
-        requires ready { CanCall S.Space self.old space.old }
-        requires found { IsFound S.Space self.old.body key.now space.old place.now }
+        requires { CanCallAt S.Space key.now place.now self.old space.old }
         ensures put { OnOk result (GivesValue S.Space Over key.now value.now 34 self.old self.new space.old space.new) }
         ensures refused { OnErr result (Refused S.Space self.old self.new space.old space.new) }
         ensures full { IsErrOf result RecErr.Full → LacksBlock S.Space Over key.now value.now self.old space.old space.new }
         ensures keeps { Keeps S.Space space.old space.new }
         ensures stays { StaysOpen self.old self.new }
-        ensures steps { steps.old ≤ steps.new }
+        ensures paid { PaidBy S.Space (step_most (length key.now)) steps.old steps.new space.old space.new }
         ensures cause { OnFault S.Space result space.old space.new }
     {
         let Some(wanted) = self.body.size_for(key, value) else {
@@ -183,14 +179,13 @@ impl<S: Space> Hash<S> {
         place: &Place,
         steps: &mut Steps<L>,
     ) -> Result<(), RecErr>
-        requires ready { CanCall S.Space self.old space.old }
-        requires found { IsFound S.Space self.old.body key.now space.old place.now }
+        requires { CanCallAt S.Space key.now place.now self.old space.old }
         ensures put { OnOk result (GivesValue S.Space Cat key.now more.now 34 self.old self.new space.old space.new) }
         ensures refused { OnErr result (Refused S.Space self.old self.new space.old space.new) }
         ensures full { IsErrOf result RecErr.Full → LacksBlock S.Space Cat key.now more.now self.old space.old space.new }
         ensures keeps { Keeps S.Space space.old space.new }
         ensures stays { StaysOpen self.old self.new }
-        ensures steps { steps.old ≤ steps.new }
+        ensures paid { PaysFor S.Space key.now place.now.rec.value steps.old steps.new space.old space.new }
         ensures cause { OnFault S.Space result space.old space.new }
     {
         let mut longer = self.body.value_at(space, key, place)?;
@@ -214,6 +209,7 @@ impl<S: Space> Hash<S> {
         ensures full { IsErrOf result RecErr.Full → (mode : Mode) → LacksWithin S.Space mode key.now value.now most self.old space.old space.new }
         ensures keeps { Keeps S.Space space.old space.new }
         ensures stays { StaysOpen self.old self.new }
+        ensures counted { S.bytes_read space.new ≡ S.bytes_read space.old }
         ensures cause { OnFault S.Space result space.old space.new }
     {
         if value.len() as u64 > most {
@@ -234,14 +230,14 @@ impl<S: Space> Hash<S> {
         place: &Place,
         steps: &mut Steps<L>,
     ) -> Result<Put, RecErr>
-        requires ready { CanCall S.Space self.old space.old }
-        requires found { IsFound S.Space self.old.body key.now space.old place.now }
+        requires { CanCallAt S.Space key.now place.now self.old space.old }
         ensures put { IfOk result (λ p. Answers S.Space mode key.now value.now most p self.old self.new space.old space.new) }
         ensures refused { OnErr result (Refused S.Space self.old self.new space.old space.new) }
         ensures full { IsErrOf result RecErr.Full → LacksWithin S.Space mode key.now value.now most self.old space.old space.new }
         ensures keeps { Keeps S.Space space.old space.new }
         ensures stays { StaysOpen self.old self.new }
         ensures steps { steps.old ≤ steps.new }
+        ensures paid { IfOk result (λ p. PaysFor S.Space key.now (joined_to mode p) steps.old steps.new space.old space.new) }
         ensures cause { OnFault S.Space result space.old space.new }
     {
         let was = place.rec.value;
@@ -269,8 +265,9 @@ impl<S: Space> Hash<S> {
     ///
     /// The record stands in the least block that holds it. It is written over the old one where that one's block is large enough, whose rest is given back;
     /// else that block is given back whole and another is taken: the least free one that is large enough, at the lowest place among equals, or, where none
-    /// is, one at the end, by which alone the file grows. Besides the block at most 512 bytes of the file differ. It is full only where no block was to be
-    /// had for this record, or where the undo log is. After a refusal the space isn't sound, or nothing has changed.
+    /// is, one at the end, by which alone the file grows. Besides the block at most 512 bytes of the file differ. No more bytes are read than those of the
+    /// steps, and with `Cat` the old value. It is full only where no block was to be had for this record, or where the undo log is. After a refusal the space isn't
+    /// sound, or nothing has changed; where it is full it isn't sound.
     pub fn put_within<L>(
         &mut self,
         space: &mut S,
@@ -287,6 +284,7 @@ impl<S: Space> Hash<S> {
         ensures keeps { Keeps S.Space space.old space.new }
         ensures stays { StaysOpen self.old self.new }
         ensures steps { steps.old ≤ steps.new }
+        ensures paid { IfOk result (λ p. PaysFor S.Space key.now (joined_to mode p) steps.old steps.new space.old space.new) }
         ensures cause { OnFault S.Space result space.old space.new }
     {
         match self.body.search(space, key, steps)? {
@@ -295,7 +293,7 @@ impl<S: Space> Hash<S> {
         }
     }
 
-    /// Gives a key a value, as `put_within` does; `Exists` comes exactly with `Keep` on a held key, and changes nothing.
+    /// Gives a key a value, as `put_within` does; `Exists` comes exactly with `Keep` on a held key, and changes nothing. Where it is full the space isn't sound.
     pub fn put<L>(
         &mut self,
         space: &mut S,
@@ -308,7 +306,7 @@ impl<S: Space> Hash<S> {
         ensures put { OnOk result (PutsValue S.Space mode key.now value.now self.old self.new space.old space.new) }
         ensures exists { IsErrOf result PutErr.Exists → IsKept S.Space mode key.now self.old self.new space.old space.new }
         ensures refused { OnErr result (Refused S.Space self.old self.new space.old space.new) }
-        ensures full { IsErrOf result PutErr.Full → LacksBlock S.Space mode key.now value.now self.old space.old space.new }
+        ensures full { IsErrOf result PutErr.Full → LacksFor S.Space mode key.now value.now self.old space.old space.new }
         ensures keeps { Keeps S.Space space.old space.new }
         ensures stays { StaysOpen self.old self.new }
         ensures steps { steps.old ≤ steps.new }
@@ -318,7 +316,10 @@ impl<S: Space> Hash<S> {
             Put::Stored(_) => Ok(()),
             Put::Held => Err(PutErr::Exists),
             // no block is so large
-            Put::TooLong => Err(PutErr::Full),
+            Put::TooLong => {
+                give_up(space);
+                Err(PutErr::Full)
+            }
         }
     }
 }

@@ -1,17 +1,14 @@
 //! What is held in memory, brought to the file.
-ghost use Rattle.std.specs.Prelude.{◌≡◌, ℕ, List, length, None, IfOk, OnOk, OnErr};
+ghost use Rattle.std.specs.Prelude.{◌≡◌, length, None, IfOk, IsSome, OnOk, OnErr};
 ghost use Rattle.tc_base.specs.Maps.{Map};
 ghost use Rattle.tc_space.specs.Effects.{Outcome};
 ghost use Rattle.tc_space.specs.Frames.{Keeps, OnlyReads, OnlyWrites};
 ghost use Rattle.tc_space.specs.Refusals.{Blames, OnFault, OnlyLogIsFull};
 ghost use Rattle.hf_head.specs.Heads.{Spells, spelled};
-ghost use Rattle.hf_pool.specs.Trims.{Trimmed};
-ghost use Rattle.hf_pool.specs.Pools.{frees};
 ghost use Rattle.tc_hash.specs.Bringing.{IsNewSection, MayWriteFront, MayWriteSection, WritesFront, WritesSection};
 ghost use Rattle.tc_hash.specs.Fronts.{IsFront};
-ghost use Rattle.tc_hash.specs.Holding.{HoldsMap};
 ghost use Rattle.tc_hash.specs.Keeping.{CanCall, Means, Refused, StaysOpen};
-ghost use Rattle.tc_hash.specs.Settling.{Settles, head_now};
+ghost use Rattle.tc_hash.specs.Settling.{DropsEnd, Settles, head_now};
 
 use crate::front::{Front, read_front};
 use crate::hash::Hash;
@@ -119,6 +116,7 @@ impl<S: Space> Hash<S> {
         requires { CanCall S.Space self.old space.old }
         ensures front { IfOk result (λ f. (m : Map) → Means S.Space self.old space.old m → IsFront self.old.body.head f (S.now space.old self.old.body.file)) }
         ensures stays { self.new ≡ record self.old { front = None } }
+        ensures known { IsSome self.old.front → space.new ≡ space.old }
         ensures reads { OnlyReads S.Space space.old space.new }
         ensures cause { Blames S.Space result space.old space.new }
     {
@@ -129,15 +127,15 @@ impl<S: Space> Hash<S> {
     }
 
     /// Brings what is held in memory to the file: free blocks at its end are dropped, the head and the pool section are written, of each the bytes that
-    /// differ from those that were read or written last, and the file is cut to its size. Then the file stands for the map. After a refusal the space isn't
-    /// sound, or nothing was written.
+    /// differ from those that were read or written last, and the file is cut to its size. Then the file stands for the map. It reads what stands in front of the
+    /// blocks, once; a settled file isn't read again before it is packed or cleared. After a refusal the space isn't sound, or nothing was written.
     pub fn settle(&mut self, space: &mut S) -> Result<(), RecErr>
         requires { CanCall S.Space self.old space.old }
         ensures settled { OnOk result (Settles S.Space self.old self.new space.old space.new) }
-        ensures trimmed { (m : Map) (bytes : List ℕ) → HoldsMap self.old bytes m → HoldsMap self.new bytes m }
+        ensures trimmed { DropsEnd self.old self.new }
         ensures stays { StaysOpen self.old self.new }
-        ensures dropped { Trimmed (frees self.old.body.pool) (frees self.new.body.pool) self.old.body.pool.size self.new.body.pool.size }
         ensures refused { OnErr result (Refused S.Space self.old self.new space.old space.new) }
+        ensures counted { IsSome self.old.front → S.bytes_read space.new ≡ S.bytes_read space.old }
         ensures keeps { Keeps S.Space space.old space.new }
         ensures full { OnlyLogIsFull S.Space result space.new }
         ensures cause { OnFault S.Space result space.old space.new }

@@ -55,3 +55,6 @@ returns-in_err-at-clause-broken g c = broken_on c.from_residual.result c.in_err-
           let q = (v.walked t).rest ps (subst (λ (u : ℕ). IsFilled (wide c.is_large-large.result) u (between c.args.head.now.first c.args.head.now.size f) ps) (sym c.unit-unit.ensures) (subst (λ (b : Bool). IsFilled (wide b) (unit c.args.head.now) (between c.args.head.now.first c.args.head.now.size f) ps) (sym c.is_large-large.ensures) filled)) in
           b.none t q.0 (subst (λ (l : List ℕ). IsFilled (wide c.is_large-large.result) c.unit-unit.result l q.0) (sym rest) q.1);
     })
+
+pub returns-in_err-at-clause-reads : goal.returns-in_err-at-clause-reads
+returns-in_err-at-clause-reads g c = only_reads_then g.S.Space c.args.space.now c.loop-at.space c.walk_piece.new.space c.loop-at.invariant.reads c.in_err-at.ensures.reads

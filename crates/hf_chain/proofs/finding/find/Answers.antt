@@ -59,6 +59,9 @@ returns-in_err-look-clause-within g c = λ t end ps u w.
 pub returns-in_err-look-clause-paid : goal.returns-in_err-look-clause-paid
 returns-in_err-look-clause-paid g c = paid_then (step_most (length c.args.key.now)) c.args.steps.now c.loop-depth.steps c.count_step-in-loop-depth.new.steps (g.S.Space.bytes_read c.args.space.now) (g.S.Space.bytes_read c.loop-depth.space) (g.S.Space.bytes_read c.look_at.new.space) c.loop-depth.invariant.paid (paid_one (step_most (length c.args.key.now)) c.loop-depth.steps c.count_step-in-loop-depth.new.steps (g.S.Space.bytes_read c.loop-depth.space) (g.S.Space.bytes_read c.look_at.new.space) c.count_step-in-loop-depth.ensures.later c.count_step-in-loop-depth.ensures.more (omega (arith, c.look_at.ensures.counted)))
 
+pub returns-in_err-look-clause-reads : goal.returns-in_err-look-clause-reads
+returns-in_err-look-clause-reads g c = only_reads_then g.S.Space c.args.space.now c.loop-depth.space c.look_at.new.space c.loop-depth.invariant.reads c.look_at.ensures.reads
+
 pub returns-in_default-clause-within : goal.returns-in_default-clause-within
 returns-in_default-clause-within g c = λ t end ps u w.
     let n = spot_next c.args.head.now end ps (g.S.Space.now c.args.space.now c.args.file) (bucket_of c.args.head.now.buckets c.args.key.now) u c.args.key.now c.loop-depth.from c.loop-depth.at c.loop-depth.depth w.blocks (c.loop-depth.invariant.spot t end ps u w) c.if-at-eq0.false in

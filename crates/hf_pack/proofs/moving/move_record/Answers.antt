@@ -71,3 +71,12 @@ returns-clause-writes g c =
       full = c.copy.ensures.writes.full;
       cause = search rules;
     }
+
+pub returns-in_err-push-clause-writes : goal.returns-in_err-push-clause-writes
+returns-in_err-push-clause-writes g c = record {
+  others = search rules;
+  outcome = search rules;
+  keeps = keeps_then g.S.Space c.args.space.now c.read_head.new.space c.push.new.space c.in-Ok.ensures.reads.keeps c.in_err-push.ensures.writes.keeps;
+  full = search rules;
+  cause = search rules;
+}

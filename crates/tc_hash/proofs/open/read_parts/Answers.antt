@@ -40,6 +40,12 @@ returns-clause-read g c = λ t.
     subst (λ (k : ℕ). WasRead k (g.S.Space.now c.args.space.now c.args.file) c.in_ok-head.head (frees c.in_ok-pool.pool)) c.in_ok-head.ensures.valid.1
     (subst (λ (l : List ℕ). WasRead c.in_ok-head.head.kind l c.in_ok-head.head (frees c.in_ok-pool.pool)) (c.in_ok-found.ensures.reads.files t c.args.file ∙ c.in_ok-head.ensures.reads.files t c.args.file) (c.in_ok-pool.ensures.read t))
 
+pub returns-in_err-pool-clause-reads : goal.returns-in_err-pool-clause-reads
+returns-in_err-pool-clause-reads g c =
+    only_reads_then g.S.Space c.args.space.now c.read_blocks.new.space c.read_pool.new.space
+    (only_reads_then g.S.Space c.args.space.now c.load_head.new.space c.read_blocks.new.space c.load_head.ensures.reads c.read_blocks.ensures.reads)
+    c.read_pool.ensures.reads
+
 pub returns-clause-reads : goal.returns-clause-reads
 returns-clause-reads g c =
     only_reads_then g.S.Space c.args.space.now c.read_blocks.new.space c.read_pool.new.space

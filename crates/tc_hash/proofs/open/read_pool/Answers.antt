@@ -1,4 +1,4 @@
-use Rattle.std.proofs.Common.{◌≡◌, ℕ, ◌%◌, ◌^◌, ◌≤◌, List, length, refl, sym, ap, subst, arith, lit<}
+use Rattle.std.proofs.Common.{◌≡◌, ◌∙◌, ℕ, ◌%◌, ◌^◌, ◌≤◌, List, length, refl, sym, ap, subst, arith, lit<}
 use Rattle.std.proofs.Math.Nat.{pow-le-pow_right}
 use Rattle.hf_head.specs.Heads.{unit}
 use Rattle.hf_block.specs.Rows.{StandApart}
@@ -37,6 +37,9 @@ check_section-requires-clause-holds g c = record {
   data_file = c.requires.head.data_file;
   inside = λ t. omega (arith, c.requires.head.valid.numbers.size_least, (c.requires.found t).is.facts.has.within, ap length (c.in-Ok.ensures.reads.files t c.args.file));
 }
+
+pub returns-clause-pool : goal.returns-clause-pool
+returns-clause-pool g c = record { unit_is = c.in_ok-pool.ensures.unit ∙ c.unit.ensures; end_is = c.in_ok-pool.ensures.size; noted = c.in_ok-pool.ensures.anew }
 
 pub returns-clause-read : goal.returns-clause-read
 returns-clause-read g c = λ t.

@@ -5,7 +5,7 @@ use Rattle.tc_space.specs.Ranges.{Passes}
 use Rattle.hf_head.specs.Heads.{is_large, unit}
 use Rattle.hf_pool.specs.Pools.{frees, Lends}
 use Rattle.hf_record.specs.Moves.{Added}
-use Rattle.hf_record.proofs.Differ.{edits_then, edits_wrote}
+use Rattle.hf_record.proofs.Differ.{beside_after, beside_wrote, edits_then, edits_wrote}
 use Rattle.hf_record.proofs.Room.{not_past}
 use Rattle.hf_record.proofs.Spared.{leaves_first, length_wrote}
 use Rattle.hf_record.proofs.Valid.{is_data, is_valid}
@@ -88,6 +88,10 @@ returns-clause-added g c =
             leaves_first h before after v (ap (λ (l : List ℕ). take h.first l) (c.in_ok-write_at.ensures.wrote t).here ∙ taken_front u h.first self.pool c.take.new.self place size m.1.pieces bytes before middle m.1.is.laid taken (c.in_ok-place.ensures.file.bytes t));
         notes = c.take.ensures.notes;
       };
+      beside = λ t.
+          let m = c.requires.may.held t in
+          beside_after place size 5 0 5 before middle after (omega arith) (few_taken u h.first self.pool c.take.new.self place size m.1.pieces before middle m.1.is.laid taken (c.in_ok-place.ensures.file.bytes t))
+          (beside_wrote place bytes middle after (inside t) (c.in_ok-write_at.ensures.wrote t).here);
       long = λ t.
           let m = c.requires.may.held t in
           let same = taken_same u h.first self.pool c.take.new.self place size m.1.pieces before middle self.unit_is c.requires.sized.aligned m.1.is.laid taken (c.in_ok-place.ensures.file.bytes t) in

@@ -8,6 +8,7 @@ use Rattle.hf_layout.specs.Frees.{Frees, none}
 use Rattle.hf_pool.specs.Pools.{frees, GoesBack}
 use Rattle.hf_tree.specs.Views.{with_key}
 use Rattle.hf_chain.specs.Chains.{Rehung}
+use Rattle.hf_chain.specs.Costs.{Paid}
 use Rattle.hf_record.specs.Holding.{HasMap}
 use Rattle.hf_record.specs.Moves.{IsWithin}
 use Rattle.hf_record.proofs.Differ.{edits_then}
@@ -18,12 +19,16 @@ use Rattle.hf_record.proofs.Spared.{leaves_first, leaves_links, leaves_then}
 use Rattle.hf_record.proofs.Valid.{is_data, is_valid}
 use Rattle.hf_record.proofs.body.Body.take_out.Goals as goal
 
-pub unhang-requires-clause-here : goal.unhang-requires-clause-here
-unhang-requires-clause-here g c = λ t.
+pub unhang-requires-clause-hangs : goal.unhang-requires-clause-hangs
+unhang-requires-clause-hangs g c =
     let self = c.args.self.now in
     let p = c.args.place.now in
-    let m = c.requires.may.held t in
-    may_unhang self.head self.pool.size (frees self.pool) m.0 c.args.key.now p.at c.args.room p.from (g.S.Space.now c.args.space.now self.file) (is_valid self.head self.valid) (c.requires.found.here t) m.1
+    record {
+      here = λ t.
+          let m = c.requires.may.held t in
+          may_unhang self.head self.pool.size (frees self.pool) m.0 c.args.key.now p.at c.args.room p.from (g.S.Space.now c.args.space.now self.file) (is_valid self.head self.valid) (c.requires.found.here t) m.1;
+      known = c.requires.found.known;
+    }
 
 pub give_back-requires : goal.give_back-requires
 give_back-requires g c =
@@ -93,10 +98,22 @@ pub returns-clause-pool : goal.returns-clause-pool
 returns-clause-pool g c = let gave = c.in_ok-give_back.ensures.given in record { size = gave.same_size; start = gave.given.start; total = gave.given.total; back = gave.given.back }
 
 pub returns-in_err-unhang-clause-full : goal.returns-in_err-unhang-clause-full
-returns-in_err-unhang-clause-full g c = λ full t.
+returns-in_err-unhang-clause-full g c = λ full.
     let self = c.args.self.now in
-    let i = c.in_err-unhang.ensures.full (err_handed c.from_residual.result c.in_err-unhang.field-0.0 _ c.from_residual.ensures.1 full) in
-    not_past g.S.Space g.met.S.Space.within self.file _ _ c.args.space.now c.unhang.new.space t c.requires.may.sound (is_data self.file self.data) (i.inside t) i.passes
+    let is = err_handed c.from_residual.result c.in_err-unhang.field-0.0 _ c.from_residual.ensures.1 full in
+    let (spoiled, i) = c.in_err-unhang.ensures.full is in (
+      spoiled,
+      λ t. not_past g.S.Space g.met.S.Space.within self.file _ _ c.args.space.now c.unhang.new.space t c.requires.may.sound (is_data self.file self.data) (i.inside t) i.passes,
+    )
+
+pub returns-in_err-give_back-clause-full : goal.returns-in_err-give_back-clause-full
+returns-in_err-give_back-clause-full g c = λ full. (c.in_err-give_back.ensures.outcome.err, c.in_err-give_back.ensures.full (err_handed c.from_residual-in_err-give_back.result c.in_err-give_back.field-0.0 _ c.from_residual-in_err-give_back.ensures.1 full))
+
+pub returns-clause-paid : goal.returns-clause-paid
+returns-clause-paid g c = subst (λ (n : ℕ). Paid 40 c.args.steps.now c.unhang.new.steps (g.S.Space.bytes_read c.args.space.now) n) (sym c.give_back.ensures.writes.counted) c.unhang.ensures.paid
+
+pub returns-in_err-give_back-clause-paid : goal.returns-in_err-give_back-clause-paid
+returns-in_err-give_back-clause-paid g c = subst (λ (n : ℕ). Paid 40 c.args.steps.now c.unhang.new.steps (g.S.Space.bytes_read c.args.space.now) n) (sym c.give_back.ensures.writes.counted) c.unhang.ensures.paid
 
 pub returns-in_err-unhang-clause-refused : goal.returns-in_err-unhang-clause-refused
 returns-in_err-unhang-clause-refused g c = on_err_any c.from_residual.result (⊎_elim (λ r. inr (r, refl)) (λ s. inl s) c.in_err-unhang.ensures.outcome.err)

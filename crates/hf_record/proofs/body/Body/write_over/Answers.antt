@@ -6,7 +6,7 @@ use Rattle.hf_layout.specs.Frees.{Frees, none}
 use Rattle.hf_layout.specs.Layout.{HasBlock, LaidOut}
 use Rattle.hf_pool.specs.Pools.{frees, GoesBack, notes_refl}
 use Rattle.hf_record.specs.Moves.{IsGiven, IsWithin, Replaced}
-use Rattle.hf_record.proofs.Differ.{edits_more, edits_then, edits_wrote}
+use Rattle.hf_record.proofs.Differ.{beside_more, beside_then, beside_wrote, edits_more, edits_then, edits_wrote}
 use Rattle.hf_record.proofs.Room.{not_past}
 use Rattle.hf_record.proofs.Spared.{leaves_first, length_over}
 use Rattle.hf_record.proofs.Valid.{is_data, is_valid}
@@ -53,6 +53,7 @@ returns-then-size-room-clause-over g c =
         front = λ t. (let k = c.requires.replaces t in leaves_first h before after (is_valid h self.valid) (over t k.pieces k.r k.is k.whole k.laid k.block k.unpooled).front);
         notes = notes_refl self.pool;
       };
+      beside = λ t. beside_more at size 0 5 before after (omega arith) (beside_wrote at bytes before after (omega (arith, inside t)) (c.in_ok-write_at.ensures.wrote t).here);
       long = λ t. ap length (c.in_ok-write_at.ensures.wrote t).here ∙ length_over at bytes before (omega (arith, inside t, (c.requires.replaces t).few));
     }
 
@@ -105,6 +106,7 @@ returns-clause-over g c =
         front = λ t. (let k = c.requires.replaces t in leaves_first h before after (is_valid h self.valid) (over t k.pieces k.r k.is k.whole k.laid k.block k.unpooled).front);
         notes = gave.notes;
       };
+      beside = λ t. beside_then at size 0 5 5 before (g.S.Space.now c.write_at.new.space self.file) after (omega arith) (beside_wrote at bytes before (g.S.Space.now c.write_at.new.space self.file) (omega (arith, inside t)) (c.in_ok-write_at.ensures.wrote t).here) (gave.edits.few t);
       long = λ t. gave.long t ∙ ap length (c.in_ok-write_at.ensures.wrote t).here ∙ length_over at bytes before (omega (arith, inside t, (c.requires.replaces t).few));
     }
 

@@ -3,7 +3,6 @@ use Rattle.hf_head.specs.declared.head.Head.{Head}
 use Rattle.hf_pool.specs.Pools.{frees}
 use Rattle.hf_record.proofs.Valid.{is_data}
 use Rattle.tc_hash.proofs.Cleared.{cleared, emptied, same_options, some_zeros, within_log}
-use Rattle.tc_hash.proofs.Created.{new_bytes}
 use Rattle.tc_hash.proofs.Kept.{reaches}
 use Rattle.tc_reach.proofs.Handed.{err_handed}
 use Rattle.tc_hash.proofs.hash.Hash.clear.Goals as goal
@@ -22,7 +21,7 @@ returns-clause-cleared g c =
     let self = c.args.self.now in
     let e = c.empty.ensures in
     let done = c.in_ok-write_anew.ensures in
-    emptied g.S.Space self c.empty.new.self c.head_anew-head.result c.in_ok-pool.pool (new_bytes c.head_anew-head.result) c.args.space.now c.write_anew.new.space e.body.0 e.body.1 e.body.2 e.numbers.0 e.numbers.1 c.in_ok-pool.ensures.noted done.outcome.ok done.wrote
+    emptied g.S.Space self c.empty.new.self c.head_anew-head.result c.in_ok-pool.pool c.args.space.now c.write_anew.new.space e.body.0 e.body.1 e.body.2 e.numbers.0 e.numbers.1 c.in_ok-pool.ensures.noted done.outcome.ok done.spells.0 done.spells.1 done.wrote
     (λ t. cleared self.body.head c.head_anew-head.result c.in_ok-pool.pool (g.S.Space.now c.write_anew.new.space self.body.file) self.body.valid c.head_anew-head.ensures.new c.in_ok-pool.ensures.unit c.in_ok-pool.ensures.size c.in_ok-pool.ensures.none c.in_ok-pool.ensures.laid done.spells.0 done.spells.1 (done.wrote t).here)
 
 pub returns-clause-shape : goal.returns-clause-shape
@@ -44,3 +43,8 @@ returns-in_err-write_anew-clause-full g c = λ full t.
     within_log g.S.Space g.met.S.Space.within self.body.file c.head_anew-head.result.first c.args.space.now t c.requires.sound (is_data self.body.file self.body.data)
     (omega (arith, c.head_anew-head.ensures.low, reaches self.body.head self.body.pool.size self.records (frees self.body.pool) w.0 (g.S.Space.now c.args.space.now self.body.file) w.1.1.map))
     (c.in_err-write_anew.ensures.full (err_handed c.from_residual-in_err-write_anew.result c.in_err-write_anew.field-0.0 _ c.from_residual-in_err-write_anew.ensures.1 full) t)
+
+pub returns-clause-stays : goal.returns-clause-stays
+returns-clause-stays g c =
+    let e = c.empty.ensures in
+    record { file = e.body.0; sort_same = ap (λ (h : Head). h.kind) e.body.1 ∙ c.head_anew-head.ensures.new.kind_is; region_same = e.stays.0; gets_same = e.stays.1 }

@@ -1,7 +1,8 @@
-use Rattle.std.proofs.Common.{◌∙◌, inl, inr, ⊎_elim, ℕ, List, arith}
+use Rattle.std.proofs.Common.{◌∙◌, inl, inr, ⊎_elim, ℕ, List, sym, ap, arith}
 use Rattle.hf_record.proofs.Valid.{is_valid}
 use Rattle.std.specs.FinMap.{empty}
-use Rattle.tc_hash.proofs.Cleared.{some_zeros}
+use Rattle.tc_hash.specs.Creating.{new_bytes}
+use Rattle.tc_hash.proofs.Cleared.{numbers_anew, some_zeros}
 use Rattle.tc_hash.proofs.Created.{brought_same, create_brought, create_head, new_fields}
 use Rattle.tc_hash.proofs.Fronted.{anew_as}
 use Rattle.tc_reach.proofs.Handed.{err_handed}
@@ -30,8 +31,9 @@ returns-clause-created g c =
       sound = wrote.outcome.ok;
       others = record { same = λ t f other. (wrote.wrote t).others f other };
       brought = λ t. brought_same h r.body.head p r.body.pool h.records r.records h.opaque r.region empty bytes e.body.1 e.body.2 e.rest.0 e.rest.1 (brought t);
-      held = λ t. anew_as r h p h.records bytes empty e.body.1 e.body.2 e.rest.0 e.rest.2 c.in_ok-pool.ensures.noted (brought t).holds;
+      held = λ t. anew_as r h p h.records bytes empty e.body.1 e.body.2 e.rest.0 e.rest.2 c.in_ok-pool.ensures.noted (brought t).holds (numbers_anew h bytes wrote.spells.0 wrote.spells.1 (wrote.wrote t).here);
       head = λ t. create_head h r.body.head bytes e.body.1 wrote.spells.0 wrote.spells.1 (wrote.wrote t).here;
+      made = λ t. (wrote.wrote t).here ∙ ap new_bytes (sym e.body.1);
     }
 
 pub returns-in_err-write_new-clause-full : goal.returns-in_err-write_new-clause-full

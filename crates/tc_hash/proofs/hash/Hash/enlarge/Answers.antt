@@ -1,5 +1,5 @@
-use Rattle.std.proofs.Common.{◌∙◌, inr, ℕ, List, refl, subst}
-use Rattle.tc_hash.proofs.Enlarged.{full_reads, in_before, packed_after, pairs_make}
+use Rattle.std.proofs.Common.{◌∙◌, inl, inr, ⊎_elim, ℕ, List, subst}
+use Rattle.tc_hash.proofs.Enlarged.{in_before, large_before, packed_after}
 use Rattle.tc_hash.proofs.Records.{can_change, looks_again, refuses_after, still_ready, turns_after}
 use Rattle.tc_hash.proofs.Stored.{from_done, from_refused}
 use Rattle.tc_hash.specs.Keeping.{Means}
@@ -21,7 +21,7 @@ write_large-requires-clause-pairs g c = λ m w.
     let old = in_before g.S.Space c.args.self.now v c.args.space.now c.pairs_of.new.space m c.keys.ensures.same (λ t f. c.pairs_of.ensures.reads.files t f ∙ c.keys.ensures.reads.now t f) w in
     let now = c.keys.ensures.reads.means m old in
     let are = subst (λ (ks : List (List ℕ)). ArePairs m ks c.in_ok-pairs.pairs) (c.in_ok-keys.ensures.value m old) (c.in_ok-pairs.ensures.pairs w.0 m now.1.map.has) in
-    (are.each, pairs_make m c.in_ok-pairs.pairs are)
+    are
 
 pub returns-clause-packed : goal.returns-clause-packed
 returns-clause-packed g c = from_done _ c.write_large.ensures.packed (λ packed. packed_after g.S.Space c.args.self.now c.keys.new.self c.write_large.new.self c.args.space.now c.keys.new.space c.write_large.new.space c.keys.ensures.reads c.keys.ensures.stays.map.file
@@ -32,9 +32,10 @@ returns-clause-refused g c = from_refused _ c.write_large.ensures.refused (λ re
     (refuses_after g.S.Space c.keys.new.self c.write_large.new.self c.keys.new.space c.pairs_of.new.space c.write_large.new.space c.pairs_of.ensures.reads refused))
 
 pub returns-clause-full : goal.returns-clause-full
-returns-clause-full g c = λ full.
-    full_reads g.S.Space c.args.self.now c.keys.new.self c.args.space.now c.keys.new.space c.write_large.new.space c.keys.ensures.reads c.keys.ensures.same
-    (full_reads g.S.Space c.keys.new.self c.keys.new.self c.keys.new.space c.pairs_of.new.space c.write_large.new.space (looks_again g.S.Space c.keys.new.self c.keys.new.space c.pairs_of.new.space c.pairs_of.ensures.reads) refl (c.write_large.ensures.full full))
+returns-clause-full g c = λ full t. ⊎_elim
+    (λ log. inl log)
+    (λ large. inr (large_before g.S.Space c.args.self.now c.keys.new.self c.args.space.now c.pairs_of.new.space c.write_large.new.space c.keys.ensures.same (λ u f. c.pairs_of.ensures.reads.files u f ∙ c.keys.ensures.reads.now u f) large))
+    (c.write_large.ensures.full full t)
 
 pub returns-in_err-keys-clause-refused : goal.returns-in_err-keys-clause-refused
 returns-in_err-keys-clause-refused g c = on_err_any c.from_residual.result (inr c.keys.ensures.reads)

@@ -8,10 +8,13 @@ pub hang_new-requires-clause-may : goal.hang_new-requires-clause-may
 hang_new-requires-clause-may g c = can_change g.S.Space c.args.self.now c.args.space.now c.requires.ready
 
 pub returns-clause-put : goal.returns-clause-put
-returns-clause-put g c = gives_new g.S.Space c.args.key.now c.args.value.now c.args.to.now c.args.self.now _ c.args.space.now c.hang_new.new.space c.hang_new.ensures.stays refl refl c.requires.gap c.in_ok-hang_new.ensures.put
-
-pub returns-clause-takes : goal.returns-clause-takes
-returns-clause-takes g c = let p = c.in_ok-hang_new.ensures.put in (p.place, p.takes)
+returns-clause-put g c =
+    let p = c.in_ok-hang_new.ensures.put in
+    record {
+      gives = gives_new g.S.Space c.args.key.now c.args.value.now c.args.to.now c.args.self.now _ c.args.space.now c.hang_new.new.space c.hang_new.ensures.stays refl refl c.requires.gap p;
+      place = p.place;
+      takes = p.takes;
+    }
 
 pub returns-clause-outcome : goal.returns-clause-outcome
 returns-clause-outcome g c = record { ok = c.in_ok-hang_new.ensures.put.puts.sound; err = tt }

@@ -1,7 +1,8 @@
+use Rattle.std.proofs.Common.{arith}
+use Rattle.hf_chain.proofs.Paying.{paid_none, paid_then}
 use Rattle.hf_record.proofs.Searched.{gap_so}
-use Rattle.tc_base.specs.declared.kind.Mode.TheVariants.{Over}
 use Rattle.tc_hash.proofs.Records.{can_change, still_ready}
-use Rattle.tc_hash.proofs.Stored.{from_done, gives_after}
+use Rattle.tc_hash.proofs.Stored.{from_done, new_after}
 use Rattle.tc_hash.proofs.hash.Hash.insert_absent.Goals as goal
 
 pub search-requires : goal.search-requires
@@ -14,4 +15,13 @@ pub insert-requires-clause-gap : goal.insert-requires-clause-gap
 insert-requires-clause-gap g c = gap_so g.S.Space c.args.self.now.body c.args.key.now c.search.new.space _ _ c.in-Ok-Gap.field-0-is c.in-Ok-Gap.ensures.ends
 
 pub returns-in-Ok-Gap-clause-put : goal.returns-in-Ok-Gap-clause-put
-returns-in-Ok-Gap-clause-put g c = from_done _ c.insert.ensures.put (λ given. gives_after g.S.Space Over c.args.key.now c.args.value.now 13 c.args.self.now c.insert.new.self c.args.space.now c.search.new.space c.insert.new.space c.search.ensures.reads given)
+returns-in-Ok-Gap-clause-put g c = from_done _ c.insert.ensures.put (λ given. new_after g.S.Space c.args.key.now c.args.value.now c.args.self.now c.insert.new.self c.args.space.now c.search.new.space c.insert.new.space c.search.ensures.reads given)
+
+pub returns-in-Ok-Gap-clause-paid : goal.returns-in-Ok-Gap-clause-paid
+returns-in-Ok-Gap-clause-paid g c = paid_then _ _ _ _ _ _ _ c.search.ensures.paid (paid_none _ _ _ _ (omega (arith, c.insert.ensures.counted)))
+
+pub returns-in-Ok-Here-clause-paid : goal.returns-in-Ok-Here-clause-paid
+returns-in-Ok-Here-clause-paid g c = paid_then _ _ _ _ _ _ _ c.search.ensures.paid (paid_none _ _ _ _ (omega (arith, c.give_up.ensures.writes.counted)))
+
+pub returns-in-Err-clause-paid : goal.returns-in-Err-clause-paid
+returns-in-Err-clause-paid g c = paid_then _ _ _ _ _ _ _ c.search.ensures.paid (paid_none _ _ _ _ (omega (arith, c.give_up-in-Err.ensures.writes.counted)))

@@ -1,5 +1,5 @@
 use Rattle.std.proofs.Common.{ℕ, List, refl, arith}
-use Rattle.tc_hash.proofs.Fronted.{anew_as}
+use Rattle.tc_hash.proofs.Fronted.{anew_as, numbers_left}
 use Rattle.tc_hash.proofs.KeysRead.{can_list}
 use Rattle.tc_hash.proofs.Packed.{packed_holds}
 use Rattle.tc_hash.proofs.Records.{from_looks}
@@ -19,7 +19,8 @@ returns-in-Ok-clause-packed g c =
       sound = done.done.0;
       means = λ m w. (
         w.0,
-        anew_as _ self.body.head c.in-Ok.pool self.records new m refl refl refl refl c.in-Ok.ensures.noted (packed_holds self.body.head c.head_now-head.result self.body.pool c.in-Ok.pool self.records self.region m old new c.in_ok-end.end c.head_now-head.ensures (done.packed w.0) c.in-Ok.ensures.size c.in-Ok.ensures.nothing w.1.map),
+        anew_as _ self.body.head c.in-Ok.pool self.records new m refl refl refl refl c.in-Ok.ensures.noted
+            (packed_holds self.body.head c.head_now-head.result self.body.pool c.in-Ok.pool self.records self.region m old new c.in_ok-end.end c.head_now-head.ensures (done.packed w.0) c.in-Ok.ensures.size c.in-Ok.ensures.nothing w.1.map) (numbers_left self.body.head old new (done.head w.0) w.1.numbers),
       );
       others = done.done.1;
     }

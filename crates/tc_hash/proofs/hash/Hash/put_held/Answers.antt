@@ -1,4 +1,9 @@
-use Rattle.std.proofs.Common.{◌≡◌, ◌∙◌, sym, subst, arith}
+use Rattle.std.proofs.Common.{◌≡◌, ◌∙◌, ◌+◌, sym, subst, arith, length, Some}
+use Rattle.hf_chain.proofs.Paying.{paid_none}
+use Rattle.hf_chain.specs.Costs.{Paid, step_most}
+use Rattle.hf_record.proofs.Paying.{paid_within}
+use Rattle.tc_hash.specs.declared.put.Put.TheVariants as put
+use Rattle.tc_hash.specs.Putting.{joined_to}
 use Rattle.std.specs.FinMap.{get}
 use Rattle.tc_base.specs.declared.kind.Mode.{Mode}
 use Rattle.tc_base.specs.declared.kind.Mode.TheVariants.{Cat, Keep, Over}
@@ -24,3 +29,18 @@ returns-then-not-fits-clause-put g c = past_held g.S.Space c.args.mode c.args.ke
 
 pub returns-in_ok-join-in-Cat-clause-put : goal.returns-in_ok-join-in-Cat-clause-put
 returns-in_ok-join-in-Cat-clause-put g c = stores_held g.S.Space c.args.mode c.args.key.now c.args.value.now c.args.most c.args.self.now c.join.new.self c.args.space.now c.join.new.space c.args.place.now c.requires.found c.requires.ready.sound (λ keep. let e : Keep ≡ Cat = sym keep ∙ c.in-Cat.is in cc) (λ m w. omega (arith, joined_long c.args.mode c.args.place.now.rec.value (get m c.args.key.now) c.args.value.now c.in-Cat.is (was_len g.S.Space c.args.mode c.args.key.now c.args.value.now c.args.most c.args.self.now c.args.self.now c.args.space.now c.args.space.now c.args.place.now c.requires.found c.requires.ready.sound m w), c.fits.ensures.0 c.if-not-fits.false)) (subst (λ (x : Mode). GivesValue g.S.Space x c.args.key.now c.args.value.now 34 c.args.self.now c.join.new.self c.args.space.now c.join.new.space) (sym c.in-Cat.is) c.in_ok-join-in-Cat.ensures.put)
+
+pub returns-in-Keep-clause-paid : goal.returns-in-Keep-clause-paid
+returns-in-Keep-clause-paid g c = paid_none _ _ _ _ (omega arith)
+
+pub returns-then-value-most-clause-paid : goal.returns-then-value-most-clause-paid
+returns-then-value-most-clause-paid g c = paid_none _ _ _ _ (omega arith)
+
+pub returns-then-not-fits-clause-paid : goal.returns-then-not-fits-clause-paid
+returns-then-not-fits-clause-paid g c = paid_none _ _ _ _ (omega arith)
+
+pub returns-in_ok-replace-in-Over-clause-paid : goal.returns-in_ok-replace-in-Over-clause-paid
+returns-in_ok-replace-in-Over-clause-paid g c = paid_within _ _ _ _ _ _ c.replace.ensures.paid
+
+pub returns-in_ok-join-in-Cat-clause-paid : goal.returns-in_ok-join-in-Cat-clause-paid
+returns-in_ok-join-in-Cat-clause-paid g c = subst (λ (mode : Mode). Paid (step_most (length c.args.key.now)) c.args.steps.now c.join.new.steps (g.S.Space.bytes_read c.args.space.now + joined_to mode (put.Stored (Some c.args.place.now.rec.value))) (g.S.Space.bytes_read c.join.new.space)) (sym c.in-Cat.is) c.join.ensures.paid

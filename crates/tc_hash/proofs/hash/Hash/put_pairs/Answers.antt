@@ -1,4 +1,5 @@
-use Rattle.tc_hash.proofs.Enlarged.{in_all, lacks_end, put_more, still_nothing}
+use Rattle.std.proofs.Common.{inl, inr, ⊎_elim, suc, take, drop}
+use Rattle.tc_hash.proofs.Enlarged.{ends_behind, ends_more, lacks_end, parted_at, put_more, still_nothing}
 use Rattle.tc_hash.proofs.Stored.{stays_then}
 use Rattle.tc_hash.specs.Keeping.{Means, file_of}
 use Rattle.tc_reach.proofs.Handed.{err_handed}
@@ -10,16 +11,22 @@ pub insert_absent-requires : goal.insert_absent-requires
 insert_absent-requires g c = record { ready = ready_writes g.S.Space (Means g.S.Space) (Only (file_of c.args.self.now)) _ c.args.self.now c.loop-i.self c.args.space.now c.loop-i.space c.loop-i.invariant.writes c.requires.ready }
 
 pub returns-in_err-insert_absent-clause-full : goal.returns-in_err-insert_absent-clause-full
-returns-in_err-insert_absent-clause-full g c = λ full t. record {
-  pair = c.at-pair.result.now;
-  there = λ m all. in_all m c.args.pairs.now c.loop-i.i c.at-pair.result.now c.at-pair.ensures all;
-  lacks = lacks_end g.S.Space c.args.self.now c.loop-i.self c.insert_absent.new.space _ _ _ _ c.as_slice.ensures c.as_slice-in-loop-i.ensures c.loop-i.invariant.stays c.loop-i.invariant.nothing (c.in_err-insert_absent.ensures.full (err_handed c.from_residual.result c.in_err-insert_absent.field-0.0 _ c.from_residual.ensures.1 full) t);
-}
+returns-in_err-insert_absent-clause-full g c = λ full t. ⊎_elim
+    (λ log. inl log)
+    (λ lacks. inr (record {
+      before = take c.loop-i.i c.args.pairs.now;
+      pair = c.at-pair.result.now;
+      after = drop (suc c.loop-i.i) c.args.pairs.now;
+      are = parted_at c.loop-i.i c.args.pairs.now c.at-pair.result.now c.at-pair.ensures;
+      lacks = lacks;
+    }))
+    (lacks_end g.S.Space c.args.self.now c.loop-i.self c.insert_absent.new.space _ _ _ _ _ c.as_slice.ensures c.as_slice-in-loop-i.ensures c.loop-i.invariant.stays c.loop-i.invariant.nothing c.loop-i.invariant.ends (c.in_err-insert_absent.ensures.full (err_handed c.from_residual.result c.in_err-insert_absent.field-0.0 _ c.from_residual.ensures.1 full) t))
 
 pub loop-i-preserved : goal.loop-i-preserved
 loop-i-preserved g c = record {
-  writes = put_more g.S.Space c.args.self.now c.loop-i.self c.insert_absent.new.self c.args.space.now c.loop-i.space c.insert_absent.new.space c.args.pairs.now c.loop-i.i c.at-pair.result.now _ _ c.as_slice.ensures c.as_slice-in-loop-i.ensures c.at-pair.ensures c.loop-i.invariant.stays c.loop-i.invariant.writes c.in_ok-insert_absent.ensures.put;
-  nothing = still_nothing _ c.in_ok-insert_absent.ensures.takes.0 c.loop-i.self.body.pool c.insert_absent.new.self.body.pool c.in_ok-insert_absent.ensures.takes.1 c.loop-i.invariant.nothing;
+  writes = put_more g.S.Space c.args.self.now c.loop-i.self c.insert_absent.new.self c.args.space.now c.loop-i.space c.insert_absent.new.space c.args.pairs.now c.loop-i.i c.at-pair.result.now _ _ c.as_slice.ensures c.as_slice-in-loop-i.ensures c.at-pair.ensures c.loop-i.invariant.stays c.loop-i.invariant.writes c.in_ok-insert_absent.ensures.put.gives;
+  nothing = still_nothing _ c.in_ok-insert_absent.ensures.put.place c.loop-i.self.body.pool c.insert_absent.new.self.body.pool c.in_ok-insert_absent.ensures.put.takes c.loop-i.invariant.nothing;
+  ends = ends_more g.S.Space c.args.self.now c.loop-i.self c.insert_absent.new.self c.args.pairs.now c.loop-i.i c.at-pair.result.now _ _ c.as_slice.ensures c.as_slice-in-loop-i.ensures c.at-pair.ensures c.loop-i.invariant.stays (ends_behind _ c.in_ok-insert_absent.ensures.put.place c.loop-i.self.body.pool c.insert_absent.new.self.body.pool c.in_ok-insert_absent.ensures.put.takes c.loop-i.invariant.nothing) c.loop-i.invariant.ends;
   keeps = keeps_then g.S.Space c.args.space.now c.loop-i.space c.insert_absent.new.space c.loop-i.invariant.keeps c.insert_absent.ensures.keeps;
   stays = stays_then c.args.self.now c.loop-i.self c.insert_absent.new.self c.loop-i.invariant.stays c.insert_absent.ensures.stays;
 }

@@ -1,5 +1,4 @@
 use Rattle.std.proofs.Common.{sym, subst}
-use Rattle.tc_hash.proofs.Stored.{log_by}
 use Rattle.tc_hash.specs.Keeping.{Means, file_of}
 use Rattle.tc_reach.proofs.Handed.{err_handed}
 use Rattle.tc_space.specs.Changes.{is_in, out_of}
@@ -10,4 +9,4 @@ pub returns-clause-out : goal.returns-clause-out
 returns-clause-out g c = subst (λ b. TakesOut g.S.Space (Only (file_of c.args.self.now)) (Means g.S.Space) (is_in c.args.key.now) (out_of c.args.key.now) b c.args.self.now c.out.new.self c.args.space.now c.out.new.space) (sym c.is_some.ensures) c.in_ok-out.ensures.out.out
 
 pub returns-in_err-out-clause-full : goal.returns-in_err-out-clause-full
-returns-in_err-out-clause-full g c = λ full. log_by g.S.Space (out_of c.args.key.now) c.args.self.now c.args.space.now c.out.new.space (c.in_err-out.ensures.full (err_handed c.from_residual.result c.in_err-out.field-0.0 _ c.from_residual.ensures.1 full))
+returns-in_err-out-clause-full g c = λ full. (c.in_err-out.ensures.full (err_handed c.from_residual.result c.in_err-out.field-0.0 _ c.from_residual.ensures.1 full)).1

@@ -1,5 +1,6 @@
-use Rattle.tc_hash.proofs.Packed.{full_any}
+use Rattle.tc_hash.proofs.Stored.{from_done}
+use Rattle.tc_hash.proofs.Tight.{tight_of}
 use Rattle.tc_hash.proofs.mapping.HashRecords.pack.Goals as goal
 
-pub returns-clause-full : goal.returns-clause-full
-returns-clause-full g c = λ full. full_any g.S.Space c.args.self.now c.args.form c.args.space.now c.pack.new.space (c.pack.ensures.full full)
+pub returns-clause-tight : goal.returns-clause-tight
+returns-clause-tight g c = from_done _ c.pack.ensures.packs (λ packs. tight_of c.args.form c.args.self.now c.pack.new.self packs)
