@@ -8,8 +8,9 @@ use Rattle.lru.specs.LruCache.{lru_cache, IsValid, put_entries}
 use Rattle.tc_base.specs.Maps.{Map}
 use Rattle.tc_base.specs.declared.kind.Mode.TheVariants.{Over}
 use Rattle.tc_space.specs.Changes.{is_in, out_of, put_in, value_in}
-use Rattle.tc_space.specs.Frames.{In, Reads, Writes, Refuses}
+use Rattle.tc_space.specs.Frames.{Reads, Writes, Refuses}
 use Rattle.tc_space.specs.Stores.{Puts, TakesOut}
+use Rattle.tc_space.specs.declared.records.Records.{Ghosts as Stores}
 use Rattle.tc_space.specs.declared.space.Space.{Ghosts}
 use Rattle.bt_page.specs.Keys.{key_of}
 use Rattle.bt_rows.specs.declared.page.Page.{Page}
@@ -17,7 +18,7 @@ use Rattle.bt_rows.specs.Pages.{IsPage, IsHeldAs}
 use Rattle.bt_cache.specs.declared.shared.SharedPage.{SharedPage}
 use Rattle.bt_cache.specs.Shared.{page_of}
 use Rattle.bt_cache.specs.Ids.{used, without}
-use Rattle.bt_cache.specs.Held.{Pages, ids, HasPage, AreSame, Beside}
+use Rattle.bt_cache.specs.Held.{Pages, ids, HasPage, AreSame, Beside, Holds}
 use Rattle.bt_cache.proofs.Entries.{Fronts, put_front, removed_others, removed_keys, all_left}
 use Rattle.bt_cache.proofs.Kept.{insert_here, insert_other, remove_other, remove_none, others_same}
 
@@ -46,11 +47,11 @@ absent m k e = go (get m k) e
     go None e = refl
     go (Some v) e = cc
 
-module _ {S V : Type 0} (s : Ghosts S) (file_of : V → ℕ) (holds : V → List ℕ → Map → Type 0) where
+module _ {S V : Type 0} (s : Ghosts S) (R : Stores V S) where
   pub put_writes : (own : ℕ → Type 0) (c c' : Pages) (id : ℕ) (x : SharedPage) (key bytes : List ℕ) (v v' : V) (a b : S) → id < 2 ^ 64 → key ≡ key_of id → IsPage id bytes (page_of x) → IsValid nat_eq c → c' ≡ lru_cache (put_entries nat_eq c id x) c.cap
-      → Puts s own (In s file_of holds) Over (value_in key) (put_in Over key bytes) v v' a b → Writes s own (Beside s file_of holds) (put_in Over (key_of id) bytes) (c, v) (c', v') a b
+      → Puts s own (Holds s R) Over (value_in key) (put_in Over key bytes) v v' a b → Writes s own (Beside s R) (put_in Over (key_of id) bytes) (c, v) (c', v') a b
   put_writes own c c' id x key bytes v v' a b fits is page valid new p =
-      let w : Writes s own (In s file_of holds) (put_in Over (key_of id) bytes) v v' a b = subst (λ (k : List ℕ). Writes s own (In s file_of holds) (put_in Over k bytes) v v' a b) is p.writes in
+      let w : Writes s own (Holds s R) (put_in Over (key_of id) bytes) v v' a b = subst (λ (k : List ℕ). Writes s own (Holds s R) (put_in Over k bytes) v v' a b) is p.writes in
       record {
         sound = w.sound;
         means = λ m h. (w.means m h.0, subst (λ (j : Pages). AreSame (insert m (key_of id) bytes) j.entries) (sym new) (fronts_put m c id x bytes (put_entries nat_eq c id x) fits page (put_front c id x valid) h.1));
@@ -58,8 +59,8 @@ module _ {S V : Type 0} (s : Ghosts S) (file_of : V → ℕ) (holds : V → List
       }
 
   pub put_refused : (c k c' : Pages) (id : ℕ) (x : SharedPage) (v v' : V) (a b : S) → IsValid nat_eq c → k ≡ lru_cache (put_entries nat_eq c id x) c.cap → c' ≡ lru_cache (remove_entry (nat_eq id) k.entries) k.cap
-      → Refuses s (In s file_of holds) v v' a b → Refuses s (Beside s file_of holds) (c, v) (c', v') a b
-  put_refused c k c' id x v v' a b valid put out r = ⊎_elim (λ spoiled. inl spoiled) (λ (reads : Reads s (In s file_of holds) v v' a b). inr (record {
+      → Refuses s (Holds s R) v v' a b → Refuses s (Beside s R) (c, v) (c', v') a b
+  put_refused c k c' id x v v' a b valid put out r = ⊎_elim (λ spoiled. inl spoiled) (λ (reads : Reads s (Holds s R) v v' a b). inr (record {
     now = reads.now;
     touched = reads.touched;
     sound = reads.sound;
@@ -73,20 +74,20 @@ module _ {S V : Type 0} (s : Ghosts S) (file_of : V → ℕ) (holds : V → List
       left = ap (λ (j : Pages). j.entries) out ∙ ap (λ (j : Pages). remove_entry (nat_eq id) j.entries) put ∙ taken_back id x (put_entries nat_eq c id x) front.rest front.is
 
   pub drop_writes : (own : ℕ → Type 0) (c c' : Pages) (id : ℕ) (key : List ℕ) (taken : Bool) (v v' : V) (a b : S) → id < 2 ^ 64 → key ≡ key_of id → IsValid nat_eq c → c' ≡ lru_cache (remove_entry (nat_eq id) c.entries) c.cap
-      → TakesOut s own (In s file_of holds) (is_in key) (out_of key) taken v v' a b → Writes s own (Beside s file_of holds) (out_of (key_of id)) (c, v) (c', v') a b
-  drop_writes own c c' id key taken v v' a b fits is valid new t = go taken (subst (λ (k : List ℕ). TakesOut s own (In s file_of holds) (is_in k) (out_of k) taken v v' a b) is t)
+      → TakesOut s own (Holds s R) (is_in key) (out_of key) taken v v' a b → Writes s own (Beside s R) (out_of (key_of id)) (c, v) (c', v') a b
+  drop_writes own c c' id key taken v v' a b fits is valid new t = go taken (subst (λ (k : List ℕ). TakesOut s own (Holds s R) (is_in k) (out_of k) taken v v' a b) is t)
     where
       left : (m : Map) → AreSame m c.entries → AreSame (remove m (key_of id)) c'.entries
       left m h =
           subst (λ (j : Pages). AreSame (remove m (key_of id)) j.entries) (sym new)
           (others_same m (remove m (key_of id)) id (remove_entry (nat_eq id) c.entries) fits (λ k ne. remove_other m (key_of id) k ne) (removed_others id c.entries valid.0) (all_left (λ e. HasPage m e.0 (page_of e.1)) id c.entries h))
 
-      go : (taken : Bool) → TakesOut s own (In s file_of holds) (is_in (key_of id)) (out_of (key_of id)) taken v v' a b → Writes s own (Beside s file_of holds) (out_of (key_of id)) (c, v) (c', v') a b
+      go : (taken : Bool) → TakesOut s own (Holds s R) (is_in (key_of id)) (out_of (key_of id)) taken v v' a b → Writes s own (Beside s R) (out_of (key_of id)) (c, v) (c', v') a b
       go true t = let w = t.out refl in record { sound = w.sound; means = λ m h. (w.means m h.0, left m h.1); others = w.others }
       go false t =
           let r = t.none refl in
           record {
             sound = r.sound;
-            means = λ m h. (subst (λ (n : Map). In s file_of holds v' b n) (sym (remove_none m (key_of id) (absent m (key_of id) (t.held m h.0)))) (r.means m h.0), left m h.1);
+            means = λ m h. (subst (λ (n : Map). Holds s R v' b n) (sym (remove_none m (key_of id) (absent m (key_of id) (t.held m h.0)))) (r.means m h.0), left m h.1);
             others = record { same = λ told g other. r.now told g };
           }

@@ -4,14 +4,16 @@ use Rattle.std.specs.Prelude.{is_some, min, slice_get}
 use Rattle.std.specs.Map.{lookup, lookup_entry, remove_entry}
 use Rattle.lru.specs.LruCache.{lru_cache, IsValid, promoted, put_entries}
 use Rattle.tc_base.specs.Maps.{Map}
-use Rattle.tc_space.specs.Frames.{In, Reads}
+use Rattle.tc_space.specs.Frames.{Reads}
 use Rattle.tc_space.specs.Stores.{IsReady}
+use Rattle.tc_space.specs.declared.records.Records.{Ghosts as Stores}
 use Rattle.tc_space.specs.declared.space.Space.{Ghosts}
 use Rattle.bt_rows.specs.declared.page.Page.{Page}
 use Rattle.bt_cache.specs.declared.shared.SharedPage.{SharedPage}
 use Rattle.bt_cache.specs.Shared.{page_of, IsAny}
 use Rattle.bt_cache.specs.Ids.{has, used}
-use Rattle.bt_cache.specs.Held.{Pages, ids, HasPage, AreSame, Beside, IsThere}
+use Rattle.bt_cache.specs.declared.cache.Cache.{Cache}
+use Rattle.bt_cache.specs.Held.{Pages, ids, HasPage, AreSame, Beside, Holds}
 use Rattle.bt_cache.specs.Effects.{AsksOnce, CountsPage, unless}
 use Rattle.bt_cache.proofs.Entries.{Fronts, Promotes, all_left, looked_up, promotes, put_front, has_found, found_is}
 use Rattle.bt_cache.proofs.Kept.{one_page}
@@ -37,8 +39,8 @@ module _ (c c' : Pages) (id : ℕ) (held : Bool) (valid : IsValid nat_eq c) (tes
   pub hit_first : held ≡ true → (rest : List ℕ) × (ids c' ≡ id ∷ rest)
   hit_first t = let p = is_promoted t in fronts_first c id p.value (promoted (nat_eq id) c.entries) c' new p.fronts
 
-  pub hit_reads : {S V : Type 0} (s : Ghosts S) (file_of : V → ℕ) (holds : V → List ℕ → Map → Type 0) (v : V) (a : S) → held ≡ true → s.sound a → Reads s (Beside s file_of holds) (c, v) (c', v) a a
-  hit_reads s file_of holds v a t sound = let p = is_promoted t in record {
+  pub hit_reads : {S V : Type 0} (s : Ghosts S) (R : Stores V S) (v : V) (a : S) → held ≡ true → s.sound a → Reads s (Beside s R) (c, v) (c', v) a a
+  hit_reads s R v a t sound = let p = is_promoted t in record {
     now = λ _ g. refl;
     touched = refl;
     sound = sound;
@@ -54,15 +56,15 @@ module _ (c c' : Pages) (id : ℕ) (held : Bool) (valid : IsValid nat_eq c) (tes
 
 -- ---- one that is read
 
-module _ {S V : Type 0} (s : Ghosts S) (file_of : V → ℕ) (holds : V → List ℕ → Map → Type 0) where
-  pub ready_store : (c : Pages) (v : V) (a : S) → IsReady s (Beside s file_of holds) (c, v) a → IsReady s (In s file_of holds) v a
+module _ {S V : Type 0} (s : Ghosts S) (R : Stores V S) where
+  pub ready_store : (c : Pages) (v : V) (a : S) → IsReady s (Beside s R) (c, v) a → IsReady s (Holds s R) v a
   ready_store c v a r = record { sound = r.sound; held = λ t. let h = r.held t in (h.0, h.1.0) }
 
-  pub same_reads : (c c' : Pages) (v v' : V) (a b : S) → c' ≡ c → Reads s (In s file_of holds) v v' a b → Reads s (Beside s file_of holds) (c, v) (c', v') a b
+  pub same_reads : (c c' : Pages) (v v' : V) (a b : S) → c' ≡ c → Reads s (Holds s R) v v' a b → Reads s (Beside s R) (c, v) (c', v') a b
   same_reads c c' v v' a b e r = record { now = r.now; touched = r.touched; sound = r.sound; means = λ m h. (r.means m h.0, subst (λ (k : Pages). AreSame m k.entries) (sym e) h.1) }
 
-  pub miss_reads : (c k c' : Pages) (id : ℕ) (x : SharedPage) (v v' : V) (a b : S) → k ≡ c → IsValid nat_eq c → c' ≡ lru_cache (put_entries nat_eq k id x) k.cap → Reads s (In s file_of holds) v v' a b
-      → ((m n : Map) (p : Page) → In s file_of holds v a m → In s file_of holds v a n → HasPage m id p → (page_of x ≡ p) × HasPage n id p) → IsThere s (Beside s file_of holds) IsAny id (c, v) a → Reads s (Beside s file_of holds) (c, v) (c', v') a b
+  pub miss_reads : (c k c' : Pages) (id : ℕ) (x : SharedPage) (v v' : V) (a b : S) → k ≡ c → IsValid nat_eq c → c' ≡ lru_cache (put_entries nat_eq k id x) k.cap → Reads s (Holds s R) v v' a b
+      → ((m n : Map) (p : Page) → Holds s R v a m → Holds s R v a n → HasPage m id p → (page_of x ≡ p) × HasPage n id p) → (s.tells → (m : Map) × (p : Page) × Beside s R (c, v) a m × HasPage m id p × IsAny p) → Reads s (Beside s R) (c, v) (c', v') a b
   miss_reads c k c' id x v v' a b same valid new r found there = record {
     now = r.now;
     touched = r.touched;
@@ -82,23 +84,21 @@ miss_first c k c' id x same valid new = fronts_first c id x (put_entries nat_eq 
 
 -- ---- counts
 
-module _ {V : Type 0} (file_of : V → ℕ) (region : V → List ℕ) (gets : V → ℕ) where
-  pub counts_hit : (b : Bool) (v : V) (n : ℕ) → b ≡ true → CountsPage file_of region gets b v v n n
-  counts_hit b v n t = record { file = refl; region_same = refl; counted = sym (ap (λ (d : Bool). unless d n) t); asked = inl refl }
-
-  pub counts_miss : (b : Bool) (v v' : V) (n n' : ℕ) → b ≡ false → AsksOnce file_of region gets v v' → n' ≡ min (n + 1) (2 ^ 64 - 1) → CountsPage file_of region gets b v v' n n'
-  counts_miss b v v' n n' f a e = record {
-    file = a.file;
-    region_same = a.region_same;
-    counted = e ∙ sym (ap (λ (d : Bool). unless d n) f);
-    asked = ⊎_elim (λ same. inl same) (λ more. inr (more ∙ sym (ap (λ (d : Bool). unless d (gets v)) f))) a.asked;
-  }
-
 pub asked_hit : (b : Bool) (n : ℕ) → b ≡ true → n ≡ unless b n
 asked_hit b n t = sym (ap (λ (d : Bool). unless d n) t)
 
 pub asked_miss : (b : Bool) (n n' : ℕ) → b ≡ false → n' ≡ min (n + 1) (2 ^ 64 - 1) → n' ≡ unless b n
 asked_miss b n n' f e = e ∙ sym (ap (λ (d : Bool). unless d n) f)
+
+module _ {S V : Type 0} (R : Stores V S) (id : ℕ) (c : Cache V) where
+  pub counts_hit : (v : V) (n : ℕ) → has id (ids c.pages) ≡ true → CountsPage R id c v v n n
+  counts_hit v n t = record { counted = asked_hit (has id (ids c.pages)) n t; asked = inl refl }
+
+  pub counts_miss : (v v' : V) (n n' : ℕ) → has id (ids c.pages) ≡ false → AsksOnce R v v' → n' ≡ min (n + 1) (2 ^ 64 - 1) → CountsPage R id c v v' n n'
+  counts_miss v v' n n' f a e = record {
+    counted = asked_miss (has id (ids c.pages)) n n' f e;
+    asked = ⊎_elim (λ same. inl same) (λ more. inr (asked_miss (has id (ids c.pages)) (R.gets v) (R.gets v') f more)) a.asked;
+  }
 
 -- ---- a page that is taken out of the list
 
@@ -109,8 +109,8 @@ module _ (c c' : Pages) (id : ℕ) (found : Option SharedPage) (value : found �
   pub taken_page : (m : Map) (x : SharedPage) (p : Page) → found ≡ Some x → AreSame m c.entries → HasPage m id p → page_of x ≡ p
   taken_page m x p e a h = one_page m id (page_of x) p (looked_up (λ e. HasPage m e.0 (page_of e.1)) id c.entries x (sym value ∙ e) a) h
 
-  pub taken_reads : {S V : Type 0} (s : Ghosts S) (file_of : V → ℕ) (holds : V → List ℕ → Map → Type 0) (v v' : V) (a b : S) → Reads s (In s file_of holds) v v' a b → Reads s (Beside s file_of holds) (c, v) (c', v') a b
-  taken_reads s file_of holds v v' a b r = record {
+  pub taken_reads : {S V : Type 0} (s : Ghosts S) (R : Stores V S) (v v' : V) (a b : S) → Reads s (Holds s R) v v' a b → Reads s (Beside s R) (c, v) (c', v') a b
+  taken_reads s R v v' a b r = record {
     now = r.now;
     touched = r.touched;
     sound = r.sound;

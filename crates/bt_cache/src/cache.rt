@@ -1,16 +1,10 @@
 //! Pages by their ids.
-ghost use Rattle.std.specs.Prelude.{◌≡◌, ◌≤◌, ◌∷◌, ℕ, List, [], IfOk, OnOk};
-ghost use Rattle.tc_base.specs.Maps.{Map};
-ghost use Rattle.tc_space.specs.Stores.{IsReady};
-ghost use Rattle.bt_page.specs.declared.page.Leaf.{Leaf as the_leaf};
-ghost use Rattle.bt_page.specs.declared.page.Node.{Node as the_node};
-ghost use Rattle.bt_rows.specs.declared.page.Page.{Page};
-ghost use Rattle.bt_rows.specs.declared.page.Page.TheVariants.{Leaf as leaf_page, Node as node_page};
-ghost use Rattle.bt_cache.specs.Effects.{CountsPage, Looks, unless};
-ghost use Rattle.bt_cache.specs.Held.{Beside, HasPage, IsThere, ids};
-ghost use Rattle.bt_cache.specs.Ids.{has, used, without};
-ghost use Rattle.bt_cache.specs.Shared.{IsAny, IsSomeLeaf, IsSomeNode, page_of};
+ghost use Rattle.std.specs.Prelude.{◌≡◌, ◌≤◌, [], IfOk, OnOk};
 ghost use Rattle.tc_space.specs.Refusals.{Blames};
+ghost use Rattle.bt_rows.specs.declared.page.Page.TheVariants.{Leaf as leaf_page, Node as node_page};
+ghost use Rattle.bt_cache.specs.Effects.{CountsOne, CountsPage, Looks};
+ghost use Rattle.bt_cache.specs.Held.{IsFirst, IsThere, IsUsed, IsWithout, ReadsAs, ReadyBeside};
+ghost use Rattle.bt_cache.specs.Shared.{IsAny, IsSomeLeaf, IsSomeNode, page_of};
 
 use crate::reading::read_page;
 use crate::shared::{SharedPage, empty_leaf, empty_node};
@@ -59,13 +53,13 @@ impl<R: Records> Cache<R> {
         id: u64,
         steps: &mut Steps<L>,
     ) -> Result<(), RecErr>
-        requires ready { IsReady R.S.Space (Beside R.S.Space R.file_of R.holds) (self.old.pages, store.old) space.old }
-        requires there { IsThere R.S.Space (Beside R.S.Space R.file_of R.holds) IsAny id (self.old.pages, store.old) space.old }
-        ensures list { OnOk result (ids self.new.pages ≡ used self.old.pages.cap id (ids self.old.pages)) }
-        ensures front { OnOk result ((rest : List ℕ) × (ids self.new.pages ≡ id ∷ rest)) }
-        ensures looks { Looks R.S.Space R.file_of R.holds self.old.pages self.new.pages store.old store.new space.old space.new }
-        ensures counts { CountsPage R.file_of R.region R.gets (has id (ids self.old.pages)) store.old store.new steps.old steps.new }
-        ensures asked { OnOk result (R.gets store.new ≡ unless (has id (ids self.old.pages)) (R.gets store.old)) }
+        requires ready { ReadyBeside R.S.Space R.Records self.old store.old space.old }
+        requires there { IsThere R.S.Space R.Records IsAny id self.old store.old space.old }
+        ensures list { OnOk result (IsUsed id self.old self.new) }
+        ensures front { OnOk result (IsFirst id self.new) }
+        ensures looks { Looks R.S.Space R.Records self.old self.new store.old store.new space.old space.new }
+        ensures counts { CountsPage R.Records id self.old store.old store.new steps.old steps.new }
+        ensures asked { OnOk result (CountsOne id self.old (R.gets store.old) (R.gets store.new)) }
         ensures cause { Blames R.S.Space result space.old space.new }
     {
         let _count = self.pages.len();
@@ -73,10 +67,7 @@ impl<R: Records> Cache<R> {
             return Ok(());
         }
         steps.tick();
-        let page = match read_page(self.alloc, store, space, id) {
-            Ok(page) => page,
-            Err(e) => return Err(e),
-        };
+        let page = read_page(self.alloc, store, space, id)?;
         let Ok(_) = self.pages.put(id, page) else {
             return Err(RecErr::Memory);
         };
@@ -92,18 +83,16 @@ impl<R: Records> Cache<R> {
         id: u64,
         steps: &mut Steps<L>,
     ) -> Result<Rc<SlottedLeaf>, RecErr>
-        requires ready { IsReady R.S.Space (Beside R.S.Space R.file_of R.holds) (self.old.pages, store.old) space.old }
-        requires there { IsThere R.S.Space (Beside R.S.Space R.file_of R.holds) IsSomeLeaf id (self.old.pages, store.old) space.old }
-        ensures leaf { IfOk result (λ found. (m : Map) (l : the_leaf) → Beside R.S.Space R.file_of R.holds (self.old.pages, store.old) space.old m → HasPage m id (leaf_page l) → found.value ≡ l) }
-        ensures list { OnOk result (ids self.new.pages ≡ used self.old.pages.cap id (ids self.old.pages)) }
-        ensures looks { Looks R.S.Space R.file_of R.holds self.old.pages self.new.pages store.old store.new space.old space.new }
-        ensures counts { CountsPage R.file_of R.region R.gets (has id (ids self.old.pages)) store.old store.new steps.old steps.new }
-        ensures asked { OnOk result (R.gets store.new ≡ unless (has id (ids self.old.pages)) (R.gets store.old)) }
+        requires ready { ReadyBeside R.S.Space R.Records self.old store.old space.old }
+        requires there { IsThere R.S.Space R.Records IsSomeLeaf id self.old store.old space.old }
+        ensures leaf { IfOk result (λ found. ReadsAs R.S.Space R.Records leaf_page id self.old store.old space.old found.value) }
+        ensures list { OnOk result (IsUsed id self.old self.new) }
+        ensures looks { Looks R.S.Space R.Records self.old self.new store.old store.new space.old space.new }
+        ensures counts { CountsPage R.Records id self.old store.old store.new steps.old steps.new }
+        ensures asked { OnOk result (CountsOne id self.old (R.gets store.old) (R.gets store.new)) }
         ensures cause { Blames R.S.Space result space.old space.new }
     {
-        if let Err(e) = self.bring(store, space, id, steps) {
-            return Err(e);
-        }
+        self.bring(store, space, id, steps)?;
         let Some((_, page)) = self.pages.peek_mru() else {
             return Ok(empty_leaf(self.alloc)?);
         };
@@ -118,12 +107,12 @@ impl<R: Records> Cache<R> {
         id: u64,
         steps: &mut Steps<L>,
     ) -> Result<SharedPage, RecErr>
-        requires { IsReady R.S.Space (Beside R.S.Space R.file_of R.holds) (self.old.pages, store.old) space.old }
-        ensures page { IfOk result (λ s. (m : Map) (p : Page) → Beside R.S.Space R.file_of R.holds (self.old.pages, store.old) space.old m → HasPage m id p → page_of s ≡ p) }
-        ensures list { ids self.new.pages ≡ without id (ids self.old.pages) }
-        ensures looks { Looks R.S.Space R.file_of R.holds self.old.pages self.new.pages store.old store.new space.old space.new }
-        ensures counts { CountsPage R.file_of R.region R.gets (has id (ids self.old.pages)) store.old store.new steps.old steps.new }
-        ensures asked { OnOk result (R.gets store.new ≡ unless (has id (ids self.old.pages)) (R.gets store.old)) }
+        requires { ReadyBeside R.S.Space R.Records self.old store.old space.old }
+        ensures page { IfOk result (λ s. ReadsAs R.S.Space R.Records (λ p. p) id self.old store.old space.old (page_of s)) }
+        ensures list { IsWithout id self.old self.new }
+        ensures looks { Looks R.S.Space R.Records self.old self.new store.old store.new space.old space.new }
+        ensures counts { CountsPage R.Records id self.old store.old store.new steps.old steps.new }
+        ensures asked { OnOk result (CountsOne id self.old (R.gets store.old) (R.gets store.new)) }
         ensures cause { Blames R.S.Space result space.old space.new }
     {
         let _count = self.pages.len();
@@ -131,10 +120,7 @@ impl<R: Records> Cache<R> {
             return Ok(page);
         }
         steps.tick();
-        match read_page(self.alloc, store, space, id) {
-            Ok(page) => Ok(page),
-            Err(e) => Err(e),
-        }
+        read_page(self.alloc, store, space, id)
     }
 
     /// The leaf of an id, as `leaf` gives it, taken out of the list: it isn't held then, and who gets it may be the only one that has it, and change it without copying it.
@@ -145,18 +131,15 @@ impl<R: Records> Cache<R> {
         id: u64,
         steps: &mut Steps<L>,
     ) -> Result<Rc<SlottedLeaf>, RecErr>
-        requires { IsReady R.S.Space (Beside R.S.Space R.file_of R.holds) (self.old.pages, store.old) space.old }
-        ensures leaf { IfOk result (λ found. (m : Map) (l : the_leaf) → Beside R.S.Space R.file_of R.holds (self.old.pages, store.old) space.old m → HasPage m id (leaf_page l) → found.value ≡ l) }
-        ensures list { ids self.new.pages ≡ without id (ids self.old.pages) }
-        ensures looks { Looks R.S.Space R.file_of R.holds self.old.pages self.new.pages store.old store.new space.old space.new }
-        ensures counts { CountsPage R.file_of R.region R.gets (has id (ids self.old.pages)) store.old store.new steps.old steps.new }
-        ensures asked { OnOk result (R.gets store.new ≡ unless (has id (ids self.old.pages)) (R.gets store.old)) }
+        requires { ReadyBeside R.S.Space R.Records self.old store.old space.old }
+        ensures leaf { IfOk result (λ found. ReadsAs R.S.Space R.Records leaf_page id self.old store.old space.old found.value) }
+        ensures list { IsWithout id self.old self.new }
+        ensures looks { Looks R.S.Space R.Records self.old self.new store.old store.new space.old space.new }
+        ensures counts { CountsPage R.Records id self.old store.old store.new steps.old steps.new }
+        ensures asked { OnOk result (CountsOne id self.old (R.gets store.old) (R.gets store.new)) }
         ensures cause { Blames R.S.Space result space.old space.new }
     {
-        let page = match self.take(store, space, id, steps) {
-            Ok(page) => page,
-            Err(e) => return Err(e),
-        };
+        let page = self.take(store, space, id, steps)?;
         Ok(page.into_leaf(self.alloc)?)
     }
 
@@ -168,18 +151,16 @@ impl<R: Records> Cache<R> {
         id: u64,
         steps: &mut Steps<L>,
     ) -> Result<Rc<SlottedNode>, RecErr>
-        requires ready { IsReady R.S.Space (Beside R.S.Space R.file_of R.holds) (self.old.pages, store.old) space.old }
-        requires there { IsThere R.S.Space (Beside R.S.Space R.file_of R.holds) IsSomeNode id (self.old.pages, store.old) space.old }
-        ensures node { IfOk result (λ found. (m : Map) (n : the_node) → Beside R.S.Space R.file_of R.holds (self.old.pages, store.old) space.old m → HasPage m id (node_page n) → found.value ≡ n) }
-        ensures list { OnOk result (ids self.new.pages ≡ used self.old.pages.cap id (ids self.old.pages)) }
-        ensures looks { Looks R.S.Space R.file_of R.holds self.old.pages self.new.pages store.old store.new space.old space.new }
-        ensures counts { CountsPage R.file_of R.region R.gets (has id (ids self.old.pages)) store.old store.new steps.old steps.new }
-        ensures asked { OnOk result (R.gets store.new ≡ unless (has id (ids self.old.pages)) (R.gets store.old)) }
+        requires ready { ReadyBeside R.S.Space R.Records self.old store.old space.old }
+        requires there { IsThere R.S.Space R.Records IsSomeNode id self.old store.old space.old }
+        ensures node { IfOk result (λ found. ReadsAs R.S.Space R.Records node_page id self.old store.old space.old found.value) }
+        ensures list { OnOk result (IsUsed id self.old self.new) }
+        ensures looks { Looks R.S.Space R.Records self.old self.new store.old store.new space.old space.new }
+        ensures counts { CountsPage R.Records id self.old store.old store.new steps.old steps.new }
+        ensures asked { OnOk result (CountsOne id self.old (R.gets store.old) (R.gets store.new)) }
         ensures cause { Blames R.S.Space result space.old space.new }
     {
-        if let Err(e) = self.bring(store, space, id, steps) {
-            return Err(e);
-        }
+        self.bring(store, space, id, steps)?;
         let Some((_, page)) = self.pages.peek_mru() else {
             return Ok(empty_node(self.alloc)?);
         };

@@ -1,13 +1,11 @@
 //! The page of an id, read from a store.
-ghost use Rattle.std.specs.Prelude.{◌≡◌, ◌+◌, ◌-◌, ◌<◌, ◌≤◌, ◌^◌, min, IfOk, OnOk};
-ghost use Rattle.tc_base.specs.Maps.{Map};
-ghost use Rattle.tc_space.specs.Frames.{In, Keeps, Reads};
+ghost use Rattle.std.specs.Prelude.{◌≡◌, ◌<◌, ◌≤◌, ◌^◌, IfOk, OnOk};
+ghost use Rattle.tc_space.specs.Frames.{Keeps};
 ghost use Rattle.tc_space.specs.Refusals.{Blames};
-ghost use Rattle.tc_space.specs.Stores.{IsReady};
+ghost use Rattle.tc_space.specs.Stores.{ReadsIn, ReadyIn};
 ghost use Rattle.bt_rows.specs.declared.page.Page.{Page};
 ghost use Rattle.bt_rows.specs.Pages.{IsPage};
-ghost use Rattle.bt_cache.specs.Effects.{AsksOnce};
-ghost use Rattle.bt_cache.specs.Held.{HasPage};
+ghost use Rattle.bt_cache.specs.Effects.{AsksOnce, IsAsked, ReadsOne};
 ghost use Rattle.bt_cache.specs.Shared.{page_of};
 
 use crate::shared::{SharedPage, empty_page};
@@ -59,22 +57,18 @@ pub(crate) fn read_page<R: Records>(
     space: &mut R::S,
     id: u64,
 ) -> Result<SharedPage, RecErr>
-    requires { IsReady R.S.Space (In R.S.Space R.file_of R.holds) store.old space.old }
-    ensures page { IfOk result (λ s. (m n : Map) (p : Page) → In R.S.Space R.file_of R.holds store.old space.old m → In R.S.Space R.file_of R.holds store.old space.old n → HasPage m id p → (page_of s ≡ p) × HasPage n id p) }
-    ensures reads { Reads R.S.Space (In R.S.Space R.file_of R.holds) store.old store.new space.old space.new }
+    requires { ReadyIn R.S.Space R.file_of R.holds store.old space.old }
+    ensures page { IfOk result (λ s. ReadsOne R.S.Space R.Records id store.old space.old (page_of s)) }
+    ensures reads { ReadsIn R.S.Space R.file_of R.holds store.old store.new space.old space.new }
     ensures keeps { Keeps R.S.Space space.old space.new }
-    ensures asks { AsksOnce R.file_of R.region R.gets store.old store.new }
-    ensures asked { OnOk result (R.gets store.new ≡ min (R.gets store.old + 1) (2 ^ 64 - 1)) }
+    ensures asks { AsksOnce R.Records store.old store.new }
+    ensures asked { OnOk result (IsAsked R.Records store.old store.new) }
     ensures cause { Blames R.S.Space result space.old space.new }
 {
     let mut key = Blob::new(alloc);
     page_key(id, &mut key)?;
     let mut steps: Steps<R> = Steps::new();
-    let found = match store.get(space, key.as_slice(), &mut steps) {
-        Ok(found) => found,
-        Err(e) => return Err(e),
-    };
-    let Some(bytes) = found else {
+    let Some(bytes) = store.get(space, key.as_slice(), &mut steps)? else {
         return Ok(empty_page(alloc, id < PAGE_END)?);
     };
     Ok(parse(alloc, id, bytes)?)

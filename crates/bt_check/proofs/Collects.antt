@@ -10,6 +10,7 @@ use Rattle.bt_page.specs.Spelled.{Spells}
 use Rattle.bt_rows.specs.declared.head.TreeHead.{TreeHead}
 use Rattle.bt_rows.specs.declared.page.Page.{Page}
 use Rattle.bt_rows.specs.Pages.{Map, PageMap, IsGiven, IsPage, IsHeldAs, AreHeld}
+use Rattle.bt_check.specs.declared.collecting.Collected.{Collected}
 use Rattle.bt_check.specs.declared.collecting.Found.{Found}
 use Rattle.bt_check.specs.declared.collecting.Found.TheVariants.{Page as found_page, Column, Nothing}
 use Rattle.bt_rows.specs.Rows.{held}
@@ -237,18 +238,18 @@ and_false true b e = inr e
 and_false false b e = inl refl
 
 -- a key that was looked at and noted
-pub collects_more : (h : TreeHead) (index : Bool) (m : Map) (keys : List (List ℕ)) (i : ℕ) (f : Found) (b : Bool) (ids new : BTreeSet ℕ) (within both : Bool) → B1 h → IsHeldKey m (get_or keys i []) → IsFound h index m (get_or keys i []) f
-    → IsNoted f b ids within new both → b ≡ true → Collects h index m keys i ids within → Collects h index m keys (i + 1) new both
-collects_more h index m keys i (found_page id inside) b ids new within both one at found noted e c =
-    collects_page h index m keys i id ids new within inside both one at found noted.1 (λ w. and_parts within inside (sym noted.2 ∙ w)) (λ w. and_false within inside (sym noted.2 ∙ w)) c
-collects_more h index m keys i Column b ids new within both one at found noted e c =
-    subst (λ (w : Bool). Collects h index m keys (i + 1) new w) (sym noted.2) (subst (λ (s : BTreeSet ℕ). Collects h index m keys (i + 1) s within) (sym noted.1) (collects_column h index m keys i ids within found c))
-collects_more h index m keys i Nothing b ids new within both one at found noted e c = absurd (let bad = sym e ∙ noted in cc)
+pub collects_more : (h : TreeHead) (index : Bool) (m : Map) (keys : List (List ℕ)) (i : ℕ) (f : Found) (b : Bool) (old new : Collected) → B1 h → IsHeldKey m (get_or keys i []) → IsFound h index m (get_or keys i []) f
+    → IsNoted f b old new → b ≡ true → Collects h index m keys i old.ids old.within → Collects h index m keys (i + 1) new.ids new.within
+collects_more h index m keys i (found_page id inside) b old new one at found noted e c =
+    collects_page h index m keys i id old.ids new.ids old.within inside new.within one at found noted.1 (λ w. and_parts old.within inside (sym noted.2 ∙ w)) (λ w. and_false old.within inside (sym noted.2 ∙ w)) c
+collects_more h index m keys i Column b old new one at found noted e c =
+    subst (λ (w : Bool). Collects h index m keys (i + 1) new.ids w) (sym noted.2) (subst (λ (s : BTreeSet ℕ). Collects h index m keys (i + 1) s old.within) (sym noted.1) (collects_column h index m keys i old.ids old.within found c))
+collects_more h index m keys i Nothing b old new one at found noted e c = absurd (let bad = sym e ∙ noted in cc)
 
-pub broken : (h : TreeHead) (index : Bool) (m : Map) (keys : List (List ℕ)) (i : ℕ) (f : Found) (b : Bool) (ids new : BTreeSet ℕ) (within both : Bool) → IsHeldKey m (get_or keys i []) → IsFound h index m (get_or keys i []) f → IsNoted f b ids within new both → b ≡ false → B2 h index m → ⊥
-broken h index m keys i (found_page id inside) b ids new within both at found noted e rule = let bad = sym e ∙ noted.0 in cc
-broken h index m keys i Column b ids new within both at found noted e rule = let bad = sym e ∙ noted.0 in cc
-broken h index m keys i Nothing b ids new within both at found noted e rule = not_fine h index m (get_or keys i []) at found rule
+pub broken : (h : TreeHead) (index : Bool) (m : Map) (keys : List (List ℕ)) (i : ℕ) (f : Found) (b : Bool) (old new : Collected) → IsHeldKey m (get_or keys i []) → IsFound h index m (get_or keys i []) f → IsNoted f b old new → b ≡ false → B2 h index m → ⊥
+broken h index m keys i (found_page id inside) b old new at found noted e rule = let bad = sym e ∙ noted.0 in cc
+broken h index m keys i Column b old new at found noted e rule = let bad = sym e ∙ noted.0 in cc
+broken h index m keys i Nothing b old new at found noted e rule = not_fine h index m (get_or keys i []) at found rule
 
 pub empty_contains : (ids : BTreeSet ℕ) (id : ℕ) → ids.keys ≡ [] → contains nat_cmp ids id ≡ false
 empty_contains ids id e = ap (λ (ks : List ℕ). contains nat_cmp (record { keys = ks }) id) e

@@ -1,5 +1,6 @@
 pub mod Collects
 pub mod Listed
+pub mod Mapped
 pub mod Orders
 pub mod Seen
 pub mod Sets

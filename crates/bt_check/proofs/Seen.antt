@@ -1,6 +1,6 @@
 -- Leaves that were seen.
-use Rattle.std.proofs.Common.{◌≡◌, ◌↔◌, ℕ, zero, suc, ◌+◌, ◌-◌, ◌<◌, ◌≤◌, List, [], ◌∷◌, ◌++◌, Bool, true, false, Option, Some, None, leb, length, map, take, get_or, refl, sym, ap, ◌∙◌, subst, ⊎_elim, arith, length-append}
-use Rattle.std.specs.Prelude.{IsTrue, ◌&&◌, not}
+use Rattle.std.proofs.Common.{◌≡◌, ◌↔◌, ℕ, suc, ◌+◌, ◌-◌, ◌<◌, ◌≤◌, List, [], ◌∷◌, ◌++◌, Bool, true, false, Option, Some, None, leb, length, map, take, get_or, refl, sym, ap, ◌∙◌, subst, ⊎_elim, arith, length-append}
+use Rattle.std.specs.Prelude.{IsTrue, ◌&&◌, not, option_to_list}
 use Rattle.std.specs.Option.{option_eq}
 use Rattle.std.proofs.Math.Dec.{eqb}
 use Rattle.std.specs.List.{flat_map}
@@ -14,11 +14,12 @@ use Rattle.bt_rows.specs.declared.page.Slot.{Slot}
 use Rattle.tc_base.specs.declared.seq.Pair.{Pair}
 use Rattle.bt_page.specs.declared.page.Item.{Item}
 use Rattle.bt_rows.specs.Pages.{PageMap}
-use Rattle.bt_rows.specs.Rows.{first_id, last_id, times, leaf_at, leaves_among}
-use Rattle.bt_rows.proofs.Building.{times-front}
-use Rattle.bt_check.proofs.Walked.{front_more, among-append}
+use Rattle.bt_rows.specs.Rows.{first_id, last_id, held, leaf_at, leaves_among}
+use Rattle.bt_check.proofs.Walked.{among-append, there_front, there_last}
 use Rattle.bt_rows.specs.Rules.{InLeaf, IsBelow, InOrder, IsLinked, B7, pairs_of, leaf_pairs, item_pairs}
-use Rattle.bt_check.specs.Leaves.{IsBehind, IsTied, IsClosed, AreTied, less, last_leaf, IsSeen}
+use Rattle.bt_check.specs.Leaves.{IsBehind, IsTied, IsClosed, AreTied, less, last_leaf, IsSeen, Sees}
+use Rattle.bt_check.specs.Walks.{AreThere}
+use Rattle.bt_check.specs.declared.leaves.Seen.{Seen}
 use Rattle.bt_check.proofs.Orders.{IsTransitive, all_below, order_end, order_front, order_last, order_two}
 
 -- ---- numbers
@@ -99,15 +100,15 @@ module _ (before : Before) (trans : IsTransitive before) where
       go (some front l e) = subst (λ (l : Option LeafAt). IsBehind before l m) (sym (ap (last_leaf None) e ∙ last_end None front l))
           (order_last before trans ls m o, order_two before trans front l m (subst (λ (t : List LeafAt). InOrder before (t ++ m ∷ [])) e o))
 
-  pub seen_none : (h : TreeHead) → IsSeen before h [] None true true (Some h.pairs)
+  pub seen_none : (h : TreeHead) → IsSeen before h [] (record { last = None; ordered = true; linked = true; left = Some h.pairs })
   seen_none h = record { last_is = refl; in_order = (λ _. tt, λ _. refl); tied = (λ _. tt, λ _. refl); rest = sym (less_zero h.pairs) }
     where
       less_zero : (p : ℕ) → less (Some p) 0 ≡ Some p
       less_zero p = let e : leb 0 p ≡ true = le-leb 0 p (omega arith) in rw e (ap (λ (k : ℕ). Some k) (omega arith))
 
-  pub seen_more : (h : TreeHead) (ls : List LeafAt) (m : LeafAt) (last last' : Option LeafAt) (ordered ordered' linked linked' : Bool) (left left' : Option ℕ) → IsSeen before h ls last ordered linked left
-      → last' ≡ Some m → (IsTrue ordered' ↔ (IsTrue ordered × IsBehind before last m)) → (IsTrue linked' ↔ (IsTrue linked × IsTied h last m)) → left' ≡ less left (length (leaf_pairs m)) → IsSeen before h (ls ++ m ∷ []) last' ordered' linked' left'
-  seen_more h ls m last last' ordered ordered' linked linked' left left' s is o t n = record {
+  pub seen_more : (h : TreeHead) (ls : List LeafAt) (m : LeafAt) (old new : Seen) → IsSeen before h ls old
+      → new.last ≡ Some m → (IsTrue new.ordered ↔ (IsTrue old.ordered × IsBehind before old.last m)) → (IsTrue new.linked ↔ (IsTrue old.linked × IsTied h old.last m)) → new.left ≡ less old.left (length (leaf_pairs m)) → IsSeen before h (ls ++ m ∷ []) new
+  seen_more h ls m old new s is o t n = record {
     last_is = is ∙ sym (last_end None ls m);
     in_order = (
       λ e. let b = o.0 e in behind_to ls m (s.in_order.0 b.0) (subst (λ (l : Option LeafAt). IsBehind before l m) s.last_is b.1),
@@ -120,6 +121,14 @@ module _ (before : Before) (trans : IsTransitive before) where
     rest = n ∙ ap (λ (o : Option ℕ). less o (length (leaf_pairs m))) s.rest ∙ less_less (Some h.pairs) (length (pairs_of ls)) (length (leaf_pairs m))
         ∙ ap (less (Some h.pairs)) (sym (length-append (pairs_of ls) (leaf_pairs m)) ∙ ap (λ t. length t) (ap (λ t. pairs_of ls ++ t) (sym (append-nil (leaf_pairs m))) ∙ sym (flat_map-append leaf_pairs ls (m ∷ []))));
   }
+
+-- what stands in one place more was seen
+pub seen_at : (before : Before) (h : TreeHead) (pages : PageMap) (front : List Slot) (s : Slot) (there : Option LeafAt) (old new : Seen) → Sees before h (option_to_list there) old new → (held pages s.id ≡ 1 → option_to_list there ≡ leaf_at s (pages s.id))
+    → (AreThere pages front → IsSeen before h (leaves_among pages front) old) → AreThere pages (front ++ s ∷ []) → IsSeen before h (leaves_among pages (front ++ s ∷ [])) new
+seen_at before h pages front s there old new sees is so_far are =
+    subst (λ (ls : List LeafAt). IsSeen before h ls new)
+    (sym (among-append pages front (s ∷ []) ∙ ap (λ t. leaves_among pages front ++ t) (append-nil (leaf_at s (pages s.id)) ∙ sym (is (there_last pages front s are)))))
+    (sees (leaves_among pages front) (so_far (there_front pages front s are)))
 
 -- ---- in the end
 
@@ -181,19 +190,6 @@ count_more o items i x rest rest' n lt is so next many =
     let sum : length (flat_map item_pairs (take i items)) + n ≡ length (flat_map item_pairs (take (i + 1) items)) =
     sym (ap (λ t. length (flat_map item_pairs t)) front ∙ ap (λ t. length t) (flat_map-append item_pairs (take i items) (x ∷ [])) ∙ length-append (flat_map item_pairs (take i items)) (flat_map item_pairs (x ∷ [])) ∙ ap (λ (k : ℕ). length (flat_map item_pairs (take i items)) + k) one) in
     next ∙ ap (λ (r : Option ℕ). less r n) so ∙ less_less o (length (flat_map item_pairs (take i items))) n ∙ ap (less o) sum
-
--- a place of a row is children_at by it
-pub placed_at : (slots items : List Slot) (i : ℕ) (s : Slot) → items ≡ slots → i < length items → s ≡ get_or items i s → 0 < times s.id slots
-placed_at slots items i s are lt is = subst (λ (t : List Slot). 0 < times s.id t) are (go items i lt is)
-  where
-    go : (xs : List Slot) (i : ℕ) → i < length xs → s ≡ get_or xs i s → 0 < times s.id xs
-    go [] i lt e = absurd (omega (arith, lt))
-    go (x ∷ xs) zero lt e = omega (arith, times-front s.id x xs (ap (λ (y : Slot). y.id) (sym e)))
-    go (x ∷ xs) (suc i) lt e = omega (arith, go xs i (omega (arith, lt)) e)
-
-pub among_more : (pages : PageMap) (slots items : List Slot) (i : ℕ) (s : Slot) (ls : List LeafAt) → items ≡ slots → i < length items → s ≡ get_or items i s → ls ≡ leaf_at s (pages s.id) → leaves_among pages (take (i + 1) slots) ≡ leaves_among pages (take i slots) ++ ls
-among_more pages slots items i s ls are lt is these =
-    ap (leaves_among pages) (front_more slots items i s are lt is) ∙ among-append pages (take i slots) (s ∷ []) ∙ ap (λ t. leaves_among pages (take i slots) ++ t) (append-nil (leaf_at s (pages s.id)) ∙ sym these)
 
 pub and_iff : (a b : Bool) (P : Type 0) → IsTrue b ↔ P → IsTrue (a && b) ↔ (IsTrue a × P)
 and_iff true b P h = (λ e. (refl, h.0 e), λ p. h.1 p.1)

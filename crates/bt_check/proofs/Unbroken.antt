@@ -1,12 +1,9 @@
 -- A tree breaks none of its rules.
 use Rattle.std.proofs.Common.{List, [], ◌∷◌, inl, inr, subst}
-use Rattle.tc_base.specs.declared.kind.Rule.{Rule}
-use Rattle.bt_rows.specs.declared.head.TreeHead.{TreeHead}
 use Rattle.bt_rows.specs.declared.page.LeafAt.{LeafAt}
-use Rattle.bt_rows.specs.Orders.{Before}
 use Rattle.bt_rows.specs.Pages.{PageMap}
-use Rattle.bt_rows.specs.Rows.{root_slot, row, leaves_in}
-use Rattle.bt_rows.specs.Standing.{PagesStand, TreeStands, leaves_of}
+use Rattle.bt_rows.specs.Rows.{root_slot}
+use Rattle.bt_rows.specs.Standing.{PagesStand, leaves_of}
 use Rattle.bt_rows.proofs.Held.{depth_free, pages_one}
 use Rattle.bt_check.specs.Verdicts.{LeavesBreak, PagesBreak, IsFirstBroken, TreesBreakNoRule}
 

@@ -1,9 +1,9 @@
 -- Rows that are walked from the root down.
-use Rattle.std.proofs.Common.{◌≡◌, ◌≢◌, ℕ, zero, suc, ◌+◌, ◌<◌, ◌≤◌, ◌⊎◌, List, [], ◌∷◌, ◌++◌, Bool, true, false, Option, Some, None, length, take, drop, get_or, refl, sym, ap, ◌∙◌, subst, inl, inr, ⊎_elim, arith, append_assoc, length-append}
-use Rattle.std.specs.Prelude.{◌==◌, ◌||◌, ◌&&◌, nat_lt, if◌then◌else◌}
+use Rattle.std.proofs.Common.{◌≡◌, ◌≢◌, ◌↔◌, ℕ, zero, suc, ◌+◌, ◌<◌, ◌≤◌, ◌⊎◌, List, [], ◌∷◌, ◌++◌, Bool, true, false, Option, Some, None, length, map, take, drop, get_or, refl, sym, ap, ◌∙◌, subst, inl, inr, ⊎_elim, arith, append_assoc, length-append}
+use Rattle.std.specs.Prelude.{◌==◌, nat_lt, IsTrue, if◌then◌else◌}
 use Rattle.std.specs.BTreeSet.{BTreeSet}
 use Rattle.std.proofs.lemmas.List.{append-nil, take_more, take-append-drop}
-use Rattle.std.proofs.lemmas.Bool.{cases_eq, cases_lt, ne_eqb, eq-eqb}
+use Rattle.std.proofs.lemmas.Bool.{cases_eq, cases_lt, ne_eqb, eq-eqb, lt-ltb, le-ltb}
 use Rattle.bt_page.specs.declared.page.Leaf.{Leaf}
 use Rattle.bt_page.specs.declared.page.Node.{Node}
 use Rattle.bt_page.specs.Keys.{node_offset, key_of}
@@ -14,15 +14,26 @@ use Rattle.bt_rows.specs.declared.page.Slot.{Slot}
 use Rattle.bt_rows.specs.Pages.{Map, PageMap, IsGiven, IsHeldAs, AreHeld}
 use Rattle.bt_rows.specs.declared.page.LeafAt.{LeafAt}
 use Rattle.bt_rows.specs.Rows.{root_slot, children_of, children_at, leaf_at, next_row, leaves_among, row, leaves_in, times, reached, held, HasLeaf}
-use Rattle.bt_rows.specs.Rules.{IsReached, IsBalanced, B3, B4}
-use Rattle.bt_rows.proofs.Building.{held_is, held_most, reached_nil, row_nil, AllHeld, deep_leaf, times-front}
-use Rattle.bt_check.specs.Collected.{has}
+use Rattle.bt_rows.specs.Rules.{B3}
+use Rattle.bt_rows.proofs.Building.{held_is, held_most, reached_nil, row_nil, times-front}
+use Rattle.bt_check.specs.Collected.{IsSetTo, has}
 use Rattle.bt_check.specs.ReadPages.{IsReadAs}
-use Rattle.bt_check.specs.Walks.{AreSome, IsPassed, IsSpread, IsStuck, IsWalked, leaf_count, node_count}
+use Rattle.bt_check.specs.Walks.{AreThere, IsStuck, IsTakenOut, IsWalked, leaf_places}
+use Rattle.bt_check.specs.declared.rows.Walked.{Walked}
 use Rattle.bt_rows.proofs.Held.{decided}
 
 abbrev pub heir_slot : Option (List ℕ) → Node → Slot
 heir_slot bound n = record { bound = bound; id = n.heir }
+
+-- ---- lists of places
+
+pub among-append : (pages : PageMap) (xs ys : List Slot) → leaves_among pages (xs ++ ys) ≡ leaves_among pages xs ++ leaves_among pages ys
+among-append pages [] ys = refl
+among-append pages (x ∷ xs) ys = ap (λ t. leaf_at x (pages x.id) ++ t) (among-append pages xs ys) ∙ sym (append_assoc (leaf_at x (pages x.id)) (leaves_among pages xs) (leaves_among pages ys))
+
+times-append : (id : ℕ) (xs ys : List Slot) → times id (xs ++ ys) ≡ times id xs + times id ys
+times-append id [] ys = omega arith
+times-append id (x ∷ xs) ys = omega (arith, times-append id xs ys)
 
 -- ---- one place
 
@@ -57,32 +68,92 @@ node_above h m pages id (leaf_page l) a e le = absurd (go (m (key_of id)) (subst
     go None h = h
     go (Some bytes) h = omega (arith, le, h.0)
 
-pub spread_leaf : (h : TreeHead) (m : Map) (pages : PageMap) (s : Slot) (next : List Slot) → AreHeld h m pages → held pages s.id ≡ 1 → s.id < node_offset → IsSpread pages s next next true
+-- nothing is below a leaf
+pub spread_leaf : (h : TreeHead) (m : Map) (pages : PageMap) (s : Slot) (next : List Slot) → AreHeld h m pages → held pages s.id ≡ 1 → s.id < node_offset → next ≡ next ++ children_at s (pages s.id)
 spread_leaf h m pages s next a one lt =
     let p = page_of pages s.id one in
     let l = leaf_below h m pages s.id p.0 a p.1 lt in
-    record {
-      next_is = sym (ap (λ o. next ++ children_at s o) l.1 ∙ append-nil next);
-      some = λ _. subst (λ o. 0 < length (leaf_at s o ++ [])) (sym l.1) (omega arith);
-      none = λ e. absurd cc;
-    }
+    sym (ap (λ o. next ++ children_at s o) l.1 ∙ append-nil next)
 
-pub spread_inner : (h : TreeHead) (m : Map) (pages : PageMap) (s : Slot) (old new : List Slot) (bound : Option (List ℕ)) (n : Node) (r : Option Page) → AreHeld h m pages → held pages s.id ≡ 1 → node_offset ≤ s.id → IsReadAs s.id (m (key_of s.id)) r → r ≡ Some (node_page n) → bound ≡ s.bound → new ≡ old ++ children_of bound n → IsSpread pages s old new false
-spread_inner h m pages s old new bound n r a one le read is same e =
+-- nor below what isn't read as a node
+pub spread_none : (h : TreeHead) (m : Map) (pages : PageMap) (s : Slot) (next : List Slot) (r : Option Page) → AreHeld h m pages → held pages s.id ≡ 1 → IsReadAs s.id (m (key_of s.id)) r → ((n : Node) → r ≡ Some (node_page n) → ⊥) → next ≡ next ++ children_at s (pages s.id)
+spread_none h m pages s next r a one read not = let p = page_of pages s.id one in go p.0 p.1 (read_is h m pages s.id r p.0 a p.1 read)
+  where
+    go : (p : Page) → pages s.id ≡ Some p → r ≡ Some p → next ≡ next ++ children_at s (pages s.id)
+    go (leaf_page l) e is = sym (ap (λ o. next ++ children_at s o) e ∙ append-nil next)
+    go (node_page n) e is = absurd (not n is)
+
+pub spread_node : (h : TreeHead) (m : Map) (pages : PageMap) (s : Slot) (old new : List Slot) (n : Node) (r : Option Page) → AreHeld h m pages → held pages s.id ≡ 1 → IsReadAs s.id (m (key_of s.id)) r → r ≡ Some (node_page n) → new ≡ old ++ children_of s.bound n → new ≡ old ++ children_at s (pages s.id)
+spread_node h m pages s old new n r a one read is e =
     let p = page_of pages s.id one in
     let here : pages s.id ≡ Some (node_page n) = p.1 ∙ sym (read_is h m pages s.id r p.0 a p.1 read) ∙ is in
-    record {
-      next_is = e ∙ ap (λ (b : Option (List ℕ)). old ++ children_of b n) same ∙ ap (λ o. old ++ children_at s o) (sym here);
-      some = λ e. absurd cc;
-      none = λ _. ap (λ o. leaf_at s o ++ []) here;
-    }
+    e ∙ ap (λ o. old ++ children_at s o) (sym here)
 
--- what is read where a node stands is a node
-pub not_read : (h : TreeHead) (m : Map) (pages : PageMap) (s : Slot) (r : Option Page) → AreHeld h m pages → held pages s.id ≡ 1 → node_offset ≤ s.id → IsReadAs s.id (m (key_of s.id)) r → ((n : Node) → r ≡ Some (node_page n) → ⊥) → ⊥
-not_read h m pages s r a one le read not =
-    let p = page_of pages s.id one in
+-- ---- places of leaves
+
+pub kept_leaf : (s : Slot) → s.id < node_offset → leaf_places (s ∷ []) ≡ s ∷ []
+kept_leaf s lt = let t : nat_lt s.id node_offset ≡ true = lt-ltb s.id node_offset lt in ap (λ (b : Bool). (if b then s ∷ [] else []) ++ []) t
+
+pub kept_none : (s : Slot) → node_offset ≤ s.id → leaf_places (s ∷ []) ≡ []
+kept_none s le = let t : nat_lt s.id node_offset ≡ false = le-ltb s.id node_offset le in ap (λ (b : Bool). (if b then s ∷ [] else []) ++ []) t
+
+pub kept-append : (xs ys : List Slot) → leaf_places (xs ++ ys) ≡ leaf_places xs ++ leaf_places ys
+kept-append [] ys = refl
+kept-append (x ∷ xs) ys = ap (λ t. (if nat_lt x.id node_offset then x ∷ [] else []) ++ t) (kept-append xs ys) ∙ sym (append_assoc (if nat_lt x.id node_offset then x ∷ [] else []) (leaf_places xs) (leaf_places ys))
+
+-- in one place
+record KeepsOne (pages : PageMap) (s : Slot) : Type 0 where
+  among : leaves_among pages (leaf_places (s ∷ [])) ≡ leaf_at s (pages s.id)
+  many : length (leaf_places (s ∷ [])) ≡ length (leaf_at s (pages s.id))
+
+keeps_one : (h : TreeHead) (m : Map) (pages : PageMap) (s : Slot) → AreHeld h m pages → held pages s.id ≡ 1 → KeepsOne pages s
+keeps_one h m pages s a one = ⊎_elim
+    (λ (lt : s.id < node_offset).
+    let l = leaf_below h m pages s.id p.0 a p.1 lt in
+    let at : leaf_at s (pages s.id) ≡ record { slot = s; leaf = l.0 } ∷ [] = ap (leaf_at s) l.1 in
+    record {
+      among = ap (leaves_among pages) (kept_leaf s lt) ∙ append-nil (leaf_at s (pages s.id));
+      many = ap (λ (t : List Slot). length t) (kept_leaf s lt) ∙ sym (ap (λ (t : List LeafAt). length t) at);
+    })
+    (λ (le : node_offset ≤ s.id).
     let n = node_above h m pages s.id p.0 a p.1 le in
-    not n.0 (read_is h m pages s.id r (node_page n.0) a n.1 read)
+    let at : leaf_at s (pages s.id) ≡ [] = ap (leaf_at s) n.1 in
+    record {
+      among = ap (leaves_among pages) (kept_none s le) ∙ sym at;
+      many = ap (λ (t : List Slot). length t) (kept_none s le) ∙ sym (ap (λ (t : List LeafAt). length t) at);
+    })
+    (cases_lt s.id node_offset)
+  where
+    p : (q : Page) × (pages s.id ≡ Some q)
+    p = page_of pages s.id one
+
+first_there : (pages : PageMap) (s : Slot) (ss : List Slot) → AreThere pages (s ∷ ss) → held pages s.id ≡ 1
+first_there pages s ss there = there s.id (omega (arith, times-front s.id s ss refl))
+
+rest_there : (pages : PageMap) (s : Slot) (ss : List Slot) → AreThere pages (s ∷ ss) → AreThere pages ss
+rest_there pages s ss there id lt = there id (omega (arith, lt))
+
+-- the leaves of a row are those of the places that are kept
+pub kept_among : (h : TreeHead) (m : Map) (pages : PageMap) (slots : List Slot) → AreHeld h m pages → AreThere pages slots → leaves_among pages (leaf_places slots) ≡ leaves_among pages slots
+kept_among h m pages [] a there = refl
+kept_among h m pages (s ∷ ss) a there =
+    let one = keeps_one h m pages s a (first_there pages s ss there) in
+    ap (leaves_among pages) (kept-append (s ∷ []) ss) ∙ among-append pages (leaf_places (s ∷ [])) (leaf_places ss) ∙ ap (λ t. t ++ leaves_among pages (leaf_places ss)) one.among ∙ ap (λ t. leaf_at s (pages s.id) ++ t) (kept_among h m pages ss a (rest_there pages s ss there))
+
+pub kept_many : (h : TreeHead) (m : Map) (pages : PageMap) (slots : List Slot) → AreHeld h m pages → AreThere pages slots → length (leaf_places slots) ≡ length (leaves_among pages slots)
+kept_many h m pages [] a there = refl
+kept_many h m pages (s ∷ ss) a there =
+    let one = keeps_one h m pages s a (first_there pages s ss there) in
+    let rest = kept_many h m pages ss a (rest_there pages s ss there) in
+    omega (arith, one.many, rest, ap (λ (t : List Slot). length t) (kept-append (s ∷ []) ss), length-append (leaf_places (s ∷ [])) (leaf_places ss), length-append (leaf_at s (pages s.id)) (leaves_among pages ss))
+
+kept_times : (id : ℕ) (slots : List Slot) → times id (leaf_places slots) ≤ times id slots
+kept_times id [] = omega arith
+kept_times id (s ∷ ss) = omega (arith, kept_times id ss, ap (times id) (kept-append (s ∷ []) ss), times-append id (leaf_places (s ∷ [])) (leaf_places ss), one_time (nat_lt s.id node_offset))
+  where
+    one_time : (b : Bool) → times id ((if b then s ∷ [] else []) ++ []) ≤ times id (s ∷ [])
+    one_time true = omega arith
+    one_time false = omega arith
 
 -- ---- a row
 
@@ -90,27 +161,31 @@ next-append : (pages : PageMap) (xs ys : List Slot) → next_row pages (xs ++ ys
 next-append pages [] ys = refl
 next-append pages (x ∷ xs) ys = ap (λ t. children_at x (pages x.id) ++ t) (next-append pages xs ys) ∙ sym (append_assoc (children_at x (pages x.id)) (next_row pages xs) (next_row pages ys))
 
-pub among-append : (pages : PageMap) (xs ys : List Slot) → leaves_among pages (xs ++ ys) ≡ leaves_among pages xs ++ leaves_among pages ys
-among-append pages [] ys = refl
-among-append pages (x ∷ xs) ys = ap (λ t. leaf_at x (pages x.id) ++ t) (among-append pages xs ys) ∙ sym (append_assoc (leaf_at x (pages x.id)) (leaves_among pages xs) (leaves_among pages ys))
+pub there_front : (pages : PageMap) (front : List Slot) (s : Slot) → AreThere pages (front ++ s ∷ []) → AreThere pages front
+there_front pages front s there id lt = there id (omega (arith, lt, times-append id front (s ∷ [])))
 
-times-append : (id : ℕ) (xs ys : List Slot) → times id (xs ++ ys) ≡ times id xs + times id ys
-times-append id [] ys = omega arith
-times-append id (x ∷ xs) ys = omega (arith, times-append id xs ys)
+pub there_last : (pages : PageMap) (front : List Slot) (s : Slot) → AreThere pages (front ++ s ∷ []) → held pages s.id ≡ 1
+there_last pages front s there = there s.id (omega (arith, times-append s.id front (s ∷ []), times-front s.id s [] refl))
 
-or_false : (a b : Bool) → (a || b) ≡ false → (a ≡ false) × (b ≡ false)
-or_false true b e = absurd cc
-or_false false b e = (refl, e)
+-- one place more
+pub next_more : (pages : PageMap) (front : List Slot) (s : Slot) (next next' : List Slot) → (AreThere pages front → next ≡ next_row pages front) → (held pages s.id ≡ 1 → next' ≡ next ++ children_at s (pages s.id)) → AreThere pages (front ++ s ∷ []) → next' ≡ next_row pages (front ++ s ∷ [])
+next_more pages front s next next' so_far one there =
+    one (there_last pages front s there) ∙ ap (λ t. t ++ children_at s (pages s.id)) (so_far (there_front pages front s there)) ∙ ap (λ t. next_row pages front ++ t) (sym (append-nil (children_at s (pages s.id)))) ∙ sym (next-append pages front (s ∷ []))
 
-or_true : (a b : Bool) → (a || b) ≡ true → (a ≡ true) ⊎ (b ≡ true)
-or_true true b e = inl refl
-or_true false b e = inr e
+pub kept_more : (front : List Slot) (s : Slot) (start kept kept' : List Slot) → kept ≡ start ++ leaf_places front → kept' ≡ kept ++ leaf_places (s ∷ []) → kept' ≡ start ++ leaf_places (front ++ s ∷ [])
+kept_more front s start kept kept' so_far one =
+    one ∙ ap (λ t. t ++ leaf_places (s ∷ [])) so_far ∙ append_assoc start (leaf_places front) (leaf_places (s ∷ [])) ∙ ap (λ t. start ++ t) (sym (kept-append front (s ∷ [])))
 
-pub passed_none : (pages : PageMap) (ids : BTreeSet ℕ) → IsPassed pages [] ids ids [] false
-passed_none pages ids = record { taken = λ id. omega arith; next_is = refl; some = λ e. absurd cc; none = λ _. refl }
+-- a list that was given item by item
+pub given_all : (items given : List Slot) → map (λ y. y) given ≡ items → given ≡ items
+given_all items given e = sym (map_same given) ∙ e
+  where
+    map_same : (xs : List Slot) → map (λ y. y) xs ≡ xs
+    map_same [] = refl
+    map_same (x ∷ xs) = ap (λ t. x ∷ t) (map_same xs)
 
 -- the ids of a front were taken out, and that of one place more
-pub taken_more : (front : List Slot) (s : Slot) (old ids new : BTreeSet ℕ) → ((id : ℕ) → has ids id + times id front ≡ has old id) → has ids s.id ≡ 1 → ((x : ℕ) → has new x ≡ (if x == s.id then 0 else has ids x)) → (id : ℕ) → has new id + times id (front ++ s ∷ []) ≡ has old id
+taken_more : (front : List Slot) (s : Slot) (old ids new : BTreeSet ℕ) → IsTakenOut front old ids → has ids s.id ≡ 1 → IsSetTo s.id 0 ids new → IsTakenOut (front ++ s ∷ []) old new
 taken_more front s old ids new taken one gone id = ⊎_elim
     (λ (is : id ≡ s.id).
     let t : (id == s.id) ≡ true = eq-eqb id s.id is in
@@ -126,15 +201,20 @@ taken_more front s old ids new taken one gone id = ⊎_elim
     times_none : (id : ℕ) (s : Slot) → s.id ≢ id → times id (s ∷ []) ≡ 0
     times_none id s ne = let t : (s.id == id) ≡ false = ne_eqb s.id id ne in rw t refl
 
-pub passed_more : (pages : PageMap) (front : List Slot) (s : Slot) (old ids new : BTreeSet ℕ) (next next' : List Slot) (leaf here : Bool) → IsPassed pages front old ids next leaf → has ids s.id ≡ 1 → ((x : ℕ) → has new x ≡ (if x == s.id then 0 else has ids x))
-    → IsSpread pages s next next' here → IsPassed pages (front ++ s ∷ []) old new next' (leaf || here)
-passed_more pages front s old ids new next next' leaf here p one gone sp = record {
-  taken = taken_more front s old ids new p.taken one gone;
-  next_is = sp.next_is ∙ ap (λ t. t ++ children_at s (pages s.id)) p.next_is ∙ ap (λ t. next_row pages front ++ t) (sym (append-nil (children_at s (pages s.id)))) ∙ sym (next-append pages front (s ∷ []));
-  some = λ e. subst (λ (t : List LeafAt). 0 < length t) (sym (among-append pages front (s ∷ [])))
-      (⊎_elim (λ l. omega (arith, p.some l, length-append (leaves_among pages front) (leaves_among pages (s ∷ [])))) (λ l. omega (arith, sp.some l, length-append (leaves_among pages front) (leaves_among pages (s ∷ [])))) (or_true leaf here e));
-  none = λ e. let both = or_false leaf here e in among-append pages front (s ∷ []) ∙ ap (λ t. t ++ leaves_among pages (s ∷ [])) (p.none both.0) ∙ sp.none both.1;
-}
+front_more : (slots items : List Slot) (i : ℕ) (s : Slot) → items ≡ slots → i < length items → s ≡ get_or items i s → take (i + 1) slots ≡ take i slots ++ s ∷ []
+front_more slots items i s are lt is = subst (λ (xs : List Slot). take (i + 1) xs ≡ take i xs ++ s ∷ []) are (take_more items i s lt ∙ ap (λ (y : Slot). take i items ++ y ∷ []) (sym is))
+
+pub taken_at : (slots items : List Slot) (i : ℕ) (s : Slot) (old ids new : BTreeSet ℕ) → items ≡ slots → i < length items → s ≡ get_or items i s → IsTakenOut (take i slots) old ids → has ids s.id ≡ 1 → IsSetTo s.id 0 ids new → IsTakenOut (take (i + 1) slots) old new
+taken_at slots items i s old ids new are lt is taken one gone = subst (λ (t : List Slot). IsTakenOut t old new) (sym (front_more slots items i s are lt is)) (taken_more (take i slots) s old ids new taken one gone)
+
+-- a place that isn't in the set makes the row stuck
+pub stuck_at : (slots items : List Slot) (i : ℕ) (s : Slot) (old ids : BTreeSet ℕ) → items ≡ slots → i < length items → s ≡ get_or items i s → IsTakenOut (take i slots) old ids → has ids s.id ≡ 0 → IsStuck old slots
+stuck_at slots items i s old ids are lt is taken none all =
+    omega (arith, all s.id, taken s.id, none, times-append s.id (take (i + 1) slots) (drop (i + 1) slots), ap (times s.id) (take-append-drop (i + 1) slots), ap (times s.id) (front_more slots items i s are lt is), times-append s.id (take i slots) (s ∷ []), times-front s.id s [] refl)
+
+pub no_row : (slots : List Slot) → length slots ≤ 0 → slots ≡ []
+no_row [] le = refl
+no_row (s ∷ ss) le = absurd (omega (arith, le))
 
 -- ---- rows of the whole
 
@@ -143,221 +223,176 @@ row_past pages zero i slots e le = ap (row pages i) e ∙ row_nil pages i
 row_past pages (suc k) zero slots e le = absurd (omega (arith, le))
 row_past pages (suc k) (suc i) slots e le = row_past pages k i (next_row pages slots) e (omega (arith, le))
 
-pub row_next : (pages : PageMap) (k : ℕ) (slots : List Slot) → row pages (suc k) slots ≡ next_row pages (row pages k slots)
+row_next : (pages : PageMap) (k : ℕ) (slots : List Slot) → row pages (suc k) slots ≡ next_row pages (row pages k slots)
 row_next pages zero slots = refl
 row_next pages (suc k) slots = row_next pages k (next_row pages slots)
 
-pub reached_next : (pages : PageMap) (id k : ℕ) (slots : List Slot) → reached pages id (suc k) slots ≡ reached pages id k slots + times id (row pages k slots)
+reached_next : (pages : PageMap) (id k : ℕ) (slots : List Slot) → reached pages id (suc k) slots ≡ reached pages id k slots + times id (row pages k slots)
 reached_next pages id zero slots = omega arith
 reached_next pages id (suc k) slots = omega (arith, reached_next pages id k (next_row pages slots))
+
+leaves_next : (pages : PageMap) (k : ℕ) (slots : List Slot) → leaves_in pages (suc k) slots ≡ leaves_in pages k slots ++ leaves_among pages (row pages k slots)
+leaves_next pages zero slots = append-nil (leaves_among pages slots)
+leaves_next pages (suc k) slots = ap (λ t. leaves_among pages slots ++ t) (leaves_next pages k (next_row pages slots)) ∙ sym (append_assoc (leaves_among pages slots) (leaves_in pages k (next_row pages slots)) (leaves_among pages (row pages k (next_row pages slots))))
 
 times_nil : (id : ℕ) (slots : List Slot) → slots ≡ [] → times id slots ≡ 0
 times_nil id slots e = ap (times id) e
 
--- what some rows name is children_at by all rows
-pub reached_prefix : (pages : PageMap) (id k d : ℕ) (slots : List Slot) → row pages d slots ≡ [] → reached pages id k slots + times id (row pages k slots) ≤ reached pages id d slots
+-- what some rows name is named by all rows
+reached_prefix : (pages : PageMap) (id k d : ℕ) (slots : List Slot) → row pages d slots ≡ [] → reached pages id k slots + times id (row pages k slots) ≤ reached pages id d slots
 reached_prefix pages id k zero slots e = omega (arith, ap (reached pages id k) e, reached_nil pages id k, times_nil id (row pages k slots) (row_past pages zero k slots e (omega arith)))
 reached_prefix pages id zero (suc d) slots e = omega arith
 reached_prefix pages id (suc k) (suc d) slots e = omega (arith, reached_prefix pages id k d (next_row pages slots) e)
 
-some_next : (pages : PageMap) (j : ℕ) (slots : List Slot) → 0 < length (row pages j slots) → 0 < length slots
-some_next pages j [] lt = absurd (omega (arith, lt, ap (λ (t : List Slot). length t) (row_nil pages j)))
-some_next pages j (s ∷ ss) lt = omega arith
+-- a leaf in one of so many rows is one of their leaves, and the other way round
+leaf_counts : (pages : PageMap) (k i : ℕ) (slots : List Slot) → i < k → HasLeaf pages (row pages i slots) → 0 < length (leaves_in pages k slots)
+leaf_counts pages zero i slots lt has = absurd (omega (arith, lt))
+leaf_counts pages (suc k) zero slots lt has = omega (arith, has, length-append (leaves_among pages slots) (leaves_in pages k (next_row pages slots)))
+leaf_counts pages (suc k) (suc i) slots lt has = omega (arith, leaf_counts pages k i (next_row pages slots) (omega (arith, lt)) has, length-append (leaves_among pages slots) (leaves_in pages k (next_row pages slots)))
 
-no_leaf : (pages : PageMap) (slots : List Slot) → (HasLeaf pages slots → ⊥) → leaves_among pages slots ≡ []
-no_leaf pages slots h = go (leaves_among pages slots) h
-  where
-    go : (ls : List LeafAt) → (0 < length ls → ⊥) → ls ≡ []
-    go [] h = refl
-    go (l ∷ ls) h = absurd (h (omega arith))
+record LeafRow (pages : PageMap) (k : ℕ) (slots : List Slot) : Type 0 where
+  at : ℕ
+  within : at < k
+  some : HasLeaf pages (row pages at slots)
 
--- where all leaves have one depth, they stand in the last row
-pub bottom_leaves : (pages : PageMap) (j : ℕ) (slots : List Slot) → row pages (suc j) slots ≡ [] → AllHeld pages (suc j) slots → IsBalanced pages slots → 0 < length (row pages j slots) → leaves_in pages (suc j) slots ≡ leaves_among pages (row pages j slots)
-bottom_leaves pages zero slots e h even lt = append-nil (leaves_among pages slots)
-bottom_leaves pages (suc j) slots e h even lt =
-    let below : AllHeld pages (suc j) (next_row pages slots) = λ id more. h id (omega (arith, more)) in
-    let deep = deep_leaf pages (suc j) (next_row pages slots) e below (some_next pages j (next_row pages slots) lt) in
-    let none : leaves_among pages slots ≡ [] = no_leaf pages slots (λ has. omega (arith, even 0 (suc deep.0) has deep.1)) in
-    ap (λ t. t ++ leaves_in pages (suc j) (next_row pages slots)) none ∙ bottom_leaves pages j (next_row pages slots) e below (λ i k a b. let same = even (suc i) (suc k) a b in omega (arith, same)) lt
+leaf_row : (pages : PageMap) (k : ℕ) (slots : List Slot) → 0 < length (leaves_in pages k slots) → LeafRow pages k slots
+leaf_row pages zero slots lt = absurd (omega (arith, lt))
+leaf_row pages (suc k) slots lt = ⊎_elim
+    (λ (here : 0 < length (leaves_among pages slots)). record { at = 0; within = omega arith; some = here })
+    (λ (none : length (leaves_among pages slots) ≤ 0).
+    let below = leaf_row pages k (next_row pages slots) (omega (arith, lt, none, length-append (leaves_among pages slots) (leaves_in pages k (next_row pages slots)))) in
+    record { at = suc below.at; within = omega (arith, below.within); some = below.some })
+    (cases_lt 0 (length (leaves_among pages slots)))
 
--- so many rows were walked
-pub record Walking (pages : PageMap) (root : ℕ) (slots : List Slot) (ids : BTreeSet ℕ) (bottom : List Slot) (seen uneven : Bool) (k : ℕ) : Type 0 where
+-- so many rows were walked, and these places of leaves kept
+pub record Walking (pages : PageMap) (root : ℕ) (slots : List Slot) (ids : BTreeSet ℕ) (kept : List Slot) (uneven : Bool) (k : ℕ) : Type 0 where
   pub at : slots ≡ row pages k (root_slot root ∷ [])
   pub count : (id : ℕ) → has ids id + reached pages id k (root_slot root ∷ []) ≡ held pages id
-  pub unseen : seen ≡ false → (i : ℕ) → i < k → HasLeaf pages (row pages i (root_slot root ∷ [])) → ⊥
-  pub seen_one : seen ≡ true → (i : ℕ) × (i < k) × HasLeaf pages (row pages i (root_slot root ∷ []))
+  pub among : leaves_among pages kept ≡ leaves_in pages k (root_slot root ∷ [])
+  pub many : length kept ≡ length (leaves_in pages k (root_slot root ∷ []))
+  pub named : (id : ℕ) → times id kept ≤ reached pages id k (root_slot root ∷ [])
   pub even : uneven ≡ false → (i j : ℕ) → i < k → j < k → HasLeaf pages (row pages i (root_slot root ∷ [])) → HasLeaf pages (row pages j (root_slot root ∷ [])) → i ≡ j
   pub odd : uneven ≡ true → (i : ℕ) × (j : ℕ) × (i < j) × HasLeaf pages (row pages i (root_slot root ∷ [])) × HasLeaf pages (row pages j (root_slot root ∷ []))
-  pub last : (j : ℕ) → k ≡ suc j → (bottom ≡ row pages j (root_slot root ∷ [])) × (0 < length bottom)
+  pub last : (j : ℕ) → k ≡ suc j → 0 < length (row pages j (root_slot root ∷ []))
 
-pub walking_none : (pages : PageMap) (root : ℕ) (ids : BTreeSet ℕ) (slots bottom : List Slot) → slots ≡ root_slot root ∷ [] → ((id : ℕ) → has ids id ≡ held pages id) → Walking pages root slots ids bottom false false 0
-walking_none pages root ids slots bottom e all = record {
+pub walking_none : (pages : PageMap) (root : ℕ) (ids : BTreeSet ℕ) (slots kept : List Slot) → slots ≡ root_slot root ∷ [] → kept ≡ [] → ((id : ℕ) → has ids id ≡ held pages id) → Walking pages root slots ids kept false 0
+walking_none pages root ids slots kept e none all = record {
   at = e;
   count = λ id. omega (arith, all id);
-  unseen = λ e i lt. absurd (omega (arith, lt));
-  seen_one = λ e. absurd cc;
+  among = ap (leaves_among pages) none;
+  many = ap (λ (t : List Slot). length t) none;
+  named = λ id. omega (arith, ap (times id) none);
   even = λ e i j lt. absurd (omega (arith, lt));
   odd = λ e. absurd cc;
   last = λ j e. absurd (omega (arith, e));
 }
 
-pub walking_some : (pages : PageMap) (root : ℕ) (slots bottom : List Slot) (ids : BTreeSet ℕ) (seen uneven : Bool) (k : ℕ) → Walking pages root slots ids bottom seen uneven k → AreSome pages ids
-walking_some pages root slots bottom ids seen uneven k w id = omega (arith, w.count id)
+-- the pages that the next row names are held, where its ids can be taken out
+pub walking_there : (pages : PageMap) (root : ℕ) (slots kept : List Slot) (ids new : BTreeSet ℕ) (uneven : Bool) (k : ℕ) → Walking pages root slots ids kept uneven k → IsTakenOut slots ids new → AreThere pages slots
+walking_there pages root slots kept ids new uneven k w taken id lt = omega (arith, lt, taken id, w.count id, held_most pages id)
 
-and_true : (a b : Bool) → (a && b) ≡ true → (a ≡ true) × (b ≡ true)
-and_true true b e = (refl, e)
-and_true false b e = absurd cc
+module _ (h : TreeHead) (m : Map) (pages : PageMap) (a : AreHeld h m pages) (root : ℕ) (slots kept next kept' : List Slot) (ids new : BTreeSet ℕ) (uneven uneven' : Bool) (k : ℕ) (some : 0 < length slots) (w : Walking pages root slots ids kept uneven k)
+    (taken : IsTakenOut slots ids new) (next_is : next ≡ next_row pages slots) (kept_is : kept' ≡ kept ++ leaf_places slots) (tells : IsTrue uneven' ↔ (IsTrue uneven ⊎ ((0 < length kept) × (length kept < length kept')))) where
+  root_row : List Slot
+  root_row = root_slot root ∷ []
 
-and_not : (a b : Bool) → (a && b) ≡ false → (a ≡ false) ⊎ (b ≡ false)
-and_not true b e = inr e
-and_not false b e = inl refl
+  there : AreThere pages slots
+  there = walking_there pages root slots kept ids new uneven k w taken
 
-pub walking_more : (pages : PageMap) (root : ℕ) (slots bottom next : List Slot) (ids new : BTreeSet ℕ) (seen uneven leaf : Bool) (k : ℕ) → 0 < length slots → Walking pages root slots ids bottom seen uneven k → IsPassed pages slots ids new next leaf
-    → Walking pages root next new slots (seen || leaf) (uneven || (seen && leaf)) (k + 1)
-walking_more pages root slots bottom next ids new seen uneven leaf k some w p =
-    let root_row : List Slot = root_slot root ∷ [] in
-    let none_here : leaf ≡ false → HasLeaf pages (row pages k root_row) → ⊥ = λ e has. omega (arith, has, ap (λ (t : List LeafAt). length t) (ap (leaves_among pages) (sym w.at) ∙ p.none e)) in
-    let some_here : leaf ≡ true → HasLeaf pages (row pages k root_row) = λ e. subst (λ (t : List Slot). HasLeaf pages t) w.at (p.some e) in
-    let more : suc k ≡ k + 1 = omega arith in
-    subst (λ (n : ℕ). Walking pages root next new slots (seen || leaf) (uneven || (seen && leaf)) n) more
-    (record {
-      at = p.next_is ∙ ap (next_row pages) w.at ∙ sym (row_next pages k root_row);
-      count = λ id. omega (arith, p.taken id, w.count id, reached_next pages id k root_row, ap (times id) w.at);
-      unseen = λ e i lt has. let both = or_false seen leaf e in ⊎_elim (λ (is : i ≡ k). none_here both.1 (subst (λ (j : ℕ). HasLeaf pages (row pages j root_row)) is has)) (λ (ne : i ≡ k → ⊥). w.unseen both.0 i (omega (arith, lt, ne)) has) (cases_eq i k);
-      seen_one = λ e. ⊎_elim (λ s. let o = w.seen_one s in (o.0, omega (arith, o.1), o.2)) (λ l. (k, omega arith, some_here l)) (or_true seen leaf e);
-      even = λ e i j lt lt' a b. let both = or_false uneven (seen && leaf) e in evens pages root_row k seen leaf (and_not seen leaf both.1) none_here w.unseen (w.even both.0) i j lt lt' a b;
-      odd = λ e. ⊎_elim w.odd (λ both. let two = and_true seen leaf both in let o = w.seen_one two.0 in (o.0, k, o.1, o.2, some_here two.1)) (or_true uneven (seen && leaf) e);
-      last = λ j e. let is : k ≡ j = omega (arith, e) in (w.at ∙ ap (λ (i : ℕ). row pages i root_row) is, some);
-    })
-  where
-    evens : (pages : PageMap) (slots : List Slot) (k : ℕ) (seen leaf : Bool) → (seen ≡ false) ⊎ (leaf ≡ false) → (leaf ≡ false → HasLeaf pages (row pages k slots) → ⊥) → (seen ≡ false → (i : ℕ) → i < k → HasLeaf pages (row pages i slots) → ⊥)
-        → ((i j : ℕ) → i < k → j < k → HasLeaf pages (row pages i slots) → HasLeaf pages (row pages j slots) → i ≡ j) → (i j : ℕ) → i < suc k → j < suc k → HasLeaf pages (row pages i slots) → HasLeaf pages (row pages j slots) → i ≡ j
-    evens pages slots k seen leaf h here unseen even i j lt lt' a b =
-        ⊎_elim
-        (λ (is : i ≡ k). ⊎_elim (λ (js : j ≡ k). is ∙ sym js) (λ (nj : j ≡ k → ⊥).
-        absurd (⊎_elim (λ (s : seen ≡ false). unseen s j (omega (arith, lt', nj)) b) (λ (l : leaf ≡ false). here l (subst (λ (m : ℕ). HasLeaf pages (row pages m slots)) is a)) h)) (cases_eq j k))
-        (λ (ni : i ≡ k → ⊥). ⊎_elim (λ (js : j ≡ k).
-        absurd (⊎_elim (λ (s : seen ≡ false). unseen s i (omega (arith, lt, ni)) a) (λ (l : leaf ≡ false). here l (subst (λ (m : ℕ). HasLeaf pages (row pages m slots)) js b)) h))
-        (λ (nj : j ≡ k → ⊥). even i j (omega (arith, lt, ni)) (omega (arith, lt', nj)) a b) (cases_eq j k)) (cases_eq i k)
+  -- so many leaves stand in the row
+  here : length kept' ≡ length kept + length (leaves_among pages (row pages k (root_slot root ∷ [])))
+  here = omega (arith, ap (λ (t : List Slot). length t) kept_is, length-append kept (leaf_places slots), kept_many h m pages slots a there, ap (λ (t : List Slot). length (leaves_among pages t)) w.at)
+
+  -- none stand above it
+  alone : (length kept < length kept' → 0 < length kept → ⊥) → HasLeaf pages (row pages k (root_slot root ∷ [])) → (i : ℕ) → i < k → HasLeaf pages (row pages i (root_slot root ∷ [])) → ⊥
+  alone not has i lt above = not (omega (arith, here, has)) (omega (arith, w.many, leaf_counts pages k i (root_slot root ∷ []) lt above))
+
+  evens : uneven' ≡ false → (i j : ℕ) → i < suc k → j < suc k → HasLeaf pages (row pages i (root_slot root ∷ [])) → HasLeaf pages (row pages j (root_slot root ∷ [])) → i ≡ j
+  evens e i j lt lt' a b = ⊎_elim
+      (λ (is : i ≡ k). ⊎_elim
+      (λ (js : j ≡ k). is ∙ sym js)
+      (λ (nj : j ≡ k → ⊥). absurd (alone not (subst (λ (n : ℕ). HasLeaf pages (row pages n (root_slot root ∷ []))) is a) j (omega (arith, lt', nj)) b)) (cases_eq j k))
+      (λ (ni : i ≡ k → ⊥). ⊎_elim
+      (λ (js : j ≡ k). absurd (alone not (subst (λ (n : ℕ). HasLeaf pages (row pages n (root_slot root ∷ []))) js b) i (omega (arith, lt, ni)) a))
+      (λ (nj : j ≡ k → ⊥). w.even (was uneven refl) i j (omega (arith, lt, ni)) (omega (arith, lt', nj)) a b) (cases_eq j k)) (cases_eq i k)
+    where
+      not : length kept < length kept' → 0 < length kept → ⊥
+      not more some = let t : uneven' ≡ true = tells.1 (inr (some, more)) in let bad = sym e ∙ t in cc
+
+      was : (b : Bool) → uneven ≡ b → uneven ≡ false
+      was false is = is
+      was true is = absurd (let t : uneven' ≡ true = tells.1 (inl is) in let bad = sym e ∙ t in cc)
+
+  odds : uneven' ≡ true → (i : ℕ) × (j : ℕ) × (i < j) × HasLeaf pages (row pages i (root_slot root ∷ [])) × HasLeaf pages (row pages j (root_slot root ∷ []))
+  odds e = ⊎_elim w.odd
+      (λ (both : (0 < length kept) × (length kept < length kept')).
+      let above = leaf_row pages k (root_slot root ∷ []) (omega (arith, both.0, w.many)) in
+      (above.at, k, above.within, above.some, omega (arith, here, both.1)))
+      (tells.0 e)
+
+  pub walking_more : Walking pages root next new kept' uneven' (k + 1)
+  walking_more =
+      let more : suc k ≡ k + 1 = omega arith in
+      subst (λ (n : ℕ). Walking pages root next new kept' uneven' n) more
+      (record {
+        at = next_is ∙ ap (next_row pages) w.at ∙ sym (row_next pages k (root_slot root ∷ []));
+        count = λ id. omega (arith, taken id, w.count id, reached_next pages id k (root_slot root ∷ []), ap (times id) w.at);
+        among = ap (leaves_among pages) kept_is ∙ among-append pages kept (leaf_places slots) ∙ ap (λ t. t ++ leaves_among pages (leaf_places slots)) w.among
+            ∙ ap (λ t. leaves_in pages k (root_slot root ∷ []) ++ t) (kept_among h m pages slots a there ∙ ap (leaves_among pages) w.at) ∙ sym (leaves_next pages k (root_slot root ∷ []));
+        many = omega (arith, here, w.many, ap (λ (t : List LeafAt). length t) (leaves_next pages k (root_slot root ∷ [])), length-append (leaves_in pages k (root_slot root ∷ [])) (leaves_among pages (row pages k (root_slot root ∷ []))));
+        named = λ id. omega (arith, ap (times id) kept_is, times-append id kept (leaf_places slots), w.named id, kept_times id slots, reached_next pages id k (root_slot root ∷ []), ap (times id) w.at);
+        even = evens;
+        odd = odds;
+        last = λ j e. let is : k ≡ j = omega (arith, e) in omega (arith, some, ap (λ (t : List Slot). length t) (w.at ∙ ap (λ (i : ℕ). row pages i (root_slot root ∷ [])) is));
+      })
+
+-- the same of numbers that are those
+pub uneven_as : (b u : Bool) (k n i j : ℕ) → k ≡ i → n ≡ j → IsTrue b ↔ (IsTrue u ⊎ ((0 < k) × (k < n))) → IsTrue b ↔ (IsTrue u ⊎ ((0 < i) × (i < j)))
+uneven_as b u k n i j e f tells = subst (λ (x : ℕ). IsTrue b ↔ (IsTrue u ⊎ ((0 < x) × (x < j)))) e (subst (λ (y : ℕ). IsTrue b ↔ (IsTrue u ⊎ ((0 < k) × (k < y)))) f tells)
 
 -- a row that can't be taken out isn't one of a tree
-pub walking_stuck : (pages : PageMap) (root : ℕ) (slots bottom : List Slot) (ids : BTreeSet ℕ) (seen uneven : Bool) (k : ℕ) → Walking pages root slots ids bottom seen uneven k → IsStuck ids slots → B3 pages root → ⊥
-walking_stuck pages root slots bottom ids seen uneven k w stuck b =
+pub walking_stuck : (pages : PageMap) (root : ℕ) (slots kept : List Slot) (ids : BTreeSet ℕ) (uneven : Bool) (k : ℕ) → Walking pages root slots ids kept uneven k → IsStuck ids slots → B3 pages root → ⊥
+walking_stuck pages root slots kept ids uneven k w stuck b =
     stuck (λ id. omega (arith, reached_prefix pages id k b.0 (root_slot root ∷ []) b.1.ends, b.1.once id, w.count id, ap (times id) w.at))
 
-pub walking_left : (pages : PageMap) (root : ℕ) (slots bottom : List Slot) (ids : BTreeSet ℕ) (seen uneven : Bool) (k id : ℕ) → Walking pages root slots ids bottom seen uneven k → slots ≡ [] → has ids id ≡ 1 → B3 pages root → ⊥
-walking_left pages root slots bottom ids seen uneven k id w none one b =
+pub walking_left : (pages : PageMap) (root : ℕ) (slots kept : List Slot) (ids : BTreeSet ℕ) (uneven : Bool) (k id : ℕ) → Walking pages root slots ids kept uneven k → slots ≡ [] → has ids id ≡ 1 → B3 pages root → ⊥
+walking_left pages root slots kept ids uneven k id w none one b =
     omega (arith, reached_prefix pages id b.0 k (root_slot root ∷ []) (sym w.at ∙ none), b.1.once id, w.count id, one)
 
-pub walking_end : (pages : PageMap) (root : ℕ) (slots bottom : List Slot) (ids : BTreeSet ℕ) (seen uneven : Bool) (k : ℕ) → Walking pages root slots ids bottom seen uneven k → slots ≡ [] → ((id : ℕ) → has ids id ≡ 0) → IsWalked pages root bottom uneven k
-walking_end pages root slots bottom ids seen uneven k w none all = go k refl
+pub walking_end : (pages : PageMap) (root : ℕ) (slots : List Slot) (ids : BTreeSet ℕ) (x : Walked) → Walking pages root slots ids x.leaves x.uneven x.height → slots ≡ [] → ((id : ℕ) → has ids id ≡ 0) → IsWalked pages root x
+walking_end pages root slots ids x w none all = record {
+  reach = record { ends = ends; once = once };
+  high = record { ends = ends; last = w.last };
+  even = λ e i j a b. w.even e i j (within i a) (within j b) a b;
+  odd = λ u b4. let o = w.odd u in omega (arith, o.2, b4 o.0 o.1 o.3 o.4);
+  placed = λ id lt. omega (arith, lt, w.named id, once id, held_most pages id);
+  leaves_are = sym w.among;
+}
   where
-    root_row : List Slot
-    root_row = root_slot root ∷ []
-
-    ends : row pages k (root_slot root ∷ []) ≡ []
+    ends : row pages x.height (root_slot root ∷ []) ≡ []
     ends = sym w.at ∙ none
 
-    within : (i : ℕ) → HasLeaf pages (row pages i (root_slot root ∷ [])) → i < k
-    within i has = ⊎_elim (λ (lt : i < k). lt) (λ (le : k ≤ i). absurd (omega (arith, has, ap (λ (t : List Slot). length (leaves_among pages t)) (row_past pages k i (root_slot root ∷ []) ends le)))) (cases_lt i k)
+    once : (id : ℕ) → reached pages id x.height (root_slot root ∷ []) ≡ held pages id
+    once id = omega (arith, all id, w.count id)
 
-    reach : IsReached pages root k
-    reach = record { ends = ends; once = λ id. omega (arith, all id, w.count id) }
-
-    is_even : uneven ≡ false → B4 pages root
-    is_even e i j a b = w.even e i j (within i a) (within j b) a b
-
-    go : (n : ℕ) → k ≡ n → IsWalked pages root bottom uneven k
-    go zero e = absurd (omega (arith, ap (λ (t : List Slot). length t) (ap (λ (i : ℕ). row pages i (root_slot root ∷ [])) (sym e) ∙ ends)))
-    go (suc j) e =
-        let l = w.last j e in
-        record {
-          reach = reach;
-          high = record { ends = ends; last = λ i f. let s = w.last i f in subst (λ (t : List Slot). 0 < length t) s.0 s.1 };
-          even = is_even;
-          odd = λ u b4. let o = w.odd u in omega (arith, o.2, b4 o.0 o.1 o.3 o.4);
-          placed = λ id lt. omega (arith, lt, ap (times id) l.0, reached_next pages id j (root_slot root ∷ []), ap (λ (i : ℕ). reached pages id i (root_slot root ∷ [])) e, all id, w.count id, held_most pages id);
-          leaves = λ u.
-              ap (λ (i : ℕ). leaves_in pages i (root_slot root ∷ [])) e
-              ∙ bottom_leaves pages j (root_slot root ∷ []) (ap (λ (i : ℕ). row pages i (root_slot root ∷ [])) (sym e) ∙ ends) (λ id lt. omega (arith, lt, ap (λ (i : ℕ). reached pages id i (root_slot root ∷ [])) e, all id, w.count id, held_most pages id)) (is_even u)
-              (subst (λ (t : List Slot). 0 < length t) l.0 l.1)
-              ∙ ap (leaves_among pages) (sym l.0);
-        }
-
--- ---- a row's loop
-
-pub front_more : (slots items : List Slot) (i : ℕ) (s : Slot) → items ≡ slots → i < length items → s ≡ get_or items i s → take (i + 1) slots ≡ take i slots ++ s ∷ []
-front_more slots items i s are lt is = subst (λ (xs : List Slot). take (i + 1) xs ≡ take i xs ++ s ∷ []) are (take_more items i s lt ∙ ap (λ (y : Slot). take i items ++ y ∷ []) (sym is))
-
-pub taken_at : (slots items : List Slot) (i : ℕ) (s : Slot) (old ids new : BTreeSet ℕ) → items ≡ slots → i < length items → s ≡ get_or items i s → ((id : ℕ) → has ids id + times id (take i slots) ≡ has old id) → has ids s.id ≡ 1 → ((x : ℕ) → has new x ≡ (if x == s.id then 0 else has ids x))
-    → (id : ℕ) → has new id + times id (take (i + 1) slots) ≡ has old id
-taken_at slots items i s old ids new are lt is taken one gone id = ap (λ (t : List Slot). has new id + times id t) (front_more slots items i s are lt is) ∙ taken_more (take i slots) s old ids new taken one gone id
-
-pub passed_at : (pages : PageMap) (slots items : List Slot) (i : ℕ) (s : Slot) (old ids new : BTreeSet ℕ) (next next' : List Slot) (leaf here : Bool) → items ≡ slots → i < length items → s ≡ get_or items i s → IsPassed pages (take i slots) old ids next leaf → has ids s.id ≡ 1
-    → ((x : ℕ) → has new x ≡ (if x == s.id then 0 else has ids x)) → IsSpread pages s next next' here → IsPassed pages (take (i + 1) slots) old new next' (leaf || here)
-passed_at pages slots items i s old ids new next next' leaf here are lt is p one gone sp =
-    subst (λ (t : List Slot). IsPassed pages t old new next' (leaf || here)) (sym (front_more slots items i s are lt is)) (passed_more pages (take i slots) s old ids new next next' leaf here p one gone sp)
-
--- a place that is still in the set is held
-pub held_at : (pages : PageMap) (old ids : BTreeSet ℕ) (slots : List Slot) (i id : ℕ) → AreSome pages old → ((id : ℕ) → has ids id + times id (take i slots) ≡ has old id) → has ids id ≡ 1 → held pages id ≡ 1
-held_at pages old ids slots i id some taken one = omega (arith, some id, taken id, one, held_most pages id)
-
--- a place that isn't makes the row stuck
-pub stuck_at : (slots items : List Slot) (i : ℕ) (s : Slot) (old ids : BTreeSet ℕ) → items ≡ slots → i < length items → s ≡ get_or items i s → ((id : ℕ) → has ids id + times id (take i slots) ≡ has old id) → has ids s.id ≡ 0 → IsStuck old slots
-stuck_at slots items i s old ids are lt is taken none all =
-    omega (arith, all s.id, taken s.id, none, times-append s.id (take (i + 1) slots) (drop (i + 1) slots), ap (times s.id) (take-append-drop (i + 1) slots), ap (times s.id) (front_more slots items i s are lt is), times-append s.id (take i slots) (s ∷ []), times-front s.id s [] refl)
-
-pub no_row : (slots : List Slot) → length slots ≤ 0 → slots ≡ []
-no_row [] le = refl
-no_row (s ∷ ss) le = absurd (omega (arith, le))
+    within : (i : ℕ) → HasLeaf pages (row pages i (root_slot root ∷ [])) → i < x.height
+    within i has = ⊎_elim (λ (lt : i < x.height). lt) (λ (le : x.height ≤ i). absurd (omega (arith, has, ap (λ (t : List Slot). length (leaves_among pages t)) (row_past pages x.height i (root_slot root ∷ []) ends le)))) (cases_lt i x.height)
 
 -- ---- a leaf that is read
 
-pub leaf_read : (h : TreeHead) (m : Map) (pages : PageMap) (s t : Slot) (l : Leaf) (r : Option Page) → AreHeld h m pages → held pages s.id ≡ 1 → IsReadAs s.id (m (key_of s.id)) r → r ≡ Some (leaf_page l) → t ≡ s → record { slot = t; leaf = l } ∷ [] ≡ leaf_at s (pages s.id)
-leaf_read h m pages s t l r a one read is same =
+pub leaf_read : (h : TreeHead) (m : Map) (pages : PageMap) (s : Slot) (l : Leaf) (r : Option Page) → AreHeld h m pages → held pages s.id ≡ 1 → IsReadAs s.id (m (key_of s.id)) r → r ≡ Some (leaf_page l) → record { slot = s; leaf = l } ∷ [] ≡ leaf_at s (pages s.id)
+leaf_read h m pages s l r a one read is =
     let p = page_of pages s.id one in
     let here : pages s.id ≡ Some (leaf_page l) = p.1 ∙ sym (read_is h m pages s.id r p.0 a p.1 read) ∙ is in
-    ap (λ (u : Slot). record { slot = u; leaf = l } ∷ []) same ∙ sym (ap (λ o. leaf_at s o) here)
+    sym (ap (λ o. leaf_at s o) here)
 
 pub no_leaf_above : (h : TreeHead) (m : Map) (pages : PageMap) (s : Slot) → AreHeld h m pages → held pages s.id ≡ 1 → node_offset ≤ s.id → [] ≡ leaf_at s (pages s.id)
 no_leaf_above h m pages s a one le = let p = page_of pages s.id one in let n = node_above h m pages s.id p.0 a p.1 le in sym (ap (λ o. leaf_at s o) n.1)
 
-pub leaf_not_read : (h : TreeHead) (m : Map) (pages : PageMap) (s : Slot) (r : Option Page) → AreHeld h m pages → held pages s.id ≡ 1 → s.id < node_offset → IsReadAs s.id (m (key_of s.id)) r → ((l : Leaf) → r ≡ Some (leaf_page l) → ⊥) → ⊥
-leaf_not_read h m pages s r a one lt read not =
-    let p = page_of pages s.id one in
-    let l = leaf_below h m pages s.id p.0 a p.1 lt in
-    not l.0 (read_is h m pages s.id r (leaf_page l.0) a l.1 read)
-
--- ---- how often the store is asked
-
-bit_one : (b : Bool) → (if b then 0 else 1) ≤ 1
-bit_one true = omega arith
-bit_one false = omega arith
-
-pub one_node : (s : Slot) → node_count (s ∷ []) ≤ 1
-one_node s = omega (arith, bit_one (nat_lt s.id node_offset))
-
-nodes-append : (xs ys : List Slot) → node_count (xs ++ ys) ≡ node_count xs + node_count ys
-nodes-append [] ys = omega arith
-nodes-append (x ∷ xs) ys = omega (arith, nodes-append xs ys)
-
-leaves-append : (xs ys : List Slot) → leaf_count (xs ++ ys) ≡ leaf_count xs + leaf_count ys
-leaves-append [] ys = omega arith
-leaves-append (x ∷ xs) ys = omega (arith, leaves-append xs ys)
-
-bits : (b : Bool) → (if b then 1 else 0) + (if b then 0 else 1) ≡ 1
-bits true = omega arith
-bits false = omega arith
-
-pub counts_all : (slots : List Slot) → leaf_count slots + node_count slots ≡ length slots
-counts_all [] = omega arith
-counts_all (s ∷ ss) = omega (arith, counts_all ss, bits (nat_lt s.id node_offset))
-
-pub nodes_more : (slots items : List Slot) (i : ℕ) (s : Slot) → items ≡ slots → i < length items → s ≡ get_or items i s → (start so_far now : ℕ) → so_far ≤ start + node_count (take i slots) → now ≤ so_far + node_count (s ∷ []) → now ≤ start + node_count (take (i + 1) slots)
-nodes_more slots items i s are lt is start so_far now a b = omega (arith, a, b, ap node_count (front_more slots items i s are lt is), nodes-append (take i slots) (s ∷ []))
-
-pub leaves_more : (slots items : List Slot) (i : ℕ) (s : Slot) → items ≡ slots → i < length items → s ≡ get_or items i s → (start so_far now : ℕ) → so_far ≤ start + leaf_count (take i slots) → now ≤ so_far + leaf_count (s ∷ []) → now ≤ start + leaf_count (take (i + 1) slots)
-leaves_more slots items i s are lt is start so_far now a b = omega (arith, a, b, ap leaf_count (front_more slots items i s are lt is), leaves-append (take i slots) (s ∷ []))
-
-pub leaves_whole : (slots items : List Slot) (i : ℕ) (s : Slot) → items ≡ slots → i < length items → s ≡ get_or items i s → (start so_far now : ℕ) → so_far ≤ start + leaf_count (take i slots) → now ≤ so_far + leaf_count (s ∷ []) → now ≤ start + leaf_count slots
-leaves_whole slots items i s are lt is start so_far now a b = omega (arith, leaves_more slots items i s are lt is start so_far now a b, leaves-append (take (i + 1) slots) (drop (i + 1) slots), ap leaf_count (take-append-drop (i + 1) slots))
+-- what isn't read as a leaf is none
+pub no_leaf_read : (h : TreeHead) (m : Map) (pages : PageMap) (s : Slot) (r : Option Page) → AreHeld h m pages → held pages s.id ≡ 1 → IsReadAs s.id (m (key_of s.id)) r → ((l : Leaf) → r ≡ Some (leaf_page l) → ⊥) → [] ≡ leaf_at s (pages s.id)
+no_leaf_read h m pages s r a one read not = let p = page_of pages s.id one in go p.0 p.1 (read_is h m pages s.id r p.0 a p.1 read)
+  where
+    go : (p : Page) → pages s.id ≡ Some p → r ≡ Some p → [] ≡ leaf_at s (pages s.id)
+    go (leaf_page l) e is = absurd (not l is)
+    go (node_page n) e is = sym (ap (λ o. leaf_at s o) e)

@@ -2,18 +2,25 @@
 use Rattle.std.specs.Prelude.{◌≡◌, ℕ, ◌⊎◌, List, Bool, true, false, Some, ◌==◌, ◌&&◌, if◌then◌else◌}
 use Rattle.std.specs.Ordering.{nat_cmp}
 use Rattle.std.specs.BTreeSet.{BTreeSet, contains}
+use Rattle.std.specs.FinMap.{get}
+use Rattle.tc_base.specs.Maps.{Map as Stored}
 use Rattle.bt_page.specs.Keys.{key_of}
 use Rattle.bt_rows.specs.declared.head.TreeHead.{TreeHead}
 use Rattle.bt_rows.specs.declared.page.Page.{Page}
 use Rattle.bt_rows.specs.Pages.{Map, PageMap, IsGiven, IsPage}
 use Rattle.bt_rows.specs.Rows.{held}
 use Rattle.bt_rows.specs.Rules.{B5, IsPageAt, IsWithin, column}
+use Rattle.bt_check.specs.declared.collecting.Collected.{Collected}
 use Rattle.bt_check.specs.declared.collecting.Found.{Found}
 use Rattle.bt_check.specs.declared.collecting.Found.TheVariants.{Page as found_page, Column, Nothing}
 
 -- whether a set has an id
 unfoldable pub has : BTreeSet ℕ → ℕ → ℕ
 has ids id = if contains nat_cmp ids id then 1 else 0
+
+-- it has an id so often, and all others as before
+abbrev pub IsSetTo : ℕ → ℕ → BTreeSet ℕ → BTreeSet ℕ → Type 0
+IsSetTo id n old new = (x : ℕ) → has new x ≡ (if x == id then n else has old x)
 
 -- the bytes are one page, within the limits or not
 pub record IsOnePage (h : TreeHead) (id : ℕ) (bytes : List ℕ) (within : Bool) : Type 0 where
@@ -29,11 +36,14 @@ IsFound h index m key (found_page id within) = IsGiven h id × (key ≡ key_of i
 IsFound h index m key Column = (index ≡ true) × (key ≡ column) × ((id : ℕ) → IsGiven h id → key ≡ key_of id → ⊥)
 IsFound h index m key Nothing = (bytes : List ℕ) → m key ≡ Some bytes → IsPageAt h key bytes ⊎ ((index ≡ true) × (key ≡ column)) → ⊥
 
+abbrev pub IsFoundAt : TreeHead → Bool → List ℕ → Found → Stored → Type 0
+IsFoundAt h index key found m = IsFound h index (get m) key found
+
 -- what was found is noted, or can't be
-abbrev pub IsNoted : Found → Bool → BTreeSet ℕ → Bool → BTreeSet ℕ → Bool → Type 0
-IsNoted (found_page id inside) b ids within ids' within' = (b ≡ true) × ((x : ℕ) → has ids' x ≡ (if x == id then 1 else has ids x)) × (within' ≡ (within && inside))
-IsNoted Column b ids within ids' within' = (b ≡ true) × (ids' ≡ ids) × (within' ≡ within)
-IsNoted Nothing b ids within ids' within' = b ≡ false
+abbrev pub IsNoted : Found → Bool → Collected → Collected → Type 0
+IsNoted (found_page id inside) b old new = (b ≡ true) × IsSetTo id 1 old.ids new.ids × (new.within ≡ (old.within && inside))
+IsNoted Column b old new = (b ≡ true) × (new.ids ≡ old.ids) × (new.within ≡ old.within)
+IsNoted Nothing b old new = b ≡ false
 
 -- the ids are those of all pages, and all pages are within the limits or not
 pub record IsCollected (h : TreeHead) (m : Map) (ids : BTreeSet ℕ) (within : Bool) (pages : PageMap) : Type 0 where

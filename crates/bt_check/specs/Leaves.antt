@@ -1,9 +1,24 @@
 -- Leaves that were seen, one by one.
-use Rattle.std.specs.Prelude.{◌≡◌, ◌↔◌, ℕ, ◌-◌, List, [], ◌∷◌, Bool, Option, Some, None, ⊤, IsTrue, length, nat_le, if◌then◌else◌}
+use Rattle.std.specs.Prelude.{◌≡◌, ◌↔◌, ℕ, ◌-◌, List, [], ◌∷◌, ◌++◌, Option, Some, None, ⊤, IsTrue, length, nat_le, option_to_list, if◌then◌else◌}
+use Rattle.std.specs.List.{AllByRecursion}
+use Rattle.tc_base.specs.Maps.{Map as Stored}
+use Rattle.bt_page.specs.declared.page.Item.{Item}
 use Rattle.bt_rows.specs.declared.head.TreeHead.{TreeHead}
 use Rattle.bt_rows.specs.declared.page.LeafAt.{LeafAt}
+use Rattle.bt_rows.specs.declared.page.Slot.{Slot}
 use Rattle.bt_rows.specs.Orders.{Before}
-use Rattle.bt_rows.specs.Rules.{InLeaf, IsBelow, InOrder, pairs_of}
+use Rattle.bt_rows.specs.Rows.{held, leaf_at, leaves_among}
+use Rattle.bt_rows.specs.Rules.{AtLeast, InLeaf, InOrder, IsBelow, Under, pairs_of}
+use Rattle.bt_check.specs.ReadPages.{OfPages}
+use Rattle.bt_check.specs.Walks.{AreThere}
+use Rattle.bt_check.specs.declared.leaves.Seen.{Seen}
+
+-- all keys against a bound
+abbrev pub AreAbove : Before → Option (List ℕ) → List Item → Type 0
+AreAbove before bound items = AllByRecursion (λ x. AtLeast before bound x.key) items
+
+abbrev pub AreUnder : Before → Option (List ℕ) → List Item → Type 0
+AreUnder before bound items = AllByRecursion (λ x. Under before x.key bound) items
 
 -- a leaf in order behind the last one
 abbrev pub IsBehind : Before → Option LeafAt → LeafAt → Type 0
@@ -35,8 +50,24 @@ AreTied h o [] = ⊤
 AreTied h o (l ∷ ls) = IsTied h o l × AreTied h (Some l) ls
 
 -- what was seen of leaves
-pub record IsSeen (before : Before) (h : TreeHead) (ls : List LeafAt) (last : Option LeafAt) (ordered linked : Bool) (left : Option ℕ) : Type 0 where
-  pub last_is : last ≡ last_leaf None ls
-  pub in_order : IsTrue ordered ↔ InOrder before ls
-  pub tied : IsTrue linked ↔ AreTied h None ls
-  pub rest : left ≡ less (Some h.pairs) (length (pairs_of ls))
+pub record IsSeen (before : Before) (h : TreeHead) (ls : List LeafAt) (s : Seen) : Type 0 where
+  pub last_is : s.last ≡ last_leaf None ls
+  pub in_order : IsTrue s.ordered ↔ InOrder before ls
+  pub tied : IsTrue s.linked ↔ AreTied h None ls
+  pub rest : s.left ≡ less (Some h.pairs) (length (pairs_of ls))
+
+-- these are seen behind whatever was seen
+abbrev pub Sees : Before → TreeHead → List LeafAt → Seen → Seen → Type 0
+Sees before h more old new = (ls : List LeafAt) → IsSeen before h ls old → IsSeen before h (ls ++ more) new
+
+-- it is so of whatever leaves were seen
+abbrev pub OfSeen : TreeHead → Seen → (Before → List LeafAt → Type 0) → Type 0
+OfSeen h s Is = (before : Before) (ls : List LeafAt) → IsSeen before h ls s → Is before ls
+
+-- the leaf in a place, if one stands there
+abbrev pub IsLeafIn : Slot → Option LeafAt → Stored → Type 0
+IsLeafIn s there m = OfPages m (λ pages. held pages s.id ≡ 1 → option_to_list there ≡ leaf_at s (pages s.id))
+
+-- the leaves in these places were seen
+abbrev pub SeesAll : Before → TreeHead → List Slot → Seen → Stored → Type 0
+SeesAll before h slots s m = OfPages m (λ pages. AreThere pages slots → IsSeen before h (leaves_among pages slots) s)

@@ -1,7 +1,11 @@
--- A page as it is read.
+-- Pages as they are read.
 use Rattle.std.specs.Prelude.{◌≡◌, ℕ, List, Option, Some, None, ⊤}
+use Rattle.std.specs.FinMap.{get}
+use Rattle.tc_base.specs.Maps.{Map as Stored}
+use Rattle.bt_page.specs.Keys.{key_of}
+use Rattle.bt_rows.specs.declared.head.TreeHead.{TreeHead}
 use Rattle.bt_rows.specs.declared.page.Page.{Page}
-use Rattle.bt_rows.specs.Pages.{IsPage}
+use Rattle.bt_rows.specs.Pages.{AreHeld, IsPage, PageMap}
 
 -- the bytes are that page and no other, or none
 abbrev pub IsParsed : ℕ → List ℕ → Option Page → Type 0
@@ -13,3 +17,10 @@ abbrev pub IsReadAs : ℕ → Option (List ℕ) → Option Page → Type 0
 IsReadAs id None None = ⊤
 IsReadAs id None (Some p) = ⊥
 IsReadAs id (Some bytes) p = IsParsed id bytes p
+
+abbrev pub IsReadOf : ℕ → Option Page → Stored → Type 0
+IsReadOf id p m = IsReadAs id (get m (key_of id)) p
+
+-- it is so of the pages that a map holds
+abbrev pub OfPages : Stored → (PageMap → Type 0) → Type 0
+OfPages m Is = (h : TreeHead) (pages : PageMap) → AreHeld h (get m) pages → Is pages

@@ -1,23 +1,15 @@
 //! The rules in their order.
-ghost use Rattle.std.specs.Prelude.{◌≡◌, ◌↔◌, ◌≤◌, ◌+◌, ◌*◌, IsTrue, OnOk, IfOk, IfErr, IsErrOf};
-ghost use Rattle.std.specs.BTreeSet.{btree_set_len};
-ghost use Rattle.std.specs.FinMap.{get, len};
-ghost use Rattle.tc_base.specs.Maps.{Map as stored};
-ghost use Rattle.tc_space.specs.Frames.{In};
-ghost use Rattle.tc_space.specs.Refusals.{Blamed};
-ghost use Rattle.tc_space.specs.Stores.{IsReady};
+ghost use Rattle.std.specs.Prelude.{◌≡◌, ◌↔◌, ◌≤◌, IsTrue, OnOk, IfOk, IfErr};
 ghost use Rattle.bt_page.specs.Limits.{IsLimit};
-ghost use Rattle.bt_rows.specs.Heads.{head_of};
 ghost use Rattle.bt_rows.specs.Orders.{before_by};
 ghost use Rattle.bt_rows.specs.Rules.{B1};
-ghost use Rattle.bt_rows.specs.Standing.{PagesStand, TreeStands};
-ghost use Rattle.bt_check.specs.Looks.{Looks};
-ghost use Rattle.bt_check.specs.Walks.{IsHigh, leaf_count};
-ghost use Rattle.bt_check.specs.Verdicts.{Breaks, BreaksEarly, Gathered, IsBottom, broken_at, open_of};
+ghost use Rattle.bt_check.specs.Looks.{AsksFor, Gives, Looks, MayLook, OnOpenFault};
+ghost use Rattle.bt_check.specs.Verdicts.{BreaksFirst, BreaksIn, Gathers, HasFew, KeepsRules, LeavesSome, Measures, StandsPlaced, broken_at, open_of};
 
 use crate::collecting::{Collected, collect};
 use crate::leaves::{broken_rule, see_all};
-use crate::walking::{Walked, walk};
+use crate::rows::Walked;
+use crate::walking::walk;
 use bt_page::{LIMIT_LEAST, LIMIT_MOST};
 use bt_rows::TreeHead;
 use std::alloc::Global;
@@ -76,28 +68,22 @@ fn gather<R: Records>(
     head: &TreeHead,
     index: bool,
 ) -> Result<Collected, OpenErr>
-    requires ready { IsReady R.S.Space (In R.S.Space R.file_of R.holds) store.old space.old }
+    requires { MayLook R.S.Space R.Records store.old space.old }
     ensures head { OnOk result (B1 head.now) }
-    ensures ok { IfOk result (λ c. (m : stored) → In R.S.Space R.file_of R.holds store.old space.old m → Gathered head.now index (get m) c.ids c.within) }
-    ensures broken { IfErr result (λ e. BreaksEarly head.now index (R.file_of store.old) (In R.S.Space R.file_of R.holds store.old space.old) e) }
-    ensures looks { Looks R.S.Space R.file_of R.holds R.region store.old store.new space.old space.new }
-    ensures few { IfOk result (λ c. (m : stored) → In R.S.Space R.file_of R.holds store.old space.old m → btree_set_len c.ids ≤ len m) }
-    ensures asks { (m : stored) → In R.S.Space R.file_of R.holds store.old space.old m → R.gets store.new ≤ R.gets store.old + len m }
-    ensures cause { Blamed R.S.Space (IsErrOf result OpenErr.Fault) space.old space.new }
+    ensures ok { Gives R.S.Space R.Records result store.old space.old (Gathers head.now index) }
+    ensures broken { IfErr result (BreaksFirst R.S.Space R.Records head.now index store.old space.old) }
+    ensures looks { Looks R.S.Space R.Records store.old store.new space.old space.new }
+    ensures few { Gives R.S.Space R.Records result store.old space.old HasFew }
+    ensures asks { AsksFor R.S.Space R.Records 1 store.old store.new space.old }
+    ensures cause { OnOpenFault R.S.Space result space.old space.new }
 {
     let file = store.file();
     if !is_head(head) {
         return Err(broken(file, 1));
     }
     let mut steps: Steps<R> = Steps::new();
-    let keys = match store.keys(space, &mut steps) {
-        Ok(keys) => keys,
-        Err(e) => return Err(refusal(e)),
-    };
-    let collected = match collect(alloc, store, space, head, index, &keys) {
-        Ok(collected) => collected,
-        Err(e) => return Err(refusal(e)),
-    };
+    let keys = store.keys(space, &mut steps).map_err(refusal)?;
+    let collected = collect(alloc, store, space, head, index, &keys).map_err(refusal)?;
     let Some(collected) = collected else {
         return Err(broken(file, 2));
     };
@@ -112,23 +98,18 @@ fn check_pages<R: Records>(
     head: &TreeHead,
     index: bool,
 ) -> Result<Walked, OpenErr>
-    requires ready { IsReady R.S.Space (In R.S.Space R.file_of R.holds) store.old space.old }
-    ensures ok { IfOk result (λ w. (m : stored) → In R.S.Space R.file_of R.holds store.old space.old m → (s : PagesStand head.now index (get m)) × IsBottom head.now index (get m) s w.bottom w.height) }
-    ensures broken { IfErr result (λ e. BreaksEarly head.now index (R.file_of store.old) (In R.S.Space R.file_of R.holds store.old space.old) e) }
-    ensures looks { Looks R.S.Space R.file_of R.holds R.region store.old store.new space.old space.new }
-    ensures asks { (m : stored) → In R.S.Space R.file_of R.holds store.old space.old m → R.gets store.new ≤ R.gets store.old + 2 * len m }
-    ensures nodes { IfOk result (λ w. (m : stored) → In R.S.Space R.file_of R.holds store.old space.old m → R.gets store.new + leaf_count w.bottom ≤ R.gets store.old + 2 * len m) }
-    ensures cause { Blamed R.S.Space (IsErrOf result OpenErr.Fault) space.old space.new }
+    requires { MayLook R.S.Space R.Records store.old space.old }
+    ensures ok { Gives R.S.Space R.Records result store.old space.old (StandsPlaced head.now index) }
+    ensures broken { IfErr result (BreaksFirst R.S.Space R.Records head.now index store.old space.old) }
+    ensures looks { Looks R.S.Space R.Records store.old store.new space.old space.new }
+    ensures asks { AsksFor R.S.Space R.Records 2 store.old store.new space.old }
+    ensures few { Gives R.S.Space R.Records result store.old space.old (LeavesSome (R.gets store.old) (R.gets store.new)) }
+    ensures cause { OnOpenFault R.S.Space result space.old space.new }
 {
     let file = store.file();
-    let Collected { ids, within } = match gather(alloc, store, space, head, index) {
-        Ok(collected) => collected,
-        Err(e) => return Err(e),
-    };
-    let walked = match walk(alloc, store, space, head.root, ids) {
-        Ok(walked) => walked,
-        Err(e) => return Err(refusal(e)),
-    };
+    let collected = gather(alloc, store, space, head, index)?;
+    let within = collected.within;
+    let walked = walk(alloc, store, space, head.root, collected.ids).map_err(refusal)?;
     let Some(walked) = walked else {
         return Err(broken(file, 3));
     };
@@ -150,26 +131,21 @@ pub fn measure_tree<R: Records, O: Order>(
     space: &mut R::S,
     index: bool,
 ) -> Result<u64, OpenErr>
-    requires ready { IsReady R.S.Space (In R.S.Space R.file_of R.holds) store.old space.old }
+    requires { MayLook R.S.Space R.Records store.old space.old }
     ensures some { IfOk result (λ height. 1 ≤ height) }
-    ensures stands { IfOk result (λ height. (m : stored) → In R.S.Space R.file_of R.holds store.old space.old m → (s : TreeStands (before_by O.cmp) (head_of (R.region store.old)) index (get m)) × IsHigh s.stand.pages (head_of (R.region store.old)).root height) }
-    ensures broken { IfErr result (λ e. Breaks (before_by O.cmp) (head_of (R.region store.old)) index (R.file_of store.old) (In R.S.Space R.file_of R.holds store.old space.old) e) }
-    ensures looks { Looks R.S.Space R.file_of R.holds R.region store.old store.new space.old space.new }
-    ensures asks { (m : stored) → In R.S.Space R.file_of R.holds store.old space.old m → R.gets store.new ≤ R.gets store.old + 2 * len m }
-    ensures cause { Blamed R.S.Space (IsErrOf result OpenErr.Fault) space.old space.new }
+    ensures stands { Measures R.S.Space R.Records result (before_by O.cmp) index store.old space.old }
+    ensures broken { IfErr result (BreaksIn R.S.Space R.Records (before_by O.cmp) index store.old space.old) }
+    ensures looks { Looks R.S.Space R.Records store.old store.new space.old space.new }
+    ensures asks { AsksFor R.S.Space R.Records 2 store.old store.new space.old }
+    ensures cause { OnOpenFault R.S.Space result space.old space.new }
 {
     let file = store.file();
     let head = TreeHead::read(&store.opaque());
-    let walked = match check_pages(alloc, store, space, &head, index) {
-        Ok(walked) => walked,
-        Err(e) => return Err(e),
-    };
-    let seen = match see_all::<R, O>(alloc, store, space, &head, &walked.bottom) {
-        Ok(seen) => seen,
-        Err(e) => return Err(refusal(e)),
-    };
+    let walked = check_pages(alloc, store, space, &head, index)?;
+    let height = walked.height;
+    let seen = see_all::<R, O>(alloc, store, space, &head, walked.leaves).map_err(refusal)?;
     match broken_rule(&head, &seen) {
-        None => Ok(walked.height),
+        None => Ok(height),
         Some(number) => Err(broken(file, number)),
     }
 }
@@ -181,15 +157,13 @@ pub fn check_tree<R: Records, O: Order>(
     space: &mut R::S,
     index: bool,
 ) -> Result<(), OpenErr>
-    requires ready { IsReady R.S.Space (In R.S.Space R.file_of R.holds) store.old space.old }
-    ensures stands { OnOk result ((m : stored) → In R.S.Space R.file_of R.holds store.old space.old m → TreeStands (before_by O.cmp) (head_of (R.region store.old)) index (get m)) }
-    ensures broken { IfErr result (λ e. Breaks (before_by O.cmp) (head_of (R.region store.old)) index (R.file_of store.old) (In R.S.Space R.file_of R.holds store.old space.old) e) }
-    ensures looks { Looks R.S.Space R.file_of R.holds R.region store.old store.new space.old space.new }
-    ensures asks { (m : stored) → In R.S.Space R.file_of R.holds store.old space.old m → R.gets store.new ≤ R.gets store.old + 2 * len m }
-    ensures cause { Blamed R.S.Space (IsErrOf result OpenErr.Fault) space.old space.new }
+    requires { MayLook R.S.Space R.Records store.old space.old }
+    ensures stands { OnOk result (KeepsRules R.S.Space R.Records (before_by O.cmp) index store.old space.old) }
+    ensures broken { IfErr result (BreaksIn R.S.Space R.Records (before_by O.cmp) index store.old space.old) }
+    ensures looks { Looks R.S.Space R.Records store.old store.new space.old space.new }
+    ensures asks { AsksFor R.S.Space R.Records 2 store.old store.new space.old }
+    ensures cause { OnOpenFault R.S.Space result space.old space.new }
 {
-    match measure_tree::<R, O>(alloc, store, space, index) {
-        Ok(_) => Ok(()),
-        Err(e) => Err(e),
-    }
+    measure_tree::<R, O>(alloc, store, space, index)?;
+    Ok(())
 }

@@ -1,19 +1,14 @@
 //! The pages of a store, by its keys.
-ghost use Rattle.std.specs.Prelude.{◌≡◌, ◌≤◌, ◌+◌, ◌↔◌, Some, length, IfOk, IfSome, IsTrue, MatchOption};
+ghost use Rattle.std.specs.Prelude.{◌≡◌, ◌≤◌, ◌+◌, ◌↔◌, Some, length, IfOk, IfSome, IsTrue, OnOk};
 ghost use Rattle.std.specs.BTreeSet.{btree_set_len};
-ghost use Rattle.std.specs.FinMap.{get};
-ghost use Rattle.tc_base.specs.Maps.{Map as stored};
-ghost use Rattle.tc_space.specs.Frames.{In};
 ghost use Rattle.tc_space.specs.Refusals.{OnFault};
-ghost use Rattle.tc_space.specs.Stores.{IsReady};
 ghost use Rattle.bt_page.specs.Pages.{leaf_bytes, LeafFits};
 ghost use Rattle.bt_page.specs.Spelled.{Spells};
 ghost use Rattle.bt_rows.specs.Pages.{IsPage};
-ghost use Rattle.bt_rows.specs.Rules.{B1, B2, IsWithin, LeafLimits};
-ghost use Rattle.bt_check.specs.Collected.{IsFound, IsNoted};
-ghost use Rattle.bt_check.specs.Keys.{IsListed};
-ghost use Rattle.bt_check.specs.Looks.{Looks};
-ghost use Rattle.bt_check.specs.Verdicts.{Gathered};
+ghost use Rattle.bt_rows.specs.Rules.{B1, IsWithin, LeafLimits};
+ghost use Rattle.bt_check.specs.Collected.{IsFoundAt, IsNoted};
+ghost use Rattle.bt_check.specs.Looks.{Gives, Looks, MayLook};
+ghost use Rattle.bt_check.specs.Verdicts.{GathersAll};
 
 use crate::ids::add;
 use crate::pages::{find, given_id, parse};
@@ -44,8 +39,8 @@ pub(crate) struct Collected {
 impl Collected {
     // Adds what a key is, and answers whether it may be.
     fn note(&mut self, found: Found) -> Result<bool, AllocError>
-        ensures noted { IfOk result (λ b. IsNoted found b self.old.ids self.old.within self.new.ids self.new.within) }
-        ensures few { IfOk result (λ b. btree_set_len self.new.ids ≤ btree_set_len self.old.ids + 1) }
+        ensures noted { IfOk result (λ b. IsNoted found b self.old self.new) }
+        ensures few { OnOk result (btree_set_len self.new.ids ≤ btree_set_len self.old.ids + 1) }
     {
         match found {
             Found::Page(id, within) => {
@@ -98,9 +93,9 @@ fn look<R: Records>(
     key: &[u8],
 ) -> Result<Found, RecErr>
     requires head { B1 head.now }
-    requires ready { IsReady R.S.Space (In R.S.Space R.file_of R.holds) store.old space.old }
-    ensures found { IfOk result (λ f. (m : stored) → In R.S.Space R.file_of R.holds store.old space.old m → IsFound head.now index (get m) key.now f) }
-    ensures looks { Looks R.S.Space R.file_of R.holds R.region store.old store.new space.old space.new }
+    requires ready { MayLook R.S.Space R.Records store.old space.old }
+    ensures found { Gives R.S.Space R.Records result store.old space.old (IsFoundAt head.now index key.now) }
+    ensures looks { Looks R.S.Space R.Records store.old store.new space.old space.new }
     ensures asks { R.gets store.new ≤ R.gets store.old + 1 }
     ensures cause { OnFault R.S.Space result space.old space.new }
 {
@@ -111,11 +106,7 @@ fn look<R: Records>(
             Found::Nothing
         });
     };
-    let found = match find(store, space, key) {
-        Ok(found) => found,
-        Err(e) => return Err(e),
-    };
-    let Some(bytes) = found else {
+    let Some(bytes) = find(store, space, key)? else {
         return Ok(Found::Nothing);
     };
     let Some(page) = parse(alloc, id, bytes.as_slice())? else {
@@ -134,9 +125,9 @@ pub(crate) fn collect<R: Records>(
     keys: &Blobs,
 ) -> Result<Option<Collected>, RecErr>
     requires head { B1 head.now }
-    requires ready { IsReady R.S.Space (In R.S.Space R.file_of R.holds) store.old space.old }
-    ensures some { IfOk result (λ o. (m : stored) → In R.S.Space R.file_of R.holds store.old space.old m → IsListed (get m) keys.now → MatchOption o (B2 head.now index (get m) → ⊥) (λ c. Gathered head.now index (get m) c.ids c.within)) }
-    ensures looks { Looks R.S.Space R.file_of R.holds R.region store.old store.new space.old space.new }
+    requires ready { MayLook R.S.Space R.Records store.old space.old }
+    ensures some { Gives R.S.Space R.Records result store.old space.old (GathersAll head.now index keys.now) }
+    ensures looks { Looks R.S.Space R.Records store.old store.new space.old space.new }
     ensures few { IfOk result (λ o. IfSome o (λ c. btree_set_len c.ids ≤ length keys.now)) }
     ensures asks { R.gets store.new ≤ R.gets store.old + length keys.now }
     ensures cause { OnFault R.S.Space result space.old space.new }
@@ -146,10 +137,7 @@ pub(crate) fn collect<R: Records>(
         within: true,
     };
     for key in keys.as_slice() {
-        let found = match look(alloc, store, space, head, index, key.as_slice()) {
-            Ok(found) => found,
-            Err(e) => return Err(e),
-        };
+        let found = look(alloc, store, space, head, index, key.as_slice())?;
         if !collected.note(found)? {
             return Ok(None);
         }

@@ -1,25 +1,15 @@
-//! The leaves of the bottom row, from first to last.
-ghost use Rattle.std.specs.Prelude.{◌≡◌, ◌↔◌, ◌++◌, ◌<◌, ◌≤◌, ◌+◌, ◌∷◌, [], ℕ, List, IfOk, IfSome, IfNone, IsTrue, length, option_to_list};
-ghost use Rattle.std.specs.FinMap.{get};
-ghost use Rattle.tc_base.specs.Maps.{Map as stored};
-ghost use Rattle.tc_space.specs.Frames.{In};
-ghost use Rattle.tc_space.specs.Refusals.{OnFault};
-ghost use Rattle.tc_space.specs.Stores.{IsReady};
+//! The leaves of a tree, from first to last.
+ghost use Rattle.std.specs.Prelude.{◌≡◌, ◌↔◌, ◌≤◌, ◌+◌, IsTrue, length, option_to_list};
 ghost use Rattle.std.specs.List.{flat_map};
-ghost use Rattle.bt_rows.specs.declared.head.TreeHead.{TreeHead as the_head};
-ghost use Rattle.bt_rows.specs.declared.page.LeafAt.{LeafAt as the_leaf_at};
-ghost use Rattle.bt_rows.specs.Orders.{Before, before_by};
-ghost use Rattle.bt_rows.specs.Pages.{PageMap, AreHeld};
-ghost use Rattle.bt_rows.specs.Rows.{leaf_at, leaves_among, times, held};
+ghost use Rattle.tc_space.specs.Refusals.{OnFault};
+ghost use Rattle.bt_rows.specs.Orders.{before_by};
 ghost use Rattle.bt_rows.specs.Rules.{item_pairs};
-ghost use Rattle.bt_check.specs.Looks.{Looks};
-ghost use Rattle.bt_check.specs.Leaves.{IsBehind, IsTied, IsClosed, IsSeen, less};
-ghost use Rattle.bt_check.specs.Walks.{leaf_count};
-ghost use Rattle.bt_check.specs.Verdicts.{LeavesHold, LeavesBreak, rule_b};
+ghost use Rattle.bt_check.specs.Looks.{Gives, Looks, MayLook};
+ghost use Rattle.bt_check.specs.Leaves.{IsBehind, IsClosed, IsLeafIn, IsTied, Sees, SeesAll, less};
+ghost use Rattle.bt_check.specs.Verdicts.{Judges};
 
 use crate::ordering::{in_leaf, is_below};
 use crate::pages::read_page;
-use crate::walking::copy_bound;
 use bt_page::Item;
 use bt_rows::{LeafAt, Page, Slot, TreeHead};
 use std::alloc::Global;
@@ -86,7 +76,7 @@ fn is_closed(head: &TreeHead, last: &Option<LeafAt>) -> bool
 impl Seen {
     // Takes a leaf behind those that were seen, if there is one.
     fn see<O: Order>(&mut self, head: &TreeHead, there: Option<LeafAt>)
-        ensures { (ls : List the_leaf_at) → IsSeen (before_by O.cmp) head.now ls self.old.last self.old.ordered self.old.linked self.old.left → IsSeen (before_by O.cmp) head.now (ls ++ option_to_list there) self.new.last self.new.ordered self.new.linked self.new.left }
+        ensures { Sees (before_by O.cmp) head.now (option_to_list there) self.old self.new }
     {
         let Some(m) = there else {
             return;
@@ -103,43 +93,36 @@ fn leaf_in<R: Records>(
     alloc: Global,
     store: &mut R,
     space: &mut R::S,
-    slot: &Slot,
+    slot: Slot,
 ) -> Result<Option<LeafAt>, RecErr>
-    requires ready { IsReady R.S.Space (In R.S.Space R.file_of R.holds) store.old space.old }
-    ensures leaf { IfOk result (λ o. (m : stored) → In R.S.Space R.file_of R.holds store.old space.old m → (h : the_head) (pages : PageMap) → AreHeld h (get m) pages → held pages slot.now.id ≡ 1 → option_to_list o ≡ leaf_at slot.now (pages slot.now.id)) }
-    ensures looks { Looks R.S.Space R.file_of R.holds R.region store.old store.new space.old space.new }
-    ensures asks { R.gets store.new ≤ R.gets store.old + leaf_count (slot.now ∷ []) }
+    requires { MayLook R.S.Space R.Records store.old space.old }
+    ensures leaf { Gives R.S.Space R.Records result store.old space.old (IsLeafIn slot) }
+    ensures looks { Looks R.S.Space R.Records store.old store.new space.old space.new }
+    ensures asks { R.gets store.new ≤ R.gets store.old + 1 }
     ensures cause { OnFault R.S.Space result space.old space.new }
 {
     if slot.id >= PAGE_END {
         return Ok(None);
     }
-    let page = match read_page(alloc, store, space, slot.id) {
-        Ok(page) => page,
-        Err(e) => return Err(e),
-    };
+    let page = read_page(alloc, store, space, slot.id)?;
     let Some(Page::Leaf(leaf)) = page else {
         return Ok(None);
-    };
-    let slot = Slot {
-        bound: copy_bound(alloc, &slot.bound)?,
-        id: slot.id,
     };
     Ok(Some(LeafAt { slot, leaf }))
 }
 
-/// Sees all leaves of a row, one at a time.
+/// Sees the leaves in these places, one at a time.
 pub(crate) fn see_all<R: Records, O: Order>(
     alloc: Global,
     store: &mut R,
     space: &mut R::S,
     head: &TreeHead,
-    row: &Seq<Slot>,
+    places: Seq<Slot>,
 ) -> Result<Seen, RecErr>
-    requires ready { IsReady R.S.Space (In R.S.Space R.file_of R.holds) store.old space.old }
-    ensures seen { IfOk result (λ s. (m : stored) → In R.S.Space R.file_of R.holds store.old space.old m → (h : the_head) (pages : PageMap) → AreHeld h (get m) pages → ((id : ℕ) → 0 < times id row.now → held pages id ≡ 1) → IsSeen (before_by O.cmp) head.now (leaves_among pages row.now) s.last s.ordered s.linked s.left) }
-    ensures looks { Looks R.S.Space R.file_of R.holds R.region store.old store.new space.old space.new }
-    ensures asks { R.gets store.new ≤ R.gets store.old + leaf_count row.now }
+    requires { MayLook R.S.Space R.Records store.old space.old }
+    ensures seen { Gives R.S.Space R.Records result store.old space.old (SeesAll (before_by O.cmp) head.now places) }
+    ensures looks { Looks R.S.Space R.Records store.old store.new space.old space.new }
+    ensures asks { R.gets store.new ≤ R.gets store.old + length places }
     ensures cause { OnFault R.S.Space result space.old space.new }
 {
     let mut seen = Seen {
@@ -148,11 +131,8 @@ pub(crate) fn see_all<R: Records, O: Order>(
         linked: true,
         left: Some(head.pairs),
     };
-    for slot in row.as_slice() {
-        let there = match leaf_in(alloc, store, space, slot) {
-            Ok(there) => there,
-            Err(e) => return Err(e),
-        };
+    for slot in places.into_vec() {
+        let there = leaf_in(alloc, store, space, slot)?;
         seen.see::<O>(head, there);
     }
     Ok(seen)
@@ -160,8 +140,7 @@ pub(crate) fn see_all<R: Records, O: Order>(
 
 /// The number of the first rule of leaves that doesn't hold of those that were seen.
 pub(crate) fn broken_rule(head: &TreeHead, seen: &Seen) -> Option<u8>
-    ensures none { IfNone result ((before : Before) (ls : List the_leaf_at) → IsSeen before head.now ls seen.now.last seen.now.ordered seen.now.linked seen.now.left → LeavesHold before head.now ls) }
-    ensures some { IfSome result (λ n. (before : Before) (ls : List the_leaf_at) → IsSeen before head.now ls seen.now.last seen.now.ordered seen.now.linked seen.now.left → LeavesBreak before head.now ls (rule_b n)) }
+    ensures { Judges head.now seen.now result }
 {
     if !seen.ordered {
         return Some(6);

@@ -8,6 +8,7 @@ mod laws;
 mod leaves;
 mod ordering;
 mod pages;
+mod rows;
 mod walking;
 
 pub use checking::{check_tree, measure_tree};

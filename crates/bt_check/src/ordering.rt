@@ -1,8 +1,8 @@
 //! Whether keys stand in order.
 ghost use Rattle.std.specs.Prelude.{◌≡◌, ◌↔◌, ◌<◌, IsTrue, length};
-ghost use Rattle.std.specs.List.{AllByRecursion};
 ghost use Rattle.bt_rows.specs.Orders.{before_by};
-ghost use Rattle.bt_rows.specs.Rules.{Ascends, AtLeast, Under, BoundUnder, InLeaf, IsBelow};
+ghost use Rattle.bt_rows.specs.Rules.{Ascends, BoundUnder, InLeaf, IsBelow};
+ghost use Rattle.bt_check.specs.Leaves.{AreAbove, AreUnder};
 
 use bt_page::Item;
 use bt_rows::LeafAt;
@@ -27,7 +27,7 @@ fn ascends<O: Order>(items: &[Item]) -> bool
 }
 
 fn all_above<O: Order>(bound: &Option<Blob>, items: &[Item]) -> bool
-    ensures { IsTrue result ↔ AllByRecursion (λ x. AtLeast (before_by O.cmp) bound.now x.key) items.now }
+    ensures { IsTrue result ↔ AreAbove (before_by O.cmp) bound.now items.now }
 {
     let Some(bound) = bound else {
         return true;
@@ -41,7 +41,7 @@ fn all_above<O: Order>(bound: &Option<Blob>, items: &[Item]) -> bool
 }
 
 fn all_under<O: Order>(items: &[Item], bound: &Option<Blob>) -> bool
-    ensures { IsTrue result ↔ AllByRecursion (λ x. Under (before_by O.cmp) x.key bound.now) items.now }
+    ensures { IsTrue result ↔ AreUnder (before_by O.cmp) bound.now items.now }
 {
     let Some(bound) = bound else {
         return items.is_empty();

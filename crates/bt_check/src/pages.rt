@@ -1,15 +1,11 @@
 //! Pages of a store.
 ghost use Rattle.std.specs.Prelude.{◌≡◌, ◌↔◌, ◌≤◌, ◌+◌, ℕ, IfOk, IfSome, IfNone, IsTrue};
-ghost use Rattle.std.specs.FinMap.{get};
-ghost use Rattle.tc_base.specs.Maps.{Map as stored};
-ghost use Rattle.tc_space.specs.Frames.{In};
 ghost use Rattle.tc_space.specs.Refusals.{OnFault};
-ghost use Rattle.tc_space.specs.Stores.{IsReady};
 ghost use Rattle.bt_page.specs.Keys.{key_of};
 ghost use Rattle.bt_rows.specs.Pages.{IsGiven};
 ghost use Rattle.bt_rows.specs.Rules.{B1};
-ghost use Rattle.bt_check.specs.Looks.{Looks};
-ghost use Rattle.bt_check.specs.ReadPages.{IsParsed, IsReadAs};
+ghost use Rattle.bt_check.specs.Looks.{Gives, IsValueOf, Looks, MayLook};
+ghost use Rattle.bt_check.specs.ReadPages.{IsParsed, IsReadOf};
 
 use bt_page::{PageErr, page_id, page_key, read_leaf, read_node};
 use bt_rows::{Page, TreeHead};
@@ -43,7 +39,7 @@ pub(crate) fn given_id(head: &TreeHead, key: &[u8]) -> Option<u64>
 
 /// The page that bytes are.
 pub(crate) fn parse(alloc: Global, id: u64, bytes: &[u8]) -> Result<Option<Page>, AllocError>
-    ensures { IfOk result (λ p. IsParsed id bytes.now p) }
+    ensures { IfOk result (IsParsed id bytes.now) }
 {
     if id < PAGE_END {
         return match read_leaf(alloc, bytes) {
@@ -65,17 +61,14 @@ pub(crate) fn find<R: Records>(
     space: &mut R::S,
     key: &[u8],
 ) -> Result<Option<Blob>, RecErr>
-    requires ready { IsReady R.S.Space (In R.S.Space R.file_of R.holds) store.old space.old }
-    ensures value { IfOk result (λ found. (m : stored) → In R.S.Space R.file_of R.holds store.old space.old m → found ≡ get m key.now) }
-    ensures looks { Looks R.S.Space R.file_of R.holds R.region store.old store.new space.old space.new }
+    requires { MayLook R.S.Space R.Records store.old space.old }
+    ensures value { Gives R.S.Space R.Records result store.old space.old (IsValueOf key.now) }
+    ensures looks { Looks R.S.Space R.Records store.old store.new space.old space.new }
     ensures asks { R.gets store.new ≤ R.gets store.old + 1 }
     ensures cause { OnFault R.S.Space result space.old space.new }
 {
     let mut steps: Steps<R> = Steps::new();
-    match store.get(space, key, &mut steps) {
-        Ok(found) => Ok(found),
-        Err(e) => Err(e),
-    }
+    store.get(space, key, &mut steps)
 }
 
 /// The page of an id.
@@ -85,19 +78,15 @@ pub(crate) fn read_page<R: Records>(
     space: &mut R::S,
     id: u64,
 ) -> Result<Option<Page>, RecErr>
-    requires ready { IsReady R.S.Space (In R.S.Space R.file_of R.holds) store.old space.old }
-    ensures read { IfOk result (λ p. (m : stored) → In R.S.Space R.file_of R.holds store.old space.old m → IsReadAs id (get m (key_of id)) p) }
-    ensures looks { Looks R.S.Space R.file_of R.holds R.region store.old store.new space.old space.new }
+    requires { MayLook R.S.Space R.Records store.old space.old }
+    ensures read { Gives R.S.Space R.Records result store.old space.old (IsReadOf id) }
+    ensures looks { Looks R.S.Space R.Records store.old store.new space.old space.new }
     ensures asks { R.gets store.new ≤ R.gets store.old + 1 }
     ensures cause { OnFault R.S.Space result space.old space.new }
 {
     let mut key = Blob::new(alloc);
     page_key(id, &mut key)?;
-    let found = match find(store, space, key.as_slice()) {
-        Ok(found) => found,
-        Err(e) => return Err(e),
-    };
-    let Some(bytes) = found else {
+    let Some(bytes) = find(store, space, key.as_slice())? else {
         return Ok(None);
     };
     Ok(parse(alloc, id, bytes.as_slice())?)

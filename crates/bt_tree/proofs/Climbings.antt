@@ -2,10 +2,11 @@
 use Rattle.std.proofs.Common.{◌≡◌, ℕ, suc, ◌+◌, ◌-◌, ◌<◌, ◌≤◌, ◌/◌, List, [], ◌∷◌, ◌++◌, Option, Some, None, length, take, drop, refl, sym, ap, ◌∙◌, subst, arith, append_assoc, length-append, ◌⊎◌, inl, inr, ⊎_elim}
 use Rattle.std.proofs.lemmas.List.{take-append-drop, take_all, drop_more, length-drop}
 use Rattle.std.specs.Prelude.{slice_get}
+use Rattle.std.proofs.lemmas.Bool.{cases_eq}
 use Rattle.std.specs.List.{AllByRecursion, slice_index_or}
-use Rattle.tc_base.specs.Maps.{Map}
-use Rattle.tc_space.specs.Frames.{Keeps, Writes, keeps_refl, keeps_then, others_then}
-use Rattle.tc_space.specs.Stores.{IsReady, Only}
+use Rattle.tc_space.specs.Frames.{keeps_refl, keeps_then, others_then}
+use Rattle.tc_space.specs.Stores.{Only}
+use Rattle.tc_space.specs.declared.records.Records.{Ghosts as Stores}
 use Rattle.tc_space.specs.declared.space.Space.{Ghosts}
 use Rattle.bt_page.specs.Keys.{node_offset}
 use Rattle.bt_page.specs.Limits.{NodeWithin}
@@ -14,8 +15,9 @@ use Rattle.bt_page.specs.declared.page.Node.{Node}
 use Rattle.bt_rows.specs.declared.head.TreeHead.{TreeHead}
 use Rattle.bt_rows.specs.declared.page.Page.{Page}
 use Rattle.bt_rows.specs.declared.page.Page.TheVariants.{Node as node_page}
-use Rattle.bt_rows.specs.Pages.{PageMap}
-use Rattle.bt_cache.specs.Effects.{Looks}
+use Rattle.bt_rows.specs.Pages.{PageMap, IsGiven}
+use Rattle.bt_rows.specs.Rules.{B1}
+use Rattle.bt_cache.specs.Effects.{SameStore, same_store_refl, same_store_then}
 use Rattle.bt_ways.specs.Climbs.{ClimbsWith}
 use Rattle.bt_ways.specs.Laws.{spliced}
 use Rattle.bt_ways.specs.Writes.{put_at}
@@ -24,10 +26,10 @@ use Rattle.bt_ways.proofs.Keys.{all_map, all_part}
 use Rattle.bt_ways.proofs.HeldWays.{WayAbove, way_node, way_parted}
 use Rattle.bt_ways.proofs.Spots.{got_at}
 use Rattle.bt_tree.specs.declared.tree.Tree.{Tree}
-use Rattle.bt_tree.specs.Climbing.{CanClimb, Climbs, Divided, Grows, IsAmong, IsKnownNode, IsNodeOf, ShowsWay, StoodIn, entry_key}
+use Rattle.bt_tree.specs.Climbing.{CanClimb, Divided, Grows, HasWay, IsAmong, IsNodeOf, IsWayNode, ShowsWay, StoodIn, TurnsClimbed, TurnsDivided, entry_key}
 use Rattle.bt_tree.specs.Meaning.{file_in}
-use Rattle.bt_tree.specs.Paging.{HasNodeAt, IsNodeId, LacksPage, Shows, StaysStill, Turns}
-use Rattle.bt_tree.proofs.Pagings.{Gives, lacks_after, looked_shows, more_shows, node_fresh, node_given, others_at, put_all, some_node}
+use Rattle.bt_tree.specs.Paging.{ComesAnew, HasNodeAt, IsNodeId, IsPageOf, IsShown, LacksPage, Peeks, PutsAt, Shows, StaysStill}
+use Rattle.bt_tree.proofs.Pagings.{Gives, IsMoved, anew_over, anew_put, anew_then, lacks_after, looked_shows, more_shows, moved_column, moved_head, moved_height, moved_pages, moved_store, node_fresh, node_given, others_at, put_all, put_here, put_other, same_store_at, some_node}
 
 -- a list is what is in front of a place, the one there and what is behind it
 pub cut_around : (xs front back : List NodeEntry) (i n child : ℕ) (key : List ℕ) → i < length xs → n ≡ length xs → ((e : NodeEntry) → slice_get xs i ≡ Some e → child ≡ e.child) → ((e : NodeEntry) → slice_get xs i ≡ Some e → key ≡ e.key)
@@ -105,84 +107,106 @@ half_front entries front back up cut half = omega (arith, half)
 pub half_back : (entries front back : List NodeEntry) (up : NodeEntry) → entries ≡ front ++ up ∷ back → length front ≡ length entries / 2 → length back ≤ length entries / 2
 half_back entries front back up cut half = let total : length entries ≡ length front + suc (length back) = ap length cut ∙ length-append front (up ∷ back) in omega (arith, total, half)
 
-module _ {S V O : Type 0} (s : Ghosts S) (file_of : V → ℕ) (holds : V → List ℕ → Map → Type 0) where
+-- the next id of a node wasn't given
+not_node : (h : TreeHead) (id : ℕ) → B1 h → id ≡ node_offset + (h.node_ids + 1) → IsGiven h id → ⊥
+not_node h id head is (inl g) = omega (arith, g.1, is, head.leaf_ids)
+not_node h id head is (inr g) = omega (arith, g.1, is)
+
+-- what has no page once one came had none before
+pub put_was : (pages : PageMap) (id j : ℕ) (page : Page) → put_at id page pages j ≡ None → pages j ≡ None
+put_was pages id j page none = ⊎_elim (λ (same : j ≡ id). absurd (clash (sym (put_here pages id page) ∙ ap (put_at id page pages) (sym same) ∙ none)))
+    (λ (other : j ≡ id → ⊥). sym (put_other pages id page j other) ∙ none)
+    (cases_eq j id)
+  where
+    clash : Some page ≡ None → ⊥
+    clash e = cc
+
+module _ {S V O : Type 0} (s : Ghosts S) (R : Stores V S) where
   pub divided : (t u v w : Tree V O) (a b d : S) (id second heir : ℕ) (entries front back : List NodeEntry) (up : NodeEntry) (above : List NodeEntry)
       → t.head.node_ids + 1 < node_offset → u ≡ record t { head = record t.head { node_ids = t.head.node_ids + 1 } } → second ≡ node_offset + (t.head.node_ids + 1)
       → entries ≡ front ++ up ∷ back → length front ≡ length entries / 2 → above ≡ record { child = second; key = up.key } ∷ []
-      → Writes s (Only (file_in file_of u)) (Shows s file_of holds) (put_at second (node_page (record { heir = up.child; entries = back }))) u v a b
-      → Writes s (Only (file_in file_of v)) (Shows s file_of holds) (put_at id (node_page (record { heir = heir; entries = front }))) v w b d → file_of v.store ≡ file_of u.store
-      → Turns s (Only (file_in file_of t)) (Shows s file_of holds) (Shows s file_of holds) (Divided id (record { heir = heir; entries = entries }) above) t w a d
+      → PutsAt s R second (node_page (record { heir = up.child; entries = back })) u v a b
+      → PutsAt s R id (node_page (record { heir = heir; entries = front })) v w b d → R.file_of v.store ≡ R.file_of u.store
+      → TurnsDivided s R id (record { heir = heir; entries = entries }) above t w a d
   divided t u v w a b d id second heir entries front back up above small noted given cut half is first later file = record {
     sound = later.sound;
     means = λ pages h.
-        let k : Shows s file_of holds u a pages = more_shows s file_of holds t u a (ap (λ (x : Tree V O). x.store) noted) (ap (λ (x : Tree V O). x.cache.pages) noted) (ap (λ (x : Tree V O). x.index) noted)
+        let k : Shows s R u a pages = more_shows s R t u a (ap (λ (x : Tree V O). x.store) noted) (ap (λ (x : Tree V O). x.cache.pages) noted) (ap (λ (x : Tree V O). x.column) noted)
         (subst (λ (x : TreeHead). Gives t.head x) (sym (ap (λ (x : Tree V O). x.head) noted)) (gives_node t.head small)) pages h in (
           put_at id (node_page (record { heir = heir; entries = front })) (put_at second (node_page (record { heir = up.child; entries = back })) pages),
           later.means (put_at second (node_page (record { heir = up.child; entries = back })) pages) (first.means pages k),
-          record {
-            second = second;
-            front = front;
-            up = up;
-            back = back;
-            fresh = node_fresh t.head h.1.records pages second h.1.head h.1.held (omega (arith, given));
-            cut = cut;
-            half = half;
-            are = refl;
-            above_is = is;
-          },
+          (
+            record {
+              second = second;
+              front = front;
+              up = up;
+              back = back;
+              fresh = node_fresh t.head h.1.records pages second h.1.head h.1.held (omega (arith, given));
+              cut = cut;
+              half = half;
+              are = refl;
+              above_is = is;
+            },
+            λ there. anew_then t.head t.head pages (put_at second (node_page (record { heir = up.child; entries = back })) pages) _ (λ j g. g)
+                (anew_put t.head pages second (node_page (record { heir = up.child; entries = back })) (λ g none. not_node t.head second h.1.head given g))
+                (anew_put t.head (put_at second (node_page (record { heir = up.child; entries = back })) pages) id (node_page (record { heir = heir; entries = front })) (λ g none. there (put_was pages second id (node_page (record { heir = up.child; entries = back })) none))),
+          ),
         );
-    others = others_then s (Only (file_in file_of t)) a b d (others_at s _ _ a b at first.others) (others_at s _ _ b d (file ∙ at) later.others);
+    others = others_then s (Only (file_in R t)) a b d (others_at s _ _ a b at first.others) (others_at s _ _ b d (file ∙ at) later.others);
   }
     where
-      at : file_of u.store ≡ file_of t.store
-      at = ap (λ (x : Tree V O). file_of x.store) noted
+      at : R.file_of u.store ≡ R.file_of t.store
+      at = ap (λ (x : Tree V O). R.file_of x.store) noted
 
   -- ---- no room for one of its nodes
 
-  module _ (fills : V → S → Map → Map → Type 0) where
+  module _ where
     pub lacks_upper : (t u : Tree V O) (a b : S) (entries front back : List NodeEntry) {heir : ℕ} (up : NodeEntry) {k : TreeHead} → u ≡ record t { head = k } → entries ≡ front ++ up ∷ back → length front ≡ length entries / 2
-        → LacksPage s file_of holds fills (λ p. p ≡ node_page (record { heir = heir; entries = back })) u.store a b → LacksPage s file_of holds fills (IsNodeOf (length entries / 2) entries) t.store a b
+        → LacksPage s R (λ p. p ≡ node_page (record { heir = heir; entries = back })) u.store a b → LacksPage s R (IsNodeOf (length entries / 2) entries) t.store a b
     lacks_upper t u a b entries front back {heir} up noted cut half l =
-        lacks_after s file_of holds fills (λ p. p ≡ node_page (record { heir = heir; entries = back })) (IsNodeOf (length entries / 2) entries) t.store u.store a a b (keeps_refl s a) (ap (λ (x : Tree V O). file_of x.store) noted)
+        lacks_after s R (λ p. p ≡ node_page (record { heir = heir; entries = back })) (IsNodeOf (length entries / 2) entries) t.store u.store a a b (keeps_refl s a) (same_store_at s R t.store u.store (ap (λ (x : Tree V O). x.store) noted))
         (λ p e. (record { heir = heir; entries = back }, e, half_back entries front back up cut half, (keys_cut entries front back up cut).1.1)) l
 
     pub lacks_lower : (t u v : Tree V O) (a b d : S) (entries front back : List NodeEntry) {heir : ℕ} (up : NodeEntry) {k : TreeHead} → u ≡ record t { head = k } → entries ≡ front ++ up ∷ back → length front ≡ length entries / 2
-        → Keeps s a b → file_of v.store ≡ file_of u.store
-        → LacksPage s file_of holds fills (λ p. p ≡ node_page (record { heir = heir; entries = front })) v.store b d → LacksPage s file_of holds fills (IsNodeOf (length entries / 2) entries) t.store a d
-    lacks_lower t u v a b d entries front back {heir} up noted cut half keeps file l =
-        lacks_after s file_of holds fills (λ p. p ≡ node_page (record { heir = heir; entries = front })) (IsNodeOf (length entries / 2) entries) t.store v.store a b d keeps (file ∙ ap (λ (x : Tree V O). file_of x.store) noted)
+        → StaysStill s R u v a b → LacksPage s R (λ p. p ≡ node_page (record { heir = heir; entries = front })) v.store b d → LacksPage s R (IsNodeOf (length entries / 2) entries) t.store a d
+    lacks_lower t u v a b d entries front back {heir} up noted cut half still l =
+        lacks_after s R (λ p. p ≡ node_page (record { heir = heir; entries = front })) (IsNodeOf (length entries / 2) entries) t.store v.store a b d still.keeps
+        (same_store_then R t.store u.store v.store (same_store_at s R t.store u.store (ap (λ (x : Tree V O). x.store) noted)) still.made)
         (λ p e. (record { heir = heir; entries = front }, e, half_front entries front back up cut half, (keys_cut entries front back up cut).0)) l
 
     -- nor for a new root
     pub lacks_root : (t u : Tree V O) (a b : S) (heir : ℕ) (added : List NodeEntry) {k : TreeHead} → u ≡ record t { head = k } → length added ≤ 2
-        → LacksPage s file_of holds fills (λ p. p ≡ node_page (record { heir = heir; entries = added })) u.store a b → LacksPage s file_of holds fills (IsNodeOf 2 added) t.store a b
+        → LacksPage s R (λ p. p ≡ node_page (record { heir = heir; entries = added })) u.store a b → LacksPage s R (IsNodeOf 2 added) t.store a b
     lacks_root t u a b heir added noted few l =
-        lacks_after s file_of holds fills (λ p. p ≡ node_page (record { heir = heir; entries = added })) (IsNodeOf 2 added) t.store u.store a a b (keeps_refl s a) (ap (λ (x : Tree V O). file_of x.store) noted)
+        lacks_after s R (λ p. p ≡ node_page (record { heir = heir; entries = added })) (IsNodeOf 2 added) t.store u.store a a b (keeps_refl s a) (same_store_at s R t.store u.store (ap (λ (x : Tree V O). x.store) noted))
         (λ p e. (record { heir = heir; entries = added }, e, few, keys_in [] added)) l
 
   -- ---- a new root
 
   pub grown : (t u v w : Tree V O) (a b : S) (id heir : ℕ) (added : List NodeEntry) → t.path ≡ [] → length added ≤ 2
       → t.head.node_ids + 1 < node_offset → u ≡ record t { head = record t.head { node_ids = t.head.node_ids + 1 } } → id ≡ node_offset + (t.head.node_ids + 1) → heir ≡ t.head.root
-      → Writes s (Only (file_in file_of u)) (Shows s file_of holds) (put_at id (node_page (record { heir = heir; entries = added }))) u v a b
-      → w.store ≡ v.store → w.cache.pages ≡ v.cache.pages → w.index ≡ v.index → w.head ≡ record v.head { root = id } → w.height ≡ t.height + 1
-      → Turns s (Only (file_in file_of t)) (ShowsWay s file_of holds) (Shows s file_of holds) (Climbs t w added) t w a b
-  grown t u v w a b id heir added none few small noted given old_root put store cache index head height = record {
+      → PutsAt s R id (node_page (record { heir = heir; entries = added })) u v a b
+      → w.store ≡ v.store → w.cache.pages ≡ v.cache.pages → w.column ≡ v.column → w.head ≡ record v.head { root = id } → w.height ≡ t.height + 1
+      → TurnsClimbed s R added t w a b
+  grown t u v w a b id heir added none few small noted given old_root put store cache column head height = record {
     sound = put.sound;
     means = λ pages h.
-        let k : Shows s file_of holds u a pages = more_shows s file_of holds t u a (ap (λ (x : Tree V O). x.store) noted) (ap (λ (x : Tree V O). x.cache.pages) noted) (ap (λ (x : Tree V O). x.index) noted)
+        let k : Shows s R u a pages = more_shows s R t u a (ap (λ (x : Tree V O). x.store) noted) (ap (λ (x : Tree V O). x.cache.pages) noted) (ap (λ (x : Tree V O). x.column) noted)
         (subst (λ (x : TreeHead). Gives t.head x) (sym (ap (λ (x : Tree V O). x.head) noted)) (gives_node t.head small)) pages h.0 in
         let fresh : pages id ≡ None = node_fresh t.head h.0.1.records pages id h.0.1.head h.0.1.held (omega (arith, given)) in
         let within : length added ≤ t.head.node_limit = omega (arith, few, h.0.1.head.node_limit.0) in (
           put_at id (node_page (record { heir = heir; entries = added })) pages,
-          more_shows s file_of holds v w b store cache index (subst (λ (x : TreeHead). Gives v.head x) (sym head) (gives_root v.head id)) (put_at id (node_page (record { heir = heir; entries = added })) pages) (put.means pages k),
-          subst (λ (p : List (ℕ × ℕ)). ClimbsWith t.head.node_limit pages (put_at id (node_page (record { heir = heir; entries = added })) pages) t.height w.height t.head.root w.head.root p added) (sym none)
-              (subst (λ (n : ℕ). ClimbsWith t.head.node_limit pages (put_at id (node_page (record { heir = heir; entries = added })) pages) t.height n t.head.root w.head.root [] added) (omega (arith, height))
-              (subst (λ (n : ℕ). ClimbsWith t.head.node_limit pages (put_at id (node_page (record { heir = heir; entries = added })) pages) t.height (suc t.height) t.head.root n [] added) (sym (ap (λ (x : TreeHead). x.root) head))
-              (subst (λ (n : ℕ). ClimbsWith t.head.node_limit pages (put_at id (node_page (record { heir = n; entries = added })) pages) t.height (suc t.height) t.head.root id [] added) (sym old_root)
-              (root_grows t.head.node_limit pages t.height t.head.root id added fresh within)))),
+          more_shows s R v w b store cache column (subst (λ (x : TreeHead). Gives v.head x) (sym head) (gives_root v.head id)) (put_at id (node_page (record { heir = heir; entries = added })) pages) (put.means pages k),
+          (
+            subst (λ (p : List (ℕ × ℕ)). ClimbsWith t.head.node_limit pages (put_at id (node_page (record { heir = heir; entries = added })) pages) t.height w.height t.head.root w.head.root p added) (sym none)
+                (subst (λ (n : ℕ). ClimbsWith t.head.node_limit pages (put_at id (node_page (record { heir = heir; entries = added })) pages) t.height n t.head.root w.head.root [] added) (omega (arith, height))
+                (subst (λ (n : ℕ). ClimbsWith t.head.node_limit pages (put_at id (node_page (record { heir = heir; entries = added })) pages) t.height (suc t.height) t.head.root n [] added) (sym (ap (λ (x : TreeHead). x.root) head))
+                (subst (λ (n : ℕ). ClimbsWith t.head.node_limit pages (put_at id (node_page (record { heir = n; entries = added })) pages) t.height (suc t.height) t.head.root id [] added) (sym old_root)
+                (root_grows t.head.node_limit pages t.height t.head.root id added fresh within)))),
+            anew_put t.head pages id (node_page (record { heir = heir; entries = added })) (λ g none. not_node t.head id h.0.1.head given g),
+          ),
         );
-    others = others_at s _ _ a b (ap (λ (x : Tree V O). file_of x.store) noted) put.others;
+    others = others_at s _ _ a b (ap (λ (x : Tree V O). R.file_of x.store) noted) put.others;
   }
 
 -- ---- the lowest node of a way
@@ -227,84 +251,92 @@ step_on limit pages new root id place path rest node above e k d half =
 
 -- ---- the climb
 
-module _ {S V O : Type 0} (s : Ghosts S) (file_of : V → ℕ) (holds : V → List ℕ → Map → Type 0) where
-  -- the lowest step is taken out of the way, and its node was read
-  pub node_at : (t u : Tree V O) (a : S) (id place : ℕ) → u.store ≡ t.store → u.cache ≡ t.cache → u.index ≡ t.index → u.head ≡ t.head → t.path ≡ (id, place) ∷ u.path
-      → IsReady s (ShowsWay s file_of holds) t a → HasNodeAt s file_of holds id u a
-  node_at t u a id place store cache index head e ready = λ told.
+module _ {S V O : Type 0} (s : Ghosts S) (R : Stores V S) where
+  -- the tree differs in nothing that is told but the way
+  way_shows : (t u : Tree V O) (a : S) (path : List (ℕ × ℕ)) → IsMoved t u path → (pages : PageMap) → Shows s R t a pages → Shows s R u a pages
+  way_shows t u a path moved pages h =
+      more_shows s R t u a (moved_store t u path moved) (moved_pages t u path moved) (moved_column t u path moved) (subst (λ (x : TreeHead). Gives t.head x) (sym (moved_head t u path moved)) (gives_root t.head t.head.root)) pages h
+
+  pub way_ready : (t u : Tree V O) (a : S) (path : List (ℕ × ℕ)) → IsMoved t u path → HasWay s R t a → IsShown s R u a
+  way_ready t u a path moved ready = record { sound = ready.sound; held = λ told. let h = ready.held told in (h.0, way_shows t u a path moved h.0 h.1.0) }
+
+  -- the lowest step is taken out of the way
+  pub node_at : (t u : Tree V O) (a : S) (id place : ℕ) (path : List (ℕ × ℕ)) → IsMoved t u path → t.path ≡ (id, place) ∷ path → HasWay s R t a → HasNodeAt s R id u a
+  node_at t u a id place path moved e ready = λ told.
       let h = ready.held told in
-      let k = at_step t.head.node_limit h.0 t.head.root id place t.path u.path e h.1.1 in
-      (h.0, k.node, more_shows s file_of holds t u a store (ap (λ c. c.pages) cache) index (subst (λ (x : TreeHead). Gives t.head x) (sym head) (gives_root t.head t.head.root)) h.0 h.1.0, k.is)
+      let k = at_step t.head.node_limit h.0 t.head.root id place t.path path e h.1.1 in
+      (h.0, k.node, way_shows t u a path moved h.0 h.1.0, k.is)
 
-  way_shows : (t u : Tree V O) (a : S) → u.store ≡ t.store → u.cache ≡ t.cache → u.index ≡ t.index → u.head ≡ t.head → (pages : PageMap) → Shows s file_of holds t a pages → Shows s file_of holds u a pages
-  way_shows t u a store cache index head pages h = more_shows s file_of holds t u a store (ap (λ c. c.pages) cache) index (subst (λ (x : TreeHead). Gives t.head x) (sym head) (gives_root t.head t.head.root)) pages h
+  -- there is no step
+  module _ (t u : Tree V O) (a : S) (path : List (ℕ × ℕ)) (moved : IsMoved t u path) (same : path ≡ t.path) where
+    path_same : u.path ≡ t.path
+    path_same = moved.way ∙ same
 
-  pub way_ready : (t u : Tree V O) (a : S) → u.store ≡ t.store → u.cache ≡ t.cache → u.index ≡ t.index → u.head ≡ t.head → IsReady s (ShowsWay s file_of holds) t a → IsReady s (Shows s file_of holds) u a
-  way_ready t u a store cache index head ready = record { sound = ready.sound; held = λ told. let h = ready.held told in (h.0, way_shows t u a store cache index head h.0 h.1.0) }
+    head_same : u.head ≡ t.head
+    head_same = moved_head t u path moved
 
-  -- the way may be climbed from a tree that differs in nothing that is told
-  end_shows : (t u : Tree V O) (a : S) → u.store ≡ t.store → u.cache ≡ t.cache → u.index ≡ t.index → u.head ≡ t.head → u.path ≡ t.path → (pages : PageMap) → ShowsWay s file_of holds t a pages → ShowsWay s file_of holds u a pages
-  end_shows t u a store cache index head path pages h =
-      (way_shows t u a store cache index head pages h.0, subst (λ (x : TreeHead). CanClimb x.node_limit pages x.root u.path) (sym head) (subst (λ (p : List (ℕ × ℕ)). CanClimb t.head.node_limit pages t.head.root p) (sym path) h.1))
+    end_shows : (pages : PageMap) → ShowsWay s R t a pages → ShowsWay s R u a pages
+    end_shows pages h = (
+      way_shows t u a path moved pages h.0,
+      subst (λ (x : TreeHead). CanClimb x.node_limit pages x.root u.path) (sym head_same) (subst (λ (p : List (ℕ × ℕ)). CanClimb t.head.node_limit pages t.head.root p) (sym path_same) h.1),
+    )
 
-  pub end_ready : (t u : Tree V O) (a : S) → u.store ≡ t.store → u.cache ≡ t.cache → u.index ≡ t.index → u.head ≡ t.head → u.path ≡ t.path → IsReady s (ShowsWay s file_of holds) t a → IsReady s (ShowsWay s file_of holds) u a
-  end_ready t u a store cache index head path ready = record { sound = ready.sound; held = λ told. let h = ready.held told in (h.0, end_shows t u a store cache index head path h.0 h.1) }
+    pub end_ready : HasWay s R t a → HasWay s R u a
+    end_ready ready = record { sound = ready.sound; held = λ told. let h = ready.held told in (h.0, end_shows h.0 h.1) }
 
-  pub climbs_end : (t u w : Tree V O) (a b : S) (added : List NodeEntry) → u.store ≡ t.store → u.cache ≡ t.cache → u.index ≡ t.index → u.head ≡ t.head → u.height ≡ t.height → u.path ≡ t.path
-      → Turns s (Only (file_in file_of u)) (ShowsWay s file_of holds) (Shows s file_of holds) (Climbs u w added) u w a b → Turns s (Only (file_in file_of t)) (ShowsWay s file_of holds) (Shows s file_of holds) (Climbs t w added) t w a b
-  climbs_end t u w a b added store cache index head height path turns = record {
-    sound = turns.sound;
-    means = λ pages h.
-        let k = turns.means pages (end_shows t u a store cache index head path pages h) in (
-          k.0,
-          k.1,
-          subst (λ (x : TreeHead). ClimbsWith x.node_limit pages k.0 t.height w.height x.root w.head.root t.path added) head
-              (subst (λ (n : ℕ). ClimbsWith u.head.node_limit pages k.0 n w.height u.head.root w.head.root t.path added) height
-              (subst (λ (p : List (ℕ × ℕ)). ClimbsWith u.head.node_limit pages k.0 u.height w.height u.head.root w.head.root p added) path k.2)),
-        );
-    others = others_at s _ _ a b (ap file_of store) turns.others;
-  }
+    pub climbs_end : (w : Tree V O) (b : S) (added : List NodeEntry) → TurnsClimbed s R added u w a b → TurnsClimbed s R added t w a b
+    climbs_end w b added turns = record {
+      sound = turns.sound;
+      means = λ pages h.
+          let k = turns.means pages (end_shows pages h) in (
+            k.0,
+            k.1,
+            (
+              subst (λ (x : TreeHead). ClimbsWith x.node_limit pages k.0 t.height w.height x.root w.head.root t.path added) head_same
+                  (subst (λ (n : ℕ). ClimbsWith u.head.node_limit pages k.0 n w.height u.head.root w.head.root t.path added) (moved_height t u path moved)
+                  (subst (λ (p : List (ℕ × ℕ)). ClimbsWith u.head.node_limit pages k.0 u.height w.height u.head.root w.head.root p added) path_same k.2.0)),
+              subst (λ (x : TreeHead). ComesAnew x pages k.0) head_same k.2.1,
+            ),
+          );
+      others = others_at s _ _ a b (ap R.file_of (moved_store t u path moved)) turns.others;
+    }
 
   -- t at the start, u without the step, v once the node was read, w at the end
-  module _ (region : V → List ℕ) (t u v : Tree V O) (a b : S) (id place : ℕ) (store : u.store ≡ t.store) (cache : u.cache ≡ t.cache) (index : u.index ≡ t.index) (head : u.head ≡ t.head) (height : u.height ≡ t.height)
-      (e : t.path ≡ (id, place) ∷ u.path) (looks : Looks s file_of holds u.cache.pages v.cache.pages u.store v.store a b) (still : StaysStill s file_of region u v a b)
-      (node : Node) (is_read : (pages : PageMap) (n : Node) → Shows s file_of holds u a pages → pages id ≡ Some (node_page n) → node ≡ n) (added : List NodeEntry) (few : length added ≤ 2) where
-    vhead : v.head ≡ u.head
-    vhead = still.head
+  module _ (t u v : Tree V O) (a b : S) (id place : ℕ) (path : List (ℕ × ℕ)) (moved : IsMoved t u path) (e : t.path ≡ (id, place) ∷ path) (peeks : Peeks s R u v a b)
+      (node : Node) (is_read : IsPageOf s R node_page id u a node) (added : List NodeEntry) (few : length added ≤ 2) where
+    vhead : v.head ≡ t.head
+    vhead = peeks.still.head ∙ moved_head t u path moved
 
-    vindex : v.index ≡ u.index
-    vindex = still.index
+    vheight : v.height ≡ t.height
+    vheight = peeks.still.height ∙ moved_height t u path moved
 
-    vheight : v.height ≡ u.height
-    vheight = still.height
+    vpath : v.path ≡ path
+    vpath = peeks.still.path ∙ moved.way
 
-    vpath : v.path ≡ u.path
-    vpath = still.path
+    vmade : SameStore R t.store v.store
+    vmade = same_store_then R t.store u.store v.store (same_store_at s R t.store u.store (moved_store t u path moved)) peeks.still.made
 
-    vfile : file_of v.store ≡ file_of u.store
-    vfile = still.file
+    read_shows : (pages : PageMap) → Shows s R t a pages → Shows s R v b pages
+    read_shows pages h = looked_shows s R u v a b peeks.looks peeks.still.head peeks.still.column pages (way_shows t u a path moved pages h)
 
-    read_shows : (pages : PageMap) → Shows s file_of holds t a pages → Shows s file_of holds v b pages
-    read_shows pages h = looked_shows s file_of holds u v a b looks vhead vindex pages (way_shows t u a store cache index head pages h)
+    pub read_ready : HasWay s R t a → IsShown s R v b
+    read_ready ready = record { sound = peeks.looks.reads.sound; held = λ told. let h = ready.held told in (h.0, read_shows h.0 h.1.0) }
 
-    pub read_ready : IsReady s (ShowsWay s file_of holds) t a → IsReady s (Shows s file_of holds) v b
-    read_ready ready = record { sound = looks.reads.sound; held = λ told. let h = ready.held told in (h.0, read_shows h.0 h.1.0) }
-
-    pub step_given : IsReady s (ShowsWay s file_of holds) t a → s.tells → IsNodeId v.head id
+    pub step_given : HasWay s R t a → s.tells → IsNodeId v.head id
     step_given ready told =
         let h = ready.held told in
-        let k = at_step t.head.node_limit h.0 t.head.root id place t.path u.path e h.1.1 in
-        subst (λ (x : TreeHead). IsNodeId x id) (sym (vhead ∙ head)) (node_given t.head h.1.0.1.records h.0 id k.node h.1.0.1.head h.1.0.1.held k.is)
+        let k = at_step t.head.node_limit h.0 t.head.root id place t.path path e h.1.1 in
+        subst (λ (x : TreeHead). IsNodeId x id) (sym vhead) (node_given t.head h.1.0.1.records h.0 id k.node h.1.0.1.head h.1.0.1.held k.is)
 
-    here : (pages : PageMap) → ShowsWay s file_of holds t a pages → pages id ≡ Some (node_page node)
+    here : (pages : PageMap) → ShowsWay s R t a pages → pages id ≡ Some (node_page node)
     here pages h =
-        let k = at_step t.head.node_limit pages t.head.root id place t.path u.path e h.1 in
-        k.is ∙ ap (λ (n : Node). Some (node_page n)) (sym (is_read pages k.node (way_shows t u a store cache index head pages h.0) k.is))
+        let k = at_step t.head.node_limit pages t.head.root id place t.path path e h.1 in
+        k.is ∙ ap (λ (n : Node). Some (node_page n)) (sym (is_read pages k.node (way_shows t u a path moved pages h.0) k.is))
 
-    long : (pages : PageMap) → ShowsWay s file_of holds t a pages → length node.entries ≤ t.head.node_limit
+    long : (pages : PageMap) → ShowsWay s R t a pages → length node.entries ≤ t.head.node_limit
     long pages h = h.1.within id node (here pages h)
 
-    spliced_known : (pages : PageMap) → ShowsWay s file_of holds t a pages → (key : List ℕ) → IsAmong entry_key key (spliced node.entries place added) → IsAmong entry_key key added ⊎ StoodIn pages key
+    spliced_known : (pages : PageMap) → ShowsWay s R t a pages → (key : List ℕ) → IsAmong entry_key key (spliced node.entries place added) → IsAmong entry_key key added ⊎ StoodIn pages key
     spliced_known pages h key k = ⊎_elim
         (λ (front : IsAmong entry_key key (take place node.entries)). inr (stood (subst (λ (x : List NodeEntry). IsAmong entry_key key x) (take-append-drop place node.entries) (among_front entry_key key (take place node.entries) (drop place node.entries) front))))
         (λ (rest : IsAmong entry_key key (added ++ drop place node.entries)). ⊎_elim (λ (own : IsAmong entry_key key added). inl own)
@@ -316,11 +348,11 @@ module _ {S V O : Type 0} (s : Ghosts S) (file_of : V → ℕ) (holds : V → Li
         stood among = record { id = id; node = node; is = here pages h; among = among }
 
     abbrev Fine : Page → Type 0
-    Fine p = (pages : PageMap) → ShowsWay s file_of holds t a pages → IsKnownNode t.head.node_limit added pages p
+    Fine p = IsWayNode s R added t a p
 
-    pub lacks_whole : (fills : V → S → Map → Map → Type 0) (d : S) → length (spliced node.entries place added) ≤ t.head.node_limit → LacksPage s file_of holds fills (λ p. p ≡ node_page (record { heir = node.heir; entries = spliced node.entries place added })) v.store b d
-        → LacksPage s file_of holds fills Fine t.store a d
-    lacks_whole fills d within l = lacks_after s file_of holds fills (λ p. p ≡ node_page (record { heir = node.heir; entries = spliced node.entries place added })) Fine t.store v.store a b d looks.keeps (vfile ∙ ap file_of store)
+    pub lacks_whole : (d : S) → length (spliced node.entries place added) ≤ t.head.node_limit → LacksPage s R (λ p. p ≡ node_page (record { heir = node.heir; entries = spliced node.entries place added })) v.store b d
+        → LacksPage s R Fine t.store a d
+    lacks_whole d within l = lacks_after s R (λ p. p ≡ node_page (record { heir = node.heir; entries = spliced node.entries place added })) Fine t.store v.store a b d peeks.looks.keeps vmade
         (λ p is pages h. (
           record { heir = node.heir; entries = spliced node.entries place added },
           is,
@@ -329,26 +361,28 @@ module _ {S V O : Type 0} (s : Ghosts S) (file_of : V → ℕ) (holds : V → Li
         )) l
 
     pub took : (w : Tree V O) (d : S) → length (spliced node.entries place added) ≤ t.head.node_limit
-        → Writes s (Only (file_in file_of v)) (Shows s file_of holds) (put_at id (node_page (record { heir = node.heir; entries = spliced node.entries place added }))) v w b d → w.height ≡ v.height → w.head ≡ v.head
-        → Turns s (Only (file_in file_of t)) (ShowsWay s file_of holds) (Shows s file_of holds) (Climbs t w added) t w a d
-    took w d within put wheight whead = record {
+        → PutsAt s R id (node_page (record { heir = node.heir; entries = spliced node.entries place added })) v w b d → StaysStill s R v w b d → TurnsClimbed s R added t w a d
+    took w d within put still = record {
       sound = put.sound;
       means = λ pages h. (
         put_at id (node_page (record { heir = node.heir; entries = spliced node.entries place added })) pages,
         put.means pages (read_shows pages h.0),
-        subst (λ (p : List (ℕ × ℕ)). ClimbsWith t.head.node_limit pages (put_at id (node_page (record { heir = node.heir; entries = spliced node.entries place added })) pages) t.height w.height t.head.root w.head.root p added) (sym e)
-            (subst (λ (n : ℕ). ClimbsWith t.head.node_limit pages (put_at id (node_page (record { heir = node.heir; entries = spliced node.entries place added })) pages) t.height n t.head.root w.head.root ((id, place) ∷ u.path) added) (sym (wheight ∙ vheight ∙ height))
-            (subst (λ (n : ℕ). ClimbsWith t.head.node_limit pages (put_at id (node_page (record { heir = node.heir; entries = spliced node.entries place added })) pages) t.height t.height t.head.root n ((id, place) ∷ u.path) added) (sym (ap (λ (x : TreeHead). x.root) (whead ∙ vhead ∙ head)))
-            (node_takes t.head.node_limit pages t.height t.head.root id place u.path node added (here pages h) within))),
+        (
+          subst (λ (p : List (ℕ × ℕ)). ClimbsWith t.head.node_limit pages (put_at id (node_page (record { heir = node.heir; entries = spliced node.entries place added })) pages) t.height w.height t.head.root w.head.root p added) (sym e)
+              (subst (λ (n : ℕ). ClimbsWith t.head.node_limit pages (put_at id (node_page (record { heir = node.heir; entries = spliced node.entries place added })) pages) t.height n t.head.root w.head.root ((id, place) ∷ path) added) (sym (still.height ∙ vheight))
+              (subst (λ (n : ℕ). ClimbsWith t.head.node_limit pages (put_at id (node_page (record { heir = node.heir; entries = spliced node.entries place added })) pages) t.height t.height t.head.root n ((id, place) ∷ path) added) (sym (ap (λ (x : TreeHead). x.root) (still.head ∙ vhead)))
+              (node_takes t.head.node_limit pages t.height t.head.root id place path node added (here pages h) within))),
+          anew_over t.head pages id (node_page (record { heir = node.heir; entries = spliced node.entries place added })) (node_page node) (here pages h),
+        ),
       );
-      others = others_then s (Only (file_in file_of t)) a b d (record { same = λ told g other. looks.reads.now told g }) (others_at s _ _ b d (vfile ∙ ap file_of store) put.others);
+      others = others_then s (Only (file_in R t)) a b d (record { same = λ told g other. peeks.looks.reads.now told g }) (others_at s _ _ b d vmade.file put.others);
     }
 
-    few_more : (pages : PageMap) → ShowsWay s file_of holds t a pages → length (spliced node.entries place added) / 2 ≤ t.head.node_limit
+    few_more : (pages : PageMap) → ShowsWay s R t a pages → length (spliced node.entries place added) / 2 ≤ t.head.node_limit
     few_more pages h = omega (arith, spliced_long node.entries place added, long pages h, few, h.0.1.head.node_limit.0)
 
-    pub lacks_half : (fills : V → S → Map → Map → Type 0) (d : S) → LacksPage s file_of holds fills (IsNodeOf (length (spliced node.entries place added) / 2) (spliced node.entries place added)) v.store b d → LacksPage s file_of holds fills Fine t.store a d
-    lacks_half fills d l = lacks_after s file_of holds fills (IsNodeOf (length (spliced node.entries place added) / 2) (spliced node.entries place added)) Fine t.store v.store a b d looks.keeps (vfile ∙ ap file_of store)
+    pub lacks_half : (d : S) → LacksPage s R (IsNodeOf (length (spliced node.entries place added) / 2) (spliced node.entries place added)) v.store b d → LacksPage s R Fine t.store a d
+    lacks_half d l = lacks_after s R (IsNodeOf (length (spliced node.entries place added) / 2) (spliced node.entries place added)) Fine t.store v.store a b d peeks.looks.keeps vmade
         (λ p n pages h. (
           n.0,
           n.1,
@@ -356,8 +390,8 @@ module _ {S V O : Type 0} (s : Ghosts S) (file_of : V → ℕ) (holds : V → Li
           all_map (λ (x : NodeEntry). IsAmong entry_key x.key (spliced node.entries place added)) (λ (x : NodeEntry). IsAmong entry_key x.key added ⊎ StoodIn pages x.key) n.0.entries (λ x k. spliced_known pages h x.key k) n.3,
         )) l
 
-    module _ (w : Tree V O) (d : S) (above : List NodeEntry) (turns : Turns s (Only (file_in file_of v)) (Shows s file_of holds) (Shows s file_of holds) (Divided id (record { heir = node.heir; entries = spliced node.entries place added }) above) v w b d)
-        (grows : Grows s file_of region 1 0 v w b d) (way : (w.path ≡ v.path) × (w.head.root ≡ v.head.root)) where
+    module _ (w : Tree V O) (d : S) (above : List NodeEntry) (turns : TurnsDivided s R id (record { heir = node.heir; entries = spliced node.entries place added }) above v w b d)
+        (grows : Grows s R 1 0 v w b d) (way : (w.path ≡ v.path) × (w.head.root ≡ v.head.root)) where
       wpath : w.path ≡ v.path
       wpath = way.0
 
@@ -370,20 +404,17 @@ module _ {S V O : Type 0} (s : Ghosts S) (file_of : V → ℕ) (holds : V → Li
       wheight : w.height ≡ v.height
       wheight = omega (arith, grows.rows_least, grows.rows_most)
 
-      wfile : file_of w.store ≡ file_of v.store
-      wfile = grows.file
-
-      on_way : (pages new : PageMap) → ShowsWay s file_of holds t a pages → Divided id (record { heir = node.heir; entries = spliced node.entries place added }) above pages new → CanClimb w.head.node_limit new w.head.root w.path
+      on_way : (pages new : PageMap) → ShowsWay s R t a pages → Divided id (record { heir = node.heir; entries = spliced node.entries place added }) above pages new → CanClimb w.head.node_limit new w.head.root w.path
       on_way pages new h div =
           subst (λ (p : List (ℕ × ℕ)). CanClimb w.head.node_limit new w.head.root p) (sym (wpath ∙ vpath))
-          (subst (λ (n : ℕ). CanClimb n new w.head.root u.path) (sym (wlimit ∙ ap (λ (x : TreeHead). x.node_limit) (vhead ∙ head)))
-          (subst (λ (n : ℕ). CanClimb t.head.node_limit new n u.path) (sym (wroot ∙ ap (λ (x : TreeHead). x.root) (vhead ∙ head)))
-          (step_on t.head.node_limit pages new t.head.root id place t.path u.path (record { heir = node.heir; entries = spliced node.entries place added }) above e h.1 div (few_more pages h))))
+          (subst (λ (n : ℕ). CanClimb n new w.head.root path) (sym (wlimit ∙ ap (λ (x : TreeHead). x.node_limit) vhead))
+          (subst (λ (n : ℕ). CanClimb t.head.node_limit new n path) (sym (wroot ∙ ap (λ (x : TreeHead). x.root) vhead))
+          (step_on t.head.node_limit pages new t.head.root id place t.path path (record { heir = node.heir; entries = spliced node.entries place added }) above e h.1 div (few_more pages h))))
 
-      pub on_ready : IsReady s (ShowsWay s file_of holds) t a → IsReady s (ShowsWay s file_of holds) w d
-      on_ready ready = record { sound = turns.sound; held = λ told. let h = ready.held told in let k = turns.means h.0 (read_shows h.0 h.1.0) in (k.0, (k.1, on_way h.0 k.0 h.1 k.2)) }
+      pub on_ready : HasWay s R t a → HasWay s R w d
+      on_ready ready = record { sound = turns.sound; held = λ told. let h = ready.held told in let k = turns.means h.0 (read_shows h.0 h.1.0) in (k.0, (k.1, on_way h.0 k.0 h.1 k.2.0)) }
 
-      mid_known : (pages mid : PageMap) → ShowsWay s file_of holds t a pages → Divided id (record { heir = node.heir; entries = spliced node.entries place added }) above pages mid → (key : List ℕ)
+      mid_known : (pages mid : PageMap) → ShowsWay s R t a pages → Divided id (record { heir = node.heir; entries = spliced node.entries place added }) above pages mid → (key : List ℕ)
           → IsAmong entry_key key above ⊎ StoodIn mid key → IsAmong entry_key key added ⊎ StoodIn pages key
       mid_known pages mid h div key k = ⊎_elim
           (λ (own : IsAmong entry_key key above). up (subst (λ (x : List NodeEntry). IsAmong entry_key key x) div.above_is own))
@@ -400,54 +431,59 @@ module _ {S V O : Type 0} (s : Ghosts S) (file_of : V → ℕ) (holds : V → Li
           up (inl e) = spliced_known pages h key (subst (λ (x : List ℕ). IsAmong entry_key x (spliced node.entries place added)) e (keys_cut (spliced node.entries place added) div.front div.back div.up div.cut).1.0)
           up (inr none) = absurd none
 
-      pub lacks_above : (fills : V → S → Map → Map → Type 0) (f : S) → LacksPage s file_of holds fills (λ p. (mid : PageMap) → ShowsWay s file_of holds w d mid → IsKnownNode w.head.node_limit above mid p) w.store d f → LacksPage s file_of holds fills Fine t.store a f
-      lacks_above fills f l = lacks_after s file_of holds fills (λ p. (mid : PageMap) → ShowsWay s file_of holds w d mid → IsKnownNode w.head.node_limit above mid p) Fine t.store w.store a d f (keeps_then s a b d looks.keeps grows.keeps) (wfile ∙ vfile ∙ ap file_of store)
+      pub lacks_above : (f : S) → LacksPage s R (IsWayNode s R above w d) w.store d f → LacksPage s R Fine t.store a f
+      lacks_above f l = lacks_after s R (IsWayNode s R above w d) Fine t.store w.store a d f (keeps_then s a b d peeks.looks.keeps grows.keeps) (same_store_then R t.store v.store w.store vmade grows.made)
           (λ p fine pages h.
           let k = turns.means pages (read_shows pages h.0) in
-          let n = fine k.0 (k.1, on_way pages k.0 h k.2) in
-          let limit : w.head.node_limit ≡ t.head.node_limit = wlimit ∙ ap (λ (y : TreeHead). y.node_limit) (vhead ∙ head) in
-          (n.0, n.1, omega (arith, n.2, limit), all_map (λ (x : NodeEntry). IsAmong entry_key x.key above ⊎ StoodIn k.0 x.key) (λ (x : NodeEntry). IsAmong entry_key x.key added ⊎ StoodIn pages x.key) n.0.entries (λ x kn. mid_known pages k.0 h k.2 x.key kn) n.3)) l
+          let n = fine k.0 (k.1, on_way pages k.0 h k.2.0) in
+          let limit : w.head.node_limit ≡ t.head.node_limit = wlimit ∙ ap (λ (y : TreeHead). y.node_limit) vhead in
+          (n.0, n.1, omega (arith, n.2, limit), all_map (λ (x : NodeEntry). IsAmong entry_key x.key above ⊎ StoodIn k.0 x.key) (λ (x : NodeEntry). IsAmong entry_key x.key added ⊎ StoodIn pages x.key) n.0.entries (λ x kn. mid_known pages k.0 h k.2.0 x.key kn) n.3)) l
 
-      pub climbed_on : (x : Tree V O) (f : S) → Turns s (Only (file_in file_of w)) (ShowsWay s file_of holds) (Shows s file_of holds) (Climbs w x above) w x d f
-          → Turns s (Only (file_in file_of t)) (ShowsWay s file_of holds) (Shows s file_of holds) (Climbs t x added) t x a f
+      pub climbed_on : (x : Tree V O) (f : S) → TurnsClimbed s R above w x d f → TurnsClimbed s R added t x a f
       climbed_on x f climb = record {
         sound = climb.sound;
         means = λ pages h.
             let k = turns.means pages (read_shows pages h.0) in
-            let div : Divided id (record { heir = node.heir; entries = spliced node.entries place added }) above pages k.0 = k.2 in
+            let div : Divided id (record { heir = node.heir; entries = spliced node.entries place added }) above pages k.0 = k.2.0 in
             let l = climb.means k.0 (k.1, on_way pages k.0 h div) in
             let half : length (spliced node.entries place added) / 2 ≤ t.head.node_limit = few_more pages h in
-            (l.0, l.1, join pages k.0 l.0 h div half l.2);
-        others = others_then s (Only (file_in file_of t)) a d f
-            (others_then s (Only (file_in file_of t)) a b d (record { same = λ told g other. looks.reads.now told g }) (others_at s _ _ b d (vfile ∙ ap file_of store) turns.others))
-            (others_at s _ _ d f (wfile ∙ vfile ∙ ap file_of store) climb.others);
+            (l.0, l.1, (join pages k.0 l.0 h div half l.2.0, anew_then t.head w.head pages k.0 l.0 (given_on) (subst (λ (y : TreeHead). ComesAnew y pages k.0) vhead (k.2.1 (λ none. absurd (some_none (sym (here pages h) ∙ none))))) l.2.1));
+        others = others_then s (Only (file_in R t)) a d f
+            (others_then s (Only (file_in R t)) a b d (record { same = λ told g other. peeks.looks.reads.now told g }) (others_at s _ _ b d vmade.file turns.others))
+            (others_at s _ _ d f (grows.made.file ∙ vmade.file) climb.others);
       }
         where
           same_root : w.head.root ≡ t.head.root
-          same_root = wroot ∙ ap (λ (y : TreeHead). y.root) (vhead ∙ head)
+          same_root = wroot ∙ ap (λ (y : TreeHead). y.root) vhead
+
+          some_none : Some (node_page node) ≡ None → ⊥
+          some_none e = cc
+
+          given_on : (j : ℕ) → IsGiven t.head j → IsGiven w.head j
+          given_on j (inl g) = inl (g.0, omega (arith, g.1, ap (λ (y : TreeHead). y.leaf_ids) vhead, ap (λ (y : TreeHead). y.leaf_ids) grows.head))
+          given_on j (inr g) = inr (g.0, omega (arith, g.1, ap (λ (y : TreeHead). y.node_ids) vhead, grows.nodes_least))
 
           same_limit : w.head.node_limit ≡ t.head.node_limit
-          same_limit = wlimit ∙ ap (λ (y : TreeHead). y.node_limit) (vhead ∙ head)
+          same_limit = wlimit ∙ ap (λ (y : TreeHead). y.node_limit) vhead
 
-          join : (pages mid new : PageMap) → ShowsWay s file_of holds t a pages → (div : Divided id (record { heir = node.heir; entries = spliced node.entries place added }) above pages mid) → length (spliced node.entries place added) / 2 ≤ t.head.node_limit
-              → Climbs w x above mid new → Climbs t x added pages new
+          join : (pages mid new : PageMap) → ShowsWay s R t a pages → (div : Divided id (record { heir = node.heir; entries = spliced node.entries place added }) above pages mid) → length (spliced node.entries place added) / 2 ≤ t.head.node_limit
+              → ClimbsWith w.head.node_limit mid new w.height x.height w.head.root x.head.root w.path above → ClimbsWith t.head.node_limit pages new t.height x.height t.head.root x.head.root t.path added
           join pages mid new h div half c =
               let low : PageMap = put_at id (node_page (record { heir = node.heir; entries = div.front })) (put_at div.second (node_page (record { heir = div.up.child; entries = div.back })) pages) in
               let c1 : ClimbsWith t.head.node_limit mid new w.height x.height w.head.root x.head.root w.path above = subst (λ (n : ℕ). ClimbsWith n mid new w.height x.height w.head.root x.head.root w.path above) same_limit c in
-              let c2 : ClimbsWith t.head.node_limit mid new t.height x.height w.head.root x.head.root w.path above = subst (λ (n : ℕ). ClimbsWith t.head.node_limit mid new n x.height w.head.root x.head.root w.path above) (wheight ∙ vheight ∙ height) c1 in
+              let c2 : ClimbsWith t.head.node_limit mid new t.height x.height w.head.root x.head.root w.path above = subst (λ (n : ℕ). ClimbsWith t.head.node_limit mid new n x.height w.head.root x.head.root w.path above) (wheight ∙ vheight) c1 in
               let c3 : ClimbsWith t.head.node_limit mid new t.height x.height t.head.root x.head.root w.path above = subst (λ (n : ℕ). ClimbsWith t.head.node_limit mid new t.height x.height n x.head.root w.path above) same_root c2 in
-              let c4 : ClimbsWith t.head.node_limit mid new t.height x.height t.head.root x.head.root u.path above = subst (λ (p : List (ℕ × ℕ)). ClimbsWith t.head.node_limit mid new t.height x.height t.head.root x.head.root p above) (wpath ∙ vpath) c3 in
-              let c5 : ClimbsWith t.head.node_limit low new t.height x.height t.head.root x.head.root u.path above = subst (λ (p : PageMap). ClimbsWith t.head.node_limit p new t.height x.height t.head.root x.head.root u.path above) div.are c4 in
-              let c6 : ClimbsWith t.head.node_limit low new t.height x.height t.head.root x.head.root u.path (record { child = div.second; key = div.up.key } ∷ []) =
-              subst (λ (y : List NodeEntry). ClimbsWith t.head.node_limit low new t.height x.height t.head.root x.head.root u.path y) div.above_is c5 in
+              let c4 : ClimbsWith t.head.node_limit mid new t.height x.height t.head.root x.head.root path above = subst (λ (p : List (ℕ × ℕ)). ClimbsWith t.head.node_limit mid new t.height x.height t.head.root x.head.root p above) (wpath ∙ vpath) c3 in
+              let c5 : ClimbsWith t.head.node_limit low new t.height x.height t.head.root x.head.root path above = subst (λ (p : PageMap). ClimbsWith t.head.node_limit p new t.height x.height t.head.root x.head.root path above) div.are c4 in
+              let c6 : ClimbsWith t.head.node_limit low new t.height x.height t.head.root x.head.root path (record { child = div.second; key = div.up.key } ∷ []) =
+              subst (λ (y : List NodeEntry). ClimbsWith t.head.node_limit low new t.height x.height t.head.root x.head.root path y) div.above_is c5 in
               subst (λ (p : List (ℕ × ℕ)). ClimbsWith t.head.node_limit pages new t.height x.height t.head.root x.head.root p added) (sym e)
-              (node_parts t.head.node_limit pages new t.height x.height t.head.root x.head.root id place div.second u.path node added div.front div.back div.up (here pages h) div.fresh div.cut
+              (node_parts t.head.node_limit pages new t.height x.height t.head.root x.head.root id place div.second path node added div.front div.back div.up (here pages h) div.fresh div.cut
               (omega (arith, half_front (spliced node.entries place added) div.front div.back div.up div.cut div.half, half)) (omega (arith, half_back (spliced node.entries place added) div.front div.back div.up div.cut div.half, half)) c6)
 
 -- ---- no room past the root
 
-module _ {S V O : Type 0} (s : Ghosts S) (file_of : V → ℕ) (holds : V → List ℕ → Map → Type 0) (fills : V → S → Map → Map → Type 0) where
-  pub lacks_end : (t : Tree V O) (a b : S) (added : List NodeEntry) → LacksPage s file_of holds fills (IsNodeOf 2 added) t.store a b
-      → LacksPage s file_of holds fills (λ p. (pages : PageMap) → ShowsWay s file_of holds t a pages → IsKnownNode t.head.node_limit added pages p) t.store a b
-  lacks_end t a b added l = lacks_after s file_of holds fills (IsNodeOf 2 added) (λ p. (pages : PageMap) → ShowsWay s file_of holds t a pages → IsKnownNode t.head.node_limit added pages p) t.store t.store a a b (keeps_refl s a) refl
+module _ {S V O : Type 0} (s : Ghosts S) (R : Stores V S) where
+  pub lacks_end : (t : Tree V O) (a b : S) (added : List NodeEntry) → LacksPage s R (IsNodeOf 2 added) t.store a b → LacksPage s R (IsWayNode s R added t a) t.store a b
+  lacks_end t a b added l = lacks_after s R (IsNodeOf 2 added) (IsWayNode s R added t a) t.store t.store a a b (keeps_refl s a) (same_store_refl R t.store)
       (λ p n pages h. (n.0, n.1, omega (arith, n.2, h.0.1.head.node_limit.0), all_map (λ (x : NodeEntry). IsAmong entry_key x.key added) (λ (x : NodeEntry). IsAmong entry_key x.key added ⊎ StoodIn pages x.key) n.0.entries (λ x k. inl k) n.3)) l

@@ -1,17 +1,19 @@
 -- A key in the leaf where it belongs.
-use Rattle.std.proofs.Common.{◌≡◌, ℕ, List, ◌++◌, Bool, true, false, Some, None, map, sym, ap, ◌∙◌, subst, append_assoc}
+use Rattle.std.proofs.Common.{◌≡◌, ℕ, List, ◌++◌, Bool, true, false, Option, Some, None, map, sym, ap, ◌∙◌, subst, append_assoc}
 use Rattle.std.specs.Prelude.{slice_get}
 use Rattle.std.specs.FinMap.{get}
 use Rattle.std.specs.List.{flat_map}
 use Rattle.tc_base.specs.Lists.{first, pair, values}
 use Rattle.tc_base.specs.Maps.{Map}
+use Rattle.tc_base.specs.declared.order.Order.{Ghosts as Orders}
 use Rattle.tc_base.specs.declared.seq.Pair.{Pair}
 use Rattle.tc_space.specs.Frames.{Reads}
+use Rattle.tc_space.specs.declared.records.Records.{Ghosts as Stores}
 use Rattle.tc_space.specs.declared.space.Space.{Ghosts}
 use Rattle.bt_page.specs.declared.page.Item.{Item}
 use Rattle.bt_page.specs.declared.page.Leaf.{Leaf}
 use Rattle.bt_rows.specs.declared.head.TreeHead.{TreeHead}
-use Rattle.bt_rows.specs.Orders.{Before, IsOrder}
+use Rattle.bt_rows.specs.Orders.{Before, IsOrder, before_by}
 use Rattle.bt_rows.specs.Rules.{Ascends, item_pairs}
 use Rattle.bt_cache.specs.Held.{Beside}
 use Rattle.bt_tree.specs.declared.tree.Tree.{Tree}
@@ -59,17 +61,20 @@ module _ (before : Before) (order : IsOrder before) (key : List ℕ) (ps : List 
   first_some x s is = sym (ap (λ (vs : List (List ℕ)). slice_get vs 0) (values_at true (s l.ascends) ∙ own_hit before order leaf.items place x is))
 
 -- pages are looked at, and the numbers of the tree stay
-module _ {S V O : Type 0} (s : Ghosts S) (file_of : V → ℕ) (holds : V → List ℕ → Map → Type 0) (before : Before) (t u : Tree V O) (old new : S) where
-  pub tree_reads : Reads s (Beside s file_of holds) (t.cache.pages, t.store) (u.cache.pages, u.store) old new → StaysTree t u → Reads s (Means s file_of holds before) t u old new
+module _ {S V O : Type 0} (s : Ghosts S) (R : Stores V S) (o : Orders O) (t u : Tree V O) (old new : S) where
+  pub tree_reads : Reads s (Beside s R) (t.cache.pages, t.store) (u.cache.pages, u.store) old new → StaysTree t u → Reads s (Means s R o) t u old new
   tree_reads reads stays = record { now = reads.now; touched = reads.touched; sound = reads.sound; means = means }
     where
-      pairs_on : (m : Map) (ps : List Pair) → HoldsPairs before t.head t.height t.index (get m) ps → HoldsPairs before u.head u.height u.index (get m) ps
+      pairs_on : (m : Map) (ps : List Pair) → HoldsPairs (before_by o.cmp) t.head t.height t.column (get m) ps → HoldsPairs (before_by o.cmp) u.head u.height u.column (get m) ps
       pairs_on m ps p =
-          subst (λ (h : TreeHead). HoldsPairs before h u.height u.index (get m) ps) (sym stays.head)
-          (subst (λ (n : ℕ). HoldsPairs before t.head n u.index (get m) ps) (sym stays.height) (subst (λ (b : Bool). HoldsPairs before t.head t.height b (get m) ps) (sym stays.index) p))
+          subst (λ (h : TreeHead). HoldsPairs (before_by o.cmp) h u.height u.column (get m) ps) (sym stays.head)
+          (subst (λ (n : ℕ). HoldsPairs (before_by o.cmp) t.head n u.column (get m) ps) (sym stays.height)
+          (subst (λ (c : Option (List ℕ)). HoldsPairs (before_by o.cmp) t.head t.height c (get m) ps) (sym stays.column) p))
 
-      means : (ps : List Pair) → Means s file_of holds before t old ps → Means s file_of holds before u new ps
-      means ps h = let b = reads.means h.1.0 ((h.0, h.1.1), h.1.2) in (b.0.0, (h.1.0, b.0.1, b.1, pairs_on h.1.0 ps h.1.3))
+      means : (ps : List Pair) → Means s R o t old ps → Means s R o u new ps
+      means ps h =
+          let b = reads.means h.1.records ((h.0, h.1.store), h.1.same) in
+          (b.0.0, record { records = h.1.records; store = b.0.1; same = b.1; order = ap (λ (k : TreeHead). k.order) stays.head ∙ h.1.order; is = pairs_on h.1.records ps h.1.is })
 
-  pub asks_of : (region : V → List ℕ) (gets : V → ℕ) (most steps steps' : ℕ) → Visits s file_of holds region gets most t u steps steps' old new → Asks s file_of holds region gets before most t u steps steps' old new
-  asks_of region gets most steps steps' v = record { reads = tree_reads v.looks.reads v.stays; keeps = v.looks.keeps; pages = v.pages; stays = v.stays }
+  pub asks_of : (most steps steps' : ℕ) → Visits s R most t u steps steps' old new → Asks s R o most t u steps steps' old new
+  asks_of most steps steps' v = record { reads = tree_reads v.looks.reads v.stays; looks = v.looks; pages = v.pages; stays = v.stays }

@@ -1,5 +1,5 @@
 -- A pair that comes into a tree.
-use Rattle.std.proofs.Common.{◌≡◌, ◌≢◌, ℕ, suc, ◌+◌, ◌<◌, ◌≤◌, List, [], ◌∷◌, ◌++◌, Bool, true, false, Option, Some, None, length, map, take, refl, sym, ap, ◌∙◌, subst, inl, inr, ⊎_elim, arith, append_assoc, length-append, ◌⊎◌}
+use Rattle.std.proofs.Common.{◌≡◌, ◌≢◌, ℕ, suc, ◌+◌, ◌<◌, ◌≤◌, List, [], ◌∷◌, ◌++◌, Bool, true, false, Option, Some, None, length, map, take, refl, sym, ap, ◌∙◌, subst, inl, inr, ⊎_elim, arith, length-append, ◌⊎◌}
 use Rattle.std.specs.Prelude.{if◌then◌else◌, ◌==◌}
 use Rattle.std.specs.Cmp.{IsTotalOrder}
 use Rattle.std.specs.FinMap.{get}
@@ -9,10 +9,12 @@ use Rattle.std.proofs.lemmas.Bool.Decides.{nat_tests}
 use Rattle.std.proofs.lemmas.Grind.{flat_map-append}
 use Rattle.std.proofs.lemmas.List.{append-nil}
 use Rattle.tc_base.specs.Maps.{Map}
+use Rattle.tc_base.specs.declared.order.Order.{Ghosts as Orders}
 use Rattle.tc_base.specs.declared.seq.Pair.{Pair}
 use Rattle.tc_space.specs.Effects.{Stays as StaysOver}
-use Rattle.tc_space.specs.Frames.{Keeps, Reads, Refuses, Writes, others_then, reads_then}
-use Rattle.tc_space.specs.Stores.{IsReady, Only}
+use Rattle.tc_space.specs.Frames.{Keeps, Reads, Refuses, others_then, reads_then}
+use Rattle.tc_space.specs.Stores.{Only}
+use Rattle.tc_space.specs.declared.records.Records.{Ghosts as Stores}
 use Rattle.tc_space.specs.declared.space.Space.{Ghosts}
 use Rattle.bt_page.specs.Limits.{NodeWithin}
 use Rattle.bt_page.specs.declared.page.Item.{Item}
@@ -28,8 +30,7 @@ use Rattle.bt_rows.proofs.Building.{held_most}
 use Rattle.bt_rows.specs.Orders.{Before, IsOrder, before_by}
 use Rattle.bt_rows.specs.Pages.{PageMap, AreHeld}
 use Rattle.bt_rows.specs.Rows.{first_id, last_id}
-use Rattle.bt_rows.specs.Rules.{B1, B2, B5, InOrder, IsLinked, IsWithin, LeafLimits, item_pairs, leaf_pairs, pairs_of}
-use Rattle.bt_cache.specs.Effects.{Looks}
+use Rattle.bt_rows.specs.Rules.{B1, B5, InOrder, IsLinked, IsWithin, LeafLimits, item_pairs, leaf_pairs, pairs_of}
 use Rattle.bt_cache.specs.Held.{Beside}
 use Rattle.bt_ways.specs.Changes.{AreItems, IsChanged, IsOver, ItemsWithin, inserted, items_pairs}
 use Rattle.bt_ways.specs.Climbs.{ClimbsWith, IsHeldWay}
@@ -49,17 +50,20 @@ use Rattle.tc_base.specs.Lists.{pair}
 use Rattle.bt_page.specs.declared.page.NodeEntry.{NodeEntry}
 use Rattle.bt_tree.specs.declared.tree.Tree.{Tree}
 use Rattle.bt_tree.specs.Climbing.{NodesWithin, IsAmong, StoodIn}
-use Rattle.bt_tree.specs.Inserting.{Gains, IsCrowded, IsPutPage, TakesPair, pair_key}
-use Rattle.bt_tree.specs.Meaning.{Means, file_in}
-use Rattle.bt_tree.specs.Paging.{HasLeafAt, IsLeafId, LacksPage, Shows, StaysStill, Turns}
-use Rattle.bt_tree.specs.Parting.{AtLeaf, IsParted, IsPiece, IsStretch, ShowsLeaf, Widens, last_part, item_key}
-use Rattle.bt_tree.specs.Trees.{HoldsPairs, IsTree}
-use Rattle.bt_tree.specs.Visits.{StaysTree}
+use Rattle.bt_tree.specs.Finding.{LeadsTo}
+use Rattle.bt_tree.specs.Inserting.{AddsAnew, AreItemsOf, Gains, Inserts, IsCrowded, IsPutPage, IsWritten, TakesInLeaf, TakesPair, pair_key}
+use Rattle.bt_tree.specs.Meaning.{IsOpen, Means, file_in}
+use Rattle.bt_tree.specs.Numbers.{with_pairs}
+use Rattle.bt_tree.specs.Paging.{ComesAnew, GivenUp, HasLeafAt, IsLeafId, IsPageOf, IsShown, LacksPage, PutsAt, Shows, StaysStill}
+use Rattle.bt_tree.specs.Parting.{AtLeaf, HasLeaf, IsLeafPiece, IsParted, IsPiece, IsStretch, ShowsLeaf, TurnsParted, Widens, last_part, item_key}
+use Rattle.bt_tree.specs.Trees.{HasKeys, HoldsPairs}
+use Rattle.bt_tree.specs.Visits.{LooksAt, StaysTree}
 use Rattle.bt_tree.proofs.Climbings.{among_back, among_front}
-use Rattle.bt_tree.proofs.Descents.{belongs, leaf_values}
+use Rattle.bt_tree.proofs.Contents.{changed_items, page_items}
+use Rattle.bt_tree.proofs.Descents.{leaf_values}
 use Rattle.bt_tree.proofs.Finds.{tree_reads}
 use Rattle.bt_tree.proofs.Pages.{found_leaf, has_page}
-use Rattle.bt_tree.proofs.Pagings.{Gives, lacks_after, leaf_given, leaf_node, looked_shows, more_shows, others_at, put_all, puts_over, some_leaf}
+use Rattle.bt_tree.proofs.Pagings.{Gives, anew_over, lacks_after, leaf_given, leaf_node, looked_shows, more_shows, others_at, put_all, puts_over}
 use Rattle.bt_tree.proofs.Partings.{cons_nil, parted_last}
 
 pub not_both : (b : Bool) → b ≡ true → b ≡ false → ⊥
@@ -103,21 +107,6 @@ within_on h k j None e f r w = tt
 within_on h k j (Some (leaf_page l)) e f r w = record { within = record { keys = omega (arith, w.within.keys, e); bytes = w.within.bytes }; some = λ ne. w.some (r ne l refl) }
 within_on h k j (Some (node_page n)) e f r w = omega (arith, w, f)
 
--- ---- stretches
-
-pub stretch_pairs : (xs ys : List Item) → IsStretch xs ys → IsStretch (items_pairs xs) (items_pairs ys)
-stretch_pairs xs ys s = (
-  items_pairs s.0,
-  items_pairs s.1,
-  ap items_pairs s.2 ∙ flat_map-append item_pairs s.0 (xs ++ s.1) ∙ ap (λ (t : List Pair). items_pairs s.0 ++ t) (flat_map-append item_pairs xs s.1),
-)
-
-pub stretch_in : {X : Type 0} (xs ys a b zs : List X) → IsStretch xs ys → zs ≡ a ++ (ys ++ b) → IsStretch xs zs
-stretch_in {X} xs ys a b zs s e = (a ++ s.0, s.1 ++ b, e ∙ ap (λ (t : List X). a ++ (t ++ b)) s.2 ∙ regroup a s.0 xs s.1 b)
-  where
-    regroup : (p q r t u : List X) → p ++ ((q ++ (r ++ t)) ++ u) ≡ (p ++ q) ++ (r ++ (t ++ u))
-    regroup p q r t u = simp append_assoc
-
 -- a key of an item is held
 values_held : (k : List ℕ) (vs : List (List ℕ)) → 0 < length vs → IsAmong pair_key k (map (pair k) vs)
 values_held k [] lt = absurd (omega (arith, lt))
@@ -130,7 +119,7 @@ item_held k (x ∷ xs) some (inr a) = among_back pair_key k (item_pairs x) (item
 
 -- ---- a tree and the leaf where a key belongs
 
-module _ (before : Before) (h : TreeHead) (height : ℕ) (index : Bool) (m : Map) (ps : List Pair) (p : HoldsPairs before h height index (get m) ps) (key : List ℕ) (path : List (ℕ × ℕ)) (id : ℕ) (f : Found before h.root key p.tree.leaves p.tree.levels path id) where
+module _ (before : Before) (h : TreeHead) (height : ℕ) (column : Option (List ℕ)) (m : Map) (ps : List Pair) (p : HoldsPairs before h height column (get m) ps) (key : List ℕ) (path : List (ℕ × ℕ)) (id : ℕ) (f : Found before h.root key p.tree.leaves p.tree.levels path id) where
   abbrev the_pages : PageMap
   the_pages = p.tree.pages
 
@@ -207,8 +196,8 @@ module _ (before : Before) (h : TreeHead) (height : ℕ) (index : Bool) (m : Map
 
 -- ---- the leaf has room
 
-module _ (cmp : List ℕ → List ℕ → Ordering) (total : IsTotalOrder cmp) (order : IsOrder (before_by cmp)) (last : Bool) (key value : List ℕ) (h : TreeHead) (height : ℕ) (index : Bool) (m : Map) (ps : List Pair)
-    (p : HoldsPairs (before_by cmp) h height index (get m) ps) (path : List (ℕ × ℕ)) (x : Changed) (takes : TakesPair cmp last key value p.tree path x) where
+module _ (cmp : List ℕ → List ℕ → Ordering) (total : IsTotalOrder cmp) (order : IsOrder (before_by cmp)) (last : Bool) (key value : List ℕ) (h : TreeHead) (height : ℕ) (column : Option (List ℕ)) (m : Map) (ps : List Pair)
+    (p : HoldsPairs (before_by cmp) h height column (get m) ps) (path : List (ℕ × ℕ)) (x : Changed) (takes : TakesPair cmp last key value p.tree path x) where
   abbrev f : Found (before_by cmp) h.root key p.tree.leaves p.tree.levels path x.id
   f = takes.found
 
@@ -227,6 +216,10 @@ module _ (cmp : List ℕ → List ℕ → Ordering) (total : IsTotalOrder cmp) (
   pub new_stretch : IsStretch (items_pairs x.leaf.items) (inserted cmp last key value ps)
   new_stretch = (pairs_of f.front, pairs_of f.back, sym pairs_are ∙ pairs_around f.front (with_items f.leaf x.leaf.items) f.back)
 
+  -- some of the items of the new leaf are some of those that the tree is to have
+  pub new_items : (xs : List Item) → IsStretch xs x.leaf.items → AreItemsOf cmp xs (inserted cmp last key value ps)
+  new_items xs stretch = changed_items cmp order h height column m ps p f.front f.back f.leaf (with_items f.leaf x.leaf.items) (inserted cmp last key value ps) xs f.parts takes.changed.items.some takes_both.0 pairs_are stretch
+
   counted : length (pairs_of with_new) ≡ length (pairs_of p.tree.leaves) + (if x.grown then 1 else 0)
   counted =
       let new : length (pairs_of with_new) ≡ length (pairs_of f.front) + (length (items_pairs x.leaf.items) + length (pairs_of f.back)) =
@@ -241,11 +234,11 @@ module _ (cmp : List ℕ → List ℕ → Ordering) (total : IsTotalOrder cmp) (
 
   pub crowded : (ItemsWithin h.leaf_limit x.leaf.items → ⊥) → IsOver h.leaf_limit x.leaf.items x.place
   crowded over = over_changed cmp last key value f.leaf.leaf.items x.leaf.items x.place x.grown h.leaf_limit takes.changed
-      (items_within h.leaf_limit f.leaf.leaf (leaves_within (before_by cmp) h height index m ps p key path x.id f x.id f.leaf.leaf (leaf_held (before_by cmp) h height index m ps p key path x.id f)).within) p.tree.head.leaf_limit.0 over
+      (items_within h.leaf_limit f.leaf.leaf (leaves_within (before_by cmp) h height column m ps p key path x.id f x.id f.leaf.leaf (leaf_held (before_by cmp) h height column m ps p key path x.id f)).within) p.tree.head.leaf_limit.0 over
 
   -- in its place with one pair more
-  pub kept : (k : TreeHead) (n : Map) → ItemsWithin h.leaf_limit x.leaf.items → k ≡ record h { pairs = h.pairs + (if x.grown then 1 else 0) } → B1 k → B2 k index (get n) → AreHeld k (get n) (put_at x.id (leaf_page x.leaf) p.tree.pages)
-      → HoldsPairs (before_by cmp) k height index (get n) (inserted cmp last key value ps)
+  pub kept : (k : TreeHead) (n : Map) → ItemsWithin h.leaf_limit x.leaf.items → k ≡ record h { pairs = h.pairs + (if x.grown then 1 else 0) } → B1 k → HasKeys k column (get n) → AreHeld k (get n) (put_at x.id (leaf_page x.leaf) p.tree.pages)
+      → HoldsPairs (before_by cmp) k height column (get n) (inserted cmp last key value ps)
   kept k n fits same b1 b2 held = record {
     tree = record {
       head = b1;
@@ -308,8 +301,8 @@ module _ (cmp : List ℕ → List ℕ → Ordering) (total : IsTotalOrder cmp) (
         (subst (λ (t : List (ℕ × ℕ)). ClimbsWith u.head.node_limit half new u.height v.height u.head.root v.head.root t (map part_entry q.parts)) upath
         (subst (λ (t : ℕ). ClimbsWith u.head.node_limit (with_parts p.tree.pages (parted f.leaf.slot t f.leaf.leaf.next q.items q.parts) (relinked (last_id 0 (parted f.leaf.slot t f.leaf.leaf.next q.items q.parts)) f.back)) new u.height v.height u.head.root v.head.root u.path (map part_entry q.parts)) takes.prev
         (subst (λ (t : ℕ). ClimbsWith u.head.node_limit (with_parts p.tree.pages (parted f.leaf.slot x.leaf.prev t q.items q.parts) (relinked (last_id 0 (parted f.leaf.slot x.leaf.prev t q.items q.parts)) f.back)) new u.height v.height u.head.root v.head.root u.path (map part_entry q.parts)) takes.next
-        (q.climbs f.leaf.slot f.back f.is (back_held (before_by cmp) h height index m ps p key path x.id f) (takes.next ∙ next_is (before_by cmp) h height index m ps p key path x.id f)
-        (λ z. back_none (before_by cmp) h height index m ps p key path x.id f (sym takes.next ∙ z)))))))
+        (q.climbs f.leaf.slot f.back f.is (back_held (before_by cmp) h height column m ps p key path x.id f) (takes.next ∙ next_is (before_by cmp) h height column m ps p key path x.id f)
+        (λ z. back_none (before_by cmp) h height column m ps p key path x.id f (sym takes.next ∙ z)))))))
 
     stood : (rows : List (List NodeAt)) × Stands (before_by cmp) new v.head.root all_leaves rows × (v.height ≡ suc (length rows))
     stood = leaf_parts (before_by cmp) order h.node_limit p.tree.pages new v.height h.root v.head.root key p.tree.leaves p.tree.levels path x.id p.tree.stands f q.items q.parts q.some q.have q.fresh in_order
@@ -338,13 +331,13 @@ module _ (cmp : List ℕ → List ℕ → Ordering) (total : IsTotalOrder cmp) (
 
         go : (back : List LeafAt) → f.back ≡ back → v.head.last ≡ last_id 0 all_leaves
         go [] e =
-            let nil : x.leaf.next ≡ 0 = takes.next ∙ next_is (before_by cmp) h height index m ps p key path x.id f ∙ ap first_id e in
+            let nil : x.leaf.next ≡ 0 = takes.next ∙ next_is (before_by cmp) h height column m ps p key path x.id f ∙ ap first_id e in
             let test : (x.leaf.next == 0) ≡ true = grind (arith, nat_tests) in
             q.last ∙ ap (λ (b : Bool). if b then last_part x.id q.parts else u.head.last) test
             ∙ sym (last-append 0 f.front (laid ++ relinked (last_id 0 laid) f.back) ∙ ap (λ (t : List LeafAt). last_id (last_id 0 f.front) (laid ++ relinked (last_id 0 laid) t)) e
             ∙ ap (last_id (last_id 0 f.front)) (append-nil laid) ∙ ends (last_id 0 f.front))
         go (b ∷ bs) e =
-            let some : x.leaf.next ≡ 0 → ⊥ = λ z. cons_nil b bs (sym e ∙ back_none (before_by cmp) h height index m ps p key path x.id f (sym takes.next ∙ z)) in
+            let some : x.leaf.next ≡ 0 → ⊥ = λ z. cons_nil b bs (sym e ∙ back_none (before_by cmp) h height column m ps p key path x.id f (sym takes.next ∙ z)) in
             let test : (x.leaf.next == 0) ≡ false = grind (arith, nat_tests) in
             q.last ∙ ap (λ (c : Bool). if c then last_part x.id q.parts else u.head.last) test ∙ ap (λ (y : TreeHead). y.last) uhead ∙ p.links.last ∙ ap (last_id 0) f.parts
             ∙ last-append 0 f.front (f.leaf ∷ f.back) ∙ ap (λ (t : List LeafAt). last_id f.leaf.slot.id t) e
@@ -373,14 +366,14 @@ module _ (cmp : List ℕ → List ℕ → Ordering) (total : IsTotalOrder cmp) (
           where
             within_behind : LeafLimits k b.slot.id (record { prev = was; next = b.leaf.next; items = b.leaf.items })
             within_behind =
-                let l = leaves_within (before_by cmp) h height index m ps p key path x.id f b.slot.id b.leaf held.0 in
+                let l = leaves_within (before_by cmp) h height column m ps p key path x.id f b.slot.id b.leaf held.0 in
                 record {
                   within = record { keys = omega (arith, l.within.keys, limit_on); bytes = l.within.bytes };
-                  some = λ ne. l.some (λ z. absurd (cons_nil b bs (sym e ∙ root_alone (before_by cmp) h height index m ps p key path x.id f b.leaf (ap p.tree.pages (sym z) ∙ held.0))));
+                  some = λ ne. l.some (λ z. absurd (cons_nil b bs (sym e ∙ root_alone (before_by cmp) h height column m ps p key path x.id f b.leaf (ap p.tree.pages (sym z) ∙ held.0))));
                 }
 
         base : (j : ℕ) → (j ≡ f.leaf.slot.id → ⊥) → IsWithin k j (p.tree.pages j)
-        base j other = within_on h k j (p.tree.pages j) limit_on node_limit_on (λ ne l e z. other (z ∙ sym (root_leaf (before_by cmp) h height index m ps p key path x.id f l (ap p.tree.pages (sym z) ∙ e)))) (p.limits j)
+        base j other = within_on h k j (p.tree.pages j) limit_on node_limit_on (λ ne l e z. other (z ∙ sym (root_leaf (before_by cmp) h height column m ps p key path x.id f l (ap p.tree.pages (sym z) ∙ e)))) (p.limits j)
 
         halves : (j : ℕ) → IsWithin k j (half j)
         halves = go q.parts q.within q.some q.are_within q.have
@@ -390,15 +383,15 @@ module _ (cmp : List ℕ → List ℕ → Ordering) (total : IsTotalOrder cmp) (
             go [] w some ws haves =
                 let l0 : LeafAt = record { slot = f.leaf.slot; leaf = record { prev = f.leaf.leaf.prev; next = f.leaf.leaf.next; items = q.items } } in
                 puts_over (λ j o. IsWithin k j o) p.tree.pages l0 (take 1 (relinked f.leaf.slot.id f.back)) (fits_in f.leaf.slot.id f.leaf.leaf.prev f.leaf.leaf.next q.items w some)
-                (behind_in f.back f.leaf.slot.id (back_held (before_by cmp) h height index m ps p key path x.id f) refl) base
+                (behind_in f.back f.leaf.slot.id (back_held (before_by cmp) h height column m ps p key path x.id f) refl) base
             go (t ∷ ts) w some ws haves =
                 let l0 : LeafAt = record { slot = f.leaf.slot; leaf = record { prev = f.leaf.leaf.prev; next = t.id; items = q.items } } in
                 let rest : List LeafAt = parted (part_slot t) f.leaf.slot.id f.leaf.leaf.next t.items ts in
                 puts_over (λ j o. IsWithin k j o) p.tree.pages l0 (rest ++ take 1 (relinked (last_id f.leaf.slot.id rest) f.back)) (fits_in f.leaf.slot.id f.leaf.leaf.prev t.id q.items w some)
                 (all_join (λ (l : LeafAt). IsWithin k l.slot.id (Some (leaf_page l.leaf))) rest (take 1 (relinked (last_id f.leaf.slot.id rest) f.back)) (laid_in (part_slot t) f.leaf.slot.id f.leaf.leaf.next t.items ts ws.0 haves.0 ws.1 haves.1)
-                (behind_in f.back (last_id f.leaf.slot.id rest) (back_held (before_by cmp) h height index m ps p key path x.id f) refl)) base
+                (behind_in f.back (last_id f.leaf.slot.id rest) (back_held (before_by cmp) h height column m ps p key path x.id f) refl)) base
 
-    pub spread : B1 k → B2 k index (get n) → AreHeld k (get n) new → HoldsPairs (before_by cmp) k v.height index (get n) (inserted cmp last key value ps)
+    pub spread : B1 k → HasKeys k column (get n) → AreHeld k (get n) new → HoldsPairs (before_by cmp) k v.height column (get n) (inserted cmp last key value ps)
     spread b1 b2 held = record {
       tree = record {
         head = b1;
@@ -422,225 +415,230 @@ module _ (cmp : List ℕ → List ℕ → Ordering) (total : IsTotalOrder cmp) (
 
 -- ---- the call
 
-module _ {S V O : Type 0} (s : Ghosts S) (file_of : V → ℕ) (holds : V → List ℕ → Map → Type 0) (before : Before) where
-  pub means_shown : (t : Tree V O) (a : S) (ps : List Pair) → (h : Means s file_of holds before t a ps) → Shows s file_of holds t a h.1.3.tree.pages
-  means_shown t a ps h = (h.0, record { records = h.1.0; store = h.1.1; same = h.1.2; head = h.1.3.tree.head; keys = h.1.3.keys; held = h.1.3.tree.held })
+module _ {S V O : Type 0} (s : Ghosts S) (R : Stores V S) (o : Orders O) where
+  pub means_shown : (t : Tree V O) (a : S) (ps : List Pair) → (h : Means s R o t a ps) → Shows s R t a h.1.is.tree.pages
+  means_shown t a ps h = (h.0, record { records = h.1.records; store = h.1.store; same = h.1.same; head = h.1.is.tree.head; keys = h.1.is.keys; held = h.1.is.tree.held })
 
-  pub means_looked : (t u : Tree V O) (a b : S) → Looks s file_of holds t.cache.pages u.cache.pages t.store u.store a b → StaysTree t u → (ps : List Pair) → (h : Means s file_of holds before t a ps) → Shows s file_of holds u b h.1.3.tree.pages
-  means_looked t u a b looks stays ps h = looked_shows s file_of holds t u a b looks stays.head stays.index h.1.3.tree.pages (means_shown t a ps h)
+  pub means_looked : (t u : Tree V O) (a b : S) → LooksAt s R t u a b → StaysTree t u → (ps : List Pair) → (h : Means s R o t a ps) → Shows s R u b h.1.is.tree.pages
+  means_looked t u a b looks stays ps h = looked_shows s R t u a b looks stays.head stays.column h.1.is.tree.pages (means_shown t a ps h)
 
-  pub means_ready : (t u : Tree V O) (a b : S) → Looks s file_of holds t.cache.pages u.cache.pages t.store u.store a b → StaysTree t u → IsReady s (Means s file_of holds before) t a → IsReady s (Shows s file_of holds) u b
-  means_ready t u a b looks stays ready = record { sound = looks.reads.sound; held = λ told. let h = ready.held told in (h.1.1.3.tree.pages, means_looked t u a b looks stays h.0 h.1) }
+  pub means_ready : (t u : Tree V O) (a b : S) → LooksAt s R t u a b → StaysTree t u → IsOpen s R o t a → IsShown s R u b
+  means_ready t u a b looks stays ready = record { sound = looks.reads.sound; held = λ told. let h = ready.held told in (h.1.1.is.tree.pages, means_looked t u a b looks stays h.0 h.1) }
 
   -- the leaf where the key belongs is there
-  pub found_there : (t u : Tree V O) (a b : S) (key : List ℕ) (path : List (ℕ × ℕ)) (id : ℕ) → Looks s file_of holds t.cache.pages u.cache.pages t.store u.store a b → StaysTree t u → IsReady s (Means s file_of holds before) t a
-      → ((m : Map) (is : IsTree before t.head t.height (get m)) → Beside s file_of holds (t.cache.pages, t.store) a m → Found before t.head.root key is.leaves is.levels path id) → HasLeafAt s file_of holds id u b
+  pub found_there : (t u : Tree V O) (a b : S) (key : List ℕ) (path : List (ℕ × ℕ)) (id : ℕ) → LooksAt s R t u a b → StaysTree t u → IsOpen s R o t a → LeadsTo s R o.cmp (before_by o.cmp) key t a path id → HasLeafAt s R id u b
   found_there t u a b key path id looks stays ready found = λ told.
       let h = ready.held told in
-      let f = found h.1.1.0 h.1.1.3.tree ((h.1.0, h.1.1.1), h.1.1.2) in
-      (h.1.1.3.tree.pages, f.leaf.leaf, means_looked t u a b looks stays h.0 h.1, found_leaf before h.1.1.3.tree.pages t.head.root key h.1.1.3.tree.leaves h.1.1.3.tree.levels path id h.1.1.3.tree.stands f)
+      let k = h.1.1 in
+      let f = found k.records k.is.tree ((told, k.store), k.same) in
+      (k.is.tree.pages, f.leaf.leaf, means_looked t u a b looks stays h.0 h.1, found_leaf (before_by o.cmp) k.is.tree.pages t.head.root key k.is.tree.leaves k.is.tree.levels path id k.is.tree.stands f)
 
-module _ {S V O : Type 0} (s : Ghosts S) (file_of : V → ℕ) (holds : V → List ℕ → Map → Type 0) (cmp : List ℕ → List ℕ → Ordering) (last : Bool) (key value : List ℕ) (t u : Tree V O) (a b : S) where
+module _ {S V O : Type 0} (s : Ghosts S) (R : Stores V S) (o : Orders O) (last : Bool) (key value : List ℕ) (t u : Tree V O) (a b : S) where
   -- a pair came among the items of the leaf that was read
-  pub takes_pair : (path path' : List (ℕ × ℕ)) → path' ≡ path → (id : ℕ) (read new : Leaf) (place : ℕ) (grown : Bool) → Looks s file_of holds t.cache.pages u.cache.pages t.store u.store a b → StaysTree t u
-      → ((m : Map) (is : IsTree (before_by cmp) t.head t.height (get m)) → Beside s file_of holds (t.cache.pages, t.store) a m → Found (before_by cmp) t.head.root key is.leaves is.levels path id)
-      → ((pages : PageMap) (l : Leaf) → Shows s file_of holds u b pages → pages id ≡ Some (leaf_page l) → read ≡ l)
+  pub takes_pair : (path path' : List (ℕ × ℕ)) → path' ≡ path → (id : ℕ) (read new : Leaf) (place : ℕ) (grown : Bool) → LooksAt s R t u a b → StaysTree t u
+      → LeadsTo s R o.cmp (before_by o.cmp) key t a path id → IsPageOf s R leaf_page id u b read
       → (new.prev ≡ read.prev) × (new.next ≡ read.next)
-      → (AreItems cmp read.items → IsChanged cmp last key value read.items new.items place grown)
-      → (ps : List Pair) (h : Means s file_of holds (before_by cmp) t a ps)
-      → TakesPair cmp last key value h.1.3.tree path' (record { id = id; leaf = new; place = place; grown = grown })
+      → (AreItems o.cmp read.items → IsChanged o.cmp last key value read.items new.items place grown)
+      → TakesInLeaf s R o last key value t a path' (record { id = id; leaf = new; place = place; grown = grown })
   takes_pair path path' moved id read new place grown looks stays found is_read links changed ps h =
-      let p : HoldsPairs (before_by cmp) t.head t.height t.index (get h.1.0) ps = h.1.3 in
-      let f = found h.1.0 p.tree ((h.0, h.1.1), h.1.2) in
-      let is = found_leaf (before_by cmp) p.tree.pages t.head.root key p.tree.leaves p.tree.levels path id p.tree.stands f in
-      let same : read ≡ f.leaf.leaf = is_read p.tree.pages f.leaf.leaf (means_looked s file_of holds (before_by cmp) t u a b looks stays ps h) is in
-      let ob : InOrder (before_by cmp) (f.leaf ∷ f.back) = order_behind (before_by cmp) f.front (f.leaf ∷ f.back) (subst (λ (x : List LeafAt). InOrder (before_by cmp) x) f.parts p.tree.stands.order) in
-      let are : AreItems cmp f.leaf.leaf.items = record { ascends = ob.0.ascends; some = leaf_values h.1.0 id f.leaf.leaf (has_page t.head h.1.0 p.tree.pages id (leaf_page f.leaf.leaf) p.tree.head p.tree.held is) } in
-      subst (λ (q : List (ℕ × ℕ)). TakesPair cmp last key value h.1.3.tree q (record { id = id; leaf = new; place = place; grown = grown })) (sym moved) (record {
+      let p : HoldsPairs (before_by o.cmp) t.head t.height t.column (get h.1.records) ps = h.1.is in
+      let f = found h.1.records p.tree ((h.0, h.1.store), h.1.same) in
+      let is = found_leaf (before_by o.cmp) p.tree.pages t.head.root key p.tree.leaves p.tree.levels path id p.tree.stands f in
+      let same : read ≡ f.leaf.leaf = is_read p.tree.pages f.leaf.leaf (means_looked s R o t u a b looks stays ps h) is in
+      let ob : InOrder (before_by o.cmp) (f.leaf ∷ f.back) = order_behind (before_by o.cmp) f.front (f.leaf ∷ f.back) (subst (λ (x : List LeafAt). InOrder (before_by o.cmp) x) f.parts p.tree.stands.order) in
+      let are : AreItems o.cmp f.leaf.leaf.items = record { ascends = ob.0.ascends; some = leaf_values h.1.records id f.leaf.leaf (has_page t.head h.1.records p.tree.pages id (leaf_page f.leaf.leaf) p.tree.head p.tree.held is) } in
+      subst (λ (q : List (ℕ × ℕ)). TakesPair o.cmp last key value p.tree q (record { id = id; leaf = new; place = place; grown = grown })) (sym moved) (record {
         found = f;
         prev = links.0 ∙ ap (λ (l : Leaf). l.prev) same;
         next = links.1 ∙ ap (λ (l : Leaf). l.next) same;
-        changed = subst (λ (l : Leaf). IsChanged cmp last key value l.items new.items place grown) same (changed (subst (λ (l : Leaf). AreItems cmp l.items) (sym same) are));
+        changed = subst (λ (l : Leaf). IsChanged o.cmp last key value l.items new.items place grown) same (changed (subst (λ (l : Leaf). AreItems o.cmp l.items) (sym same) are));
       })
 
 -- t at the start, u once the leaf was changed, v once it is written, w in the end
-module _ {S V O : Type 0} (s : Ghosts S) (file_of : V → ℕ) (holds : V → List ℕ → Map → Type 0) (cmp : List ℕ → List ℕ → Ordering) (total : IsTotalOrder cmp) (order : IsOrder (before_by cmp)) (last : Bool) (key value : List ℕ)
-    (t u : Tree V O) (a b : S) (x : Changed) (looks : Looks s file_of holds t.cache.pages u.cache.pages t.store u.store a b) (stays : StaysTree t u) (ufile : file_of u.store ≡ file_of t.store)
-    (taken : (ps : List Pair) (h : Means s file_of holds (before_by cmp) t a ps) → TakesPair cmp last key value h.1.3.tree u.path x) where
+module _ {S V O : Type 0} (s : Ghosts S) (R : Stores V S) (o : Orders O) (total : IsTotalOrder o.cmp) (order : IsOrder (before_by o.cmp)) (last : Bool) (key value : List ℕ)
+    (t u : Tree V O) (a b : S) (x : Changed) (looks : LooksAt s R t u a b) (stays : StaysTree t u) (taken : TakesInLeaf s R o last key value t a u.path x) where
   limit_same : u.head.leaf_limit ≡ t.head.leaf_limit
   limit_same = ap (λ (y : TreeHead). y.leaf_limit) stays.head
 
-  pub over_there : IsReady s (Means s file_of holds (before_by cmp)) t a → (ItemsWithin u.head.leaf_limit x.leaf.items → ⊥) → s.tells → IsOver u.head.leaf_limit x.leaf.items x.place
+  pub over_there : IsOpen s R o t a → (ItemsWithin u.head.leaf_limit x.leaf.items → ⊥) → s.tells → IsOver u.head.leaf_limit x.leaf.items x.place
   over_there ready over told =
       let h = ready.held told in
       subst (λ (n : ℕ). IsOver n x.leaf.items x.place) (sym limit_same)
-      (crowded cmp total order last key value t.head t.height t.index h.1.1.0 h.0 h.1.1.3 u.path x (taken h.0 h.1) (λ w. over (subst (λ (n : ℕ). ItemsWithin n x.leaf.items) (sym limit_same) w)))
+      (crowded o.cmp total order last key value t.head t.height t.column h.1.1.records h.0 h.1.1.is u.path x (taken h.0 h.1) (λ w. over (subst (λ (n : ℕ). ItemsWithin n x.leaf.items) (sym limit_same) w)))
 
-  pub leaf_shown : (ps : List Pair) (h : Means s file_of holds (before_by cmp) t a ps) → ShowsLeaf s file_of holds x.id x.leaf.next u b h.1.3.tree.pages
+  pub leaf_shown : (ps : List Pair) (h : Means s R o t a ps) → ShowsLeaf s R x.id x.leaf.next u b h.1.is.tree.pages
   leaf_shown ps h = (
-    means_looked s file_of holds (before_by cmp) t u a b looks stays ps h,
-    subst (λ (y : TreeHead). AtLeaf y.node_limit y.root u.path x.id x.leaf.next h.1.3.tree.pages) (sym stays.head)
-        (at_leaf (before_by cmp) t.head t.height t.index h.1.0 ps h.1.3 key u.path x.id (taken ps h).found x.leaf.next (taken ps h).next),
+    means_looked s R o t u a b looks stays ps h,
+    subst (λ (y : TreeHead). AtLeaf y.node_limit y.root u.path x.id x.leaf.next h.1.is.tree.pages) (sym stays.head)
+        (at_leaf (before_by o.cmp) t.head t.height t.column h.1.records ps h.1.is key u.path x.id (taken ps h).found x.leaf.next (taken ps h).next),
   )
 
-  pub leaf_ready : IsReady s (Means s file_of holds (before_by cmp)) t a → IsReady s (ShowsLeaf s file_of holds x.id x.leaf.next) u b
-  leaf_ready ready = record { sound = looks.reads.sound; held = λ told. let h = ready.held told in (h.1.1.3.tree.pages, leaf_shown h.0 h.1) }
+  pub leaf_ready : IsOpen s R o t a → HasLeaf s R x.id x.leaf.next u b
+  leaf_ready ready = record { sound = looks.reads.sound; held = λ told. let h = ready.held told in (h.1.1.is.tree.pages, leaf_shown h.0 h.1) }
 
-  pub id_given : IsReady s (Means s file_of holds (before_by cmp)) t a → s.tells → IsLeafId u.head x.id
+  pub id_given : IsOpen s R o t a → s.tells → IsLeafId u.head x.id
   id_given ready told =
       let h = ready.held told in
       subst (λ (y : TreeHead). IsLeafId y x.id) (sym stays.head)
-      (leaf_given t.head h.1.1.0 h.1.1.3.tree.pages x.id (taken h.0 h.1).found.leaf.leaf h.1.1.3.tree.head h.1.1.3.tree.held (leaf_held (before_by cmp) t.head t.height t.index h.1.1.0 h.0 h.1.1.3 key u.path x.id (taken h.0 h.1).found))
+      (leaf_given t.head h.1.1.records h.1.1.is.tree.pages x.id (taken h.0 h.1).found.leaf.leaf h.1.1.is.tree.head h.1.1.is.tree.held (leaf_held (before_by o.cmp) t.head t.height t.column h.1.1.records h.0 h.1.1.is key u.path x.id (taken h.0 h.1).found))
 
-  module _ (v w : Tree V O) (d : S) (noted : w ≡ record v { head = record v.head { pairs = v.head.pairs + (if x.grown then 1 else 0) } }) where
+  module _ (v w : Tree V O) (d : S) (noted : w ≡ with_pairs (v.head.pairs + (if x.grown then 1 else 0)) v) where
     whead : w.head ≡ record v.head { pairs = v.head.pairs + (if x.grown then 1 else 0) }
     whead = ap (λ (y : Tree V O). y.head) noted
 
     counts : Gives v.head w.head
     counts = subst (λ (y : TreeHead). Gives v.head y) (sym whead) (record { order = refl; leaf_limit = refl; node_limit = refl; leaves = omega arith; nodes = omega arith; leaves_small = λ lt. lt; nodes_small = λ lt. lt })
 
-    counted_shows : (pages : PageMap) → Shows s file_of holds v d pages → Shows s file_of holds w d pages
-    counted_shows pages h = more_shows s file_of holds v w d (ap (λ (y : Tree V O). y.store) noted) (ap (λ (y : Tree V O). y.cache.pages) noted) (ap (λ (y : Tree V O). y.index) noted) counts pages h
+    counted_shows : (pages : PageMap) → Shows s R v d pages → Shows s R w d pages
+    counted_shows pages h = more_shows s R v w d (ap (λ (y : Tree V O). y.store) noted) (ap (λ (y : Tree V O). y.cache.pages) noted) (ap (λ (y : Tree V O). y.column) noted) counts pages h
 
-    pub inserted_kept : (region : V → List ℕ) → ItemsWithin u.head.leaf_limit x.leaf.items → Writes s (Only (file_in file_of u)) (Shows s file_of holds) (put_at x.id (leaf_page x.leaf)) u v b d → StaysStill s file_of region u v b d
-        → Writes s (Only (file_in file_of t)) (Means s file_of holds (before_by cmp)) (inserted cmp last key value) t w a d
-    inserted_kept region fits put still = record {
+    pub inserted_kept : ItemsWithin u.head.leaf_limit x.leaf.items → PutsAt s R x.id (leaf_page x.leaf) u v b d → StaysStill s R u v b d → Inserts s R o last key value t w a d
+    inserted_kept fits put still = record {
       sound = put.sound;
-      others = others_then s (Only (file_in file_of t)) a b d (record { same = λ told g other. looks.reads.now told g }) (others_at s _ _ b d ufile put.others);
+      others = others_then s (Only (file_in R t)) a b d (record { same = λ told g other. looks.reads.now told g }) (others_at s _ _ b d looks.made.file put.others);
       means = λ ps h.
-          let sw : Shows s file_of holds w d (put_at x.id (leaf_page x.leaf) h.1.3.tree.pages) = counted_shows (put_at x.id (leaf_page x.leaf) h.1.3.tree.pages) (put.means h.1.3.tree.pages (means_looked s file_of holds (before_by cmp) t u a b looks stays ps h)) in
-          let index : w.index ≡ t.index = ap (λ (y : Tree V O). y.index) noted ∙ still.index ∙ stays.index in
+          let sw : Shows s R w d (put_at x.id (leaf_page x.leaf) h.1.is.tree.pages) = counted_shows (put_at x.id (leaf_page x.leaf) h.1.is.tree.pages) (put.means h.1.is.tree.pages (means_looked s R o t u a b looks stays ps h)) in
+          let column : w.column ≡ t.column = ap (λ (y : Tree V O). y.column) noted ∙ still.column ∙ stays.column in
           let height : w.height ≡ t.height = ap (λ (y : Tree V O). y.height) noted ∙ still.height ∙ stays.height in
           let same : w.head ≡ record t.head { pairs = t.head.pairs + (if x.grown then 1 else 0) } = whead ∙ ap (λ (y : TreeHead). record y { pairs = y.pairs + (if x.grown then 1 else 0) }) (still.head ∙ stays.head) in
-          let p : HoldsPairs (before_by cmp) w.head t.height t.index (get sw.1.records) (inserted cmp last key value ps) =
-          kept cmp total order last key value t.head t.height t.index h.1.0 ps h.1.3 u.path x (taken ps h) w.head sw.1.records (subst (λ (n : ℕ). ItemsWithin n x.leaf.items) limit_same fits) same sw.1.head
-          (subst (λ (i : Bool). B2 w.head i (get sw.1.records)) index sw.1.keys) sw.1.held in (
+          let p : HoldsPairs (before_by o.cmp) w.head t.height t.column (get sw.1.records) (inserted o.cmp last key value ps) =
+          kept o.cmp total order last key value t.head t.height t.column h.1.records ps h.1.is u.path x (taken ps h) w.head sw.1.records (subst (λ (n : ℕ). ItemsWithin n x.leaf.items) limit_same fits) same sw.1.head
+          (subst (λ (k : Option (List ℕ)). HasKeys w.head k (get sw.1.records)) column sw.1.keys) sw.1.held in (
             sw.0,
-            (
-              sw.1.records,
-              sw.1.store,
-              sw.1.same,
-              subst (λ (i : Bool). HoldsPairs (before_by cmp) w.head w.height i (get sw.1.records) (inserted cmp last key value ps)) (sym index)
-                  (subst (λ (n : ℕ). HoldsPairs (before_by cmp) w.head n t.index (get sw.1.records) (inserted cmp last key value ps)) (sym height) p),
-            ),
+            record {
+              records = sw.1.records;
+              store = sw.1.store;
+              same = sw.1.same;
+              order = ap (λ (y : TreeHead). y.order) same ∙ h.1.order;
+              is = subst (λ (k : Option (List ℕ)). HoldsPairs (before_by o.cmp) w.head w.height k (get sw.1.records) (inserted o.cmp last key value ps)) (sym column)
+                  (subst (λ (n : ℕ). HoldsPairs (before_by o.cmp) w.head n t.column (get sw.1.records) (inserted o.cmp last key value ps)) (sym height) p);
+            },
           );
     }
 
-    pub inserted_spread : (vindex : v.index ≡ u.index) → v.head ≡ record u.head { root = v.head.root; last = v.head.last; leaf_ids = v.head.leaf_ids; node_ids = v.head.node_ids }
-        → Turns s (Only (file_in file_of u)) (ShowsLeaf s file_of holds x.id x.leaf.next) (Shows s file_of holds) (IsParted u v x.id x.leaf) u v b d
-        → Writes s (Only (file_in file_of t)) (Means s file_of holds (before_by cmp)) (inserted cmp last key value) t w a d
-    inserted_spread vindex vhead turns = record {
+    pub inserted_spread : v.column ≡ u.column → v.head ≡ record u.head { root = v.head.root; last = v.head.last; leaf_ids = v.head.leaf_ids; node_ids = v.head.node_ids }
+        → TurnsParted s R x.id x.leaf u v b d → Inserts s R o last key value t w a d
+    inserted_spread vcolumn vhead turns = record {
       sound = turns.sound;
-      others = others_then s (Only (file_in file_of t)) a b d (record { same = λ told g other. looks.reads.now told g }) (others_at s _ _ b d ufile turns.others);
+      others = others_then s (Only (file_in R t)) a b d (record { same = λ told g other. looks.reads.now told g }) (others_at s _ _ b d looks.made.file turns.others);
       means = λ ps h.
-          let k = turns.means h.1.3.tree.pages (leaf_shown ps h) in
-          let sw : Shows s file_of holds w d k.0 = counted_shows k.0 k.1 in
-          let index : w.index ≡ t.index = ap (λ (y : Tree V O). y.index) noted ∙ vindex ∙ stays.index in
+          let k = turns.means h.1.is.tree.pages (leaf_shown ps h) in
+          let sw : Shows s R w d k.0 = counted_shows k.0 k.1 in
+          let column : w.column ≡ t.column = ap (λ (y : Tree V O). y.column) noted ∙ vcolumn ∙ stays.column in
           let height : w.height ≡ v.height = ap (λ (y : Tree V O). y.height) noted in
           let from : v.head ≡ record t.head { root = v.head.root; last = v.head.last; leaf_ids = v.head.leaf_ids; node_ids = v.head.node_ids } =
           vhead ∙ ap (λ (y : TreeHead). record y { root = v.head.root; last = v.head.last; leaf_ids = v.head.leaf_ids; node_ids = v.head.node_ids }) stays.head in
-          let p : HoldsPairs (before_by cmp) w.head v.height t.index (get sw.1.records) (inserted cmp last key value ps) =
-          spread cmp total order last key value t.head t.height t.index h.1.0 ps h.1.3 u.path x (taken ps h) u v w.head sw.1.records k.0 k.2 stays.head stays.height refl from whead sw.1.head
-          (subst (λ (i : Bool). B2 w.head i (get sw.1.records)) index sw.1.keys) sw.1.held in (
+          let p : HoldsPairs (before_by o.cmp) w.head v.height t.column (get sw.1.records) (inserted o.cmp last key value ps) =
+          spread o.cmp total order last key value t.head t.height t.column h.1.records ps h.1.is u.path x (taken ps h) u v w.head sw.1.records k.0 k.2 stays.head stays.height refl from whead sw.1.head
+          (subst (λ (k : Option (List ℕ)). HasKeys w.head k (get sw.1.records)) column sw.1.keys) sw.1.held in (
             sw.0,
-            (
-              sw.1.records,
-              sw.1.store,
-              sw.1.same,
-              subst (λ (i : Bool). HoldsPairs (before_by cmp) w.head w.height i (get sw.1.records) (inserted cmp last key value ps)) (sym index)
-                  (subst (λ (n : ℕ). HoldsPairs (before_by cmp) w.head n t.index (get sw.1.records) (inserted cmp last key value ps)) (sym height) p),
-            ),
+            record {
+              records = sw.1.records;
+              store = sw.1.store;
+              same = sw.1.same;
+              order = ap (λ (y : TreeHead). y.order) whead ∙ ap (λ (y : TreeHead). y.order) from ∙ h.1.order;
+              is = subst (λ (k : Option (List ℕ)). HoldsPairs (before_by o.cmp) w.head w.height k (get sw.1.records) (inserted o.cmp last key value ps)) (sym column)
+                  (subst (λ (n : ℕ). HoldsPairs (before_by o.cmp) w.head n t.column (get sw.1.records) (inserted o.cmp last key value ps)) (sym height) p);
+            },
           );
     }
 
+  -- pages that come
+  module _ (v w : Tree V O) (d : S) (noted : w ≡ with_pairs (v.head.pairs + (if x.grown then 1 else 0)) v) where
+    pub kept_anew : PutsAt s R x.id (leaf_page x.leaf) u v b d → AddsAnew s R o t w a d
+    kept_anew put ps h =
+        let new : PageMap = put_at x.id (leaf_page x.leaf) h.1.is.tree.pages in (
+          new,
+          counted_shows v w d noted new (put.means h.1.is.tree.pages (means_looked s R o t u a b looks stays ps h)),
+          anew_over t.head h.1.is.tree.pages x.id (leaf_page x.leaf) (leaf_page (taken ps h).found.leaf.leaf) (leaf_held (before_by o.cmp) t.head t.height t.column h.1.records ps h.1.is key u.path x.id (taken ps h).found),
+        )
+
+    pub spread_anew : TurnsParted s R x.id x.leaf u v b d → AddsAnew s R o t w a d
+    spread_anew turns ps h =
+        let k = turns.means h.1.is.tree.pages (leaf_shown ps h) in
+        (k.0, counted_shows v w d noted k.0 k.1, subst (λ (y : TreeHead). ComesAnew y h.1.is.tree.pages k.0) stays.head k.2.anew)
+
   -- what a refusal says of the tree
-  pub is_crowded : (ItemsWithin u.head.leaf_limit x.leaf.items → ⊥) → (ps : List Pair) → Means s file_of holds (before_by cmp) t a ps → IsCrowded cmp last key value t.head.leaf_limit ps
+  pub is_crowded : (ItemsWithin u.head.leaf_limit x.leaf.items → ⊥) → (ps : List Pair) (h : Means s R o t a ps) → IsCrowded o.cmp last key value h.1.is.tree
   is_crowded over ps h =
       let tk = taken ps h in
       record {
-        leaf = tk.found.leaf.leaf;
+        path = u.path;
+        id = x.id;
+        found = tk.found;
+        there = leaf_held (before_by o.cmp) t.head t.height t.column h.1.records ps h.1.is key u.path x.id tk.found;
         items = x.leaf.items;
-        belongs = belongs (before_by cmp) order key t.head t.height t.index h.1.0 ps h.1.3 u.path x.id tk.found;
         are = tk.changed.items;
         pairs = tk.changed.pairs;
         over = λ w. over (subst (λ (n : ℕ). ItemsWithin n x.leaf.items) (sym limit_same) w);
       }
 
-  module _ (fills : V → S → Map → Map → Type 0) where
-    abbrev Fine : Page → Type 0
-    Fine p = (ps : List Pair) (h : Means s file_of holds (before_by cmp) t a ps) → IsPutPage t.head h.1.3.tree.pages ps (inserted cmp last key value ps) p
+  abbrev Fine : Page → Type 0
+  Fine p = IsWritten s R o last key value t a p
 
-    pub lacks_leaf : (d : S) → ItemsWithin u.head.leaf_limit x.leaf.items → LacksPage s file_of holds fills (λ p. p ≡ leaf_page x.leaf) u.store b d → LacksPage s file_of holds fills Fine t.store a d
-    lacks_leaf d fits l = lacks_after s file_of holds fills (λ p. p ≡ leaf_page x.leaf) Fine t.store u.store a b d looks.keeps ufile (λ p e ps h. subst (λ (y : Page). IsPutPage t.head h.1.3.tree.pages ps (inserted cmp last key value ps) y) (sym e)
-        ((record { keys = omega (arith, fits.keys, limit_same); bytes = fits.bytes }, inr (new_stretch cmp total order last key value t.head t.height t.index h.1.0 ps h.1.3 u.path x (taken ps h))), tt)) l
+  pub lacks_leaf : (d : S) → ItemsWithin u.head.leaf_limit x.leaf.items → LacksPage s R (λ p. p ≡ leaf_page x.leaf) u.store b d → LacksPage s R Fine t.store a d
+  lacks_leaf d fits l = lacks_after s R (λ p. p ≡ leaf_page x.leaf) Fine t.store u.store a b d looks.keeps looks.made (λ p e ps h. subst (λ (y : Page). IsPutPage o.cmp t.head h.1.is.tree.pages ps (inserted o.cmp last key value ps) y) (sym e)
+      ((record { keys = omega (arith, fits.keys, limit_same); bytes = fits.bytes }, inr (new_items o.cmp total order last key value t.head t.height t.column h.1.records ps h.1.is u.path x (taken ps h) x.leaf.items ([], [], sym (append-nil x.leaf.items)))), tt)) l
 
-    pub lacks_piece : (d : S) → LacksPage s file_of holds fills (λ p. (pages : PageMap) → ShowsLeaf s file_of holds x.id x.leaf.next u b pages → IsPiece u.head x.leaf.items x.leaf.next pages p) u.store b d → LacksPage s file_of holds fills Fine t.store a d
-    lacks_piece d l = lacks_after s file_of holds fills (λ p. (pages : PageMap) → ShowsLeaf s file_of holds x.id x.leaf.next u b pages → IsPiece u.head x.leaf.items x.leaf.next pages p) Fine t.store u.store a b d looks.keeps ufile
-        (λ p piece ps h. fine p ps h (piece h.1.3.tree.pages (leaf_shown ps h))) l
-      where
-        behind : (ps : List Pair) (h : Means s file_of holds (before_by cmp) t a ps) (k : Leaf) → h.1.3.tree.pages x.leaf.next ≡ Some (leaf_page k) → IsStretch (items_pairs k.items) ps
-        behind ps h k e = go tk.found.back (back_held (before_by cmp) t.head t.height t.index h.1.0 ps h.1.3 key u.path x.id tk.found) (tk.next ∙ next_is (before_by cmp) t.head t.height t.index h.1.0 ps h.1.3 key u.path x.id tk.found) refl
-          where
-            tk : TakesPair cmp last key value h.1.3.tree u.path x
-            tk = taken ps h
+  pub lacks_piece : (d : S) → LacksPage s R (IsLeafPiece s R x.id x.leaf u b) u.store b d → LacksPage s R Fine t.store a d
+  lacks_piece d l = lacks_after s R (IsLeafPiece s R x.id x.leaf u b) Fine t.store u.store a b d looks.keeps looks.made
+      (λ p piece ps h. fine p ps h (piece h.1.is.tree.pages (leaf_shown ps h))) l
+    where
+      held_on : (ps : List Pair) (h : Means s R o t a ps) (k : List ℕ) → IsAmong item_key k x.leaf.items ⊎ StoodIn h.1.is.tree.pages k → IsAmong pair_key k (inserted o.cmp last key value ps) ⊎ StoodIn h.1.is.tree.pages k
+      held_on ps h k w =
+          let tk = taken ps h in
+          let n = new_stretch o.cmp total order last key value t.head t.height t.column h.1.records ps h.1.is u.path x tk in
+          ⊎_elim (λ (own : IsAmong item_key k x.leaf.items). inl (subst (λ (y : List Pair). IsAmong pair_key k y) (sym n.2) (among_back pair_key k n.0 (items_pairs x.leaf.items ++ n.1) (among_front pair_key k (items_pairs x.leaf.items) n.1 (item_held k x.leaf.items tk.changed.items.some own)))))
+          (λ (stood : StoodIn h.1.is.tree.pages k). inr stood) w
 
-            go : (back : List LeafAt) → LeavesHeld h.1.3.tree.pages back → x.leaf.next ≡ first_id back → tk.found.back ≡ back → IsStretch (items_pairs k.items) ps
-            go [] held first is = absurd (let g = leaf_given t.head h.1.0 h.1.3.tree.pages x.leaf.next k h.1.3.tree.head h.1.3.tree.held e in omega (arith, g.0, first))
-            go (l ∷ ls) held first is =
-                let same : k ≡ l.leaf = some_leaf k l.leaf (sym e ∙ ap h.1.3.tree.pages first ∙ held.0) in (
-                  pairs_of tk.found.front ++ items_pairs tk.found.leaf.leaf.items,
-                  pairs_of ls,
-                  h.1.3.are ∙ ap pairs_of tk.found.parts ∙ pairs_around tk.found.front tk.found.leaf tk.found.back ∙ ap (λ (y : List LeafAt). pairs_of tk.found.front ++ (items_pairs tk.found.leaf.leaf.items ++ pairs_of y)) is
-                      ∙ sym (append_assoc (pairs_of tk.found.front) (items_pairs tk.found.leaf.leaf.items) (items_pairs l.leaf.items ++ pairs_of ls)) ∙ ap (λ (y : Leaf). (pairs_of tk.found.front ++ items_pairs tk.found.leaf.leaf.items) ++ (items_pairs y.items ++ pairs_of ls)) (sym same),
-                )
-
-        held_on : (ps : List Pair) (h : Means s file_of holds (before_by cmp) t a ps) (k : List ℕ) → IsAmong item_key k x.leaf.items ⊎ StoodIn h.1.3.tree.pages k → IsAmong pair_key k (inserted cmp last key value ps) ⊎ StoodIn h.1.3.tree.pages k
-        held_on ps h k w =
-            let tk = taken ps h in
-            let n = new_stretch cmp total order last key value t.head t.height t.index h.1.0 ps h.1.3 u.path x tk in
-            ⊎_elim (λ (own : IsAmong item_key k x.leaf.items). inl (subst (λ (y : List Pair). IsAmong pair_key k y) (sym n.2) (among_back pair_key k n.0 (items_pairs x.leaf.items ++ n.1) (among_front pair_key k (items_pairs x.leaf.items) n.1 (item_held k x.leaf.items tk.changed.items.some own)))))
-            (λ (stood : StoodIn h.1.3.tree.pages k). inr stood) w
-
-        fine : (p : Page) (ps : List Pair) (h : Means s file_of holds (before_by cmp) t a ps) → IsPiece u.head x.leaf.items x.leaf.next h.1.3.tree.pages p → IsPutPage t.head h.1.3.tree.pages ps (inserted cmp last key value ps) p
-        fine (leaf_page l) ps h (inl own) =
-            let n = new_stretch cmp total order last key value t.head t.height t.index h.1.0 ps h.1.3 u.path x (taken ps h) in
-            ((record { keys = omega (arith, own.0.keys, limit_same); bytes = own.0.bytes }, inr (stretch_in (items_pairs l.items) (items_pairs x.leaf.items) n.0 n.1 (inserted cmp last key value ps) (stretch_pairs l.items x.leaf.items own.1) n.2)), tt)
-        fine (leaf_page l) ps h (inr k) =
-            let w = (leaves_within (before_by cmp) t.head t.height t.index h.1.0 ps h.1.3 key u.path x.id (taken ps h).found x.leaf.next k.0 k.1).within in
-            let w' : ItemsWithin t.head.leaf_limit l.items = subst (λ (y : List Item). ItemsWithin t.head.leaf_limit y) (sym k.2) (items_within t.head.leaf_limit k.0 w) in
-            ((record { keys = w'.keys; bytes = w'.bytes }, inl (subst (λ (y : List Item). IsStretch (items_pairs y) ps) (sym k.2) (behind ps h k.0 k.1))), tt)
-        fine (node_page n) ps h w = (
-          omega (arith, w.0, ap (λ (y : TreeHead). y.node_limit) stays.head),
-          all_map (λ (e : NodeEntry). IsAmong item_key e.key x.leaf.items ⊎ StoodIn h.1.3.tree.pages e.key) (λ (e : NodeEntry). IsAmong pair_key e.key (inserted cmp last key value ps) ⊎ StoodIn h.1.3.tree.pages e.key) n.entries (λ e k. held_on ps h e.key k) w.1,
-        )
+      fine : (p : Page) (ps : List Pair) (h : Means s R o t a ps) → IsPiece u.head x.leaf.items x.leaf.next h.1.is.tree.pages p → IsPutPage o.cmp t.head h.1.is.tree.pages ps (inserted o.cmp last key value ps) p
+      fine (leaf_page l) ps h (inl own) = (
+        (
+          record { keys = omega (arith, own.0.keys, limit_same); bytes = own.0.bytes },
+          inr (new_items o.cmp total order last key value t.head t.height t.column h.1.records ps h.1.is u.path x (taken ps h) l.items own.1),
+        ),
+        tt,
+      )
+      fine (leaf_page l) ps h (inr k) =
+          let w = (leaves_within (before_by o.cmp) t.head t.height t.column h.1.records ps h.1.is key u.path x.id (taken ps h).found x.leaf.next k.0 k.1).within in
+          let w' : ItemsWithin t.head.leaf_limit l.items = subst (λ (y : List Item). ItemsWithin t.head.leaf_limit y) (sym k.2) (items_within t.head.leaf_limit k.0 w) in
+          ((record { keys = w'.keys; bytes = w'.bytes }, inl (subst (λ (y : List Item). AreItemsOf o.cmp y ps) (sym k.2) (page_items o.cmp order t.head t.height t.column h.1.records ps h.1.is x.leaf.next k.0 k.1))), tt)
+      fine (node_page n) ps h w = (
+        omega (arith, w.0, ap (λ (y : TreeHead). y.node_limit) stays.head),
+        all_map (λ (e : NodeEntry). IsAmong item_key e.key x.leaf.items ⊎ StoodIn h.1.is.tree.pages e.key) (λ (e : NodeEntry). IsAmong pair_key e.key (inserted o.cmp last key value ps) ⊎ StoodIn h.1.is.tree.pages e.key) n.entries (λ e k. held_on ps h e.key k) w.1,
+      )
 
 -- ---- what a call leaves, whatever it answers
 
-pub kept_over : {S : Type 0} (s : Ghosts S) (a b : S) → StaysOver s.tells s.moment s.left s.kept s.faults s.limit s.names a b → Keeps s a b
+pub kept_over : {S : Type 0} (s : Ghosts S) (a b : S) → StaysOver s.tells s.moment s.files_at s.left s.kept s.faults s.limit s.names a b → Keeps s a b
 kept_over s a b stays = record { steady = stays.steady; same_limit = stays.follows.same_limit; same_names = stays.follows.same_names; later = stays.follows.later }
 
-module _ {S V O : Type 0} (s : Ghosts S) (file_of : V → ℕ) (holds : V → List ℕ → Map → Type 0) (before : Before) (region : V → List ℕ) (t u v : Tree V O) (a b d : S) (looks : Looks s file_of holds t.cache.pages u.cache.pages t.store u.store a b) (stays : StaysTree t u) where
-  pub put_refused : StaysStill s file_of region u v b d → Refuses s (Beside s file_of holds) (u.cache.pages, u.store) (v.cache.pages, v.store) b d → Refuses s (Means s file_of holds before) t v a d
+-- a space that was given up
+pub given_up : {S : Type 0} (s : Ghosts S) (a b : S) → s.flag b ≡ false → StaysOver s.tells s.moment s.files_at s.left s.kept s.faults s.limit s.names a b → (s.tells → (g : ℕ) → s.now b g ≡ s.now a g) → GivenUp s a b
+given_up s a b flag stays files = record { flag = flag; keeps = kept_over s a b stays; files = files }
+
+module _ {S V O : Type 0} (s : Ghosts S) (R : Stores V S) (o : Orders O) (t u v : Tree V O) (a b d : S) (looks : LooksAt s R t u a b) (stays : StaysTree t u) where
+  pub put_refused : StaysStill s R u v b d → Refuses s (Beside s R) (u.cache.pages, u.store) (v.cache.pages, v.store) b d → Refuses s (Means s R o) t v a d
   put_refused still r = ⊎_elim (λ spoiled. inl spoiled)
-      (λ (reads : Reads s (Beside s file_of holds) (u.cache.pages, u.store) (v.cache.pages, v.store) b d).
-      inr (tree_reads s file_of holds before t v a d (reads_then s (Beside s file_of holds) (t.cache.pages, t.store) (u.cache.pages, u.store) (v.cache.pages, v.store) a b d looks.reads reads)
-      (record { head = still.head ∙ stays.head; height = still.height ∙ stays.height; index = still.index ∙ stays.index }))) r
+      (λ (reads : Reads s (Beside s R) (u.cache.pages, u.store) (v.cache.pages, v.store) b d).
+      inr (tree_reads s R o t v a d (reads_then s (Beside s R) (t.cache.pages, t.store) (u.cache.pages, u.store) (v.cache.pages, v.store) a b d looks.reads reads)
+      (record { head = still.head ∙ stays.head; height = still.height ∙ stays.height; column = still.column ∙ stays.column }))) r
 
 -- no pair more
-pub none_more : {V O : Type 0} (v : Tree V O) → v ≡ record v { head = record v.head { pairs = v.head.pairs + 0 } }
+pub none_more : {V O : Type 0} (v : Tree V O) → v ≡ with_pairs (v.head.pairs + 0) v
 none_more v = let same : v.head.pairs ≡ v.head.pairs + 0 = omega arith in ap (λ (n : ℕ). record v { head = record v.head { pairs = n } }) same
 
 -- pages that come, where a leaf is parted and where not
-module _ {V O : Type 0} (t u v w : Tree V O) (grown : ℕ) (stays : StaysTree t u) (noted : w ≡ record v { head = record v.head { pairs = v.head.pairs + grown } }) where
-  pub gains_kept : {S : Type 0} (s : Ghosts S) (file_of : V → ℕ) (region : V → List ℕ) (b d : S) → StaysStill s file_of region u v b d → Gains 0 0 0 t w
-  gains_kept s file_of region b d still =
+module _ {V O : Type 0} (t u v w : Tree V O) (grown : ℕ) (stays : StaysTree t u) (noted : w ≡ with_pairs (v.head.pairs + grown) v) where
+  pub gains_kept : {S : Type 0} (s : Ghosts S) (R : Stores V S) (b d : S) → StaysStill s R u v b d → Gains 0 0 0 t w
+  gains_kept s R b d still =
       let leaves : w.head.leaf_ids ≡ t.head.leaf_ids = ap (λ (y : Tree V O). y.head.leaf_ids) noted ∙ ap (λ (y : TreeHead). y.leaf_ids) (still.head ∙ stays.head) in
       let nodes : w.head.node_ids ≡ t.head.node_ids = ap (λ (y : Tree V O). y.head.node_ids) noted ∙ ap (λ (y : TreeHead). y.node_ids) (still.head ∙ stays.head) in
       let rows : w.height ≡ t.height = ap (λ (y : Tree V O). y.height) noted ∙ still.height ∙ stays.height in
       record { leaves_least = omega (arith, leaves); leaves_most = omega (arith, leaves); nodes_least = omega (arith, nodes); nodes_most = omega (arith, nodes); rows_least = omega (arith, rows); rows_most = omega (arith, rows) }
 
-  pub gains_spread : {S : Type 0} (s : Ghosts S) (file_of : V → ℕ) (region : V → List ℕ) (b d : S) → length u.path + 1 ≡ t.height → Widens s file_of region (suc (length u.path)) u v b d → Gains 2 t.height 1 t w
-  gains_spread s file_of region b d deep widens =
+  pub gains_spread : {S : Type 0} (s : Ghosts S) (R : Stores V S) (b d : S) → length u.path + 1 ≡ t.height → Widens s R (suc (length u.path)) u v b d → Gains 2 t.height 1 t w
+  gains_spread s R b d deep widens =
       let leaves : w.head.leaf_ids ≡ v.head.leaf_ids = ap (λ (y : Tree V O). y.head.leaf_ids) noted in
       let nodes : w.head.node_ids ≡ v.head.node_ids = ap (λ (y : Tree V O). y.head.node_ids) noted in
       let rows : w.height ≡ v.height = ap (λ (y : Tree V O). y.height) noted in

@@ -1,4 +1,5 @@
 pub mod Climbings
+pub mod Contents
 pub mod Cuts
 pub mod Descents
 pub mod Dividers

@@ -1,17 +1,20 @@
 -- A leaf written without the pairs that went, or taken out once it has none.
-use Rattle.std.proofs.Common.{◌≡◌, ◌⊎◌, ℕ, ◌+◌, ◌-◌, ◌<◌, List, [], ◌∷◌, ◌++◌, Bool, true, false, Some, length, refl, sym, ap, ◌∙◌, subst, inl, inr, ⊎_elim, arith}
+use Rattle.std.proofs.Common.{◌≡◌, ◌⊎◌, ℕ, ◌+◌, ◌-◌, ◌<◌, List, [], ◌∷◌, ◌++◌, Bool, true, false, Option, Some, None, length, refl, sym, ap, ◌∙◌, subst, inl, inr, ⊎_elim, arith}
 use Rattle.std.specs.FinMap.{get}
 use Rattle.std.specs.Cmp.{IsTotalOrder}
 use Rattle.std.specs.declared.cmp.Ordering.{Ordering}
-use Rattle.tc_base.specs.Maps.{Map}
+use Rattle.std.proofs.lemmas.List.{append-nil}
+use Rattle.tc_base.specs.declared.order.Order.{Ghosts as Orders}
 use Rattle.tc_base.specs.declared.seq.Pair.{Pair}
 use Rattle.tc_space.specs.Changes.{has_pair}
 use Rattle.tc_space.specs.Frames.{Reads, Writes}
-use Rattle.tc_space.specs.Stores.{IsReady, Only, TakesOut}
+use Rattle.tc_space.specs.Stores.{TakesOut}
+use Rattle.tc_space.specs.declared.records.Records.{Ghosts as Stores}
 use Rattle.tc_space.specs.declared.space.Space.{Ghosts}
 use Rattle.bt_page.specs.Limits.{LeafWithin}
 use Rattle.bt_page.specs.declared.page.Item.{Item}
 use Rattle.bt_page.specs.declared.page.Leaf.{Leaf}
+use Rattle.bt_page.specs.declared.page.NodeEntry.{NodeEntry}
 use Rattle.bt_rows.specs.declared.head.TreeHead.{TreeHead}
 use Rattle.bt_rows.specs.declared.page.LeafAt.{LeafAt}
 use Rattle.bt_rows.specs.declared.page.Page.{Page}
@@ -21,28 +24,30 @@ use Rattle.bt_rows.specs.Orders.{IsOrder, before_by}
 use Rattle.bt_rows.specs.Pages.{PageMap}
 use Rattle.bt_rows.specs.Rows.{first_id, last_id}
 use Rattle.bt_rows.specs.Rules.{B5, InOrder, IsWithin, LeafLimits, pairs_of}
-use Rattle.bt_cache.specs.Effects.{Looks}
-use Rattle.bt_ways.specs.Changes.{ItemsWithin, items_pairs, removed}
+use Rattle.bt_ways.specs.Changes.{ItemsWithin, removed}
 use Rattle.bt_ways.specs.Removals.{with_items}
 use Rattle.bt_ways.specs.Ways.{Found}
 use Rattle.bt_ways.specs.Writes.{put_at}
+use Rattle.bt_ways.proofs.Keys.{all_map}
 use Rattle.bt_ways.proofs.Parting.{leaf_changes}
 use Rattle.bt_ways.proofs.Taking.{leaf_loses_pairs}
 use Rattle.bt_ways.proofs.Within.{items_within, taken_within}
 use Rattle.bt_tree.specs.declared.removing.Lessened.{Lessened}
 use Rattle.bt_tree.specs.declared.tree.Tree.{Tree}
-use Rattle.bt_tree.specs.Inserting.{IsTreePage}
-use Rattle.bt_tree.specs.Meaning.{Means, file_in}
-use Rattle.bt_tree.specs.Paging.{IsLeafId, LacksPage, Shows, Turns}
-use Rattle.bt_tree.specs.Parting.{IsStretch}
-use Rattle.bt_tree.specs.Removing.{AtLast, GivesPairs, IsRefusedRoom, IsRemnant, LacksRoom, Narrows, ShowsLast, Vacated, Vacates}
+use Rattle.bt_tree.specs.Climbing.{IsAmong, StoodIn}
+use Rattle.bt_tree.specs.Inserting.{AreItemsOf, IsPutPage, pair_key}
+use Rattle.bt_tree.specs.Meaning.{Changes, IsOpen, Means}
+use Rattle.bt_tree.specs.Paging.{IsLeafId, IsShown, LacksPage, PutsAt, Shows}
+use Rattle.bt_tree.specs.Removing.{AtLast, GivesInLeaf, HasLast, IsLeftPage, IsLone, IsRemnant, LacksLast, LacksRoom, LowersRoot, Narrows, ShowsLast, TurnsVacated, Vacated, Vacates}
 use Rattle.bt_tree.specs.Trees.{HoldsPairs}
-use Rattle.bt_tree.specs.Visits.{StaysTree}
+use Rattle.bt_tree.specs.Visits.{LooksAt, StaysTree}
+use Rattle.bt_tree.proofs.Climbings.{put_was}
+use Rattle.bt_tree.proofs.Contents.{changed_items, no_items_of, page_items}
 use Rattle.bt_tree.proofs.Droppings.{SameIds, leaf_id_shown, room_after, same_shows}
 use Rattle.bt_tree.proofs.Inserts.{means_looked}
 use Rattle.bt_tree.proofs.Pages.{found_leaf}
 use Rattle.bt_tree.proofs.Pagings.{lacks_after, others_at, put_all}
-use Rattle.bt_tree.proofs.Removes.{count_around, first_same, last_same, leaf_stretch, means_of, pairs_around}
+use Rattle.bt_tree.proofs.Removes.{count_around, first_same, last_same, means_of}
 use Rattle.bt_tree.proofs.Unlinkings.{limits_moved}
 
 -- nothing is taken where nothing is held
@@ -60,31 +65,40 @@ takes_some s own M key f v w a b some writes = record { held = some; out = λ e.
     clash : true ≡ false → ⊥
     clash e = cc
 
--- t at the start, v once the values went from the leaf's items
-module _ {S V O : Type 0} (s : Ghosts S) (file_of : V → ℕ) (holds : V → List ℕ → Map → Type 0) (cmp : List ℕ → List ℕ → Ordering) (total : IsTotalOrder cmp) (order : IsOrder (before_by cmp)) (all : Bool) (key : List ℕ)
-    (t v : Tree V O) (a b : S) (looks : Looks s file_of holds t.cache.pages v.cache.pages t.store v.store a b) (stays : StaysTree t v) (vfile : file_of v.store ≡ file_of t.store) (x : Lessened)
-    (given : (ps : List Pair) (h : Means s file_of holds (before_by cmp) t a ps) → GivesPairs cmp all key h.1.3.tree v.path x) where
-  abbrev M : Tree V O → S → List Pair → Type 0
-  M = Means s file_of holds (before_by cmp)
+-- nothing went
+pub same_root : {S V O : Type 0} (s : Ghosts S) (R : Stores V S) (o : Orders O) (t u : Tree V O) (a b : S) → LooksAt s R t u a b → StaysTree t u → LowersRoot s R o t u a b
+same_root s R o t u a b looks stays ps h = (h.1.is.tree.pages, means_looked s R o t u a b looks stays ps h, λ lost l. clash lost.1 (sym lost.3 ∙ lost.2))
+  where
+    clash : (l : Leaf) → ◌≡◌ {A = Option Page} None (Some (leaf_page l)) → ⊥
+    clash l e = cc
 
-  shown : (ps : List Pair) (h : M t a ps) → Shows s file_of holds v b h.1.3.tree.pages
-  shown ps h = means_looked s file_of holds (before_by cmp) t v a b looks stays ps h
+-- t at the start, v once the values went from the leaf's items
+module _ {S V O : Type 0} (s : Ghosts S) (R : Stores V S) (o : Orders O) (total : IsTotalOrder o.cmp) (order : IsOrder (before_by o.cmp)) (all : Bool) (key : List ℕ)
+    (t v : Tree V O) (a b : S) (looks : LooksAt s R t v a b) (stays : StaysTree t v) (x : Lessened) (given : GivesInLeaf s R o all key t a v.path x) where
+  abbrev cmp : List ℕ → List ℕ → Ordering
+  cmp = o.cmp
+
+  abbrev M : Tree V O → S → List Pair → Type 0
+  M = Means s R o
+
+  shown : (ps : List Pair) (h : M t a ps) → Shows s R v b h.1.is.tree.pages
+  shown ps h = means_looked s R o t v a b looks stays ps h
 
   -- where the leaf stands
   module _ (ps : List Pair) (h : M t a ps) where
-    abbrev p : HoldsPairs (before_by cmp) t.head t.height t.index (get h.1.0) ps
-    p = h.1.3
+    abbrev p : HoldsPairs (before_by cmp) t.head t.height t.column (get h.1.records) ps
+    p = h.1.is
 
-    abbrev f : Found (before_by cmp) t.head.root key h.1.3.tree.leaves h.1.3.tree.levels v.path x.id
+    abbrev f : Found (before_by cmp) t.head.root key h.1.is.tree.leaves h.1.is.tree.levels v.path x.id
     f = (given ps h).found
 
-    page_there : h.1.3.tree.pages x.id ≡ Some (leaf_page f.leaf.leaf)
+    page_there : h.1.is.tree.pages x.id ≡ Some (leaf_page f.leaf.leaf)
     page_there = found_leaf (before_by cmp) p.tree.pages t.head.root key p.tree.leaves p.tree.levels v.path x.id p.tree.stands f
 
     abbrev after : List LeafAt
     after = (given ps h).found.front ++ with_items (given ps h).found.leaf x.leaf.items ∷ (given ps h).found.back
 
-    lost : InOrder (before_by cmp) after × (pairs_of after ≡ removed cmp all key (pairs_of h.1.3.tree.leaves))
+    lost : InOrder (before_by cmp) after × (pairs_of after ≡ removed cmp all key (pairs_of h.1.is.tree.leaves))
     lost = leaf_loses_pairs cmp total order all p.tree.pages t.head.root key p.tree.leaves p.tree.levels v.path x.id p.tree.stands f x.leaf.items x.count (given ps h).taken
 
     pairs_left : pairs_of after ≡ removed cmp all key ps
@@ -102,30 +116,31 @@ module _ {S V O : Type 0} (s : Ghosts S) (file_of : V → ℕ) (holds : V → Li
     left_within : LeafWithin t.head.leaf_limit x.leaf
     left_within = record { keys = items_left.keys; bytes = items_left.bytes }
 
-    stretch_left : IsStretch (items_pairs x.leaf.items) (removed cmp all key ps)
-    stretch_left = (pairs_of f.front, pairs_of f.back, sym pairs_left ∙ pairs_around f.front (with_items f.leaf x.leaf.items) f.back)
+    items_are : AreItemsOf cmp x.leaf.items (removed cmp all key ps)
+    items_are = changed_items cmp order t.head t.height t.column h.1.records ps h.1.is f.front f.back f.leaf (with_items f.leaf x.leaf.items) (removed cmp all key ps) x.leaf.items f.parts (given ps h).taken.items.some lost.0 pairs_left
+        ([], [], sym (append-nil x.leaf.items))
 
     leaf_left : x.leaf ≡ (with_items (given ps h).found.leaf x.leaf.items).leaf
     leaf_left = λ i. record { prev = (given ps h).prev i; next = (given ps h).next i; items = x.leaf.items }
 
-  pub leaf_ready : IsReady s M t a → IsReady s (Shows s file_of holds) v b
-  leaf_ready ready = record { sound = looks.reads.sound; held = λ told. let h = ready.held told in (h.1.1.3.tree.pages, shown h.0 h.1) }
+  pub leaf_ready : IsOpen s R o t a → IsShown s R v b
+  leaf_ready ready = record { sound = looks.reads.sound; held = λ told. let h = ready.held told in (h.1.1.is.tree.pages, shown h.0 h.1) }
 
-  pub leaf_given : IsReady s M t a → s.tells → IsLeafId v.head x.id
-  leaf_given ready told = let h = ready.held told in leaf_id_shown s file_of holds v b h.1.1.3.tree.pages x.id (f h.0 h.1).leaf.leaf (shown h.0 h.1) (page_there h.0 h.1)
+  pub leaf_given : IsOpen s R o t a → s.tells → IsLeafId v.head x.id
+  leaf_given ready told = let h = ready.held told in leaf_id_shown s R v b h.1.1.is.tree.pages x.id (f h.0 h.1).leaf.leaf (shown h.0 h.1) (page_there h.0 h.1)
 
-  pub leaf_full : (fills : V → S → Map → Map → Type 0) (d : S) → LacksPage s file_of holds fills (λ q. q ≡ leaf_page x.leaf) v.store b d → IsRefusedRoom s file_of holds fills cmp all key t a d
-  leaf_full fills d l =
-      inl (lacks_after s file_of holds fills (λ q. q ≡ leaf_page x.leaf) (λ q. (ps : List Pair) → M t a ps → IsTreePage t.head ps (removed cmp all key ps) q) t.store v.store a b d looks.keeps vfile
-      (λ q is ps h. subst (λ (y : Page). IsTreePage t.head ps (removed cmp all key ps) y) (sym is) (left_within ps h, inr (stretch_left ps h))) l)
+  pub leaf_full : (d : S) → LacksPage s R (λ q. q ≡ leaf_page x.leaf) v.store b d → LacksRoom s R (IsLeftPage s R o all key t a) t.store a d
+  leaf_full d l =
+      inl (lacks_after s R (λ q. q ≡ leaf_page x.leaf) (IsLeftPage s R o all key t a) t.store v.store a b d looks.keeps looks.made
+      (λ q is ps h. subst (λ (y : Page). IsPutPage o.cmp t.head h.1.is.tree.pages ps (removed cmp all key ps) y) (sym is) ((left_within ps h, inr (items_are ps h)), tt)) l)
 
   -- w once the leaf is written, u in the end
-  pub leaf_less : ((0 < length x.leaf.items) ⊎ (x.id ≡ v.head.root)) → (w u : Tree V O) (d : S) → Writes s (Only (file_in file_of v)) (Shows s file_of holds) (put_at x.id (leaf_page x.leaf)) v w b d → w.head ≡ v.head → w.height ≡ v.height
-      → u ≡ record w { head = record w.head { pairs = w.head.pairs - x.count } } → Writes s (Only (file_in file_of t)) M (removed cmp all key) t u a d
+  pub leaf_less : ((0 < length x.leaf.items) ⊎ (x.id ≡ v.head.root)) → (w u : Tree V O) (d : S) → PutsAt s R x.id (leaf_page x.leaf) v w b d → w.head ≡ v.head → w.height ≡ v.height
+      → u ≡ record w { head = record w.head { pairs = w.head.pairs - x.count } } → Changes s R o (removed cmp all key) t u a d
   leaf_less kept w u d put whead wheight noted = record {
     sound = put.sound;
     means = means;
-    others = record { same = λ told g other. (others_at s _ _ b d vfile put.others).same told g other ∙ looks.reads.now told g };
+    others = record { same = λ told g other. (others_at s _ _ b d looks.made.file put.others).same told g other ∙ looks.reads.now told g };
   }
     where
       head_is : u.head ≡ record t.head { pairs = t.head.pairs - x.count }
@@ -142,7 +157,7 @@ module _ {S V O : Type 0} (s : Ghosts S) (file_of : V → ℕ) (holds : V → Li
 
       means : (ps : List Pair) → M t a ps → M u d (removed cmp all key ps)
       means ps h =
-          let q : HoldsPairs (before_by cmp) t.head t.height t.index (get h.1.0) ps = p ps h in
+          let q : HoldsPairs (before_by cmp) t.head t.height t.column (get h.1.records) ps = p ps h in
           let new : PageMap = put_at x.id (leaf_page x.leaf) q.tree.pages in
           let same : put_at x.id (leaf_page (with_items (f ps h).leaf x.leaf.items).leaf) q.tree.pages ≡ new = ap (λ (l : Leaf). put_at x.id (leaf_page l) q.tree.pages) (sym (leaf_left ps h)) in
           let st : Stands (before_by cmp) new t.head.root (after ps h) q.tree.levels =
@@ -153,8 +168,9 @@ module _ {S V O : Type 0} (s : Ghosts S) (file_of : V → ℕ) (holds : V → Li
             within = record { keys = omega (arith, (left_within ps h).keys, from_start.leaf_limit); bytes = (left_within ps h).bytes };
             some = λ ne. ⊎_elim (λ (some : 0 < length x.leaf.items). some) (λ (is : x.id ≡ v.head.root). absurd (ne (is ∙ ap (λ (k : TreeHead). k.root) stays.head ∙ sym root))) kept;
           } in
-          means_of s file_of holds (before_by cmp) u d new (after ps h) q.tree.levels (removed cmp all key ps)
-          (same_shows s file_of holds w u d (ap (λ (y : Tree V O). y.store) noted) (ap (λ (y : Tree V O). y.cache.pages) noted) (ap (λ (y : Tree V O). y.index) noted) ids new (put.means q.tree.pages (shown ps h)))
+          means_of s R o u d new (after ps h) q.tree.levels (removed cmp all key ps)
+          (same_shows s R w u d (ap (λ (y : Tree V O). y.store) noted) (ap (λ (y : Tree V O). y.cache.pages) noted) (ap (λ (y : Tree V O). y.column) noted) ids new (put.means q.tree.pages (shown ps h)))
+          (ap (λ (k : TreeHead). k.order) head_is ∙ h.1.order)
           (subst (λ (r : ℕ). Stands (before_by cmp) new r (after ps h) q.tree.levels) (sym root) st)
           (ap (λ (y : Tree V O). y.height) noted ∙ wheight ∙ stays.height ∙ q.tree.high)
           (put_all (λ j o. IsWithin u.head j o) q.tree.pages x.id (leaf_page x.leaf) within (λ j other. low j))
@@ -166,59 +182,85 @@ module _ {S V O : Type 0} (s : Ghosts S) (file_of : V → ℕ) (holds : V → Li
           (omega (arith, ap (λ (k : TreeHead). k.pairs) head_is, count_left ps h))
           (sym (pairs_left ps h))
 
+  -- no leaf went
+  pub less_root : (w u : Tree V O) (d : S) → PutsAt s R x.id (leaf_page x.leaf) v w b d → u ≡ record w { head = record w.head { pairs = w.head.pairs - x.count } } → LowersRoot s R o t u a d
+  less_root w u d put noted ps h =
+      let new : PageMap = put_at x.id (leaf_page x.leaf) h.1.is.tree.pages in
+      let ids : SameIds w.head u.head =
+      subst (λ (k : TreeHead). SameIds w.head k) (sym (ap (λ (y : Tree V O). y.head) noted)) (record { order = refl; leaf_limit = refl; node_limit = refl; leaf_ids = refl; node_ids = refl }) in (
+        new,
+        same_shows s R w u d (ap (λ (y : Tree V O). y.store) noted) (ap (λ (y : Tree V O). y.cache.pages) noted) (ap (λ (y : Tree V O). y.column) noted) ids new (put.means h.1.is.tree.pages (shown ps h)),
+        λ lost l. clash lost.1 (sym (put_was h.1.is.tree.pages x.id lost.0 (leaf_page x.leaf) lost.3) ∙ lost.2),
+      )
+    where
+      clash : (l : Leaf) → ◌≡◌ {A = Option Page} None (Some (leaf_page l)) → ⊥
+      clash l e = cc
+
   -- ---- the leaf has no items any more
 
-  abbrev at_last : (ps : List Pair) (h : M t a ps) → AtLast (before_by cmp) t.head t.height v.path x.id x.leaf.prev x.leaf.next h.1.3.tree.pages
+  abbrev at_last : (ps : List Pair) (h : M t a ps) → AtLast (before_by cmp) t.head t.height v.path x.id x.leaf.prev x.leaf.next h.1.is.tree.pages
   at_last ps h = record {
     key = key;
-    leaves = h.1.3.tree.leaves;
-    levels = h.1.3.tree.levels;
-    stands = h.1.3.tree.stands;
-    high = h.1.3.tree.high;
-    limits = h.1.3.limits;
-    links = h.1.3.links;
+    leaves = h.1.is.tree.leaves;
+    levels = h.1.is.tree.levels;
+    stands = h.1.is.tree.stands;
+    high = h.1.is.tree.high;
+    limits = h.1.is.limits;
+    links = h.1.is.links;
     found = f ps h;
     prev_is = (given ps h).prev;
     next_is = (given ps h).next;
   }
 
-  last_shown : (ps : List Pair) (h : M t a ps) → ShowsLast s file_of holds (before_by cmp) x.id x.leaf.prev x.leaf.next v b h.1.3.tree.pages
-  last_shown ps h = (
-    shown ps h,
-    subst (λ (k : TreeHead). AtLast (before_by cmp) k v.height v.path x.id x.leaf.prev x.leaf.next h.1.3.tree.pages) (sym stays.head)
-        (subst (λ (n : ℕ). AtLast (before_by cmp) t.head n v.path x.id x.leaf.prev x.leaf.next h.1.3.tree.pages) (sym stays.height) (at_last ps h)),
-  )
+  at_last_moved : (ps : List Pair) (h : M t a ps) → AtLast (before_by cmp) v.head v.height v.path x.id x.leaf.prev x.leaf.next h.1.is.tree.pages
+  at_last_moved ps h =
+      subst (λ (k : TreeHead). AtLast (before_by cmp) k v.height v.path x.id x.leaf.prev x.leaf.next h.1.is.tree.pages) (sym stays.head)
+      (subst (λ (n : ℕ). AtLast (before_by cmp) t.head n v.path x.id x.leaf.prev x.leaf.next h.1.is.tree.pages) (sym stays.height) (at_last ps h))
 
-  pub vacate_ready : IsReady s M t a → IsReady s (ShowsLast s file_of holds (before_by cmp) x.id x.leaf.prev x.leaf.next) v b
-  vacate_ready ready = record { sound = looks.reads.sound; held = λ told. let h = ready.held told in (h.1.1.3.tree.pages, last_shown h.0 h.1) }
+  last_shown : (ps : List Pair) (h : M t a ps) → ShowsLast s R (before_by cmp) x.id x.leaf.prev x.leaf.next v b h.1.is.tree.pages
+  last_shown ps h = (shown ps h, at_last_moved ps h)
 
-  remnant_is : (q : Page) → ((pages : PageMap) → ShowsLast s file_of holds (before_by cmp) x.id x.leaf.prev x.leaf.next v b pages → IsRemnant v.head pages q) → (ps : List Pair) → M t a ps → IsTreePage t.head ps (removed cmp all key ps) q
-  remnant_is q fine ps h = go q (fine h.1.3.tree.pages (last_shown ps h))
+  pub vacate_ready : IsOpen s R o t a → HasLast s R o x.id x.leaf.prev x.leaf.next v b
+  vacate_ready ready = record { sound = looks.reads.sound; held = λ told. let h = ready.held told in (h.1.1.is.tree.pages, last_shown h.0 h.1) }
+
+  remnant_is : (q : Page) → ((pages : PageMap) → ShowsLast s R (before_by cmp) x.id x.leaf.prev x.leaf.next v b pages → IsRemnant v.head pages q) → IsLeftPage s R o all key t a q
+  remnant_is q fine ps h = go q (fine h.1.is.tree.pages (last_shown ps h))
     where
-      go : (q : Page) → IsRemnant v.head h.1.3.tree.pages q → IsTreePage t.head ps (removed cmp all key ps) q
-      go (node_page n) w = omega (arith, w, ap (λ (k : TreeHead). k.node_limit) stays.head)
+      go : (q : Page) → IsRemnant v.head h.1.is.tree.pages q → IsPutPage o.cmp t.head h.1.is.tree.pages ps (removed cmp all key ps) q
+      go (node_page n) w = (
+        omega (arith, w.0, ap (λ (k : TreeHead). k.node_limit) stays.head),
+        all_map (λ (e : NodeEntry). StoodIn h.1.is.tree.pages e.key) (λ (e : NodeEntry). IsAmong pair_key e.key (removed cmp all key ps) ⊎ StoodIn h.1.is.tree.pages e.key) n.entries (λ e stood. inr stood) w.1,
+      )
       go (leaf_page l) (inl none) =
           let long : length l.items ≡ 0 = ap (λ (xs : List Item). length xs) none in
-          (record { keys = omega (arith, long); bytes = λ two. absurd (omega (arith, long, two)) }, inl ([], ps, ap (λ (xs : List Item). items_pairs xs ++ ps) (sym none)))
+          ((record { keys = omega (arith, long); bytes = λ two. absurd (omega (arith, long, two)) }, inl (subst (λ (xs : List Item). AreItemsOf cmp xs ps) (sym none) (no_items_of cmp order t.head t.height t.column h.1.records ps h.1.is))), tt)
       go (leaf_page l) (inr r) =
-          let was : LeafLimits t.head r.id r.was = subst (IsWithin t.head r.id) r.there (h.1.3.limits r.id) in
+          let was : LeafLimits t.head r.id r.was = subst (IsWithin t.head r.id) r.there (h.1.is.limits r.id) in
           let w : ItemsWithin t.head.leaf_limit l.items = subst (ItemsWithin t.head.leaf_limit) (sym r.same) (items_within t.head.leaf_limit r.was was.within) in
-          let there : IsStretch (items_pairs r.was.items) (pairs_of h.1.3.tree.leaves) = leaf_stretch (before_by cmp) h.1.3.tree.pages t.head.root h.1.3.tree.leaves h.1.3.tree.levels h.1.3.tree.stands r.id r.was r.there in (
-            record { keys = w.keys; bytes = w.bytes },
-            inl (subst (λ (qs : List Pair). IsStretch (items_pairs l.items) qs) (sym h.1.3.are) (subst (λ (xs : List Item). IsStretch (items_pairs xs) (pairs_of h.1.3.tree.leaves)) (sym r.same) there)),
-          )
+          let there : AreItemsOf cmp r.was.items ps = page_items cmp order t.head t.height t.column h.1.records ps h.1.is r.id r.was r.there in
+          ((record { keys = w.keys; bytes = w.bytes }, inl (subst (λ (xs : List Item). AreItemsOf cmp xs ps) (sym r.same) there)), tt)
 
-  pub vacate_full : (fills : V → S → Map → Map → Type 0) (d : S)
-      → LacksRoom s file_of holds fills (λ q. (pages : PageMap) → ShowsLast s file_of holds (before_by cmp) x.id x.leaf.prev x.leaf.next v b pages → IsRemnant v.head pages q) v.store b d → IsRefusedRoom s file_of holds fills cmp all key t a d
-  vacate_full fills d l = room_after s file_of holds fills _ _ t.store v.store a b d looks.keeps vfile remnant_is l
+  pub vacate_full : (d : S) → LacksLast s R o x.id x.leaf.prev x.leaf.next v b d → LacksRoom s R (IsLeftPage s R o all key t a) t.store a d
+  vacate_full d l = room_after s R _ _ t.store v.store a b d looks.keeps looks.made remnant_is l
 
-  pub leaf_gone : (region : V → List ℕ) → x.leaf.items ≡ [] → (w u : Tree V O) (d : S)
-      → Turns s (Only (file_in file_of v)) (ShowsLast s file_of holds (before_by cmp) x.id x.leaf.prev x.leaf.next) (Shows s file_of holds) (Vacates (before_by cmp) x.id x.leaf.prev x.leaf.next v w) v w b d → Narrows s file_of region v w b d
-      → u ≡ record w { head = record w.head { pairs = w.head.pairs - x.count } } → Writes s (Only (file_in file_of t)) M (removed cmp all key) t u a d
-  leaf_gone region none w u d gone narrows noted = record {
+  -- one went, or is the root
+  pub gone_root : (w u : Tree V O) (d : S) → TurnsVacated s R o x.id x.leaf.prev x.leaf.next v w b d → u ≡ record w { head = record w.head { pairs = w.head.pairs - x.count } } → LowersRoot s R o t u a d
+  gone_root w u d gone noted ps h =
+      let k = gone.means h.1.is.tree.pages (last_shown ps h) in
+      let z = k.2 (at_last_moved ps h) in
+      let ids : SameIds w.head u.head =
+      subst (λ (y : TreeHead). SameIds w.head y) (sym (ap (λ (y : Tree V O). y.head) noted)) (record { order = refl; leaf_limit = refl; node_limit = refl; leaf_ids = refl; node_ids = refl }) in (
+        k.0,
+        same_shows s R w u d (ap (λ (y : Tree V O). y.store) noted) (ap (λ (y : Tree V O). y.cache.pages) noted) (ap (λ (y : Tree V O). y.column) noted) ids k.0 k.1,
+        λ lost. subst (λ (r : ℕ). IsLone k.0 r → ⊥) (sym (ap (λ (y : Tree V O). y.head.root) noted)) z.wide,
+      )
+
+  pub leaf_gone : x.leaf.items ≡ [] → (w u : Tree V O) (d : S) → TurnsVacated s R o x.id x.leaf.prev x.leaf.next v w b d → Narrows s R v w b d
+      → u ≡ record w { head = record w.head { pairs = w.head.pairs - x.count } } → Changes s R o (removed cmp all key) t u a d
+  leaf_gone none w u d gone narrows noted = record {
     sound = gone.sound;
     means = means;
-    others = record { same = λ told g other. (others_at s _ _ b d vfile gone.others).same told g other ∙ looks.reads.now told g };
+    others = record { same = λ told g other. (others_at s _ _ b d looks.made.file gone.others).same told g other ∙ looks.reads.now told g };
   }
     where
       head_is : u.head ≡ record w.head { pairs = w.head.pairs - x.count }
@@ -233,19 +275,20 @@ module _ {S V O : Type 0} (s : Ghosts S) (file_of : V → ℕ) (holds : V → Li
       pairs : w.head.pairs ≡ t.head.pairs
       pairs = ap (λ (k : TreeHead). k.pairs) narrows.head ∙ ap (λ (k : TreeHead). k.pairs) stays.head
 
-      from_start : (ps : List Pair) (h : M t a ps) (new : PageMap) → Vacates (before_by cmp) x.id x.leaf.prev x.leaf.next v w h.1.3.tree.pages new
-          → (l : AtLast (before_by cmp) t.head t.height v.path x.id x.leaf.prev x.leaf.next h.1.3.tree.pages) → Vacated (before_by cmp) w.head w.height l.found.front l.found.leaf l.found.back new
+      from_start : (ps : List Pair) (h : M t a ps) (new : PageMap) → Vacates (before_by cmp) x.id x.leaf.prev x.leaf.next v w h.1.is.tree.pages new
+          → (l : AtLast (before_by cmp) t.head t.height v.path x.id x.leaf.prev x.leaf.next h.1.is.tree.pages) → Vacated (before_by cmp) w.head w.height l.found.front l.found.leaf l.found.back new
       from_start ps h new vac =
-          subst (λ (k : TreeHead). (l : AtLast (before_by cmp) k t.height v.path x.id x.leaf.prev x.leaf.next h.1.3.tree.pages) → Vacated (before_by cmp) w.head w.height l.found.front l.found.leaf l.found.back new) stays.head
-          (subst (λ (n : ℕ). (l : AtLast (before_by cmp) v.head n v.path x.id x.leaf.prev x.leaf.next h.1.3.tree.pages) → Vacated (before_by cmp) w.head w.height l.found.front l.found.leaf l.found.back new) stays.height vac)
+          subst (λ (k : TreeHead). (l : AtLast (before_by cmp) k t.height v.path x.id x.leaf.prev x.leaf.next h.1.is.tree.pages) → Vacated (before_by cmp) w.head w.height l.found.front l.found.leaf l.found.back new) stays.head
+          (subst (λ (n : ℕ). (l : AtLast (before_by cmp) v.head n v.path x.id x.leaf.prev x.leaf.next h.1.is.tree.pages) → Vacated (before_by cmp) w.head w.height l.found.front l.found.leaf l.found.back new) stays.height vac)
 
       means : (ps : List Pair) → M t a ps → M u d (removed cmp all key ps)
       means ps h =
-          let k = gone.means h.1.3.tree.pages (last_shown ps h) in
+          let k = gone.means h.1.is.tree.pages (last_shown ps h) in
           let z : Vacated (before_by cmp) w.head w.height (f ps h).front (f ps h).leaf (f ps h).back k.0 = from_start ps h k.0 k.2 (at_last ps h) in
           let are : pairs_of z.after ≡ pairs_of (after ps h) = z.pairs ∙ ap (λ (xs : List Item). pairs_of ((f ps h).front ++ with_items (f ps h).leaf xs ∷ (f ps h).back)) (sym none) in
-          means_of s file_of holds (before_by cmp) u d k.0 z.after z.rows (removed cmp all key ps)
-          (same_shows s file_of holds w u d (ap (λ (y : Tree V O). y.store) noted) (ap (λ (y : Tree V O). y.cache.pages) noted) (ap (λ (y : Tree V O). y.index) noted) ids k.0 k.1)
+          means_of s R o u d k.0 z.after z.rows (removed cmp all key ps)
+          (same_shows s R w u d (ap (λ (y : Tree V O). y.store) noted) (ap (λ (y : Tree V O). y.cache.pages) noted) (ap (λ (y : Tree V O). y.column) noted) ids k.0 k.1)
+          (ap (λ (y : TreeHead). y.order) head_is ∙ ap (λ (y : TreeHead). y.order) narrows.head ∙ ap (λ (y : TreeHead). y.order) stays.head ∙ h.1.order)
           (subst (λ (r : ℕ). Stands (before_by cmp) k.0 r z.after z.rows) (sym root) z.stands)
           (ap (λ (y : Tree V O). y.height) noted ∙ z.high)
           (limits_moved w.head u.head k.0 k.0 ids (λ j. inl refl) (inl root) z.limits)

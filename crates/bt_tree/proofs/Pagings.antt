@@ -1,6 +1,6 @@
 -- Pages of a tree, read and written one by one.
 use Rattle.std.proofs.Common.{◌≡◌, ◌≢◌, ◌⊎◌, ℕ, ◌+◌, ◌<◌, ◌≤◌, ◌^◌, List, [], ◌∷◌, Bool, true, false, Option, Some, None, refl, sym, ap, ◌∙◌, subst, inl, inr, ⊎_elim, arith}
-use Rattle.std.specs.Prelude.{◌==◌}
+use Rattle.std.specs.Prelude.{◌==◌, is_some}
 use Rattle.std.specs.FinMap.{get, insert}
 use Rattle.std.specs.List.{AllByRecursion}
 use Rattle.std.proofs.lemmas.Bool.{cases_eq}
@@ -8,10 +8,9 @@ use Rattle.std.proofs.lemmas.Bool.Decides.{nat_tests}
 use Rattle.std.proofs.lemmas.Slice.Eq.{bytes_eq-Decides}
 use Rattle.tc_base.specs.Maps.{Map}
 use Rattle.tc_base.specs.Texts.{is_text}
-use Rattle.tc_base.specs.declared.kind.Mode.TheVariants.{Over}
-use Rattle.tc_space.specs.Changes.{put_in}
-use Rattle.tc_space.specs.Frames.{In, Keeps, Others, Writes, keeps_refl, keeps_then}
-use Rattle.tc_space.specs.Stores.{FullBy, IsReady, Only}
+use Rattle.tc_space.specs.Frames.{Keeps, Others, keeps_refl, keeps_then}
+use Rattle.tc_space.specs.Stores.{IsReady, Only}
+use Rattle.tc_space.specs.declared.records.Records.{Ghosts as Stores}
 use Rattle.tc_space.specs.declared.space.Space.{Ghosts}
 use Rattle.bt_page.specs.Keys.{node_offset, key_of}
 use Rattle.bt_page.specs.declared.page.Leaf.{Leaf}
@@ -22,16 +21,17 @@ use Rattle.bt_rows.specs.declared.page.LeafAt.{LeafAt}
 use Rattle.bt_rows.specs.declared.page.Page.{Page}
 use Rattle.bt_rows.specs.declared.page.Page.TheVariants.{Leaf as leaf_page, Node as node_page}
 use Rattle.bt_rows.specs.Pages.{PageMap, IsGiven, IsPage, IsHeldAs, AreHeld}
-use Rattle.bt_rows.specs.Rules.{B1, B2, IsPageAt, column}
+use Rattle.bt_rows.specs.Rules.{B1, B2, IsPageAt, column as column_key}
 use Rattle.bt_rows.proofs.Held.{given_small, decided, column_free}
-use Rattle.bt_cache.specs.Effects.{Looks}
-use Rattle.bt_cache.specs.Held.{Pages, AreSame, Beside, HasPage, IsThere}
+use Rattle.bt_cache.specs.Effects.{LacksKey, Looks, PutsPage, SameStore, same_store_refl, same_store_then}
+use Rattle.bt_cache.specs.Held.{Pages, AreSame, Beside, IsThere, ReadsAs, ReadyBeside}
+use Rattle.bt_cache.specs.declared.cache.Cache.{Cache}
 use Rattle.bt_cache.specs.Shared.{IsSomeLeaf, IsSomeNode}
 use Rattle.bt_cache.proofs.Kept.{insert_here, insert_other}
 use Rattle.bt_ways.specs.Writes.{put_at, put_leaves}
 use Rattle.bt_tree.specs.declared.tree.Tree.{Tree}
-use Rattle.bt_tree.specs.Meaning.{file_in}
-use Rattle.bt_tree.specs.Paging.{Shows, HasLeafAt, HasNodeAt, IsLeafId, IsNodeId, LacksPage, GivenUp, page_bytes}
+use Rattle.bt_tree.specs.Paging.{ComesAnew, Shows, HasLeafAt, HasNodeAt, IsLeafId, IsNodeId, IsPageOf, IsShown, LacksPage, Peeks, PutsAt, page_bytes}
+use Rattle.bt_tree.specs.Trees.{HasKeys}
 use Rattle.bt_tree.proofs.Pages.{has_page}
 
 pub put_here : (pages : PageMap) (id : ℕ) (page : Page) → put_at id page pages id ≡ Some page
@@ -68,11 +68,29 @@ pub puts_over : (Q : ℕ → Option Page → Type 0) (pages : PageMap) (l : Leaf
     → (j : ℕ) → Q j (put_leaves (l ∷ ls) pages j)
 puts_over Q pages l ls q a all = puts_all Q ls (put_at l.slot.id (leaf_page l.leaf) pages) a (put_all Q pages l.slot.id (leaf_page l.leaf) q all)
 
+-- ---- pages that come have ids that weren't given
+
+pub anew_refl : (h : TreeHead) (pages : PageMap) → ComesAnew h pages pages
+anew_refl h pages id given none = none
+
+pub anew_then : (h k : TreeHead) (a b c : PageMap) → ((id : ℕ) → IsGiven h id → IsGiven k id) → ComesAnew h a b → ComesAnew k b c → ComesAnew h a c
+anew_then h k a b c more first second id given none = second id (more id given) (first id given none)
+
+-- one comes over another, or under an id that wasn't given
+pub anew_put : (h : TreeHead) (pages : PageMap) (id : ℕ) (page : Page) → (IsGiven h id → pages id ≡ None → ⊥) → ComesAnew h pages (put_at id page pages)
+anew_put h pages id page away j given none = ⊎_elim
+    (λ (same : j ≡ id). absurd (away (subst (IsGiven h) same given) (ap pages (sym same) ∙ none)))
+    (λ (other : j ≡ id → ⊥). put_other pages id page j other ∙ none)
+    (cases_eq j id)
+
+pub anew_over : (h : TreeHead) (pages : PageMap) (id : ℕ) (page was : Page) → pages id ≡ Some was → ComesAnew h pages (put_at id page pages)
+anew_over h pages id page was is = anew_put h pages id page (λ given none. none_some was (sym none ∙ is))
+
 -- ---- a page comes under an id that was given
 
-module _ (h : TreeHead) (index : Bool) (m : Map) (pages : PageMap) (id : ℕ) (page : Page) (bytes : List ℕ) (head : B1 h) (given : IsGiven h id) (is : IsPage id bytes page) where
-  pub keys_put : B2 h index (get m) → B2 h index (get (insert m (key_of id) bytes))
-  keys_put rule key value e = go (is_text key (key_of id)) refl
+module _ (h : TreeHead) (column : Option (List ℕ)) (m : Map) (pages : PageMap) (id : ℕ) (page : Page) (bytes : List ℕ) (head : B1 h) (given : IsGiven h id) (is : IsPage id bytes page) where
+  rule_put : B2 h (is_some column) (get m) → B2 h (is_some column) (get (insert m (key_of id) bytes))
+  rule_put rule key value e = go (is_text key (key_of id)) refl
     where
       some_same : (x y : List ℕ) → Some x ≡ Some y → x ≡ y
       some_same x y e = cc
@@ -80,12 +98,15 @@ module _ (h : TreeHead) (index : Bool) (m : Map) (pages : PageMap) (id : ℕ) (p
       clash : (b : Bool) → b ≡ true → b ≡ false → ⊥
       clash b e f = cc
 
-      go : (b : Bool) → is_text key (key_of id) ≡ b → IsPageAt h key value ⊎ ((index ≡ true) × (key ≡ column))
+      go : (b : Bool) → is_text key (key_of id) ≡ b → IsPageAt h key value ⊎ ((is_some column ≡ true) × (key ≡ column_key))
       go true t =
           let same : key ≡ key_of id = (bytes_eq-Decides key (key_of id)).0 t in
           let here : Some bytes ≡ Some value = sym (insert_here m (key_of id) bytes) ∙ ap (get (insert m (key_of id) bytes)) (sym same) ∙ e in
           inl (record { id = id; given = given; key_is = same; page = page; is = subst (λ (b : List ℕ). IsPage id b page) (some_same bytes value here) is })
       go false f = rule key value (sym (insert_other m (key_of id) bytes key (λ same. absurd (clash (is_text key (key_of id)) ((bytes_eq-Decides key (key_of id)).1 same) f))) ∙ e)
+
+  pub keys_put : HasKeys h column (get m) → HasKeys h column (get (insert m (key_of id) bytes))
+  keys_put keys = record { rule = rule_put keys.rule; has = insert_other m (key_of id) bytes column_key (λ e. absurd (column_free id (given_small h id head given) e)) ∙ keys.has }
 
   pub held_put : AreHeld h (get m) pages → AreHeld h (get (insert m (key_of id) bytes)) (put_at id page pages)
   held_put held = record {
@@ -132,17 +153,20 @@ module _ (h k : TreeHead) (gives : Gives h k) where
   page_more : (key bytes : List ℕ) → IsPageAt h key bytes → IsPageAt k key bytes
   page_more key bytes p = record { id = p.id; given = given_more p.id p.given; key_is = p.key_is; page = p.page; is = p.is }
 
-  module _ (index : Bool) (m : Map) (rule : B2 h index (get m)) where
-    pub keys_more : B2 k index (get m)
-    keys_more key bytes e = ⊎_elim (λ (p : IsPageAt h key bytes). inl (page_more key bytes p)) (λ (col : (index ≡ true) × (key ≡ column)). inr col) (rule key bytes e)
+  module _ (column : Option (List ℕ)) (m : Map) (keys : HasKeys h column (get m)) where
+    rule_more : B2 k (is_some column) (get m)
+    rule_more key bytes e = ⊎_elim (λ (p : IsPageAt h key bytes). inl (page_more key bytes p)) (λ (col : (is_some column ≡ true) × (key ≡ column_key)). inr col) (keys.rule key bytes e)
+
+    pub keys_more : HasKeys k column (get m)
+    keys_more = record { rule = rule_more; has = keys.has }
 
     -- the key of an id that wasn't given isn't held
     none_there : B1 h → (id : ℕ) → id < 2 ^ 49 → (IsGiven h id → ⊥) → (o : Option (List ℕ)) → get m (key_of id) ≡ o → o ≡ None
     none_there b id small not None e = refl
     none_there b id small not (Some bytes) e = absurd (⊎_elim
         (λ (p : IsPageAt h (key_of id) bytes). not (subst (IsGiven h) (key_free p.id id (given_small h p.id b p.given) small (sym p.key_is)) p.given))
-        (λ (col : (index ≡ true) × (key_of id ≡ column)). column_free id small (sym col.1))
-        (rule (key_of id) bytes e))
+        (λ (col : (is_some column ≡ true) × (key_of id ≡ column_key)). column_free id small (sym col.1))
+        (keys.rule (key_of id) bytes e))
 
     pub held_more : B1 h → (pages : PageMap) → AreHeld h (get m) pages → AreHeld k (get m) pages
     held_more b pages held = record {
@@ -154,19 +178,48 @@ module _ (h k : TreeHead) (gives : Gives h k) where
       others = λ id not. held.others id (λ was. not (given_more id was));
     }
 
+-- the same numbers and record
+pub keys_moved : (h k : TreeHead) (c d : Option (List ℕ)) (m : Map) → k ≡ h → d ≡ c → HasKeys h c (get m) → HasKeys k d (get m)
+keys_moved h k c d m same column keys = subst (λ (x : TreeHead). HasKeys x d (get m)) (sym same) (subst (λ (x : Option (List ℕ)). HasKeys h x (get m)) (sym column) keys)
+
 -- ---- a tree that shows pages
 
-module _ {S V O : Type 0} (s : Ghosts S) (file_of : V → ℕ) (holds : V → List ℕ → Map → Type 0) where
-  pub shown_beside : (t : Tree V O) (a : S) (pages : PageMap) → (h : Shows s file_of holds t a pages) → Beside s file_of holds (t.cache.pages, t.store) a h.1.records
+-- what is told of a tree beside its way
+abbrev pub told : {V O : Type 0} → Tree V O → V × Pages × Option (List ℕ) × TreeHead × ℕ
+told t = (t.store, t.cache.pages, t.column, t.head, t.height)
+
+-- it has another way, and all else stays
+pub record IsMoved {V O : Type 0} (t u : Tree V O) (path : List (ℕ × ℕ)) : Type 0 where
+  pub all : told u ≡ told t
+  pub way : u.path ≡ path
+
+module _ {V O : Type 0} (t u : Tree V O) (path : List (ℕ × ℕ)) (moved : IsMoved t u path) where
+  pub moved_store : u.store ≡ t.store
+  moved_store = ap (λ x. x.0) moved.all
+
+  pub moved_pages : u.cache.pages ≡ t.cache.pages
+  moved_pages = ap (λ x. x.1) moved.all
+
+  pub moved_column : u.column ≡ t.column
+  moved_column = ap (λ x. x.2) moved.all
+
+  pub moved_head : u.head ≡ t.head
+  moved_head = ap (λ x. x.3) moved.all
+
+  pub moved_height : u.height ≡ t.height
+  moved_height = ap (λ x. x.4) moved.all
+
+module _ {S V O : Type 0} (s : Ghosts S) (R : Stores V S) where
+  pub shown_beside : (t : Tree V O) (a : S) (pages : PageMap) → (h : Shows s R t a pages) → Beside s R (t.cache.pages, t.store) a h.1.records
   shown_beside t a pages h = ((h.0, h.1.store), h.1.same)
 
-  pub ready_beside : (t : Tree V O) (a : S) → IsReady s (Shows s file_of holds) t a → IsReady s (Beside s file_of holds) (t.cache.pages, t.store) a
+  pub ready_beside : (t : Tree V O) (a : S) → IsShown s R t a → ReadyBeside s R t.cache t.store a
   ready_beside t a ready = record { sound = ready.sound; held = λ told. let h = ready.held told in (h.1.1.records, shown_beside t a h.0 h.1) }
 
   -- pages were looked at
-  pub looked_shows : (t u : Tree V O) (a b : S) → Looks s file_of holds t.cache.pages u.cache.pages t.store u.store a b → u.head ≡ t.head → u.index ≡ t.index
-      → (pages : PageMap) → Shows s file_of holds t a pages → Shows s file_of holds u b pages
-  looked_shows t u a b looks head index pages h =
+  pub looked_shows : (t u : Tree V O) (a b : S) → Looks s R t.cache u.cache t.store u.store a b → u.head ≡ t.head → u.column ≡ t.column
+      → (pages : PageMap) → Shows s R t a pages → Shows s R u b pages
+  looked_shows t u a b looks head column pages h =
       let beside = looks.reads.means h.1.records (shown_beside t a pages h) in (
         beside.0.0,
         record {
@@ -174,43 +227,42 @@ module _ {S V O : Type 0} (s : Ghosts S) (file_of : V → ℕ) (holds : V → Li
           store = beside.0.1;
           same = beside.1;
           head = subst B1 (sym head) h.1.head;
-          keys = subst (λ (k : TreeHead). B2 k u.index (get h.1.records)) (sym head) (subst (λ (i : Bool). B2 t.head i (get h.1.records)) (sym index) h.1.keys);
+          keys = keys_moved t.head u.head t.column u.column h.1.records head column h.1.keys;
           held = subst (λ (k : TreeHead). AreHeld k (get h.1.records) pages) (sym head) h.1.held;
         },
       )
 
-  pub looked_ready : (t u : Tree V O) (a b : S) → Looks s file_of holds t.cache.pages u.cache.pages t.store u.store a b → u.head ≡ t.head → u.index ≡ t.index
-      → IsReady s (Shows s file_of holds) t a → IsReady s (Shows s file_of holds) u b
-  looked_ready t u a b looks head index ready = record { sound = looks.reads.sound; held = λ told. let h = ready.held told in (h.0, looked_shows t u a b looks head index h.0 h.1) }
+  pub looked_ready : (t u : Tree V O) (a b : S) → Looks s R t.cache u.cache t.store u.store a b → u.head ≡ t.head → u.column ≡ t.column
+      → IsReady s (Shows s R) t a → IsReady s (Shows s R) u b
+  looked_ready t u a b looks head column ready = record { sound = looks.reads.sound; held = λ told. let h = ready.held told in (h.0, looked_shows t u a b looks head column h.0 h.1) }
 
   -- the tree has other numbers, and all else stays
-  pub more_shows : (t u : Tree V O) (a : S) → u.store ≡ t.store → u.cache.pages ≡ t.cache.pages → u.index ≡ t.index → Gives t.head u.head
-      → (pages : PageMap) → Shows s file_of holds t a pages → Shows s file_of holds u a pages
-  more_shows t u a store cache index gives pages h = (
+  pub more_shows : (t u : Tree V O) (a : S) → u.store ≡ t.store → u.cache.pages ≡ t.cache.pages → u.column ≡ t.column → Gives t.head u.head
+      → (pages : PageMap) → Shows s R t a pages → Shows s R u a pages
+  more_shows t u a store cache column gives pages h = (
     h.0,
     record {
       records = h.1.records;
-      store = subst (λ (v : V). holds v (s.now a (file_of v)) h.1.records) (sym store) h.1.store;
+      store = subst (λ (v : V). R.holds v (s.now a (R.file_of v)) h.1.records) (sym store) h.1.store;
       same = subst (λ (c : Pages). AreSame h.1.records c.entries) (sym cache) h.1.same;
       head = head_more t.head u.head gives h.1.head;
-      keys = subst (λ (i : Bool). B2 u.head i (get h.1.records)) (sym index) (keys_more t.head u.head gives t.index h.1.records h.1.keys);
-      held = held_more t.head u.head gives t.index h.1.records h.1.keys h.1.head pages h.1.held;
+      keys = subst (λ (c : Option (List ℕ)). HasKeys u.head c (get h.1.records)) (sym column) (keys_more t.head u.head gives t.column h.1.records h.1.keys);
+      held = held_more t.head u.head gives t.column h.1.records h.1.keys h.1.head pages h.1.held;
     },
   )
 
-  pub more_ready : (t u : Tree V O) (a : S) → u.store ≡ t.store → u.cache.pages ≡ t.cache.pages → u.index ≡ t.index → Gives t.head u.head
-      → IsReady s (Shows s file_of holds) t a → IsReady s (Shows s file_of holds) u a
-  more_ready t u a store cache index gives ready = record { sound = ready.sound; held = λ told. let h = ready.held told in (h.0, more_shows t u a store cache index gives h.0 h.1) }
+  pub more_ready : (t u : Tree V O) (a : S) → u.store ≡ t.store → u.cache.pages ≡ t.cache.pages → u.column ≡ t.column → Gives t.head u.head
+      → IsReady s (Shows s R) t a → IsReady s (Shows s R) u a
+  more_ready t u a store cache column gives ready = record { sound = ready.sound; held = λ told. let h = ready.held told in (h.0, more_shows t u a store cache column gives h.0 h.1) }
 
-  pub noted_ready : (t u : Tree V O) (a : S) (k : TreeHead) → u ≡ record t { head = k } → Gives t.head k → IsReady s (Shows s file_of holds) t a → IsReady s (Shows s file_of holds) u a
+  pub noted_ready : (t u : Tree V O) (a : S) (k : TreeHead) → u ≡ record t { head = k } → Gives t.head k → IsReady s (Shows s R) t a → IsReady s (Shows s R) u a
   noted_ready t u a k noted gives ready =
-      more_ready t u a (ap (λ (x : Tree V O). x.store) noted) (ap (λ (x : Tree V O). x.cache.pages) noted) (ap (λ (x : Tree V O). x.index) noted) (subst (λ (x : TreeHead). Gives t.head x) (sym (ap (λ (x : Tree V O). x.head) noted)) gives) ready
+      more_ready t u a (ap (λ (x : Tree V O). x.store) noted) (ap (λ (x : Tree V O). x.cache.pages) noted) (ap (λ (x : Tree V O). x.column) noted) (subst (λ (x : TreeHead). Gives t.head x) (sym (ap (λ (x : Tree V O). x.head) noted)) gives) ready
 
   -- a page was written
   pub put_shows : (t u : Tree V O) (a b : S) (id : ℕ) (page : Page) → (s.tells → IsGiven t.head id) → IsPage id (page_bytes page) page
-      → Writes s (Only (file_of t.store)) (Beside s file_of holds) (put_in Over (key_of id) (page_bytes page)) (t.cache.pages, t.store) (u.cache.pages, u.store) a b → u.head ≡ t.head → u.index ≡ t.index
-      → Writes s (Only (file_in file_of t)) (Shows s file_of holds) (put_at id page) t u a b
-  put_shows t u a b id page given is writes head index = record {
+      → PutsPage s R id (page_bytes page) t.cache u.cache t.store u.store a b → u.head ≡ t.head → u.column ≡ t.column → PutsAt s R id page t u a b
+  put_shows t u a b id page given is writes head column = record {
     sound = writes.sound;
     others = writes.others;
     means = λ pages h.
@@ -222,68 +274,53 @@ module _ {S V O : Type 0} (s : Ghosts S) (file_of : V → ℕ) (holds : V → Li
             store = beside.0.1;
             same = beside.1;
             head = subst B1 (sym head) h.1.head;
-            keys = subst (λ (k : TreeHead). B2 k u.index (get m')) (sym head) (subst (λ (i : Bool). B2 t.head i (get m')) (sym index) (keys_put t.head t.index h.1.records pages id page (page_bytes page) h.1.head (given h.0) is h.1.keys));
-            held = subst (λ (k : TreeHead). AreHeld k (get m') (put_at id page pages)) (sym head) (held_put t.head t.index h.1.records pages id page (page_bytes page) h.1.head (given h.0) is h.1.held);
+            keys = keys_moved t.head u.head t.column u.column m' head column (keys_put t.head t.column h.1.records pages id page (page_bytes page) h.1.head (given h.0) is h.1.keys);
+            held = subst (λ (k : TreeHead). AreHeld k (get m') (put_at id page pages)) (sym head) (held_put t.head t.column h.1.records pages id page (page_bytes page) h.1.head (given h.0) is h.1.held);
           },
         );
   }
 
 -- ---- no room for a page
 
-module _ {S V : Type 0} (s : Ghosts S) (file_of : V → ℕ) (holds : V → List ℕ → Map → Type 0) (fills : V → S → Map → Map → Type 0) where
-  pub lacks_now : (v : V) (c : Pages) (old new : S) (id : ℕ) (page : Page) → IsReady s (Beside s file_of holds) (c, v) old → FullBy (In s file_of holds) fills (put_in Over (key_of id) (page_bytes page)) v old new
-      → LacksPage s file_of holds fills (λ p. p ≡ page) v old new
-  lacks_now v c old new id page ready full = record {
-    store = v;
-    moment = old;
-    refused = new;
+module _ {S V O : Type 0} (s : Ghosts S) (R : Stores V S) where
+  pub lacks_now : (t : Tree V O) (a b : S) (id : ℕ) (page : Page) → IsShown s R t a → Keeps s a b → LacksKey s R id (page_bytes page) t.store a b → LacksPage s R (λ p. p ≡ page) t.store a b
+  lacks_now t a b id page ready keeps full = record {
+    store = t.store;
+    moment = a;
     id = id;
     page = page;
-    file = refl;
-    since = keeps_refl s old;
-    held = λ told. let h = ready.held told in (h.0, h.1.0);
+    made = same_store_refl R t.store;
+    since = keeps_refl s a;
+    until = keeps;
+    held = λ told. let h = ready.held told in (h.1.1.records, (told, h.1.1.store));
     fine = refl;
     by = full;
-    left = inl refl;
   }
 
+module _ {S V : Type 0} (s : Ghosts S) (R : Stores V S) where
   -- later on, and of a page of a wider sort
-  pub lacks_after : (P Q : Page → Type 0) (v w : V) (old mid new : S) → Keeps s old mid → file_of w ≡ file_of v → ((p : Page) → P p → Q p) → LacksPage s file_of holds fills P w mid new → LacksPage s file_of holds fills Q v old new
-  lacks_after P Q v w old mid new keeps file wider l = record {
+  pub lacks_after : (P Q : Page → Type 0) (v w : V) (old mid new : S) → Keeps s old mid → SameStore R v w → ((p : Page) → P p → Q p) → LacksPage s R P w mid new → LacksPage s R Q v old new
+  lacks_after P Q v w old mid new keeps made wider l = record {
     store = l.store;
     moment = l.moment;
-    refused = l.refused;
     id = l.id;
     page = l.page;
-    file = l.file ∙ file;
+    made = same_store_then R v w l.store made l.made;
     since = keeps_then s old mid l.moment keeps l.since;
+    until = l.until;
     held = l.held;
     fine = wider l.page l.fine;
     by = l.by;
-    left = l.left;
   }
 
-  -- and the space was given up then
-  pub lacks_given_up : (P : Page → Type 0) (v : V) (old mid new : S) → GivenUp s mid new → LacksPage s file_of holds fills P v old mid → LacksPage s file_of holds fills P v old new
-  lacks_given_up P v old mid new up l = record {
-    store = l.store;
-    moment = l.moment;
-    refused = l.refused;
-    id = l.id;
-    page = l.page;
-    file = l.file;
-    since = l.since;
-    held = l.held;
-    fine = l.fine;
-    by = l.by;
-    left = ⊎_elim (λ (here : mid ≡ l.refused). inr (subst (λ (x : S). GivenUp s x new) here up))
-        (λ (before : GivenUp s l.refused mid). inr (record { flag = up.flag; keeps = keeps_then s l.refused mid new before.keeps up.keeps; files = λ told g. up.files told g ∙ before.files told g })) l.left;
-  }
+  -- the same store
+  pub same_store_at : (v w : V) → w ≡ v → SameStore R v w
+  same_store_at v w e = subst (λ (x : V). SameStore R v x) (sym e) (same_store_refl R v)
 
 -- ---- a page by value
 
-module _ {S V : Type 0} (s : Ghosts S) (file_of : V → ℕ) (holds : V → List ℕ → Map → Type 0) where
-  pub forget_looks : (c d e : Pages) (v w : V) (a b : S) → Looks s file_of holds c d v w a b → ((m : Map) → AreSame m d.entries → AreSame m e.entries) → e.cap ≡ d.cap → Looks s file_of holds c e v w a b
+module _ {S V : Type 0} (s : Ghosts S) (R : Stores V S) where
+  forget_looks : (c d e : Cache V) (v w : V) (a b : S) → Looks s R c d v w a b → ((m : Map) → AreSame m d.pages.entries → AreSame m e.pages.entries) → e.pages.cap ≡ d.pages.cap → Looks s R c e v w a b
   forget_looks c d e v w a b looks same room = record {
     reads = record {
       now = looks.reads.now;
@@ -293,26 +330,33 @@ module _ {S V : Type 0} (s : Ghosts S) (file_of : V → ℕ) (holds : V → List
     };
     keeps = looks.keeps;
     room = room ∙ looks.room;
+    made = looks.made;
+    tight = looks.tight;
   }
 
-module _ {S V O : Type 0} (s : Ghosts S) (file_of : V → ℕ) (holds : V → List ℕ → Map → Type 0) (t : Tree V O) (a : S) (id : ℕ) where
-  pub leaf_is_there : HasLeafAt s file_of holds id t a → IsThere s (Beside s file_of holds) IsSomeLeaf id (t.cache.pages, t.store) a
+  pub forget_peeks : {O : Type 0} (t u : Tree V O) (d : Cache V) (a b : S) → Looks s R t.cache d t.store u.store a b → ((m : Map) → AreSame m d.pages.entries → AreSame m u.cache.pages.entries) → u.cache.pages.cap ≡ d.pages.cap
+      → u.head ≡ t.head → u.height ≡ t.height → u.column ≡ t.column → u.path ≡ t.path → Peeks s R t u a b
+  forget_peeks t u d a b looks same room head height column path = record {
+    looks = forget_looks t.cache d u.cache t.store u.store a b looks same room;
+    still = record { keeps = looks.keeps; made = looks.made; head = head; height = height; column = column; path = path };
+  }
+
+module _ {S V O : Type 0} (s : Ghosts S) (R : Stores V S) (t : Tree V O) (a : S) (id : ℕ) where
+  pub leaf_is_there : HasLeafAt s R id t a → IsThere s R IsSomeLeaf id t.cache t.store a
   leaf_is_there there = λ told.
       let h = there told in
-      (h.2.1.records, leaf_page h.1, shown_beside s file_of holds t a h.0 h.2, has_page t.head h.2.1.records h.0 id (leaf_page h.1) h.2.1.head h.2.1.held h.3, (h.1, refl))
+      (h.2.1.records, leaf_page h.1, shown_beside s R t a h.0 h.2, has_page t.head h.2.1.records h.0 id (leaf_page h.1) h.2.1.head h.2.1.held h.3, (h.1, refl))
 
-  pub node_is_there : HasNodeAt s file_of holds id t a → IsThere s (Beside s file_of holds) IsSomeNode id (t.cache.pages, t.store) a
+  pub node_is_there : HasNodeAt s R id t a → IsThere s R IsSomeNode id t.cache t.store a
   node_is_there there = λ told.
       let h = there told in
-      (h.2.1.records, node_page h.1, shown_beside s file_of holds t a h.0 h.2, has_page t.head h.2.1.records h.0 id (node_page h.1) h.2.1.head h.2.1.held h.3, (h.1, refl))
+      (h.2.1.records, node_page h.1, shown_beside s R t a h.0 h.2, has_page t.head h.2.1.records h.0 id (node_page h.1) h.2.1.head h.2.1.held h.3, (h.1, refl))
 
-  pub leaf_read : (read : Leaf) → ((m : Map) (l : Leaf) → Beside s file_of holds (t.cache.pages, t.store) a m → HasPage m id (leaf_page l) → read ≡ l)
-      → (pages : PageMap) (l : Leaf) → Shows s file_of holds t a pages → pages id ≡ Some (leaf_page l) → read ≡ l
-  leaf_read read is pages l h e = is h.1.records l (shown_beside s file_of holds t a pages h) (has_page t.head h.1.records pages id (leaf_page l) h.1.head h.1.held e)
+  pub leaf_read : (read : Leaf) → ReadsAs s R leaf_page id t.cache t.store a read → IsPageOf s R leaf_page id t a read
+  leaf_read read is pages l h e = is h.1.records l (shown_beside s R t a pages h) (has_page t.head h.1.records pages id (leaf_page l) h.1.head h.1.held e)
 
-  pub node_read : (read : Node) → ((m : Map) (n : Node) → Beside s file_of holds (t.cache.pages, t.store) a m → HasPage m id (node_page n) → read ≡ n)
-      → (pages : PageMap) (n : Node) → Shows s file_of holds t a pages → pages id ≡ Some (node_page n) → read ≡ n
-  node_read read is pages n h e = is h.1.records n (shown_beside s file_of holds t a pages h) (has_page t.head h.1.records pages id (node_page n) h.1.head h.1.held e)
+  pub node_read : (read : Node) → ReadsAs s R node_page id t.cache t.store a read → IsPageOf s R node_page id t a read
+  node_read read is pages n h e = is h.1.records n (shown_beside s R t a pages h) (has_page t.head h.1.records pages id (node_page n) h.1.head h.1.held e)
 
 -- the sort of a page is that of its id
 pub leaf_given : (h : TreeHead) (m : Map) (pages : PageMap) (id : ℕ) (l : Leaf) → B1 h → AreHeld h (get m) pages → pages id ≡ Some (leaf_page l) → IsLeafId h id

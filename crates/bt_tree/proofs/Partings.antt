@@ -4,9 +4,9 @@ use Rattle.std.specs.Prelude.{if◌then◌else◌, ◌==◌, slice_get, slice_in
 use Rattle.std.specs.List.{AllByRecursion, remove}
 use Rattle.std.proofs.lemmas.Bool.{cases_eq, cases_lt}
 use Rattle.std.proofs.lemmas.List.{append-nil, length-map, length-take-le, map-append}
-use Rattle.tc_base.specs.Maps.{Map}
-use Rattle.tc_space.specs.Frames.{Keeps, Writes, keeps_refl, keeps_then, others_then}
-use Rattle.tc_space.specs.Stores.{IsReady, Only}
+use Rattle.tc_space.specs.Frames.{keeps_refl, keeps_then, others_then}
+use Rattle.tc_space.specs.Stores.{Only}
+use Rattle.tc_space.specs.declared.records.Records.{Ghosts as Stores}
 use Rattle.tc_space.specs.declared.space.Space.{Ghosts}
 use Rattle.bt_page.specs.Keys.{node_offset}
 use Rattle.bt_page.specs.declared.page.NodeEntry.{NodeEntry}
@@ -19,9 +19,9 @@ use Rattle.bt_rows.specs.declared.page.Page.{Page}
 use Rattle.bt_rows.specs.declared.page.Page.TheVariants.{Leaf as leaf_page, Node as node_page}
 use Rattle.bt_rows.specs.declared.page.Slot.{Slot}
 use Rattle.bt_rows.specs.Levels.{NodeAt, LeavesHeld, LevelsHeld, NodesHeld, level_times, node_slot}
-use Rattle.bt_rows.specs.Pages.{PageMap}
+use Rattle.bt_rows.specs.Pages.{PageMap, IsGiven}
 use Rattle.bt_rows.specs.Rows.{first_id, last_id, times}
-use Rattle.bt_cache.specs.Effects.{Looks}
+use Rattle.bt_cache.specs.Effects.{SameStore, same_store_refl, same_store_then}
 use Rattle.bt_ways.specs.Changes.{IsCut, ItemsWithin}
 use Rattle.bt_ways.specs.Climbs.{ClimbsWith}
 use Rattle.bt_ways.specs.Parts.{AreFresh, HasItems, Part, all_items, first_key, part_entry, part_slot, parted, relinked, with_parts}
@@ -33,18 +33,27 @@ use Rattle.bt_ways.proofs.Within.{parts_join}
 use Rattle.bt_tree.specs.declared.parting.Laid.{Laid}
 use Rattle.bt_tree.specs.declared.parting.Parted.{Parted}
 use Rattle.bt_tree.specs.declared.tree.Tree.{Tree}
-use Rattle.bt_tree.specs.Climbing.{CanClimb, Climbs, Grows, IsAmong, IsKnownNode, ShowsWay, StoodIn, entry_key}
+use Rattle.bt_tree.specs.Climbing.{CanClimb, Grows, HasWay, IsAmong, IsWayNode, ShowsWay, StoodIn, TurnsClimbed, entry_key}
 use Rattle.bt_tree.specs.Meaning.{file_in}
-use Rattle.bt_tree.specs.Paging.{HasLeafAt, IsLeafId, LacksPage, Shows, StaysStill, Turns}
-use Rattle.bt_tree.specs.Parting.{AddsBehind, ArePartsOf, IsLaid, IsParted, IsPiece, IsStretch, item_key, ShowsLeaf, Widens, laid_at, laid_parts, last_part, parts_from, put_laid}
-use Rattle.bt_tree.proofs.Climbings.{among_back}
-use Rattle.bt_tree.proofs.Pagings.{Gives, lacks_after, looked_shows, more_shows, leaf_fresh, leaf_given, leaf_node, others_at, put_here, put_other}
+use Rattle.bt_tree.specs.Numbers.{with_last, with_leaf_ids}
+use Rattle.bt_tree.specs.Paging.{ComesAnew, HasLeafAt, IsLeafId, IsShown, LacksPage, Peeks, PutsAt, Rewrites, Shows, StaysStill}
+use Rattle.bt_tree.specs.Parting.{AddsAll, AddsBehind, ArePartsOf, HasLeaf, IsLaid, IsLeafPiece, IsPiece, TurnsParted, IsStretch, item_key, ShowsLeaf, Widens, laid_at, laid_parts, last_part, parts_from, put_laid}
+use Rattle.bt_tree.proofs.Climbings.{among_back, put_was}
+use Rattle.bt_tree.proofs.Pagings.{Gives, anew_put, anew_refl, anew_then, lacks_after, looked_shows, more_shows, leaf_fresh, leaf_given, leaf_node, others_at, put_here, put_other, same_store_at}
 
 -- ---- leaves that are written
 
 pub put_laid-append : (xs ys : List Laid) (pages : PageMap) → put_laid (xs ++ ys) pages ≡ put_laid ys (put_laid xs pages)
 put_laid-append [] ys pages = refl
 put_laid-append (x ∷ xs) ys pages = put_laid-append xs ys (put_at x.id (leaf_page x.leaf) pages)
+
+-- leaves that are written over others, or under ids that weren't given
+laid_anew : (h : TreeHead) (ls : List Laid) (pages : PageMap) → AllByRecursion (λ l. IsGiven h l.id → pages l.id ≡ None → ⊥) ls → ComesAnew h pages (put_laid ls pages)
+laid_anew h [] pages away = anew_refl h pages
+laid_anew h (l ∷ ls) pages away =
+    anew_then h h pages (put_at l.id (leaf_page l.leaf) pages) (put_laid ls (put_at l.id (leaf_page l.leaf) pages)) (λ j g. g) (anew_put h pages l.id (leaf_page l.leaf) away.0)
+    (laid_anew h ls (put_at l.id (leaf_page l.leaf) pages)
+    (all_map (λ (k : Laid). IsGiven h k.id → pages k.id ≡ None → ⊥) (λ (k : Laid). IsGiven h k.id → put_at l.id (leaf_page l.leaf) pages k.id ≡ None → ⊥) ls (λ k f g none. f g (put_was pages l.id k.id (leaf_page l.leaf) none)) away.1))
 
 -- an id under which no node stands
 abbrev pub NoNode : PageMap → ℕ → Type 0
@@ -273,23 +282,22 @@ part_keys key items (p ∷ ps) haves (inr k) = among_back item_key key items (al
 
 -- ---- written one by one
 
-pub record LaysOn {S V O : Type 0} (s : Ghosts S) (file_of : V → ℕ) (holds : V → List ℕ → Map → Type 0) (region : V → List ℕ) (leaves rest : List Laid) (t u : Tree V O) (old new : S) : Type 0 where
+pub record LaysOn {S V O : Type 0} (s : Ghosts S) (R : Stores V S) (leaves rest : List Laid) (t u : Tree V O) (old new : S) : Type 0 where
   pub front : List Laid
   pub are : leaves ≡ front ++ rest
-  pub writes : Writes s (Only (file_in file_of t)) (Shows s file_of holds) (put_laid front) t u old new
-  pub still : StaysStill s file_of region t u old new
+  pub writes : Rewrites s R (put_laid front) t u old new
+  pub still : StaysStill s R t u old new
 
-still_refl : {S V O : Type 0} (s : Ghosts S) (file_of : V → ℕ) (region : V → List ℕ) (t : Tree V O) (a : S) → StaysStill s file_of region t t a a
-still_refl s file_of region t a = record { keeps = keeps_refl s a; file = refl; region_same = refl; head = refl; height = refl; index = refl; path = refl }
+still_refl : {S V O : Type 0} (s : Ghosts S) (R : Stores V S) (t : Tree V O) (a : S) → StaysStill s R t t a a
+still_refl s R t a = record { keeps = keeps_refl s a; made = same_store_refl R t.store; head = refl; height = refl; column = refl; path = refl }
 
-pub still_then : {S V O : Type 0} (s : Ghosts S) (file_of : V → ℕ) (region : V → List ℕ) (t u v : Tree V O) (a b d : S) → StaysStill s file_of region t u a b → StaysStill s file_of region u v b d → StaysStill s file_of region t v a d
-still_then s file_of region t u v a b d first second = record {
+pub still_then : {S V O : Type 0} (s : Ghosts S) (R : Stores V S) (t u v : Tree V O) (a b d : S) → StaysStill s R t u a b → StaysStill s R u v b d → StaysStill s R t v a d
+still_then s R t u v a b d first second = record {
   keeps = keeps_then s a b d first.keeps second.keeps;
-  file = second.file ∙ first.file;
-  region_same = second.region_same ∙ first.region_same;
+  made = same_store_then R t.store u.store v.store first.made second.made;
   head = second.head ∙ first.head;
   height = second.height ∙ first.height;
-  index = second.index ∙ first.index;
+  column = second.column ∙ first.column;
   path = second.path ∙ first.path;
 }
 
@@ -298,17 +306,17 @@ taken : {X : Type 0} (xs ys : List X) (x : X) → 0 < length xs → x ≡ slice_
 taken {X} [] ys x lt e f = absurd (omega (arith, lt))
 taken {X} (z ∷ zs) ys x lt e f = ap (λ (w : X). w ∷ zs) (sym e) ∙ ap (λ (t : List X). x ∷ t) (sym f)
 
-module _ {S V O : Type 0} (s : Ghosts S) (file_of : V → ℕ) (holds : V → List ℕ → Map → Type 0) (region : V → List ℕ) (leaves : List Laid) (t : Tree V O) (a : S) where
-  pub lays_start : (rest : List Laid) → rest ≡ leaves → s.sound a → LaysOn s file_of holds region leaves rest t t a a
+module _ {S V O : Type 0} (s : Ghosts S) (R : Stores V S) (leaves : List Laid) (t : Tree V O) (a : S) where
+  pub lays_start : (rest : List Laid) → rest ≡ leaves → s.sound a → LaysOn s R leaves rest t t a a
   lays_start rest e sound = record {
     front = [];
     are = sym e;
     writes = record { sound = sound; means = λ pages h. h; others = record { same = λ told g other. refl } };
-    still = still_refl s file_of region t a;
+    still = still_refl s R t a;
   }
 
-  module _ (u : Tree V O) (b : S) (rest : List Laid) (l : LaysOn s file_of holds region leaves rest t u a b) where
-    pub lays_ready : IsReady s (Shows s file_of holds) t a → IsReady s (Shows s file_of holds) u b
+  module _ (u : Tree V O) (b : S) (rest : List Laid) (l : LaysOn s R leaves rest t u a b) where
+    pub lays_ready : IsShown s R t a → IsShown s R u b
     lays_ready ready = record { sound = l.writes.sound; held = λ told. let h = ready.held told in (put_laid l.front h.0, l.writes.means h.0 h.1) }
 
     module _ (laid : Laid) (rest' : List Laid) (some : 0 < length rest) (is : laid ≡ slice_index_or rest 0 laid) (less : rest' ≡ remove rest 0) where
@@ -320,27 +328,27 @@ module _ {S V O : Type 0} (s : Ghosts S) (file_of : V → ℕ) (holds : V → Li
           let all = subst (λ (x : List Laid). AllByRecursion (λ k. IsLeafId t.head k.id) x) whole (given told) in
           subst (λ (h : TreeHead). IsLeafId h laid.id) (sym l.still.head) (all_part (λ (k : Laid). IsLeafId t.head k.id) l.front (laid ∷ rest') all).1.0
 
-      pub lays_more : (v : Tree V O) (d : S) → Writes s (Only (file_in file_of u)) (Shows s file_of holds) (put_at laid.id (leaf_page laid.leaf)) u v b d → StaysStill s file_of region u v b d → LaysOn s file_of holds region leaves rest' t v a d
+      pub lays_more : (v : Tree V O) (d : S) → PutsAt s R laid.id (leaf_page laid.leaf) u v b d → StaysStill s R u v b d → LaysOn s R leaves rest' t v a d
       lays_more v d put still = record {
         front = l.front ++ laid ∷ [];
         are = whole ∙ sym (append_assoc l.front (laid ∷ []) rest');
         writes = record {
           sound = put.sound;
-          means = λ pages h. subst (λ (x : PageMap). Shows s file_of holds v d x) (sym (put_laid-append l.front (laid ∷ []) pages)) (put.means (put_laid l.front pages) (l.writes.means pages h));
-          others = others_then s (Only (file_in file_of t)) a b d l.writes.others (others_at s _ _ b d l.still.file put.others);
+          means = λ pages h. subst (λ (x : PageMap). Shows s R v d x) (sym (put_laid-append l.front (laid ∷ []) pages)) (put.means (put_laid l.front pages) (l.writes.means pages h));
+          others = others_then s (Only (file_in R t)) a b d l.writes.others (others_at s _ _ b d l.still.made.file put.others);
         };
-        still = still_then s file_of region t u v a b d l.still still;
+        still = still_then s R t u v a b d l.still still;
       }
 
-      pub lays_lacks : (fills : V → S → Map → Map → Type 0) (d : S) → LacksPage s file_of holds fills (λ p. p ≡ leaf_page laid.leaf) u.store b d → LacksPage s file_of holds fills (IsLaid leaves) t.store a d
-      lays_lacks fills d lacks = lacks_after s file_of holds fills (λ p. p ≡ leaf_page laid.leaf) (IsLaid leaves) t.store u.store a b d l.still.keeps l.still.file (λ p e. subst (λ (x : List Laid). IsLaid x p) (sym whole) (among l.front p e)) lacks
+      pub lays_lacks : (d : S) → LacksPage s R (λ p. p ≡ leaf_page laid.leaf) u.store b d → LacksPage s R (IsLaid leaves) t.store a d
+      lays_lacks d lacks = lacks_after s R (λ p. p ≡ leaf_page laid.leaf) (IsLaid leaves) t.store u.store a b d l.still.keeps l.still.made (λ p e. subst (λ (x : List Laid). IsLaid x p) (sym whole) (among l.front p e)) lacks
         where
           among : (xs : List Laid) (p : Page) → p ≡ leaf_page laid.leaf → IsLaid (xs ++ laid ∷ rest') p
           among [] p e = inl e
           among (x ∷ xs) p e = inr (among xs p e)
 
-    pub lays_end : rest ≡ [] → Writes s (Only (file_in file_of t)) (Shows s file_of holds) (put_laid leaves) t u a b
-    lays_end e = subst (λ (x : List Laid). Writes s (Only (file_in file_of t)) (Shows s file_of holds) (put_laid x) t u a b) (sym (l.are ∙ ap (λ (x : List Laid). l.front ++ x) e ∙ append-nil l.front)) l.writes
+    pub lays_end : rest ≡ [] → Rewrites s R (put_laid leaves) t u a b
+    lays_end e = subst (λ (x : List Laid). Rewrites s R (put_laid x) t u a b) (sym (l.are ∙ ap (λ (x : List Laid). l.front ++ x) e ∙ append-nil l.front)) l.writes
 
 -- ---- the whole of it
 
@@ -352,24 +360,24 @@ gives_leaves h n more small = record { order = refl; leaf_limit = refl; node_lim
 pub gives_last : (h : TreeHead) (n : ℕ) → Gives h (record h { last = n })
 gives_last h n = record { order = refl; leaf_limit = refl; node_limit = refl; leaves = omega arith; nodes = omega arith; leaves_small = λ lt. lt; nodes_small = λ lt. lt }
 
-module _ {S V O : Type 0} (s : Ghosts S) (file_of : V → ℕ) (holds : V → List ℕ → Map → Type 0) (t u : Tree V O) (a : S) (id : ℕ) (leaf : Leaf) (ready : IsReady s (ShowsLeaf s file_of holds id leaf.next) t a)
-    (noted : u ≡ record t { head = record t.head { leaf_ids = u.head.leaf_ids } }) (more : t.head.leaf_ids ≤ u.head.leaf_ids) (small : u.head.leaf_ids < node_offset) where
+module _ {S V O : Type 0} (s : Ghosts S) (R : Stores V S) (t u : Tree V O) (a : S) (id : ℕ) (leaf : Leaf) (ready : HasLeaf s R id leaf.next t a)
+    (noted : u ≡ with_leaf_ids u.head.leaf_ids t) (more : t.head.leaf_ids ≤ u.head.leaf_ids) (small : u.head.leaf_ids < node_offset) where
   given_gives : Gives t.head u.head
   given_gives = subst (λ (x : TreeHead). Gives t.head x) (sym (ap (λ (x : Tree V O). x.head) noted)) (gives_leaves t.head u.head.leaf_ids more small)
 
-  pub given_shows : (pages : PageMap) → Shows s file_of holds t a pages → Shows s file_of holds u a pages
-  given_shows pages h = more_shows s file_of holds t u a (ap (λ (x : Tree V O). x.store) noted) (ap (λ (x : Tree V O). x.cache.pages) noted) (ap (λ (x : Tree V O). x.index) noted) given_gives pages h
+  pub given_shows : (pages : PageMap) → Shows s R t a pages → Shows s R u a pages
+  given_shows pages h = more_shows s R t u a (ap (λ (x : Tree V O). x.store) noted) (ap (λ (x : Tree V O). x.cache.pages) noted) (ap (λ (x : Tree V O). x.column) noted) given_gives pages h
 
-  pub given_ready : IsReady s (Shows s file_of holds) u a
+  pub given_ready : IsShown s R u a
   given_ready = record { sound = ready.sound; held = λ told. let h = ready.held told in (h.0, given_shows h.0 h.1.0) }
 
-  pub behind_there : (leaf.next ≡ 0 → ⊥) → HasLeafAt s file_of holds leaf.next u a
+  pub behind_there : (leaf.next ≡ 0 → ⊥) → HasLeafAt s R leaf.next u a
   behind_there some told = let h = ready.held told in let k = h.1.1.behind some in (h.0, k.0, given_shows h.0 h.1.0, k.1)
 
-module _ {S V O : Type 0} (s : Ghosts S) (file_of : V → ℕ) (holds : V → List ℕ → Map → Type 0) (region : V → List ℕ) (t u v w : Tree V O) (a b : S) (id : ℕ) (leaf : Leaf) (items second third : List Item) (p : Parted) (leaves : List Laid)
-    (ready : IsReady s (ShowsLeaf s file_of holds id leaf.next) t a) (noted : u ≡ record t { head = record t.head { leaf_ids = u.head.leaf_ids } }) (given : u.head.leaf_ids ≡ t.head.leaf_ids + length (parts_from t.head.leaf_ids second third)) (small : u.head.leaf_ids < node_offset)
-    (made : ArePartsOf id leaf.prev leaf.next items (parts_from t.head.leaf_ids second third) p) (adds : (pages : PageMap) → Shows s file_of holds u a pages → AddsBehind leaf.next p.last pages p.leaves leaves)
-    (looks : Looks s file_of holds u.cache.pages v.cache.pages u.store v.store a b) (still : StaysStill s file_of region u v a b) (follows : w ≡ record v { head = record v.head { last = if leaf.next == 0 then p.last else v.head.last } }) where
+module _ {S V O : Type 0} (s : Ghosts S) (R : Stores V S) (t u v w : Tree V O) (a b : S) (id : ℕ) (leaf : Leaf) (items second third : List Item) (p : Parted) (leaves : List Laid)
+    (ready : HasLeaf s R id leaf.next t a) (noted : u ≡ with_leaf_ids u.head.leaf_ids t) (given : u.head.leaf_ids ≡ t.head.leaf_ids + length (parts_from t.head.leaf_ids second third)) (small : u.head.leaf_ids < node_offset)
+    (made : ArePartsOf id leaf.prev leaf.next items (parts_from t.head.leaf_ids second third) p) (adds : AddsAll s R leaf.next p.last p.leaves u a leaves)
+    (peeks : Peeks s R u v a b) (follows : w ≡ with_last (if leaf.next == 0 then p.last else v.head.last) v) where
   abbrev parts : List Part
   parts = parts_from t.head.leaf_ids second third
 
@@ -378,7 +386,7 @@ module _ {S V O : Type 0} (s : Ghosts S) (file_of : V → ℕ) (holds : V → Li
 
   whead : w.head ≡ record t.head { last = (if leaf.next == 0 then p.last else t.head.last); leaf_ids = u.head.leaf_ids }
   whead =
-      ap (λ (x : Tree V O). x.head) follows ∙ ap (λ (h : TreeHead). record h { last = if leaf.next == 0 then p.last else h.last }) (still.head ∙ ap (λ (x : Tree V O). x.head) noted)
+      ap (λ (x : Tree V O). x.head) follows ∙ ap (λ (h : TreeHead). record h { last = if leaf.next == 0 then p.last else h.last }) (peeks.still.head ∙ ap (λ (x : Tree V O). x.head) noted)
 
   wlimit : w.head.node_limit ≡ t.head.node_limit
   wlimit = ap (λ (h : TreeHead). h.node_limit) whead
@@ -390,30 +398,32 @@ module _ {S V O : Type 0} (s : Ghosts S) (file_of : V → ℕ) (holds : V → Li
   wids = ap (λ (h : TreeHead). h.leaf_ids) whead ∙ given
 
   wpath : w.path ≡ t.path
-  wpath = ap (λ (x : Tree V O). x.path) follows ∙ still.path ∙ ap (λ (x : Tree V O). x.path) noted
+  wpath = ap (λ (x : Tree V O). x.path) follows ∙ peeks.still.path ∙ ap (λ (x : Tree V O). x.path) noted
 
   wheight : w.height ≡ t.height
-  wheight = ap (λ (x : Tree V O). x.height) follows ∙ still.height ∙ ap (λ (x : Tree V O). x.height) noted
+  wheight = ap (λ (x : Tree V O). x.height) follows ∙ peeks.still.height ∙ ap (λ (x : Tree V O). x.height) noted
 
-  wfile : file_of w.store ≡ file_of t.store
-  wfile = ap (λ (x : Tree V O). file_of x.store) follows ∙ still.file ∙ ap (λ (x : Tree V O). file_of x.store) noted
+  wmade : SameStore R t.store w.store
+  wmade =
+      same_store_then R t.store v.store w.store
+      (same_store_then R t.store u.store v.store (same_store_at s R t.store u.store (ap (λ (x : Tree V O). x.store) noted)) peeks.still.made) (same_store_at s R v.store w.store (ap (λ (x : Tree V O). x.store) follows))
 
-  shows_u : (pages : PageMap) → Shows s file_of holds t a pages → Shows s file_of holds u a pages
-  shows_u = given_shows s file_of holds t u a id leaf ready noted more_given small
+  shows_u : (pages : PageMap) → Shows s R t a pages → Shows s R u a pages
+  shows_u = given_shows s R t u a id leaf ready noted more_given small
 
-  shows_w : (pages : PageMap) → Shows s file_of holds t a pages → Shows s file_of holds w b pages
+  shows_w : (pages : PageMap) → Shows s R t a pages → Shows s R w b pages
   shows_w pages h =
-      more_shows s file_of holds v w b (ap (λ (x : Tree V O). x.store) follows) (ap (λ (x : Tree V O). x.cache.pages) follows) (ap (λ (x : Tree V O). x.index) follows)
+      more_shows s R v w b (ap (λ (x : Tree V O). x.store) follows) (ap (λ (x : Tree V O). x.cache.pages) follows) (ap (λ (x : Tree V O). x.column) follows)
       (subst (λ (x : TreeHead). Gives v.head x) (sym (ap (λ (x : Tree V O). x.head) follows)) (gives_last v.head (if leaf.next == 0 then p.last else v.head.last))) pages
-      (looked_shows s file_of holds u v a b looks still.head still.index pages (shows_u pages h))
+      (looked_shows s R u v a b peeks.looks peeks.still.head peeks.still.column pages (shows_u pages h))
 
-  pub lay_ready : IsReady s (Shows s file_of holds) w b
-  lay_ready = record { sound = looks.reads.sound; held = λ told. let h = ready.held told in (h.0, shows_w h.0 h.1.0) }
+  pub lay_ready : IsShown s R w b
+  lay_ready = record { sound = peeks.looks.reads.sound; held = λ told. let h = ready.held told in (h.0, shows_w h.0 h.1.0) }
 
-  laid : (pages : PageMap) → Shows s file_of holds t a pages → AddsBehind leaf.next (last_part id parts) pages (laid_parts id leaf.prev leaf.next items parts) leaves
+  laid : (pages : PageMap) → Shows s R t a pages → AddsBehind leaf.next (last_part id parts) pages (laid_parts id leaf.prev leaf.next items parts) leaves
   laid pages h = subst (λ (x : List Laid). AddsBehind leaf.next (last_part id parts) pages x leaves) made.leaves (subst (λ (n : ℕ). AddsBehind leaf.next n pages p.leaves leaves) made.last (adds pages (shows_u pages h)))
 
-  ids : (pages : PageMap) → ShowsLeaf s file_of holds id leaf.next t a pages → (Q : ℕ → Type 0) → ((i : ℕ) → IsLeafId t.head i → (l : Leaf) → pages i ≡ Some (leaf_page l) → Q i) → ((i : ℕ) → t.head.leaf_ids < i → i ≤ t.head.leaf_ids + length parts → Q i) → AllByRecursion (λ l. Q l.id) leaves
+  ids : (pages : PageMap) → ShowsLeaf s R id leaf.next t a pages → (Q : ℕ → Type 0) → ((i : ℕ) → IsLeafId t.head i → (l : Leaf) → pages i ≡ Some (leaf_page l) → Q i) → ((i : ℕ) → t.head.leaf_ids < i → i ≤ t.head.leaf_ids + length parts → Q i) → AllByRecursion (λ l. Q l.id) leaves
   ids pages h Q old new =
       adds_all Q leaf.next (last_part id parts) pages (laid_parts id leaf.prev leaf.next items parts) leaves (laid pages h.0)
       (laid_all Q id leaf.prev leaf.next items parts (old id (leaf_given t.head h.0.1.records pages id h.1.was h.0.1.head h.0.1.held h.1.here) h.1.was h.1.here)
@@ -427,12 +437,22 @@ module _ {S V O : Type 0} (s : Ghosts S) (file_of : V → ℕ) (holds : V → Li
       let h = ready.held told in
       ids h.0 h.1 (λ i. IsLeafId w.head i) (λ i g l e. (g.0, omega (arith, g.1, wids))) (λ i more most. (omega (arith, more), omega (arith, most, wids)))
 
-  no_nodes : (pages : PageMap) → ShowsLeaf s file_of holds id leaf.next t a pages → AllByRecursion (λ l. NoNode pages l.id) leaves
+  no_nodes : (pages : PageMap) → ShowsLeaf s R id leaf.next t a pages → AllByRecursion (λ l. NoNode pages l.id) leaves
   no_nodes pages h = ids pages h (NoNode pages) (λ i g l e n f. leaf_node l n (sym e ∙ f))
       (λ i more most n f. none_node n (sym (leaf_fresh t.head h.0.1.records pages i h.0.1.held more (omega (arith, most, given, small))) ∙ f))
     where
       none_node : (n : Node) → ◌≡◌ {A = Option Page} None (Some (node_page n)) → ⊥
       none_node n e = cc
+
+  laid_ids : (pages : PageMap) → ShowsLeaf s R id leaf.next t a pages → AllByRecursion (λ l. IsGiven t.head l.id → pages l.id ≡ None → ⊥) leaves
+  laid_ids pages h = ids pages h (λ i. IsGiven t.head i → pages i ≡ None → ⊥) (λ i g l e given_i none. none_leaf l (sym none ∙ e)) not_given
+    where
+      none_leaf : (l : Leaf) → ◌≡◌ {A = Option Page} None (Some (leaf_page l)) → ⊥
+      none_leaf l e = cc
+
+      not_given : (i : ℕ) → t.head.leaf_ids < i → i ≤ t.head.leaf_ids + length parts → IsGiven t.head i → pages i ≡ None → ⊥
+      not_given i more most (inl g) none = omega (arith, g.1, more)
+      not_given i more most (inr g) none = omega (arith, g.0, most, given, small)
 
   pub added_few : length p.added ≤ 2
   added_few = omega (arith, ap length made.added, length-map parts part_entry, (from_some t.head.leaf_ids second third).1)
@@ -445,11 +465,11 @@ module _ {S V O : Type 0} (s : Ghosts S) (file_of : V → ℕ) (holds : V → Li
   parts_have : (i j : ℕ) → second ≡ take (j - i) (drop i leaf.items) → IsCut t.head.leaf_limit leaf.items i j → AllByRecursion HasItems parts
   parts_have i j two c = from_all t.head.leaf_ids second third HasItems (subst (λ (z : List Item). 0 < length z) (sym two) (cut_middle i j t.head.leaf_limit leaf.items c)) (λ lt. lt)
 
-  module _ (x : Tree V O) (d : S) (lays : Writes s (Only (file_in file_of w)) (Shows s file_of holds) (put_laid leaves) w x b d) (still_x : StaysStill s file_of region w x b d) where
+  module _ (x : Tree V O) (d : S) (lays : Rewrites s R (put_laid leaves) w x b d) (still_x : StaysStill s R w x b d) where
     xhead : x.head ≡ w.head
     xhead = still_x.head
 
-    way_on : (pages : PageMap) → ShowsLeaf s file_of holds id leaf.next t a pages → ShowsWay s file_of holds x d (put_laid leaves pages)
+    way_on : (pages : PageMap) → ShowsLeaf s R id leaf.next t a pages → ShowsWay s R x d (put_laid leaves pages)
     way_on pages h = (
       lays.means pages (shows_w pages h.0),
       subst (λ (y : TreeHead). CanClimb y.node_limit (put_laid leaves pages) y.root x.path) (sym xhead)
@@ -457,7 +477,7 @@ module _ {S V O : Type 0} (s : Ghosts S) (file_of : V → ℕ) (holds : V → Li
           (subst (λ (q : List (ℕ × ℕ)). CanClimb t.head.node_limit (put_laid leaves pages) t.head.root q) (sym (still_x.path ∙ wpath)) (laid_way leaves t.head.node_limit pages t.head.root t.path (no_nodes pages h) h.1.way)))),
     )
 
-    pub climb_ready : IsReady s (ShowsWay s file_of holds) x d
+    pub climb_ready : HasWay s R x d
     climb_ready = record { sound = lays.sound; held = λ told. let h = ready.held told in (put_laid leaves h.0, way_on h.0 h.1) }
 
     pub climb_rows : t.height < 2 ^ 64 - 1 → x.height < 2 ^ 64 - 1
@@ -472,12 +492,10 @@ module _ {S V O : Type 0} (s : Ghosts S) (file_of : V → ℕ) (holds : V → Li
         (λ (stood : StoodIn (put_laid leaves pages) key). inr (record { id = stood.id; node = stood.node; is = laid_was leaves pages stood.id stood.node stood.is; among = stood.among }))
         k
 
-    pub lacks_climb : (fills : V → S → Map → Map → Type 0) (i j : ℕ) (e : S) → items ≡ take i leaf.items → second ≡ take (j - i) (drop i leaf.items) → third ≡ drop j leaf.items → (s.tells → IsCut t.head.leaf_limit leaf.items i j)
-        → LacksPage s file_of holds fills (λ q. (pages : PageMap) → ShowsWay s file_of holds x d pages → IsKnownNode x.head.node_limit p.added pages q) x.store d e
-        → LacksPage s file_of holds fills (λ q. (pages : PageMap) → ShowsLeaf s file_of holds id leaf.next t a pages → IsPiece t.head leaf.items leaf.next pages q) t.store a e
-    lacks_climb fills i j e one two three cut l =
-        lacks_after s file_of holds fills (λ q. (pages : PageMap) → ShowsWay s file_of holds x d pages → IsKnownNode x.head.node_limit p.added pages q) (λ q. (pages : PageMap) → ShowsLeaf s file_of holds id leaf.next t a pages → IsPiece t.head leaf.items leaf.next pages q)
-        t.store x.store a d e (keeps_then s a b d still.keeps still_x.keeps) (still_x.file ∙ wfile)
+    pub lacks_climb : (i j : ℕ) (e : S) → items ≡ take i leaf.items → second ≡ take (j - i) (drop i leaf.items) → third ≡ drop j leaf.items → (s.tells → IsCut t.head.leaf_limit leaf.items i j)
+        → LacksPage s R (IsWayNode s R p.added x d) x.store d e → LacksPage s R (IsLeafPiece s R id leaf t a) t.store a e
+    lacks_climb i j e one two three cut l =
+        lacks_after s R (IsWayNode s R p.added x d) (IsLeafPiece s R id leaf t a) t.store x.store a d e (keeps_then s a b d peeks.still.keeps still_x.keeps) (same_store_then R t.store w.store x.store wmade still_x.made)
         (λ q fine pages h.
         let n = fine (put_laid leaves pages) (way_on pages h) in
         let limit : x.head.node_limit ≡ t.head.node_limit = ap (λ (y : TreeHead). y.node_limit) xhead ∙ wlimit in
@@ -485,8 +503,8 @@ module _ {S V O : Type 0} (s : Ghosts S) (file_of : V → ℕ) (holds : V → Li
         (omega (arith, n.2, limit), all_map (λ (y : NodeEntry). IsAmong entry_key y.key p.added ⊎ StoodIn (put_laid leaves pages) y.key) (λ (y : NodeEntry). IsAmong item_key y.key leaf.items ⊎ StoodIn pages y.key) n.0.entries (λ y k. piece_key i j one two three (cut h.0.0) pages y.key k) n.3)) l
 
     module _ (i j : ℕ) (one : items ≡ take i leaf.items) (two : second ≡ take (j - i) (drop i leaf.items)) (three : third ≡ drop j leaf.items) (cut : s.tells → IsCut t.head.leaf_limit leaf.items i j)
-        (y : Tree V O) (e : S) (climb : Turns s (Only (file_in file_of x)) (ShowsWay s file_of holds) (Shows s file_of holds) (Climbs x y p.added) x y d e) (yhead : y.head ≡ record x.head { root = y.head.root; node_ids = y.head.node_ids }) where
-      climbs_as : (pages new : PageMap) → Climbs x y p.added (put_laid leaves pages) new → (half : PageMap) → put_laid leaves pages ≡ half
+        (y : Tree V O) (e : S) (climb : TurnsClimbed s R p.added x y d e) (yhead : y.head ≡ record x.head { root = y.head.root; node_ids = y.head.node_ids }) where
+      climbs_as : (pages new : PageMap) → ClimbsWith x.head.node_limit (put_laid leaves pages) new x.height y.height x.head.root y.head.root x.path p.added → (half : PageMap) → put_laid leaves pages ≡ half
           → ClimbsWith t.head.node_limit half new t.height y.height t.head.root y.head.root t.path (map part_entry parts)
       climbs_as pages new c half same =
           subst (λ (q : PageMap). ClimbsWith t.head.node_limit q new t.height y.height t.head.root y.head.root t.path (map part_entry parts)) same
@@ -496,7 +514,11 @@ module _ {S V O : Type 0} (s : Ghosts S) (file_of : V → ℕ) (holds : V → Li
           (subst (λ (q : List (ℕ × ℕ)). ClimbsWith x.head.node_limit (put_laid leaves pages) new x.height y.height x.head.root y.head.root q (map part_entry parts)) (still_x.path ∙ wpath)
           (subst (λ (q : List NodeEntry). ClimbsWith x.head.node_limit (put_laid leaves pages) new x.height y.height x.head.root y.head.root x.path q) made.added c)))))
 
-      pub parts_turn : Turns s (Only (file_in file_of t)) (ShowsLeaf s file_of holds id leaf.next) (Shows s file_of holds) (IsParted t y id leaf) t y a e
+      given_on : (j : ℕ) → IsGiven t.head j → IsGiven x.head j
+      given_on j (inl g) = inl (g.0, omega (arith, g.1, ap (λ (h : TreeHead). h.leaf_ids) xhead, wids))
+      given_on j (inr g) = inr (g.0, omega (arith, g.1, ap (λ (h : TreeHead). h.node_ids) (xhead ∙ whead)))
+
+      pub parts_turn : TurnsParted s R id leaf t y a e
       parts_turn = record {
         sound = climb.sound;
         means = λ pages h.
@@ -512,29 +534,24 @@ module _ {S V O : Type 0} (s : Ghosts S) (file_of : V → ℕ) (holds : V → Li
                 have = parts_have i j two c;
                 within = subst (λ (z : List Item). ItemsWithin t.head.leaf_limit z) (sym one) c.first;
                 are_within = from_all t.head.leaf_ids second third (λ q. ItemsWithin t.head.leaf_limit q.items) (subst (λ (z : List Item). ItemsWithin t.head.leaf_limit z) (sym two) c.second) (λ lt. subst (λ (z : List Item). ItemsWithin t.head.leaf_limit z) (sym three) c.third);
+                anew = anew_then t.head x.head pages (put_laid leaves pages) k.0 given_on (laid_anew t.head leaves pages (laid_ids pages h)) k.2.1;
                 fresh = from_fresh t.head.leaf_ids second third pages (leaf_fresh t.head h.0.1.records pages (t.head.leaf_ids + 1) h.0.1.held (omega arith) (omega (arith, given, small, (from_some t.head.leaf_ids second third).0)))
                     (λ lt. leaf_fresh t.head h.0.1.records pages (t.head.leaf_ids + 1 + 1) h.0.1.held (omega arith) (omega (arith, given, small, from_two t.head.leaf_ids second third lt)));
                 given = from_all t.head.leaf_ids second third (λ q. 1 ≤ q.id) (omega arith) (λ lt. omega arith);
                 last = ap (λ (h : TreeHead). h.last) (yhead) ∙ ap (λ (h : TreeHead). h.last) (xhead ∙ whead) ∙ ap (λ (n : ℕ). if leaf.next == 0 then n else t.head.last) made.last;
-                climbs = λ z back same held first none. climbs_as pages k.0 k.2 (with_parts pages (parted z leaf.prev leaf.next items parts) (relinked (last_id 0 (parted z leaf.prev leaf.next items parts)) back))
+                climbs = λ z back same held first none. climbs_as pages k.0 k.2.0 (with_parts pages (parted z leaf.prev leaf.next items parts) (relinked (last_id 0 (parted z leaf.prev leaf.next items parts)) back))
                     (laid_with pages id leaf.prev leaf.next items parts leaves (laid pages h.0) z back same held first none);
               },
             );
-        others = others_then s (Only (file_in file_of t)) a d e
-            (others_then s (Only (file_in file_of t)) a b d (record { same = λ told g other. looks.reads.now told g }) (others_at s _ _ b d wfile lays.others))
-            (others_at s _ _ d e (still_x.file ∙ wfile) climb.others);
+        others = others_then s (Only (file_in R t)) a d e
+            (others_then s (Only (file_in R t)) a b d (record { same = λ told g other. peeks.looks.reads.now told g }) (others_at s _ _ b d wmade.file lays.others))
+            (others_at s _ _ d e (still_x.made.file ∙ wmade.file) climb.others);
       }
 
-  module _ (fills : V → S → Map → Map → Type 0) where
-    abbrev Piece : Page → Type 0
-    Piece q = (pages : PageMap) → ShowsLeaf s file_of holds id leaf.next t a pages → IsPiece t.head leaf.items leaf.next pages q
-
-    keeps_b : Keeps s a b
-    keeps_b = still.keeps
-
+  module _ where
     pub lacks_laid : (i j : ℕ) (d : S) → items ≡ take i leaf.items → second ≡ take (j - i) (drop i leaf.items) → third ≡ drop j leaf.items → (s.tells → IsCut t.head.leaf_limit leaf.items i j)
-        → LacksPage s file_of holds fills (IsLaid leaves) w.store b d → LacksPage s file_of holds fills Piece t.store a d
-    lacks_laid i j d one two three cut l = lacks_after s file_of holds fills (IsLaid leaves) Piece t.store w.store a b d keeps_b wfile (λ q is pages h.
+        → LacksPage s R (IsLaid leaves) w.store b d → LacksPage s R (IsLeafPiece s R id leaf t a) t.store a d
+    lacks_laid i j d one two three cut l = lacks_after s R (IsLaid leaves) (IsLeafPiece s R id leaf t a) t.store w.store a b d peeks.still.keeps wmade (λ q is pages h.
         let c : IsCut t.head.leaf_limit leaf.items i j = cut h.0.0 in
         let stretches = cut_stretches i j t.head.leaf_limit leaf.items c in
         let k = adds_pages (λ z. ItemsWithin t.head.leaf_limit z × IsStretch z leaf.items) id leaf.prev leaf.next items parts pages leaves q (laid pages h.0) h.1.behind
@@ -544,40 +561,35 @@ module _ {S V O : Type 0} (s : Ghosts S) (file_of : V → ℕ) (holds : V → Li
         subst (λ (z : Page). IsPiece t.head leaf.items leaf.next pages z) (sym k.1) k.2) l
 
   -- whatever is answered
-  module _ (gains : (t.head.leaf_ids ≤ u.head.leaf_ids) × (u.head.leaf_ids ≤ t.head.leaf_ids + 2)) (x : Tree V O) (d : S) (still_x : StaysStill s file_of region w x b d) where
-    wregion : region w.store ≡ region t.store
-    wregion = ap (λ (y : Tree V O). region y.store) follows ∙ still.region_same ∙ ap (λ (y : Tree V O). region y.store) noted
-
-    windex : w.index ≡ t.index
-    windex = ap (λ (y : Tree V O). y.index) follows ∙ still.index ∙ ap (λ (y : Tree V O). y.index) noted
+  module _ (least : t.head.leaf_ids ≤ u.head.leaf_ids) (most : u.head.leaf_ids ≤ t.head.leaf_ids + 2) (x : Tree V O) (d : S) (still_x : StaysStill s R w x b d) where
+    wcolumn : w.column ≡ t.column
+    wcolumn = ap (λ (y : Tree V O). y.column) follows ∙ peeks.still.column ∙ ap (λ (y : Tree V O). y.column) noted
 
     from_head : x.head ≡ record t.head { last = (if leaf.next == 0 then p.last else t.head.last); leaf_ids = u.head.leaf_ids }
     from_head = still_x.head ∙ whead
 
-    pub widens_lay : Widens s file_of region (suc (length t.path)) t x a d
+    pub widens_lay : Widens s R (suc (length t.path)) t x a d
     widens_lay = record {
-      keeps = keeps_then s a b d still.keeps still_x.keeps;
-      file = still_x.file ∙ wfile;
-      region_same = still_x.region_same ∙ wregion;
-      index = still_x.index ∙ windex;
+      keeps = keeps_then s a b d peeks.still.keeps still_x.keeps;
+      made = same_store_then R t.store w.store x.store wmade still_x.made;
+      column = still_x.column ∙ wcolumn;
       head = from_head ∙ sym (λ i. record t.head { root = (ap (λ (h : TreeHead). h.root) from_head) i; last = (ap (λ (h : TreeHead). h.last) from_head) i; leaf_ids = (ap (λ (h : TreeHead). h.leaf_ids) from_head) i; node_ids = (ap (λ (h : TreeHead). h.node_ids) from_head) i });
-      leaves_least = omega (arith, gains.0, ap (λ (h : TreeHead). h.leaf_ids) from_head);
-      leaves_most = omega (arith, gains.1, ap (λ (h : TreeHead). h.leaf_ids) from_head);
+      leaves_least = omega (arith, least, ap (λ (h : TreeHead). h.leaf_ids) from_head);
+      leaves_most = omega (arith, most, ap (λ (h : TreeHead). h.leaf_ids) from_head);
       nodes_least = omega (arith, ap (λ (h : TreeHead). h.node_ids) from_head);
       nodes_most = omega (arith, ap (λ (h : TreeHead). h.node_ids) from_head);
       rows_least = omega (arith, still_x.height, wheight);
       rows_most = omega (arith, still_x.height, wheight);
     }
 
-    pub widens_climb : (y : Tree V O) (e : S) → Grows s file_of region (suc (length x.path)) 1 x y d e → Widens s file_of region (suc (length t.path)) t y a e
+    pub widens_climb : (y : Tree V O) (e : S) → Grows s R (suc (length x.path)) 1 x y d e → Widens s R (suc (length t.path)) t y a e
     widens_climb y e grows = record {
       keeps = keeps_then s a d e widens_lay.keeps grows.keeps;
-      file = grows.file ∙ widens_lay.file;
-      region_same = grows.region_same ∙ widens_lay.region_same;
-      index = grows.index ∙ widens_lay.index;
+      made = same_store_then R t.store x.store y.store widens_lay.made grows.made;
+      column = grows.column ∙ widens_lay.column;
       head = from_climb ∙ sym (λ i. record t.head { root = y.head.root; last = (ap (λ (h : TreeHead). h.last) from_climb) i; leaf_ids = (ap (λ (h : TreeHead). h.leaf_ids) from_climb) i; node_ids = y.head.node_ids });
-      leaves_least = omega (arith, gains.0, ap (λ (h : TreeHead). h.leaf_ids) from_climb);
-      leaves_most = omega (arith, gains.1, ap (λ (h : TreeHead). h.leaf_ids) from_climb);
+      leaves_least = omega (arith, least, ap (λ (h : TreeHead). h.leaf_ids) from_climb);
+      leaves_most = omega (arith, most, ap (λ (h : TreeHead). h.leaf_ids) from_climb);
       nodes_least = omega (arith, nodes, grows.nodes_least);
       nodes_most = omega (arith, nodes, grows.nodes_most, ap length (still_x.path ∙ wpath));
       rows_least = omega (arith, still_x.height, wheight, grows.rows_least);

@@ -1,5 +1,5 @@
 -- Leaves that are scanned one after the other.
-use Rattle.std.proofs.Common.{◌≡◌, ◌≢◌, ℕ, ◌+◌, ◌<◌, ◌≤◌, List, [], ◌∷◌, ◌++◌, Bool, true, false, Option, Some, None, length, map, take, refl, sym, ap, ◌∙◌, subst, inl, inr, ⊎_elim, arith, append_assoc, length-append}
+use Rattle.std.proofs.Common.{◌≡◌, ◌≢◌, ℕ, ◌+◌, ◌<◌, ◌≤◌, List, [], ◌∷◌, ◌++◌, true, false, Option, Some, None, length, map, take, refl, sym, ap, ◌∙◌, subst, inl, inr, ⊎_elim, arith, append_assoc, length-append}
 use Rattle.std.specs.Prelude.{nat_lt, if◌then◌else◌}
 use Rattle.std.specs.FinMap.{get}
 use Rattle.std.specs.List.{AllByRecursion, flat_map}
@@ -151,7 +151,7 @@ module _ (cmp : List ℕ → List ℕ → Ordering) (total : IsTotalOrder cmp) (
         ahead = all_from f.back (order_behind (before_by cmp) f.front (f.leaf ∷ f.back) o).2 f.high;
       }
 
-  module _ (max : ℕ) (h : TreeHead) (height : ℕ) (index : Bool) (m : Map) (ps : List Pair) (is : HoldsPairs (before_by cmp) h height index (get m) ps) where
+  module _ (max : ℕ) (h : TreeHead) (height : ℕ) (column : Option (List ℕ)) (m : Map) (ps : List Pair) (is : HoldsPairs (before_by cmp) h height column (get m) ps) where
     leaf_held : (front : List LeafAt) (l : LeafAt) (back : List LeafAt) → is.tree.leaves ≡ front ++ l ∷ back → is.tree.pages l.slot.id ≡ Some (leaf_page l.leaf)
     leaf_held front l back parts = (leaves_part is.tree.pages front (l ∷ back) (subst (λ (t : List LeafAt). LeavesHeld is.tree.pages t) parts is.tree.stands.leaves_held)).1.0
 

@@ -1,27 +1,31 @@
 -- A tree whose numbers are in its store's region.
-use Rattle.std.proofs.Common.{◌≡◌, ℕ, suc, List, ◌∷◌, ◌++◌, Bool, length, set, replicate, refl, sym, ap, ◌∙◌, subst, inl, inr, ⊎_elim}
+use Rattle.std.proofs.Common.{◌≡◌, ℕ, suc, List, ◌∷◌, ◌++◌, Bool, Option, length, set, replicate, refl, sym, ap, ◌∙◌, subst, inl, inr, ⊎_elim}
+use Rattle.std.specs.Prelude.{is_some}
 use Rattle.std.specs.FinMap.{get}
 use Rattle.tc_base.specs.Endian.{le_number, le_bytes}
 use Rattle.tc_base.specs.Files.{wrote}
 use Rattle.tc_base.specs.Maps.{Map}
+use Rattle.tc_base.specs.declared.kind.Form.{Form}
+use Rattle.tc_base.specs.declared.order.Order.{Ghosts as Orders}
 use Rattle.tc_base.specs.declared.seq.Pair.{Pair}
 use Rattle.tc_space.specs.Changes.{same}
-use Rattle.tc_space.specs.Frames.{In, Reads, Refuses, Writes}
-use Rattle.tc_space.specs.Stores.{FullBy, IsReady, Only}
+use Rattle.tc_space.specs.Frames.{Reads, Refuses}
+use Rattle.tc_space.specs.Stores.{KeepsTight, ReadyIn, WritesIn}
+use Rattle.tc_space.specs.declared.records.Records.{Ghosts as Stores}
 use Rattle.tc_space.specs.declared.space.Space.{Ghosts}
 use Rattle.bt_rows.specs.declared.head.TreeHead.{TreeHead}
 use Rattle.bt_rows.specs.declared.page.LeafAt.{LeafAt}
 use Rattle.bt_rows.specs.Heads.{head_of}
-use Rattle.bt_rows.specs.Orders.{Before}
+use Rattle.bt_rows.specs.Orders.{Before, before_by}
 use Rattle.bt_rows.specs.Rules.{B6, B7, B8, pairs_of}
 use Rattle.bt_rows.specs.Standing.{PagesStand, TreeStands, tree_pairs}
 use Rattle.bt_rows.proofs.Standing.{rows_rules}
-use Rattle.bt_cache.specs.Held.{AreSame}
+use Rattle.bt_cache.specs.Held.{AreSame, Holds, Pages}
 use Rattle.bt_tree.specs.declared.tree.Tree.{Tree}
-use Rattle.bt_tree.specs.Filling.{SettlesFull}
-use Rattle.bt_tree.specs.Meaning.{Means, file_in}
-use Rattle.bt_tree.specs.Standing.{FileStands}
+use Rattle.bt_tree.specs.Meaning.{Changes, IsOpen, Means}
+use Rattle.bt_tree.specs.Settling.{BringsPacked, BringsPairs}
 use Rattle.bt_tree.specs.Trees.{HoldsPairs}
+use Rattle.bt_tree.specs.Visits.{StaysTree}
 
 -- ---- the region
 
@@ -56,12 +60,12 @@ record Stood (before : Before) (h : TreeHead) (index : Bool) (m : Map) (ps : Lis
   tree : TreeStands before h index (get m)
   are : ps ≡ tree_pairs tree
 
-stood : (before : Before) (h : TreeHead) (height : ℕ) (index : Bool) (m : Map) (ps : List Pair) → HoldsPairs before h height index (get m) ps → Stood before h index m ps
-stood before h height index m ps p =
+stood : (before : Before) (h : TreeHead) (height : ℕ) (column : Option (List ℕ)) (m : Map) (ps : List Pair) → HoldsPairs before h height column (get m) ps → Stood before h (is_some column) m ps
+stood before h height column m ps p =
     let rules = rows_rules before p.tree.pages h.root p.tree.leaves p.tree.levels p.tree.stands in
-    let pages : PagesStand h index (get m) = record {
+    let pages : PagesStand h (is_some column) (get m) = record {
       head = p.tree.head;
-      keys = p.keys;
+      keys = p.keys.rule;
       pages = p.tree.pages;
       held = p.tree.held;
       depth = suc (length p.tree.levels);
@@ -81,50 +85,60 @@ stood before h height index m ps p =
 
 -- ---- the call
 
-module _ {S V O : Type 0} (s : Ghosts S) (file_of : V → ℕ) (holds : V → List ℕ → Map → Type 0) (region : V → List ℕ) (stands : List ℕ → Map → List ℕ → Type 0) (before : Before) (t u : Tree V O) (v w : V) (opaque : List ℕ) (old new : S)
-    (set_means : (bytes : List ℕ) (m : Map) → holds t.store bytes m → holds v bytes m) (set_file : file_of v ≡ file_of t.store) (head : u.head ≡ t.head) (height : u.height ≡ t.height) (index : u.index ≡ t.index) (cache : u.cache ≡ t.cache) (store : u.store ≡ w) where
-  at_store : (m : Map) → In s file_of holds t.store old m → In s file_of holds v old m
-  at_store m i = (i.0, subst (λ (f : ℕ). holds v (s.now old f) m) (sym set_file) (set_means (s.now old (file_of t.store)) m i.1))
+-- v is the store of t with another region, w that of u in the end
+module _ {S V O : Type 0} (s : Ghosts S) (R : Stores V S) (o : Orders O) (t u : Tree V O) (v w : V) (old new : S)
+    (set_means : (bytes : List ℕ) (m : Map) → R.holds t.store bytes m → R.holds v bytes m) (set_file : R.file_of v ≡ R.file_of t.store) (ends : u.store ≡ w) (stays : StaysTree t u) (pages : u.cache.pages ≡ t.cache.pages) where
+  at_store : (m : Map) → Holds s R t.store old m → Holds s R v old m
+  at_store m i = (i.0, subst (λ (f : ℕ). R.holds v (s.now old f) m) (sym set_file) (set_means (s.now old (R.file_of t.store)) m i.1))
 
-  pub store_ready : IsReady s (Means s file_of holds before) t old → IsReady s (In s file_of holds) v old
-  store_ready r = record { sound = r.sound; held = λ told. let h = r.held told in (h.1.1.0, at_store h.1.1.0 (told, h.1.1.1)) }
+  pub store_ready : IsOpen s R o t old → ReadyIn s R.file_of R.holds v old
+  store_ready r = record { sound = r.sound; held = λ told. let h = r.held told in (h.1.1.records, at_store h.1.1.records (told, h.1.1.store)) }
 
-  pairs_on : (m : Map) (ps : List Pair) → HoldsPairs before t.head t.height t.index (get m) ps → HoldsPairs before u.head u.height u.index (get m) ps
-  pairs_on m ps p =
-      subst (λ (h : TreeHead). HoldsPairs before h u.height u.index (get m) ps) (sym head)
-      (subst (λ (n : ℕ). HoldsPairs before t.head n u.index (get m) ps) (sym height) (subst (λ (b : Bool). HoldsPairs before t.head t.height b (get m) ps) (sym index) p))
-
-  means_on : ((m : Map) → In s file_of holds v old m → In s file_of holds w new m) → (ps : List Pair) → Means s file_of holds before t old ps → Means s file_of holds before u new ps
+  means_on : ((m : Map) → Holds s R v old m → Holds s R w new m) → (ps : List Pair) → Means s R o t old ps → Means s R o u new ps
   means_on on ps means =
-      let i = on means.1.0 (at_store means.1.0 (means.0, means.1.1)) in
-      (i.0, (means.1.0, subst (λ (x : V). holds x (s.now new (file_of x)) means.1.0) (sym store) i.1, ap_same means.1.0 means.1.2, pairs_on means.1.0 ps means.1.3))
-    where
-      ap_same : (m : Map) → AreSame m t.cache.pages.entries → AreSame m u.cache.pages.entries
-      ap_same m a = subst (λ c. AreSame m c.pages.entries) (sym cache) a
+      let m : Map = means.1.records in
+      let i = on m (at_store m (means.0, means.1.store)) in (
+        i.0,
+        record {
+          records = m;
+          store = subst (λ (x : V). R.holds x (s.now new (R.file_of x)) m) (sym ends) i.1;
+          same = subst (λ (c : Pages). AreSame m c.entries) (sym pages) means.1.same;
+          order = ap (λ (h : TreeHead). h.order) stays.head ∙ means.1.order;
+          is = subst (λ (h : TreeHead). HoldsPairs (before_by o.cmp) h u.height u.column (get m) ps) (sym stays.head)
+              (subst (λ (n : ℕ). HoldsPairs (before_by o.cmp) t.head n u.column (get m) ps) (sym stays.height) (subst (λ (c : Option (List ℕ)). HoldsPairs (before_by o.cmp) t.head t.height c (get m) ps) (sym stays.column) means.1.is));
+        },
+      )
 
-  pub settles : Writes s (Only (file_of v)) (In s file_of holds) same v w old new → Writes s (Only (file_in file_of t)) (Means s file_of holds before) same t u old new
+  pub settles : WritesIn s R.file_of R.holds same v w old new → Changes s R o same t u old new
   settles writes = record {
     sound = writes.sound;
     means = means_on writes.means;
     others = record { same = λ told g other. writes.others.same told g (λ is. absurd (other (is ∙ set_file))) };
   }
 
-  pub settle_refused : Refuses s (In s file_of holds) v w old new → Refuses s (Means s file_of holds before) t u old new
-  settle_refused r = ⊎_elim (λ spoiled. inl spoiled) (λ (reads : Reads s (In s file_of holds) v w old new). inr (record { now = reads.now; touched = reads.touched; sound = reads.sound; means = means_on reads.means })) r
+  pub settle_refused : Refuses s (Holds s R) v w old new → Refuses s (Means s R o) t u old new
+  settle_refused r = ⊎_elim (λ spoiled. inl spoiled) (λ (reads : Reads s (Holds s R) v w old new). inr (record { now = reads.now; touched = reads.touched; sound = reads.sound; means = means_on reads.means })) r
 
-  pub settle_full : (fills : V → S → Map → Map → Type 0) → FullBy (In s file_of holds) fills same v old new → SettlesFull (In s file_of holds) file_of fills t.store old new
-  settle_full fills full = record { store = v; file = set_file; held = at_store; by = full }
-
-  pub settle_stands : head_of opaque ≡ t.head → region v ≡ opaque → ((m : Map) → In s file_of holds v old m → stands (s.now new (file_of v)) m (region v))
-      → (ps : List Pair) → Means s file_of holds before t old ps → FileStands stands before t.index (s.now new (file_in file_of t)) ps
-  settle_stands is in_region stood_for ps means =
-      let m : Map = means.1.0 in
-      let here : head_of (region v) ≡ t.head = ap head_of in_region ∙ is in
-      let all : Stood before (head_of (region v)) t.index m ps = subst (λ (h : TreeHead). Stood before h t.index m ps) (sym here) (stood before t.head t.height t.index m ps means.1.3) in
+module _ {S V O : Type 0} (s : Ghosts S) (R : Stores V S) (o : Orders O) (t : Tree V O) (v : V) (old new : S)
+    (set_means : (bytes : List ℕ) (m : Map) → R.holds t.store bytes m → R.holds v bytes m) (set_file : R.file_of v ≡ R.file_of t.store) where
+  pub settle_stands : (opaque : List ℕ) → head_of opaque ≡ t.head → R.region v ≡ opaque → R.sort v ≡ R.sort t.store
+      → ((m : Map) → Holds s R v old m → R.stands (R.sort v) (s.now new (R.file_of v)) m (R.region v)) → BringsPairs s R o t old new
+  settle_stands opaque is in_region sort stood_for ps means =
+      let m : Map = means.1.records in
+      let all : Stood (before_by o.cmp) t.head (is_some t.column) m ps = stood (before_by o.cmp) t.head t.height t.column m ps means.1.is in
       record {
         records = m;
-        region = region v;
-        file = subst (λ (f : ℕ). stands (s.now new f) m (region v)) set_file (stood_for m (at_store m (means.0, means.1.1)));
+        region = R.region v;
+        numbers = ap head_of in_region ∙ is;
+        order = means.1.order;
+        file = subst (λ (k : ℕ). R.stands k (s.now new (R.file_of t.store)) m (R.region v)) sort
+            (subst (λ (f : ℕ). R.stands (R.sort v) (s.now new f) m (R.region v)) set_file (stood_for m (at_store s R o t t v t.store old new set_means set_file refl (record { head = refl; height = refl; column = refl }) refl m (means.0, means.1.store))));
         tree = all.tree;
+        has = means.1.is.keys.has;
         are = all.are;
       }
+
+  pub settle_packs : KeepsTight R.tight t.store v → ((form : Form) (m : Map) → R.tight v form → Holds s R v old m → R.packed form (s.now new (R.file_of v))) → BringsPacked s R o t old new
+  settle_packs tight packs form ps is means =
+      subst (λ (f : ℕ). R.packed form (s.now new f)) set_file
+      (packs form means.1.records (tight form is) (at_store s R o t t v t.store old new set_means set_file refl (record { head = refl; height = refl; column = refl }) refl means.1.records (means.0, means.1.store)))

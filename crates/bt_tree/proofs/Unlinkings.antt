@@ -3,23 +3,24 @@ use Rattle.std.proofs.Common.{◌≡◌, ◌≢◌, ◌⊎◌, ℕ, suc, List, [
 use Rattle.std.specs.Prelude.{◌==◌, if◌then◌else◌, is_some}
 use Rattle.std.specs.List.{AllByRecursion}
 use Rattle.std.proofs.lemmas.Bool.{cases_eq}
-use Rattle.tc_base.specs.Maps.{Map}
-use Rattle.tc_space.specs.Frames.{Keeps, Writes, keeps_refl, keeps_then}
-use Rattle.tc_space.specs.Stores.{IsReady, Only}
+use Rattle.tc_base.specs.declared.order.Order.{Ghosts as Orders}
+use Rattle.tc_space.specs.Frames.{keeps_refl}
+use Rattle.tc_space.specs.declared.records.Records.{Ghosts as Stores}
 use Rattle.tc_space.specs.declared.space.Space.{Ghosts}
 use Rattle.bt_page.specs.Limits.{NodeWithin}
 use Rattle.bt_page.specs.declared.page.Leaf.{Leaf}
 use Rattle.bt_page.specs.declared.page.Node.{Node}
+use Rattle.bt_page.specs.declared.page.NodeEntry.{NodeEntry}
 use Rattle.bt_rows.specs.declared.head.TreeHead.{TreeHead}
 use Rattle.bt_rows.specs.declared.page.LeafAt.{LeafAt}
 use Rattle.bt_rows.specs.declared.page.Page.{Page}
 use Rattle.bt_rows.specs.declared.page.Page.TheVariants.{Leaf as leaf_page, Node as node_page}
 use Rattle.bt_rows.specs.Levels.{NodeAt, NodesHeld, LevelsHeld, Stands}
-use Rattle.bt_rows.specs.Orders.{Before, IsOrder}
+use Rattle.bt_rows.specs.Orders.{IsOrder, before_by}
 use Rattle.bt_rows.specs.Pages.{PageMap, IsGiven}
 use Rattle.bt_rows.specs.Rows.{root_slot, held}
 use Rattle.bt_rows.specs.Rules.{B5, IsWithin, LeafLimits, pairs_of}
-use Rattle.bt_cache.specs.Effects.{Looks}
+use Rattle.bt_cache.specs.Effects.{same_store_refl}
 use Rattle.bt_ways.specs.Climbs.{IsHeldWay}
 use Rattle.bt_ways.specs.Removals.{CutsFrom, LeavesAfter, no_items, page_next, page_prev, with_items, with_next, with_prev, without_leaf, without_way}
 use Rattle.bt_ways.specs.Ways.{Crumb, path_of, rows_of}
@@ -27,16 +28,16 @@ use Rattle.bt_ways.specs.Writes.{drop_at, put_at}
 use Rattle.bt_ways.proofs.Climbing.{held_in_row}
 use Rattle.bt_ways.proofs.Counts.{drops, puts, times_none}
 use Rattle.bt_ways.proofs.HeldWays.{before_there, behind_there, found_page, found_way}
+use Rattle.bt_ways.proofs.Keys.{all_map}
 use Rattle.bt_ways.proofs.RemovingLeaves.{leaf_goes}
 use Rattle.bt_ways.proofs.RemovingLimits.{fewer_within, without_within}
 use Rattle.bt_ways.proofs.RemovingLinks.{none_front, none_back}
 use Rattle.bt_ways.proofs.RemovingRoots.{only_leaf_empties}
 use Rattle.bt_tree.specs.declared.tree.Tree.{Tree}
-use Rattle.bt_tree.specs.Climbing.{CanClimb, NodesWithin, ShowsWay}
-use Rattle.bt_tree.specs.Meaning.{file_in}
-use Rattle.bt_tree.specs.Paging.{HasLeafAt, IsLeafId, LacksPage, Shows, Turns}
-use Rattle.bt_tree.specs.Removing.{AtLast, Becomes, Cuts, InRows, IsRemnant, LacksRoom, RefusesDrop, ShowsLast, ShowsLink, ShowsLinks, ShowsRows, SinksTo, Vacated, Vacates, without_linked}
-use Rattle.bt_tree.proofs.Droppings.{SameIds, given_same, leaf_id_shown, node_id_shown, none_at_zero, refuses_after, room_after, same_shows}
+use Rattle.bt_tree.specs.Climbing.{CanClimb, HasWay, NodesWithin, ShowsWay, StoodIn}
+use Rattle.bt_tree.specs.Paging.{HasLeafAt, IsLeafId, IsPageOf, IsShown, LacksPage, Peeks, PutsAt, Rewrites, Shows}
+use Rattle.bt_tree.specs.Removing.{AtLast, Cuts, HasLast, HasLink, HasLinks, HasRows, InRows, IsRemnant, LacksCut, LacksLast, LacksLink, LacksLinks, Narrows, ShowsLast, ShowsLink, ShowsLinks, SinksTo, StaysBeside, StaysNumbered, TurnsCut, TurnsLinked, TurnsSunk, TurnsUnlinked, TurnsVacated, Vacated, first_after, last_after, without_linked}
+use Rattle.bt_tree.proofs.Droppings.{SameIds, given_same, leaf_id_shown, narrow_ids, node_id_shown, none_at_zero, room_after, same_shows}
 use Rattle.bt_tree.proofs.Pagings.{lacks_after, looked_shows, others_at}
 use Rattle.bt_tree.proofs.Prunings.{dropped_was}
 
@@ -114,101 +115,108 @@ prev_relinks id prev = record {
     back true (Some (leaf_page l)) n is = absurd (cc)
     back true (Some (node_page m)) n is = is
 
-pub remnant_relinked : (f : PageMap → PageMap) → IsRelink f → (h k : TreeHead) (pages : PageMap) (p : Page) → k.node_limit ≡ h.node_limit → IsRemnant k (f pages) p → IsRemnant h pages p
-remnant_relinked f r h k pages (leaf_page l) e (inl none) = inl none
-remnant_relinked f r h k pages (leaf_page l) e (inr x) = let y = r.leaf_was pages x.id x.was x.there in inr (record { id = x.id; was = y.0; there = y.1; same = x.same ∙ y.2 })
-remnant_relinked f r h k pages (node_page n) e within = omega (arith, within, e)
+-- what is left where a leaf goes is so too, as seen before such a change
+seen_before : (f : PageMap → PageMap) (pages : PageMap) → ((j : ℕ) (k : Leaf) → f pages j ≡ Some (leaf_page k) → (l : Leaf) × (pages j ≡ Some (leaf_page l)) × (k.items ≡ l.items)) → ((j : ℕ) (n : Node) → f pages j ≡ Some (node_page n) → pages j ≡ Some (node_page n))
+    → (h k : TreeHead) (p : Page) → k.node_limit ≡ h.node_limit → IsRemnant k (f pages) p → IsRemnant h pages p
+seen_before f pages leaf_was node_was h k (leaf_page l) e (inl none) = inl none
+seen_before f pages leaf_was node_was h k (leaf_page l) e (inr x) = let y = leaf_was x.id x.was x.there in inr (record { id = x.id; was = y.0; there = y.1; same = x.same ∙ y.2 })
+seen_before f pages leaf_was node_was h k (node_page n) e known = (
+  omega (arith, known.0, e),
+  all_map (λ (x : NodeEntry). StoodIn (f pages) x.key) (λ (x : NodeEntry). StoodIn pages x.key) n.entries (λ x stood. record { id = stood.id; node = stood.node; is = node_was stood.id stood.node stood.is; among = stood.among }) known.1,
+)
+
+remnant_relinked : (f : PageMap → PageMap) → IsRelink f → (h k : TreeHead) (pages : PageMap) (p : Page) → k.node_limit ≡ h.node_limit → IsRemnant k (f pages) p → IsRemnant h pages p
+remnant_relinked f r h k pages p e known = seen_before f pages (r.leaf_was pages) (r.node_was pages) h k p e known
 
 -- ---- one link
 
-module _ {S V O : Type 0} (s : Ghosts S) (file_of : V → ℕ) (holds : V → List ℕ → Map → Type 0) (id : ℕ) (f : PageMap → PageMap) where
-  pub link_none : ((pages : PageMap) → pages id ≡ None → pages ≡ f pages) → (t u : Tree V O) (a : S) → s.sound a → id ≡ 0 → u.store ≡ t.store → u.cache.pages ≡ t.cache.pages → u.index ≡ t.index → SameIds t.head u.head
-      → Turns s (Only (file_in file_of t)) (ShowsLink s file_of holds id) (Shows s file_of holds) (Becomes f) t u a a
-  link_none stays t u a sound zero_id store cache index ids = record {
+module _ {S V O : Type 0} (s : Ghosts S) (R : Stores V S) (id : ℕ) (f : PageMap → PageMap) where
+  pub link_none : ((pages : PageMap) → pages id ≡ None → pages ≡ f pages) → (t u : Tree V O) (a : S) → s.sound a → id ≡ 0 → u.store ≡ t.store → u.cache.pages ≡ t.cache.pages → u.column ≡ t.column → SameIds t.head u.head → TurnsLinked s R id f t u a a
+  link_none stays t u a sound zero_id store cache column ids = record {
     sound = sound;
     means = λ pages h.
-        let none : pages id ≡ None = ap pages zero_id ∙ none_at_zero s file_of holds t a pages h.0 in
-        (pages, same_shows s file_of holds t u a store cache index ids pages h.0, stays pages none);
+        let none : pages id ≡ None = ap pages zero_id ∙ none_at_zero s R t a pages h.0 in
+        (pages, same_shows s R t u a store cache column ids pages h.0, stays pages none);
     others = record { same = λ told g other. refl };
   }
 
-  pub link_ready : (t : Tree V O) (a : S) → IsReady s (ShowsLink s file_of holds id) t a → IsReady s (Shows s file_of holds) t a
+  pub link_ready : (t : Tree V O) (a : S) → HasLink s R id t a → IsShown s R t a
   link_ready t a ready = record { sound = ready.sound; held = λ told. let h = ready.held told in (h.0, h.1.0) }
 
-  pub link_there : (t : Tree V O) (a : S) → (id ≡ 0 → ⊥) → IsReady s (ShowsLink s file_of holds id) t a → HasLeafAt s file_of holds id t a
+  pub link_there : (t : Tree V O) (a : S) → (id ≡ 0 → ⊥) → HasLink s R id t a → HasLeafAt s R id t a
   link_there t a some ready = λ told. let h = ready.held told in let l = h.1.1 some in (h.0, l.0, h.1.0, l.1)
 
   module _ (relink : Leaf → Leaf) (put_is : (l : Leaf) (pages : PageMap) → pages id ≡ Some (leaf_page l) → put_at id (leaf_page (relink l)) pages ≡ f pages) (items : (l : Leaf) → (relink l).items ≡ l.items)
-      (t v : Tree V O) (a b : S) (some : id ≡ 0 → ⊥) (looks : Looks s file_of holds t.cache.pages v.cache.pages t.store v.store a b) (vfile : file_of v.store ≡ file_of t.store) (vhead : v.head ≡ t.head) (vindex : v.index ≡ t.index)
-      (read : Leaf) (is_read : (pages : PageMap) (l : Leaf) → Shows s file_of holds t a pages → pages id ≡ Some (leaf_page l) → read ≡ l) where
-    here : (pages : PageMap) → ShowsLink s file_of holds id t a pages → pages id ≡ Some (leaf_page read)
+      (t v : Tree V O) (a b : S) (some : id ≡ 0 → ⊥) (peeks : Peeks s R t v a b) (read : Leaf) (is_read : IsPageOf s R leaf_page id t a read) where
+    here : (pages : PageMap) → ShowsLink s R id t a pages → pages id ≡ Some (leaf_page read)
     here pages h = let x = h.1 some in x.1 ∙ ap (λ (l : Leaf). Some (leaf_page l)) (sym (is_read pages x.0 h.0 x.1))
 
-    pub linked_ready : IsReady s (ShowsLink s file_of holds id) t a → IsReady s (Shows s file_of holds) v b
-    linked_ready ready = record { sound = looks.reads.sound; held = λ told. let h = ready.held told in (h.0, looked_shows s file_of holds t v a b looks vhead vindex h.0 h.1.0) }
+    now : (pages : PageMap) → ShowsLink s R id t a pages → Shows s R v b pages
+    now pages h = looked_shows s R t v a b peeks.looks peeks.still.head peeks.still.column pages h.0
 
-    pub linked_id : IsReady s (ShowsLink s file_of holds id) t a → s.tells → IsLeafId v.head id
-    linked_id ready told = let h = ready.held told in leaf_id_shown s file_of holds v b h.0 id read (looked_shows s file_of holds t v a b looks vhead vindex h.0 h.1.0) (here h.0 h.1)
+    pub linked_ready : HasLink s R id t a → IsShown s R v b
+    linked_ready ready = record { sound = peeks.looks.reads.sound; held = λ told. let h = ready.held told in (h.0, now h.0 h.1) }
 
-    pub link_put : (u : Tree V O) (d : S) → Writes s (Only (file_in file_of v)) (Shows s file_of holds) (put_at id (leaf_page (relink read))) v u b d
-        → Turns s (Only (file_in file_of t)) (ShowsLink s file_of holds id) (Shows s file_of holds) (Becomes f) t u a d
+    pub linked_id : HasLink s R id t a → s.tells → IsLeafId v.head id
+    linked_id ready told = let h = ready.held told in leaf_id_shown s R v b h.0 id read (now h.0 h.1) (here h.0 h.1)
+
+    pub link_put : (u : Tree V O) (d : S) → PutsAt s R id (leaf_page (relink read)) v u b d → TurnsLinked s R id f t u a d
     link_put u d writes = record {
       sound = writes.sound;
-      means = λ pages h. (put_at id (leaf_page (relink read)) pages, writes.means pages (looked_shows s file_of holds t v a b looks vhead vindex pages h.0), put_is read pages (here pages h));
-      others = record { same = λ told g other. (others_at s _ _ b d vfile writes.others).same told g other ∙ looks.reads.now told g };
+      means = λ pages h. (put_at id (leaf_page (relink read)) pages, writes.means pages (now pages h), put_is read pages (here pages h));
+      others = record { same = λ told g other. (others_at s _ _ b d peeks.still.made.file writes.others).same told g other ∙ peeks.looks.reads.now told g };
     }
 
-    pub link_full : (fills : V → S → Map → Map → Type 0) (d : S) → LacksPage s file_of holds fills (λ p. p ≡ leaf_page (relink read)) v.store b d
-        → LacksRoom s file_of holds fills (λ p. (pages : PageMap) → ShowsLink s file_of holds id t a pages → IsRemnant t.head pages p) t.store a d
-    link_full fills d l =
-        inl (lacks_after s file_of holds fills (λ p. p ≡ leaf_page (relink read)) (λ p. (pages : PageMap) → ShowsLink s file_of holds id t a pages → IsRemnant t.head pages p) t.store v.store a b d looks.keeps vfile
+    pub link_full : (d : S) → LacksPage s R (λ p. p ≡ leaf_page (relink read)) v.store b d → LacksLink s R id t a d
+    link_full d l =
+        inl (lacks_after s R _ _ t.store v.store a b d peeks.looks.keeps peeks.looks.made
         (λ p is pages h. subst (λ (q : Page). IsRemnant t.head pages q) (sym is) (inr (record { id = id; was = read; there = here pages h; same = items read }))) l)
 
 -- ---- both links, and the page itself
 
-module _ {S V O : Type 0} (s : Ghosts S) (file_of : V → ℕ) (holds : V → List ℕ → Map → Type 0) (id prev next : ℕ) where
-  pub first_ready : (t : Tree V O) (a : S) → IsReady s (ShowsLinks s file_of holds prev next) t a → IsReady s (ShowsLink s file_of holds prev) t a
+module _ {S V O : Type 0} (s : Ghosts S) (R : Stores V S) (id prev next : ℕ) where
+  pub first_ready : (t : Tree V O) (a : S) → HasLinks s R prev next t a → HasLink s R prev t a
   first_ready t a ready = record { sound = ready.sound; held = λ told. let h = ready.held told in (h.0, (h.1.0, h.1.1.0)) }
 
-  pub first_full : (fills : V → S → Map → Map → Type 0) (t : Tree V O) (a d : S) → LacksRoom s file_of holds fills (λ p. (pages : PageMap) → ShowsLink s file_of holds prev t a pages → IsRemnant t.head pages p) t.store a d
-      → LacksRoom s file_of holds fills (λ p. (pages : PageMap) → ShowsLinks s file_of holds prev next t a pages → IsRemnant t.head pages p) t.store a d
-  first_full fills t a d l = room_after s file_of holds fills _ _ t.store t.store a a d (keeps_refl s a) refl (λ p fine pages h. fine pages (h.0, h.1.0)) l
+  pub first_full : (t : Tree V O) (a d : S) → LacksLink s R prev t a d → LacksLinks s R prev next t a d
+  first_full t a d l = room_after s R _ _ t.store t.store a a d (keeps_refl s a) (same_store_refl R t.store) (λ p fine pages h. fine pages (h.0, h.1.0)) l
 
-  module _ (t v : Tree V O) (a b : S) (first : Turns s (Only (file_in file_of t)) (ShowsLink s file_of holds prev) (Shows s file_of holds) (Becomes (with_next prev next)) t v a b) (keeps : Keeps s a b) (vfile : file_of v.store ≡ file_of t.store) (vids : SameIds t.head v.head) where
-    one : (pages : PageMap) → ShowsLinks s file_of holds prev next t a pages → ShowsLink s file_of holds next v b (with_next prev next pages)
+  module _ (t v : Tree V O) (a b : S) (first : TurnsLinked s R prev (with_next prev next) t v a b) (narrows : Narrows s R t v a b) where
+    ids_on : SameIds t.head v.head
+    ids_on = narrow_ids t.head v.head narrows.head
+
+    one : (pages : PageMap) → ShowsLinks s R prev next t a pages → ShowsLink s R next v b (with_next prev next pages)
     one pages h =
         let k = first.means pages (h.0, h.1.0) in
-        (subst (λ (p : PageMap). Shows s file_of holds v b p) k.2 k.1, λ some. let l = h.1.1 some in (next_relinks prev next).leaf_on pages next l.0 l.1)
+        (subst (λ (p : PageMap). Shows s R v b p) k.2 k.1, λ some. let l = h.1.1 some in (next_relinks prev next).leaf_on pages next l.0 l.1)
 
-    pub second_ready : IsReady s (ShowsLinks s file_of holds prev next) t a → IsReady s (ShowsLink s file_of holds next) v b
+    pub second_ready : HasLinks s R prev next t a → HasLink s R next v b
     second_ready ready = record { sound = first.sound; held = λ told. let h = ready.held told in (with_next prev next h.0, one h.0 h.1) }
 
-    pub second_full : (fills : V → S → Map → Map → Type 0) (d : S) → LacksRoom s file_of holds fills (λ p. (pages : PageMap) → ShowsLink s file_of holds next v b pages → IsRemnant v.head pages p) v.store b d
-        → LacksRoom s file_of holds fills (λ p. (pages : PageMap) → ShowsLinks s file_of holds prev next t a pages → IsRemnant t.head pages p) t.store a d
-    second_full fills d l =
-        room_after s file_of holds fills (λ p. (pages : PageMap) → ShowsLink s file_of holds next v b pages → IsRemnant v.head pages p) (λ p. (pages : PageMap) → ShowsLinks s file_of holds prev next t a pages → IsRemnant t.head pages p) t.store v.store a b d keeps vfile
-        (λ p fine pages h. remnant_relinked (with_next prev next) (next_relinks prev next) t.head v.head pages p vids.node_limit (fine (with_next prev next pages) (one pages h))) l
+    pub second_full : (d : S) → LacksLink s R next v b d → LacksLinks s R prev next t a d
+    second_full d l =
+        room_after s R _ _ t.store v.store a b d narrows.keeps narrows.made
+        (λ p fine pages h. remnant_relinked (with_next prev next) (next_relinks prev next) t.head v.head pages p ids_on.node_limit (fine (with_next prev next pages) (one pages h))) l
 
-    module _ (w : Tree V O) (d : S) (second : Turns s (Only (file_in file_of v)) (ShowsLink s file_of holds next) (Shows s file_of holds) (Becomes (with_prev next prev)) v w b d) (more : Keeps s b d) (wfile : file_of w.store ≡ file_of v.store) (wids : SameIds v.head w.head) where
-      two : (pages : PageMap) → ShowsLinks s file_of holds prev next t a pages → Shows s file_of holds w d (with_prev next prev (with_next prev next pages))
-      two pages h = let k = second.means (with_next prev next pages) (one pages h) in subst (λ (p : PageMap). Shows s file_of holds w d p) k.2 k.1
+    module _ (w : Tree V O) (d : S) (second : TurnsLinked s R next (with_prev next prev) v w b d) (more : Narrows s R v w b d) where
+      two : (pages : PageMap) → ShowsLinks s R prev next t a pages → Shows s R w d (with_prev next prev (with_next prev next pages))
+      two pages h = let k = second.means (with_next prev next pages) (one pages h) in subst (λ (p : PageMap). Shows s R w d p) k.2 k.1
 
-      pub drop_ready : IsReady s (ShowsLinks s file_of holds prev next) t a → IsReady s (Shows s file_of holds) w d
+      pub drop_ready : HasLinks s R prev next t a → IsShown s R w d
       drop_ready ready = record { sound = second.sound; held = λ told. let h = ready.held told in (with_prev next prev (with_next prev next h.0), two h.0 h.1) }
 
       pub drop_given : (s.tells → IsGiven t.head id) → s.tells → IsGiven w.head id
-      drop_given given told = given_same v.head w.head id wids (given_same t.head v.head id vids (given told))
+      drop_given given told = given_same v.head w.head id (narrow_ids v.head w.head more.head) (given_same t.head v.head id ids_on (given told))
 
-      pub all_linked : (u : Tree V O) (e : S) → Writes s (Only (file_in file_of w)) (Shows s file_of holds) (drop_at id) w u d e
-          → Turns s (Only (file_in file_of t)) (ShowsLinks s file_of holds prev next) (Shows s file_of holds) (Becomes (without_linked id prev next)) t u a e
+      pub all_linked : (u : Tree V O) (e : S) → Rewrites s R (drop_at id) w u d e → TurnsUnlinked s R id prev next t u a e
       all_linked u e out = record {
         sound = out.sound;
         means = λ pages h. (without_linked id prev next pages, out.means (with_prev next prev (with_next prev next pages)) (two pages h), refl);
-        others = record { same = λ told g other. (others_at s _ _ d e (wfile ∙ vfile) out.others).same told g other ∙ (others_at s _ _ b d vfile second.others).same told g other ∙ first.others.same told g other };
+        others = record {
+          same = λ told g other.
+              (others_at s _ _ d e (more.made.file ∙ narrows.made.file) out.others).same told g other ∙ (others_at s _ _ b d narrows.made.file second.others).same told g other ∙ first.others.same told g other;
+        };
       }
-
-      pub dropped_full : (fills : V → S → Map → Map → Type 0) (P : Page → Type 0) (e : S) → RefusesDrop s file_of holds fills w.store d e → LacksRoom s file_of holds fills P t.store a e
-      dropped_full fills P e l = inr (refuses_after s file_of holds fills t.store w.store a d e (keeps_then s a b d keeps more) (wfile ∙ vfile) l)
 
 -- ---- what the rows keep
 
@@ -241,9 +249,7 @@ module _ (id prev next : ℕ) (pages : PageMap) where
       (y.0, y.1, x.2 ∙ y.2)
 
   remnant_unlinked : (h k : TreeHead) (p : Page) → k.node_limit ≡ h.node_limit → IsRemnant k (without_linked id prev next pages) p → IsRemnant h pages p
-  remnant_unlinked h k (leaf_page l) e (inl none) = inl none
-  remnant_unlinked h k (leaf_page l) e (inr x) = let y = unlinked_leaf x.id x.was x.there in inr (record { id = x.id; was = y.0; there = y.1; same = x.same ∙ y.2 })
-  remnant_unlinked h k (node_page n) e within = omega (arith, within, e)
+  remnant_unlinked h k p e known = seen_before (without_linked id prev next) pages unlinked_leaf unlinked_was h k p e known
 
 within_of : (h : TreeHead) (pages : PageMap) → B5 h pages → NodesWithin h.node_limit pages
 within_of h pages b j n is = subst (λ (p : Option Page). IsWithin h j p) is (b j)
@@ -266,50 +272,54 @@ limits_moved h k old new same fewer moved b j = ⊎_elim (λ (e : new j ≡ old 
 
 -- ---- a leaf with neighbours goes
 
-module _ {S V O : Type 0} (s : Ghosts S) (file_of : V → ℕ) (holds : V → List ℕ → Map → Type 0) (before : Before) (id prev next : ℕ) where
-  pub last_ready : (t : Tree V O) (a : S) → IsReady s (ShowsLast s file_of holds before id prev next) t a → IsReady s (Shows s file_of holds) t a
+module _ {S V O : Type 0} (s : Ghosts S) (R : Stores V S) (o : Orders O) (id prev next : ℕ) where
+  pub last_ready : (t : Tree V O) (a : S) → HasLast s R o id prev next t a → IsShown s R t a
   last_ready t a ready = record { sound = ready.sound; held = λ told. let h = ready.held told in (h.0, h.1.0) }
 
-  there : (t : Tree V O) (pages : PageMap) (l : AtLast before t.head t.height t.path id prev next pages) → pages id ≡ Some (leaf_page l.found.leaf.leaf)
-  there t pages l = found_page before pages t.head.root l.key l.leaves l.levels t.path id l.stands l.found
+  there : (t : Tree V O) (pages : PageMap) (l : AtLast (before_by o.cmp) t.head t.height t.path id prev next pages) → pages id ≡ Some (leaf_page l.found.leaf.leaf)
+  there t pages l = found_page (before_by o.cmp) pages t.head.root l.key l.leaves l.levels t.path id l.stands l.found
 
-  pub last_given : (t : Tree V O) (a : S) → IsReady s (ShowsLast s file_of holds before id prev next) t a → s.tells → IsGiven t.head id
-  last_given t a ready told = let h = ready.held told in inl (leaf_id_shown s file_of holds t a h.0 id h.1.1.found.leaf.leaf h.1.0 (there t h.0 h.1.1))
+  pub last_given : (t : Tree V O) (a : S) → HasLast s R o id prev next t a → s.tells → IsGiven t.head id
+  last_given t a ready told = let h = ready.held told in inl (leaf_id_shown s R t a h.0 id h.1.1.found.leaf.leaf h.1.0 (there t h.0 h.1.1))
 
-  links_there : (t : Tree V O) (a : S) (pages : PageMap) → ShowsLast s file_of holds before id prev next t a pages → ShowsLinks s file_of holds prev next t a pages
+  links_there : (t : Tree V O) (a : S) (pages : PageMap) → ShowsLast s R (before_by o.cmp) id prev next t a pages → ShowsLinks s R prev next t a pages
   links_there t a pages h =
       let l = h.1 in
-      let none : pages 0 ≡ None = none_at_zero s file_of holds t a pages h.0 in (
+      let none : pages 0 ≡ None = none_at_zero s R t a pages h.0 in (
         h.0,
         (
-          λ some. let x = before_there before pages t.head.root l.key l.leaves l.levels t.path id l.stands l.found none (λ e. some (l.prev_is ∙ e)) in (x.0, ap pages l.prev_is ∙ x.1),
-          λ some. let x = behind_there before pages t.head.root l.key l.leaves l.levels t.path id l.stands l.found none (λ e. some (l.next_is ∙ e)) in (x.0, ap pages l.next_is ∙ x.1),
+          λ some. let x = before_there (before_by o.cmp) pages t.head.root l.key l.leaves l.levels t.path id l.stands l.found none (λ e. some (l.prev_is ∙ e)) in (x.0, ap pages l.prev_is ∙ x.1),
+          λ some. let x = behind_there (before_by o.cmp) pages t.head.root l.key l.leaves l.levels t.path id l.stands l.found none (λ e. some (l.next_is ∙ e)) in (x.0, ap pages l.next_is ∙ x.1),
         ),
       )
 
-  pub links_ready : (t : Tree V O) (a : S) → IsReady s (ShowsLast s file_of holds before id prev next) t a → IsReady s (ShowsLinks s file_of holds prev next) t a
+  pub links_ready : (t : Tree V O) (a : S) → HasLast s R o id prev next t a → HasLinks s R prev next t a
   links_ready t a ready = record { sound = ready.sound; held = λ told. let h = ready.held told in (h.0, links_there t a h.0 h.1) }
 
-  pub links_full : (fills : V → S → Map → Map → Type 0) (t : Tree V O) (a d : S) → LacksRoom s file_of holds fills (λ p. (pages : PageMap) → ShowsLinks s file_of holds prev next t a pages → IsRemnant t.head pages p) t.store a d
-      → LacksRoom s file_of holds fills (λ p. (pages : PageMap) → ShowsLast s file_of holds before id prev next t a pages → IsRemnant t.head pages p) t.store a d
-  links_full fills t a d l = room_after s file_of holds fills _ _ t.store t.store a a d (keeps_refl s a) refl (λ p fine pages h. fine pages (links_there t a pages h)) l
+  pub links_full : (t : Tree V O) (a d : S) → LacksLinks s R prev next t a d → LacksLast s R o id prev next t a d
+  links_full t a d l = room_after s R _ _ t.store t.store a a d (keeps_refl s a) (same_store_refl R t.store) (λ p fine pages h. fine pages (links_there t a pages h)) l
 
   -- t at the start, v without the leaf
-  module _ (order : IsOrder before) (beside : (prev ≡ 0) × (next ≡ 0) → ⊥) (t v : Tree V O) (a b : S)
-      (cut : Turns s (Only (file_in file_of t)) (ShowsLinks s file_of holds prev next) (Shows s file_of holds) (Becomes (without_linked id prev next)) t v a b) (keeps : Keeps s a b) (vfile : file_of v.store ≡ file_of t.store)
-      (vhead : v.head ≡ record t.head { first = if prev == 0 then next else t.head.first; last = if next == 0 then prev else t.head.last }) (vheight : v.height ≡ t.height) (vpath : v.path ≡ t.path) where
+  module _ (order : IsOrder (before_by o.cmp)) (beside : (prev ≡ 0) × (next ≡ 0) → ⊥) (t v : Tree V O) (a b : S) (cut : TurnsUnlinked s R id prev next t v a b) (narrows : Narrows s R t v a b)
+      (vhead : v.head ≡ record t.head { first = first_after prev next t.head.first; last = last_after prev next t.head.last }) (vbeside : StaysBeside t v) where
     vids : SameIds t.head v.head
-    vids = subst (λ (h : TreeHead). SameIds t.head h) (sym vhead) (record { order = refl; leaf_limit = refl; node_limit = refl; leaf_ids = refl; node_ids = refl })
+    vids = narrow_ids t.head v.head narrows.head
 
     vroot : v.head.root ≡ t.head.root
     vroot = ap (λ (h : TreeHead). h.root) vhead
 
-    gone : (pages : PageMap) → ShowsLast s file_of holds before id prev next t a pages → Shows s file_of holds v b (without_linked id prev next pages)
-    gone pages h = let k = cut.means pages (links_there t a pages h) in subst (λ (p : PageMap). Shows s file_of holds v b p) k.2 k.1
+    vheight : v.height ≡ t.height
+    vheight = vbeside.0
 
-    way_on : (pages : PageMap) → AtLast before t.head t.height t.path id prev next pages → CanClimb t.head.node_limit (without_linked id prev next pages) t.head.root t.path
+    vpath : v.path ≡ t.path
+    vpath = vbeside.1
+
+    gone : (pages : PageMap) → ShowsLast s R (before_by o.cmp) id prev next t a pages → Shows s R v b (without_linked id prev next pages)
+    gone pages h = let k = cut.means pages (links_there t a pages h) in subst (λ (p : PageMap). Shows s R v b p) k.2 k.1
+
+    way_on : (pages : PageMap) → AtLast (before_by o.cmp) t.head t.height t.path id prev next pages → CanClimb t.head.node_limit (without_linked id prev next pages) t.head.root t.path
     way_on pages l =
-        let way : IsHeldWay pages t.head.root l.found.crumbs l.found.leaf.slot = found_way before pages t.head.root l.key l.leaves l.levels t.path id l.stands l.found in
+        let way : IsHeldWay pages t.head.root l.found.crumbs l.found.leaf.slot = found_way (before_by o.cmp) pages t.head.root l.key l.leaves l.levels t.path id l.stands l.found in
         record {
           crumbs = l.found.crumbs;
           place = l.found.leaf.slot;
@@ -318,85 +328,88 @@ module _ {S V O : Type 0} (s : Ghosts S) (file_of : V → ℕ) (holds : V → Li
           within = λ j n is. within_of t.head pages l.limits j n (unlinked_was id prev next pages j n is);
         }
 
-    gone_way : (pages : PageMap) → ShowsLast s file_of holds before id prev next t a pages → ShowsWay s file_of holds v b (without_linked id prev next pages)
+    gone_way : (pages : PageMap) → ShowsLast s R (before_by o.cmp) id prev next t a pages → ShowsWay s R v b (without_linked id prev next pages)
     gone_way pages h = (
       gone pages h,
       subst (λ (p : List (ℕ × ℕ)). CanClimb v.head.node_limit (without_linked id prev next pages) v.head.root p) (sym vpath)
           (subst (λ (r : ℕ). CanClimb v.head.node_limit (without_linked id prev next pages) r t.path) (sym vroot) (subst (λ (n : ℕ). CanClimb n (without_linked id prev next pages) t.head.root t.path) (sym vids.node_limit) (way_on pages h.1))),
     )
 
-    pub prune_ready : IsReady s (ShowsLast s file_of holds before id prev next) t a → IsReady s (ShowsWay s file_of holds) v b
+    pub prune_ready : HasLast s R o id prev next t a → HasWay s R v b
     prune_ready ready = record { sound = cut.sound; held = λ told. let h = ready.held told in (without_linked id prev next h.0, gone_way h.0 h.1) }
 
-    pub prune_full : (fills : V → S → Map → Map → Type 0) (d : S) → LacksRoom s file_of holds fills (λ p. (pages : PageMap) → ShowsWay s file_of holds v b pages → IsRemnant v.head pages p) v.store b d
-        → LacksRoom s file_of holds fills (λ p. (pages : PageMap) → ShowsLast s file_of holds before id prev next t a pages → IsRemnant t.head pages p) t.store a d
-    prune_full fills d l =
-        room_after s file_of holds fills (λ p. (pages : PageMap) → ShowsWay s file_of holds v b pages → IsRemnant v.head pages p) (λ p. (pages : PageMap) → ShowsLast s file_of holds before id prev next t a pages → IsRemnant t.head pages p) t.store v.store a b d keeps vfile
-        (λ p fine pages h. remnant_unlinked id prev next pages t.head v.head p vids.node_limit (fine (without_linked id prev next pages) (gone_way pages h))) l
+    pub prune_full : (d : S) → LacksCut s R v b d → LacksLast s R o id prev next t a d
+    prune_full d l =
+        room_after s R _ _ t.store v.store a b d narrows.keeps narrows.made (λ p fine pages h. remnant_unlinked id prev next pages t.head v.head p vids.node_limit (fine (without_linked id prev next pages) (gone_way pages h))) l
 
     -- w once its place went from the rows above
-    module _ (w : Tree V O) (d : S) (pruned : Turns s (Only (file_in file_of v)) (ShowsWay s file_of holds) (Shows s file_of holds) (Cuts v) v w b d) (more : Keeps s b d) (wfile : file_of w.store ≡ file_of v.store) (whead : w.head ≡ v.head) (wheight : w.height ≡ v.height) where
-      cuts : (pages new : PageMap) → Cuts v (without_linked id prev next pages) new → (l : AtLast before t.head t.height t.path id prev next pages) → CutsFrom t.head.node_limit (without_leaf id l.found.leaf.leaf pages) new t.head.root t.path
+    module _ (w : Tree V O) (d : S) (pruned : TurnsCut s R v w b d) (more : Narrows s R v w b d) (numbered : StaysNumbered v w) where
+      whead : w.head ≡ v.head
+      whead = numbered.0
+
+      wheight : w.height ≡ v.height
+      wheight = numbered.1
+
+      cuts : (pages new : PageMap) → Cuts v (without_linked id prev next pages) new → (l : AtLast (before_by o.cmp) t.head t.height t.path id prev next pages) → CutsFrom t.head.node_limit (without_leaf id l.found.leaf.leaf pages) new t.head.root t.path
       cuts pages new c l =
           subst (λ (p : PageMap). CutsFrom t.head.node_limit p new t.head.root t.path) (ap (λ (x : ℕ). without_linked id x next pages) l.prev_is ∙ ap (λ (x : ℕ). without_linked id l.found.leaf.leaf.prev x pages) l.next_is)
           (subst (λ (n : ℕ). CutsFrom n (without_linked id prev next pages) new t.head.root t.path) vids.node_limit
           (subst (λ (r : ℕ). CutsFrom v.head.node_limit (without_linked id prev next pages) new r t.path) vroot (subst (λ (p : List (ℕ × ℕ)). CutsFrom v.head.node_limit (without_linked id prev next pages) new v.head.root p) vpath c)))
 
-      goes : (pages new : PageMap) → Cuts v (without_linked id prev next pages) new → pages 0 ≡ None → (l : AtLast before t.head t.height t.path id prev next pages)
-          → (after : List LeafAt) × (rows : List (List NodeAt)) × Stands before new t.head.root after rows × (length rows ≡ length l.levels) × LeavesAfter l.leaves l.found.front l.found.leaf l.found.back after
+      goes : (pages new : PageMap) → Cuts v (without_linked id prev next pages) new → pages 0 ≡ None → (l : AtLast (before_by o.cmp) t.head t.height t.path id prev next pages)
+          → (after : List LeafAt) × (rows : List (List NodeAt)) × Stands (before_by o.cmp) new t.head.root after rows × (length rows ≡ length l.levels) × LeavesAfter l.leaves l.found.front l.found.leaf l.found.back after
       goes pages new c none l =
-          leaf_goes before order t.head.node_limit pages new t.head.root l.key l.leaves l.levels t.path id l.stands l.found none (λ alone. beside (l.prev_is ∙ alone.0, l.next_is ∙ alone.1)) (cuts pages new c l)
+          leaf_goes (before_by o.cmp) order t.head.node_limit pages new t.head.root l.key l.leaves l.levels t.path id l.stands l.found none (λ alone. beside (l.prev_is ∙ alone.0, l.next_is ∙ alone.1)) (cuts pages new c l)
 
       wroot : w.head.root ≡ t.head.root
       wroot = ap (λ (h : TreeHead). h.root) whead ∙ vroot
 
-      in_rows : (pages new : PageMap) → Cuts v (without_linked id prev next pages) new → pages 0 ≡ None → AtLast before t.head t.height t.path id prev next pages → InRows before w.head.root w.height new
+      in_rows : (pages new : PageMap) → Cuts v (without_linked id prev next pages) new → pages 0 ≡ None → AtLast (before_by o.cmp) t.head t.height t.path id prev next pages → InRows (before_by o.cmp) w.head.root w.height new
       in_rows pages new c none l =
           let k = goes pages new c none l in
-          record { leaves = k.0; levels = k.1; stands = subst (λ (r : ℕ). Stands before new r k.0 k.1) (sym wroot) k.2; high = wheight ∙ vheight ∙ l.high ∙ ap suc (sym k.3) }
+          record { leaves = k.0; levels = k.1; stands = subst (λ (r : ℕ). Stands (before_by o.cmp) new r k.0 k.1) (sym wroot) k.2; high = wheight ∙ vheight ∙ l.high ∙ ap suc (sym k.3) }
 
-      pub sink_ready : IsReady s (ShowsLast s file_of holds before id prev next) t a → IsReady s (ShowsRows s file_of holds before) w d
+      pub sink_ready : HasLast s R o id prev next t a → HasRows s R o w d
       sink_ready ready = record {
         sound = pruned.sound;
         held = λ told.
             let h = ready.held told in
             let k = pruned.means (without_linked id prev next h.0) (gone_way h.0 h.1) in
-            (k.0, (k.1, in_rows h.0 k.0 k.2 (none_at_zero s file_of holds t a h.0 h.1.0) h.1.1));
+            (k.0, (k.1, in_rows h.0 k.0 k.2 (none_at_zero s R t a h.0 h.1.0) h.1.1));
       }
 
-      pub sink_full : (fills : V → S → Map → Map → Type 0) (P : Page → Type 0) (e : S) → LacksRoom s file_of holds fills (λ p. ⊥) w.store d e → LacksRoom s file_of holds fills P t.store a e
-      sink_full fills P e l = room_after s file_of holds fills (λ p. ⊥) P t.store w.store a d e (keeps_then s a b d keeps more) (wfile ∙ vfile) (λ p none. absurd none) l
-
       -- u under its last root
-      module _ (u : Tree V O) (e : S) (sunk : Turns s (Only (file_in file_of w)) (ShowsRows s file_of holds before) (Shows s file_of holds) (SinksTo before w u) w u d e)
-          (uids : SameIds w.head u.head) (ufirst : u.head.first ≡ w.head.first) (ulast : u.head.last ≡ w.head.last) where
+      module _ (u : Tree V O) (e : S) (sunk : TurnsSunk s R o w u d e) (last : Narrows s R w u d e) (ends_same : (u.head.first ≡ w.head.first) × (u.head.last ≡ w.head.last)) where
         same_ids : SameIds t.head u.head
-        same_ids = record {
-          order = uids.order ∙ ap (λ (h : TreeHead). h.order) whead ∙ vids.order;
-          leaf_limit = uids.leaf_limit ∙ ap (λ (h : TreeHead). h.leaf_limit) whead ∙ vids.leaf_limit;
-          node_limit = uids.node_limit ∙ ap (λ (h : TreeHead). h.node_limit) whead ∙ vids.node_limit;
-          leaf_ids = uids.leaf_ids ∙ ap (λ (h : TreeHead). h.leaf_ids) whead ∙ vids.leaf_ids;
-          node_ids = uids.node_ids ∙ ap (λ (h : TreeHead). h.node_ids) whead ∙ vids.node_ids;
-        }
+        same_ids =
+            let uids = narrow_ids w.head u.head last.head in
+            record {
+              order = uids.order ∙ ap (λ (h : TreeHead). h.order) whead ∙ vids.order;
+              leaf_limit = uids.leaf_limit ∙ ap (λ (h : TreeHead). h.leaf_limit) whead ∙ vids.leaf_limit;
+              node_limit = uids.node_limit ∙ ap (λ (h : TreeHead). h.node_limit) whead ∙ vids.node_limit;
+              leaf_ids = uids.leaf_ids ∙ ap (λ (h : TreeHead). h.leaf_ids) whead ∙ vids.leaf_ids;
+              node_ids = uids.node_ids ∙ ap (λ (h : TreeHead). h.node_ids) whead ∙ vids.node_ids;
+            }
 
-        first_is : u.head.first ≡ (if prev == 0 then next else t.head.first)
-        first_is = ufirst ∙ ap (λ (h : TreeHead). h.first) (whead ∙ vhead)
+        first_is : u.head.first ≡ first_after prev next t.head.first
+        first_is = ends_same.0 ∙ ap (λ (h : TreeHead). h.first) (whead ∙ vhead)
 
-        last_is : u.head.last ≡ (if next == 0 then prev else t.head.last)
-        last_is = ulast ∙ ap (λ (h : TreeHead). h.last) (whead ∙ vhead)
+        last_is : u.head.last ≡ last_after prev next t.head.last
+        last_is = ends_same.1 ∙ ap (λ (h : TreeHead). h.last) (whead ∙ vhead)
 
-        ends : (pages mid new : PageMap) → Cuts v (without_linked id prev next pages) mid → SinksTo before w u mid new → pages 0 ≡ None → (l : AtLast before t.head t.height t.path id prev next pages)
-            → Vacated before u.head u.height l.found.front l.found.leaf l.found.back new
+        ends : (pages mid new : PageMap) → Cuts v (without_linked id prev next pages) mid → SinksTo (before_by o.cmp) w u mid new → pages 0 ≡ None → (l : AtLast (before_by o.cmp) t.head t.height t.path id prev next pages)
+            → Vacated (before_by o.cmp) u.head u.height l.found.front l.found.leaf l.found.back new
         ends pages mid new c k none l =
             let g = goes pages mid c none l in
             let r = in_rows pages mid c none l in
-            let z = k.stands g.0 g.1 (subst (λ (x : ℕ). Stands before mid x g.0 g.1) (sym wroot) g.2) (wheight ∙ vheight ∙ l.high ∙ ap suc (sym g.3)) in
+            let z = k.stands g.0 g.1 (subst (λ (x : ℕ). Stands (before_by o.cmp) mid x g.0 g.1) (sym wroot) g.2) (wheight ∙ vheight ∙ l.high ∙ ap suc (sym g.3)) in
             let kept : B5 t.head mid = fewer_within t.head (without_leaf id l.found.leaf.leaf pages) mid (cuts pages mid c l).limits (without_within t.head id l.found.leaf.leaf pages l.limits) in
             record {
               after = g.0;
               rows = z.0;
               stands = z.1;
               high = z.2;
+              wide = k.wide;
               limits = limits_moved t.head u.head mid new same_ids k.fewer
                   (⊎_elim (λ (x : u.head.root ≡ w.head.root). inl (x ∙ wroot)) (λ (n : (n : Node) × (mid w.head.root ≡ Some (node_page n))). inr (n.0, ap mid (sym wroot) ∙ n.1)) k.moved) kept;
               links = record {
@@ -409,21 +422,24 @@ module _ {S V O : Type 0} (s : Ghosts S) (file_of : V → ℕ) (holds : V → Li
               pairs = g.4.pairs;
             }
 
-        pub leaf_cut : Turns s (Only (file_in file_of t)) (ShowsLast s file_of holds before id prev next) (Shows s file_of holds) (Vacates before id prev next t u) t u a e
+        pub leaf_cut : TurnsVacated s R o id prev next t u a e
         leaf_cut = record {
           sound = sunk.sound;
           means = λ pages h.
-              let none : pages 0 ≡ None = none_at_zero s file_of holds t a pages h.0 in
+              let none : pages 0 ≡ None = none_at_zero s R t a pages h.0 in
               let p = pruned.means (without_linked id prev next pages) (gone_way pages h) in
               let k = sunk.means p.0 (p.1, in_rows pages p.0 p.2 none h.1) in
               (k.0, k.1, λ l. ends pages p.0 k.0 p.2 k.2 none l);
           others = record {
             same = λ told g other.
-                (others_at s _ _ d e (wfile ∙ vfile) sunk.others).same told g other ∙ (others_at s _ _ b d vfile pruned.others).same told g other ∙ cut.others.same told g other;
+                (others_at s _ _ d e (more.made.file ∙ narrows.made.file) sunk.others).same told g other ∙ (others_at s _ _ b d narrows.made.file pruned.others).same told g other ∙ cut.others.same told g other;
           };
         }
 
 -- ---- the only leaf is emptied
+
+not_node : (n : Node) → ◌≡◌ {A = Option Page} (Some (leaf_page no_items)) (Some (node_page n)) → ⊥
+not_node n e = cc
 
 held_zero : (pages : PageMap) (j : ℕ) → held pages j ≡ 0 → pages j ≡ None
 held_zero pages j e = go (pages j) e
@@ -432,49 +448,48 @@ held_zero pages j e = go (pages j) e
     go None e = refl
     go (Some p) e = absurd (omega (arith, e))
 
-module _ {S V O : Type 0} (s : Ghosts S) (file_of : V → ℕ) (holds : V → List ℕ → Map → Type 0) (before : Before) (id : ℕ) where
-  ids_given : (t : Tree V O) (a : S) (pages : PageMap) → Shows s file_of holds t a pages → (cs : List Crumb) → LevelsHeld pages (rows_of cs) → AllByRecursion (λ x. IsGiven t.head x.0) (path_of cs)
+module _ {S V O : Type 0} (s : Ghosts S) (R : Stores V S) (o : Orders O) (id : ℕ) where
+  ids_given : (t : Tree V O) (a : S) (pages : PageMap) → Shows s R t a pages → (cs : List Crumb) → LevelsHeld pages (rows_of cs) → AllByRecursion (λ x. IsGiven t.head x.0) (path_of cs)
   ids_given t a pages h [] held = tt
-  ids_given t a pages h (c ∷ cs) held = (inr (node_id_shown s file_of holds t a pages c.node.slot.id c.node.node h (held_in_row pages c (rows_of cs) held)), ids_given t a pages h cs held.1)
+  ids_given t a pages h (c ∷ cs) held = (inr (node_id_shown s R t a pages c.node.slot.id c.node.node h (held_in_row pages c (rows_of cs) held)), ids_given t a pages h cs held.1)
 
-  pub way_ids : (t : Tree V O) (a : S) → IsReady s (ShowsLast s file_of holds before id 0 0) t a → s.tells → AllByRecursion (λ x. IsGiven t.head x.0) t.path
+  pub way_ids : (t : Tree V O) (a : S) → HasLast s R o id 0 0 t a → s.tells → AllByRecursion (λ x. IsGiven t.head x.0) t.path
   way_ids t a ready told =
       let h = ready.held told in
       let l = h.1.1 in
       subst (λ (p : List (ℕ × ℕ)). AllByRecursion (λ x. IsGiven t.head x.0) p) (sym l.found.along)
-      (ids_given t a h.0 h.1.0 l.found.crumbs (found_way before h.0 t.head.root l.key l.leaves l.levels t.path id l.stands l.found).nodes)
+      (ids_given t a h.0 h.1.0 l.found.crumbs (found_way (before_by o.cmp) h.0 t.head.root l.key l.leaves l.levels t.path id l.stands l.found).nodes)
 
   -- v without the way, w with the leaf written, u with it as its root
-  module _ (t v : Tree V O) (a b : S) (out : Writes s (Only (file_in file_of t)) (Shows s file_of holds) (without_way t.path) t v a b) (keeps : Keeps s a b) (vfile : file_of v.store ≡ file_of t.store) (vhead : v.head ≡ t.head) where
-    pub emptied_ready : IsReady s (ShowsLast s file_of holds before id 0 0) t a → IsReady s (Shows s file_of holds) v b
+  module _ (t v : Tree V O) (a b : S) (out : Rewrites s R (without_way t.path) t v a b) (narrows : Narrows s R t v a b) (numbered : StaysNumbered t v) where
+    pub emptied_ready : HasLast s R o id 0 0 t a → IsShown s R v b
     emptied_ready ready = record { sound = out.sound; held = λ told. let h = ready.held told in (without_way t.path h.0, out.means h.0 h.1.0) }
 
-    pub emptied_id : IsReady s (ShowsLast s file_of holds before id 0 0) t a → s.tells → IsLeafId v.head id
-    emptied_id ready told = let h = ready.held told in subst (λ (k : TreeHead). IsLeafId k id) (sym vhead) (leaf_id_shown s file_of holds t a h.0 id h.1.1.found.leaf.leaf h.1.0 (there s file_of holds before id 0 0 t h.0 h.1.1))
+    pub emptied_id : HasLast s R o id 0 0 t a → s.tells → IsLeafId v.head id
+    emptied_id ready told = let h = ready.held told in subst (λ (k : TreeHead). IsLeafId k id) (sym numbered.0) (leaf_id_shown s R t a h.0 id h.1.1.found.leaf.leaf h.1.0 (there s R o id 0 0 t h.0 h.1.1))
 
-    pub emptied_full : (fills : V → S → Map → Map → Type 0) (d : S) → LacksPage s file_of holds fills (λ p. p ≡ leaf_page no_items) v.store b d
-        → LacksRoom s file_of holds fills (λ p. (pages : PageMap) → ShowsLast s file_of holds before id 0 0 t a pages → IsRemnant t.head pages p) t.store a d
-    emptied_full fills d l =
-        inl (lacks_after s file_of holds fills (λ p. p ≡ leaf_page no_items) (λ p. (pages : PageMap) → ShowsLast s file_of holds before id 0 0 t a pages → IsRemnant t.head pages p) t.store v.store a b d keeps vfile
-        (λ p is pages h. subst (λ (q : Page). IsRemnant t.head pages q) (sym is) (inl refl)) l)
+    pub emptied_full : (d : S) → LacksPage s R (λ p. p ≡ leaf_page no_items) v.store b d → LacksLast s R o id 0 0 t a d
+    emptied_full d l =
+        inl (lacks_after s R _ _ t.store v.store a b d narrows.keeps narrows.made (λ p is pages h. subst (λ (q : Page). IsRemnant t.head pages q) (sym is) (inl refl)) l)
 
-    module _ (w u : Tree V O) (d : S) (put : Writes s (Only (file_in file_of v)) (Shows s file_of holds) (put_at id (leaf_page no_items)) v w b d) (store : u.store ≡ w.store) (cache : u.cache.pages ≡ w.cache.pages) (index : u.index ≡ w.index) (ids : SameIds w.head u.head)
+    module _ (w u : Tree V O) (d : S) (put : PutsAt s R id (leaf_page no_items) v w b d) (store : u.store ≡ w.store) (cache : u.cache.pages ≡ w.cache.pages) (column : u.column ≡ w.column) (ids : SameIds w.head u.head)
         (root : u.head.root ≡ id) (first : u.head.first ≡ id) (last : u.head.last ≡ id) (height : u.height ≡ 1) where
       abbrev lone : LeafAt
       lone = record { slot = root_slot id; leaf = no_items }
 
-      emptied : (pages : PageMap) → pages 0 ≡ None → (l : AtLast before t.head t.height t.path id 0 0 pages) → Vacated before u.head u.height l.found.front l.found.leaf l.found.back (put_at id (leaf_page no_items) (without_way t.path pages))
+      emptied : (pages : PageMap) → pages 0 ≡ None → (l : AtLast (before_by o.cmp) t.head t.height t.path id 0 0 pages) → Vacated (before_by o.cmp) u.head u.height l.found.front l.found.leaf l.found.back (put_at id (leaf_page no_items) (without_way t.path pages))
       emptied pages none l =
           let new : PageMap = put_at id (leaf_page no_items) (without_way t.path pages) in
-          let st : Stands before new id (lone ∷ []) [] = only_leaf_empties before pages t.head.root l.key l.leaves l.levels t.path id l.stands l.found none (sym l.prev_is, sym l.next_is) in
-          let were : Stands before pages t.head.root (l.found.front ++ l.found.leaf ∷ l.found.back) l.levels = subst (λ (x : List LeafAt). Stands before pages t.head.root x l.levels) l.found.parts l.stands in
+          let st : Stands (before_by o.cmp) new id (lone ∷ []) [] = only_leaf_empties (before_by o.cmp) pages t.head.root l.key l.leaves l.levels t.path id l.stands l.found none (sym l.prev_is, sym l.next_is) in
+          let were : Stands (before_by o.cmp) pages t.head.root (l.found.front ++ l.found.leaf ∷ l.found.back) l.levels = subst (λ (x : List LeafAt). Stands (before_by o.cmp) pages t.head.root x l.levels) l.found.parts l.stands in
           let no_front : l.found.front ≡ [] = none_front pages l.found.front l.found.leaf l.found.back were.leaves_held were.links none (sym l.prev_is) in
           let no_back : l.found.back ≡ [] = none_back pages l.found.front l.found.leaf l.found.back were.leaves_held were.links none (sym l.next_is) in
           record {
             after = lone ∷ [];
             rows = [];
-            stands = subst (λ (r : ℕ). Stands before new r (lone ∷ []) []) (sym root) st;
+            stands = subst (λ (r : ℕ). Stands (before_by o.cmp) new r (lone ∷ []) []) (sym root) st;
             high = height;
+            wide = λ l. not_node l.node (sym ((puts id (leaf_page no_items) (without_way t.path pages)).put) ∙ ap new (sym root) ∙ l.there);
             limits = λ j. ⊎_elim
                 (λ (here : j ≡ id).
                 subst (λ (p : Option Page). IsWithin u.head j p) (sym (ap new here ∙ (puts id (leaf_page no_items) (without_way t.path pages)).put))
@@ -487,13 +502,13 @@ module _ {S V O : Type 0} (s : Ghosts S) (file_of : V → ℕ) (holds : V → Li
             pairs = ap (λ (xs : List LeafAt). pairs_of (xs ++ with_items l.found.leaf [] ∷ [])) (sym no_front) ∙ ap (λ (xs : List LeafAt). pairs_of (l.found.front ++ with_items l.found.leaf [] ∷ xs)) (sym no_back);
           }
 
-      pub cleared : Turns s (Only (file_in file_of t)) (ShowsLast s file_of holds before id 0 0) (Shows s file_of holds) (Vacates before id 0 0 t u) t u a d
+      pub cleared : TurnsVacated s R o id 0 0 t u a d
       cleared = record {
         sound = put.sound;
         means = λ pages h. (
           put_at id (leaf_page no_items) (without_way t.path pages),
-          same_shows s file_of holds w u d store cache index ids (put_at id (leaf_page no_items) (without_way t.path pages)) (put.means (without_way t.path pages) (out.means pages h.0)),
-          λ l. emptied pages (none_at_zero s file_of holds t a pages h.0) l,
+          same_shows s R w u d store cache column ids (put_at id (leaf_page no_items) (without_way t.path pages)) (put.means (without_way t.path pages) (out.means pages h.0)),
+          λ l. emptied pages (none_at_zero s R t a pages h.0) l,
         );
-        others = record { same = λ told g other. (others_at s _ _ b d vfile put.others).same told g other ∙ out.others.same told g other };
+        others = record { same = λ told g other. (others_at s _ _ b d narrows.made.file put.others).same told g other ∙ out.others.same told g other };
       }

@@ -1,8 +1,9 @@
 -- Entries that climb along the way that a tree has noted.
 use Rattle.std.specs.Prelude.{◌⊎◌, ◌≡◌, ℕ, ◌+◌, ◌≤◌, ◌/◌, List, [], ◌∷◌, ◌++◌, Some, None, length}
 use Rattle.std.specs.List.{AllByRecursion}
-use Rattle.tc_base.specs.Maps.{Map}
 use Rattle.tc_space.specs.Frames.{Keeps}
+use Rattle.tc_space.specs.Stores.{IsReady, Only}
+use Rattle.tc_space.specs.declared.records.Records.{Ghosts as Stores}
 use Rattle.tc_space.specs.declared.space.Space.{Ghosts}
 use Rattle.bt_page.specs.Limits.{NodeWithin}
 use Rattle.bt_page.specs.declared.page.NodeEntry.{NodeEntry}
@@ -11,11 +12,13 @@ use Rattle.bt_rows.specs.declared.page.Page.{Page}
 use Rattle.bt_rows.specs.declared.page.Page.TheVariants.{Node as node_page}
 use Rattle.bt_rows.specs.declared.page.Slot.{Slot}
 use Rattle.bt_rows.specs.Pages.{PageMap}
+use Rattle.bt_cache.specs.Effects.{SameStore}
 use Rattle.bt_ways.specs.Climbs.{ClimbsWith, IsHeldWay}
 use Rattle.bt_ways.specs.Ways.{Crumb, path_of}
 use Rattle.bt_ways.specs.Writes.{put_at}
 use Rattle.bt_tree.specs.declared.tree.Tree.{Tree}
-use Rattle.bt_tree.specs.Paging.{Shows}
+use Rattle.bt_tree.specs.Meaning.{file_in}
+use Rattle.bt_tree.specs.Paging.{ComesAnew, IsUsedUp, LacksPage, Shows, Turns}
 
 abbrev pub NodesWithin : ℕ → PageMap → Type 0
 NodesWithin limit pages = (id : ℕ) (n : Node) → pages id ≡ Some (node_page n) → NodeWithin limit n
@@ -28,15 +31,14 @@ pub record CanClimb (limit : ℕ) (pages : PageMap) (root : ℕ) (path : List (�
   pub way : IsHeldWay pages root crumbs place
   pub within : NodesWithin limit pages
 
-abbrev pub ShowsWay : {S V O : Type 0} → Ghosts S → (V → ℕ) → (V → List ℕ → Map → Type 0) → Tree V O → S → PageMap → Type 0
-ShowsWay s file_of holds t space pages = Shows s file_of holds t space pages × CanClimb t.head.node_limit pages t.head.root t.path
+abbrev pub ShowsWay : {S V O : Type 0} → Ghosts S → Stores V S → Tree V O → S → PageMap → Type 0
+ShowsWay s R t space pages = Shows s R t space pages × CanClimb t.head.node_limit pages t.head.root t.path
 
 -- whatever it answers: so many ids of nodes are given at most, and so many rows come at most, under another root; all else that is told of the tree stays
-pub record Grows {S V O : Type 0} (s : Ghosts S) (file_of : V → ℕ) (region : V → List ℕ) (nodes rows : ℕ) (t u : Tree V O) (old new : S) : Type 0 where
+pub record Grows {S V O : Type 0} (s : Ghosts S) (R : Stores V S) (nodes rows : ℕ) (t u : Tree V O) (old new : S) : Type 0 where
   pub keeps : Keeps s old new
-  pub file : file_of u.store ≡ file_of t.store
-  pub region_same : region u.store ≡ region t.store
-  pub index : u.index ≡ t.index
+  pub made : SameStore R t.store u.store
+  pub column : u.column ≡ t.column
   pub head : u.head ≡ record t.head { root = u.head.root; node_ids = u.head.node_ids }
   pub nodes_least : t.head.node_ids ≤ u.head.node_ids
   pub nodes_most : u.head.node_ids ≤ t.head.node_ids + nodes
@@ -80,4 +82,30 @@ IsKnownNode limit added pages p = (n : Node) × (p ≡ node_page n) × NodeWithi
 
 -- the entries climbed
 abbrev pub Climbs : {V O : Type 0} → Tree V O → Tree V O → List NodeEntry → PageMap → PageMap → Type 0
-Climbs t u added old new = ClimbsWith t.head.node_limit old new t.height u.height t.head.root u.head.root t.path added
+Climbs t u added old new = ClimbsWith t.head.node_limit old new t.height u.height t.head.root u.head.root t.path added × ComesAnew t.head old new
+
+-- a node is written as two; where it stood, the second alone comes
+abbrev pub Divides : {V O : Type 0} → Tree V O → ℕ → Node → List NodeEntry → PageMap → PageMap → Type 0
+Divides t id node above old new = Divided id node above old new × ((old id ≡ None → ⊥) → ComesAnew t.head old new)
+
+module _ {S V O : Type 0} (s : Ghosts S) (R : Stores V S) where
+  -- the noted way may be climbed
+  abbrev pub HasWay : Tree V O → S → Type 0
+  HasWay t space = IsReady s (ShowsWay s R) t space
+
+  abbrev pub TurnsDivided : ℕ → Node → List NodeEntry → Tree V O → Tree V O → S → S → Type 0
+  TurnsDivided id node above t u old new = Turns s (Only (file_in R t)) (Shows s R) (Shows s R) (Divides t id node above) t u old new
+
+  abbrev pub TurnsClimbed : List NodeEntry → Tree V O → Tree V O → S → S → Type 0
+  TurnsClimbed added t u old new = Turns s (Only (file_in R t)) (ShowsWay s R) (Shows s R) (Climbs t u added) t u old new
+
+  -- ids are used up, or the store has no room for a node of so many of these entries at most
+  abbrev pub LacksNodeOf : ℕ → List NodeEntry → Tree V O → Tree V O → S → S → Type 0
+  LacksNodeOf most entries t u old new = IsUsedUp u.head ⊎ LacksPage s R (IsNodeOf most entries) t.store old new
+
+  -- or for a node of these and of those that stood along the way
+  abbrev pub IsWayNode : List NodeEntry → Tree V O → S → Page → Type 0
+  IsWayNode added t old p = (pages : PageMap) → ShowsWay s R t old pages → IsKnownNode t.head.node_limit added pages p
+
+  abbrev pub LacksWayNode : List NodeEntry → Tree V O → Tree V O → S → S → Type 0
+  LacksWayNode added t u old new = IsUsedUp u.head ⊎ LacksPage s R (IsWayNode added t old) t.store old new

@@ -1,27 +1,27 @@
 -- A pair that comes into a tree.
-use Rattle.std.specs.Prelude.{◌≡◌, ◌⊎◌, ⊤, ℕ, ◌+◌, ◌≤◌, List, Bool, Option}
+use Rattle.std.specs.Prelude.{◌≡◌, ◌⊎◌, ⊤, ℕ, ◌+◌, ◌≤◌, List, Bool, Option, Some}
 use Rattle.std.specs.declared.cmp.Ordering.{Ordering}
 use Rattle.std.specs.List.{AllByRecursion}
+use Rattle.tc_base.specs.declared.order.Order.{Ghosts as Orders}
 use Rattle.tc_base.specs.declared.seq.Pair.{Pair}
-use Rattle.tc_base.specs.Maps.{Map}
+use Rattle.tc_space.specs.declared.records.Records.{Ghosts as Stores}
 use Rattle.tc_space.specs.declared.space.Space.{Ghosts}
 use Rattle.bt_page.specs.Limits.{LeafWithin, NodeWithin}
 use Rattle.bt_page.specs.declared.page.Item.{Item}
-use Rattle.bt_page.specs.declared.page.Leaf.{Leaf}
 use Rattle.bt_rows.specs.declared.head.TreeHead.{TreeHead}
 use Rattle.bt_rows.specs.declared.page.Page.{Page}
 use Rattle.bt_rows.specs.declared.page.Page.TheVariants.{Leaf as leaf_page, Node as node_page}
 use Rattle.bt_rows.specs.Orders.{before_by}
 use Rattle.bt_rows.specs.Pages.{PageMap}
+use Rattle.bt_cache.specs.Effects.{SameStore}
 use Rattle.bt_ways.specs.Changes.{AreItems, IsChanged, ItemsWithin, inserted, items_pairs}
-use Rattle.bt_ways.specs.Items.{IsLeafFor}
 use Rattle.bt_ways.specs.Ways.{Found}
 use Rattle.bt_tree.specs.declared.inserting.Changed.{Changed}
 use Rattle.bt_tree.specs.declared.tree.Tree.{Tree}
 use Rattle.bt_tree.specs.Climbing.{IsAmong, StoodIn}
-use Rattle.bt_tree.specs.Meaning.{Means}
+use Rattle.bt_tree.specs.Meaning.{Changes, Means}
 use Rattle.bt_tree.specs.Parting.{IsStretch}
-use Rattle.bt_tree.specs.Paging.{IsUsedUp, LacksPage}
+use Rattle.bt_tree.specs.Paging.{AtRefusal, ComesAnew, IsUsedUp, LacksPage, Shows}
 use Rattle.bt_tree.specs.Trees.{IsTree}
 
 -- in the leaf where a key belongs a pair came in; the leaf isn't written yet
@@ -32,10 +32,9 @@ pub record TakesPair (cmp : List ℕ → List ℕ → Ordering) (last : Bool) (k
   pub changed : IsChanged cmp last key value found.leaf.leaf.items x.leaf.items x.place x.grown
 
 -- whatever it answers, what the tree was made with stays
-pub record StaysMade {V O : Type 0} (file_of : V → ℕ) (region : V → List ℕ) (t u : Tree V O) : Type 0 where
-  pub file : file_of u.store ≡ file_of t.store
-  pub region_same : region u.store ≡ region t.store
-  pub index : u.index ≡ t.index
+pub record StaysMade {S V O : Type 0} (R : Stores V S) (t u : Tree V O) : Type 0 where
+  pub made : SameStore R t.store u.store
+  pub column : u.column ≡ t.column
   pub order : u.head.order ≡ t.head.order
   pub leaf_limit : u.head.leaf_limit ≡ t.head.leaf_limit
   pub node_limit : u.head.node_limit ≡ t.head.node_limit
@@ -49,24 +48,28 @@ pub record Gains {V O : Type 0} (leaves nodes rows : ℕ) (t u : Tree V O) : Typ
   pub rows_least : t.height ≤ u.height
   pub rows_most : u.height ≤ t.height + rows
 
--- the leaf where the key belongs has no room for the pair
-pub record IsCrowded (cmp : List ℕ → List ℕ → Ordering) (last : Bool) (key value : List ℕ) (limit : ℕ) (ps : List Pair) : Type 0 where
-  pub leaf : Leaf
+-- the leaf where the key belongs, under the id where the way leads, has no room for the pair
+pub record IsCrowded (cmp : List ℕ → List ℕ → Ordering) (last : Bool) (key value : List ℕ) {h : TreeHead} {height : ℕ} {m : List ℕ → Option (List ℕ)} (tree : IsTree (before_by cmp) h height m) : Type 0 where
+  pub path : List (ℕ × ℕ)
+  pub id : ℕ
+  pub found : Found (before_by cmp) h.root key tree.leaves tree.levels path id
+  pub there : tree.pages id ≡ Some (leaf_page found.leaf.leaf)
   pub items : List Item
-  pub belongs : IsLeafFor (before_by cmp) key ps leaf
   pub are : AreItems cmp items
-  pub pairs : items_pairs items ≡ inserted cmp last key value (items_pairs leaf.items)
-  pub over : ItemsWithin limit items → ⊥
+  pub pairs : items_pairs items ≡ inserted cmp last key value (items_pairs found.leaf.leaf.items)
+  pub over : ItemsWithin h.leaf_limit items → ⊥
 
--- no page comes, or the leaf is parted: with at most two further leaves, one further node in each row and one row
-abbrev pub AddsPages : {S V O : Type 0} → Ghosts S → (V → ℕ) → (V → List ℕ → Map → Type 0) → (List ℕ → List ℕ → Ordering) → Bool → List ℕ → List ℕ → Tree V O → Tree V O → S → Type 0
-AddsPages s file_of holds cmp last key value t u old =
-    Gains 0 0 0 t u ⊎ (Gains 2 t.height 1 t u × ((ps : List Pair) → Means s file_of holds (before_by cmp) t old ps → IsCrowded cmp last key value t.head.leaf_limit ps))
+-- some of the items of these pairs, one behind the other
+pub record AreItemsOf (cmp : List ℕ → List ℕ → Ordering) (items : List Item) (ps : List Pair) : Type 0 where
+  pub all : List Item
+  pub are : AreItems cmp all
+  pub pairs : ps ≡ items_pairs all
+  pub some : IsStretch items all
 
--- a page of the tree before or after: a leaf within the limit, whose pairs stand one behind the other among those, or a node within its limit
-abbrev pub IsTreePage : TreeHead → List Pair → List Pair → Page → Type 0
-IsTreePage h ps qs (leaf_page l) = LeafWithin h.leaf_limit l × (IsStretch (items_pairs l.items) ps ⊎ IsStretch (items_pairs l.items) qs)
-IsTreePage h ps qs (node_page n) = NodeWithin h.node_limit n
+-- a page of the tree before or after: a leaf within the limit of some of its items, or a node within its limit
+abbrev pub IsTreePage : (List ℕ → List ℕ → Ordering) → TreeHead → List Pair → List Pair → Page → Type 0
+IsTreePage cmp h ps qs (leaf_page l) = LeafWithin h.leaf_limit l × (AreItemsOf cmp l.items ps ⊎ AreItemsOf cmp l.items qs)
+IsTreePage cmp h ps qs (node_page n) = NodeWithin h.node_limit n
 
 abbrev pub pair_key : Pair → List ℕ
 pair_key p = p.key
@@ -77,10 +80,33 @@ HasKnownKeys pages qs (leaf_page l) = ⊤
 HasKnownKeys pages qs (node_page n) = AllByRecursion (λ e. IsAmong pair_key e.key qs ⊎ StoodIn pages e.key) n.entries
 
 -- a page that a put writes
-abbrev pub IsPutPage : TreeHead → PageMap → List Pair → List Pair → Page → Type 0
-IsPutPage h pages ps qs p = IsTreePage h ps qs p × HasKnownKeys pages qs p
+abbrev pub IsPutPage : (List ℕ → List ℕ → Ordering) → TreeHead → PageMap → List Pair → List Pair → Page → Type 0
+IsPutPage cmp h pages ps qs p = IsTreePage cmp h ps qs p × HasKnownKeys pages qs p
 
--- ids are used up, with no more of them given than a parted leaf takes, or the store has no room for a page of the tree before or after
-abbrev pub IsFull : {S V O : Type 0} → Ghosts S → (V → ℕ) → (V → List ℕ → Map → Type 0) → (V → S → Map → Map → Type 0) → (List ℕ → List ℕ → Ordering) → Bool → List ℕ → List ℕ → Tree V O → Tree V O → S → S → Type 0
-IsFull s file_of holds fills cmp last key value t u old new =
-    (IsUsedUp u.head × Gains 2 t.height 1 t u) ⊎ LacksPage s file_of holds fills (λ p. (ps : List Pair) (h : Means s file_of holds (before_by cmp) t old ps) → IsPutPage t.head h.1.3.tree.pages ps (inserted cmp last key value ps) p) t.store old new
+-- each page that comes into a tree has an id that wasn't given before
+abbrev pub AddsAnew : {S V O : Type 0} → Ghosts S → Stores V S → Orders O → Tree V O → Tree V O → S → S → Type 0
+AddsAnew s R o t u old new = (ps : List Pair) (h : Means s R o t old ps) → (pages : PageMap) × Shows s R u new pages × ComesAnew t.head h.1.is.tree.pages pages
+
+module _ {S V O : Type 0} (s : Ghosts S) (R : Stores V S) (o : Orders O) (last : Bool) (key value : List ℕ) where
+  -- in the leaf that was read of a tree a pair came in
+  abbrev pub TakesInLeaf : Tree V O → S → List (ℕ × ℕ) → Changed → Type 0
+  TakesInLeaf t space path x = (ps : List Pair) (h : Means s R o t space ps) → TakesPair o.cmp last key value h.1.is.tree path x
+
+  abbrev pub Inserts : Tree V O → Tree V O → S → S → Type 0
+  Inserts t u old new = Changes s R o (inserted o.cmp last key value) t u old new
+
+  -- pages come, at most two leaves, a node in each row and a row, since the leaf where the key belongs has no room
+  abbrev pub PartsLeaf : Tree V O → Tree V O → S → Type 0
+  PartsLeaf t u old = Gains 2 t.height 1 t u × ((ps : List Pair) (h : Means s R o t old ps) → IsCrowded o.cmp last key value h.1.is.tree)
+
+  -- no page comes, or the leaf is parted
+  abbrev pub AddsPages : Tree V O → Tree V O → S → Type 0
+  AddsPages t u old = Gains 0 0 0 t u ⊎ PartsLeaf t u old
+
+  -- a page that a put into this tree writes
+  abbrev pub IsWritten : Tree V O → S → Page → Type 0
+  IsWritten t old p = (ps : List Pair) (h : Means s R o t old ps) → IsPutPage o.cmp t.head h.1.is.tree.pages ps (inserted o.cmp last key value ps) p
+
+  -- the leaf is parted and ids are used up, or the store has no room for a page of the tree before or after
+  abbrev pub IsFull : Tree V O → Tree V O → S → S → Type 0
+  IsFull t u old new = (IsUsedUp u.head × PartsLeaf t u old) ⊎ AtRefusal s (LacksPage s R (IsWritten t old) t.store old) new

@@ -1,14 +1,16 @@
 pub mod Climbing
 pub mod Costs
-pub mod Filling
+pub mod Finding
 pub mod Inserting
 pub mod Making
 pub mod Meaning
+pub mod Numbers
 pub mod Opening
 pub mod Paging
 pub mod Parting
 pub mod Ranging
 pub mod Removing
+pub mod Settling
 pub mod Standing
 pub mod Trees
 pub mod Visits

@@ -1,15 +1,21 @@
 -- A tree made anew.
-use Rattle.std.specs.Prelude.{◌≡◌, ◌⊎◌, ℕ, ◌≤◌, List, [], Bool, Some, false, nat_lt}
-use Rattle.std.specs.FinMap.{get, len}
+use Rattle.std.specs.Prelude.{◌≡◌, ◌⊎◌, ℕ, ◌≤◌, List, [], Some, false}
+use Rattle.std.specs.FinMap.{get}
 use Rattle.tc_base.specs.Maps.{Map}
-use Rattle.tc_base.specs.declared.seq.Pair.{Pair}
+use Rattle.tc_base.specs.declared.order.Order.{Ghosts as Orders}
 use Rattle.tc_space.specs.Frames.{OnlyReads, Others}
 use Rattle.tc_space.specs.Stores.{Only}
+use Rattle.tc_space.specs.declared.records.Records.{Ghosts as Stores}
 use Rattle.tc_space.specs.declared.space.Space.{Ghosts}
 use Rattle.bt_page.specs.Limits.{IsLimit}
+use Rattle.bt_page.specs.Pages.{leaf_bytes}
 use Rattle.bt_page.specs.declared.page.Leaf.{Leaf}
-use Rattle.bt_rows.specs.Rules.{column}
+use Rattle.bt_rows.specs.Rules.{column as column_key}
+use Rattle.bt_cache.specs.Effects.{LacksKey, SameStore}
+use Rattle.bt_cache.specs.Held.{Holds}
+use Rattle.bt_check.specs.Looks.{Looks}
 use Rattle.bt_tree.specs.declared.tree.Tree.{Tree}
+use Rattle.bt_tree.specs.Meaning.{Means}
 
 -- what a new tree may have
 pub record MayBe (leaf_limit node_limit code : ℕ) : Type 0 where
@@ -19,25 +25,33 @@ pub record MayBe (leaf_limit node_limit code : ℕ) : Type 0 where
 
 -- a map of nothing, or of the record `column` alone
 abbrev pub IsBare : Map → Type 0
-IsBare m = (key bytes : List ℕ) → get m key ≡ Some bytes → key ≡ column
+IsBare m = (key bytes : List ℕ) → get m key ≡ Some bytes → key ≡ column_key
 
--- whether it has any record: in front of a tree's first leaf that is `column`, which index files alone have
-abbrev pub has_some : Map → Bool
-has_some m = nat_lt 0 (len m)
+-- so is whatever map a store holds
+abbrev pub HoldsBare : {S V : Type 0} → Ghosts S → Stores V S → V → S → Type 0
+HoldsBare s R v space = (m : Map) → Holds s R v space m → IsBare m
 
 -- a leaf alone and with no keys
 abbrev pub lone_leaf : Leaf
 lone_leaf = record { prev = 0; next = 0; items = [] }
 
--- it holds no pairs, has these numbers, and is in this file
-pub record IsNew {S V O : Type 0} (s : Ghosts S) (file_of : V → ℕ) (file : ℕ) (Means : Tree V O → S → List Pair → Type 0) (leaf_limit node_limit code : ℕ) (t : Tree V O) (old new : S) : Type 0 where
+-- once it was looked at, the store had no room for this leaf as the page of id 1
+pub record LacksFirst {S V : Type 0} (s : Ghosts S) (R : Stores V S) (v : V) (old new : S) : Type 0 where
+  pub store : V
+  pub moment : S
+  pub looks : Looks s R v store old moment
+  pub by : LacksKey s R 1 (leaf_bytes lone_leaf) store moment new
+
+-- it holds no pairs, has these numbers, is in a store's file, and tells the record `column` that the store had
+pub record IsNew {S V O : Type 0} (s : Ghosts S) (R : Stores V S) (o : Orders O) (v : V) (leaf_limit node_limit : ℕ) (t : Tree V O) (old new : S) : Type 0 where
   pub sound : s.sound new
-  pub means : s.tells → Means t new []
-  pub others : Others s (Only file) old new
-  pub file_is : file_of t.store ≡ file
+  pub means : s.tells → Means s R o t new []
+  pub column_is : (m : Map) → Holds s R v old m → t.column ≡ get m column_key
+  pub others : Others s (Only (R.file_of v)) old new
+  pub made : SameStore R v t.store
   pub leaf_is : t.head.leaf_limit ≡ leaf_limit
   pub node_is : t.head.node_limit ≡ node_limit
-  pub order_is : t.head.order ≡ code
+  pub order_is : t.head.order ≡ o.CODE
   pub height : t.height ≡ 1
 
 -- the space may not be used any more, or nothing is written

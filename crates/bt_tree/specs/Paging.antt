@@ -1,36 +1,38 @@
 -- What a tree shows as pages, with none of the rules of rows, and what calls on single pages leave.
-use Rattle.std.specs.Prelude.{◌≡◌, ◌⊎◌, ℕ, ◌+◌, ◌<◌, ◌≤◌, List, Some, false}
+use Rattle.std.specs.Prelude.{◌≡◌, ◌⊎◌, ℕ, ◌+◌, ◌<◌, ◌≤◌, List, Some, None, Result, false}
 use Rattle.std.specs.FinMap.{get}
 use Rattle.tc_base.specs.Maps.{Map}
-use Rattle.tc_base.specs.declared.kind.Mode.TheVariants.{Over}
-use Rattle.tc_space.specs.Changes.{put_in}
-use Rattle.tc_space.specs.Frames.{In, Keeps, Others}
-use Rattle.tc_space.specs.Stores.{FullBy}
+use Rattle.tc_space.specs.Frames.{In, Keeps, Others, Writes}
+use Rattle.tc_space.specs.Stores.{IsReady, Only}
+use Rattle.tc_space.specs.declared.records.Records.{Ghosts as Stores}
 use Rattle.tc_space.specs.declared.space.Space.{Ghosts}
-use Rattle.bt_page.specs.Keys.{node_offset, key_of}
+use Rattle.bt_page.specs.Keys.{node_offset}
 use Rattle.bt_page.specs.Pages.{leaf_bytes, node_bytes}
 use Rattle.bt_page.specs.declared.page.Leaf.{Leaf}
 use Rattle.bt_page.specs.declared.page.Node.{Node}
 use Rattle.bt_rows.specs.declared.head.TreeHead.{TreeHead}
 use Rattle.bt_rows.specs.declared.page.Page.{Page}
 use Rattle.bt_rows.specs.declared.page.Page.TheVariants.{Leaf as leaf_page, Node as node_page}
-use Rattle.bt_rows.specs.Pages.{PageMap, AreHeld}
-use Rattle.bt_rows.specs.Rules.{B1, B2}
-use Rattle.bt_cache.specs.Held.{AreSame}
+use Rattle.bt_rows.specs.Pages.{PageMap, AreHeld, IsGiven}
+use Rattle.bt_rows.specs.Rules.{B1}
+use Rattle.bt_cache.specs.Effects.{LacksKey, Looks, RefusesBeside, SameStore}
+use Rattle.bt_cache.specs.Held.{AreSame, Holds}
+use Rattle.bt_ways.specs.Writes.{put_at}
 use Rattle.bt_tree.specs.declared.tree.Tree.{Tree}
 use Rattle.bt_tree.specs.Meaning.{file_in}
+use Rattle.bt_tree.specs.Trees.{HasKeys}
 
 -- with these bytes in its file the store holds a map whose pages these are, and each page in memory is the map's
-pub record ShowsIn {V O : Type 0} (holds : V → List ℕ → Map → Type 0) (t : Tree V O) (bytes : List ℕ) (pages : PageMap) : Type 0 where
+pub record ShowsIn {S V O : Type 0} (R : Stores V S) (t : Tree V O) (bytes : List ℕ) (pages : PageMap) : Type 0 where
   pub records : Map
-  pub store : holds t.store bytes records
+  pub store : R.holds t.store bytes records
   pub same : AreSame records t.cache.pages.entries
   pub head : B1 t.head
-  pub keys : B2 t.head t.index (get records)
+  pub keys : HasKeys t.head t.column (get records)
   pub held : AreHeld t.head (get records) pages
 
-abbrev pub Shows : {S V O : Type 0} → Ghosts S → (V → ℕ) → (V → List ℕ → Map → Type 0) → Tree V O → S → PageMap → Type 0
-Shows s file_of holds t space pages = In s (file_in file_of) (ShowsIn holds) t space pages
+abbrev pub Shows : {S V O : Type 0} → Ghosts S → Stores V S → Tree V O → S → PageMap → Type 0
+Shows s R t space pages = In s (file_in R) (ShowsIn R) t space pages
 
 -- the id of a leaf that was given, and of a node
 abbrev pub IsLeafId : TreeHead → ℕ → Type 0
@@ -39,22 +41,27 @@ IsLeafId h id = (1 ≤ id) × (id ≤ h.leaf_ids)
 abbrev pub IsNodeId : TreeHead → ℕ → Type 0
 IsNodeId h id = (node_offset < id) × (id ≤ node_offset + h.node_ids)
 
--- where files are told, such a leaf or node is there
-abbrev pub HasLeafAt : {S V O : Type 0} → Ghosts S → (V → ℕ) → (V → List ℕ → Map → Type 0) → ℕ → Tree V O → S → Type 0
-HasLeafAt s file_of holds id t space = s.tells → (pages : PageMap) × (l : Leaf) × Shows s file_of holds t space pages × (pages id ≡ Some (leaf_page l))
+-- each page that comes has an id that wasn't given before
+abbrev pub ComesAnew : TreeHead → PageMap → PageMap → Type 0
+ComesAnew h old new = (id : ℕ) → IsGiven h id → old id ≡ None → new id ≡ None
 
-abbrev pub HasNodeAt : {S V O : Type 0} → Ghosts S → (V → ℕ) → (V → List ℕ → Map → Type 0) → ℕ → Tree V O → S → Type 0
-HasNodeAt s file_of holds id t space = s.tells → (pages : PageMap) × (n : Node) × Shows s file_of holds t space pages × (pages id ≡ Some (node_page n))
+-- ids of leaves or of nodes are used up
+abbrev pub IsUsedUp : TreeHead → Type 0
+IsUsedUp h = (node_offset ≤ h.leaf_ids + 1) ⊎ (node_offset ≤ h.node_ids + 1)
 
--- the tree's numbers and way stay, and its store's file and region; what is kept stays
-pub record StaysStill {S V O : Type 0} (s : Ghosts S) (file_of : V → ℕ) (region : V → List ℕ) (t u : Tree V O) (old new : S) : Type 0 where
+-- the tree's numbers and way stay, and its store's file, type and region; what is kept stays
+pub record StaysStill {S V O : Type 0} (s : Ghosts S) (R : Stores V S) (t u : Tree V O) (old new : S) : Type 0 where
   pub keeps : Keeps s old new
-  pub file : file_of u.store ≡ file_of t.store
-  pub region_same : region u.store ≡ region t.store
+  pub made : SameStore R t.store u.store
   pub head : u.head ≡ t.head
   pub height : u.height ≡ t.height
-  pub index : u.index ≡ t.index
+  pub column : u.column ≡ t.column
   pub path : u.path ≡ t.path
+
+-- besides, nothing is written
+pub record Peeks {S V O : Type 0} (s : Ghosts S) (R : Stores V S) (t u : Tree V O) (old new : S) : Type 0 where
+  pub looks : Looks s R t.cache u.cache t.store u.store old new
+  pub still : StaysStill s R t u old new
 
 -- what was meant becomes what stands in this relation to it, in its own files
 pub record Turns {S V M : Type 0} (s : Ghosts S) (own : ℕ → Type 0) (Before After : V → S → M → Type 0) (Rel : M → M → Type 0) (v v' : V) (old new : S) : Type 0 where
@@ -62,11 +69,52 @@ pub record Turns {S V M : Type 0} (s : Ghosts S) (own : ℕ → Type 0) (Before 
   pub means : (m : M) → Before v old m → (n : M) × After v' new n × Rel m n
   pub others : Others s own old new
 
+module _ {S V O : Type 0} (s : Ghosts S) (R : Stores V S) where
+  -- pages may be asked for
+  abbrev pub IsShown : Tree V O → S → Type 0
+  IsShown t space = IsReady s (Shows s R) t space
+
+  -- where files are told, such a leaf or node is there
+  abbrev pub HasLeafAt : ℕ → Tree V O → S → Type 0
+  HasLeafAt id t space = s.tells → (pages : PageMap) × (l : Leaf) × Shows s R t space pages × (pages id ≡ Some (leaf_page l))
+
+  abbrev pub HasNodeAt : ℕ → Tree V O → S → Type 0
+  HasNodeAt id t space = s.tells → (pages : PageMap) × (n : Node) × Shows s R t space pages × (pages id ≡ Some (node_page n))
+
+  -- where a page of this sort stands under an id, it is this one
+  abbrev pub IsPageOf : {X : Type 0} → (X → Page) → ℕ → Tree V O → S → X → Type 0
+  IsPageOf {X} page id t space x = (pages : PageMap) (y : X) → Shows s R t space pages → pages id ≡ Some (page y) → x ≡ y
+
+  -- the pages became others
+  abbrev pub Rewrites : (PageMap → PageMap) → Tree V O → Tree V O → S → S → Type 0
+  Rewrites f t u old new = Writes s (Only (file_in R t)) (Shows s R) f t u old new
+
+  -- a page was written
+  abbrev pub PutsAt : ℕ → Page → Tree V O → Tree V O → S → S → Type 0
+  PutsAt id page t u old new = Rewrites (put_at id page) t u old new
+
+  -- the space may not be used any more, or nothing has changed
+  abbrev pub RefusesPages : {T E : Type 0} → Result T E → Tree V O → Tree V O → S → S → Type 0
+  RefusesPages result t u old new = RefusesBeside s R result t.cache u.cache t.store u.store old new
+
 -- ---- when the store has no room for a page
 
 abbrev pub page_bytes : Page → List ℕ
 page_bytes (leaf_page l) = leaf_bytes l
 page_bytes (node_page n) = node_bytes n
+
+-- the store, as it was at some moment since, had no room for a record that is such a page, as the space stands
+pub record LacksPage {S V : Type 0} (s : Ghosts S) (R : Stores V S) (Fine : Page → Type 0) (v : V) (old new : S) : Type 0 where
+  pub store : V
+  pub moment : S
+  pub id : ℕ
+  pub page : Page
+  pub made : SameStore R v store
+  pub since : Keeps s old moment
+  pub until : Keeps s moment new
+  pub held : s.tells → (m : Map) × Holds s R store moment m
+  pub fine : Fine page
+  pub by : LacksKey s R id (page_bytes page) store moment new
 
 -- a space that was given up: it may not be used any more, and its files stay
 pub record GivenUp {S : Type 0} (s : Ghosts S) (old new : S) : Type 0 where
@@ -74,20 +122,8 @@ pub record GivenUp {S : Type 0} (s : Ghosts S) (old new : S) : Type 0 where
   pub keeps : Keeps s old new
   pub files : s.tells → (g : ℕ) → s.now new g ≡ s.now old g
 
--- a store of the file, which held a map at some moment since, reaches a limit on the way to the map with this page, as the space stands or stood before it was given up
-pub record LacksPage {S V : Type 0} (s : Ghosts S) (file_of : V → ℕ) (holds : V → List ℕ → Map → Type 0) (fills : V → S → Map → Map → Type 0) (Fine : Page → Type 0) (v : V) (old new : S) : Type 0 where
-  pub store : V
-  pub moment : S
+-- so it is as the space stands, or as it stood before it was given up
+pub record AtRefusal {S : Type 0} (s : Ghosts S) (Why : S → Type 0) (new : S) : Type 0 where
   pub refused : S
-  pub id : ℕ
-  pub page : Page
-  pub file : file_of store ≡ file_of v
-  pub since : Keeps s old moment
-  pub held : s.tells → (m : Map) × In s file_of holds store moment m
-  pub fine : Fine page
-  pub by : FullBy (In s file_of holds) fills (put_in Over (key_of id) (page_bytes page)) store moment refused
+  pub why : Why refused
   pub left : (new ≡ refused) ⊎ GivenUp s refused new
-
--- ids of leaves or of nodes are used up
-abbrev pub IsUsedUp : TreeHead → Type 0
-IsUsedUp h = (node_offset ≤ h.leaf_ids + 1) ⊎ (node_offset ≤ h.node_ids + 1)

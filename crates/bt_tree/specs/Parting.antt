@@ -1,8 +1,9 @@
 -- A leaf that is written as several.
-use Rattle.std.specs.Prelude.{◌≡◌, ◌⊎◌, ℕ, ◌+◌, ◌<◌, ◌≤◌, List, [], ◌∷◌, ◌++◌, Some, length, map, ◌==◌, if◌then◌else◌}
+use Rattle.std.specs.Prelude.{◌≡◌, ◌⊎◌, ℕ, ◌+◌, ◌-◌, ◌<◌, ◌≤◌, List, [], ◌∷◌, ◌++◌, Some, length, map, take, drop, ◌==◌, if◌then◌else◌}
 use Rattle.std.specs.List.{AllByRecursion}
-use Rattle.tc_base.specs.Maps.{Map}
 use Rattle.tc_space.specs.Frames.{Keeps}
+use Rattle.tc_space.specs.Stores.{IsReady, Only}
+use Rattle.tc_space.specs.declared.records.Records.{Ghosts as Stores}
 use Rattle.tc_space.specs.declared.space.Space.{Ghosts}
 use Rattle.bt_page.specs.Limits.{NodeWithin}
 use Rattle.bt_page.specs.declared.page.Item.{Item}
@@ -15,15 +16,17 @@ use Rattle.bt_rows.specs.declared.page.Slot.{Slot}
 use Rattle.bt_rows.specs.Levels.{LeavesHeld}
 use Rattle.bt_rows.specs.Pages.{PageMap}
 use Rattle.bt_rows.specs.Rows.{first_id, last_id}
+use Rattle.bt_cache.specs.Effects.{SameStore}
 use Rattle.bt_ways.specs.Changes.{ItemsWithin}
 use Rattle.bt_ways.specs.Climbs.{ClimbsWith}
-use Rattle.bt_ways.specs.Parts.{AreFresh, HasItems, Part, all_items, part_entry, parted, relinked, with_parts}
+use Rattle.bt_ways.specs.Parts.{AreFresh, HasItems, Part, all_items, first_key, part_entry, parted, relinked, with_parts}
 use Rattle.bt_ways.specs.Writes.{put_at}
 use Rattle.bt_tree.specs.declared.tree.Tree.{Tree}
 use Rattle.bt_tree.specs.declared.parting.Laid.{Laid}
 use Rattle.bt_tree.specs.declared.parting.Parted.{Parted}
 use Rattle.bt_tree.specs.Climbing.{CanClimb, IsAmong, StoodIn}
-use Rattle.bt_tree.specs.Paging.{Shows}
+use Rattle.bt_tree.specs.Meaning.{file_in}
+use Rattle.bt_tree.specs.Paging.{ComesAnew, IsUsedUp, LacksPage, Shows, Turns}
 
 -- with these leaves at their ids, the last one last
 abbrev pub put_laid : List Laid → PageMap → PageMap
@@ -58,6 +61,24 @@ pub record ArePartsOf (id prev next : ℕ) (items : List Item) (parts : List Par
   pub added : p.added ≡ map part_entry parts
   pub last : p.last ≡ last_part id parts
 
+-- the items of a leaf in front of a place, and those up to a second place under an id, in front of a leaf of this id
+abbrev pub AreHalves : ℕ → Leaf → ℕ → ℕ → ℕ → ℕ → Parted → Type 0
+AreHalves id leaf i j second next p = ArePartsOf id leaf.prev next (take i leaf.items) (record { id = second; items = take (j - i) (drop i leaf.items) } ∷ []) p
+
+-- the items of a leaf in front of a place, those up to a second place under the next id, and those behind it, if there are any
+abbrev pub AreThirds : ℕ → ℕ → Leaf → ℕ → ℕ → Parted → Type 0
+AreThirds given id leaf i j p = ArePartsOf id leaf.prev leaf.next (take i leaf.items) (parts_from given (take (j - i) (drop i leaf.items)) (drop j leaf.items)) p
+
+-- so many ids are given with them
+abbrev pub third_ids : ℕ → Leaf → ℕ → ℕ → ℕ
+third_ids given leaf i j = given + length (parts_from given (take (j - i) (drop i leaf.items)) (drop j leaf.items))
+
+-- a leaf of the items from a place on stands behind two others
+pub record IsThird (two : Parted) (leaf : Leaf) (j second third : ℕ) (p : Parted) : Type 0 where
+  pub leaves : p.leaves ≡ two.leaves ++ laid_at third second leaf.next (drop j leaf.items) ∷ []
+  pub added : p.added ≡ two.added ++ record { child = third; key = first_key (drop j leaf.items) } ∷ []
+  pub last : p.last ≡ third
+
 -- the leaf behind, if there is one, has another before it
 pub record AddsBehind (next prev : ℕ) (pages : PageMap) (old new : List Laid) : Type 0 where
   pub none : next ≡ 0 → new ≡ old
@@ -70,8 +91,8 @@ pub record AtLeaf (limit root : ℕ) (path : List (ℕ × ℕ)) (id next : ℕ) 
   pub behind : (next ≡ 0 → ⊥) → (l : Leaf) × (pages next ≡ Some (leaf_page l))
   pub way : CanClimb limit pages root path
 
-abbrev pub ShowsLeaf : {S V O : Type 0} → Ghosts S → (V → ℕ) → (V → List ℕ → Map → Type 0) → ℕ → ℕ → Tree V O → S → PageMap → Type 0
-ShowsLeaf s file_of holds id next t space pages = Shows s file_of holds t space pages × AtLeaf t.head.node_limit t.head.root t.path id next pages
+abbrev pub ShowsLeaf : {S V O : Type 0} → Ghosts S → Stores V S → ℕ → ℕ → Tree V O → S → PageMap → Type 0
+ShowsLeaf s R id next t space pages = Shows s R t space pages × AtLeaf t.head.node_limit t.head.root t.path id next pages
 
 -- the leaf became several within the limits, whose entries have climbed
 pub record IsParted {V O : Type 0} (t u : Tree V O) (id : ℕ) (leaf : Leaf) (old new : PageMap) : Type 0 where
@@ -83,6 +104,7 @@ pub record IsParted {V O : Type 0} (t u : Tree V O) (id : ℕ) (leaf : Leaf) (ol
   pub within : ItemsWithin t.head.leaf_limit items
   pub are_within : AllByRecursion (λ p. ItemsWithin t.head.leaf_limit p.items) parts
   pub fresh : AreFresh old parts
+  pub anew : ComesAnew t.head old new
   pub given : AllByRecursion (λ p. 1 ≤ p.id) parts
   pub last : u.head.last ≡ (if leaf.next == 0 then last_part id parts else t.head.last)
   pub climbs : (s : Slot) (back : List LeafAt) → s.id ≡ id → LeavesHeld old back → leaf.next ≡ first_id back → (leaf.next ≡ 0 → back ≡ [])
@@ -102,11 +124,10 @@ IsPiece h items next pages (leaf_page l) = (ItemsWithin h.leaf_limit l.items × 
 IsPiece h items next pages (node_page n) = NodeWithin h.node_limit n × AllByRecursion (λ e. IsAmong item_key e.key items ⊎ StoodIn pages e.key) n.entries
 
 -- whatever it answers: so many ids of nodes are given at most, two of leaves and one row, under another root and another last leaf; all else that is told of the tree stays
-pub record Widens {S V O : Type 0} (s : Ghosts S) (file_of : V → ℕ) (region : V → List ℕ) (nodes : ℕ) (t u : Tree V O) (old new : S) : Type 0 where
+pub record Widens {S V O : Type 0} (s : Ghosts S) (R : Stores V S) (nodes : ℕ) (t u : Tree V O) (old new : S) : Type 0 where
   pub keeps : Keeps s old new
-  pub file : file_of u.store ≡ file_of t.store
-  pub region_same : region u.store ≡ region t.store
-  pub index : u.index ≡ t.index
+  pub made : SameStore R t.store u.store
+  pub column : u.column ≡ t.column
   pub head : u.head ≡ record t.head { root = u.head.root; last = u.head.last; leaf_ids = u.head.leaf_ids; node_ids = u.head.node_ids }
   pub leaves_least : t.head.leaf_ids ≤ u.head.leaf_ids
   pub leaves_most : u.head.leaf_ids ≤ t.head.leaf_ids + 2
@@ -114,3 +135,22 @@ pub record Widens {S V O : Type 0} (s : Ghosts S) (file_of : V → ℕ) (region 
   pub nodes_most : u.head.node_ids ≤ t.head.node_ids + nodes
   pub rows_least : t.height ≤ u.height
   pub rows_most : u.height ≤ t.height + 1
+
+module _ {S V O : Type 0} (s : Ghosts S) (R : Stores V S) where
+  -- these leaves, and behind them the one behind, if there is one, with another before it
+  abbrev pub AddsAll : ℕ → ℕ → List Laid → Tree V O → S → List Laid → Type 0
+  AddsAll next prev leaves t space all = (pages : PageMap) → Shows s R t space pages → AddsBehind next prev pages leaves all
+
+  -- a leaf may be written as several
+  abbrev pub HasLeaf : ℕ → ℕ → Tree V O → S → Type 0
+  HasLeaf id next t space = IsReady s (ShowsLeaf s R id next) t space
+
+  abbrev pub TurnsParted : ℕ → Leaf → Tree V O → Tree V O → S → S → Type 0
+  TurnsParted id leaf t u old new = Turns s (Only (file_in R t)) (ShowsLeaf s R id leaf.next) (Shows s R) (IsParted t u id leaf) t u old new
+
+  -- ids are used up, or the store has no room for a page of the leaf's items, of the leaf behind, or of a node along the way
+  abbrev pub IsLeafPiece : ℕ → Leaf → Tree V O → S → Page → Type 0
+  IsLeafPiece id leaf t old p = (pages : PageMap) → ShowsLeaf s R id leaf.next t old pages → IsPiece t.head leaf.items leaf.next pages p
+
+  abbrev pub LacksPiece : ℕ → Leaf → Tree V O → Tree V O → S → S → Type 0
+  LacksPiece id leaf t u old new = IsUsedUp u.head ⊎ LacksPage s R (IsLeafPiece id leaf t old) t.store old new

@@ -1,36 +1,40 @@
 -- The first pairs of a stretch of keys.
-use Rattle.std.specs.Prelude.{◌≡◌, ◌≢◌, ◌⊎◌, ℕ, ◌+◌, ◌≤◌, List, [], ◌∷◌, ◌++◌, map, take, drop, length, Bool, true, false, nat_lt, if◌then◌else◌}
-use Rattle.std.specs.FinMap.{get}
+use Rattle.std.specs.Prelude.{◌≡◌, ◌≢◌, ◌⊎◌, ℕ, ◌+◌, ◌≤◌, List, [], ◌∷◌, ◌++◌, map, take, drop, length, Bool, true, false, Some, slice_get, nat_lt, if◌then◌else◌}
 use Rattle.std.specs.List.{AllByRecursion, flat_map}
+use Rattle.std.specs.declared.cmp.Ordering.{Ordering}
 use Rattle.tc_base.specs.Lists.{pair}
 use Rattle.tc_base.specs.Maps.{Map}
+use Rattle.tc_base.specs.declared.order.Order.{Ghosts as Orders}
 use Rattle.tc_base.specs.declared.order.Side.{Side}
 use Rattle.tc_base.specs.declared.order.Side.TheVariants as side
 use Rattle.tc_base.specs.declared.seq.Pair.{Pair}
 use Rattle.tc_space.specs.Changes.{inside, is_inside}
 use Rattle.tc_space.specs.Frames.{Keeps, Reads}
-use Rattle.tc_space.specs.Stores.{Ticks}
+use Rattle.tc_space.specs.Stores.{KeepsTight, Ticks}
+use Rattle.tc_space.specs.declared.records.Records.{Ghosts as Stores}
 use Rattle.tc_space.specs.declared.space.Space.{Ghosts}
+use Rattle.bt_page.specs.Pages.{HasValue}
 use Rattle.bt_page.specs.declared.page.Item.{Item}
 use Rattle.bt_page.specs.declared.page.Leaf.{Leaf}
 use Rattle.bt_rows.specs.declared.page.LeafAt.{LeafAt}
-use Rattle.bt_rows.specs.Orders.{Before}
-use Rattle.bt_rows.specs.Rules.{item_pairs, leaf_pairs}
-use Rattle.bt_cache.specs.Held.{Beside}
+use Rattle.bt_rows.specs.Orders.{Before, before_by}
+use Rattle.bt_rows.specs.Rules.{Ascends, item_pairs, leaf_pairs}
+use Rattle.bt_rows.specs.declared.page.Page.TheVariants.{Leaf as leaf_page}
+use Rattle.bt_cache.specs.Effects.{SameStore}
+use Rattle.bt_cache.specs.Held.{Beside, HasPage}
 use Rattle.bt_tree.specs.declared.tree.Tree.{Tree}
 use Rattle.bt_tree.specs.Meaning.{Means}
-use Rattle.bt_tree.specs.Trees.{HoldsPairs}
 use Rattle.bt_tree.specs.Visits.{StaysTree}
 
 -- ---- what is seen from outside
 
--- nothing is written, the pairs stay, and the counter rises by at least as much as the store was asked
-pub record Scans {S V O : Type 0} (s : Ghosts S) (file_of : V → ℕ) (holds : V → List ℕ → Map → Type 0) (region : V → List ℕ) (gets : V → ℕ) (before : Before) (t u : Tree V O) (steps steps' : ℕ) (old new : S) : Type 0 where
-  pub reads : Reads s (Means s file_of holds before) t u old new
+-- nothing is written, the pairs stay, what was packed is so still, and the counter rises by at least as much as the store was asked
+pub record Scans {S V O : Type 0} (s : Ghosts S) (R : Stores V S) (o : Orders O) (t u : Tree V O) (steps steps' : ℕ) (old new : S) : Type 0 where
+  pub reads : Reads s (Means s R o) t u old new
   pub keeps : Keeps s old new
-  pub file : file_of u.store ≡ file_of t.store
-  pub region_same : region u.store ≡ region t.store
-  pub ticks : Ticks (gets t.store) (gets u.store) steps steps'
+  pub made : SameStore R t.store u.store
+  pub tight : KeepsTight R.tight t.store u.store
+  pub ticks : Ticks (R.gets t.store) (R.gets u.store) steps steps'
   pub stays : StaysTree t u
 
 -- how many leaves hold a pair of the stretch
@@ -40,8 +44,8 @@ leaves_inside side (l ∷ ls) = (if nat_lt 0 (length (inside side (leaf_pairs l)
 
 -- whatever tree was meant, the most pages that are read are its height, its leaves that hold a pair of the stretch, and one more; whatever a store tells, they are its height and as many as
 -- pairs are wanted
-pub record FewPages {S V O : Type 0} (s : Ghosts S) (file_of : V → ℕ) (holds : V → List ℕ → Map → Type 0) (before : Before) (side : List ℕ → Side) (max : ℕ) (t : Tree V O) (old : S) (steps steps' : ℕ) : Type 0 where
-  pub leaves : (m : Map) (ps : List Pair) (is : HoldsPairs before t.head t.height t.index (get m) ps) → Beside s file_of holds (t.cache.pages, t.store) old m → steps' ≤ steps + t.height + 1 + leaves_inside side is.tree.leaves
+pub record FewPages {S V O : Type 0} (s : Ghosts S) (R : Stores V S) (o : Orders O) (side : List ℕ → Side) (max : ℕ) (t : Tree V O) (old : S) (steps steps' : ℕ) : Type 0 where
+  pub leaves : (ps : List Pair) (h : Means s R o t old ps) → steps' ≤ steps + t.height + 1 + leaves_inside side h.1.is.tree.leaves
   pub most : steps' ≤ steps + t.height + max
 
 -- ---- in one page
@@ -104,3 +108,19 @@ pub record IsScanned (side : List ℕ → Side) (max : ℕ) (l : Leaf) (old new 
   pub room : length old ≤ max → length new ≤ max
   pub on : next ≢ 0 → (left ≡ []) × (next ≡ l.next)
   pub ended : next ≡ 0 → (max ≤ length new) ⊎ (((left ≡ []) × (l.next ≡ 0)) ⊎ StartsOutside side left)
+
+-- so many values of the item at a place went in
+abbrev pub FillsAt : ℕ → Leaf → ℕ → List Pair → List Pair → Bool → Type 0
+FillsAt max leaf place old new all = (x : Item) → slice_get leaf.items place ≡ Some x → IsFilled max x old new all
+
+-- so the pairs of items that have values went in, and those of a leaf whose items are in order
+abbrev pub AddsItems : (List ℕ → Side) → ℕ → List Item → List Pair → List Pair → Bool → Type 0
+AddsItems side max items old new all = AllByRecursion HasValue items → IsAdded side max (flat_map item_pairs items) old new all
+
+abbrev pub ScansItems : (List ℕ → List ℕ → Ordering) → (List ℕ → Side) → ℕ → Leaf → List Pair → List Pair → ℕ → Type 0
+ScansItems cmp side max leaf old new next = Ascends (before_by cmp) leaf.items → AllByRecursion HasValue leaf.items → IsScanned side max leaf old new next
+
+-- so it was of whatever leaf stands under an id
+abbrev pub ScansLeaf : {S V O : Type 0} → Ghosts S → Stores V S → Before → (List ℕ → Side) → ℕ → ℕ → Tree V O → S → List Pair → List Pair → ℕ → Type 0
+ScansLeaf s R before side max id t space old new next =
+    (m : Map) (l : Leaf) → Beside s R (t.cache.pages, t.store) space m → HasPage m id (leaf_page l) → Ascends before l.items → IsScanned side max l old new next

@@ -1,13 +1,14 @@
 -- Pairs, leaves and nodes that go from a tree.
-use Rattle.std.specs.Prelude.{◌≡◌, ◌⊎◌, ℕ, suc, ◌-◌, ◌≤◌, List, [], ◌∷◌, ◌++◌, Bool, Option, Some, None, length}
+use Rattle.std.specs.Prelude.{◌≡◌, ◌⊎◌, ℕ, suc, ◌-◌, ◌≤◌, ◌<◌, List, [], ◌∷◌, ◌++◌, Bool, Option, Some, None, is_some, length, MatchOption, ◌==◌, if◌then◌else◌}
+use Rattle.std.specs.List.{AllByRecursion}
 use Rattle.std.specs.declared.cmp.Ordering.{Ordering}
+use Rattle.tc_base.specs.declared.order.Order.{Ghosts as Orders}
 use Rattle.tc_base.specs.declared.seq.Pair.{Pair}
-use Rattle.tc_base.specs.Maps.{Map}
-use Rattle.tc_space.specs.Changes.{out_of}
-use Rattle.tc_space.specs.Frames.{In, Keeps}
-use Rattle.tc_space.specs.Stores.{FullBy}
+use Rattle.tc_space.specs.Changes.{has_pair}
+use Rattle.tc_space.specs.Frames.{Keeps}
+use Rattle.tc_space.specs.Stores.{IsReady, Only, TakesOut}
+use Rattle.tc_space.specs.declared.records.Records.{Ghosts as Stores}
 use Rattle.tc_space.specs.declared.space.Space.{Ghosts}
-use Rattle.bt_page.specs.Keys.{key_of}
 use Rattle.bt_page.specs.Limits.{NodeWithin}
 use Rattle.bt_page.specs.declared.page.Leaf.{Leaf}
 use Rattle.bt_page.specs.declared.page.Node.{Node}
@@ -19,15 +20,18 @@ use Rattle.bt_rows.specs.Levels.{NodeAt, Stands}
 use Rattle.bt_rows.specs.Orders.{Before, before_by}
 use Rattle.bt_rows.specs.Pages.{PageMap}
 use Rattle.bt_rows.specs.Rules.{B5, B7, pairs_of}
+use Rattle.bt_cache.specs.Effects.{SameStore}
 use Rattle.bt_ways.specs.Changes.{IsTaken, removed}
+use Rattle.bt_ways.specs.Items.{IsLeafFor}
 use Rattle.bt_ways.specs.Removals.{CutsFrom, with_items, with_next, with_prev}
 use Rattle.bt_ways.specs.Ways.{Found}
 use Rattle.bt_ways.specs.Writes.{drop_at}
 use Rattle.bt_tree.specs.declared.removing.Lessened.{Lessened}
 use Rattle.bt_tree.specs.declared.tree.Tree.{Tree}
-use Rattle.bt_tree.specs.Inserting.{IsTreePage}
-use Rattle.bt_tree.specs.Meaning.{Means}
-use Rattle.bt_tree.specs.Paging.{GivenUp, LacksPage, Shows}
+use Rattle.bt_tree.specs.Climbing.{ShowsWay, StoodIn}
+use Rattle.bt_tree.specs.Inserting.{IsPutPage}
+use Rattle.bt_tree.specs.Meaning.{Means, file_in}
+use Rattle.bt_tree.specs.Paging.{AtRefusal, LacksPage, Shows, Turns}
 use Rattle.bt_tree.specs.Trees.{IsTree}
 
 -- ---- what stays, whatever a call answers
@@ -39,31 +43,18 @@ pub record AddsNone {V O : Type 0} (t u : Tree V O) : Type 0 where
   pub rows : u.height ≤ t.height
 
 -- all that is told of the tree stays, but for its root, its first and its last leaf, and no rows come
-pub record Narrows {S V O : Type 0} (s : Ghosts S) (file_of : V → ℕ) (region : V → List ℕ) (t u : Tree V O) (old new : S) : Type 0 where
+pub record Narrows {S V O : Type 0} (s : Ghosts S) (R : Stores V S) (t u : Tree V O) (old new : S) : Type 0 where
   pub keeps : Keeps s old new
-  pub file : file_of u.store ≡ file_of t.store
-  pub region_same : region u.store ≡ region t.store
-  pub index : u.index ≡ t.index
+  pub made : SameStore R t.store u.store
+  pub column : u.column ≡ t.column
   pub head : u.head ≡ record t.head { root = u.head.root; first = u.head.first; last = u.head.last }
   pub rows : u.height ≤ t.height
 
 -- ---- when the store has no room
 
--- a store of the file, which held a map at some moment since, reaches a limit on the way to the map without a page, as the space stands or stood before it was given up
-pub record RefusesDrop {S V : Type 0} (s : Ghosts S) (file_of : V → ℕ) (holds : V → List ℕ → Map → Type 0) (fills : V → S → Map → Map → Type 0) (v : V) (old new : S) : Type 0 where
-  pub store : V
-  pub moment : S
-  pub refused : S
-  pub id : ℕ
-  pub file : file_of store ≡ file_of v
-  pub since : Keeps s old moment
-  pub held : s.tells → (m : Map) × In s file_of holds store moment m
-  pub by : FullBy (In s file_of holds) fills (out_of (key_of id)) store moment refused
-  pub left : (new ≡ refused) ⊎ GivenUp s refused new
-
--- it has no room for such a page, or for the change that takes one out
-abbrev pub LacksRoom : {S V : Type 0} → Ghosts S → (V → ℕ) → (V → List ℕ → Map → Type 0) → (V → S → Map → Map → Type 0) → (Page → Type 0) → V → S → S → Type 0
-LacksRoom s file_of holds fills Fine v old new = LacksPage s file_of holds fills Fine v old new ⊎ RefusesDrop s file_of holds fills v old new
+-- it has no room for such a page, or the undo log is full, as a page is to be taken out
+abbrev pub LacksRoom : {S V : Type 0} → Ghosts S → Stores V S → (Page → Type 0) → V → S → S → Type 0
+LacksRoom s R Fine v old new = LacksPage s R Fine v old new ⊎ (s.tells → s.log_full new)
 
 -- ---- a leaf that goes
 
@@ -74,20 +65,20 @@ pub record SharesItems (pages : PageMap) (l : Leaf) : Type 0 where
   pub there : pages id ≡ Some (leaf_page was)
   pub same : l.items ≡ was.items
 
--- a page that is written where a leaf goes: a leaf with no items or with those of another, or a node within the limit
+-- a page that is written where a leaf goes: a leaf with no items or with those of another, or a node within the limit whose keys stood in a node
 abbrev pub IsRemnant : TreeHead → PageMap → Page → Type 0
 IsRemnant h pages (leaf_page l) = (l.items ≡ []) ⊎ SharesItems pages l
-IsRemnant h pages (node_page n) = NodeWithin h.node_limit n
+IsRemnant h pages (node_page n) = NodeWithin h.node_limit n × AllByRecursion (λ e. StoodIn pages e.key) n.entries
 
 -- where an id is named, a leaf has it
 abbrev pub IsLeafOrNone : PageMap → ℕ → Type 0
 IsLeafOrNone pages id = (id ≡ 0 → ⊥) → (l : Leaf) × (pages id ≡ Some (leaf_page l))
 
-abbrev pub ShowsLink : {S V O : Type 0} → Ghosts S → (V → ℕ) → (V → List ℕ → Map → Type 0) → ℕ → Tree V O → S → PageMap → Type 0
-ShowsLink s file_of holds id t space pages = Shows s file_of holds t space pages × IsLeafOrNone pages id
+abbrev pub ShowsLink : {S V O : Type 0} → Ghosts S → Stores V S → ℕ → Tree V O → S → PageMap → Type 0
+ShowsLink s R id t space pages = Shows s R t space pages × IsLeafOrNone pages id
 
-abbrev pub ShowsLinks : {S V O : Type 0} → Ghosts S → (V → ℕ) → (V → List ℕ → Map → Type 0) → ℕ → ℕ → Tree V O → S → PageMap → Type 0
-ShowsLinks s file_of holds prev next t space pages = Shows s file_of holds t space pages × (IsLeafOrNone pages prev × IsLeafOrNone pages next)
+abbrev pub ShowsLinks : {S V O : Type 0} → Ghosts S → Stores V S → ℕ → ℕ → Tree V O → S → PageMap → Type 0
+ShowsLinks s R prev next t space pages = Shows s R t space pages × (IsLeafOrNone pages prev × IsLeafOrNone pages next)
 
 abbrev pub Becomes : (PageMap → PageMap) → PageMap → PageMap → Type 0
 Becomes f old new = new ≡ f old
@@ -109,13 +100,24 @@ pub record InRows (before : Before) (root height : ℕ) (pages : PageMap) : Type
   pub stands : Stands before pages root leaves levels
   pub high : height ≡ suc (length levels)
 
-abbrev pub ShowsRows : {S V O : Type 0} → Ghosts S → (V → ℕ) → (V → List ℕ → Map → Type 0) → Before → Tree V O → S → PageMap → Type 0
-ShowsRows s file_of holds before t space pages = Shows s file_of holds t space pages × InRows before t.head.root t.height pages
+abbrev pub ShowsRows : {S V O : Type 0} → Ghosts S → Stores V S → Before → Tree V O → S → PageMap → Type 0
+ShowsRows s R before t space pages = Shows s R t space pages × InRows before t.head.root t.height pages
 
--- nodes above go, and the same leaves stand under another root
+-- a node has its heir alone below it
+pub record IsLone (pages : PageMap) (id : ℕ) : Type 0 where
+  pub node : Node
+  pub there : pages id ≡ Some (node_page node)
+  pub alone : node.entries ≡ []
+
+-- a leaf had a page that is gone
+abbrev pub LosesLeaf : PageMap → PageMap → Type 0
+LosesLeaf old new = (id : ℕ) × (l : Leaf) × (old id ≡ Some (leaf_page l)) × (new id ≡ None)
+
+-- nodes above go, and the same leaves stand under another root, which has more below it than its heir
 pub record Sinks (before : Before) (height height' root root' : ℕ) (old new : PageMap) : Type 0 where
   pub fewer : (id : ℕ) → (new id ≡ old id) ⊎ (new id ≡ None)
   pub moved : (root' ≡ root) ⊎ ((n : Node) × (old root ≡ Some (node_page n)))
+  pub wide : IsLone new root' → ⊥
   pub stands : (leaves : List LeafAt) (levels : List (List NodeAt)) → Stands before old root leaves levels → height ≡ suc (length levels)
       → (rows : List (List NodeAt)) × Stands before new root' leaves rows × (height' ≡ suc (length rows))
 
@@ -126,7 +128,7 @@ SinksTo before t u old new = Sinks before t.height u.height t.head.root u.head.r
 pub record IsLowered {V O : Type 0} (heir : ℕ) (t u : Tree V O) : Type 0 where
   pub store : u.store ≡ t.store
   pub cache : u.cache ≡ t.cache
-  pub index : u.index ≡ t.index
+  pub column : u.column ≡ t.column
   pub head : u.head ≡ record t.head { root = heir }
   pub height : u.height ≡ t.height - 1
 
@@ -145,15 +147,16 @@ pub record AtLast (before : Before) (h : TreeHead) (height : ℕ) (path : List (
   pub prev_is : prev ≡ found.leaf.leaf.prev
   pub next_is : next ≡ found.leaf.leaf.next
 
-abbrev pub ShowsLast : {S V O : Type 0} → Ghosts S → (V → ℕ) → (V → List ℕ → Map → Type 0) → Before → ℕ → ℕ → ℕ → Tree V O → S → PageMap → Type 0
-ShowsLast s file_of holds before id prev next t space pages = Shows s file_of holds t space pages × AtLast before t.head t.height t.path id prev next pages
+abbrev pub ShowsLast : {S V O : Type 0} → Ghosts S → Stores V S → Before → ℕ → ℕ → ℕ → Tree V O → S → PageMap → Type 0
+ShowsLast s R before id prev next t space pages = Shows s R t space pages × AtLast before t.head t.height t.path id prev next pages
 
--- the pages stand in rows again, keep the limits, and hold the pairs of these leaves but for one's
+-- the pages stand in rows again, under a root that has more below it than its heir, keep the limits, and hold the pairs of these leaves but for one's
 pub record Vacated (before : Before) (h : TreeHead) (height : ℕ) (front : List LeafAt) (leaf : LeafAt) (back : List LeafAt) (pages : PageMap) : Type 0 where
   pub after : List LeafAt
   pub rows : List (List NodeAt)
   pub stands : Stands before pages h.root after rows
   pub high : height ≡ suc (length rows)
+  pub wide : IsLone pages h.root → ⊥
   pub limits : B5 h pages
   pub links : B7 h after
   pub pairs : pairs_of after ≡ pairs_of (front ++ with_items leaf [] ∷ back)
@@ -171,7 +174,100 @@ pub record GivesPairs (cmp : List ℕ → List ℕ → Ordering) (all : Bool) (k
   pub next : x.leaf.next ≡ found.leaf.leaf.next
   pub taken : IsTaken cmp all key found.leaf.leaf.items x.leaf.items x.count
 
--- the store has no room for a page of the tree before or after, or for the change that takes one out
-abbrev pub IsRefusedRoom : {S V O : Type 0} → Ghosts S → (V → ℕ) → (V → List ℕ → Map → Type 0) → (V → S → Map → Map → Type 0) → (List ℕ → List ℕ → Ordering) → Bool → List ℕ → Tree V O → S → S → Type 0
-IsRefusedRoom s file_of holds fills cmp all key t old new =
-    LacksRoom s file_of holds fills (λ p. (ps : List Pair) → Means s file_of holds (before_by cmp) t old ps → IsTreePage t.head ps (removed cmp all key ps) p) t.store old new
+-- ---- the calls
+
+-- the heir of a node that has no other page below it
+abbrev pub IsHeir : Node → Option ℕ → Type 0
+IsHeir n heir = MatchOption heir (0 < length n.entries) (λ id. (n.entries ≡ []) × (id ≡ n.heir))
+
+-- the first leaf is another where none is named in front, and the last one where none is named behind
+abbrev pub first_after : ℕ → ℕ → ℕ → ℕ
+first_after prev next first = if prev == 0 then next else first
+
+abbrev pub last_after : ℕ → ℕ → ℕ → ℕ
+last_after prev next last = if next == 0 then prev else last
+
+-- no number changes, nor how many rows there are
+abbrev pub StaysNumbered : {V O : Type 0} → Tree V O → Tree V O → Type 0
+StaysNumbered t u = (u.head ≡ t.head) × (u.height ≡ t.height)
+
+-- besides the head, the rows and the noted way stay
+abbrev pub StaysBeside : {V O : Type 0} → Tree V O → Tree V O → Type 0
+StaysBeside t u = (u.height ≡ t.height) × (u.path ≡ t.path)
+
+module _ {S V O : Type 0} (s : Ghosts S) (R : Stores V S) where
+  abbrev pub HasLink : ℕ → Tree V O → S → Type 0
+  HasLink id t space = IsReady s (ShowsLink s R id) t space
+
+  abbrev pub HasLinks : ℕ → ℕ → Tree V O → S → Type 0
+  HasLinks prev next t space = IsReady s (ShowsLinks s R prev next) t space
+
+  abbrev pub TurnsLinked : ℕ → (PageMap → PageMap) → Tree V O → Tree V O → S → S → Type 0
+  TurnsLinked id f t u old new = Turns s (Only (file_in R t)) (ShowsLink s R id) (Shows s R) (Becomes f) t u old new
+
+  abbrev pub TurnsUnlinked : ℕ → ℕ → ℕ → Tree V O → Tree V O → S → S → Type 0
+  TurnsUnlinked id prev next t u old new = Turns s (Only (file_in R t)) (ShowsLinks s R prev next) (Shows s R) (Becomes (without_linked id prev next)) t u old new
+
+  -- where a leaf stands under an id and the key belongs there, this is whether it is held
+  abbrev pub HitsIn : Before → List ℕ → ℕ → Tree V O → S → Bool → Type 0
+  HitsIn before key id t space hit = (pages : PageMap) (l : Leaf) (ps : List Pair) → Shows s R t space pages → pages id ≡ Some (leaf_page l) → IsLeafFor before key ps l → hit ≡ has_pair key ps
+
+  -- where a node stands under an id, this is its heir if it has no other page below it
+  abbrev pub ShowsHeir : ℕ → Tree V O → S → Option ℕ → Type 0
+  ShowsHeir id t space heir = (pages : PageMap) (n : Node) → Shows s R t space pages → pages id ≡ Some (node_page n) → IsHeir n heir
+
+  abbrev pub TurnsCut : Tree V O → Tree V O → S → S → Type 0
+  TurnsCut t u old new = Turns s (Only (file_in R t)) (ShowsWay s R) (Shows s R) (Cuts t) t u old new
+
+  -- the store has no room for what is left of pages where a leaf goes, or the undo log is full
+  abbrev pub LacksRemnant : (Tree V O → S → PageMap → Type 0) → Tree V O → S → S → Type 0
+  LacksRemnant Seen t old new = LacksRoom s R (λ p. (pages : PageMap) → Seen t old pages → IsRemnant t.head pages p) t.store old new
+
+  abbrev pub LacksLink : ℕ → Tree V O → S → S → Type 0
+  LacksLink id t old new = LacksRemnant (ShowsLink s R id) t old new
+
+  abbrev pub LacksLinks : ℕ → ℕ → Tree V O → S → S → Type 0
+  LacksLinks prev next t old new = LacksRemnant (ShowsLinks s R prev next) t old new
+
+  abbrev pub LacksCut : Tree V O → S → S → Type 0
+  LacksCut t old new = LacksRemnant (ShowsWay s R) t old new
+
+module _ {S V O : Type 0} (s : Ghosts S) (R : Stores V S) (o : Orders O) where
+  abbrev pub HasRows : Tree V O → S → Type 0
+  HasRows t space = IsReady s (ShowsRows s R (before_by o.cmp)) t space
+
+  abbrev pub TurnsSunk : Tree V O → Tree V O → S → S → Type 0
+  TurnsSunk t u old new = Turns s (Only (file_in R t)) (ShowsRows s R (before_by o.cmp)) (Shows s R) (SinksTo (before_by o.cmp) t u) t u old new
+
+  abbrev pub HasLast : ℕ → ℕ → ℕ → Tree V O → S → Type 0
+  HasLast id prev next t space = IsReady s (ShowsLast s R (before_by o.cmp) id prev next) t space
+
+  abbrev pub TurnsVacated : ℕ → ℕ → ℕ → Tree V O → Tree V O → S → S → Type 0
+  TurnsVacated id prev next t u old new = Turns s (Only (file_in R t)) (ShowsLast s R (before_by o.cmp) id prev next) (Shows s R) (Vacates (before_by o.cmp) id prev next t u) t u old new
+
+  abbrev pub LacksLast : ℕ → ℕ → ℕ → Tree V O → S → S → Type 0
+  LacksLast id prev next t old new = LacksRemnant s R (ShowsLast s R (before_by o.cmp) id prev next) t old new
+
+  -- whether something is answered is whether the key is held
+  abbrev pub TellsHeld : {A : Type 0} → List ℕ → Tree V O → S → Option A → Type 0
+  TellsHeld key t space found = (ps : List Pair) → Means s R o t space ps → is_some found ≡ has_pair key ps
+
+  -- where a leaf goes, the root has more below it than its heir
+  abbrev pub LowersRoot : Tree V O → Tree V O → S → S → Type 0
+  LowersRoot t u old new = (ps : List Pair) (h : Means s R o t old ps) → (pages : PageMap) × Shows s R u new pages × (LosesLeaf h.1.is.tree.pages pages → IsLone pages u.head.root → ⊥)
+
+  module _ (all : Bool) (key : List ℕ) where
+    -- in the leaf that was read of a tree values went
+    abbrev pub GivesInLeaf : Tree V O → S → List (ℕ × ℕ) → Lessened → Type 0
+    GivesInLeaf t space path x = (ps : List Pair) (h : Means s R o t space ps) → GivesPairs o.cmp all key h.1.is.tree path x
+
+    abbrev pub Removes : Bool → Tree V O → Tree V O → S → S → Type 0
+    Removes taken t u old new = TakesOut s (Only (file_in R t)) (Means s R o) (has_pair key) (removed o.cmp all key) taken t u old new
+
+    -- a page of the tree before or after
+    abbrev pub IsLeftPage : Tree V O → S → Page → Type 0
+    IsLeftPage t old p = (ps : List Pair) (h : Means s R o t old ps) → IsPutPage o.cmp t.head h.1.is.tree.pages ps (removed o.cmp all key ps) p
+
+    -- the store has no room for a page of the tree before or after, or the undo log is full
+    abbrev pub IsRefusedRoom : Tree V O → S → S → Type 0
+    IsRefusedRoom t old new = AtRefusal s (LacksRoom s R (IsLeftPage t old) t.store old) new

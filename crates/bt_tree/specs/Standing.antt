@@ -1,16 +1,24 @@
 -- When a file stands for a list of pairs.
-use Rattle.std.specs.Prelude.{◌≡◌, ℕ, List, Bool}
+use Rattle.std.specs.Prelude.{◌≡◌, ℕ, List, Option, is_some}
 use Rattle.std.specs.FinMap.{get}
 use Rattle.tc_base.specs.Maps.{Map}
+use Rattle.tc_base.specs.declared.order.Order.{Ghosts as Orders}
 use Rattle.tc_base.specs.declared.seq.Pair.{Pair}
+use Rattle.tc_space.specs.declared.records.Records.{Ghosts as Stores}
+use Rattle.bt_rows.specs.declared.head.TreeHead.{TreeHead}
 use Rattle.bt_rows.specs.Heads.{head_of}
-use Rattle.bt_rows.specs.Orders.{Before}
+use Rattle.bt_rows.specs.Orders.{before_by}
+use Rattle.bt_rows.specs.Rules.{column as column_key}
 use Rattle.bt_rows.specs.Standing.{TreeStands, tree_pairs}
 
--- its bytes are a store's whose records keep all rules of a tree under the head in its region; it may be an index file, where the record `column` is allowed, or not
-pub record FileStands (stands : List ℕ → Map → List ℕ → Type 0) (before : Before) (index : Bool) (bytes : List ℕ) (ps : List Pair) : Type 0 where
+-- its bytes are a store's file of this type, whose region tells these numbers, this order's byte among them, and whose records keep all rules of a tree under them,
+-- beside the record `column`, if there is one, with these bytes
+pub record FileStands {S V O : Type 0} (R : Stores V S) (o : Orders O) (sort : ℕ) (h : TreeHead) (column : Option (List ℕ)) (bytes : List ℕ) (ps : List Pair) : Type 0 where
   pub records : Map
   pub region : List ℕ
-  pub file : stands bytes records region
-  pub tree : TreeStands before (head_of region) index (get records)
+  pub numbers : head_of region ≡ h
+  pub order : h.order ≡ o.CODE
+  pub file : R.stands sort bytes records region
+  pub tree : TreeStands (before_by o.cmp) h (is_some column) (get records)
+  pub has : get records column_key ≡ column
   pub are : ps ≡ tree_pairs tree

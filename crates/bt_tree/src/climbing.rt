@@ -1,12 +1,10 @@
 //! Entries put into the nodes above a place.
-ghost use Rattle.std.specs.Prelude.{◌≡◌, ◌+◌, ◌-◌, ◌<◌, ◌≤◌, ◌/◌, ◌^◌, ◌⊎◌, ◌++◌, ◌∷◌, [], suc, length, take, drop, IfOk, OnOk, IsErrOf};
-ghost use Rattle.tc_space.specs.Stores.{IsReady, Only};
-ghost use Rattle.bt_rows.specs.Pages.{PageMap};
-ghost use Rattle.bt_ways.specs.Laws.{spliced};
-ghost use Rattle.bt_tree.specs.Climbing.{Climbs, Divided, Grows, IsKnownNode, IsNodeOf, ShowsWay};
-ghost use Rattle.bt_tree.specs.Meaning.{file_in};
-ghost use Rattle.bt_tree.specs.Paging.{IsNodeId, IsUsedUp, LacksPage, Shows, Turns};
+ghost use Rattle.std.specs.Prelude.{◌≡◌, ◌+◌, ◌-◌, ◌<◌, ◌≤◌, ◌/◌, ◌^◌, ◌++◌, ◌∷◌, [], suc, length, take, drop, IfOk, OnOk};
 ghost use Rattle.tc_space.specs.Refusals.{OnFault};
+ghost use Rattle.bt_ways.specs.Laws.{spliced};
+ghost use Rattle.bt_cache.specs.Effects.{OnFull};
+ghost use Rattle.bt_tree.specs.Climbing.{Grows, HasWay, LacksNodeOf, LacksWayNode, TurnsClimbed, TurnsDivided};
+ghost use Rattle.bt_tree.specs.Paging.{IsNodeId, IsShown};
 
 use crate::tree::Tree;
 use bt_page::{Node, NodeEntry};
@@ -75,58 +73,44 @@ impl<R: Records, O: Order> Tree<R, O> {
         id: u64,
         node: SlottedNode,
     ) -> Result<Seq<NodeEntry>, RecErr>
-        requires ready { IsReady R.S.Space (Shows R.S.Space R.file_of R.holds) self.old space.old }
+        requires ready { IsShown R.S.Space R.Records self.old space.old }
         requires id { R.S.tells → IsNodeId self.old.head id }
-        ensures divided { IfOk result (λ above. Turns R.S.Space (Only (file_in R.file_of self.old)) (Shows R.S.Space R.file_of R.holds) (Shows R.S.Space R.file_of R.holds) (Divided id node above) self.old self.new space.old space.new) }
+        ensures divided { IfOk result (λ above. TurnsDivided R.S.Space R.Records id node above self.old self.new space.old space.new) }
         ensures one { IfOk result (λ above. length above ≡ 1) }
-        ensures full { IsErrOf result RecErr.Full → IsUsedUp self.new.head ⊎ LacksPage R.S.Space R.file_of R.holds R.fills (IsNodeOf (length node.entries / 2) node.entries) self.old.store space.old space.new }
-        ensures grows { Grows R.S.Space R.file_of R.region 1 0 self.old self.new space.old space.new }
+        ensures full { OnFull result (LacksNodeOf R.S.Space R.Records (length node.entries / 2) node.entries self.old self.new space.old space.new) }
+        ensures grows { Grows R.S.Space R.Records 1 0 self.old self.new space.old space.new }
         ensures way { (self.new.path ≡ self.old.path) × (self.new.head.root ≡ self.old.head.root) }
         ensures cause { OnFault R.S.Space result space.old space.new }
     {
-        let second = match self.node_id() {
-            Ok(id) => id,
-            Err(e) => return Err(e),
-        };
+        let second = self.node_id()?;
         let (lower, up, upper) = halves(self.alloc, &node)?;
         let above = lone(self.alloc, second, up)?;
-        if let Err(e) = self.put_node(space, second, upper) {
-            return Err(e);
-        }
-        match self.put_node(space, id, lower) {
-            Ok(()) => Ok(above),
-            Err(e) => Err(e),
-        }
+        self.put_node(space, second, upper)?;
+        self.put_node(space, id, lower)?;
+        Ok(above)
     }
 
     // Writes a new root over the old one.
     fn grow(&mut self, space: &mut R::S, added: Seq<NodeEntry>) -> Result<(), RecErr>
-        requires ready { IsReady R.S.Space (ShowsWay R.S.Space R.file_of R.holds) self.old space.old }
+        requires ready { HasWay R.S.Space R.Records self.old space.old }
         requires root { self.old.path ≡ [] }
         requires few { length added ≤ 2 }
         requires rows { self.old.height < 2 ^ 64 - 1 }
-        ensures climbed { OnOk result (Turns R.S.Space (Only (file_in R.file_of self.old)) (ShowsWay R.S.Space R.file_of R.holds) (Shows R.S.Space R.file_of R.holds) (Climbs self.old self.new added) self.old self.new space.old space.new) }
-        ensures full { IsErrOf result RecErr.Full → IsUsedUp self.new.head ⊎ LacksPage R.S.Space R.file_of R.holds R.fills (IsNodeOf 2 added) self.old.store space.old space.new }
-        ensures grows { Grows R.S.Space R.file_of R.region 1 1 self.old self.new space.old space.new }
+        ensures climbed { OnOk result (TurnsClimbed R.S.Space R.Records added self.old self.new space.old space.new) }
+        ensures full { OnFull result (LacksNodeOf R.S.Space R.Records 2 added self.old self.new space.old space.new) }
+        ensures grows { Grows R.S.Space R.Records 1 1 self.old self.new space.old space.new }
         ensures cause { OnFault R.S.Space result space.old space.new }
     {
-        let id = match self.node_id() {
-            Ok(id) => id,
-            Err(e) => return Err(e),
-        };
+        let id = self.node_id()?;
         let node = Node {
             heir: self.head.root,
             entries: added,
         };
         let node = SlottedNode::of(self.alloc, &node)?;
-        match self.put_node(space, id, node) {
-            Ok(()) => {
-                self.head.root = id;
-                self.height += 1;
-                Ok(())
-            }
-            Err(e) => Err(e),
-        }
+        self.put_node(space, id, node)?;
+        self.head.root = id;
+        self.height += 1;
+        Ok(())
     }
 
     /// Puts entries behind the place that the noted way leads to: into the lowest node of the way, which is written, as two where it grows beyond its limit, whose middle entry then goes on up; past the root
@@ -137,21 +121,18 @@ impl<R: Records, O: Order> Tree<R, O> {
         added: Seq<NodeEntry>,
         steps: &mut Steps<L>,
     ) -> Result<(), RecErr>
-        requires ready { IsReady R.S.Space (ShowsWay R.S.Space R.file_of R.holds) self.old space.old }
+        requires ready { HasWay R.S.Space R.Records self.old space.old }
         requires few { length added ≤ 2 }
         requires rows { self.old.height < 2 ^ 64 - 1 }
-        ensures climbed { OnOk result (Turns R.S.Space (Only (file_in R.file_of self.old)) (ShowsWay R.S.Space R.file_of R.holds) (Shows R.S.Space R.file_of R.holds) (Climbs self.old self.new added) self.old self.new space.old space.new) }
-        ensures full { IsErrOf result RecErr.Full → IsUsedUp self.new.head ⊎ LacksPage R.S.Space R.file_of R.holds R.fills (λ p. (pages : PageMap) → ShowsWay R.S.Space R.file_of R.holds self.old space.old pages → IsKnownNode self.old.head.node_limit added pages p) self.old.store space.old space.new }
-        ensures grows { Grows R.S.Space R.file_of R.region (suc (length self.old.path)) 1 self.old self.new space.old space.new }
+        ensures climbed { OnOk result (TurnsClimbed R.S.Space R.Records added self.old self.new space.old space.new) }
+        ensures full { OnFull result (LacksWayNode R.S.Space R.Records added self.old self.new space.old space.new) }
+        ensures grows { Grows R.S.Space R.Records (suc (length self.old.path)) 1 self.old self.new space.old space.new }
         ensures cause { OnFault R.S.Space result space.old space.new }
     {
         let Some((id, place)) = self.path.pop() else {
             return self.grow(space, added);
         };
-        let node = match self.own_node(space, id, steps) {
-            Ok(node) => node,
-            Err(e) => return Err(e),
-        };
+        let node = self.own_node(space, id, steps)?;
         if place > node.len() {
             return Err(RecErr::Memory);
         }
@@ -159,10 +140,7 @@ impl<R: Records, O: Order> Tree<R, O> {
         if node.len() <= self.head.node_limit as usize {
             return self.put_node(space, id, node);
         }
-        let above = match self.divide(space, id, node) {
-            Ok(above) => above,
-            Err(e) => return Err(e),
-        };
+        let above = self.divide(space, id, node)?;
         self.climb(space, above, steps)
     }
 }

@@ -1,13 +1,11 @@
 //! A key with its values.
-ghost use Rattle.std.specs.Prelude.{◌≡◌, List, IfOk};
-ghost use Rattle.tc_base.specs.Lists.{first};
-ghost use Rattle.tc_base.specs.declared.seq.Pair.{Pair};
-ghost use Rattle.tc_space.specs.Stores.{IsReady};
-ghost use Rattle.bt_rows.specs.Orders.{before_by};
-ghost use Rattle.bt_ways.specs.Items.{IsLeafFor, item_in};
-ghost use Rattle.bt_tree.specs.Meaning.{Means};
-ghost use Rattle.bt_tree.specs.Visits.{Asks};
+ghost use Rattle.std.specs.Prelude.{IfOk};
+ghost use Rattle.tc_space.specs.Changes.{first_in};
 ghost use Rattle.tc_space.specs.Refusals.{Blames};
+ghost use Rattle.bt_ways.specs.Items.{item_in};
+ghost use Rattle.bt_tree.specs.Finding.{AnswersAt};
+ghost use Rattle.bt_tree.specs.Meaning.{AnswersPairs, IsOpen};
+ghost use Rattle.bt_tree.specs.Visits.{Asks};
 
 use crate::searching::spot;
 use crate::tree::Tree;
@@ -23,7 +21,7 @@ fn copy_found<O: Order>(
     leaf: &SlottedLeaf,
     key: &[u8],
 ) -> Result<Option<Item>, AllocError>
-    ensures { IfOk result (λ found. (ps : List Pair) → IsLeafFor (before_by O.cmp) key.now ps leaf.now → found ≡ item_in key.now ps) }
+    ensures { IfOk result (AnswersAt O.cmp key.now (item_in key.now) leaf.now) }
 {
     let (place, hit) = spot::<O>(leaf, key);
     if !hit {
@@ -38,7 +36,7 @@ fn copy_first<O: Order>(
     leaf: &SlottedLeaf,
     key: &[u8],
 ) -> Result<Option<Blob>, AllocError>
-    ensures { IfOk result (λ found. (ps : List Pair) → IsLeafFor (before_by O.cmp) key.now ps leaf.now → found ≡ first ps key.now) }
+    ensures { IfOk result (AnswersAt O.cmp key.now (first_in key.now) leaf.now) }
 {
     let (place, hit) = spot::<O>(leaf, key);
     if !hit {
@@ -55,15 +53,12 @@ impl<R: Records, O: Order> Tree<R, O> {
         key: &[u8],
         steps: &mut Steps<L>,
     ) -> Result<Option<Item>, RecErr>
-        requires { IsReady R.S.Space (Means R.S.Space R.file_of R.holds (before_by O.cmp)) self.old space.old }
-        ensures value { IfOk result (λ found. (ps : List Pair) → Means R.S.Space R.file_of R.holds (before_by O.cmp) self.old space.old ps → found ≡ item_in key.now ps) }
-        ensures asks { Asks R.S.Space R.file_of R.holds R.region R.gets (before_by O.cmp) self.old.height self.old self.new steps.old steps.new space.old space.new }
+        requires { IsOpen R.S.Space R.Records O.Order self.old space.old }
+        ensures value { IfOk result (AnswersPairs R.S.Space R.Records O.Order (item_in key.now) self.old space.old) }
+        ensures asks { Asks R.S.Space R.Records O.Order self.old.height self.old self.new steps.old steps.new space.old space.new }
         ensures cause { Blames R.S.Space result space.old space.new }
     {
-        let leaf = match self.leaf_for(space, key, steps) {
-            Ok(leaf) => leaf,
-            Err(e) => return Err(e),
-        };
+        let leaf = self.leaf_for(space, key, steps)?;
         Ok(copy_found::<O>(self.alloc, &leaf, key)?)
     }
 
@@ -74,14 +69,12 @@ impl<R: Records, O: Order> Tree<R, O> {
         key: &[u8],
         steps: &mut Steps<L>,
     ) -> Result<Option<Blob>, RecErr>
-        requires { IsReady R.S.Space (Means R.S.Space R.file_of R.holds (before_by O.cmp)) self.old space.old }
-        ensures value { IfOk result (λ found. (ps : List Pair) → Means R.S.Space R.file_of R.holds (before_by O.cmp) self.old space.old ps → found ≡ first ps key.now) }
-        ensures asks { Asks R.S.Space R.file_of R.holds R.region R.gets (before_by O.cmp) self.old.height self.old self.new steps.old steps.new space.old space.new }
+        requires { IsOpen R.S.Space R.Records O.Order self.old space.old }
+        ensures value { IfOk result (AnswersPairs R.S.Space R.Records O.Order (first_in key.now) self.old space.old) }
+        ensures asks { Asks R.S.Space R.Records O.Order self.old.height self.old self.new steps.old steps.new space.old space.new }
         ensures cause { Blames R.S.Space result space.old space.new }
     {
-        match self.leaf_for(space, key, steps) {
-            Ok(leaf) => Ok(copy_first::<O>(self.alloc, &leaf, key)?),
-            Err(e) => Err(e),
-        }
+        let leaf = self.leaf_for(space, key, steps)?;
+        Ok(copy_first::<O>(self.alloc, &leaf, key)?)
     }
 }

@@ -3,6 +3,7 @@
 
 mod changing;
 mod climbing;
+mod column;
 mod cutting;
 mod descending;
 mod dropping;

@@ -1,17 +1,13 @@
 //! A tree made anew.
-ghost use Rattle.std.specs.Prelude.{◌≡◌, IfOk, OnErr, IsErrOf};
-ghost use Rattle.tc_base.specs.Maps.{Map};
-ghost use Rattle.tc_base.specs.declared.kind.Mode.TheVariants.{Over};
-ghost use Rattle.tc_space.specs.Changes.{put_in};
-ghost use Rattle.tc_space.specs.Frames.{In, Keeps};
+ghost use Rattle.std.specs.Prelude.{◌≡◌, IfOk, OnErr};
+ghost use Rattle.tc_space.specs.Frames.{Keeps};
 ghost use Rattle.tc_space.specs.Refusals.{OnFault};
-ghost use Rattle.tc_space.specs.Stores.{FullBy, IsReady};
-ghost use Rattle.bt_page.specs.Keys.{key_of};
-ghost use Rattle.bt_page.specs.Pages.{leaf_bytes};
-ghost use Rattle.bt_rows.specs.Orders.{before_by};
-ghost use Rattle.bt_tree.specs.Making.{IsBare, IsNew, IsRefused, MayBe, has_some, lone_leaf};
-ghost use Rattle.bt_tree.specs.Meaning.{Means};
+ghost use Rattle.tc_space.specs.Stores.{ReadyIn};
+ghost use Rattle.bt_cache.specs.Effects.{OnFull};
+ghost use Rattle.bt_tree.specs.Making.{HoldsBare, IsNew, IsRefused, LacksFirst, MayBe};
+ghost use Rattle.bt_tree.specs.Numbers.{lone_head};
 
+use crate::column::read_column;
 use crate::path::Path;
 use crate::tree::Tree;
 use bt_cache::Cache;
@@ -28,7 +24,7 @@ pub const ROOM: usize = 64;
 
 // The numbers of a tree of one leaf with no keys.
 fn new_head(order: u8, leaf_limit: u32, node_limit: u32) -> TreeHead
-    ensures { result ≡ record { order = order; leaf_limit = leaf_limit; node_limit = node_limit; root = 1; first = 1; last = 1; leaf_ids = 1; node_ids = 0; pairs = 0 } }
+    ensures { result ≡ lone_head order leaf_limit node_limit }
 {
     TreeHead {
         order,
@@ -44,8 +40,8 @@ fn new_head(order: u8, leaf_limit: u32, node_limit: u32) -> TreeHead
 }
 
 impl<R: Records + Drop, O: Order> Tree<R, O> {
-    /// A tree of no pairs in a store that holds nothing, or the record `column` alone, which makes it an index file's: one leaf is written. Both limits are from 4 to 256. After a refusal the store is gone, and the space isn't
-    /// sound or nothing is written. The header's numbers come with `settle`.
+    /// A tree of no pairs in a store that holds nothing, or the record `column` alone, which makes it an index file's: one leaf is written. Both limits are from 4 to 256.
+    /// After a refusal the store is gone, and the space isn't sound or nothing is written. The header's numbers come with `settle`.
     pub fn create(
         alloc: Global,
         store: R,
@@ -53,18 +49,17 @@ impl<R: Records + Drop, O: Order> Tree<R, O> {
         leaf_limit: u32,
         node_limit: u32,
     ) -> Result<Tree<R, O>, RecErr>
-        requires ready { IsReady R.S.Space (In R.S.Space R.file_of R.holds) store space.old }
-        requires bare { (m : Map) → In R.S.Space R.file_of R.holds store space.old m → IsBare m }
+        requires ready { ReadyIn R.S.Space R.file_of R.holds store space.old }
+        requires bare { HoldsBare R.S.Space R.Records store space.old }
         requires numbers { MayBe leaf_limit node_limit O.CODE }
-        ensures made { IfOk result (λ t. IsNew R.S.Space R.file_of (R.file_of store) (Means R.S.Space R.file_of R.holds (before_by O.cmp)) leaf_limit node_limit O.CODE t space.old space.new) }
-        ensures index { IfOk result (λ t. (m : Map) → In R.S.Space R.file_of R.holds store space.old m → t.index ≡ has_some m) }
+        ensures made { IfOk result (λ t. IsNew R.S.Space R.Records O.Order store leaf_limit node_limit t space.old space.new) }
         ensures refused { OnErr result (IsRefused R.S.Space space.old space.new) }
-        ensures full { IsErrOf result RecErr.Full → FullBy (In R.S.Space R.file_of R.holds) R.fills (put_in Over (key_of 1) (leaf_bytes lone_leaf)) store space.old space.new }
+        ensures full { OnFull result (LacksFirst R.S.Space R.Records store space.old space.new) }
         ensures keeps { Keeps R.S.Space space.old space.new }
         ensures cause { OnFault R.S.Space result space.old space.new }
     {
         let mut store = store;
-        let index = store.count() > 0;
+        let column = read_column(&mut store, space)?;
         let mut cache = Cache::new(alloc, ROOM)?;
         let leaf = Leaf {
             prev: 0,
@@ -72,18 +67,16 @@ impl<R: Records + Drop, O: Order> Tree<R, O> {
             items: Seq::new(alloc),
         };
         let leaf = SlottedLeaf::of(alloc, &leaf)?;
-        match cache.put_leaf(&mut store, space, 1, leaf) {
-            Ok(()) => Ok(Tree {
-                alloc,
-                store,
-                cache,
-                head: new_head(O::CODE, leaf_limit, node_limit),
-                height: 1,
-                index,
-                path: Path::new(alloc),
-                of: PhantomData,
-            }),
-            Err(e) => Err(e),
-        }
+        cache.put_leaf(&mut store, space, 1, leaf)?;
+        Ok(Tree {
+            alloc,
+            store,
+            cache,
+            head: new_head(O::CODE, leaf_limit, node_limit),
+            height: 1,
+            column,
+            path: Path::new(alloc),
+            of: PhantomData,
+        })
     }
 }

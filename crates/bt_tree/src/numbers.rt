@@ -1,8 +1,7 @@
 //! What is known of a tree with no page read.
 ghost use Rattle.std.specs.Prelude.{◌≡◌, ℕ, List, length};
 ghost use Rattle.tc_base.specs.declared.seq.Pair.{Pair};
-ghost use Rattle.bt_rows.specs.Orders.{before_by};
-ghost use Rattle.bt_tree.specs.Meaning.{file_in, holds_in};
+ghost use Rattle.bt_tree.specs.Meaning.{HoldsIn, file_in};
 
 use crate::tree::Tree;
 use tc_base::Order;
@@ -18,14 +17,14 @@ impl<R: Records, O: Order> Tree<R, O> {
 
     /// How many pairs are held.
     pub fn count(&self) -> u64
-        ensures { (bytes : List ℕ) (ps : List Pair) → holds_in R.holds (before_by O.cmp) self.now bytes ps → result ≡ length ps }
+        ensures { (bytes : List ℕ) (ps : List Pair) → HoldsIn R.Records O.Order self.now bytes ps → result ≡ length ps }
     {
         self.head.pairs
     }
 
     /// The number of the store's file.
     pub fn file(&self) -> u32
-        ensures { result ≡ file_in R.file_of self.now }
+        ensures { result ≡ file_in R.Records self.now }
     {
         self.store.file()
     }

@@ -1,18 +1,11 @@
 //! Single pages of a tree, read and written.
-ghost use Rattle.std.specs.Prelude.{◌≡◌, ◌+◌, ◌<◌, ◌≤◌, ◌^◌, ℕ, Some, IfOk, OnOk, OnErr, IsErrOf};
-ghost use Rattle.tc_space.specs.Frames.{Refuses, Writes};
+ghost use Rattle.std.specs.Prelude.{◌≡◌, ◌+◌, ◌<◌, ◌≤◌, ◌^◌, IfOk, OnOk, OnErr, IsErrOf};
 ghost use Rattle.tc_space.specs.Refusals.{Blames, OnFault};
-ghost use Rattle.tc_space.specs.Stores.{IsReady, Only};
 ghost use Rattle.bt_page.specs.Keys.{node_offset};
-ghost use Rattle.bt_page.specs.declared.page.Leaf.{Leaf as the_leaf};
-ghost use Rattle.bt_page.specs.declared.page.Node.{Node as the_node};
-ghost use Rattle.bt_rows.specs.Pages.{PageMap};
 ghost use Rattle.bt_rows.specs.declared.page.Page.TheVariants.{Leaf as leaf_page, Node as node_page};
-ghost use Rattle.bt_cache.specs.Effects.{Looks};
-ghost use Rattle.bt_cache.specs.Held.{Beside};
-ghost use Rattle.bt_ways.specs.Writes.{put_at};
-ghost use Rattle.bt_tree.specs.Meaning.{file_in};
-ghost use Rattle.bt_tree.specs.Paging.{HasLeafAt, HasNodeAt, IsLeafId, IsNodeId, IsUsedUp, LacksPage, Shows, StaysStill};
+ghost use Rattle.bt_cache.specs.Effects.{OnFull};
+ghost use Rattle.bt_tree.specs.Numbers.{with_leaf_ids, with_node_ids};
+ghost use Rattle.bt_tree.specs.Paging.{HasLeafAt, HasNodeAt, IsLeafId, IsNodeId, IsPageOf, IsShown, LacksPage, Peeks, PutsAt, RefusesPages, StaysStill};
 
 use crate::tree::Tree;
 use bt_slots::{SlottedLeaf, SlottedNode};
@@ -28,17 +21,13 @@ impl<R: Records, O: Order> Tree<R, O> {
         id: u64,
         steps: &mut Steps<L>,
     ) -> Result<SlottedLeaf, RecErr>
-        requires ready { IsReady R.S.Space (Shows R.S.Space R.file_of R.holds) self.old space.old }
-        requires there { HasLeafAt R.S.Space R.file_of R.holds id self.old space.old }
-        ensures leaf { IfOk result (λ read. (pages : PageMap) (l : the_leaf) → Shows R.S.Space R.file_of R.holds self.old space.old pages → pages id ≡ Some (leaf_page l) → read ≡ l) }
-        ensures looks { Looks R.S.Space R.file_of R.holds self.old.cache.pages self.new.cache.pages self.old.store self.new.store space.old space.new }
-        ensures still { StaysStill R.S.Space R.file_of R.region self.old self.new space.old space.new }
+        requires ready { IsShown R.S.Space R.Records self.old space.old }
+        requires there { HasLeafAt R.S.Space R.Records id self.old space.old }
+        ensures leaf { IfOk result (IsPageOf R.S.Space R.Records leaf_page id self.old space.old) }
+        ensures peeks { Peeks R.S.Space R.Records self.old self.new space.old space.new }
         ensures cause { Blames R.S.Space result space.old space.new }
     {
-        let leaf = match self.cache.take_leaf(&mut self.store, space, id, steps) {
-            Ok(leaf) => leaf,
-            Err(e) => return Err(e),
-        };
+        let leaf = self.cache.take_leaf(&mut self.store, space, id, steps)?;
         match Rc::try_unwrap(leaf) {
             Ok(leaf) => Ok(leaf),
             Err(shared) => Ok(shared.copy(self.alloc)?),
@@ -52,17 +41,13 @@ impl<R: Records, O: Order> Tree<R, O> {
         id: u64,
         steps: &mut Steps<L>,
     ) -> Result<SlottedNode, RecErr>
-        requires ready { IsReady R.S.Space (Shows R.S.Space R.file_of R.holds) self.old space.old }
-        requires there { HasNodeAt R.S.Space R.file_of R.holds id self.old space.old }
-        ensures node { IfOk result (λ read. (pages : PageMap) (n : the_node) → Shows R.S.Space R.file_of R.holds self.old space.old pages → pages id ≡ Some (node_page n) → read ≡ n) }
-        ensures looks { Looks R.S.Space R.file_of R.holds self.old.cache.pages self.new.cache.pages self.old.store self.new.store space.old space.new }
-        ensures still { StaysStill R.S.Space R.file_of R.region self.old self.new space.old space.new }
+        requires ready { IsShown R.S.Space R.Records self.old space.old }
+        requires there { HasNodeAt R.S.Space R.Records id self.old space.old }
+        ensures node { IfOk result (IsPageOf R.S.Space R.Records node_page id self.old space.old) }
+        ensures peeks { Peeks R.S.Space R.Records self.old self.new space.old space.new }
         ensures cause { Blames R.S.Space result space.old space.new }
     {
-        let node = match self.cache.node(&mut self.store, space, id, steps) {
-            Ok(node) => node,
-            Err(e) => return Err(e),
-        };
+        let node = self.cache.node(&mut self.store, space, id, steps)?;
         self.cache.forget(id);
         match Rc::try_unwrap(node) {
             Ok(node) => Ok(node),
@@ -77,12 +62,12 @@ impl<R: Records, O: Order> Tree<R, O> {
         id: u64,
         leaf: SlottedLeaf,
     ) -> Result<(), RecErr>
-        requires ready { IsReady R.S.Space (Shows R.S.Space R.file_of R.holds) self.old space.old }
+        requires ready { IsShown R.S.Space R.Records self.old space.old }
         requires id { R.S.tells → IsLeafId self.old.head id }
-        ensures put { OnOk result (Writes R.S.Space (Only (file_in R.file_of self.old)) (Shows R.S.Space R.file_of R.holds) (put_at id (leaf_page leaf)) self.old self.new space.old space.new) }
-        ensures refused { OnErr result (Refuses R.S.Space (Beside R.S.Space R.file_of R.holds) (self.old.cache.pages, self.old.store) (self.new.cache.pages, self.new.store) space.old space.new) }
-        ensures full { IsErrOf result RecErr.Full → LacksPage R.S.Space R.file_of R.holds R.fills (λ p. p ≡ leaf_page leaf) self.old.store space.old space.new }
-        ensures still { StaysStill R.S.Space R.file_of R.region self.old self.new space.old space.new }
+        ensures put { OnOk result (PutsAt R.S.Space R.Records id (leaf_page leaf) self.old self.new space.old space.new) }
+        ensures refused { RefusesPages R.S.Space R.Records result self.old self.new space.old space.new }
+        ensures full { OnFull result (LacksPage R.S.Space R.Records (λ p. p ≡ leaf_page leaf) self.old.store space.old space.new) }
+        ensures still { StaysStill R.S.Space R.Records self.old self.new space.old space.new }
         ensures cause { OnFault R.S.Space result space.old space.new }
     {
         // it doesn't come where the records are told
@@ -91,10 +76,7 @@ impl<R: Records, O: Order> Tree<R, O> {
         }
         // its bytes tell that the page has a spelling
         let _bytes = leaf.as_slice();
-        match self.cache.put_leaf(&mut self.store, space, id, leaf) {
-            Ok(()) => Ok(()),
-            Err(e) => Err(e),
-        }
+        self.cache.put_leaf(&mut self.store, space, id, leaf)
     }
 
     /// Writes a node, as its bytes, under an id that was given, as `put_leaf` writes a leaf.
@@ -104,12 +86,12 @@ impl<R: Records, O: Order> Tree<R, O> {
         id: u64,
         node: SlottedNode,
     ) -> Result<(), RecErr>
-        requires ready { IsReady R.S.Space (Shows R.S.Space R.file_of R.holds) self.old space.old }
+        requires ready { IsShown R.S.Space R.Records self.old space.old }
         requires id { R.S.tells → IsNodeId self.old.head id }
-        ensures put { OnOk result (Writes R.S.Space (Only (file_in R.file_of self.old)) (Shows R.S.Space R.file_of R.holds) (put_at id (node_page node)) self.old self.new space.old space.new) }
-        ensures refused { OnErr result (Refuses R.S.Space (Beside R.S.Space R.file_of R.holds) (self.old.cache.pages, self.old.store) (self.new.cache.pages, self.new.store) space.old space.new) }
-        ensures full { IsErrOf result RecErr.Full → LacksPage R.S.Space R.file_of R.holds R.fills (λ p. p ≡ node_page node) self.old.store space.old space.new }
-        ensures still { StaysStill R.S.Space R.file_of R.region self.old self.new space.old space.new }
+        ensures put { OnOk result (PutsAt R.S.Space R.Records id (node_page node) self.old self.new space.old space.new) }
+        ensures refused { RefusesPages R.S.Space R.Records result self.old self.new space.old space.new }
+        ensures full { OnFull result (LacksPage R.S.Space R.Records (λ p. p ≡ node_page node) self.old.store space.old space.new) }
+        ensures still { StaysStill R.S.Space R.Records self.old self.new space.old space.new }
         ensures cause { OnFault R.S.Space result space.old space.new }
     {
         // it doesn't come where the records are told
@@ -118,17 +100,14 @@ impl<R: Records, O: Order> Tree<R, O> {
         }
         // its bytes tell that the page has a spelling
         let _bytes = node.as_slice();
-        match self.cache.put_node(&mut self.store, space, id, node) {
-            Ok(()) => Ok(()),
-            Err(e) => Err(e),
-        }
+        self.cache.put_node(&mut self.store, space, id, node)
     }
 
     /// The next id of a leaf, which no page has. An `Err`, which is Full, changes nothing.
     pub(crate) fn leaf_id(&mut self) -> Result<u64, RecErr>
         ensures given { IfOk result (λ id. id ≡ self.old.head.leaf_ids + 1) }
         ensures small { IfOk result (λ id. id < node_offset) }
-        ensures noted { OnOk result (self.new ≡ record self.old { head = record self.old.head { leaf_ids = self.old.head.leaf_ids + 1 } }) }
+        ensures noted { OnOk result (self.new ≡ with_leaf_ids (self.old.head.leaf_ids + 1) self.old) }
         ensures err { OnErr result ((self.new ≡ self.old) × (node_offset ≤ self.old.head.leaf_ids + 1)) }
         ensures cause { IsErrOf result RecErr.Fault → ⊥ }
     {
@@ -143,7 +122,7 @@ impl<R: Records, O: Order> Tree<R, O> {
     pub(crate) fn node_id(&mut self) -> Result<u64, RecErr>
         ensures given { IfOk result (λ id. id ≡ node_offset + (self.old.head.node_ids + 1)) }
         ensures small { OnOk result (self.old.head.node_ids + 1 < node_offset) }
-        ensures noted { OnOk result (self.new ≡ record self.old { head = record self.old.head { node_ids = self.old.head.node_ids + 1 } }) }
+        ensures noted { OnOk result (self.new ≡ with_node_ids (self.old.head.node_ids + 1) self.old) }
         ensures err { OnErr result ((self.new ≡ self.old) × (node_offset ≤ self.old.head.node_ids + 1)) }
         ensures cause { IsErrOf result RecErr.Fault → ⊥ }
     {

@@ -1,17 +1,14 @@
 //! A leaf that grew beyond its limits, written as two or three.
-ghost use Rattle.std.specs.Prelude.{◌≡◌, ◌+◌, ◌-◌, ◌<◌, ◌≤◌, ◌^◌, ◌⊎◌, ◌++◌, ◌∷◌, ◌==◌, [], suc, length, take, drop, IfOk, OnOk, OnErr, IsErrOf, if◌then◌else◌};
+ghost use Rattle.std.specs.Prelude.{◌≡◌, ◌+◌, ◌-◌, ◌<◌, ◌≤◌, ◌^◌, ◌∷◌, ◌==◌, [], suc, length, take, drop, IfOk, OnOk, IsErrOf, if◌then◌else◌};
 ghost use Rattle.std.specs.List.{AllByRecursion};
-ghost use Rattle.tc_space.specs.Frames.{Writes};
 ghost use Rattle.tc_space.specs.Refusals.{Blames, OnFault};
-ghost use Rattle.tc_space.specs.Stores.{IsReady, Only};
 ghost use Rattle.bt_page.specs.Keys.{node_offset};
-ghost use Rattle.bt_rows.specs.Pages.{PageMap};
-ghost use Rattle.bt_cache.specs.Effects.{Looks};
+ghost use Rattle.bt_cache.specs.Effects.{OnFull};
 ghost use Rattle.bt_ways.specs.Changes.{IsOver};
-ghost use Rattle.bt_ways.specs.Parts.{Part, first_key};
-ghost use Rattle.bt_tree.specs.Meaning.{file_in};
-ghost use Rattle.bt_tree.specs.Paging.{HasLeafAt, IsLeafId, IsUsedUp, LacksPage, Shows, StaysStill, Turns};
-ghost use Rattle.bt_tree.specs.Parting.{AddsBehind, ArePartsOf, IsLaid, IsParted, IsPiece, ShowsLeaf, Widens, last_part, parts_from, put_laid};
+ghost use Rattle.bt_ways.specs.Parts.{first_key};
+ghost use Rattle.bt_tree.specs.Numbers.{with_last, with_leaf_ids};
+ghost use Rattle.bt_tree.specs.Paging.{HasLeafAt, IsLeafId, IsShown, IsUsedUp, LacksPage, Peeks, Rewrites, StaysStill};
+ghost use Rattle.bt_tree.specs.Parting.{AddsAll, AreHalves, AreThirds, HasLeaf, IsLaid, IsThird, LacksPiece, TurnsParted, Widens, put_laid, third_ids};
 
 use crate::cutting::cut_places;
 use crate::tree::Tree;
@@ -58,7 +55,7 @@ fn in_two(
     next: u64,
 ) -> Result<Parted, AllocError>
     requires { (i ≤ j) × (j ≤ length leaf.now.items) }
-    ensures { IfOk result (λ p. ArePartsOf id leaf.now.prev next (take i leaf.now.items) (record { id = second_id; items = take (j - i) (drop i leaf.now.items) } ∷ []) p) }
+    ensures { IfOk result (AreHalves id leaf.now i j second_id next) }
 {
     let mut leaves = Seq::new(alloc);
     let mut added = Seq::new(alloc);
@@ -87,7 +84,7 @@ fn in_three(
     third_id: u64,
 ) -> Result<Parted, AllocError>
     requires { j ≤ length leaf.now.items }
-    ensures { IfOk result (λ p. (p.leaves ≡ two.leaves ++ record { id = third_id; leaf = record { prev = second_id; next = leaf.now.next; items = drop j leaf.now.items } } ∷ []) × (p.added ≡ two.added ++ record { child = third_id; key = first_key (drop j leaf.now.items) } ∷ []) × (p.last ≡ third_id)) }
+    ensures { IfOk result (IsThird two leaf.now j second_id third_id) }
 {
     let mut leaves = two.leaves;
     let mut added = two.added;
@@ -108,25 +105,20 @@ impl<R: Records, O: Order> Tree<R, O> {
     // The leaves that one becomes where it is parted at two places, under the next ids. The third would be empty where the second place is the end, and isn't one then.
     fn parts(&mut self, id: u64, leaf: SlottedLeaf, i: usize, j: usize) -> Result<Parted, RecErr>
         requires { (i ≤ j) × (j ≤ length leaf.items) }
-        ensures parts { IfOk result (λ p. ArePartsOf id leaf.prev leaf.next (take i leaf.items) (parts_from self.old.head.leaf_ids (take (j - i) (drop i leaf.items)) (drop j leaf.items)) p) }
-        ensures given { OnOk result (self.new.head.leaf_ids ≡ self.old.head.leaf_ids + length (parts_from self.old.head.leaf_ids (take (j - i) (drop i leaf.items)) (drop j leaf.items))) }
+        ensures parts { IfOk result (AreThirds self.old.head.leaf_ids id leaf i j) }
+        ensures given { OnOk result (self.new.head.leaf_ids ≡ third_ids self.old.head.leaf_ids leaf i j) }
         ensures small { OnOk result (self.new.head.leaf_ids < node_offset) }
-        ensures noted { self.new ≡ record self.old { head = record self.old.head { leaf_ids = self.new.head.leaf_ids } } }
-        ensures gains { (self.old.head.leaf_ids ≤ self.new.head.leaf_ids) × (self.new.head.leaf_ids ≤ self.old.head.leaf_ids + 2) }
-        ensures full { IsErrOf result RecErr.Full → IsUsedUp self.new.head }
+        ensures noted { self.new ≡ with_leaf_ids self.new.head.leaf_ids self.old }
+        ensures least { self.old.head.leaf_ids ≤ self.new.head.leaf_ids }
+        ensures most { self.new.head.leaf_ids ≤ self.old.head.leaf_ids + 2 }
+        ensures full { OnFull result (IsUsedUp self.new.head) }
         ensures cause { IsErrOf result RecErr.Fault → ⊥ }
     {
-        let second_id = match self.leaf_id() {
-            Ok(id) => id,
-            Err(e) => return Err(e),
-        };
+        let second_id = self.leaf_id()?;
         if j == leaf.len() {
             return Ok(in_two(self.alloc, id, &leaf, i, j, second_id, leaf.next())?);
         }
-        let third_id = match self.leaf_id() {
-            Ok(id) => id,
-            Err(e) => return Err(e),
-        };
+        let third_id = self.leaf_id()?;
         let two = in_two(self.alloc, id, &leaf, i, j, second_id, third_id)?;
         Ok(in_three(self.alloc, two, &leaf, j, second_id, third_id)?)
     }
@@ -140,20 +132,16 @@ impl<R: Records, O: Order> Tree<R, O> {
         leaves: Seq<Laid>,
         steps: &mut Steps<L>,
     ) -> Result<Seq<Laid>, RecErr>
-        requires ready { IsReady R.S.Space (Shows R.S.Space R.file_of R.holds) self.old space.old }
-        requires there { (next ≡ 0 → ⊥) → HasLeafAt R.S.Space R.file_of R.holds next self.old space.old }
-        ensures added { IfOk result (λ all. (pages : PageMap) → Shows R.S.Space R.file_of R.holds self.old space.old pages → AddsBehind next prev pages leaves all) }
-        ensures looks { Looks R.S.Space R.file_of R.holds self.old.cache.pages self.new.cache.pages self.old.store self.new.store space.old space.new }
-        ensures still { StaysStill R.S.Space R.file_of R.region self.old self.new space.old space.new }
+        requires ready { IsShown R.S.Space R.Records self.old space.old }
+        requires there { (next ≡ 0 → ⊥) → HasLeafAt R.S.Space R.Records next self.old space.old }
+        ensures added { IfOk result (AddsAll R.S.Space R.Records next prev leaves self.old space.old) }
+        ensures peeks { Peeks R.S.Space R.Records self.old self.new space.old space.new }
         ensures cause { Blames R.S.Space result space.old space.new }
     {
         if next == 0 {
             return Ok(leaves);
         }
-        let leaf = match self.own_leaf(space, next, steps) {
-            Ok(leaf) => leaf,
-            Err(e) => return Err(e),
-        };
+        let leaf = self.own_leaf(space, next, steps)?;
         let leaf = leaf.with_prev(self.alloc, prev)?;
         let mut leaves = leaves;
         leaves.push(Laid { id: next, leaf })?;
@@ -162,7 +150,7 @@ impl<R: Records, O: Order> Tree<R, O> {
 
     // The last leaf is another, where none is behind it.
     fn follow(&mut self, next: u64, last: u64)
-        ensures { self.new ≡ record self.old { head = record self.old.head { last = if next == 0 then last else self.old.head.last } } }
+        ensures { self.new ≡ with_last (if next == 0 then last else self.old.head.last) self.old }
     {
         if next == 0 {
             self.head.last = last;
@@ -171,19 +159,17 @@ impl<R: Records, O: Order> Tree<R, O> {
 
     // Writes leaves, one by one.
     fn lay(&mut self, space: &mut R::S, leaves: Seq<Laid>) -> Result<(), RecErr>
-        requires ready { IsReady R.S.Space (Shows R.S.Space R.file_of R.holds) self.old space.old }
+        requires ready { IsShown R.S.Space R.Records self.old space.old }
         requires ids { R.S.tells → AllByRecursion (λ l. IsLeafId self.old.head l.id) leaves }
-        ensures laid { OnOk result (Writes R.S.Space (Only (file_in R.file_of self.old)) (Shows R.S.Space R.file_of R.holds) (put_laid leaves) self.old self.new space.old space.new) }
-        ensures full { IsErrOf result RecErr.Full → LacksPage R.S.Space R.file_of R.holds R.fills (IsLaid leaves) self.old.store space.old space.new }
-        ensures still { StaysStill R.S.Space R.file_of R.region self.old self.new space.old space.new }
+        ensures laid { OnOk result (Rewrites R.S.Space R.Records (put_laid leaves) self.old self.new space.old space.new) }
+        ensures full { OnFull result (LacksPage R.S.Space R.Records (IsLaid leaves) self.old.store space.old space.new) }
+        ensures still { StaysStill R.S.Space R.Records self.old self.new space.old space.new }
         ensures cause { OnFault R.S.Space result space.old space.new }
     {
         let mut rest = leaves.into_vec();
         while !rest.is_empty() {
             let laid = rest.remove(0);
-            if let Err(e) = self.put_leaf(space, laid.id, laid.leaf) {
-                return Err(e);
-            }
+            self.put_leaf(space, laid.id, laid.leaf)?;
         }
         Ok(())
     }
@@ -198,33 +184,22 @@ impl<R: Records, O: Order> Tree<R, O> {
         place: usize,
         steps: &mut Steps<L>,
     ) -> Result<(), RecErr>
-        requires ready { IsReady R.S.Space (ShowsLeaf R.S.Space R.file_of R.holds id leaf.next) self.old space.old }
+        requires ready { HasLeaf R.S.Space R.Records id leaf.next self.old space.old }
         requires inside { place < length leaf.items }
         requires over { R.S.tells → IsOver self.old.head.leaf_limit leaf.items place }
         requires rows { self.old.height < 2 ^ 64 - 1 }
-        ensures parted { OnOk result (Turns R.S.Space (Only (file_in R.file_of self.old)) (ShowsLeaf R.S.Space R.file_of R.holds id leaf.next) (Shows R.S.Space R.file_of R.holds) (IsParted self.old self.new id leaf) self.old self.new space.old space.new) }
-        ensures full { IsErrOf result RecErr.Full → IsUsedUp self.new.head ⊎ LacksPage R.S.Space R.file_of R.holds R.fills (λ p. (pages : PageMap) → ShowsLeaf R.S.Space R.file_of R.holds id leaf.next self.old space.old pages → IsPiece self.old.head leaf.items leaf.next pages p) self.old.store space.old space.new }
-        ensures widens { Widens R.S.Space R.file_of R.region (suc (length self.old.path)) self.old self.new space.old space.new }
+        ensures parted { OnOk result (TurnsParted R.S.Space R.Records id leaf self.old self.new space.old space.new) }
+        ensures full { OnFull result (LacksPiece R.S.Space R.Records id leaf self.old self.new space.old space.new) }
+        ensures widens { Widens R.S.Space R.Records (suc (length self.old.path)) self.old self.new space.old space.new }
         ensures cause { OnFault R.S.Space result space.old space.new }
     {
         let next = leaf.next();
         let (i, j) = cut_places(self.head.leaf_limit, &leaf, place, next == 0);
-        let parted = match self.parts(id, leaf, i, j) {
-            Ok(parted) => parted,
-            Err(e) => return Err(e),
-        };
+        let parted = self.parts(id, leaf, i, j)?;
         let last = parted.last;
-        let leaves = match self.behind(space, next, last, parted.leaves, steps) {
-            Ok(leaves) => leaves,
-            Err(e) => return Err(e),
-        };
+        let leaves = self.behind(space, next, last, parted.leaves, steps)?;
         self.follow(next, last);
-        if let Err(e) = self.lay(space, leaves) {
-            return Err(e);
-        }
-        match self.climb(space, parted.added, steps) {
-            Ok(()) => Ok(()),
-            Err(e) => Err(e),
-        }
+        self.lay(space, leaves)?;
+        self.climb(space, parted.added, steps)
     }
 }

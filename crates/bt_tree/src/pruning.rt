@@ -1,17 +1,11 @@
 //! Places and nodes that go from the rows above a leaf.
-ghost use Rattle.std.specs.Prelude.{◌≡◌, ◌<◌, ◌≤◌, [], length, IfOk, OnOk, IsErrOf, MatchOption};
-ghost use Rattle.tc_space.specs.Stores.{IsReady, Only};
-ghost use Rattle.bt_page.specs.declared.page.Node.{Node as the_node};
-ghost use Rattle.bt_rows.specs.Orders.{before_by};
-ghost use Rattle.bt_rows.specs.Pages.{PageMap};
-ghost use Rattle.bt_rows.specs.declared.page.Page.TheVariants.{Node as node_page};
-ghost use Rattle.bt_cache.specs.Effects.{Looks};
+ghost use Rattle.std.specs.Prelude.{◌≡◌, ◌<◌, ◌≤◌, length, IfOk, OnOk};
+ghost use Rattle.tc_space.specs.Refusals.{Blames, OnFault, OnlyLogIsFull};
 ghost use Rattle.bt_ways.specs.Removals.{without_place};
-ghost use Rattle.bt_tree.specs.Climbing.{ShowsWay};
-ghost use Rattle.bt_tree.specs.Meaning.{file_in};
-ghost use Rattle.bt_tree.specs.Paging.{HasNodeAt, Shows, StaysStill, Turns};
-ghost use Rattle.bt_tree.specs.Removing.{Cuts, IsLowered, IsRemnant, LacksRoom, Narrows, ShowsRows, SinksTo};
-ghost use Rattle.tc_space.specs.Refusals.{Blames, OnFault};
+ghost use Rattle.bt_cache.specs.Effects.{OnFull};
+ghost use Rattle.bt_tree.specs.Climbing.{HasWay};
+ghost use Rattle.bt_tree.specs.Paging.{HasNodeAt, IsShown, Peeks};
+ghost use Rattle.bt_tree.specs.Removing.{HasRows, IsHeir, IsLowered, LacksCut, Narrows, ShowsHeir, StaysNumbered, TurnsCut, TurnsSunk};
 
 use crate::tree::Tree;
 use bt_page::Node;
@@ -42,7 +36,7 @@ fn without_child(node: Node, place: usize) -> Node
 
 // The heir of a node that has no other page below it.
 fn lone_heir(node: &SlottedNode) -> Option<u64>
-    ensures { MatchOption result (0 < length node.now.entries) (λ heir. (node.now.entries ≡ []) × (heir ≡ node.now.heir)) }
+    ensures { IsHeir node.now result }
 {
     if node.len() > 0 {
         return None;
@@ -54,32 +48,27 @@ impl<R: Records, O: Order> Tree<R, O> {
     /// Takes the place that the noted way leads to out of the lowest node of the way, which is written; one that has this place alone is dropped, and its own place goes from the node above it, and so
     /// on. After a refusal some nodes may be gone.
     pub(crate) fn prune<L>(&mut self, space: &mut R::S, steps: &mut Steps<L>) -> Result<(), RecErr>
-        requires { IsReady R.S.Space (ShowsWay R.S.Space R.file_of R.holds) self.old space.old }
-        ensures cut { OnOk result (Turns R.S.Space (Only (file_in R.file_of self.old)) (ShowsWay R.S.Space R.file_of R.holds) (Shows R.S.Space R.file_of R.holds) (Cuts self.old) self.old self.new space.old space.new) }
-        ensures full { IsErrOf result RecErr.Full → LacksRoom R.S.Space R.file_of R.holds R.fills (λ p. (pages : PageMap) → ShowsWay R.S.Space R.file_of R.holds self.old space.old pages → IsRemnant self.old.head pages p) self.old.store space.old space.new }
-        ensures narrows { Narrows R.S.Space R.file_of R.region self.old self.new space.old space.new }
-        ensures same { (self.new.head ≡ self.old.head) × (self.new.height ≡ self.old.height) }
+        requires { HasWay R.S.Space R.Records self.old space.old }
+        ensures cut { OnOk result (TurnsCut R.S.Space R.Records self.old self.new space.old space.new) }
+        ensures full { OnFull result (LacksCut R.S.Space R.Records self.old space.old space.new) }
+        ensures narrows { Narrows R.S.Space R.Records self.old self.new space.old space.new }
+        ensures same { StaysNumbered self.old self.new }
         ensures cause { OnFault R.S.Space result space.old space.new }
     {
-        let Some((id, place)) = self.path.pop() else {
-            return Ok(());
-        };
-        let node = match self.own_node(space, id, steps) {
-            Ok(node) => node,
-            Err(e) => return Err(e),
-        };
-        if node.len() == 0 {
-            if let Err(e) = self.drop_page(space, id) {
-                return Err(e);
+        while let Some((id, place)) = self.path.pop() {
+            let node = self.own_node(space, id, steps)?;
+            if node.len() == 0 {
+                self.drop_page(space, id)?;
+                continue;
             }
-            return self.prune(space, steps);
+            if place > node.len() {
+                return Err(RecErr::Memory);
+            }
+            let node = without_child(node.to_node(self.alloc)?, place);
+            let node = SlottedNode::of(self.alloc, &node)?;
+            return self.put_node(space, id, node);
         }
-        if place > node.len() {
-            return Err(RecErr::Memory);
-        }
-        let node = without_child(node.to_node(self.alloc)?, place);
-        let node = SlottedNode::of(self.alloc, &node)?;
-        self.put_node(space, id, node)
+        Ok(())
     }
 
     // The heir of the node of an id, where no other page is below it.
@@ -89,17 +78,14 @@ impl<R: Records, O: Order> Tree<R, O> {
         id: u64,
         steps: &mut Steps<L>,
     ) -> Result<Option<u64>, RecErr>
-        requires ready { IsReady R.S.Space (Shows R.S.Space R.file_of R.holds) self.old space.old }
-        requires there { HasNodeAt R.S.Space R.file_of R.holds id self.old space.old }
-        ensures heir { IfOk result (λ o. (pages : PageMap) (n : the_node) → Shows R.S.Space R.file_of R.holds self.old space.old pages → pages id ≡ Some (node_page n) → MatchOption o (0 < length n.entries) (λ heir. (n.entries ≡ []) × (heir ≡ n.heir))) }
-        ensures looks { Looks R.S.Space R.file_of R.holds self.old.cache.pages self.new.cache.pages self.old.store self.new.store space.old space.new }
-        ensures still { StaysStill R.S.Space R.file_of R.region self.old self.new space.old space.new }
+        requires ready { IsShown R.S.Space R.Records self.old space.old }
+        requires there { HasNodeAt R.S.Space R.Records id self.old space.old }
+        ensures heir { IfOk result (ShowsHeir R.S.Space R.Records id self.old space.old) }
+        ensures peeks { Peeks R.S.Space R.Records self.old self.new space.old space.new }
         ensures cause { Blames R.S.Space result space.old space.new }
     {
-        match self.cache.node(&mut self.store, space, id, steps) {
-            Ok(node) => Ok(lone_heir(&node)),
-            Err(e) => Err(e),
-        }
+        let node = self.cache.node(&mut self.store, space, id, steps)?;
+        Ok(lone_heir(&node))
     }
 
     // The heir is the root, one row less.
@@ -113,26 +99,21 @@ impl<R: Records, O: Order> Tree<R, O> {
 
     /// While the root is a node with its heir alone, it is dropped, and the heir is the root, one row less. After a refusal some nodes may be gone.
     pub(crate) fn sink<L>(&mut self, space: &mut R::S, steps: &mut Steps<L>) -> Result<(), RecErr>
-        requires { IsReady R.S.Space (ShowsRows R.S.Space R.file_of R.holds (before_by O.cmp)) self.old space.old }
-        ensures sunk { OnOk result (Turns R.S.Space (Only (file_in R.file_of self.old)) (ShowsRows R.S.Space R.file_of R.holds (before_by O.cmp)) (Shows R.S.Space R.file_of R.holds) (SinksTo (before_by O.cmp) self.old self.new) self.old self.new space.old space.new) }
-        ensures full { IsErrOf result RecErr.Full → LacksRoom R.S.Space R.file_of R.holds R.fills (λ p. ⊥) self.old.store space.old space.new }
-        ensures narrows { Narrows R.S.Space R.file_of R.region self.old self.new space.old space.new }
+        requires { HasRows R.S.Space R.Records O.Order self.old space.old }
+        ensures sunk { OnOk result (TurnsSunk R.S.Space R.Records O.Order self.old self.new space.old space.new) }
+        ensures full { OnlyLogIsFull R.S.Space result space.new }
+        ensures narrows { Narrows R.S.Space R.Records self.old self.new space.old space.new }
         ensures ends { (self.new.head.first ≡ self.old.head.first) × (self.new.head.last ≡ self.old.head.last) }
         ensures cause { OnFault R.S.Space result space.old space.new }
     {
-        if self.height < 2 {
-            return Ok(());
+        while self.height >= 2 {
+            let id = self.head.root;
+            let Some(heir) = self.heir_alone(space, id, steps)? else {
+                return Ok(());
+            };
+            self.drop_page(space, id)?;
+            self.lower(heir);
         }
-        let id = self.head.root;
-        let heir = match self.heir_alone(space, id, steps) {
-            Ok(Some(heir)) => heir,
-            Ok(None) => return Ok(()),
-            Err(e) => return Err(e),
-        };
-        if let Err(e) = self.drop_page(space, id) {
-            return Err(e);
-        }
-        self.lower(heir);
-        self.sink(space, steps)
+        Ok(())
     }
 }

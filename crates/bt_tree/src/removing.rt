@@ -1,22 +1,17 @@
 //! Pairs taken out of a tree.
-ghost use Rattle.std.specs.Prelude.{◌≡◌, ◌-◌, ◌<◌, ◌⊎◌, [], List, length, true, false, is_some, IfOk, IfSome, OnErr, IsErrOf};
-ghost use Rattle.tc_base.specs.declared.seq.Pair.{Pair};
+ghost use Rattle.std.specs.Prelude.{◌≡◌, ◌-◌, ◌<◌, ◌⊎◌, [], length, true, false, IfOk, IfSome, OnOk};
 ghost use Rattle.tc_space.specs.Changes.{has_pair};
-ghost use Rattle.tc_space.specs.Frames.{Keeps, Refuses};
+ghost use Rattle.tc_space.specs.Frames.{Keeps};
 ghost use Rattle.tc_space.specs.Refusals.{Blames, OnFault};
-ghost use Rattle.tc_space.specs.Stores.{IsReady, Only, TakesOut};
-ghost use Rattle.bt_page.specs.declared.page.Leaf.{Leaf as the_leaf};
 ghost use Rattle.bt_rows.specs.Orders.{before_by};
-ghost use Rattle.bt_rows.specs.Pages.{PageMap};
-ghost use Rattle.bt_rows.specs.declared.page.Page.TheVariants.{Leaf as leaf_page};
-ghost use Rattle.bt_cache.specs.Effects.{Looks};
-ghost use Rattle.bt_ways.specs.Items.{IsLeafFor};
-ghost use Rattle.bt_ways.specs.Changes.{removed};
+ghost use Rattle.bt_cache.specs.Effects.{OnFull};
+ghost use Rattle.bt_tree.specs.Finding.{AnswersAt};
 ghost use Rattle.bt_tree.specs.Inserting.{StaysMade};
-ghost use Rattle.bt_tree.specs.Meaning.{Means, file_in};
-ghost use Rattle.bt_tree.specs.Paging.{HasLeafAt, Shows, StaysStill};
-ghost use Rattle.bt_tree.specs.Removing.{AddsNone, GivesPairs, IsRefusedRoom};
-ghost use Rattle.bt_tree.specs.Visits.{StaysTree};
+ghost use Rattle.bt_tree.specs.Meaning.{AnswersPairs, IsOpen, RefusesPairs};
+ghost use Rattle.bt_tree.specs.Paging.{HasLeafAt, IsShown, Peeks};
+ghost use Rattle.bt_tree.specs.Removing.{AddsNone, GivesInLeaf, HitsIn, IsRefusedRoom, LowersRoot, Removes, TellsHeld};
+ghost use Rattle.bt_tree.specs.Numbers.{with_pairs};
+ghost use Rattle.bt_tree.specs.Visits.{Asks, LooksAt, StaysTree};
 
 use crate::searching::spot;
 use crate::taking::take_value;
@@ -35,7 +30,7 @@ pub(crate) struct Lessened {
 
 // Whether the leaf where a key belongs has it.
 fn has_key<O: Order>(leaf: &SlottedLeaf, key: &[u8]) -> bool
-    ensures { (ps : List Pair) → IsLeafFor (before_by O.cmp) key.now ps leaf.now → result ≡ has_pair key.now ps }
+    ensures { AnswersAt O.cmp key.now (has_pair key.now) leaf.now result }
 {
     spot::<O>(leaf, key).1
 }
@@ -49,17 +44,14 @@ impl<R: Records, O: Order> Tree<R, O> {
         key: &[u8],
         steps: &mut Steps<L>,
     ) -> Result<bool, RecErr>
-        requires ready { IsReady R.S.Space (Shows R.S.Space R.file_of R.holds) self.old space.old }
-        requires there { HasLeafAt R.S.Space R.file_of R.holds id self.old space.old }
-        ensures hit { IfOk result (λ hit. (pages : PageMap) (l : the_leaf) (ps : List Pair) → Shows R.S.Space R.file_of R.holds self.old space.old pages → pages id ≡ Some (leaf_page l) → IsLeafFor (before_by O.cmp) key.now ps l → hit ≡ has_pair key.now ps) }
-        ensures looks { Looks R.S.Space R.file_of R.holds self.old.cache.pages self.new.cache.pages self.old.store self.new.store space.old space.new }
-        ensures still { StaysStill R.S.Space R.file_of R.region self.old self.new space.old space.new }
+        requires ready { IsShown R.S.Space R.Records self.old space.old }
+        requires there { HasLeafAt R.S.Space R.Records id self.old space.old }
+        ensures hit { IfOk result (HitsIn R.S.Space R.Records (before_by O.cmp) key.now id self.old space.old) }
+        ensures peeks { Peeks R.S.Space R.Records self.old self.new space.old space.new }
         ensures cause { Blames R.S.Space result space.old space.new }
     {
-        match self.cache.leaf(&mut self.store, space, id, steps) {
-            Ok(leaf) => Ok(has_key::<O>(&leaf, key)),
-            Err(e) => Err(e),
-        }
+        let leaf = self.cache.leaf(&mut self.store, space, id, steps)?;
+        Ok(has_key::<O>(&leaf, key))
     }
 
     // Goes to the leaf where a key belongs and takes its values out of its items, if it has the key. Nothing is written yet.
@@ -70,27 +62,18 @@ impl<R: Records, O: Order> Tree<R, O> {
         all: bool,
         steps: &mut Steps<L>,
     ) -> Result<Option<Lessened>, RecErr>
-        requires { IsReady R.S.Space (Means R.S.Space R.file_of R.holds (before_by O.cmp)) self.old space.old }
-        ensures hit { IfOk result (λ o. (ps : List Pair) → Means R.S.Space R.file_of R.holds (before_by O.cmp) self.old space.old ps → is_some o ≡ has_pair key.now ps) }
-        ensures given { IfOk result (λ o. IfSome o (λ x. (ps : List Pair) (h : Means R.S.Space R.file_of R.holds (before_by O.cmp) self.old space.old ps) → GivesPairs O.cmp all key.now h.1.3.tree self.new.path x)) }
-        ensures looks { Looks R.S.Space R.file_of R.holds self.old.cache.pages self.new.cache.pages self.old.store self.new.store space.old space.new }
-        ensures made { StaysMade R.file_of R.region self.old self.new }
+        requires { IsOpen R.S.Space R.Records O.Order self.old space.old }
+        ensures hit { IfOk result (TellsHeld R.S.Space R.Records O.Order key.now self.old space.old) }
+        ensures given { IfOk result (λ o. IfSome o (GivesInLeaf R.S.Space R.Records O.Order all key.now self.old space.old self.new.path)) }
+        ensures looks { LooksAt R.S.Space R.Records self.old self.new space.old space.new }
         ensures stays { StaysTree self.old self.new }
         ensures cause { Blames R.S.Space result space.old space.new }
     {
-        let id = match self.descend(space, key, steps) {
-            Ok(id) => id,
-            Err(e) => return Err(e),
-        };
-        match self.holds_key(space, id, key, steps) {
-            Ok(true) => {}
-            Ok(false) => return Ok(None),
-            Err(e) => return Err(e),
+        let id = self.descend(space, key, steps)?;
+        if !self.holds_key(space, id, key, steps)? {
+            return Ok(None);
         }
-        let leaf = match self.own_leaf(space, id, steps) {
-            Ok(leaf) => leaf,
-            Err(e) => return Err(e),
-        };
+        let leaf = self.own_leaf(space, id, steps)?;
         let (leaf, count) = take_value::<O>(self.alloc, leaf, key, all)?;
         Ok(Some(Lessened { id, leaf, count }))
     }
@@ -105,37 +88,50 @@ impl<R: Records, O: Order> Tree<R, O> {
 
     // So many pairs less are counted.
     fn uncount(&mut self, count: u64)
-        ensures { self.new ≡ record self.old { head = record self.old.head { pairs = self.old.head.pairs - count } } }
+        ensures { self.new ≡ with_pairs (self.old.head.pairs - count) self.old }
     {
         self.head.pairs = self.head.pairs.saturating_sub(count);
     }
 
-    /// Takes the first value of a key out, or with `all` all of them; a key without values goes with them. False comes exactly where the key isn't held, and then nothing is written. A leaf that becomes
-    /// empty is taken out of the tree, with the nodes that led to it alone; a root with its heir alone gives way to it.
+    /// Whether a key is held. It reads what `find` does.
+    pub fn holds<L>(
+        &mut self,
+        space: &mut R::S,
+        key: &[u8],
+        steps: &mut Steps<L>,
+    ) -> Result<bool, RecErr>
+        requires { IsOpen R.S.Space R.Records O.Order self.old space.old }
+        ensures value { IfOk result (AnswersPairs R.S.Space R.Records O.Order (has_pair key.now) self.old space.old) }
+        ensures asks { Asks R.S.Space R.Records O.Order self.old.height self.old self.new steps.old steps.new space.old space.new }
+        ensures cause { Blames R.S.Space result space.old space.new }
+    {
+        let leaf = self.leaf_for(space, key, steps)?;
+        Ok(has_key::<O>(&leaf, key))
+    }
+
+    /// Takes the first value of a key out, or with `all` all of them; a key without values goes with them. False comes exactly where the key isn't held, and then nothing
+    /// is written. A leaf that becomes empty is taken out of the tree, with the nodes that led to it alone; a root with its heir alone gives way to it.
     /// After a refusal the space isn't sound, or nothing has changed. No page is added. `Full` is the store's.
     pub fn remove(&mut self, space: &mut R::S, key: &[u8], all: bool) -> Result<bool, RecErr>
-        requires { IsReady R.S.Space (Means R.S.Space R.file_of R.holds (before_by O.cmp)) self.old space.old }
-        ensures out { IfOk result (λ taken. TakesOut R.S.Space (Only (file_in R.file_of self.old)) (Means R.S.Space R.file_of R.holds (before_by O.cmp)) (has_pair key.now) (removed O.cmp all key.now) taken self.old self.new space.old space.new) }
+        requires { IsOpen R.S.Space R.Records O.Order self.old space.old }
+        ensures out { IfOk result (λ taken. Removes R.S.Space R.Records O.Order all key.now taken self.old self.new space.old space.new) }
         ensures ids { AddsNone self.old self.new }
-        ensures refused { OnErr result (Refuses R.S.Space (Means R.S.Space R.file_of R.holds (before_by O.cmp)) self.old self.new space.old space.new) }
-        ensures full { IsErrOf result RecErr.Full → IsRefusedRoom R.S.Space R.file_of R.holds R.fills O.cmp all key.now self.old space.old space.new }
+        ensures root { OnOk result (LowersRoot R.S.Space R.Records O.Order self.old self.new space.old space.new) }
+        ensures refused { RefusesPairs R.S.Space R.Records O.Order result self.old self.new space.old space.new }
+        ensures full { OnFull result (IsRefusedRoom R.S.Space R.Records O.Order all key.now self.old space.old space.new) }
         ensures keeps { Keeps R.S.Space space.old space.new }
-        ensures stays { StaysMade R.file_of R.region self.old self.new }
+        ensures stays { StaysMade R.Records self.old self.new }
         ensures cause { OnFault R.S.Space result space.old space.new }
     {
         let mut steps: Steps<R> = Steps::new();
-        let lessened = match self.give_pairs(space, key, all, &mut steps) {
-            Ok(Some(lessened)) => lessened,
-            Ok(None) => return Ok(false),
-            Err(e) => return Err(e),
+        let Some(lessened) = self.give_pairs(space, key, all, &mut steps)? else {
+            return Ok(false);
         };
         let id = lessened.id;
         let leaf = lessened.leaf;
         let count = lessened.count;
         if !self.is_spare(id, &leaf) {
-            if let Err(e) = self.put_leaf(space, id, leaf) {
-                return Err(e);
-            }
+            self.put_leaf(space, id, leaf)?;
             self.uncount(count);
             return Ok(true);
         }

@@ -1,9 +1,11 @@
 //! Searches in one page.
-ghost use Rattle.std.specs.Prelude.{◌≡◌, ◌<◌, ◌≤◌, true, false, length};
-ghost use Rattle.std.specs.List.Sorted.{IsPartitionedBy, IsPartitionPoint};
+ghost use Rattle.std.specs.Prelude.{◌≡◌, ◌<◌, ◌≤◌, true, length};
 ghost use Rattle.bt_rows.specs.Between.{KeysAscend};
 ghost use Rattle.bt_rows.specs.Orders.{before_by};
 ghost use Rattle.bt_rows.specs.Rules.{Ascends};
+ghost use Rattle.bt_tree.specs.Climbing.{entry_key};
+ghost use Rattle.bt_tree.specs.Finding.{IsFrontOf};
+ghost use Rattle.bt_tree.specs.Parting.{item_key};
 ghost use Rattle.bt_ways.specs.Searches.{IsRoute, IsSpot, child_at};
 
 use bt_slots::{SlottedLeaf, SlottedNode};
@@ -55,7 +57,7 @@ impl<'a, O: Order> Divider for UpTo<'a, O> {
 // How many items are in front, where those come first, by halves.
 fn items_by_halves<D: Divider>(leaf: &SlottedLeaf, divider: &D) -> usize
     ensures within { result ≤ length leaf.now.items }
-    ensures parted { IsPartitionedBy (λ x. D.in_front divider.now x.key) leaf.now.items → IsPartitionPoint (λ x. D.in_front divider.now x.key ≡ true) (λ x. D.in_front divider.now x.key ≡ false) leaf.now.items result }
+    ensures parted { IsFrontOf item_key (D.in_front divider.now) leaf.now.items result }
 {
     let mut low = 0;
     let mut high = leaf.len();
@@ -73,7 +75,7 @@ fn items_by_halves<D: Divider>(leaf: &SlottedLeaf, divider: &D) -> usize
 /// How many items are in front, where those come first.
 pub(crate) fn items_in_front<D: Divider>(leaf: &SlottedLeaf, divider: &D) -> usize
     ensures within { result ≤ length leaf.now.items }
-    ensures parted { IsPartitionedBy (λ x. D.in_front divider.now x.key) leaf.now.items → IsPartitionPoint (λ x. D.in_front divider.now x.key ≡ true) (λ x. D.in_front divider.now x.key ≡ false) leaf.now.items result }
+    ensures parted { IsFrontOf item_key (D.in_front divider.now) leaf.now.items result }
 {
     let len = leaf.len();
     // keys that come in ascending order belong behind the last one
@@ -86,7 +88,7 @@ pub(crate) fn items_in_front<D: Divider>(leaf: &SlottedLeaf, divider: &D) -> usi
 // How many entries are in front, where those come first, by halves.
 fn entries_by_halves<D: Divider>(node: &SlottedNode, divider: &D) -> usize
     ensures within { result ≤ length node.now.entries }
-    ensures parted { IsPartitionedBy (λ x. D.in_front divider.now x.key) node.now.entries → IsPartitionPoint (λ x. D.in_front divider.now x.key ≡ true) (λ x. D.in_front divider.now x.key ≡ false) node.now.entries result }
+    ensures parted { IsFrontOf entry_key (D.in_front divider.now) node.now.entries result }
 {
     let mut low = 0;
     let mut high = node.len();
@@ -104,7 +106,7 @@ fn entries_by_halves<D: Divider>(node: &SlottedNode, divider: &D) -> usize
 /// How many entries are in front, where those come first.
 pub(crate) fn entries_in_front<D: Divider>(node: &SlottedNode, divider: &D) -> usize
     ensures within { result ≤ length node.now.entries }
-    ensures parted { IsPartitionedBy (λ x. D.in_front divider.now x.key) node.now.entries → IsPartitionPoint (λ x. D.in_front divider.now x.key ≡ true) (λ x. D.in_front divider.now x.key ≡ false) node.now.entries result }
+    ensures parted { IsFrontOf entry_key (D.in_front divider.now) node.now.entries result }
 {
     let len = node.len();
     // keys that come in ascending order belong behind the last one

@@ -1,18 +1,15 @@
 //! What is held in memory, brought to the file.
-ghost use Rattle.std.specs.Prelude.{◌≡◌, ◌≤◌, List, OnOk, OnErr, IsErrOf};
+ghost use Rattle.std.specs.Prelude.{◌≡◌, ◌≤◌, OnOk};
 ghost use Rattle.tc_base.specs.Endian.{le_bytes, le_number};
 ghost use Rattle.tc_base.specs.Files.{wrote};
-ghost use Rattle.tc_base.specs.declared.seq.Pair.{Pair};
 ghost use Rattle.tc_space.specs.Changes.{same};
-ghost use Rattle.tc_space.specs.Frames.{In, Keeps, Refuses, Writes};
-ghost use Rattle.tc_space.specs.Refusals.{OnFault};
-ghost use Rattle.tc_space.specs.Stores.{FullBy, IsReady, Only};
+ghost use Rattle.tc_space.specs.Frames.{Keeps};
+ghost use Rattle.tc_space.specs.Refusals.{OnFault, OnlyLogIsFull};
+ghost use Rattle.tc_space.specs.Stores.{FullPack, KeepsTight};
 ghost use Rattle.bt_rows.specs.Heads.{head_of};
-ghost use Rattle.bt_rows.specs.Orders.{before_by};
-ghost use Rattle.bt_tree.specs.Filling.{SettlesFull};
-ghost use Rattle.bt_tree.specs.Meaning.{Means, file_in};
-ghost use Rattle.bt_tree.specs.Standing.{FileStands};
-ghost use Rattle.bt_tree.specs.Visits.{StaysTree};
+ghost use Rattle.bt_cache.specs.Effects.{OnFull};
+ghost use Rattle.bt_tree.specs.Meaning.{Changes, IsOpen, RefusesPairs};
+ghost use Rattle.bt_tree.specs.Settling.{StaysSettled, BringsPacked, BringsPairs};
 
 use crate::tree::Tree;
 use bt_rows::TreeHead;
@@ -55,40 +52,37 @@ fn region_of(head: &TreeHead) -> [u8; 128]
 }
 
 impl<R: Records, O: Order> Tree<R, O> {
-    /// Brings the numbers of the tree and what the store holds in memory to the file, which then stands for the pairs. After a refusal the space isn't sound, or the file is as it was.
+    /// Brings the numbers of the tree and what the store holds in memory to the file, which then stands for the pairs under these numbers; where the store was packed it is a
+    /// packed file. It is full only where the undo log is. After a refusal the space isn't sound, or the file is as it was.
     pub fn settle(&mut self, space: &mut R::S) -> Result<(), RecErr>
-        requires { IsReady R.S.Space (Means R.S.Space R.file_of R.holds (before_by O.cmp)) self.old space.old }
-        ensures settled { OnOk result (Writes R.S.Space (Only (file_in R.file_of self.old)) (Means R.S.Space R.file_of R.holds (before_by O.cmp)) same self.old self.new space.old space.new) }
-        ensures stands { OnOk result ((ps : List Pair) → Means R.S.Space R.file_of R.holds (before_by O.cmp) self.old space.old ps → FileStands R.stands (before_by O.cmp) self.old.index (R.S.now space.new (file_in R.file_of self.old)) ps) }
-        ensures refused { OnErr result (Refuses R.S.Space (Means R.S.Space R.file_of R.holds (before_by O.cmp)) self.old self.new space.old space.new) }
-        ensures full { IsErrOf result RecErr.Full → SettlesFull (In R.S.Space R.file_of R.holds) R.file_of R.fills self.old.store space.old space.new }
+        requires { IsOpen R.S.Space R.Records O.Order self.old space.old }
+        ensures settled { OnOk result (Changes R.S.Space R.Records O.Order same self.old self.new space.old space.new) }
+        ensures stands { OnOk result (BringsPairs R.S.Space R.Records O.Order self.old space.old space.new) }
+        ensures packs { OnOk result (BringsPacked R.S.Space R.Records O.Order self.old space.old space.new) }
+        ensures refused { RefusesPairs R.S.Space R.Records O.Order result self.old self.new space.old space.new }
+        ensures full { OnlyLogIsFull R.S.Space result space.new }
         ensures keeps { Keeps R.S.Space space.old space.new }
-        ensures stays { StaysTree self.old self.new }
-        ensures file { file_in R.file_of self.new ≡ file_in R.file_of self.old }
+        ensures stays { StaysSettled R.Records self.old self.new }
+        ensures tight { KeepsTight R.tight self.old.store self.new.store }
         ensures cause { OnFault R.S.Space result space.old space.new }
     {
         let opaque = region_of(&self.head);
         self.store.set_opaque(&opaque);
-        match self.store.settle(space) {
-            Ok(()) => Ok(()),
-            Err(e) => Err(e),
-        }
+        self.store.settle(space)
     }
 
-    /// Packs the store, in the form that it has or in the large one; the pairs stay. After a refusal the space isn't sound, or the file is as it was.
+    /// Packs the store, in the form that it has or in the large one; the pairs stay. In the form that it has it is full only where the undo log is. After a refusal the
+    /// space isn't sound, or the file is as it was.
     pub fn pack(&mut self, space: &mut R::S, form: Form) -> Result<(), RecErr>
-        requires { IsReady R.S.Space (Means R.S.Space R.file_of R.holds (before_by O.cmp)) self.old space.old }
-        ensures packed { OnOk result (Writes R.S.Space (Only (file_in R.file_of self.old)) (Means R.S.Space R.file_of R.holds (before_by O.cmp)) same self.old self.new space.old space.new) }
-        ensures refused { OnErr result (Refuses R.S.Space (Means R.S.Space R.file_of R.holds (before_by O.cmp)) self.old self.new space.old space.new) }
-        ensures full { IsErrOf result RecErr.Full → FullBy (In R.S.Space R.file_of R.holds) R.fills same self.old.store space.old space.new }
+        requires { IsOpen R.S.Space R.Records O.Order self.old space.old }
+        ensures packed { OnOk result (Changes R.S.Space R.Records O.Order same self.old self.new space.old space.new) }
+        ensures tight { OnOk result (R.tight self.new.store form) }
+        ensures refused { RefusesPairs R.S.Space R.Records O.Order result self.old self.new space.old space.new }
+        ensures full { OnFull result (FullPack R.S.Space R.lacks_large form self.old.store space.old space.new) }
         ensures keeps { Keeps R.S.Space space.old space.new }
-        ensures stays { StaysTree self.old self.new }
-        ensures file { file_in R.file_of self.new ≡ file_in R.file_of self.old }
+        ensures stays { StaysSettled R.Records self.old self.new }
         ensures cause { OnFault R.S.Space result space.old space.new }
     {
-        match self.store.pack(space, form) {
-            Ok(()) => Ok(()),
-            Err(e) => Err(e),
-        }
+        self.store.pack(space, form)
     }
 }

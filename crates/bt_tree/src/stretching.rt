@@ -1,13 +1,10 @@
 //! Stretches of keys in one page.
-ghost use Rattle.std.specs.Prelude.{◌≡◌, ◌≢◌, ◌≤◌, ◌<◌, [], true, Some, slice_get, length, drop, IfOk};
-ghost use Rattle.std.specs.List.{AllByRecursion, flat_map};
+ghost use Rattle.std.specs.Prelude.{◌≡◌, ◌≢◌, ◌≤◌, ◌<◌, [], length, drop, IfOk};
 ghost use Rattle.tc_space.specs.Changes.{is_inside};
-ghost use Rattle.bt_page.specs.Pages.{HasValue};
-ghost use Rattle.bt_page.specs.declared.page.Item.{Item as the_item};
 ghost use Rattle.bt_rows.specs.Between.{KeysAscend};
 ghost use Rattle.bt_rows.specs.Orders.{before_by};
-ghost use Rattle.bt_rows.specs.Rules.{Ascends, item_pairs};
-ghost use Rattle.bt_tree.specs.Ranging.{IsAdded, IsFilled, IsScanned, IsStart, is_front, start_of};
+ghost use Rattle.bt_rows.specs.Rules.{Ascends};
+ghost use Rattle.bt_tree.specs.Ranging.{AddsItems, FillsAt, IsFilled, IsStart, ScansItems, is_front, start_of};
 ghost use Rattle.bt_ways.specs.Searches.{IsRoute};
 
 use crate::searching::{Divider, entries_in_front, items_in_front};
@@ -101,7 +98,7 @@ fn add_item(
     pairs: &mut Pairs,
 ) -> Result<bool, AllocError>
     requires { place < length leaf.now.items }
-    ensures { IfOk result (λ all. (x : the_item) → slice_get leaf.now.items place ≡ Some x → IsFilled max x pairs.old pairs.new all) }
+    ensures { IfOk result (FillsAt max leaf.now place pairs.old pairs.new) }
 {
     if leaf.count(place) > 1 {
         return add_values(alloc, &leaf.item(alloc, place)?, max, pairs);
@@ -126,7 +123,7 @@ fn add_items<O: Order, C: Cut<O>>(
     pairs: &mut Pairs,
 ) -> Result<bool, AllocError>
     requires { place ≤ length leaf.now.items }
-    ensures { IfOk result (λ all. AllByRecursion HasValue (drop place leaf.now.items) → IsAdded (C.side_of cut.now) max (flat_map item_pairs (drop place leaf.now.items)) pairs.old pairs.new all) }
+    ensures { IfOk result (AddsItems (C.side_of cut.now) max (drop place leaf.now.items) pairs.old pairs.new) }
 {
     for i in place..leaf.len() {
         if !has::<O, C>(cut, leaf.key(i)) {
@@ -147,7 +144,7 @@ pub(crate) fn add_leaf<O: Order, C: Cut<O>>(
     max: u64,
     pairs: &mut Pairs,
 ) -> Result<u64, AllocError>
-    ensures scanned { IfOk result (λ next. Ascends (before_by O.cmp) leaf.now.items → AllByRecursion HasValue leaf.now.items → IsScanned (C.side_of cut.now) max leaf.now pairs.old pairs.new next) }
+    ensures scanned { IfOk result (ScansItems O.cmp (C.side_of cut.now) max leaf.now pairs.old pairs.new) }
     ensures room { IfOk result (λ next. next ≢ 0 → length pairs.new < max) }
 {
     let place = start::<O, C>(leaf, cut);

@@ -6,6 +6,7 @@ use bt_cache::Cache;
 use bt_rows::TreeHead;
 use std::alloc::Global;
 use std::marker::PhantomData;
+use tc_base::Blob;
 
 /// A list of pairs in the order of their keys, equal keys in order of arrival, as pages in a store of records.
 #[derive(Drop)]
@@ -18,8 +19,8 @@ pub struct Tree<R, O> {
     pub(crate) head: TreeHead,
     /// How many rows there are, that of the leaves among them.
     pub(crate) height: u64,
-    /// Whether the store may hold the record `column` beside the pages.
-    pub(crate) index: bool,
+    /// The record `column` that the store holds beside the pages, if it has one.
+    pub(crate) column: Option<Blob>,
     /// Room for the way down to a leaf.
     pub(crate) path: Path,
     pub(crate) of: PhantomData<O>,

@@ -1,13 +1,10 @@
 //! A leaf with no items, taken out of a tree.
-ghost use Rattle.std.specs.Prelude.{◌≡◌, ◌==◌, OnOk, IsErrOf, if◌then◌else◌};
-ghost use Rattle.tc_space.specs.Stores.{IsReady, Only};
-ghost use Rattle.bt_rows.specs.Orders.{before_by};
-ghost use Rattle.bt_rows.specs.Pages.{IsGiven, PageMap};
-ghost use Rattle.bt_ways.specs.Removals.{with_next, with_prev};
-ghost use Rattle.bt_tree.specs.Meaning.{file_in};
-ghost use Rattle.bt_tree.specs.Paging.{Shows, Turns};
-ghost use Rattle.bt_tree.specs.Removing.{Becomes, IsRemnant, LacksRoom, Narrows, ShowsLast, ShowsLink, ShowsLinks, Vacates, without_linked};
+ghost use Rattle.std.specs.Prelude.{◌≡◌, OnOk};
 ghost use Rattle.tc_space.specs.Refusals.{OnFault};
+ghost use Rattle.bt_rows.specs.Pages.{IsGiven};
+ghost use Rattle.bt_ways.specs.Removals.{with_next, with_prev};
+ghost use Rattle.bt_cache.specs.Effects.{OnFull};
+ghost use Rattle.bt_tree.specs.Removing.{HasLast, HasLink, HasLinks, LacksLast, LacksLink, LacksLinks, Narrows, StaysBeside, TurnsLinked, TurnsUnlinked, TurnsVacated, first_after, last_after};
 
 use crate::tree::Tree;
 use bt_page::Leaf;
@@ -24,21 +21,19 @@ impl<R: Records, O: Order> Tree<R, O> {
         next: u64,
         steps: &mut Steps<L>,
     ) -> Result<(), RecErr>
-        requires { IsReady R.S.Space (ShowsLink R.S.Space R.file_of R.holds id) self.old space.old }
-        ensures linked { OnOk result (Turns R.S.Space (Only (file_in R.file_of self.old)) (ShowsLink R.S.Space R.file_of R.holds id) (Shows R.S.Space R.file_of R.holds) (Becomes (with_next id next)) self.old self.new space.old space.new) }
-        ensures full { IsErrOf result RecErr.Full → LacksRoom R.S.Space R.file_of R.holds R.fills (λ p. (pages : PageMap) → ShowsLink R.S.Space R.file_of R.holds id self.old space.old pages → IsRemnant self.old.head pages p) self.old.store space.old space.new }
-        ensures narrows { Narrows R.S.Space R.file_of R.region self.old self.new space.old space.new }
-        ensures same { (self.new.head ≡ record self.old.head { first = if id == 0 then next else self.old.head.first }) × (self.new.height ≡ self.old.height) × (self.new.path ≡ self.old.path) }
+        requires { HasLink R.S.Space R.Records id self.old space.old }
+        ensures linked { OnOk result (TurnsLinked R.S.Space R.Records id (with_next id next) self.old self.new space.old space.new) }
+        ensures full { OnFull result (LacksLink R.S.Space R.Records id self.old space.old space.new) }
+        ensures narrows { Narrows R.S.Space R.Records self.old self.new space.old space.new }
+        ensures same { self.new.head ≡ record self.old.head { first = first_after id next self.old.head.first } }
+        ensures beside { StaysBeside self.old self.new }
         ensures cause { OnFault R.S.Space result space.old space.new }
     {
         if id == 0 {
             self.head.first = next;
             return Ok(());
         }
-        let leaf = match self.own_leaf(space, id, steps) {
-            Ok(leaf) => leaf,
-            Err(e) => return Err(e),
-        };
+        let leaf = self.own_leaf(space, id, steps)?;
         let leaf = leaf.with_next(self.alloc, next)?;
         self.put_leaf(space, id, leaf)
     }
@@ -51,21 +46,19 @@ impl<R: Records, O: Order> Tree<R, O> {
         prev: u64,
         steps: &mut Steps<L>,
     ) -> Result<(), RecErr>
-        requires { IsReady R.S.Space (ShowsLink R.S.Space R.file_of R.holds id) self.old space.old }
-        ensures linked { OnOk result (Turns R.S.Space (Only (file_in R.file_of self.old)) (ShowsLink R.S.Space R.file_of R.holds id) (Shows R.S.Space R.file_of R.holds) (Becomes (with_prev id prev)) self.old self.new space.old space.new) }
-        ensures full { IsErrOf result RecErr.Full → LacksRoom R.S.Space R.file_of R.holds R.fills (λ p. (pages : PageMap) → ShowsLink R.S.Space R.file_of R.holds id self.old space.old pages → IsRemnant self.old.head pages p) self.old.store space.old space.new }
-        ensures narrows { Narrows R.S.Space R.file_of R.region self.old self.new space.old space.new }
-        ensures same { (self.new.head ≡ record self.old.head { last = if id == 0 then prev else self.old.head.last }) × (self.new.height ≡ self.old.height) × (self.new.path ≡ self.old.path) }
+        requires { HasLink R.S.Space R.Records id self.old space.old }
+        ensures linked { OnOk result (TurnsLinked R.S.Space R.Records id (with_prev id prev) self.old self.new space.old space.new) }
+        ensures full { OnFull result (LacksLink R.S.Space R.Records id self.old space.old space.new) }
+        ensures narrows { Narrows R.S.Space R.Records self.old self.new space.old space.new }
+        ensures same { self.new.head ≡ record self.old.head { last = last_after prev id self.old.head.last } }
+        ensures beside { StaysBeside self.old self.new }
         ensures cause { OnFault R.S.Space result space.old space.new }
     {
         if id == 0 {
             self.head.last = prev;
             return Ok(());
         }
-        let leaf = match self.own_leaf(space, id, steps) {
-            Ok(leaf) => leaf,
-            Err(e) => return Err(e),
-        };
+        let leaf = self.own_leaf(space, id, steps)?;
         let leaf = leaf.with_prev(self.alloc, prev)?;
         self.put_leaf(space, id, leaf)
     }
@@ -79,21 +72,17 @@ impl<R: Records, O: Order> Tree<R, O> {
         next: u64,
         steps: &mut Steps<L>,
     ) -> Result<(), RecErr>
-        requires ready { IsReady R.S.Space (ShowsLinks R.S.Space R.file_of R.holds prev next) self.old space.old }
+        requires ready { HasLinks R.S.Space R.Records prev next self.old space.old }
         requires given { R.S.tells → IsGiven self.old.head id }
-        ensures unlinked { OnOk result (Turns R.S.Space (Only (file_in R.file_of self.old)) (ShowsLinks R.S.Space R.file_of R.holds prev next) (Shows R.S.Space R.file_of R.holds) (Becomes (without_linked id prev next)) self.old self.new space.old space.new) }
-        ensures full { IsErrOf result RecErr.Full → LacksRoom R.S.Space R.file_of R.holds R.fills (λ p. (pages : PageMap) → ShowsLinks R.S.Space R.file_of R.holds prev next self.old space.old pages → IsRemnant self.old.head pages p) self.old.store space.old space.new }
-        ensures narrows { Narrows R.S.Space R.file_of R.region self.old self.new space.old space.new }
-        ensures same { OnOk result (self.new.head ≡ record self.old.head { first = if prev == 0 then next else self.old.head.first; last = if next == 0 then prev else self.old.head.last }) }
-        ensures way { (self.new.height ≡ self.old.height) × (self.new.path ≡ self.old.path) }
+        ensures unlinked { OnOk result (TurnsUnlinked R.S.Space R.Records id prev next self.old self.new space.old space.new) }
+        ensures full { OnFull result (LacksLinks R.S.Space R.Records prev next self.old space.old space.new) }
+        ensures narrows { Narrows R.S.Space R.Records self.old self.new space.old space.new }
+        ensures same { OnOk result (self.new.head ≡ record self.old.head { first = first_after prev next self.old.head.first; last = last_after prev next self.old.head.last }) }
+        ensures beside { StaysBeside self.old self.new }
         ensures cause { OnFault R.S.Space result space.old space.new }
     {
-        if let Err(e) = self.link_next(space, prev, next, steps) {
-            return Err(e);
-        }
-        if let Err(e) = self.link_prev(space, next, prev, steps) {
-            return Err(e);
-        }
+        self.link_next(space, prev, next, steps)?;
+        self.link_prev(space, next, prev, steps)?;
         self.drop_page(space, id)
     }
 
@@ -106,49 +95,39 @@ impl<R: Records, O: Order> Tree<R, O> {
         next: u64,
         steps: &mut Steps<L>,
     ) -> Result<(), RecErr>
-        requires ready { IsReady R.S.Space (ShowsLast R.S.Space R.file_of R.holds (before_by O.cmp) id prev next) self.old space.old }
+        requires ready { HasLast R.S.Space R.Records O.Order id prev next self.old space.old }
         requires beside { (prev ≡ 0) × (next ≡ 0) → ⊥ }
-        ensures vacated { OnOk result (Turns R.S.Space (Only (file_in R.file_of self.old)) (ShowsLast R.S.Space R.file_of R.holds (before_by O.cmp) id prev next) (Shows R.S.Space R.file_of R.holds) (Vacates (before_by O.cmp) id prev next self.old self.new) self.old self.new space.old space.new) }
-        ensures full { IsErrOf result RecErr.Full → LacksRoom R.S.Space R.file_of R.holds R.fills (λ p. (pages : PageMap) → ShowsLast R.S.Space R.file_of R.holds (before_by O.cmp) id prev next self.old space.old pages → IsRemnant self.old.head pages p) self.old.store space.old space.new }
-        ensures narrows { Narrows R.S.Space R.file_of R.region self.old self.new space.old space.new }
+        ensures vacated { OnOk result (TurnsVacated R.S.Space R.Records O.Order id prev next self.old self.new space.old space.new) }
+        ensures full { OnFull result (LacksLast R.S.Space R.Records O.Order id prev next self.old space.old space.new) }
+        ensures narrows { Narrows R.S.Space R.Records self.old self.new space.old space.new }
         ensures cause { OnFault R.S.Space result space.old space.new }
     {
-        if let Err(e) = self.unlink(space, id, prev, next, steps) {
-            return Err(e);
-        }
-        if let Err(e) = self.prune(space, steps) {
-            return Err(e);
-        }
+        self.unlink(space, id, prev, next, steps)?;
+        self.prune(space, steps)?;
         self.sink(space, steps)
     }
 
     // Drops the nodes above the only leaf, which is then the root, with no items.
     fn clear(&mut self, space: &mut R::S, id: u64) -> Result<(), RecErr>
-        requires { IsReady R.S.Space (ShowsLast R.S.Space R.file_of R.holds (before_by O.cmp) id 0 0) self.old space.old }
-        ensures vacated { OnOk result (Turns R.S.Space (Only (file_in R.file_of self.old)) (ShowsLast R.S.Space R.file_of R.holds (before_by O.cmp) id 0 0) (Shows R.S.Space R.file_of R.holds) (Vacates (before_by O.cmp) id 0 0 self.old self.new) self.old self.new space.old space.new) }
-        ensures full { IsErrOf result RecErr.Full → LacksRoom R.S.Space R.file_of R.holds R.fills (λ p. (pages : PageMap) → ShowsLast R.S.Space R.file_of R.holds (before_by O.cmp) id 0 0 self.old space.old pages → IsRemnant self.old.head pages p) self.old.store space.old space.new }
-        ensures narrows { Narrows R.S.Space R.file_of R.region self.old self.new space.old space.new }
+        requires { HasLast R.S.Space R.Records O.Order id 0 0 self.old space.old }
+        ensures vacated { OnOk result (TurnsVacated R.S.Space R.Records O.Order id 0 0 self.old self.new space.old space.new) }
+        ensures full { OnFull result (LacksLast R.S.Space R.Records O.Order id 0 0 self.old space.old space.new) }
+        ensures narrows { Narrows R.S.Space R.Records self.old self.new space.old space.new }
         ensures cause { OnFault R.S.Space result space.old space.new }
     {
-        if let Err(e) = self.drop_way(space) {
-            return Err(e);
-        }
+        self.drop_way(space)?;
         let leaf = Leaf {
             prev: 0,
             next: 0,
             items: Seq::new(self.alloc),
         };
         let leaf = SlottedLeaf::of(self.alloc, &leaf)?;
-        match self.put_leaf(space, id, leaf) {
-            Ok(()) => {
-                self.head.root = id;
-                self.head.first = id;
-                self.head.last = id;
-                self.height = 1;
-                Ok(())
-            }
-            Err(e) => Err(e),
-        }
+        self.put_leaf(space, id, leaf)?;
+        self.head.root = id;
+        self.head.first = id;
+        self.head.last = id;
+        self.height = 1;
+        Ok(())
     }
 
     /// Takes out a leaf with these links that has no items any more, where the noted way leads; the only one becomes the root. After a refusal some of it may have been written.
@@ -160,10 +139,10 @@ impl<R: Records, O: Order> Tree<R, O> {
         next: u64,
         steps: &mut Steps<L>,
     ) -> Result<(), RecErr>
-        requires { IsReady R.S.Space (ShowsLast R.S.Space R.file_of R.holds (before_by O.cmp) id prev next) self.old space.old }
-        ensures vacated { OnOk result (Turns R.S.Space (Only (file_in R.file_of self.old)) (ShowsLast R.S.Space R.file_of R.holds (before_by O.cmp) id prev next) (Shows R.S.Space R.file_of R.holds) (Vacates (before_by O.cmp) id prev next self.old self.new) self.old self.new space.old space.new) }
-        ensures full { IsErrOf result RecErr.Full → LacksRoom R.S.Space R.file_of R.holds R.fills (λ p. (pages : PageMap) → ShowsLast R.S.Space R.file_of R.holds (before_by O.cmp) id prev next self.old space.old pages → IsRemnant self.old.head pages p) self.old.store space.old space.new }
-        ensures narrows { Narrows R.S.Space R.file_of R.region self.old self.new space.old space.new }
+        requires { HasLast R.S.Space R.Records O.Order id prev next self.old space.old }
+        ensures vacated { OnOk result (TurnsVacated R.S.Space R.Records O.Order id prev next self.old self.new space.old space.new) }
+        ensures full { OnFull result (LacksLast R.S.Space R.Records O.Order id prev next self.old space.old space.new) }
+        ensures narrows { Narrows R.S.Space R.Records self.old self.new space.old space.new }
         ensures cause { OnFault R.S.Space result space.old space.new }
     {
         if prev == 0 && next == 0 {

@@ -1,2 +1,3 @@
 pub mod Fulls
+pub mod Looking
 pub mod Puts

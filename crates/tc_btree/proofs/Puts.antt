@@ -1,59 +1,87 @@
 -- What calls on a tree make of the list that it is.
-use Rattle.std.proofs.Common.{◌≡◌, ℕ, List, [], ◌∷◌, ◌++◌, Bool, false, None, ap, subst, ◌∙◌, refl, ⊎_elim, inl, inr}
-use Rattle.std.specs.Prelude.{unwrap_or}
-use Rattle.std.specs.declared.cmp.Ordering.{Ordering}
+use Rattle.std.proofs.Common.{◌≡◌, ℕ, List, [], ◌∷◌, Bool, false, Option, None, Ok, Err, ap, subst, ◌∙◌, refl, ⊎_elim, inl, inr}
+use Rattle.std.specs.Prelude.{Result, IfOk, OnErr, OnOk, unwrap_or}
 use Rattle.tc_base.specs.Lists.{first, with_first}
-use Rattle.tc_base.specs.Maps.{Map}
 use Rattle.tc_base.specs.declared.kind.Mode.{Mode}
-use Rattle.tc_base.specs.declared.kind.Mode.TheVariants.{Cat, Keep}
+use Rattle.tc_base.specs.declared.kind.Mode.TheVariants.{Keep}
+use Rattle.tc_base.specs.declared.order.Order.{Ghosts as Orders}
 use Rattle.tc_base.specs.declared.seq.Pair.{Pair}
 use Rattle.tc_space.specs.Changes.{first_in, put_first}
 use Rattle.tc_space.specs.Frames.{In, Reads, Refuses, Writes, reads_then}
-use Rattle.tc_space.specs.Stores.{Only, Puts, TakesOut}
+use Rattle.tc_space.specs.Lists.{StaysList, StaysPacked}
+use Rattle.tc_space.specs.Stores.{KeepsTight, Only, Puts, TakesOut}
+use Rattle.tc_space.specs.declared.records.Records.{Ghosts as Stores}
 use Rattle.tc_space.specs.declared.space.Space.{Ghosts}
-use Rattle.bt_rows.specs.Orders.{Before}
+use Rattle.bt_cache.specs.Effects.{SameStore}
 use Rattle.bt_ways.specs.Changes.{inserted}
 use Rattle.bt_ways.specs.Items.{item_of}
+use Rattle.bt_tree.specs.Inserting.{StaysMade}
 use Rattle.bt_tree.specs.Meaning.{Means, file_in}
+use Rattle.bt_tree.specs.Settling.{BringsPairs, StaysSettled}
+use Rattle.bt_tree.specs.Standing.{FileStands}
+use Rattle.bt_tree.specs.Visits.{StaysTree}
 use Rattle.bt_tree.specs.declared.tree.Tree.{Tree}
-use Rattle.tc_btree.specs.Meaning.{file_list, holds_list, item_values}
+use Rattle.tc_btree.specs.Meaning.{ListStands, file_list, holds_list, item_values, made_of}
+use Rattle.tc_btree.specs.Putting.{IsGiven}
 use Rattle.tc_btree.specs.declared.btree.Btree.{Btree}
 
 pub values_of_item : (key : List ℕ) (vs : List (List ℕ)) → item_values (item_of key vs) ≡ vs
 values_of_item key [] = refl
 values_of_item key (v ∷ vs) = refl
 
-pub cat_keeps : Cat ≡ Keep → ⊥
-cat_keeps is = cc
+-- ---- what a list was made with
 
--- what joins a value behind the first one of its key puts
-pub joins : (cmp : List ℕ → List ℕ → Ordering) (key value joined : List ℕ) (ps : List Pair) → joined ≡ unwrap_or (first ps key) [] ++ value → inserted cmp false key joined ps ≡ put_first cmp Cat key value ps
-joins cmp key value joined ps are = ap (with_first cmp ps key) are
+module _ {S V O : Type 0} (R : Stores V S) (b c : Btree V O) where
+  pub list_stays : StaysMade R b.tree c.tree → StaysList (file_list R) (made_of R) b c
+  list_stays m = record {
+    file = m.made.file;
+    made_same = λ i. record { sort = m.made.sort i; code = m.order i; leaf = m.leaf_limit i; node = m.node_limit i; column = m.column i };
+  }
 
-module _ {S V O : Type 0} (s : Ghosts S) (file_of : V → ℕ) (holds : V → List ℕ → Map → Type 0) (before : Before) where
+  made_same : R.sort c.tree.store ≡ R.sort b.tree.store → StaysTree b.tree c.tree → made_of R c ≡ made_of R b
+  made_same sort stays = λ i. record { sort = sort i; code = (stays.head i).order; leaf = (stays.head i).leaf_limit; node = (stays.head i).node_limit; column = stays.column i }
+
+  pub list_packed : SameStore R b.tree.store c.tree.store → StaysTree b.tree c.tree → KeepsTight R.tight b.tree.store c.tree.store → StaysPacked (file_list R) (made_of R) (λ d. R.tight d.tree.store) b c
+  list_packed same stays tight = record { file = same.file; made_same = made_same same.sort stays; stays_tight = tight }
+
+  pub list_settled : StaysSettled R b.tree c.tree → StaysList (file_list R) (made_of R) b c
+  list_settled st = record { file = st.file; made_same = made_same st.sort st.stays }
+
+  pub list_settled_packed : StaysSettled R b.tree c.tree → KeepsTight R.tight b.tree.store c.tree.store → StaysPacked (file_list R) (made_of R) (λ d. R.tight d.tree.store) b c
+  list_settled_packed st tight = record { file = st.file; made_same = made_same st.sort st.stays; stays_tight = tight }
+
+pub list_stands : {S V O : Type 0} (R : Stores V S) (o : Orders O) (b : Btree V O) (bytes : List ℕ) (ps : List Pair) → FileStands R o (R.sort b.tree.store) b.tree.head b.tree.column bytes ps → ListStands R o (made_of R b) bytes ps
+list_stands R o b bytes ps file = record { head = b.tree.head; code_is = refl; leaf_is = refl; node_is = refl; file = file }
+
+-- ---- its pairs
+
+module _ {S V O : Type 0} (s : Ghosts S) (R : Stores V S) (o : Orders O) where
   abbrev InTree : Tree V O → S → List Pair → Type 0
-  InTree = Means s file_of holds before
+  InTree = Means s R o
 
   abbrev InList : Btree V O → S → List Pair → Type 0
-  InList = In s (file_list file_of) (holds_list holds before)
+  InList = In s (file_list R) (holds_list R o)
 
-  list_reads : (b c : Btree V O) (old new : S) → Reads s InTree b.tree c.tree old new → Reads s InList b c old new
+  pub list_reads : (b c : Btree V O) (old new : S) → Reads s InTree b.tree c.tree old new → Reads s InList b c old new
   list_reads b c old new r = record { now = r.now; touched = r.touched; sound = r.sound; means = λ ps h. r.means ps h }
 
-  list_writes : (f : List Pair → List Pair) (b c : Btree V O) (old new : S) → Writes s (Only (file_in file_of b.tree)) InTree f b.tree c.tree old new → Writes s (Only (file_list file_of b)) InList f b c old new
+  pub list_writes : (f : List Pair → List Pair) (b c : Btree V O) (old new : S) → Writes s (Only (file_in R b.tree)) InTree f b.tree c.tree old new → Writes s (Only (file_list R b)) InList f b c old new
   list_writes f b c old new w = record { sound = w.sound; means = λ ps h. w.means ps h; others = w.others }
 
-  pub list_takes : (has : List Pair → Bool) (f : List Pair → List Pair) (taken : Bool) (b c : Btree V O) (old new : S) → TakesOut s (Only (file_in file_of b.tree)) InTree has f taken b.tree c.tree old new → TakesOut s (Only (file_list file_of b)) InList has f taken b c old new
+  pub list_takes : (has : List Pair → Bool) (f : List Pair → List Pair) (taken : Bool) (b c : Btree V O) (old new : S) → TakesOut s (Only (file_in R b.tree)) InTree has f taken b.tree c.tree old new → TakesOut s (Only (file_list R b)) InList has f taken b c old new
   list_takes has f taken b c old new t = record { held = λ ps h. t.held ps h; out = λ e. list_writes f b c old new (t.out e); none = λ e. list_reads b c old new (t.none e) }
+
+  pub list_refused : (b c : Btree V O) (old new : S) → Refuses s InTree b.tree c.tree old new → Refuses s InList b c old new
+  list_refused b c old new refused = ⊎_elim (λ spoiled. inl spoiled) (λ reads. inr (list_reads b c old new reads)) refused
 
   -- a refusal after the tree was looked at
   pub list_refuses : (b c d : Btree V O) (old mid new : S) → Reads s InTree b.tree c.tree old mid → Refuses s InTree c.tree d.tree mid new → Refuses s InList b d old new
   list_refuses b c d old mid new looked refused = ⊎_elim (λ spoiled. inl spoiled) (λ reads. inr (list_reads b d old new (reads_then s InTree b.tree c.tree d.tree old mid new looked reads))) refused
 
   -- a put after the tree was looked at, which makes of the pairs held what this does
-  pub list_puts : (mode : Mode) (key : List ℕ) (f g : List Pair → List Pair) (b c d : Btree V O) (old mid new : S) → file_of c.tree.store ≡ file_of b.tree.store → Reads s InTree b.tree c.tree old mid
-      → Writes s (Only (file_in file_of c.tree)) InTree g c.tree d.tree mid new → ((ps : List Pair) → InTree b.tree old ps → g ps ≡ f ps) → (mode ≡ Keep → (ps : List Pair) → InTree b.tree old ps → first ps key ≡ None)
-      → Puts s (Only (file_list file_of b)) InList mode (first_in key) f b d old new
+  pub list_puts : (mode : Mode) (key : List ℕ) (f g : List Pair → List Pair) (b c d : Btree V O) (old mid new : S) → R.file_of c.tree.store ≡ R.file_of b.tree.store → Reads s InTree b.tree c.tree old mid
+      → Writes s (Only (file_in R c.tree)) InTree g c.tree d.tree mid new → ((ps : List Pair) → InTree b.tree old ps → g ps ≡ f ps) → (mode ≡ Keep → (ps : List Pair) → InTree b.tree old ps → first ps key ≡ None)
+      → Puts s (Only (file_list R b)) InList mode (first_in key) f b d old new
   list_puts mode key f g b c d old mid new file looked writes are absent = record {
     writes = record {
       sound = writes.sound;
@@ -62,3 +90,26 @@ module _ {S V O : Type 0} (s : Ghosts S) (file_of : V → ℕ) (holds : V → Li
     };
     absent = λ keep ps h. absent keep ps h;
   }
+
+  -- what is given in place of the value makes of the pairs what the put is to
+  pub put_given : (mode : Mode) (key value given : List ℕ) (joined : Option (List ℕ)) (ps : List Pair) → given ≡ unwrap_or joined value → IsGiven mode key value joined ps → inserted o.cmp false key given ps ≡ put_first o.cmp mode key value ps
+  put_given mode key value given joined ps chosen is = ap (λ (v : List ℕ). with_first o.cmp ps key v) (chosen ∙ is.is)
+
+  -- ---- what a call on the tree answered, handed on as it is
+
+  pub written_up : {T E : Type 0} (r : Result T E) (f : List Pair → List Pair) (b c : Btree V O) (old new : S) → OnOk r (Writes s (Only (file_in R b.tree)) InTree f b.tree c.tree old new) → OnOk r (Writes s (Only (file_list R b)) InList f b c old new)
+  written_up (Ok x) f b c old new writes = list_writes f b c old new writes
+  written_up (Err e) f b c old new writes = tt
+
+  pub taken_up : {E : Type 0} (r : Result Bool E) (has : List Pair → Bool) (f : List Pair → List Pair) (b c : Btree V O) (old new : S) → IfOk r (λ taken. TakesOut s (Only (file_in R b.tree)) InTree has f taken b.tree c.tree old new)
+      → IfOk r (λ taken. TakesOut s (Only (file_list R b)) InList has f taken b c old new)
+  taken_up (Ok taken) has f b c old new takes = list_takes has f taken b c old new takes
+  taken_up (Err e) has f b c old new takes = tt
+
+  pub refused_up : {T E : Type 0} (r : Result T E) (b c : Btree V O) (old new : S) → OnErr r (Refuses s InTree b.tree c.tree old new) → OnErr r (Refuses s InList b c old new)
+  refused_up (Ok x) b c old new refused = tt
+  refused_up (Err e) b c old new refused = list_refused b c old new refused
+
+  pub stands_up : {T E : Type 0} (r : Result T E) (b : Btree V O) (old new : S) → OnOk r (BringsPairs s R o b.tree old new) → OnOk r ((ps : List Pair) → InList b old ps → ListStands R o (made_of R b) (s.now new (file_list R b)) ps)
+  stands_up (Ok x) b old new brings = λ ps h. list_stands R o b (s.now new (file_list R b)) ps (brings ps h)
+  stands_up (Err e) b old new brings = tt

@@ -1,28 +1,36 @@
 -- When a limit is reached on the way from a list of pairs to another.
-use Rattle.std.specs.Prelude.{◌⊎◌, ℕ, ◌+◌, ◌≤◌, List}
-use Rattle.tc_base.specs.Maps.{Map}
+use Rattle.std.specs.Prelude.{◌≡◌, ◌⊎◌, ℕ, ◌+◌, ◌≤◌, List, Bool}
+use Rattle.tc_base.specs.declared.order.Order.{Ghosts as Orders}
 use Rattle.tc_base.specs.declared.seq.Pair.{Pair}
-use Rattle.tc_space.specs.Frames.{In}
+use Rattle.tc_space.specs.declared.records.Records.{Ghosts as Stores}
 use Rattle.tc_space.specs.declared.space.Space.{Ghosts}
 use Rattle.bt_page.specs.Keys.{node_offset}
+use Rattle.bt_rows.specs.declared.page.Page.{Page}
+use Rattle.bt_ways.specs.Changes.{inserted}
 use Rattle.bt_tree.specs.declared.tree.Tree.{Tree}
-use Rattle.bt_tree.specs.Filling.{SettlesFull}
-use Rattle.bt_tree.specs.Inserting.{IsTreePage}
-use Rattle.bt_tree.specs.Paging.{LacksPage}
-use Rattle.bt_tree.specs.Removing.{RefusesDrop}
+use Rattle.bt_tree.specs.Inserting.{IsCrowded, IsPutPage}
+use Rattle.bt_tree.specs.Meaning.{Means}
+use Rattle.bt_tree.specs.Paging.{AtRefusal}
+use Rattle.bt_tree.specs.Removing.{LacksRoom}
 use Rattle.tc_btree.specs.declared.btree.Btree.{Btree}
 
 -- a leaf that is parted may use the ids up: it takes two of leaves, and of nodes one in each row and one above
 abbrev pub IsNearlyUsedUp : {V O : Type 0} → Tree V O → Type 0
 IsNearlyUsedUp t = (node_offset ≤ t.head.leaf_ids + 3) ⊎ (node_offset ≤ t.head.node_ids + t.height + 1)
 
--- the store has no room: for a page of the tree before or after, for the change that takes one out, or for what it brings to the file
-abbrev pub HasNoRoom : {S V O : Type 0} → Ghosts S → (V → ℕ) → (V → List ℕ → Map → Type 0) → (V → S → Map → Map → Type 0) → Tree V O → S → S → List Pair → List Pair → Type 0
-HasNoRoom s file_of holds fills t old new ps qs =
-    LacksPage s file_of holds fills (IsTreePage t.head ps qs) t.store old new ⊎ (RefusesDrop s file_of holds fills t.store old new ⊎ SettlesFull (In s file_of holds) file_of fills t.store old new)
+module _ {S V O : Type 0} (s : Ghosts S) (R : Stores V S) (o : Orders O) where
+  -- the leaf of the tree where a key belongs has no room for the pair that comes in
+  pub record IsParted (t : Tree V O) (old : S) (ps qs : List Pair) : Type 0 where
+    pub last : Bool
+    pub key : List ℕ
+    pub value : List ℕ
+    pub makes : inserted o.cmp last key value ps ≡ qs
+    pub crowded : (h : Means s R o t old ps) → IsCrowded o.cmp last key value h.1.is.tree
 
-abbrev pub fills_tree : {S V O : Type 0} → Ghosts S → (V → ℕ) → (V → List ℕ → Map → Type 0) → (V → S → Map → Map → Type 0) → Tree V O → S → List Pair → List Pair → Type 0
-fills_tree {S} s file_of holds fills t new ps qs = IsNearlyUsedUp t ⊎ ((old : S) × HasNoRoom s file_of holds fills t old new ps qs)
+  -- a page of the tree as it was, or as it is to be
+  abbrev pub IsListPage : Tree V O → S → List Pair → List Pair → Page → Type 0
+  IsListPage t old ps qs p = (h : Means s R o t old ps) → IsPutPage o.cmp t.head h.1.is.tree.pages ps qs p
 
-abbrev pub fills_list : {S V O : Type 0} → Ghosts S → (V → ℕ) → (V → List ℕ → Map → Type 0) → (V → S → Map → Map → Type 0) → Btree V O → S → List Pair → List Pair → Type 0
-fills_list s file_of holds fills b new ps qs = fills_tree s file_of holds fills b.tree new ps qs
+  -- a leaf is parted where ids are nearly used up; or as the space stands, or stood before it was given up, the store has no room for such a page, or the undo log is full
+  abbrev pub fills_list : Btree V O → S → S → List Pair → List Pair → Type 0
+  fills_list b old new ps qs = (IsNearlyUsedUp b.tree × IsParted b.tree old ps qs) ⊎ AtRefusal s (LacksRoom s R (IsListPage b.tree old ps qs) b.tree.store old) new

@@ -1,19 +1,14 @@
 //! A tree as a list of pairs.
-ghost use Rattle.std.specs.Prelude.{◌≡◌, true, false, IfOk, IfErr, OnErr, IsErrOf};
-ghost use Rattle.tc_base.specs.Maps.{Map};
-ghost use Rattle.tc_base.specs.declared.kind.Mode.TheVariants.{Over};
-ghost use Rattle.tc_space.specs.Changes.{put_in};
-ghost use Rattle.tc_space.specs.Frames.{In, Keeps, OnlyReads};
-ghost use Rattle.tc_space.specs.Refusals.{Blamed, OnFault};
-ghost use Rattle.tc_space.specs.Stores.{FullBy, IsReady};
-ghost use Rattle.bt_check.specs.Verdicts.{Breaks};
-ghost use Rattle.bt_page.specs.Keys.{key_of};
-ghost use Rattle.bt_page.specs.Pages.{leaf_bytes};
-ghost use Rattle.bt_rows.specs.Heads.{head_of};
-ghost use Rattle.bt_rows.specs.Orders.{before_by};
-ghost use Rattle.bt_tree.specs.Making.{IsBare, IsNew, IsRefused, MayBe, has_some, lone_leaf};
-ghost use Rattle.bt_tree.specs.Meaning.{Means};
-ghost use Rattle.bt_tree.specs.Opening.{IsOpened, IsOrdered};
+ghost use Rattle.std.specs.Prelude.{◌≡◌, true, false, IfOk, IfErr, OnErr};
+ghost use Rattle.std.specs.Borrow.{sem};
+ghost use Rattle.tc_space.specs.Frames.{Keeps, OnlyReads};
+ghost use Rattle.tc_space.specs.Refusals.{OnFault};
+ghost use Rattle.bt_check.specs.Looks.{MayLook, OnOpenFault};
+ghost use Rattle.bt_cache.specs.Effects.{OnFull};
+ghost use Rattle.bt_tree.specs.Making.{HoldsBare, IsRefused, LacksFirst, MayBe};
+ghost use Rattle.bt_tree.specs.Opening.{BreaksIn, IsOrdered};
+ghost use Rattle.tc_btree.specs.Lending.{LendsTree};
+ghost use Rattle.tc_btree.specs.Meaning.{MakesList, OpensList};
 
 use bt_tree::Tree;
 use std::alloc::Global;
@@ -36,55 +31,51 @@ impl<R: Records + Drop, O: Order> Btree<R, O> {
         leaf_limit: u32,
         node_limit: u32,
     ) -> Result<Btree<R, O>, RecErr>
-        requires ready { IsReady R.S.Space (In R.S.Space R.file_of R.holds) store space.old }
-        requires bare { (m : Map) → In R.S.Space R.file_of R.holds store space.old m → IsBare m }
+        requires ready { MayLook R.S.Space R.Records store space.old }
+        requires bare { HoldsBare R.S.Space R.Records store space.old }
         requires numbers { MayBe leaf_limit node_limit O.CODE }
-        ensures made { IfOk result (λ b. IsNew R.S.Space R.file_of (R.file_of store) (Means R.S.Space R.file_of R.holds (before_by O.cmp)) leaf_limit node_limit O.CODE b.tree space.old space.new) }
-        ensures index { IfOk result (λ b. (m : Map) → In R.S.Space R.file_of R.holds store space.old m → b.tree.index ≡ has_some m) }
+        ensures made { IfOk result (MakesList R.S.Space R.Records O.Order store leaf_limit node_limit space.old space.new) }
         ensures refused { OnErr result (IsRefused R.S.Space space.old space.new) }
-        ensures full { IsErrOf result RecErr.Full → FullBy (In R.S.Space R.file_of R.holds) R.fills (put_in Over (key_of 1) (leaf_bytes lone_leaf)) store space.old space.new }
+        ensures full { OnFull result (LacksFirst R.S.Space R.Records store space.old space.new) }
         ensures keeps { Keeps R.S.Space space.old space.new }
         ensures cause { OnFault R.S.Space result space.old space.new }
     {
-        match Tree::create(alloc, store, space, leaf_limit, node_limit) {
-            Ok(tree) => Ok(Btree { alloc, tree }),
-            Err(e) => Err(e),
-        }
+        let tree = Tree::create(alloc, store, space, leaf_limit, node_limit)?;
+        Ok(Btree { alloc, tree })
     }
 
     /// The pairs that stand in a store, whose rules are checked in their order, as `Tree::open` does.
     pub fn open(alloc: Global, store: R, space: &mut R::S) -> Result<Btree<R, O>, OpenErr>
-        requires ready { IsReady R.S.Space (In R.S.Space R.file_of R.holds) store space.old }
-        requires order { IsOrdered O.CODE (head_of (R.region store)) }
-        ensures opened { IfOk result (λ b. IsOpened R.S.Space R.file_of R.holds R.region (before_by O.cmp) O.CODE false store b.tree space.old space.new) }
-        ensures broken { IfErr result (λ e. Breaks (before_by O.cmp) (head_of (R.region store)) false (R.file_of store) (In R.S.Space R.file_of R.holds store space.old) e) }
+        requires ready { MayLook R.S.Space R.Records store space.old }
+        requires order { IsOrdered R.Records O.Order store }
+        ensures opened { IfOk result (OpensList R.S.Space R.Records O.Order false store space.old space.new) }
+        ensures broken { IfErr result (BreaksIn R.S.Space R.Records O.Order false store space.old) }
         ensures reads { OnlyReads R.S.Space space.old space.new }
-        ensures cause { Blamed R.S.Space (IsErrOf result OpenErr.Fault) space.old space.new }
+        ensures cause { OnOpenFault R.S.Space result space.old space.new }
     {
-        match Tree::open(alloc, store, space) {
-            Ok(tree) => Ok(Btree { alloc, tree }),
-            Err(e) => Err(e),
-        }
+        let tree = Tree::open(alloc, store, space)?;
+        Ok(Btree { alloc, tree })
     }
 
-    /// The same of an index file, where the record `column` may stand beside the pages.
+    /// The pairs of an index file, where the record `column` may stand beside the pages, as `Tree::open_index` opens it.
     pub fn open_index(alloc: Global, store: R, space: &mut R::S) -> Result<Btree<R, O>, OpenErr>
-        requires ready { IsReady R.S.Space (In R.S.Space R.file_of R.holds) store space.old }
-        requires order { IsOrdered O.CODE (head_of (R.region store)) }
-        ensures opened { IfOk result (λ b. IsOpened R.S.Space R.file_of R.holds R.region (before_by O.cmp) O.CODE true store b.tree space.old space.new) }
-        ensures broken { IfErr result (λ e. Breaks (before_by O.cmp) (head_of (R.region store)) true (R.file_of store) (In R.S.Space R.file_of R.holds store space.old) e) }
+        requires ready { MayLook R.S.Space R.Records store space.old }
+        requires order { IsOrdered R.Records O.Order store }
+        ensures opened { IfOk result (OpensList R.S.Space R.Records O.Order true store space.old space.new) }
+        ensures broken { IfErr result (BreaksIn R.S.Space R.Records O.Order true store space.old) }
         ensures reads { OnlyReads R.S.Space space.old space.new }
-        ensures cause { Blamed R.S.Space (IsErrOf result OpenErr.Fault) space.old space.new }
+        ensures cause { OnOpenFault R.S.Space result space.old space.new }
     {
-        match Tree::open_index(alloc, store, space) {
-            Ok(tree) => Ok(Btree { alloc, tree }),
-            Err(e) => Err(e),
-        }
+        let tree = Tree::open_index(alloc, store, space)?;
+        Ok(Btree { alloc, tree })
     }
+}
 
-    /// The tree itself.
+impl<R: Records, O: Order> Btree<R, O> {
+    /// The tree itself, lent: what it is afterwards is the tree of the list.
     pub fn tree(&mut self) -> &mut Tree<R, O>
-        ensures { result.now ≡ self.old.tree }
+        ensures* writes_back { sem 𝓛 (LendsTree R.row O.row self.entry result) }
+        ensures value { result.now ≡ self.old.tree }
     {
         &mut self.tree
     }

@@ -3,6 +3,7 @@ ghost use Rattle.std.specs.Prelude.{◌≡◌};
 ghost use Rattle.tc_btree.specs.Meaning.{item_values};
 
 use crate::btree::Btree;
+use crate::putting::chosen;
 use bt_page::Item;
 use std::alloc::Global;
 use tc_base::{Blob, Blobs, Cut, Form, Mode, Order, Pairs, Steps};
@@ -23,24 +24,29 @@ impl<R: Records, O: Order> Multi for Btree<R, O> {
 
     type O = O;
 
-    ghost use Rattle.std.specs.Prelude.{Bool};
-    ghost use Rattle.bt_rows.specs.Orders.{before_by};
-    ghost use Rattle.bt_tree.specs.Standing.{FileStands};
     ghost use Rattle.tc_btree.specs.Filling.{fills_list};
-    ghost use Rattle.tc_btree.specs.Meaning.{file_list, holds_list};
+    ghost use Rattle.tc_btree.specs.Meaning.{ListStands, file_list, holds_list, made_of};
     ghost use Rattle.tc_btree.specs.Rising.{pairs_rise};
 
-    ghost file_of = { file_list R.file_of };
+    ghost file_of = { file_list R.Records };
 
-    ghost holds = { holds_list R.holds (before_by O.cmp) };
+    ghost holds = { holds_list R.Records O.Order };
 
-    ghost stands = { λ bytes ps. (index : Bool) × FileStands R.stands (before_by O.cmp) index bytes ps };
+    ghost made = { made_of R.Records };
 
-    ghost fills = { fills_list R.S.Space R.file_of R.holds R.fills };
+    ghost stands = { ListStands R.Records O.Order };
+
+    ghost fills = { fills_list R.S.Space R.Records O.Order };
+
+    ghost lacks_large = { λ b. R.lacks_large b.tree.store };
+
+    ghost tight = { λ b. R.tight b.tree.store };
+
+    ghost packed = { R.packed };
 
     ghost gets = { λ b. R.gets b.tree.store };
 
-    ghost rises = { λ b bytes ps held. pairs_rise R.holds O.cmp O.total O.exact b.tree bytes ps held };
+    ghost rises = { λ b bytes ps held. pairs_rise b.tree bytes ps held O.total O.exact };
 
     fn file(&self) -> u32 {
         self.tree.file()
@@ -56,18 +62,13 @@ impl<R: Records, O: Order> Multi for Btree<R, O> {
         key: &[u8],
         steps: &mut Steps<L>,
     ) -> Result<Option<Blob>, RecErr> {
-        match self.tree.first_value(space, key, steps) {
-            Ok(value) => Ok(value),
-            Err(e) => Err(e),
-        }
+        self.tree.first_value(space, key, steps)
     }
 
     fn all(&mut self, space: &mut R::S, key: &[u8]) -> Result<Blobs, RecErr> {
         let mut steps: Steps<R> = Steps::new();
-        match self.tree.find(space, key, &mut steps) {
-            Ok(item) => Ok(values_of(self.alloc, item)),
-            Err(e) => Err(e),
-        }
+        let item = self.tree.find(space, key, &mut steps)?;
+        Ok(values_of(self.alloc, item))
     }
 
     fn put(
@@ -77,32 +78,22 @@ impl<R: Records, O: Order> Multi for Btree<R, O> {
         value: &[u8],
         mode: Mode,
     ) -> Result<(), PutErr> {
-        match mode {
-            Mode::Over => self.put_over(space, key, value),
-            Mode::Keep => self.put_keep(space, key, value),
-            Mode::Cat => self.put_cat(space, key, value),
-        }
+        let joined = self.look(space, key, value, mode)?;
+        let given = chosen(&joined, value);
+        self.tree.insert(space, key, given, false)?;
+        Ok(())
     }
 
     fn putdup(&mut self, space: &mut R::S, key: &[u8], value: &[u8]) -> Result<(), RecErr> {
-        match self.tree.insert(space, key, value, true) {
-            Ok(()) => Ok(()),
-            Err(e) => Err(e),
-        }
+        self.tree.insert(space, key, value, true)
     }
 
     fn out(&mut self, space: &mut R::S, key: &[u8]) -> Result<bool, RecErr> {
-        match self.tree.remove(space, key, false) {
-            Ok(taken) => Ok(taken),
-            Err(e) => Err(e),
-        }
+        self.tree.remove(space, key, false)
     }
 
     fn out_all(&mut self, space: &mut R::S, key: &[u8]) -> Result<bool, RecErr> {
-        match self.tree.remove(space, key, true) {
-            Ok(taken) => Ok(taken),
-            Err(e) => Err(e),
-        }
+        self.tree.remove(space, key, true)
     }
 
     fn range<C: Cut<O>, L>(
@@ -112,23 +103,14 @@ impl<R: Records, O: Order> Multi for Btree<R, O> {
         max: u64,
         steps: &mut Steps<L>,
     ) -> Result<Pairs, RecErr> {
-        match self.tree.range(space, cut, max, steps) {
-            Ok(pairs) => Ok(pairs),
-            Err(e) => Err(e),
-        }
+        self.tree.range(space, cut, max, steps)
     }
 
     fn settle(&mut self, space: &mut R::S) -> Result<(), RecErr> {
-        match self.tree.settle(space) {
-            Ok(()) => Ok(()),
-            Err(e) => Err(e),
-        }
+        self.tree.settle(space)
     }
 
     fn pack(&mut self, space: &mut R::S, form: Form) -> Result<(), RecErr> {
-        match self.tree.pack(space, form) {
-            Ok(()) => Ok(()),
-            Err(e) => Err(e),
-        }
+        self.tree.pack(space, form)
     }
 }

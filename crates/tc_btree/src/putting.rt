@@ -1,17 +1,11 @@
-//! Pairs put in each mode.
-ghost use Rattle.std.specs.Prelude.{◌≡◌, [], unwrap_or, OnOk, OnErr, IsErrOf};
-ghost use Rattle.tc_base.specs.declared.kind.Mode.TheVariants.{Over, Keep, Cat};
-ghost use Rattle.tc_space.specs.Changes.{first_in, put_first};
-ghost use Rattle.tc_space.specs.Frames.{In, Keeps, Refuses};
-ghost use Rattle.tc_space.specs.Refusals.{Blamed};
-ghost use Rattle.tc_space.specs.Stores.{Exists, FullBy, IsReady, Only, Puts};
-ghost use Rattle.bt_rows.specs.Orders.{before_by};
-ghost use Rattle.tc_btree.specs.Filling.{fills_list};
-ghost use Rattle.tc_btree.specs.Meaning.{file_list, holds_list};
+//! What a put gives.
+ghost use Rattle.std.specs.Prelude.{◌≡◌, ◌++◌, [], unwrap_or, IfOk};
+ghost use Rattle.bt_tree.specs.Meaning.{IsOpen};
+ghost use Rattle.tc_btree.specs.Putting.{BlamesLook, Looked, TellsPut};
 
 use crate::btree::Btree;
-use std::alloc::Global;
-use tc_base::{Blob, Order, Steps};
+use std::alloc::{AllocError, Global};
+use tc_base::{Blob, Mode, Order, Steps};
 use tc_space::{PutErr, Records};
 
 // The value that was found, or no bytes.
@@ -24,85 +18,55 @@ fn or_empty(alloc: Global, found: Option<Blob>) -> Blob
     }
 }
 
+// A value joined behind the one that was found.
+fn joined(alloc: Global, found: Option<Blob>, value: &[u8]) -> Result<Blob, AllocError>
+    ensures { IfOk result (λ joined. joined ≡ unwrap_or found [] ++ value.now) }
+{
+    let mut joined = or_empty(alloc, found);
+    joined.append(value)?;
+    Ok(joined)
+}
+
+/// What was joined, or else the value itself.
+pub(crate) fn chosen<'a>(joined: &'a Option<Blob>, value: &'a [u8]) -> &'a [u8]
+    ensures { result.now ≡ unwrap_or joined.now value.now }
+{
+    match joined {
+        Some(joined) => joined.as_slice(),
+        None => value,
+    }
+}
+
 impl<R: Records, O: Order> Btree<R, O> {
-    // Puts a pair in the place of the first of its key.
-    pub(crate) fn put_over(
+    /// What a put is to give in place of the value, where it isn't the value itself. Exists comes exactly with `Keep` on a held key. Nothing is written.
+    pub(crate) fn look(
         &mut self,
         space: &mut R::S,
         key: &[u8],
         value: &[u8],
-    ) -> Result<(), PutErr>
-        requires { IsReady R.S.Space (In R.S.Space (file_list R.file_of) (holds_list R.holds (before_by O.cmp))) self.old space.old }
-        ensures put { OnOk result (Puts R.S.Space (Only (file_list R.file_of self.old)) (In R.S.Space (file_list R.file_of) (holds_list R.holds (before_by O.cmp))) Over (first_in key.now) (put_first O.cmp Over key.now value.now) self.old self.new space.old space.new) }
-        ensures exists { IsErrOf result PutErr.Exists → ⊥ }
-        ensures refused { OnErr result (Refuses R.S.Space (In R.S.Space (file_list R.file_of) (holds_list R.holds (before_by O.cmp))) self.old self.new space.old space.new) }
-        ensures full { IsErrOf result PutErr.Full → FullBy (In R.S.Space (file_list R.file_of) (holds_list R.holds (before_by O.cmp))) (fills_list R.S.Space R.file_of R.holds R.fills) (put_first O.cmp Over key.now value.now) self.old space.old space.new }
-        ensures keeps { Keeps R.S.Space space.old space.new }
-        ensures file { file_list R.file_of self.new ≡ file_list R.file_of self.old }
-        ensures cause { Blamed R.S.Space (IsErrOf result PutErr.Fault) space.old space.new }
-    {
-        match self.tree.insert(space, key, value, false) {
-            Ok(()) => Ok(()),
-            Err(e) => Err(PutErr::from(e)),
-        }
-    }
-
-    // Puts a pair whose key isn't held.
-    pub(crate) fn put_keep(
-        &mut self,
-        space: &mut R::S,
-        key: &[u8],
-        value: &[u8],
-    ) -> Result<(), PutErr>
-        requires { IsReady R.S.Space (In R.S.Space (file_list R.file_of) (holds_list R.holds (before_by O.cmp))) self.old space.old }
-        ensures put { OnOk result (Puts R.S.Space (Only (file_list R.file_of self.old)) (In R.S.Space (file_list R.file_of) (holds_list R.holds (before_by O.cmp))) Keep (first_in key.now) (put_first O.cmp Keep key.now value.now) self.old self.new space.old space.new) }
-        ensures exists { IsErrOf result PutErr.Exists → Exists R.S.Space (In R.S.Space (file_list R.file_of) (holds_list R.holds (before_by O.cmp))) Keep (first_in key.now) self.old self.new space.old space.new }
-        ensures refused { OnErr result (Refuses R.S.Space (In R.S.Space (file_list R.file_of) (holds_list R.holds (before_by O.cmp))) self.old self.new space.old space.new) }
-        ensures full { IsErrOf result PutErr.Full → FullBy (In R.S.Space (file_list R.file_of) (holds_list R.holds (before_by O.cmp))) (fills_list R.S.Space R.file_of R.holds R.fills) (put_first O.cmp Keep key.now value.now) self.old space.old space.new }
-        ensures keeps { Keeps R.S.Space space.old space.new }
-        ensures file { file_list R.file_of self.new ≡ file_list R.file_of self.old }
-        ensures cause { Blamed R.S.Space (IsErrOf result PutErr.Fault) space.old space.new }
+        mode: Mode,
+    ) -> Result<Option<Blob>, PutErr>
+        requires { IsOpen R.S.Space R.Records O.Order self.old.tree space.old }
+        ensures tells { TellsPut R.S.Space R.Records O.Order mode key.now value.now result self.old space.old }
+        ensures looks { Looked R.S.Space R.Records O.Order self.old self.new space.old space.new }
+        ensures cause { BlamesLook R.S.Space result space.old space.new }
     {
         let mut steps: Steps<R> = Steps::new();
-        match self.tree.first_value(space, key, &mut steps) {
-            Ok(None) => {}
-            Ok(Some(_)) => return Err(PutErr::Exists),
-            Err(e) => return Err(PutErr::from(e)),
-        }
-        match self.tree.insert(space, key, value, false) {
-            Ok(()) => Ok(()),
-            Err(e) => Err(PutErr::from(e)),
-        }
-    }
-
-    // Joins a value behind the first of its key, if there is one.
-    pub(crate) fn put_cat(
-        &mut self,
-        space: &mut R::S,
-        key: &[u8],
-        value: &[u8],
-    ) -> Result<(), PutErr>
-        requires { IsReady R.S.Space (In R.S.Space (file_list R.file_of) (holds_list R.holds (before_by O.cmp))) self.old space.old }
-        ensures put { OnOk result (Puts R.S.Space (Only (file_list R.file_of self.old)) (In R.S.Space (file_list R.file_of) (holds_list R.holds (before_by O.cmp))) Cat (first_in key.now) (put_first O.cmp Cat key.now value.now) self.old self.new space.old space.new) }
-        ensures exists { IsErrOf result PutErr.Exists → ⊥ }
-        ensures refused { OnErr result (Refuses R.S.Space (In R.S.Space (file_list R.file_of) (holds_list R.holds (before_by O.cmp))) self.old self.new space.old space.new) }
-        ensures full { IsErrOf result PutErr.Full → FullBy (In R.S.Space (file_list R.file_of) (holds_list R.holds (before_by O.cmp))) (fills_list R.S.Space R.file_of R.holds R.fills) (put_first O.cmp Cat key.now value.now) self.old space.old space.new }
-        ensures keeps { Keeps R.S.Space space.old space.new }
-        ensures file { file_list R.file_of self.new ≡ file_list R.file_of self.old }
-        ensures cause { Blamed R.S.Space (IsErrOf result PutErr.Fault) space.old space.new }
-    {
-        let mut steps: Steps<R> = Steps::new();
-        let found = match self.tree.first_value(space, key, &mut steps) {
-            Ok(found) => found,
-            Err(e) => return Err(PutErr::from(e)),
-        };
-        let mut joined = or_empty(self.alloc, found);
-        let Ok(()) = joined.append(value) else {
-            return Err(PutErr::Memory);
-        };
-        match self.tree.insert(space, key, joined.as_slice(), false) {
-            Ok(()) => Ok(()),
-            Err(e) => Err(PutErr::from(e)),
+        match mode {
+            Mode::Over => Ok(None),
+            Mode::Keep => {
+                if self.tree.holds(space, key, &mut steps)? {
+                    return Err(PutErr::Exists);
+                }
+                Ok(None)
+            }
+            Mode::Cat => {
+                let found = self.tree.first_value(space, key, &mut steps)?;
+                let Ok(joined) = joined(self.alloc, found, value) else {
+                    return Err(PutErr::Memory);
+                };
+                Ok(Some(joined))
+            }
         }
     }
 }

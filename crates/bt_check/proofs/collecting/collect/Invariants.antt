@@ -1,16 +1,15 @@
 use Rattle.std.proofs.Common.{◌≤◌, ◌+◌, btree_set_len}
 use Rattle.std.specs.FinMap.{get}
 use Rattle.tc_base.specs.Maps.{Map as stored}
-use Rattle.tc_space.specs.Frames.{In}
 use Rattle.bt_check.specs.Keys.{IsListed}
-use Rattle.bt_check.specs.Looks.{Looks}
+use Rattle.bt_check.specs.Looks.{Holds, Looks}
 use Rattle.bt_check.proofs.Collects.{Collects}
 use Rattle.bt_check.proofs.collecting.collect.Given as goal
 
 abbrev pub invariant-loop-key : goal.invariant-loop-key
 invariant-loop-key g l = record {
-  looks : Looks g.R.S.Space g.R.Records.file_of g.R.Records.holds g.R.Records.region l.fn.store l.store l.fn.space l.space;
+  looks : Looks g.R.S.Space g.R.Records l.fn.store l.store l.fn.space l.space;
   asks : g.R.Records.gets l.store ≤ g.R.Records.gets l.fn.store + l.key-index;
   few : btree_set_len l.collected.ids ≤ l.key-index;
-  collects : (m : stored) → In g.R.S.Space g.R.Records.file_of g.R.Records.holds l.fn.store l.fn.space m → IsListed (get m) l.keys → Collects l.head l.index (get m) l.keys l.key-index l.collected.ids l.collected.within;
+  collects : (m : stored) → Holds g.R.S.Space g.R.Records l.fn.store l.fn.space m → IsListed (get m) l.keys → Collects l.head l.index (get m) l.keys l.key-index l.collected.ids l.collected.within;
 }

@@ -1,48 +1,53 @@
-use Rattle.std.proofs.Common.{◌≡◌, sym, ap, subst, arith, length, take, List, [], false}
-use Rattle.std.proofs.lemmas.List.{take_all}
+use Rattle.std.proofs.Common.{◌≡◌, ◌∙◌, List, ap, arith, length, length-append, ◌∷◌, [], subst, ◌++◌}
+use Rattle.std.proofs.lemmas.Iterator.Adapters.{YieldsList-from_vec}
+use Rattle.std.proofs.lemmas.Iterator.Consumers.{YieldsList-end, YieldsList-turn}
 use Rattle.tc_space.specs.Frames.{In}
 use Rattle.tc_space.specs.Stores.{ready_reads}
 use Rattle.bt_rows.specs.declared.page.Slot.{Slot}
-use Rattle.bt_check.specs.Looks.{looks_then, looks_refl}
-use Rattle.bt_check.specs.Walks.{IsPassed}
-use Rattle.bt_check.proofs.Walked.{one_node, nodes_more, passed_none, passed_at, taken_at, held_at, stuck_at}
+use Rattle.bt_rows.specs.Rows.{next_row}
+use Rattle.bt_check.specs.Looks.{looks_then}
+use Rattle.bt_check.specs.Walks.{AreThere, leaf_places}
+use Rattle.bt_check.proofs.Walked.{given_all, kept_more, next_more}
 use Rattle.bt_check.proofs.walking.pass.Goals as goal
 
-pub loop-slot-init : goal.loop-slot-init
-loop-slot-init g c = record {
-  looks = looks_refl _ _ _ _ _ _ c.requires.ready.sound;
-  taken = λ id. omega arith;
-  len = omega arith;
-  asks = omega arith;
-  nodes = omega arith;
-  passed = λ m i h pages a some. subst (λ (n : List Slot). IsPassed pages [] c.args.ids.now c.args.ids.now n false) (sym c.requires.none) (passed_none pages c.args.ids.now);
-}
-
 pub pass_one-requires : goal.pass_one-requires
-pass_one-requires g c = record { ready = ready_reads g.R.S.Space (In g.R.S.Space g.R.Records.file_of g.R.Records.holds) _ _ _ _ c.loop-slot.invariant.looks.reads c.requires.ready }
+pass_one-requires g c = ready_reads g.R.S.Space (In g.R.S.Space g.R.Records.file_of g.R.Records.holds) _ _ _ _ c.loop-slot.invariant.looks.reads c.requires
 
 pub loop-slot-preserved : goal.loop-slot-preserved
 loop-slot-preserved g c =
-    let a = c.if-not-take.ensures in
-    let b = c.in-Ok.ensures in
     let v = c.loop-slot.invariant in
+    let e = c.in_ok-pass_one.ensures in
     record {
-      looks = looks_then _ _ _ _ _ _ _ _ _ _ v.looks b.looks;
-      taken = taken_at c.args.row.now _ c.loop-slot.slot-index c.slot-item.result c.args.ids.now c.loop-slot.ids c.take.new.ids c.as_slice-slot-items.ensures c.loop-slot-test.true c.slot-item.is v.taken a.was a.gone;
-      len = omega (arith, a.len, v.len);
-      asks = omega (arith, v.asks, b.asks, one_node c.slot-item.result);
-      nodes = nodes_more c.args.row.now _ c.loop-slot.slot-index c.slot-item.result c.as_slice-slot-items.ensures c.loop-slot-test.true c.slot-item.is _ _ _ v.nodes b.asks;
-      passed = λ m i h pages holds some.
-          passed_at pages c.args.row.now _ c.loop-slot.slot-index c.slot-item.result c.args.ids.now c.loop-slot.ids c.take.new.ids c.loop-slot.next c.pass_one.new.next c.loop-slot.leaf c.in-Ok.here c.as_slice-slot-items.ensures c.loop-slot-test.true c.slot-item.is (v.passed m i h pages holds some) a.was a.gone
-          (b.spread m (v.looks.reads.means m i) h pages holds (held_at pages c.args.ids.now c.loop-slot.ids c.args.row.now c.loop-slot.slot-index c.slot-item.result.id some v.taken a.was));
+      looks = looks_then _ _ _ _ _ _ _ _ v.looks e.looks;
+      asks = omega (arith, v.asks, e.asks, length-append c.loop-slot.yielded (c.in-Some.slot ∷ []));
+      kept = kept_more c.loop-slot.yielded c.in-Some.slot c.args.leaves.now c.loop-slot.leaves c.pass_one.new.leaves v.kept e.leaves;
+      next_is = λ m i h pages a. next_more pages c.loop-slot.yielded c.in-Some.slot c.loop-slot.next c.pass_one.new.next (v.next_is m i h pages a) (e.next m (v.looks.reads.means m i) h pages a);
     }
 
-pub returns-then-not-take-clause-passed : goal.returns-then-not-take-clause-passed
-returns-then-not-take-clause-passed g c =
-    let a = c.if-not-take.ensures in
-    stuck_at c.args.row.now _ c.loop-slot.slot-index c.slot-item.result c.args.ids.now c.loop-slot.ids c.as_slice-slot-items.ensures c.loop-slot-test.true c.slot-item.is c.loop-slot.invariant.taken a.was
+pub returns-in_err-pass_one-clause-asks : goal.returns-in_err-pass_one-clause-asks
+returns-in_err-pass_one-clause-asks g c =
+    let gives = c.into_iter-slot-iterator.ensures.into_iter_gives in
+    let road = YieldsList-from_vec {s = c.into_iter-slot-iterator.result} c.args.row (gives.0 ∙ c.into_vec-slot-items.ensures) (gives.1 ∙ (c.into_vec-slot-items.result.ok.0 ∙ ap length c.into_vec-slot-items.ensures)) in
+    let turn = YieldsList-turn road c.loop-slot.yielded c.loop-slot.slot-iterator c.loop-slot.yielded_by c.next.result c.next.new.self c.in-Some.slot c.in-Some.is c.next.ensures.steps in
+    omega (arith, c.loop-slot.invariant.asks, c.pass_one.ensures.asks, turn.0)
 
-pub returns-clause-passed : goal.returns-clause-passed
-returns-clause-passed g c = λ m i h pages holds some.
-    let whole : take c.loop-slot.slot-index c.args.row.now ≡ c.args.row.now = take_all _ _ (omega (arith, c.loop-slot-test.false, c.loop-slot.auto.slot-index-end, ap (λ (l : List Slot). length l) c.as_slice-slot-items.ensures)) in
-    subst (λ (r : List Slot). IsPassed pages r c.args.ids.now c.loop-slot.ids c.loop-slot.next c.loop-slot.leaf) whole (c.loop-slot.invariant.passed m i h pages holds some)
+pub returns-clause-next : goal.returns-clause-next
+returns-clause-next g c = λ m i h pages a.
+    let gives = c.into_iter-slot-iterator.ensures.into_iter_gives in
+    let road = YieldsList-from_vec {s = c.into_iter-slot-iterator.result} c.args.row (gives.0 ∙ c.into_vec-slot-items.ensures) (gives.1 ∙ (c.into_vec-slot-items.result.ok.0 ∙ ap length c.into_vec-slot-items.ensures)) in
+    let end = YieldsList-end road c.loop-slot.yielded c.loop-slot.slot-iterator c.loop-slot.yielded_by c.next.result c.next.new.self c.in-None.is c.next.ensures.steps in
+    subst (λ (r : List Slot). AreThere pages r → c.loop-slot.next ≡ next_row pages r) (given_all c.args.row c.loop-slot.yielded end.0) (c.loop-slot.invariant.next_is m i h pages a)
+
+pub returns-clause-leaves : goal.returns-clause-leaves
+returns-clause-leaves g c =
+    let gives = c.into_iter-slot-iterator.ensures.into_iter_gives in
+    let road = YieldsList-from_vec {s = c.into_iter-slot-iterator.result} c.args.row (gives.0 ∙ c.into_vec-slot-items.ensures) (gives.1 ∙ (c.into_vec-slot-items.result.ok.0 ∙ ap length c.into_vec-slot-items.ensures)) in
+    let end = YieldsList-end road c.loop-slot.yielded c.loop-slot.slot-iterator c.loop-slot.yielded_by c.next.result c.next.new.self c.in-None.is c.next.ensures.steps in
+    c.loop-slot.invariant.kept ∙ ap (λ (r : List Slot). c.args.leaves.now ++ leaf_places r) (given_all c.args.row c.loop-slot.yielded end.0)
+
+pub returns-clause-asks : goal.returns-clause-asks
+returns-clause-asks g c =
+    let gives = c.into_iter-slot-iterator.ensures.into_iter_gives in
+    let road = YieldsList-from_vec {s = c.into_iter-slot-iterator.result} c.args.row (gives.0 ∙ c.into_vec-slot-items.ensures) (gives.1 ∙ (c.into_vec-slot-items.result.ok.0 ∙ ap length c.into_vec-slot-items.ensures)) in
+    let end = YieldsList-end road c.loop-slot.yielded c.loop-slot.slot-iterator c.loop-slot.yielded_by c.next.result c.next.new.self c.in-None.is c.next.ensures.steps in
+    omega (arith, c.loop-slot.invariant.asks, end.1)

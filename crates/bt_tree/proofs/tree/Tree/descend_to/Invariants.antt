@@ -1,5 +1,4 @@
 use Rattle.std.proofs.Common.{ℕ, List, []}
-use Rattle.bt_rows.specs.Orders.{before_by}
 use Rattle.bt_tree.specs.Ranging.{start_of}
 use Rattle.bt_tree.proofs.Descents.{Descends}
 use Rattle.bt_tree.proofs.tree.Tree.descend_to.Given as goal
@@ -7,4 +6,4 @@ use Rattle.bt_tree.proofs.tree.Tree.descend_to.Given as goal
 abbrev pub invariant-loop-i : goal.invariant-loop-i
 invariant-loop-i g l =
     (path : List (ℕ × ℕ))
-    × Descends g.R.S.Space g.R.Records.file_of g.R.Records.holds g.R.Records.region g.R.Records.gets (before_by g.O.Order.cmp) (start_of (g.C.Cut.side_of l.cut)) [] l.fn.self l.self path l.fn.space l.space l.fn.steps l.steps l.id l.i
+    × Descends g.R.S.Space g.R.Records g.O.Order (start_of (g.C.Cut.side_of l.cut)) [] l.fn.self l.self path l.fn.space l.space l.fn.steps l.steps l.id l.i

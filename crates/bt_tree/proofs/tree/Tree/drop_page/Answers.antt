@@ -1,17 +1,23 @@
 use Rattle.std.proofs.Common.{refl}
-use Rattle.bt_tree.proofs.Descents.{err_on}
-use Rattle.bt_tree.proofs.Droppings.{drop_shows, refuses_now}
+use Rattle.std.proofs.lemmas.Result.{on_ok_weaker}
+use Rattle.bt_cache.specs.Effects.{same_store_map}
+use Rattle.bt_tree.proofs.Droppings.{drop_shows}
 use Rattle.bt_tree.proofs.Pagings.{ready_beside}
 use Rattle.bt_tree.proofs.tree.Tree.drop_page.Goals as goal
 
 pub drop_page-requires : goal.drop_page-requires
-drop_page-requires g c = ready_beside g.R.S.Space g.R.Records.file_of g.R.Records.holds c.args.self.now c.args.space.now c.requires.ready
+drop_page-requires g c = ready_beside g.R.S.Space g.R.Records c.args.self.now c.args.space.now c.requires.ready
 
-pub returns-in-Ok-clause-out : goal.returns-in-Ok-clause-out
-returns-in-Ok-clause-out g c =
-    drop_shows g.R.S.Space g.R.Records.file_of g.R.Records.holds c.args.self.now _ c.args.space.now c.drop_page.new.space c.args.id c.requires.id c.in-Ok.ensures.out refl refl
+pub returns-clause-out : goal.returns-clause-out
+returns-clause-out g c =
+    on_ok_weaker c.drop_page.result (λ out. drop_shows g.R.S.Space g.R.Records c.args.self.now _ c.args.space.now c.drop_page.new.space c.args.id c.requires.id out refl refl) c.drop_page.ensures.out
 
-pub returns-in-Err-clause-full : goal.returns-in-Err-clause-full
-returns-in-Err-clause-full g c = λ is.
-    refuses_now g.R.S.Space g.R.Records.file_of g.R.Records.holds g.R.Records.fills c.args.self.now.store c.args.self.now.cache.pages c.args.space.now c.drop_page.new.space c.args.id
-    (ready_beside g.R.S.Space g.R.Records.file_of g.R.Records.holds c.args.self.now c.args.space.now c.requires.ready) (c.in-Err.ensures.full (err_on _ _ is))
+pub returns-clause-still : goal.returns-clause-still
+returns-clause-still g c = record {
+  keeps = c.drop_page.ensures.stays.keeps;
+  made = same_store_map g.R.Records c.args.self.now.store c.drop_page.new.store c.drop_page.ensures.stays.store;
+  head = refl;
+  height = refl;
+  column = refl;
+  path = refl;
+}

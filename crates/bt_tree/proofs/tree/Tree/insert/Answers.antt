@@ -1,77 +1,102 @@
-use Rattle.std.proofs.Common.{inl, inr, ⊎_elim}
-use Rattle.bt_rows.specs.Orders.{before_by}
+use Rattle.std.proofs.Common.{refl, inl, inr, ⊎_elim}
 use Rattle.bt_rows.proofs.Ordered.{orders_are_strict}
+use Rattle.bt_page.proofs.Runs.{err_handed, on_err_any}
 use Rattle.bt_tree.proofs.Descents.{err_on}
 use Rattle.bt_tree.proofs.Finds.{tree_reads}
-use Rattle.bt_tree.proofs.Inserts.{gains_kept, gains_spread, id_given, inserted_kept, inserted_spread, is_crowded, kept_over, lacks_leaf, lacks_piece, leaf_ready, means_ready, none_more, not_both, over_there, put_refused}
-use Rattle.bt_tree.proofs.Pagings.{lacks_given_up}
+use Rattle.bt_tree.proofs.Inserts.{gains_kept, gains_spread, given_up, id_given, inserted_kept, inserted_spread, is_crowded, kept_anew, lacks_leaf, lacks_piece, leaf_ready, means_ready, none_more, not_both, over_there, put_refused, spread_anew}
 use Rattle.bt_tree.proofs.tree.Tree.insert.Goals as goal
 
-pub returns-in-Err-clause-refused : goal.returns-in-Err-clause-refused
-returns-in-Err-clause-refused g c =
-    inr (tree_reads g.R.S.Space g.R.Records.file_of g.R.Records.holds (before_by g.O.Order.cmp) c.args.self.now c.take_pair.new.self c.args.space.now c.take_pair.new.space c.take_pair.ensures.looks.reads c.take_pair.ensures.stays)
+pub returns-in_err-changed-clause-refused : goal.returns-in_err-changed-clause-refused
+returns-in_err-changed-clause-refused g c = on_err_any _ (inr (tree_reads g.R.S.Space g.R.Records g.O.Order c.args.self.now c.take_pair.new.self c.args.space.now c.take_pair.new.space c.take_pair.ensures.looks.reads c.take_pair.ensures.stays))
 
 pub put_leaf-requires-clause-ready : goal.put_leaf-requires-clause-ready
-put_leaf-requires-clause-ready g c =
-    means_ready g.R.S.Space g.R.Records.file_of g.R.Records.holds (before_by g.O.Order.cmp) c.args.self.now c.take_pair.new.self c.args.space.now c.take_pair.new.space c.take_pair.ensures.looks c.take_pair.ensures.stays c.requires
+put_leaf-requires-clause-ready g c = means_ready g.R.S.Space g.R.Records g.O.Order c.args.self.now c.take_pair.new.self c.args.space.now c.take_pair.new.space c.take_pair.ensures.looks c.take_pair.ensures.stays c.requires
 
 pub put_leaf-requires-clause-id : goal.put_leaf-requires-clause-id
 put_leaf-requires-clause-id g c =
-    id_given g.R.S.Space g.R.Records.file_of g.R.Records.holds g.O.Order.cmp g.met.O.Order.total (orders_are_strict g.O.Order.cmp g.met.O.Order.total g.met.O.Order.exact) c.args.last c.args.key.now c.args.value.now c.args.self.now c.take_pair.new.self c.args.space.now c.take_pair.new.space c.in-Ok.changed
-    c.take_pair.ensures.looks c.take_pair.ensures.stays c.take_pair.ensures.made.file c.in-Ok.ensures.taken c.requires
+    id_given g.R.S.Space g.R.Records g.O.Order g.met.O.Order.total (orders_are_strict g.O.Order.cmp g.met.O.Order.total g.met.O.Order.exact) c.args.last c.args.key.now c.args.value.now c.args.self.now c.take_pair.new.self c.args.space.now c.take_pair.new.space c.in_ok-changed.changed
+    c.take_pair.ensures.looks c.take_pair.ensures.stays c.in_ok-changed.ensures.taken c.requires
 
-pub returns-in-Err-put_leaf-clause-refused : goal.returns-in-Err-put_leaf-clause-refused
-returns-in-Err-put_leaf-clause-refused g c =
-    put_refused g.R.S.Space g.R.Records.file_of g.R.Records.holds (before_by g.O.Order.cmp) g.R.Records.region c.args.self.now c.take_pair.new.self c.put_leaf.new.self c.args.space.now c.take_pair.new.space c.put_leaf.new.space
-    c.take_pair.ensures.looks c.take_pair.ensures.stays c.put_leaf.ensures.still c.in-Err-put_leaf.ensures.refused
+pub returns-in_err-put_leaf-clause-refused : goal.returns-in_err-put_leaf-clause-refused
+returns-in_err-put_leaf-clause-refused g c =
+    on_err_any _
+    (put_refused g.R.S.Space g.R.Records g.O.Order c.args.self.now c.take_pair.new.self c.put_leaf.new.self c.args.space.now c.take_pair.new.space c.put_leaf.new.space
+    c.take_pair.ensures.looks c.take_pair.ensures.stays c.put_leaf.ensures.still c.in_err-put_leaf.ensures.refused)
 
-pub returns-in-Err-put_leaf-clause-full : goal.returns-in-Err-put_leaf-clause-full
-returns-in-Err-put_leaf-clause-full g c = λ is.
-    inr (lacks_leaf g.R.S.Space g.R.Records.file_of g.R.Records.holds g.O.Order.cmp g.met.O.Order.total (orders_are_strict g.O.Order.cmp g.met.O.Order.total g.met.O.Order.exact) c.args.last c.args.key.now c.args.value.now c.args.self.now c.take_pair.new.self c.args.space.now c.take_pair.new.space c.in-Ok.changed
-    c.take_pair.ensures.looks c.take_pair.ensures.stays c.take_pair.ensures.made.file c.in-Ok.ensures.taken
-    g.R.Records.fills c.put_leaf.new.space (c.leaf_fits.ensures.0 c.if-leaf_fits.true) (c.in-Err-put_leaf.ensures.full (err_on _ _ is)))
+pub returns-in_err-put_leaf-clause-full : goal.returns-in_err-put_leaf-clause-full
+returns-in_err-put_leaf-clause-full g c = λ is.
+    inr (record {
+      refused = c.put_leaf.new.space;
+      why = lacks_leaf g.R.S.Space g.R.Records g.O.Order g.met.O.Order.total (orders_are_strict g.O.Order.cmp g.met.O.Order.total g.met.O.Order.exact) c.args.last c.args.key.now c.args.value.now c.args.self.now c.take_pair.new.self c.args.space.now c.take_pair.new.space c.in_ok-changed.changed
+          c.take_pair.ensures.looks c.take_pair.ensures.stays c.in_ok-changed.ensures.taken
+          c.put_leaf.new.space (c.leaf_fits.ensures.0 c.if-leaf_fits.true) (c.in_err-put_leaf.ensures.full (err_handed c.from_residual-in_err-put_leaf.result c.in_err-put_leaf.field-0.0 _ c.from_residual-in_err-put_leaf.ensures.1 is));
+      left = inl refl;
+    })
 
 pub returns-then-leaf_fits-clause-inserted : goal.returns-then-leaf_fits-clause-inserted
 returns-then-leaf_fits-clause-inserted g c =
-    inserted_kept g.R.S.Space g.R.Records.file_of g.R.Records.holds g.O.Order.cmp g.met.O.Order.total (orders_are_strict g.O.Order.cmp g.met.O.Order.total g.met.O.Order.exact) c.args.last c.args.key.now c.args.value.now c.args.self.now c.take_pair.new.self c.args.space.now c.take_pair.new.space c.in-Ok.changed
-    c.take_pair.ensures.looks c.take_pair.ensures.stays c.take_pair.ensures.made.file c.in-Ok.ensures.taken
-    c.put_leaf.new.self c.count_pair.new.self c.put_leaf.new.space c.count_pair.ensures g.R.Records.region (c.leaf_fits.ensures.0 c.if-leaf_fits.true) c.in_default.ensures.put c.put_leaf.ensures.still
+    inserted_kept g.R.S.Space g.R.Records g.O.Order g.met.O.Order.total (orders_are_strict g.O.Order.cmp g.met.O.Order.total g.met.O.Order.exact) c.args.last c.args.key.now c.args.value.now c.args.self.now c.take_pair.new.self c.args.space.now c.take_pair.new.space c.in_ok-changed.changed
+    c.take_pair.ensures.looks c.take_pair.ensures.stays c.in_ok-changed.ensures.taken
+    c.put_leaf.new.self c.count_pair.new.self c.put_leaf.new.space c.count_pair.ensures (c.leaf_fits.ensures.0 c.if-leaf_fits.true) c.in_ok-put_leaf.ensures.put c.put_leaf.ensures.still
 
 pub returns-then-leaf_fits-clause-adds : goal.returns-then-leaf_fits-clause-adds
-returns-then-leaf_fits-clause-adds g c = inl (gains_kept c.args.self.now c.take_pair.new.self c.put_leaf.new.self c.count_pair.new.self _ c.take_pair.ensures.stays c.count_pair.ensures g.R.S.Space g.R.Records.file_of g.R.Records.region _ _ c.put_leaf.ensures.still)
+returns-then-leaf_fits-clause-adds g c = inl (gains_kept c.args.self.now c.take_pair.new.self c.put_leaf.new.self c.count_pair.new.self _ c.take_pair.ensures.stays c.count_pair.ensures g.R.S.Space g.R.Records _ _ c.put_leaf.ensures.still)
+
+pub returns-then-leaf_fits-clause-anew : goal.returns-then-leaf_fits-clause-anew
+returns-then-leaf_fits-clause-anew g c =
+    kept_anew g.R.S.Space g.R.Records g.O.Order g.met.O.Order.total (orders_are_strict g.O.Order.cmp g.met.O.Order.total g.met.O.Order.exact) c.args.last c.args.key.now c.args.value.now c.args.self.now c.take_pair.new.self c.args.space.now c.take_pair.new.space c.in_ok-changed.changed
+    c.take_pair.ensures.looks c.take_pair.ensures.stays c.in_ok-changed.ensures.taken
+    c.put_leaf.new.self c.count_pair.new.self c.put_leaf.new.space c.count_pair.ensures c.in_ok-put_leaf.ensures.put
 
 pub part-requires-clause-ready : goal.part-requires-clause-ready
 part-requires-clause-ready g c =
-    leaf_ready g.R.S.Space g.R.Records.file_of g.R.Records.holds g.O.Order.cmp g.met.O.Order.total (orders_are_strict g.O.Order.cmp g.met.O.Order.total g.met.O.Order.exact) c.args.last c.args.key.now c.args.value.now c.args.self.now c.take_pair.new.self c.args.space.now c.take_pair.new.space c.in-Ok.changed
-    c.take_pair.ensures.looks c.take_pair.ensures.stays c.take_pair.ensures.made.file c.in-Ok.ensures.taken c.requires
+    leaf_ready g.R.S.Space g.R.Records g.O.Order g.met.O.Order.total (orders_are_strict g.O.Order.cmp g.met.O.Order.total g.met.O.Order.exact) c.args.last c.args.key.now c.args.value.now c.args.self.now c.take_pair.new.self c.args.space.now c.take_pair.new.space c.in_ok-changed.changed
+    c.take_pair.ensures.looks c.take_pair.ensures.stays c.in_ok-changed.ensures.taken c.requires
 
 pub part-requires-clause-over : goal.part-requires-clause-over
 part-requires-clause-over g c =
-    over_there g.R.S.Space g.R.Records.file_of g.R.Records.holds g.O.Order.cmp g.met.O.Order.total (orders_are_strict g.O.Order.cmp g.met.O.Order.total g.met.O.Order.exact) c.args.last c.args.key.now c.args.value.now c.args.self.now c.take_pair.new.self c.args.space.now c.take_pair.new.space c.in-Ok.changed
-    c.take_pair.ensures.looks c.take_pair.ensures.stays c.take_pair.ensures.made.file c.in-Ok.ensures.taken c.requires
+    over_there g.R.S.Space g.R.Records g.O.Order g.met.O.Order.total (orders_are_strict g.O.Order.cmp g.met.O.Order.total g.met.O.Order.exact) c.args.last c.args.key.now c.args.value.now c.args.self.now c.take_pair.new.self c.args.space.now c.take_pair.new.space c.in_ok-changed.changed
+    c.take_pair.ensures.looks c.take_pair.ensures.stays c.in_ok-changed.ensures.taken c.requires
     (λ w. not_both _ (c.leaf_fits.ensures.1 w) c.if-leaf_fits.false)
 
 pub returns-clause-inserted : goal.returns-clause-inserted
 returns-clause-inserted g c =
-    inserted_spread g.R.S.Space g.R.Records.file_of g.R.Records.holds g.O.Order.cmp g.met.O.Order.total (orders_are_strict g.O.Order.cmp g.met.O.Order.total g.met.O.Order.exact) c.args.last c.args.key.now c.args.value.now c.args.self.now c.take_pair.new.self c.args.space.now c.take_pair.new.space c.in-Ok.changed
-    c.take_pair.ensures.looks c.take_pair.ensures.stays c.take_pair.ensures.made.file c.in-Ok.ensures.taken
-    c.part.new.self c.count_pair-2.new.self c.part.new.space c.count_pair-2.ensures c.part.ensures.widens.index c.part.ensures.widens.head c.in_default-part.ensures.parted
+    inserted_spread g.R.S.Space g.R.Records g.O.Order g.met.O.Order.total (orders_are_strict g.O.Order.cmp g.met.O.Order.total g.met.O.Order.exact) c.args.last c.args.key.now c.args.value.now c.args.self.now c.take_pair.new.self c.args.space.now c.take_pair.new.space c.in_ok-changed.changed
+    c.take_pair.ensures.looks c.take_pair.ensures.stays c.in_ok-changed.ensures.taken
+    c.part.new.self c.count_pair-2.new.self c.part.new.space c.count_pair-2.ensures c.part.ensures.widens.column c.part.ensures.widens.head c.in_default.ensures.parted
+
+pub returns-clause-anew : goal.returns-clause-anew
+returns-clause-anew g c =
+    spread_anew g.R.S.Space g.R.Records g.O.Order g.met.O.Order.total (orders_are_strict g.O.Order.cmp g.met.O.Order.total g.met.O.Order.exact) c.args.last c.args.key.now c.args.value.now c.args.self.now c.take_pair.new.self c.args.space.now c.take_pair.new.space c.in_ok-changed.changed
+    c.take_pair.ensures.looks c.take_pair.ensures.stays c.in_ok-changed.ensures.taken
+    c.part.new.self c.count_pair-2.new.self c.part.new.space c.count_pair-2.ensures c.in_default.ensures.parted
 
 pub returns-clause-adds : goal.returns-clause-adds
 returns-clause-adds g c =
     inr (
-      gains_spread c.args.self.now c.take_pair.new.self c.part.new.self c.count_pair-2.new.self _ c.take_pair.ensures.stays c.count_pair-2.ensures g.R.S.Space g.R.Records.file_of g.R.Records.region _ _ c.in-Ok.ensures.deep c.part.ensures.widens,
-      is_crowded g.R.S.Space g.R.Records.file_of g.R.Records.holds g.O.Order.cmp g.met.O.Order.total (orders_are_strict g.O.Order.cmp g.met.O.Order.total g.met.O.Order.exact) c.args.last c.args.key.now c.args.value.now c.args.self.now c.take_pair.new.self c.args.space.now c.take_pair.new.space c.in-Ok.changed
-          c.take_pair.ensures.looks c.take_pair.ensures.stays c.take_pair.ensures.made.file c.in-Ok.ensures.taken
+      gains_spread c.args.self.now c.take_pair.new.self c.part.new.self c.count_pair-2.new.self _ c.take_pair.ensures.stays c.count_pair-2.ensures g.R.S.Space g.R.Records _ _ c.in_ok-changed.ensures.deep c.part.ensures.widens,
+      is_crowded g.R.S.Space g.R.Records g.O.Order g.met.O.Order.total (orders_are_strict g.O.Order.cmp g.met.O.Order.total g.met.O.Order.exact) c.args.last c.args.key.now c.args.value.now c.args.self.now c.take_pair.new.self c.args.space.now c.take_pair.new.space c.in_ok-changed.changed
+          c.take_pair.ensures.looks c.take_pair.ensures.stays c.in_ok-changed.ensures.taken
           (λ w. not_both _ (c.leaf_fits.ensures.1 w) c.if-leaf_fits.false),
     )
 
-pub returns-in-Err-part-clause-full : goal.returns-in-Err-part-clause-full
-returns-in-Err-part-clause-full g c = λ is.
-    ⊎_elim (λ used. inl (used, gains_spread c.args.self.now c.take_pair.new.self c.part.new.self c.part.new.self 0 c.take_pair.ensures.stays (none_more c.part.new.self) g.R.S.Space g.R.Records.file_of g.R.Records.region _ _ c.in-Ok.ensures.deep c.part.ensures.widens))
-    (λ lacks. inr (lacks_given_up g.R.S.Space g.R.Records.file_of g.R.Records.holds g.R.Records.fills _ _ _ _ _
-    (record { flag = c.spoil.ensures.spoiled; keeps = kept_over g.R.S.Space c.part.new.space c.spoil.new.self c.spoil.ensures.stays; files = c.spoil.ensures.now })
-    (lacks_piece g.R.S.Space g.R.Records.file_of g.R.Records.holds g.O.Order.cmp g.met.O.Order.total (orders_are_strict g.O.Order.cmp g.met.O.Order.total g.met.O.Order.exact) c.args.last c.args.key.now c.args.value.now c.args.self.now c.take_pair.new.self c.args.space.now c.take_pair.new.space c.in-Ok.changed
-    c.take_pair.ensures.looks c.take_pair.ensures.stays c.take_pair.ensures.made.file c.in-Ok.ensures.taken
-    g.R.Records.fills c.part.new.space lacks)))
-    (c.in-Err-part.ensures.full (err_on _ _ is))
+pub returns-in-Err-clause-full : goal.returns-in-Err-clause-full
+returns-in-Err-clause-full g c = λ is.
+    ⊎_elim
+    (λ used. inl (
+      used,
+      (
+        gains_spread c.args.self.now c.take_pair.new.self c.part.new.self c.part.new.self 0 c.take_pair.ensures.stays (none_more c.part.new.self) g.R.S.Space g.R.Records _ _ c.in_ok-changed.ensures.deep c.part.ensures.widens,
+        is_crowded g.R.S.Space g.R.Records g.O.Order g.met.O.Order.total (orders_are_strict g.O.Order.cmp g.met.O.Order.total g.met.O.Order.exact) c.args.last c.args.key.now c.args.value.now c.args.self.now c.take_pair.new.self c.args.space.now c.take_pair.new.space c.in_ok-changed.changed
+            c.take_pair.ensures.looks c.take_pair.ensures.stays c.in_ok-changed.ensures.taken
+            (λ w. not_both _ (c.leaf_fits.ensures.1 w) c.if-leaf_fits.false),
+      ),
+    ))
+    (λ lacks. inr (record {
+      refused = c.part.new.space;
+      why = lacks_piece g.R.S.Space g.R.Records g.O.Order g.met.O.Order.total (orders_are_strict g.O.Order.cmp g.met.O.Order.total g.met.O.Order.exact) c.args.last c.args.key.now c.args.value.now c.args.self.now c.take_pair.new.self c.args.space.now c.take_pair.new.space c.in_ok-changed.changed
+          c.take_pair.ensures.looks c.take_pair.ensures.stays c.in_ok-changed.ensures.taken
+          c.part.new.space lacks;
+      left = inr (given_up g.R.S.Space c.part.new.space c.spoil.new.self c.spoil.ensures.spoiled c.spoil.ensures.stays c.spoil.ensures.now);
+    }))
+    (c.in-Err.ensures.full (err_on _ _ is))

@@ -1,19 +1,17 @@
-use Rattle.std.proofs.Common.{[], refl}
-use Rattle.bt_rows.specs.Orders.{before_by}
+use Rattle.std.proofs.Common.{refl}
+use Rattle.std.proofs.lemmas.Result.{on_ok_weaker, on_err_weaker}
 use Rattle.bt_tree.proofs.Settles.{store_ready, settles, settle_refused}
 use Rattle.bt_tree.proofs.tree.Tree.pack.Goals as goal
 
 pub pack-requires : goal.pack-requires
 pack-requires g c =
-    store_ready g.R.S.Space g.R.Records.file_of g.R.Records.holds g.R.Records.region g.R.Records.stands (before_by g.O.Order.cmp) c.args.self.now c.args.self.now c.args.self.now.store c.args.self.now.store [] c.args.space.now c.args.space.now
-    (λ bytes m is. is) refl refl refl refl refl refl c.requires
+    store_ready g.R.S.Space g.R.Records g.O.Order c.args.self.now c.args.self.now c.args.self.now.store c.args.self.now.store c.args.space.now c.args.space.now (λ bytes m is. is) refl refl (record { head = refl; height = refl; column = refl }) refl c.requires
 
-pub returns-in-Ok-clause-packed : goal.returns-in-Ok-clause-packed
-returns-in-Ok-clause-packed g c =
-    settles g.R.S.Space g.R.Records.file_of g.R.Records.holds g.R.Records.region g.R.Records.stands (before_by g.O.Order.cmp) c.args.self.now _ c.args.self.now.store _ [] _ _
-    (λ bytes m is. is) refl refl refl refl refl refl c.in-Ok.ensures.packed
+pub returns-clause-packed : goal.returns-clause-packed
+returns-clause-packed g c = on_ok_weaker c.pack.result (λ writes. settles g.R.S.Space g.R.Records g.O.Order c.args.self.now _ c.args.self.now.store _ c.args.space.now c.pack.new.space (λ bytes m is. is) refl refl (record { head = refl; height = refl; column = refl }) refl writes) c.pack.ensures.packed
 
-pub returns-in-Err-clause-refused : goal.returns-in-Err-clause-refused
-returns-in-Err-clause-refused g c =
-    settle_refused g.R.S.Space g.R.Records.file_of g.R.Records.holds g.R.Records.region g.R.Records.stands (before_by g.O.Order.cmp) c.args.self.now _ c.args.self.now.store _ [] _ _
-    (λ bytes m is. is) refl refl refl refl refl refl c.in-Err.ensures.refused
+pub returns-clause-refused : goal.returns-clause-refused
+returns-clause-refused g c = on_err_weaker c.pack.result (λ refused. settle_refused g.R.S.Space g.R.Records g.O.Order c.args.self.now _ c.args.self.now.store _ c.args.space.now c.pack.new.space (λ bytes m is. is) refl refl (record { head = refl; height = refl; column = refl }) refl refused) c.pack.ensures.refused
+
+pub returns-clause-stays : goal.returns-clause-stays
+returns-clause-stays g c = record { file = c.pack.ensures.stays.file; sort = c.pack.ensures.stays.sort_same; stays = record { head = refl; height = refl; column = refl } }

@@ -1,77 +1,74 @@
 use Rattle.std.proofs.Common.{◌-◌, drop, inl, inr, refl, take, ⊎_elim}
-use Rattle.bt_tree.proofs.Descents.{err_on}
+use Rattle.std.proofs.lemmas.Result.{on_ok_weaker}
+use Rattle.bt_page.proofs.Runs.{err_handed}
 use Rattle.bt_tree.proofs.Partings.{added_few, behind_there, climb_ready, climb_rows, given_ready, ids_given, lacks_climb, lacks_laid, lay_ready, parts_turn, widens_climb, widens_lay}
 use Rattle.bt_tree.proofs.tree.Tree.part.Goals as goal
 
 pub behind-requires-clause-ready : goal.behind-requires-clause-ready
-behind-requires-clause-ready g c = given_ready g.R.S.Space g.R.Records.file_of g.R.Records.holds c.args.self.now c.parts.new.self c.args.space.now c.args.id c.args.leaf c.requires.ready c.parts.ensures.noted c.parts.ensures.gains.0 c.in-Ok.ensures.small
+behind-requires-clause-ready g c = given_ready g.R.S.Space g.R.Records c.args.self.now c.parts.new.self c.args.space.now c.args.id c.args.leaf c.requires.ready c.parts.ensures.noted c.parts.ensures.least c.in_ok-parted.ensures.small
 
 pub behind-requires-clause-there : goal.behind-requires-clause-there
-behind-requires-clause-there g c = rw c.next-next.ensures (behind_there g.R.S.Space g.R.Records.file_of g.R.Records.holds c.args.self.now c.parts.new.self c.args.space.now c.args.id c.args.leaf c.requires.ready c.parts.ensures.noted c.parts.ensures.gains.0 c.in-Ok.ensures.small)
+behind-requires-clause-there g c = rw c.next-next.ensures (behind_there g.R.S.Space g.R.Records c.args.self.now c.parts.new.self c.args.space.now c.args.id c.args.leaf c.requires.ready c.parts.ensures.noted c.parts.ensures.least c.in_ok-parted.ensures.small)
 
 pub lay-requires-clause-ready : goal.lay-requires-clause-ready
 lay-requires-clause-ready g c =
-    lay_ready g.R.S.Space g.R.Records.file_of g.R.Records.holds g.R.Records.region c.args.self.now c.parts.new.self c.behind.new.self c.follow.new.self c.args.space.now c.behind.new.space c.args.id c.args.leaf (take c.cut_places-i.result.0 c.args.leaf.items) (take (c.cut_places-i.result.1 - c.cut_places-i.result.0) (drop c.cut_places-i.result.0 c.args.leaf.items)) (drop c.cut_places-i.result.1 c.args.leaf.items) c.in-Ok.parted c.in-Ok-behind.leaves
-    c.requires.ready c.parts.ensures.noted c.in-Ok.ensures.given c.in-Ok.ensures.small c.in-Ok.ensures.parts (rw c.next-next.ensures at c.in-Ok-behind.ensures.added) c.behind.ensures.looks c.behind.ensures.still (rw c.next-next.ensures at c.follow.ensures)
+    lay_ready g.R.S.Space g.R.Records c.args.self.now c.parts.new.self c.behind.new.self c.follow.new.self c.args.space.now c.behind.new.space c.args.id c.args.leaf (take c.cut_places-i.result.0 c.args.leaf.items) (take (c.cut_places-i.result.1 - c.cut_places-i.result.0) (drop c.cut_places-i.result.0 c.args.leaf.items)) (drop c.cut_places-i.result.1 c.args.leaf.items) c.in_ok-parted.parted c.in_ok-leaves.leaves
+    c.requires.ready c.parts.ensures.noted c.in_ok-parted.ensures.given c.in_ok-parted.ensures.small c.in_ok-parted.ensures.parts (rw c.next-next.ensures at c.in_ok-leaves.ensures.added) c.behind.ensures.peeks (rw c.next-next.ensures at c.follow.ensures)
 
 pub lay-requires-clause-ids : goal.lay-requires-clause-ids
 lay-requires-clause-ids g c =
-    ids_given g.R.S.Space g.R.Records.file_of g.R.Records.holds g.R.Records.region c.args.self.now c.parts.new.self c.behind.new.self c.follow.new.self c.args.space.now c.behind.new.space c.args.id c.args.leaf (take c.cut_places-i.result.0 c.args.leaf.items) (take (c.cut_places-i.result.1 - c.cut_places-i.result.0) (drop c.cut_places-i.result.0 c.args.leaf.items)) (drop c.cut_places-i.result.1 c.args.leaf.items) c.in-Ok.parted c.in-Ok-behind.leaves
-    c.requires.ready c.parts.ensures.noted c.in-Ok.ensures.given c.in-Ok.ensures.small c.in-Ok.ensures.parts (rw c.next-next.ensures at c.in-Ok-behind.ensures.added) c.behind.ensures.looks c.behind.ensures.still (rw c.next-next.ensures at c.follow.ensures)
+    ids_given g.R.S.Space g.R.Records c.args.self.now c.parts.new.self c.behind.new.self c.follow.new.self c.args.space.now c.behind.new.space c.args.id c.args.leaf (take c.cut_places-i.result.0 c.args.leaf.items) (take (c.cut_places-i.result.1 - c.cut_places-i.result.0) (drop c.cut_places-i.result.0 c.args.leaf.items)) (drop c.cut_places-i.result.1 c.args.leaf.items) c.in_ok-parted.parted c.in_ok-leaves.leaves
+    c.requires.ready c.parts.ensures.noted c.in_ok-parted.ensures.given c.in_ok-parted.ensures.small c.in_ok-parted.ensures.parts (rw c.next-next.ensures at c.in_ok-leaves.ensures.added) c.behind.ensures.peeks (rw c.next-next.ensures at c.follow.ensures)
 
-pub returns-in-Err-lay-clause-full : goal.returns-in-Err-lay-clause-full
-returns-in-Err-lay-clause-full g c = λ is.
-    inr (lacks_laid g.R.S.Space g.R.Records.file_of g.R.Records.holds g.R.Records.region c.args.self.now c.parts.new.self c.behind.new.self c.follow.new.self c.args.space.now c.behind.new.space c.args.id c.args.leaf (take c.cut_places-i.result.0 c.args.leaf.items) (take (c.cut_places-i.result.1 - c.cut_places-i.result.0) (drop c.cut_places-i.result.0 c.args.leaf.items)) (drop c.cut_places-i.result.1 c.args.leaf.items) c.in-Ok.parted c.in-Ok-behind.leaves
-    c.requires.ready c.parts.ensures.noted c.in-Ok.ensures.given c.in-Ok.ensures.small c.in-Ok.ensures.parts (rw c.next-next.ensures at c.in-Ok-behind.ensures.added) c.behind.ensures.looks c.behind.ensures.still (rw c.next-next.ensures at c.follow.ensures)
-    g.R.Records.fills c.cut_places-i.result.0 c.cut_places-i.result.1 c.lay.new.space refl refl refl (λ told. c.cut_places-i.ensures.cut (c.requires.over told)) (c.in-Err-lay.ensures.full (err_on _ _ is)))
+pub returns-in_err-lay-clause-full : goal.returns-in_err-lay-clause-full
+returns-in_err-lay-clause-full g c = λ is.
+    inr (lacks_laid g.R.S.Space g.R.Records c.args.self.now c.parts.new.self c.behind.new.self c.follow.new.self c.args.space.now c.behind.new.space c.args.id c.args.leaf (take c.cut_places-i.result.0 c.args.leaf.items) (take (c.cut_places-i.result.1 - c.cut_places-i.result.0) (drop c.cut_places-i.result.0 c.args.leaf.items)) (drop c.cut_places-i.result.1 c.args.leaf.items) c.in_ok-parted.parted c.in_ok-leaves.leaves
+    c.requires.ready c.parts.ensures.noted c.in_ok-parted.ensures.given c.in_ok-parted.ensures.small c.in_ok-parted.ensures.parts (rw c.next-next.ensures at c.in_ok-leaves.ensures.added) c.behind.ensures.peeks (rw c.next-next.ensures at c.follow.ensures)
+    c.cut_places-i.result.0 c.cut_places-i.result.1 c.lay.new.space refl refl refl (λ told. c.cut_places-i.ensures.cut (c.requires.over told)) (c.in_err-lay.ensures.full (err_handed c.from_residual-in_err-lay.result _ _ c.from_residual-in_err-lay.ensures.1 is)))
 
-pub returns-in-Err-lay-clause-widens : goal.returns-in-Err-lay-clause-widens
-returns-in-Err-lay-clause-widens g c =
-    widens_lay g.R.S.Space g.R.Records.file_of g.R.Records.holds g.R.Records.region c.args.self.now c.parts.new.self c.behind.new.self c.follow.new.self c.args.space.now c.behind.new.space c.args.id c.args.leaf (take c.cut_places-i.result.0 c.args.leaf.items) (take (c.cut_places-i.result.1 - c.cut_places-i.result.0) (drop c.cut_places-i.result.0 c.args.leaf.items)) (drop c.cut_places-i.result.1 c.args.leaf.items) c.in-Ok.parted c.in-Ok-behind.leaves
-    c.requires.ready c.parts.ensures.noted c.in-Ok.ensures.given c.in-Ok.ensures.small c.in-Ok.ensures.parts (rw c.next-next.ensures at c.in-Ok-behind.ensures.added) c.behind.ensures.looks c.behind.ensures.still (rw c.next-next.ensures at c.follow.ensures)
-    c.parts.ensures.gains c.lay.new.self c.lay.new.space c.lay.ensures.still
+pub returns-in_err-lay-clause-widens : goal.returns-in_err-lay-clause-widens
+returns-in_err-lay-clause-widens g c =
+    widens_lay g.R.S.Space g.R.Records c.args.self.now c.parts.new.self c.behind.new.self c.follow.new.self c.args.space.now c.behind.new.space c.args.id c.args.leaf (take c.cut_places-i.result.0 c.args.leaf.items) (take (c.cut_places-i.result.1 - c.cut_places-i.result.0) (drop c.cut_places-i.result.0 c.args.leaf.items)) (drop c.cut_places-i.result.1 c.args.leaf.items) c.in_ok-parted.parted c.in_ok-leaves.leaves
+    c.requires.ready c.parts.ensures.noted c.in_ok-parted.ensures.given c.in_ok-parted.ensures.small c.in_ok-parted.ensures.parts (rw c.next-next.ensures at c.in_ok-leaves.ensures.added) c.behind.ensures.peeks (rw c.next-next.ensures at c.follow.ensures)
+    c.parts.ensures.least c.parts.ensures.most c.lay.new.self c.lay.new.space c.lay.ensures.still
 
 pub climb-requires-clause-ready : goal.climb-requires-clause-ready
 climb-requires-clause-ready g c =
-    climb_ready g.R.S.Space g.R.Records.file_of g.R.Records.holds g.R.Records.region c.args.self.now c.parts.new.self c.behind.new.self c.follow.new.self c.args.space.now c.behind.new.space c.args.id c.args.leaf (take c.cut_places-i.result.0 c.args.leaf.items) (take (c.cut_places-i.result.1 - c.cut_places-i.result.0) (drop c.cut_places-i.result.0 c.args.leaf.items)) (drop c.cut_places-i.result.1 c.args.leaf.items) c.in-Ok.parted c.in-Ok-behind.leaves
-    c.requires.ready c.parts.ensures.noted c.in-Ok.ensures.given c.in-Ok.ensures.small c.in-Ok.ensures.parts (rw c.next-next.ensures at c.in-Ok-behind.ensures.added) c.behind.ensures.looks c.behind.ensures.still (rw c.next-next.ensures at c.follow.ensures)
-    c.lay.new.self c.lay.new.space c.in_default.ensures.laid c.lay.ensures.still
+    climb_ready g.R.S.Space g.R.Records c.args.self.now c.parts.new.self c.behind.new.self c.follow.new.self c.args.space.now c.behind.new.space c.args.id c.args.leaf (take c.cut_places-i.result.0 c.args.leaf.items) (take (c.cut_places-i.result.1 - c.cut_places-i.result.0) (drop c.cut_places-i.result.0 c.args.leaf.items)) (drop c.cut_places-i.result.1 c.args.leaf.items) c.in_ok-parted.parted c.in_ok-leaves.leaves
+    c.requires.ready c.parts.ensures.noted c.in_ok-parted.ensures.given c.in_ok-parted.ensures.small c.in_ok-parted.ensures.parts (rw c.next-next.ensures at c.in_ok-leaves.ensures.added) c.behind.ensures.peeks (rw c.next-next.ensures at c.follow.ensures)
+    c.lay.new.self c.lay.new.space c.in_ok-lay.ensures.laid c.lay.ensures.still
 
 pub climb-requires-clause-few : goal.climb-requires-clause-few
 climb-requires-clause-few g c =
-    added_few g.R.S.Space g.R.Records.file_of g.R.Records.holds g.R.Records.region c.args.self.now c.parts.new.self c.behind.new.self c.follow.new.self c.args.space.now c.behind.new.space c.args.id c.args.leaf (take c.cut_places-i.result.0 c.args.leaf.items) (take (c.cut_places-i.result.1 - c.cut_places-i.result.0) (drop c.cut_places-i.result.0 c.args.leaf.items)) (drop c.cut_places-i.result.1 c.args.leaf.items) c.in-Ok.parted c.in-Ok-behind.leaves
-    c.requires.ready c.parts.ensures.noted c.in-Ok.ensures.given c.in-Ok.ensures.small c.in-Ok.ensures.parts (rw c.next-next.ensures at c.in-Ok-behind.ensures.added) c.behind.ensures.looks c.behind.ensures.still (rw c.next-next.ensures at c.follow.ensures)
+    added_few g.R.S.Space g.R.Records c.args.self.now c.parts.new.self c.behind.new.self c.follow.new.self c.args.space.now c.behind.new.space c.args.id c.args.leaf (take c.cut_places-i.result.0 c.args.leaf.items) (take (c.cut_places-i.result.1 - c.cut_places-i.result.0) (drop c.cut_places-i.result.0 c.args.leaf.items)) (drop c.cut_places-i.result.1 c.args.leaf.items) c.in_ok-parted.parted c.in_ok-leaves.leaves
+    c.requires.ready c.parts.ensures.noted c.in_ok-parted.ensures.given c.in_ok-parted.ensures.small c.in_ok-parted.ensures.parts (rw c.next-next.ensures at c.in_ok-leaves.ensures.added) c.behind.ensures.peeks (rw c.next-next.ensures at c.follow.ensures)
 
 pub climb-requires-clause-rows : goal.climb-requires-clause-rows
 climb-requires-clause-rows g c =
-    climb_rows g.R.S.Space g.R.Records.file_of g.R.Records.holds g.R.Records.region c.args.self.now c.parts.new.self c.behind.new.self c.follow.new.self c.args.space.now c.behind.new.space c.args.id c.args.leaf (take c.cut_places-i.result.0 c.args.leaf.items) (take (c.cut_places-i.result.1 - c.cut_places-i.result.0) (drop c.cut_places-i.result.0 c.args.leaf.items)) (drop c.cut_places-i.result.1 c.args.leaf.items) c.in-Ok.parted c.in-Ok-behind.leaves
-    c.requires.ready c.parts.ensures.noted c.in-Ok.ensures.given c.in-Ok.ensures.small c.in-Ok.ensures.parts (rw c.next-next.ensures at c.in-Ok-behind.ensures.added) c.behind.ensures.looks c.behind.ensures.still (rw c.next-next.ensures at c.follow.ensures)
-    c.lay.new.self c.lay.new.space c.in_default.ensures.laid c.lay.ensures.still c.requires.rows
+    climb_rows g.R.S.Space g.R.Records c.args.self.now c.parts.new.self c.behind.new.self c.follow.new.self c.args.space.now c.behind.new.space c.args.id c.args.leaf (take c.cut_places-i.result.0 c.args.leaf.items) (take (c.cut_places-i.result.1 - c.cut_places-i.result.0) (drop c.cut_places-i.result.0 c.args.leaf.items)) (drop c.cut_places-i.result.1 c.args.leaf.items) c.in_ok-parted.parted c.in_ok-leaves.leaves
+    c.requires.ready c.parts.ensures.noted c.in_ok-parted.ensures.given c.in_ok-parted.ensures.small c.in_ok-parted.ensures.parts (rw c.next-next.ensures at c.in_ok-leaves.ensures.added) c.behind.ensures.peeks (rw c.next-next.ensures at c.follow.ensures)
+    c.lay.new.self c.lay.new.space c.in_ok-lay.ensures.laid c.lay.ensures.still c.requires.rows
 
-pub returns-in-Ok-climb-clause-parted : goal.returns-in-Ok-climb-clause-parted
-returns-in-Ok-climb-clause-parted g c =
-    parts_turn g.R.S.Space g.R.Records.file_of g.R.Records.holds g.R.Records.region c.args.self.now c.parts.new.self c.behind.new.self c.follow.new.self c.args.space.now c.behind.new.space c.args.id c.args.leaf (take c.cut_places-i.result.0 c.args.leaf.items) (take (c.cut_places-i.result.1 - c.cut_places-i.result.0) (drop c.cut_places-i.result.0 c.args.leaf.items)) (drop c.cut_places-i.result.1 c.args.leaf.items) c.in-Ok.parted c.in-Ok-behind.leaves
-    c.requires.ready c.parts.ensures.noted c.in-Ok.ensures.given c.in-Ok.ensures.small c.in-Ok.ensures.parts (rw c.next-next.ensures at c.in-Ok-behind.ensures.added) c.behind.ensures.looks c.behind.ensures.still (rw c.next-next.ensures at c.follow.ensures)
-    c.lay.new.self c.lay.new.space c.in_default.ensures.laid c.lay.ensures.still c.cut_places-i.result.0 c.cut_places-i.result.1 refl refl refl (λ told. c.cut_places-i.ensures.cut (c.requires.over told))
-    c.climb.new.self c.climb.new.space c.in-Ok-climb.ensures.climbed c.climb.ensures.grows.head
+pub returns-clause-parted : goal.returns-clause-parted
+returns-clause-parted g c =
+    on_ok_weaker c.climb.result
+    (λ climbed. parts_turn g.R.S.Space g.R.Records c.args.self.now c.parts.new.self c.behind.new.self c.follow.new.self c.args.space.now c.behind.new.space c.args.id c.args.leaf (take c.cut_places-i.result.0 c.args.leaf.items) (take (c.cut_places-i.result.1 - c.cut_places-i.result.0) (drop c.cut_places-i.result.0 c.args.leaf.items)) (drop c.cut_places-i.result.1 c.args.leaf.items) c.in_ok-parted.parted c.in_ok-leaves.leaves
+    c.requires.ready c.parts.ensures.noted c.in_ok-parted.ensures.given c.in_ok-parted.ensures.small c.in_ok-parted.ensures.parts (rw c.next-next.ensures at c.in_ok-leaves.ensures.added) c.behind.ensures.peeks (rw c.next-next.ensures at c.follow.ensures)
+    c.lay.new.self c.lay.new.space c.in_ok-lay.ensures.laid c.lay.ensures.still c.cut_places-i.result.0 c.cut_places-i.result.1 refl refl refl (λ told. c.cut_places-i.ensures.cut (c.requires.over told))
+    c.climb.new.self c.climb.new.space climbed c.climb.ensures.grows.head)
+    c.climb.ensures.climbed
 
-pub returns-in-Ok-climb-clause-widens : goal.returns-in-Ok-climb-clause-widens
-returns-in-Ok-climb-clause-widens g c =
-    widens_climb g.R.S.Space g.R.Records.file_of g.R.Records.holds g.R.Records.region c.args.self.now c.parts.new.self c.behind.new.self c.follow.new.self c.args.space.now c.behind.new.space c.args.id c.args.leaf (take c.cut_places-i.result.0 c.args.leaf.items) (take (c.cut_places-i.result.1 - c.cut_places-i.result.0) (drop c.cut_places-i.result.0 c.args.leaf.items)) (drop c.cut_places-i.result.1 c.args.leaf.items) c.in-Ok.parted c.in-Ok-behind.leaves
-    c.requires.ready c.parts.ensures.noted c.in-Ok.ensures.given c.in-Ok.ensures.small c.in-Ok.ensures.parts (rw c.next-next.ensures at c.in-Ok-behind.ensures.added) c.behind.ensures.looks c.behind.ensures.still (rw c.next-next.ensures at c.follow.ensures)
-    c.parts.ensures.gains c.lay.new.self c.lay.new.space c.lay.ensures.still c.climb.new.self c.climb.new.space c.climb.ensures.grows
+pub returns-clause-widens : goal.returns-clause-widens
+returns-clause-widens g c =
+    widens_climb g.R.S.Space g.R.Records c.args.self.now c.parts.new.self c.behind.new.self c.follow.new.self c.args.space.now c.behind.new.space c.args.id c.args.leaf (take c.cut_places-i.result.0 c.args.leaf.items) (take (c.cut_places-i.result.1 - c.cut_places-i.result.0) (drop c.cut_places-i.result.0 c.args.leaf.items)) (drop c.cut_places-i.result.1 c.args.leaf.items) c.in_ok-parted.parted c.in_ok-leaves.leaves
+    c.requires.ready c.parts.ensures.noted c.in_ok-parted.ensures.given c.in_ok-parted.ensures.small c.in_ok-parted.ensures.parts (rw c.next-next.ensures at c.in_ok-leaves.ensures.added) c.behind.ensures.peeks (rw c.next-next.ensures at c.follow.ensures)
+    c.parts.ensures.least c.parts.ensures.most c.lay.new.self c.lay.new.space c.lay.ensures.still c.climb.new.self c.climb.new.space c.climb.ensures.grows
 
-pub returns-in-Err-climb-clause-full : goal.returns-in-Err-climb-clause-full
-returns-in-Err-climb-clause-full g c = λ is.
+pub returns-clause-full : goal.returns-clause-full
+returns-clause-full g c = λ is.
     ⊎_elim (λ used. inl used)
-    (λ lacks. inr (lacks_climb g.R.S.Space g.R.Records.file_of g.R.Records.holds g.R.Records.region c.args.self.now c.parts.new.self c.behind.new.self c.follow.new.self c.args.space.now c.behind.new.space c.args.id c.args.leaf (take c.cut_places-i.result.0 c.args.leaf.items) (take (c.cut_places-i.result.1 - c.cut_places-i.result.0) (drop c.cut_places-i.result.0 c.args.leaf.items)) (drop c.cut_places-i.result.1 c.args.leaf.items) c.in-Ok.parted c.in-Ok-behind.leaves
-    c.requires.ready c.parts.ensures.noted c.in-Ok.ensures.given c.in-Ok.ensures.small c.in-Ok.ensures.parts (rw c.next-next.ensures at c.in-Ok-behind.ensures.added) c.behind.ensures.looks c.behind.ensures.still (rw c.next-next.ensures at c.follow.ensures)
-    c.lay.new.self c.lay.new.space c.in_default.ensures.laid c.lay.ensures.still g.R.Records.fills c.cut_places-i.result.0 c.cut_places-i.result.1 c.climb.new.space
+    (λ lacks. inr (lacks_climb g.R.S.Space g.R.Records c.args.self.now c.parts.new.self c.behind.new.self c.follow.new.self c.args.space.now c.behind.new.space c.args.id c.args.leaf (take c.cut_places-i.result.0 c.args.leaf.items) (take (c.cut_places-i.result.1 - c.cut_places-i.result.0) (drop c.cut_places-i.result.0 c.args.leaf.items)) (drop c.cut_places-i.result.1 c.args.leaf.items) c.in_ok-parted.parted c.in_ok-leaves.leaves
+    c.requires.ready c.parts.ensures.noted c.in_ok-parted.ensures.given c.in_ok-parted.ensures.small c.in_ok-parted.ensures.parts (rw c.next-next.ensures at c.in_ok-leaves.ensures.added) c.behind.ensures.peeks (rw c.next-next.ensures at c.follow.ensures)
+    c.lay.new.self c.lay.new.space c.in_ok-lay.ensures.laid c.lay.ensures.still c.cut_places-i.result.0 c.cut_places-i.result.1 c.climb.new.space
     refl refl refl (λ told. c.cut_places-i.ensures.cut (c.requires.over told)) lacks))
-    (c.in-Err-climb.ensures.full (err_on _ _ is))
-
-pub returns-in-Err-climb-clause-widens : goal.returns-in-Err-climb-clause-widens
-returns-in-Err-climb-clause-widens g c =
-    widens_climb g.R.S.Space g.R.Records.file_of g.R.Records.holds g.R.Records.region c.args.self.now c.parts.new.self c.behind.new.self c.follow.new.self c.args.space.now c.behind.new.space c.args.id c.args.leaf (take c.cut_places-i.result.0 c.args.leaf.items) (take (c.cut_places-i.result.1 - c.cut_places-i.result.0) (drop c.cut_places-i.result.0 c.args.leaf.items)) (drop c.cut_places-i.result.1 c.args.leaf.items) c.in-Ok.parted c.in-Ok-behind.leaves
-    c.requires.ready c.parts.ensures.noted c.in-Ok.ensures.given c.in-Ok.ensures.small c.in-Ok.ensures.parts (rw c.next-next.ensures at c.in-Ok-behind.ensures.added) c.behind.ensures.looks c.behind.ensures.still (rw c.next-next.ensures at c.follow.ensures)
-    c.parts.ensures.gains c.lay.new.self c.lay.new.space c.lay.ensures.still c.climb.new.self c.climb.new.space c.climb.ensures.grows
+    (c.climb.ensures.full is)

@@ -1,18 +1,30 @@
 use Rattle.std.proofs.Common.{refl, inl}
+use Rattle.std.proofs.lemmas.Result.{on_ok_weaker}
+use Rattle.bt_cache.specs.Effects.{same_store_map}
 use Rattle.bt_rows.specs.declared.page.Page.TheVariants.{Leaf as leaf_page}
-use Rattle.bt_tree.proofs.Descents.{err_on}
-use Rattle.bt_tree.proofs.Pagings.{ready_beside, put_shows, lacks_now}
+use Rattle.bt_tree.proofs.Pagings.{lacks_now, put_shows, ready_beside}
 use Rattle.bt_tree.proofs.tree.Tree.put_leaf.Goals as goal
 
 pub put_leaf-requires-clause-ready : goal.put_leaf-requires-clause-ready
-put_leaf-requires-clause-ready g c = ready_beside g.R.S.Space g.R.Records.file_of g.R.Records.holds c.args.self.now c.args.space.now c.requires.ready
+put_leaf-requires-clause-ready g c = ready_beside g.R.S.Space g.R.Records c.args.self.now c.args.space.now c.requires.ready
 
-pub returns-in-Ok-clause-put : goal.returns-in-Ok-clause-put
-returns-in-Ok-clause-put g c =
-    put_shows g.R.S.Space g.R.Records.file_of g.R.Records.holds c.args.self.now _ c.args.space.now c.put_leaf.new.space c.args.id (leaf_page c.args.leaf) (λ told. inl (c.requires.id told))
-    (c.if-id-ge-PAGE_END.false, record { fits = c.as_slice-bytes.ensures.fits; is = refl }) c.in-Ok.ensures.put refl refl
+pub returns-clause-put : goal.returns-clause-put
+returns-clause-put g c =
+    on_ok_weaker c.put_leaf.result
+    (λ put. put_shows g.R.S.Space g.R.Records c.args.self.now _ c.args.space.now c.put_leaf.new.space c.args.id (leaf_page c.args.leaf) (λ told. inl (c.requires.id told))
+    (c.if-id-ge-PAGE_END.false, record { fits = c.as_slice-bytes.ensures.fits; is = refl }) put refl refl)
+    c.put_leaf.ensures.put
 
-pub returns-in-Err-clause-full : goal.returns-in-Err-clause-full
-returns-in-Err-clause-full g c = λ is.
-    lacks_now g.R.S.Space g.R.Records.file_of g.R.Records.holds g.R.Records.fills c.args.self.now.store c.args.self.now.cache.pages c.args.space.now c.put_leaf.new.space c.args.id (leaf_page c.args.leaf)
-    (ready_beside g.R.S.Space g.R.Records.file_of g.R.Records.holds c.args.self.now c.args.space.now c.requires.ready) (c.in-Err.ensures.full (err_on _ _ is))
+pub returns-clause-full : goal.returns-clause-full
+returns-clause-full g c = λ is.
+    lacks_now g.R.S.Space g.R.Records c.args.self.now c.args.space.now c.put_leaf.new.space c.args.id (leaf_page c.args.leaf) c.requires.ready c.put_leaf.ensures.stays.keeps (c.put_leaf.ensures.full is)
+
+pub returns-clause-still : goal.returns-clause-still
+returns-clause-still g c = record {
+  keeps = c.put_leaf.ensures.stays.keeps;
+  made = same_store_map g.R.Records c.args.self.now.store c.put_leaf.new.store c.put_leaf.ensures.stays.store;
+  head = refl;
+  height = refl;
+  column = refl;
+  path = refl;
+}

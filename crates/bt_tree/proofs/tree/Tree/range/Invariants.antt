@@ -4,7 +4,7 @@ use Rattle.bt_tree.proofs.tree.Tree.range.Given as goal
 
 abbrev pub invariant-leaves : goal.invariant-leaves
 invariant-leaves g l =
-    Scanning g.R.S.Space g.R.Records.file_of g.R.Records.holds g.R.Records.region g.R.Records.gets g.O.Order.cmp g.met.O.Order.total g.met.O.Order.exact (g.C.Cut.side_of l.cut) (g.met.C.Cut.never_falls l.cut) l.max l.fn.self l.fn.space l.fn.steps
+    Scanning g.R.S.Space g.R.Records g.O.Order g.met.O.Order.total g.met.O.Order.exact (g.C.Cut.side_of l.cut) (g.met.C.Cut.never_falls l.cut) l.max l.fn.self l.fn.space l.fn.steps
     l.self l.space l.steps l.pairs l.next
 
 abbrev pub decreases-leaves : goal.decreases-leaves

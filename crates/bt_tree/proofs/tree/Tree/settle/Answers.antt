@@ -1,35 +1,33 @@
 use Rattle.std.proofs.Common.{refl, ◌∙◌}
-use Rattle.bt_rows.specs.Orders.{before_by}
-use Rattle.bt_tree.proofs.Settles.{store_ready, settles, settle_refused, settle_full, settle_stands}
+use Rattle.std.proofs.lemmas.Result.{on_ok_weaker, on_err_weaker}
+use Rattle.bt_tree.proofs.Settles.{store_ready, settle_packs, settle_refused, settle_stands, settles}
 use Rattle.bt_tree.proofs.tree.Tree.settle.Goals as goal
 
 pub settle-requires : goal.settle-requires
 settle-requires g c =
-    store_ready g.R.S.Space g.R.Records.file_of g.R.Records.holds g.R.Records.region g.R.Records.stands (before_by g.O.Order.cmp) c.args.self.now c.args.self.now c.set_opaque.new.self c.args.self.now.store c.region_of-opaque.result c.args.space.now c.args.space.now
-    c.set_opaque.ensures.means c.set_opaque.ensures.file refl refl refl refl refl c.requires
+    store_ready g.R.S.Space g.R.Records g.O.Order c.args.self.now c.args.self.now c.set_opaque.new.self c.args.self.now.store c.args.space.now c.args.space.now c.set_opaque.ensures.means c.set_opaque.ensures.file refl (record { head = refl; height = refl; column = refl }) refl c.requires
 
-pub returns-in-Ok-clause-settled : goal.returns-in-Ok-clause-settled
-returns-in-Ok-clause-settled g c =
-    settles g.R.S.Space g.R.Records.file_of g.R.Records.holds g.R.Records.region g.R.Records.stands (before_by g.O.Order.cmp) c.args.self.now _ c.set_opaque.new.self _ c.region_of-opaque.result _ _
-    c.set_opaque.ensures.means c.set_opaque.ensures.file refl refl refl refl refl c.in-Ok.ensures.settled
+pub returns-clause-settled : goal.returns-clause-settled
+returns-clause-settled g c = on_ok_weaker c.settle.result (λ writes. settles g.R.S.Space g.R.Records g.O.Order c.args.self.now _ c.set_opaque.new.self _ c.args.space.now c.settle.new.space c.set_opaque.ensures.means c.set_opaque.ensures.file refl (record { head = refl; height = refl; column = refl }) refl writes) c.settle.ensures.settled
 
-pub returns-in-Ok-clause-stands : goal.returns-in-Ok-clause-stands
-returns-in-Ok-clause-stands g c =
-    settle_stands g.R.S.Space g.R.Records.file_of g.R.Records.holds g.R.Records.region g.R.Records.stands (before_by g.O.Order.cmp) c.args.self.now c.args.self.now c.set_opaque.new.self c.args.self.now.store c.region_of-opaque.result _ _
-    c.set_opaque.ensures.means c.set_opaque.ensures.file refl refl refl refl refl c.region_of-opaque.ensures c.set_opaque.ensures.region c.in-Ok.ensures.stands
+pub returns-clause-stands : goal.returns-clause-stands
+returns-clause-stands g c =
+    on_ok_weaker c.settle.result
+    (λ stands. settle_stands g.R.S.Space g.R.Records g.O.Order c.args.self.now c.set_opaque.new.self c.args.space.now c.settle.new.space c.set_opaque.ensures.means c.set_opaque.ensures.file c.region_of-opaque.result c.region_of-opaque.ensures c.set_opaque.ensures.region c.set_opaque.ensures.sort stands)
+    c.settle.ensures.stands
 
-pub returns-in-Err-clause-refused : goal.returns-in-Err-clause-refused
-returns-in-Err-clause-refused g c =
-    settle_refused g.R.S.Space g.R.Records.file_of g.R.Records.holds g.R.Records.region g.R.Records.stands (before_by g.O.Order.cmp) c.args.self.now _ c.set_opaque.new.self _ c.region_of-opaque.result _ _
-    c.set_opaque.ensures.means c.set_opaque.ensures.file refl refl refl refl refl c.in-Err.ensures.refused
+pub returns-clause-packs : goal.returns-clause-packs
+returns-clause-packs g c = on_ok_weaker c.settle.result (λ packs. settle_packs g.R.S.Space g.R.Records g.O.Order c.args.self.now c.set_opaque.new.self c.args.space.now c.settle.new.space c.set_opaque.ensures.means c.set_opaque.ensures.file c.set_opaque.ensures.tight packs) c.settle.ensures.packs
 
-pub returns-in-Err-clause-full : goal.returns-in-Err-clause-full
-returns-in-Err-clause-full g c = λ is.
-    settle_full g.R.S.Space g.R.Records.file_of g.R.Records.holds g.R.Records.region g.R.Records.stands (before_by g.O.Order.cmp) c.args.self.now c.args.self.now c.set_opaque.new.self c.args.self.now.store c.region_of-opaque.result _ _
-    c.set_opaque.ensures.means c.set_opaque.ensures.file refl refl refl refl refl g.R.Records.fills (c.in-Err.ensures.full is)
+pub returns-clause-refused : goal.returns-clause-refused
+returns-clause-refused g c = on_err_weaker c.settle.result (λ refused. settle_refused g.R.S.Space g.R.Records g.O.Order c.args.self.now _ c.set_opaque.new.self _ c.args.space.now c.settle.new.space c.set_opaque.ensures.means c.set_opaque.ensures.file refl (record { head = refl; height = refl; column = refl }) refl refused) c.settle.ensures.refused
 
-pub returns-in-Ok-clause-file : goal.returns-in-Ok-clause-file
-returns-in-Ok-clause-file g c = c.settle.ensures.stays.file ∙ c.set_opaque.ensures.file
+pub returns-clause-stays : goal.returns-clause-stays
+returns-clause-stays g c = record {
+  file = c.settle.ensures.stays.file ∙ c.set_opaque.ensures.file;
+  sort = c.settle.ensures.stays.sort_same ∙ c.set_opaque.ensures.sort;
+  stays = record { head = refl; height = refl; column = refl };
+}
 
-pub returns-in-Err-clause-file : goal.returns-in-Err-clause-file
-returns-in-Err-clause-file g c = c.settle.ensures.stays.file ∙ c.set_opaque.ensures.file
+pub returns-clause-tight : goal.returns-clause-tight
+returns-clause-tight g c = λ form tight. c.settle.ensures.tight form (c.set_opaque.ensures.tight form tight)

@@ -1,5 +1,12 @@
-use Rattle.tc_btree.proofs.Fulls.{pack_full}
+use Rattle.tc_space.specs.Changes.{same}
+use Rattle.tc_btree.proofs.Puts.{list_settled, refused_up, written_up}
 use Rattle.tc_btree.proofs.multi.BtreeMulti.pack.Goals as goal
 
-pub returns-in-Err-clause-full : goal.returns-in-Err-clause-full
-returns-in-Err-clause-full g c = λ is. pack_full g.R.S.Space g.R.Records.file_of g.R.Records.holds g.R.Records.fills g.O.Order.cmp c.args.self.now c.args.space.now c.pack.new.space (c.in-Err.ensures.full is)
+pub returns-clause-packed : goal.returns-clause-packed
+returns-clause-packed g c = written_up g.R.S.Space g.R.Records g.O.Order c.pack.result same _ _ _ _ c.pack.ensures.packed
+
+pub returns-clause-refused : goal.returns-clause-refused
+returns-clause-refused g c = refused_up g.R.S.Space g.R.Records g.O.Order c.pack.result _ _ _ _ c.pack.ensures.refused
+
+pub returns-clause-stays : goal.returns-clause-stays
+returns-clause-stays g c = list_settled g.R.Records _ _ c.pack.ensures.stays

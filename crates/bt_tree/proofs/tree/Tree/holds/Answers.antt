@@ -1,0 +1,11 @@
+use Rattle.bt_tree.proofs.Finds.{asks_of}
+use Rattle.bt_tree.proofs.tree.Tree.holds.Goals as goal
+
+pub returns-in_err-leaf-clause-asks : goal.returns-in_err-leaf-clause-asks
+returns-in_err-leaf-clause-asks g c = asks_of _ _ _ _ _ _ _ _ _ _ c.leaf_for.ensures.visits
+
+pub returns-clause-asks : goal.returns-clause-asks
+returns-clause-asks g c = asks_of _ _ _ _ _ _ _ _ _ _ c.leaf_for.ensures.visits
+
+pub returns-clause-value : goal.returns-clause-value
+returns-clause-value g c = λ ps m. (rw c.deref.ensures at c.has_key.ensures) ps (c.in_ok-leaf.ensures.leaf ps m)
