@@ -7,6 +7,7 @@ use Rattle.tc_base.specs.declared.request.Reply.{Reply}
 use Rattle.tc_base.specs.declared.request.Reply.TheVariants as reply
 use Rattle.tc_base.specs.declared.kind.Mode.TheVariants.{Over, Keep, Cat}
 use Rattle.ty_wire.specs.Spelling.{reply_bytes}
+pub use Rattle.ty_wire.specs.Updating.{updates}
 use Rattle.tc_model.specs.Contents.{Contents, kind_of, emptied, Walk}
 use Rattle.tc_model.specs.Stores.{held, is_held, first_pair, all_keys, count, size_of, store, shift, add, out}
 use Rattle.tc_model.specs.Stats.{stat_text}
@@ -118,20 +119,6 @@ applied IterNext c w = stepped IterNext (next_in c w) c w
 -- whether it succeeds, and what it is answered, is said where the connection is; here it changes nothing
 applied (Repl timestamp server) c w = record { contents = c; walk = w; reply = reply.Silent; ok = true }
 applied r c w = took r (effect r c) c w
-
--- ---- which requests change contents where they succeed
-
-abbrev pub updates : Request → Bool
-updates (Put key value) = true
-updates (PutKeep key value) = true
-updates (PutCat key value) = true
-updates (PutShl key value width) = true
-updates (PutNr key value) = true
-updates (Out key) = true
-updates (AddInt key number) = true
-updates Vanish = true
-updates (Misc name options args) = updates_call name args
-updates _ = false
 
 -- on a replica each updating request of a client fails
 unfoldable pub apply : Bool → Request → Contents → Walk → Step

@@ -1,4 +1,4 @@
--- Which misc request a name, a kind and arguments are; and which update.
+-- Which misc request a name, a kind and arguments are.
 use Rattle.std.specs.Prelude.{ℕ, Bool, true, false, ◌&&◌, ◌||◌, List, [], ◌∷◌, codes, Option, Some, None, option_map, if◌then◌else◌}
 use Rattle.tc_base.specs.declared.seq.Pair.{Pair}
 use Rattle.tc_base.specs.declared.kind.Kind.{Kind}
@@ -7,8 +7,8 @@ use Rattle.tc_base.specs.declared.kind.Mode.TheVariants.{Over, Keep, Cat}
 use Rattle.tc_model.specs.declared.misc.Misc.{Misc}
 use Rattle.tc_model.specs.declared.misc.Misc.TheVariants as misc
 use Rattle.tc_base.specs.Texts.{is_text}
-use Rattle.tc_model.specs.Texts.{is_among}
 use Rattle.tc_base.specs.Lists.{pair}
+pub use Rattle.ty_wire.specs.Updating.{updates_call, updating_names}
 
 -- ---- the kinds that a name stands for
 
@@ -124,12 +124,3 @@ pick (e ∷ es) name k args = if is_text name e.0 && e.1 k then e.2 args else pi
 -- the request that name and arguments are at a kind; none where the table has no such name, kind or number of arguments
 unfoldable pub misc_of : List ℕ → List (List ℕ) → Kind → Option Misc
 misc_of name args k = pick entries name k args
-
--- ---- which update
-
-abbrev pub updating_names : List (List ℕ)
-updating_names =
-    codes "put" ∷ codes "putkeep" ∷ codes "putcat" ∷ codes "out" ∷ codes "putlist" ∷ codes "outlist" ∷ codes "putdup" ∷ codes "vanish" ∷ codes "setindex" ∷ []
-
-abbrev pub updates_call : List ℕ → List (List ℕ) → Bool
-updates_call name args = is_among name updating_names || (is_text name (codes "search") && is_among (codes "out") args)

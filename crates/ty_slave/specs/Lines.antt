@@ -1,11 +1,12 @@
 -- What the link of a replica answers, by bytes and timestamps.
-use Rattle.std.specs.Prelude.{◌&&◌, ℕ, Bool, true, false, List, [], ◌∷◌, length, drop, nat_eq, nat_lt, nat_le, is_some, Ok, Err, if◌then◌else◌}
+use Rattle.std.specs.Prelude.{◌≡◌, ◌<◌, ◌&&◌, ℕ, Bool, true, false, List, [], ◌∷◌, length, drop, nat_eq, nat_lt, nat_le, is_some, Ok, Err, if◌then◌else◌}
 use Rattle.std.specs.Int.{w32, from_be_bytes}
 use Rattle.tc_base.specs.Reading.{Front}
 use Rattle.tc_base.specs.declared.fields.NotWhole.TheVariants as not_whole
 use Rattle.ty_ulog.specs.declared.record.Record.{Record}
 use Rattle.ty_ulog.specs.Records.{record_at}
-use Rattle.ty_ulog.specs.Updates.{update_in}
+use Rattle.ty_ulog.specs.Log.{IsUpdate}
+use Rattle.ty_ulog.specs.Updates.{update_in, IsUpdating}
 use Rattle.ty_slave.specs.declared.link.Step.{Step}
 use Rattle.ty_slave.specs.declared.link.Step.TheVariants.{Part, Master, Take, Old, Gap, Bad}
 
@@ -48,6 +49,26 @@ introduced l =
 -- the id, where it wasn't read before; else the record at the front
 unfoldable pub stepped : Line → Step × Line
 stepped l = if l.named then looked l (record_at l.unread) else introduced l
+
+-- a record follows the last timestamp held, and is later
+pub record IsNext (held : ℕ) (r : Record) : Type 0 where
+  pub follows : r.before ≡ held
+  pub later : held < r.stamp
+
+-- so does the one in front
+pub record HasNext (held : ℕ) (bytes : List ℕ) : Type 0 where
+  pub front : Record
+  pub rest : List ℕ
+  pub reads : record_at bytes ≡ Ok (front, rest)
+  pub next : IsNext held front
+
+-- what is to be taken is this record, whose request updates
+abbrev pub TakesThis : Record → Step → Type 0
+TakesThis r s = (q : Record) → s ≡ Take q → (q ≡ r) × IsUpdating q.request
+
+-- what is to be taken may stand in a log
+abbrev pub TakesUpdate : Step → Type 0
+TakesUpdate s = (r : Record) → s ≡ Take r → IsUpdate r
 
 -- behind the id the record is looked at too
 abbrev pub past_id : Step → Step × Line → Step × Line

@@ -1,7 +1,7 @@
 //! One link to a master.
 ghost use Rattle.std.specs.Prelude.{◌≡◌, ◌++◌, [], true, false, drop, IfOk, OnOk, OnErr};
 ghost use Rattle.ty_ulog.specs.Records.{TakesRecord, IsReadRecord, record_at, seen};
-ghost use Rattle.ty_slave.specs.Lines.{Line, judged, judged_next, looked, introduced, stepped, is_refusal};
+ghost use Rattle.ty_slave.specs.Lines.{HasNext, IsNext, Line, TakesThis, TakesUpdate, judged, judged_next, looked, introduced, stepped, is_refusal};
 
 use bytes::BytesMut;
 use std::alloc::{AllocError, Global};
@@ -18,7 +18,7 @@ pub enum Step {
     Part,
     /// The master's id was read.
     Master(u32),
-    /// A record that is to be taken, if the contents don't refuse it.
+    /// A record that is to be taken, if the contents don't refuse it. It may come next in the log of what is held.
     Take(Record),
     /// A record that isn't later than what is held: it is ignored.
     Old,
@@ -53,7 +53,8 @@ impl Model for Link {
 
 // A later record that follows the last one held: it is to be taken where it has one whole updating request.
 fn judge_next(alloc: Global, r: RecordRef<'_>) -> Result<Step, AllocError>
-    ensures { IfOk result (λ s. s ≡ judged_next (seen r.entry)) }
+    ensures judged { IfOk result (λ s. s ≡ judged_next (seen r.entry)) }
+    ensures takes { IfOk result (TakesThis (seen r.entry)) }
 {
     if !is_update(alloc, r.request)? {
         return Ok(Step::Bad);
@@ -62,8 +63,11 @@ fn judge_next(alloc: Global, r: RecordRef<'_>) -> Result<Step, AllocError>
 }
 
 // Whether a record is to be taken, or why not. Its request is looked at where all else speaks for it.
+#[tactic(auto, using(crate::proofs::Looking::next_on))]
 fn judge(alloc: Global, held: u64, r: RecordRef<'_>) -> Result<Step, AllocError>
-    ensures { IfOk result (λ s. s ≡ judged held (seen r.entry)) }
+    ensures judged { IfOk result (λ s. s ≡ judged held (seen r.entry)) }
+    ensures takes { IfOk result (TakesThis (seen r.entry)) }
+    ensures wanting { OnErr result (IsNext held (seen r.entry)) }
 {
     let next = r.before == held;
     let later = held < r.stamp;
@@ -82,7 +86,9 @@ fn judge(alloc: Global, held: u64, r: RecordRef<'_>) -> Result<Step, AllocError>
 // The record at the front of bytes that begin with a whole one, judged.
 fn judge_front(alloc: Global, held: u64, bytes: &[u8], whole: usize) -> Result<Step, AllocError>
     requires { IsReadRecord bytes.now (RecTake.Whole whole) }
-    ensures { IfOk result (λ s. (l : Line) → l.held ≡ held → (s, record l { unread = drop whole bytes.now }) ≡ looked l (record_at bytes.now)) }
+    ensures judged { IfOk result (λ s. (l : Line) → l.held ≡ held → (s, record l { unread = drop whole bytes.now }) ≡ looked l (record_at bytes.now)) }
+    ensures takes { IfOk result TakesUpdate }
+    ensures wanting { OnErr result (HasNext held bytes.now) }
 {
     let r = look_record(bytes);
     judge(alloc, held, r)
@@ -122,7 +128,8 @@ impl Link {
 
     // Reads the id, if it is there.
     fn introduce(&mut self) -> Step
-        ensures { (result, self.new) ≡ introduced self.old }
+        ensures introduced { (result, self.new) ≡ introduced self.old }
+        ensures takes { TakesUpdate result }
     {
         let bytes = self.unread.as_slice();
         if refuses(bytes) {
@@ -150,9 +157,12 @@ impl Link {
     }
 
     // Looks at the record at the front, if it is there.
+    #[tactic(auto, using(crate::proofs::Looking::next_in))]
     fn look(&mut self) -> Result<Step, AllocError>
         ensures ok { IfOk result (λ s. (s, self.new) ≡ looked self.old (record_at self.old.unread)) }
+        ensures takes { IfOk result TakesUpdate }
         ensures err { OnErr result (self.new ≡ self.old) }
+        ensures wanting { OnErr result (HasNext self.old.held self.old.unread) }
     {
         match take_record(self.unread.as_slice()) {
             RecTake::Whole(n) => {
@@ -166,12 +176,17 @@ impl Link {
         }
     }
 
-    /// Looks at the id where it wasn't read before, else at the record at the front. What was looked at is gone; where bytes are bad they
-    /// stay, and the link is bad from then on. An `Err` changes nothing.
-    #[tactic(auto, unfolding(crate::specs::Lines::stepped))]
+    /// Looks at the id where it wasn't read before, else at the record at the front. A whole id or record that was looked at is gone, whatever came
+    /// of it, but for an id that is this server's own; that and bytes that are neither stay, so the next step is bad as well. Behind a gap, or a
+    /// record that is bad, the link is to be closed: it doesn't remember, and a further step would look at what stands behind.
+    ///
+    /// An `Err` changes nothing. It comes only where the record in front follows what is held, and is later.
+    #[tactic(auto, using(crate::proofs::Looking::next_named), unfolding(crate::specs::Lines::stepped))]
     pub fn step(&mut self) -> Result<Step, AllocError>
         ensures ok { IfOk result (λ s. (s, self.new) ≡ stepped self.old) }
+        ensures takes { IfOk result TakesUpdate }
         ensures err { OnErr result (self.new ≡ self.old) }
+        ensures wanting { OnErr result ((self.old.named ≡ true) × HasNext self.old.held self.old.unread) }
     {
         if self.named {
             return self.look();

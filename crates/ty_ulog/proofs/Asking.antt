@@ -1,7 +1,8 @@
 -- The records of a round's requests, one after the other.
 use Rattle.std.proofs.Common.{◌≡◌, ℕ, suc, ◌+◌, ◌^◌, ◌<◌, List, [], ◌∷◌, ◌++◌, length, take, drop, refl, sym, ap, subst, ◌∙◌, arith, append_assoc}
-use Rattle.std.specs.Prelude.{max, get_or, Option, Some, None, option_map, Result, Ok, Err, OnOk}
+use Rattle.std.specs.Prelude.{All, max, get_or, Option, Some, None, option_map, Result, Ok, Err, OnOk}
 use Rattle.std.specs.Result.{IsErrAnd}
+use Rattle.std.proofs.lemmas.List.Elements.{All-append, All-cons, All-nil}
 use Rattle.std.proofs.lemmas.List.{append-nil, take-append-drop, take_more}
 use Rattle.tc_io.specs.Told.{Adds}
 use Rattle.tc_space.specs.declared.space.Space.{Ghosts}
@@ -23,6 +24,12 @@ adds_none {A} (Some t) = ap (λ (l : List A). Some l) (sym (append-nil t))
 pub adds_then : {A : Type 0} (a b c : Option (List A)) (xs ys : List A) → Adds a b xs → Adds b c ys → Adds a c (xs ++ ys)
 adds_then {A} None b c xs ys e f = f ∙ ap (option_map (λ (t : List A). t ++ ys)) e
 adds_then {A} (Some t) b c xs ys e f = f ∙ ap (option_map (λ (l : List A). l ++ ys)) e ∙ ap (λ (l : List A). Some l) (append_assoc t xs ys)
+
+pub none_small : All (λ (t : ℕ). t < 2 ^ 64) []
+none_small = All-nil (λ (t : ℕ). t < 2 ^ 64)
+
+pub all_small : (ticks : List ℕ) (now : ℕ) → All (λ (t : ℕ). t < 2 ^ 64) ticks → now < 2 ^ 64 → All (λ (t : ℕ). t < 2 ^ 64) (ticks ++ now ∷ [])
+all_small ticks now small lt = All-append (λ (t : ℕ). t < 2 ^ 64) ticks (now ∷ []) small (All-cons (λ (t : ℕ). t < 2 ^ 64) now [] lt none_small)
 
 -- what was refused wasn't done
 pub never_ok : {A E : Type 0} (Q : Type 0) (r : Result A E) (P : E → Type 0) → IsErrAnd r P → OnOk r Q
@@ -54,10 +61,10 @@ module _ {S : Type 0} (s : Ghosts S) where
   gathers_start own u a (x ∷ all) b none before sound = gathers_none s own u a b none before sound
 
   -- a limit that is met by some is met by all
-  pub overflows_in : (own last long n : ℕ) (ticks later : List ℕ) (all : List (List ℕ)) (new : S) → length ticks ≡ length (take n all) → Overflows s new long (records_of own last ticks (take n all)) → Overflows s new long (records_of own last (ticks ++ later) all)
-  overflows_in own last long n ticks later all new each over =
-      subst (λ (l : List (List ℕ)). Overflows s new long (records_of own last (ticks ++ later) l)) (take-append-drop n all)
-      (subst (Overflows s new long) (sym (records_more own last ticks later (take n all) (drop n all) each)) (overflows_behind s new long (records_of own last ticks (take n all)) (records_of own (last_of last (records_of own last ticks (take n all))) later (drop n all)) over))
+  pub overflows_in : (held own last long n : ℕ) (ticks later : List ℕ) (all : List (List ℕ)) (new : S) → length ticks ≡ length (take n all) → Overflows s held new long (records_of own last ticks (take n all)) → Overflows s held new long (records_of own last (ticks ++ later) all)
+  overflows_in held own last long n ticks later all new each over =
+      subst (λ (l : List (List ℕ)). Overflows s held new long (records_of own last (ticks ++ later) l)) (take-append-drop n all)
+      (subst (Overflows s held new long) (sym (records_more own last ticks later (take n all) (drop n all) each)) (overflows_behind s held new long (records_of own last ticks (take n all)) (records_of own (last_of last (records_of own last ticks (take n all))) later (drop n all)) over))
 
-  pub overflows_with : (own last long n : ℕ) (ticks later : List ℕ) (all asked : List (List ℕ)) (new : S) → asked ≡ take n all → length ticks ≡ length (take n all) → Overflows s new long (records_of own last ticks asked) → Overflows s new long (records_of own last (ticks ++ later) all)
-  overflows_with own last long n ticks later all asked new is each over = overflows_in own last long n ticks later all new each (subst (λ (l : List (List ℕ)). Overflows s new long (records_of own last ticks l)) is over)
+  pub overflows_with : (held own last long n : ℕ) (ticks later : List ℕ) (all asked : List (List ℕ)) (new : S) → asked ≡ take n all → length ticks ≡ length (take n all) → Overflows s held new long (records_of own last ticks asked) → Overflows s held new long (records_of own last (ticks ++ later) all)
+  overflows_with held own last long n ticks later all asked new is each over = overflows_in held own last long n ticks later all new each (subst (λ (l : List (List ℕ)). Overflows s held new long (records_of own last ticks l)) is over)

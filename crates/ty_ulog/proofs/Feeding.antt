@@ -10,7 +10,7 @@ use Rattle.ty_ulog.specs.declared.log.Ulog.{Ulog}
 use Rattle.ty_ulog.specs.declared.record.Record.{Record}
 use Rattle.ty_ulog.specs.Log.{log_bytes, above, last_of, Follow}
 use Rattle.ty_ulog.specs.Holding.{Holds}
-use Rattle.ty_ulog.specs.Feeds.{from_place, left, room, FindsPlace, Gives, IsFound, IsPlace, Stands}
+use Rattle.ty_ulog.specs.Feeds.{from_place, left, room, CountsAt, FindsPlace, Gives, IsFound, IsPlace, Stands}
 use Rattle.ty_ulog.proofs.Marking.{last_grows, last_parts, log_parts, long_parts}
 use Rattle.ty_ulog.proofs.Passing.{all_above}
 
@@ -58,11 +58,21 @@ pub found_by : {S E : Type 0} (s : Ghosts S) (log : Ulog) (space : S) (r : Resul
 found_by s log space (Ok o) f none found = λ rs m. subst (λ (p : Option ℕ). IsFound (record { above = f.above; place = p }) rs o) (sym none) (found rs m)
 found_by s log space (Err e) f none found = tt
 
+-- ---- how many bytes are read
+
+pub counts_none : {S : Type 0} (s : Ghosts S) (log : Ulog) (place : Option ℕ) (a : S) → CountsAt s log place a a 0
+counts_none s log None a = λ rs m. omega arith
+counts_none s log (Some at) a = omega arith
+
+pub counts_more : {S : Type 0} (s : Ghosts S) (log : Ulog) (place : Option ℕ) (a b c : S) (n : ℕ) → CountsAt s log place a b 0 → s.bytes_read c ≤ s.bytes_read b + n → CountsAt s log place a c n
+counts_more s log None a b c n few more = λ rs m. omega (arith, few rs m, more)
+counts_more s log (Some at) a b c n few more = omega (arith, few, more)
+
 -- ---- bytes from a place on
 
 pub given_none : (f : Feed) (rs : List Record) (into : List ℕ) → IsFound f rs None → Gives f f rs (take 0 into)
-given_none f rs [] found = record { parts = refl; all = λ e. found.none refl; stands = λ s. s }
-given_none f rs (b ∷ into) found = record { parts = refl; all = λ e. found.none refl; stands = λ s. s }
+given_none f rs [] found = record { parts = refl; many = omega (arith, ap length (found.none refl)); all = λ e. found.none refl; stands = λ s. s }
+given_none f rs (b ∷ into) found = record { parts = refl; many = omega (arith, ap length (found.none refl)); all = λ e. found.none refl; stands = λ s. s }
 
 pub given : (f g : Feed) (file : List ℕ) (rs : List Record) (u : Ulog) (at n : ℕ) (into : List ℕ) → IsFound f rs (Some at) → Holds u file rs → g.place ≡ Some (at + n) → g.above ≡ f.above → n ≡ min 4096 (length file - at)
     → take n into ≡ take n (drop at file) → Gives f g rs (take n into)
@@ -74,6 +84,7 @@ given f g file rs u at n into found h place same n_is bytes =
     record {
       parts = sym found.same ∙ sym (take-append-drop n (drop at (log_bytes rs))) ∙ ap (λ (l : List ℕ). l ++ drop n (drop at (log_bytes rs))) (sym read)
           ∙ ap (λ (l : List ℕ). take n into ++ l) (drop-drop n at (log_bytes rs) ∙ sym rest);
+      many = omega (arith, ap length read, length-take n (drop at (log_bytes rs)), length-drop at (log_bytes rs), n_is, long_is, ap length found.same);
       all = λ e.
           let none : min n (length (drop at (log_bytes rs))) ≡ 0 = sym (length-take n (drop at (log_bytes rs))) ∙ ap length (sym read ∙ e) in
           rest ∙ nil_from_length (drop (at + n) (log_bytes rs)) (omega (arith, none, n_is, long_is, length-drop at (log_bytes rs), length-drop (at + n) (log_bytes rs)));

@@ -1,7 +1,7 @@
+pub mod Begun
 pub mod Exact
 pub mod Taken
 pub mod Sole
-pub mod Updating
 pub mod Rows
 pub mod Marking
 pub mod Passing

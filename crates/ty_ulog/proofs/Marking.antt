@@ -1,6 +1,7 @@
 -- Marks in a log: one more, and the one from which a timestamp is looked for.
-use Rattle.std.proofs.Common.{◌≡◌, ℕ, zero, suc, ◌+◌, ◌-◌, ◌≤◌, ◌<◌, ◌⊎◌, inl, inr, List, [], ◌∷◌, ◌++◌, length, refl, sym, ap, subst, ◌∙◌, arith, length-append, append_assoc}
-use Rattle.std.specs.Prelude.{Some, None, take, slice_get, slice_index_or}
+use Rattle.std.proofs.Common.{◌≡◌, ℕ, zero, suc, ◌+◌, ◌-◌, ◌≤◌, ◌<◌, ◌⊎◌, inl, inr, Bool, false, List, [], ◌∷◌, ◌++◌, length, refl, sym, ap, subst, ◌∙◌, arith, length-append, append_assoc}
+use Rattle.std.specs.Prelude.{IsTrue, Some, None, take, slice_get, slice_index_or}
+use Rattle.std.proofs.lemmas.Bool.{cases_lt}
 use Rattle.std.specs.List.{AllWithin}
 use Rattle.std.specs.List.Sorted.{IsNonDecreasingBy}
 use Rattle.ty_ulog.specs.declared.index.Mark.{Mark}
@@ -103,17 +104,19 @@ with_more m place held rs more p = record {
   later = p.later ++ more;
   parts = ap (λ (l : List Record). l ++ more) p.parts ∙ append_assoc p.front p.later more;
   near = p.near;
+  far = p.far;
   place_is = p.place_is;
   last_is = p.last_is;
 }
 
 -- a mark in front of them
-pub marked : (ms : List Mark) (m : Mark) (place held : ℕ) (rs more : List Record) → m.place ≡ place + length (log_bytes rs) → m.last ≡ last_of held rs → AreFew more → Spread ms place held rs → Spread (ms ++ m ∷ []) place held (rs ++ more)
-marked [] m place held rs more at is few near = (record { front = rs; later = more; parts = refl; near = near; place_is = at; last_is = is }, few_near more few)
-marked (n ∷ ms) m place held rs more at is few (p, spread) = (
+pub marked : (ms : List Mark) (m : Mark) (place held : ℕ) (rs more : List Record) → m.place ≡ place + length (log_bytes rs) → m.last ≡ last_of held rs → last_place place ms + 524288 ≤ m.place → AreFew more
+    → Spread ms place held rs → Spread (ms ++ m ∷ []) place held (rs ++ more)
+marked [] m place held rs more at is far few near = (record { front = rs; later = more; parts = refl; near = near; far = far; place_is = at; last_is = is }, few_near more few)
+marked (n ∷ ms) m place held rs more at is far few (p, spread) = (
   with_more n place held rs more p,
   marked ms m n.place n.last p.later more (omega (arith, at, ap (λ (l : List Record). length (log_bytes l)) p.parts, long_parts p.front p.later, p.place_is))
-      (is ∙ ap (last_of held) p.parts ∙ last_parts held p.front p.later ∙ ap (λ (h : ℕ). last_of h p.later) (sym p.last_is)) few spread,
+      (is ∙ ap (last_of held) p.parts ∙ last_parts held p.front p.later ∙ ap (λ (h : ℕ). last_of h p.later) (sym p.last_is)) far few spread,
 )
 
 -- at the same place
@@ -128,14 +131,21 @@ unmarked (n ∷ ms) place held rs more short few (p, spread) = (
   unmarked ms n.place n.last p.later more (omega (arith, short, ap (λ (l : List Record). length (log_bytes l)) p.parts, long_parts p.front p.later, p.place_is)) few spread,
 )
 
+-- where the last one isn't near it is far
+pub beyond_near : (place last : ℕ) (near : Bool) → (place - last < 524288 → IsTrue near) → near ≡ false → last + 524288 ≤ place
+beyond_near place last near says isnt = elim (cases_lt (place - last) 524288) [
+  | inl lt ↦ let t = says lt in absurd cc
+  | inr le ↦ omega (arith, le)
+]
+
 -- what adding records at a place does to marks
 pub marked_near : (ms : List Mark) (place last : ℕ) → place - last_place 0 ms < 524288 → Marked ms ms place last
 marked_near ms place last lt = λ rs more at is few spread. unmarked ms 0 0 rs more (omega (arith, at, lt)) few spread
 
-pub marked_pushed : (old new : List Mark) (place last : ℕ) → new ≡ old ++ (record { place = place; last = last }) ∷ [] → Marked old new place last
-marked_pushed old new place last e = λ rs more at is few spread.
+pub marked_pushed : (old new : List Mark) (place last : ℕ) → last_place 0 old + 524288 ≤ place → new ≡ old ++ (record { place = place; last = last }) ∷ [] → Marked old new place last
+marked_pushed old new place last far e = λ rs more at is few spread.
     let m : Mark = record { place = place; last = last } in
-    subst (λ (ms : List Mark). Spread ms 0 0 (rs ++ more)) (sym e) (marked old m 0 0 rs more (omega (arith, at)) is few spread)
+    subst (λ (ms : List Mark). Spread ms 0 0 (rs ++ more)) (sym e) (marked old m 0 0 rs more (omega (arith, at)) is far few spread)
 
 -- ---- finding a place
 

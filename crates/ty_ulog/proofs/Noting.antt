@@ -31,8 +31,8 @@ records_more own last (t ∷ ticks) later (x ∷ asked) more e = ap (λ (l : Lis
 
 -- ---- where one of them lacks room
 
-pub stamp_lacks : (rs : List Record) (r : Record) → 2 ^ 64 ≤ r.stamp → HasNoStamp (rs ++ r ∷ [])
-stamp_lacks rs r late = record { front = rs; next = r; behind = []; parts = refl; late = late }
+pub stamp_lacks : (held : ℕ) (rs : List Record) (r : Record) → 2 ^ 64 ≤ r.stamp → r.before ≡ held → held ≡ 2 ^ 64 - 1 → HasNoStamp held (rs ++ r ∷ [])
+stamp_lacks held rs r late before most = record { front = rs; next = r; behind = []; parts = refl; late = late; before = before; most = most }
 
 -- the first that passes a limit
 pub record FirstOver (limit long : ℕ) (rs : List Record) : Type 0 where
@@ -53,9 +53,9 @@ first_over limit long r (q ∷ rs) over = elim (cases_lt limit (long + length (r
 
 module _ {S : Type 0} (s : Ghosts S) where
   -- behind others
-  pub overflows_behind : (new : S) (long : ℕ) (rs more : List Record) → Overflows s new long rs → Overflows s new long (rs ++ more)
-  overflows_behind new long rs more o = elim o [
-    | inl h ↦ inl (record { front = h.front; next = h.next; behind = h.behind ++ more; parts = ap (λ (l : List Record). l ++ more) h.parts ∙ append_assoc h.front (h.next ∷ h.behind) more; late = h.late })
+  pub overflows_behind : (held : ℕ) (new : S) (long : ℕ) (rs more : List Record) → Overflows s held new long rs → Overflows s held new long (rs ++ more)
+  overflows_behind held new long rs more o = elim o [
+    | inl h ↦ inl (record { front = h.front; next = h.next; behind = h.behind ++ more; parts = ap (λ (l : List Record). l ++ more) h.parts ∙ append_assoc h.front (h.next ∷ h.behind) more; late = h.late; before = h.before; most = h.most })
     | inr h ↦ inr (λ t. let p = h t in record { front = p.front; next = p.next; behind = p.behind ++ more; parts = ap (λ (l : List Record). l ++ more) p.parts ∙ append_assoc p.front (p.next ∷ p.behind) more; lacks = p.lacks })
   ]
 
@@ -144,10 +144,11 @@ module _ {S : Type 0} (s : Ghosts S) where
         sound = g.sound;
       }
 
-  pub note_lacks : (own now : ℕ) (ticks : List ℕ) (asked : List (List ℕ)) (request : List ℕ) (u v : Ulog) (old a new : S) (b : Batch) → Gathers s own ticks asked u v old a b
-      → 2 ^ 64 ≤ (record_for own v.last now request).stamp → Overflows s new (length (s.now old 2)) (records_of own u.last (ticks ++ now ∷ []) (asked ++ request ∷ []))
-  note_lacks own now ticks asked request u v old a new b g late =
-      inl (subst HasNoStamp (sym (more_parts own now ticks asked request u v old a b g)) (stamp_lacks (g.written ++ g.waiting) (record_for own v.last now request) late))
+  pub note_lacks : (held own now : ℕ) (ticks : List ℕ) (asked : List (List ℕ)) (request : List ℕ) (u v : Ulog) (old a new : S) (b : Batch) → Gathers s own ticks asked u v old a b
+      → v.last ≡ 2 ^ 64 - 1 → held ≡ v.last → Overflows s held new (length (s.now old 2)) (records_of own u.last (ticks ++ now ∷ []) (asked ++ request ∷ []))
+  note_lacks held own now ticks asked request u v old a new b g most same =
+      let late : 2 ^ 64 ≤ max (suc v.last) now = omega (arith, most) in
+      inl (subst (HasNoStamp held) (sym (more_parts own now ticks asked request u v old a b g)) (stamp_lacks held (g.written ++ g.waiting) (record_for own v.last now request) late (sym same) (same ∙ most)))
 
   -- what was gathered stays so behind one more
   pub gathers_one : {A E : Type 0} (r : Result A E) (own now : ℕ) (request : List ℕ) (v w x : Ulog) (old new : S) (b b' c : Batch) → OnOk r (StaysGathered s w x old new b' c) → length b.bytes < 524288
@@ -186,9 +187,9 @@ module _ {S : Type 0} (s : Ghosts S) where
         sound = sound;
       }
 
-  pub write_lacks : (own : ℕ) (ticks : List ℕ) (asked : List (List ℕ)) (u v : Ulog) (old a new : S) (b : Batch) → Gathers s own ticks asked u v old a b → s.limit new ≡ s.limit a
-      → (b.bytes ≡ [] → ⊥) → EndLacks s a new (length b.bytes) → Overflows s new (length (s.now old 2)) (records_of own u.last ticks asked)
-  write_lacks own ticks asked u v old a new b g same some lacks = inr (λ t. subst (HasNoPlace s new (length (s.now old 2))) (sym g.parts) (place_lacks new (length (s.now old 2)) g.written g.waiting (go g.waiting g.bytes_are t)))
+  pub write_lacks : (held own : ℕ) (ticks : List ℕ) (asked : List (List ℕ)) (u v : Ulog) (old a new : S) (b : Batch) → Gathers s own ticks asked u v old a b → s.limit new ≡ s.limit a
+      → (b.bytes ≡ [] → ⊥) → EndLacks s a new (length b.bytes) → Overflows s held new (length (s.now old 2)) (records_of own u.last ticks asked)
+  write_lacks held own ticks asked u v old a new b g same some lacks = inr (λ t. subst (HasNoPlace s new (length (s.now old 2))) (sym g.parts) (place_lacks new (length (s.now old 2)) g.written g.waiting (go g.waiting g.bytes_are t)))
     where
       go : (waiting : List Record) → b.bytes ≡ log_bytes waiting → s.tells → HasNoPlace s new (length (s.now old 2) + length (log_bytes g.written)) waiting
       go [] e t = absurd (some e)

@@ -14,9 +14,10 @@ use Rattle.ty_wire.specs.Spelling.{spelling, Fits}
 use Rattle.ty_wire.specs.Updating.{IsUpdating as Changes}
 use Rattle.ty_wire.specs.Reading.{request_at}
 use Rattle.ty_wire.proofs.Answered.{whole, alone as one_alone}
-use Rattle.ty_ulog.specs.Updates.{alone, sole_update, update_in, updates, IsUpdating}
+use Rattle.ty_ulog.specs.Updates.{alone, sole_update, update_in, IsUpdating}
+use Rattle.ty_wire.specs.Updating.{updates}
 use Rattle.ty_ulog.specs.Pieces.{command_of, told_by}
-use Rattle.ty_ulog.proofs.Updating.{updates_is, updates_if, updates_only}
+use Rattle.ty_wire.proofs.UpdateTest.{updates_is, updates_if, updates_only}
 
 -- bytes that spell a request are read as it, with nothing behind
 pub reads_alone : (bytes : List ℕ) (q : Request) → Fits q → bytes ≡ spelling q → request_at bytes ≡ Ok (q, [])

@@ -1,10 +1,10 @@
 -- What a feed is still to be given of an update log.
-use Rattle.std.specs.Prelude.{◌≡◌, ◌≤◌, ◌<◌, ◌-◌, ◌^◌, ℕ, List, [], ◌++◌, length, drop, Option, Some, None}
+use Rattle.std.specs.Prelude.{◌≡◌, ◌≤◌, ◌<◌, ◌+◌, ◌-◌, ◌^◌, ℕ, List, [], ◌++◌, length, drop, min, Option, Some, None}
 use Rattle.ty_ulog.specs.declared.feed.Feed.{Feed}
 use Rattle.tc_space.specs.declared.space.Space.{Ghosts}
 use Rattle.ty_ulog.specs.declared.log.Ulog.{Ulog}
 use Rattle.ty_ulog.specs.declared.record.Record.{Record}
-use Rattle.ty_ulog.specs.Holding.{Means}
+use Rattle.ty_ulog.specs.Holding.{Means, ReadsFew}
 use Rattle.ty_ulog.specs.Log.{log_bytes, above, last_of}
 
 -- from its place in the file on; before the log has a record above its timestamp it has no place
@@ -28,9 +28,10 @@ abbrev pub room : Option ℕ → ℕ
 room None = 2 ^ 64
 room (Some at) = 2 ^ 64 - at
 
--- a feed was given bytes; where it was given none, none is left
+-- a feed was given bytes, 4,096 or as many as are left; where it was given none, none is left
 pub record Gives (f g : Feed) (rs : List Record) (bytes : List ℕ) : Type 0 where
   pub parts : left f rs ≡ bytes ++ left g rs
+  pub many : length bytes ≡ min 4096 (length (left f rs))
   pub all : bytes ≡ [] → left g rs ≡ []
   pub stands : Stands f rs → Stands g rs
 
@@ -40,13 +41,13 @@ pub record IsFound (f : Feed) (rs : List Record) (found : Option ℕ) : Type 0 w
   pub none : found ≡ None → left f rs ≡ []
   pub stands : Stands f rs → IsPlace found f.above rs
 
--- how many bytes are read at most to find it
-abbrev pub finding_at : Option ℕ → ℕ
-finding_at None = 2101248
-finding_at (Some at) = 0
+-- where it has a place so many bytes are read at most; else, where the log is the file's, those that are read to find it too
+abbrev pub CountsAt : {S : Type 0} → Ghosts S → Ulog → Option ℕ → S → S → ℕ → Type 0
+CountsAt s log None old new most = ReadsFew s log old new (2101248 + most)
+CountsAt s log (Some at) old new most = s.bytes_read new ≤ s.bytes_read old + most
 
-abbrev pub finding : Feed → ℕ
-finding f = finding_at f.place
+abbrev pub Counts : {S : Type 0} → Ghosts S → Ulog → Feed → S → S → ℕ → Type 0
+Counts s log f old new most = CountsAt s log f.place old new most
 
 -- of whatever records the log has: it is found for them
 abbrev pub FindsPlace : {S : Type 0} → Ghosts S → Ulog → S → Feed → Option ℕ → Type 0

@@ -16,12 +16,13 @@ but_last (r ∷ q ∷ rs) = r ∷ but_last (q ∷ rs)
 abbrev pub AreNear : List Record → Type 0
 AreNear rs = length (log_bytes (but_last rs)) < 1048576
 
--- a mark parts records, which begin at a place behind a timestamp: those in front of it are near
+-- a mark parts records, which begin at a place behind a timestamp: those in front of it are near, and take half a MiB or more
 pub record Marks (m : Mark) (place held : ℕ) (rs : List Record) : Type 0 where
   pub front : List Record
   pub later : List Record
   pub parts : rs ≡ front ++ later
   pub near : AreNear front
+  pub far : place + 524288 ≤ m.place
   pub place_is : m.place ≡ place + length (log_bytes front)
   pub last_is : m.last ≡ last_of held front
 

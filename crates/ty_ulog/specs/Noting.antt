@@ -1,5 +1,5 @@
 -- The records of requests that updated.
-use Rattle.std.specs.Prelude.{◌≡◌, ◌⊎◌, ◌≤◌, ◌<◌, ◌+◌, ◌^◌, ℕ, suc, max, List, [], ◌∷◌, ◌++◌, length, drop, Option, Result, OnOk, IsErrOf}
+use Rattle.std.specs.Prelude.{◌≡◌, ◌⊎◌, ◌≤◌, ◌<◌, ◌+◌, ◌-◌, ◌^◌, ℕ, suc, max, List, [], ◌∷◌, ◌++◌, length, drop, Option, Result, All, OnOk, IsErrOf}
 use Rattle.tc_io.specs.Told.{Adds}
 use Rattle.tc_space.specs.declared.errors.RecErr.{RecErr}
 use Rattle.tc_space.specs.declared.errors.RecErr.TheVariants.{Full}
@@ -52,13 +52,15 @@ EndLacks s old new size = s.tells → LacksAt s old new (length (s.now old 2)) s
 abbrev pub Lacks : {S : Type 0} → Ghosts S → S → ℕ → ℕ → Type 0
 Lacks s new at size = (s.limit new 2 < at + size) ⊎ s.log_full new
 
--- one of these records has no timestamp
-pub record HasNoStamp (rs : List Record) : Type 0 where
+-- one of these records has no timestamp: the last one held is the greatest that there is
+pub record HasNoStamp (held : ℕ) (rs : List Record) : Type 0 where
   pub front : List Record
   pub next : Record
   pub behind : List Record
   pub parts : rs ≡ front ++ next ∷ behind
   pub late : 2 ^ 64 ≤ next.stamp
+  pub before : next.before ≡ held
+  pub most : held ≡ 2 ^ 64 - 1
 
 -- one of them, which were to come behind so many bytes, has no room
 pub record HasNoPlace {S : Type 0} (s : Ghosts S) (new : S) (long : ℕ) (rs : List Record) : Type 0 where
@@ -68,17 +70,18 @@ pub record HasNoPlace {S : Type 0} (s : Ghosts S) (new : S) (long : ℕ) (rs : L
   pub parts : rs ≡ front ++ next ∷ behind
   pub lacks : Lacks s new (long + length (log_bytes front)) (length (record_bytes next))
 
-abbrev pub Overflows : {S : Type 0} → Ghosts S → S → ℕ → List Record → Type 0
-Overflows s new long rs = HasNoStamp rs ⊎ (s.tells → HasNoPlace s new long rs)
+abbrev pub Overflows : {S : Type 0} → Ghosts S → ℕ → S → ℕ → List Record → Type 0
+Overflows s held new long rs = HasNoStamp held rs ⊎ (s.tells → HasNoPlace s new long rs)
 
 -- what came of the clock's answers, one for each request that was begun; a limit is met whatever it would have answered to the others
 pub record Asks {S : Type 0} (s : Ghosts S) (result : Result Unit RecErr) (a b : Option (List ℕ)) (own : ℕ) (asked : List (List ℕ)) (u v : Ulog) (old new : S) : Type 0 where
   pub ticks : List ℕ
   pub told : Adds a b ticks
+  pub small : All (λ t. t < 2 ^ 64) ticks
   pub few : length ticks ≤ length asked
   pub each : OnOk result (length ticks ≡ length asked)
   pub notes : OnOk result (Notes s u v old new (records_of own u.last ticks asked))
-  pub full : IsErrOf result Full → (later : List ℕ) → Overflows s new (length (s.now old 2)) (records_of own u.last (ticks ++ later) asked)
+  pub full : IsErrOf result Full → (later : List ℕ) → Overflows s v.last new (length (s.now old 2)) (records_of own u.last (ticks ++ later) asked)
 
 -- a record that may come next: its request is one whole updating request, it names the last timestamp held, and its own is greater
 pub record MayAppend (u : Ulog) (r : Record) : Type 0 where
@@ -123,9 +126,9 @@ GathersOne {S} s own now request v w old new b c =
     (ticks : List ℕ) (asked : List (List ℕ)) (u : Ulog) (a : S) → Gathers s own ticks asked u v a old b → Gathers s own (ticks ++ now ∷ []) (asked ++ request ∷ []) u w a new c
 
 -- with its record they pass a limit
-abbrev pub OverflowsWith : {S : Type 0} → Ghosts S → ℕ → ℕ → List ℕ → Ulog → S → S → Batch → Type 0
-OverflowsWith {S} s own now request v old new b =
-    (ticks : List ℕ) (asked : List (List ℕ)) (u : Ulog) (a : S) → Gathers s own ticks asked u v a old b → Overflows s new (length (s.now a 2)) (records_of own u.last (ticks ++ now ∷ []) (asked ++ request ∷ []))
+abbrev pub OverflowsWith : {S : Type 0} → Ghosts S → ℕ → ℕ → List ℕ → Ulog → Ulog → S → S → Batch → Type 0
+OverflowsWith {S} s own now request v w old new b =
+    (ticks : List ℕ) (asked : List (List ℕ)) (u : Ulog) (a : S) → Gathers s own ticks asked u v a old b → Overflows s w.last new (length (s.now a 2)) (records_of own u.last (ticks ++ now ∷ []) (asked ++ request ∷ []))
 
 -- bytes wait, and have no room
 abbrev pub WaitsInVain : {S : Type 0} → Ghosts S → S → S → Batch → Type 0

@@ -27,6 +27,12 @@ pub record Fits (r : Record) : Type 0 where
   pub master : r.master < 65536
   pub request : length r.request ≤ 33554432
 
+-- a front of these came behind what was there
+pub record Begins (old new whole : List ℕ) : Type 0 where
+  pub front : List ℕ
+  pub is_front : IsPrefix front whole
+  pub parts : new ≡ old ++ front
+
 -- the record, wherever its request lies
 abbrev pub seen : RecordRef → Record
 seen r = record { stamp = r.stamp; before = r.before; server = r.server; master = r.master; request = r.request.now }

@@ -4,7 +4,7 @@
 ghost use Rattle.std.specs.Prelude.{◌≡◌, ◌+◌, ◌≤◌, take, None, IfOk, OnErr};
 ghost use Rattle.tc_io.specs.Causes.{HasCause};
 ghost use Rattle.tc_space.specs.Frames.{OnlyReads};
-ghost use Rattle.ty_ulog.specs.Feeds.{FindsPlace, GivesNext, finding, room};
+ghost use Rattle.ty_ulog.specs.Feeds.{Counts, FindsPlace, GivesNext, room};
 ghost use Rattle.ty_ulog.specs.Holding.{ReadsFew};
 
 use crate::log::Ulog;
@@ -47,7 +47,7 @@ impl Feed {
         requires { S.sound space.old }
         ensures found { IfOk result (FindsPlace S.Space log.now space.old self.now) }
         ensures falls { IfOk result (λ o. room o ≤ room self.now.place) }
-        ensures counted { ReadsFew S.Space log.now space.old space.new (finding self.now) }
+        ensures counted { Counts S.Space log.now self.now space.old space.new 0 }
         ensures reads { OnlyReads S.Space space.old space.new }
         ensures cause { HasCause (S.faults space.old) (S.faults space.new) result }
     {
@@ -57,8 +57,8 @@ impl Feed {
         }
     }
 
-    /// Fills the front of `into` with the next bytes that are due, and answers how many: none exactly where none are left. It takes no memory.
-    /// An `Err` changes nothing.
+    /// Fills the front of `into` with the next bytes that are due, 4,096 or as many as are left, and answers how many. It takes no memory. An
+    /// `Err` leaves the feed as it was; what is in `into` then isn't said.
     pub fn next<S: Space>(
         &mut self,
         log: &Ulog,
@@ -68,7 +68,7 @@ impl Feed {
         requires { S.sound space.old }
         ensures gives { IfOk result (λ n. GivesNext S.Space log.now space.old self.old self.new (take n into.new)) }
         ensures few { IfOk result (λ n. (n ≤ 4096) × (room self.new.place + n ≤ room self.old.place)) }
-        ensures counted { ReadsFew S.Space log.now space.old space.new (finding self.old + 4096) }
+        ensures counted { Counts S.Space log.now self.old space.old space.new 4096 }
         ensures above { self.new.above ≡ self.old.above }
         ensures err { OnErr result (self.new ≡ self.old) }
         ensures reads { OnlyReads S.Space space.old space.new }

@@ -10,7 +10,7 @@ ghost use Rattle.tc_space.specs.Stores.{Only, RefusesIn};
 ghost use Rattle.ty_ulog.specs.declared.record.Record.{Record};
 ghost use Rattle.ty_ulog.specs.Holding.{Holds, Means, ReadsFew, file_of};
 ghost use Rattle.ty_ulog.specs.Log.{Breaks, above, log_bytes, records_in};
-ghost use Rattle.ty_ulog.specs.Noting.{Asks, EndLacks, GathersOne, IsNoted, LacksAt, MayAppend, Notes, OverflowsWith, StaysGathered, WaitsInVain, record_for};
+ghost use Rattle.ty_ulog.specs.Noting.{Asks, EndLacks, GathersOne, IsNoted, LacksAt, MayAppend, Notes, OverflowsWith, StaysGathered, WaitsInVain};
 ghost use Rattle.ty_ulog.specs.Records.{record_bytes};
 ghost use Rattle.ty_ulog.specs.Updates.{IsUpdating};
 
@@ -80,7 +80,7 @@ impl Ulog {
     }
 
     /// Reads file 2 through in pieces, one record at a time. `Broken` comes exactly where a rule fails, with the first: that the file is
-    /// whole updates is looked at over the whole file before their order is.
+    /// whole updates is looked at over the whole file before their order is. No more bytes are read than the file has.
     pub fn open<S: Space>(alloc: Global, space: &mut S) -> Result<Ulog, OpenErr>
         requires { S.sound space.old }
         ensures holds { IfOk result (λ u. S.tells → Holds u (S.now space.old 2) (records_in (S.now space.old 2))) }
@@ -115,7 +115,8 @@ impl Ulog {
         self.last
     }
 
-    /// Adds a record at the end of file 2, by one write. It overwrites nothing, so the undo log gets no entry.
+    /// Adds a record at the end of file 2, by one write. It overwrites nothing, so the undo log gets no entry. After an `Err` the last timestamp
+    /// is as it was, and either nothing was written and the log is as before, or the space isn't sound.
     pub fn append<S: Space>(&mut self, space: &mut S, r: &Record) -> Result<(), RecErr>
         requires sound { S.sound space.old }
         requires next { MayAppend self.old r.now }
@@ -139,7 +140,8 @@ impl Ulog {
     fn note(&mut self, now: u64, own: u16, request: &Blob, bytes: &mut Blob) -> Result<(), RecErr>
         requires { IsUpdating request.now }
         ensures noted { OnOk result (IsNoted self.old self.new own now request.now bytes.old bytes.new) }
-        ensures full { IsErrOf result RecErr.Full → 2 ^ 64 ≤ (record_for own self.old.last now request.now).stamp }
+        ensures full { IsErrOf result RecErr.Full → self.old.last ≡ 2 ^ 64 - 1 }
+        ensures err { OnErr result (self.new ≡ self.old) }
         ensures never_a_fault { IsErrOf result RecErr.Fault → ⊥ }
     {
         let before = self.last;
@@ -216,7 +218,7 @@ impl Ulog {
         requires noted { IsUpdating request.now }
         ensures gathers { OnOk result (GathersOne S.Space own now request.now self.old self.new space.old space.new batch.old batch.new) }
         ensures few { OnOk result (length batch.new.bytes < 524288) }
-        ensures full { IsErrOf result RecErr.Full → OverflowsWith S.Space own now request.now self.old space.old space.new batch.old }
+        ensures full { IsErrOf result RecErr.Full → OverflowsWith S.Space own now request.now self.old self.new space.old space.new batch.old }
         ensures outcome { Outcome S.sound S.flag result space.new }
         ensures frame { OnlyWrites S.Space space.old space.new }
         ensures cause { OnFault S.Space result space.old space.new }
@@ -260,8 +262,8 @@ impl Ulog {
         Ok(())
     }
 
-    /// The place of the first record with a greater timestamp, or the end. It takes no memory, and reads two MiB at most, however long the
-    /// log is.
+    /// The place of the first record with a greater timestamp, or the end. It takes no memory and, where the log is the file's, reads two MiB
+    /// and 4,096 bytes at most, however long the log is.
     pub fn after<S: Space>(&self, space: &mut S, stamp: u64) -> Result<u64, Fault>
         requires { S.sound space.old }
         ensures inside { IfOk result (λ at. S.tells → at ≤ length (S.now space.old 2)) }

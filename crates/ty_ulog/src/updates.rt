@@ -1,5 +1,5 @@
 //! Which bytes are one whole updating request.
-ghost use Rattle.std.specs.Prelude.{◌≡◌, ◌↔◌, true, false, length, is_some, IfOk, IsTrue};
+ghost use Rattle.std.specs.Prelude.{◌≡◌, ◌↔◌, true, false, length, is_some, IfOk, OnErr, IsTrue};
 ghost use Rattle.ty_wire.specs.Taking.{Takes};
 ghost use Rattle.ty_ulog.specs.Pieces.{command_of, told_by};
 ghost use Rattle.ty_ulog.specs.Updates.{IsUpdating, update_in};
@@ -44,10 +44,11 @@ fn told_by(command: u8) -> Option<bool>
     Some(UPDATING.contains(&command))
 }
 
-/// Whether bytes are one whole updating request, and no more. It takes memory for a misc alone.
+/// Whether bytes are one whole updating request, and no more. It takes memory for a misc alone, which it copies: 24 bytes an argument besides its text.
 pub fn is_update(alloc: Global, bytes: &[u8]) -> Result<bool, AllocError>
     ensures updating { IfOk result (λ b. IsTrue b ↔ IsUpdating bytes.now) }
     ensures told { IfOk result (λ b. b ≡ is_some (update_in bytes.now)) }
+    ensures wanting { OnErr result (command_of bytes.now ≡ 0x90) }
 {
     if !is_alone(bytes) {
         return Ok(false);

@@ -3,17 +3,17 @@ ghost use Rattle.std.specs.Prelude.{◌≡◌, ◌++◌, ◌<◌, ◌^◌, OnOk,
 ghost use Rattle.std.specs.Int.{w16, w32, to_be_bytes};
 ghost use Rattle.ty_wire.specs.Spelling.{size};
 ghost use Rattle.ty_wire.specs.Form.{long_bytes};
-ghost use Rattle.ty_wire.specs.Prefixes.{IsPrefix};
-ghost use Rattle.ty_ulog.specs.Records.{Fits, record_bytes, seen};
+ghost use Rattle.ty_ulog.specs.Records.{Begins, Fits, record_bytes, seen};
 
 use crate::record::{Record, RecordRef};
 use std::alloc::AllocError;
 use tc_base::Blob;
 
 // Adds eight bytes.
+#[tactic(auto, using(crate::proofs::Begun::begins_err, crate::proofs::Begun::begins_first))]
 fn put_long(number: u64, into: &mut Blob) -> Result<(), AllocError>
     ensures ok { OnOk result (into.new ≡ into.old ++ long_bytes number) }
-    ensures err { OnErr result (IsPrefix into.old into.new) }
+    ensures err { OnErr result (Begins into.old into.new (long_bytes number)) }
 {
     let upper = (number / 4_294_967_296) as u32;
     let lower = (number % 4_294_967_296) as u32;
@@ -39,10 +39,11 @@ fn put_size(n: usize, into: &mut Blob) -> Result<(), AllocError>
 }
 
 // Adds a text with its size in front.
+#[tactic(auto, using(crate::proofs::Begun::begins_err, crate::proofs::Begun::begins_first))]
 fn put_text(text: &[u8], into: &mut Blob) -> Result<(), AllocError>
     requires { length text.now < 2 ^ 32 }
     ensures ok { OnOk result (into.new ≡ into.old ++ (size text.now ++ text.now)) }
-    ensures err { OnErr result (IsPrefix into.old into.new) }
+    ensures err { OnErr result (Begins into.old into.new (size text.now ++ text.now)) }
 {
     put_size(text.len(), into)?;
     into.append(text)
@@ -53,7 +54,7 @@ fn put_text(text: &[u8], into: &mut Blob) -> Result<(), AllocError>
 pub fn put_seen(r: RecordRef<'_>, into: &mut Blob) -> Result<(), AllocError>
     requires { Fits (seen r) }
     ensures ok { OnOk result (into.new ≡ into.old ++ record_bytes (seen r.entry)) }
-    ensures err { OnErr result (IsPrefix into.old into.new) }
+    ensures err { OnErr result (Begins into.old into.new (record_bytes (seen r.entry))) }
 {
     into.push(0xC9)?;
     put_long(r.stamp, into)?;
@@ -65,10 +66,11 @@ pub fn put_seen(r: RecordRef<'_>, into: &mut Blob) -> Result<(), AllocError>
 }
 
 /// Adds the record, or a front of it where memory ran out.
+#[tactic(auto, using(crate::proofs::Begun::begins_as))]
 pub fn put_record(r: &Record, into: &mut Blob) -> Result<(), AllocError>
     requires { Fits r.now }
     ensures ok { OnOk result (into.new ≡ into.old ++ record_bytes r.now) }
-    ensures err { OnErr result (IsPrefix into.old into.new) }
+    ensures err { OnErr result (Begins into.old into.new (record_bytes r.now)) }
 {
     let seen = RecordRef {
         stamp: r.stamp,

@@ -4,3 +4,4 @@ pub mod ItemLemmas
 pub mod ItemLoops
 pub mod Requests
 pub mod Stays
+pub mod UpdateTest

@@ -1,5 +1,7 @@
 -- Which requests change contents where they succeed.
-use Rattle.std.specs.Prelude.{◌≡◌, ◌⊎◌, ℕ, List, Contains, codes}
+use Rattle.std.specs.Prelude.{◌≡◌, ◌⊎◌, ◌&&◌, ◌||◌, ℕ, Bool, true, false, List, [], ◌∷◌, Contains, codes}
+use Rattle.std.specs.List.{list_any}
+use Rattle.tc_base.specs.Texts.{is_text}
 use Rattle.tc_base.specs.declared.request.Request.{Request}
 use Rattle.tc_base.specs.declared.request.Request.TheVariants.{Put, PutKeep, PutCat, PutShl, PutNr, Out, AddInt, Vanish, Misc}
 
@@ -24,3 +26,24 @@ IsUpdating (AddInt key number) = Unit {0}
 IsUpdating Vanish = Unit {0}
 IsUpdating (Misc name options args) = IsUpdatingCall name args
 IsUpdating _ = ⊥
+
+-- ---- the same as a test
+
+abbrev pub updating_names : List (List ℕ)
+updating_names =
+    codes "put" ∷ codes "putkeep" ∷ codes "putcat" ∷ codes "out" ∷ codes "putlist" ∷ codes "outlist" ∷ codes "putdup" ∷ codes "vanish" ∷ codes "setindex" ∷ []
+
+abbrev pub updates_call : List ℕ → List (List ℕ) → Bool
+updates_call name args = list_any (is_text name) updating_names || (is_text name (codes "search") && list_any (is_text (codes "out")) args)
+
+abbrev pub updates : Request → Bool
+updates (Put key value) = true
+updates (PutKeep key value) = true
+updates (PutCat key value) = true
+updates (PutShl key value width) = true
+updates (PutNr key value) = true
+updates (Out key) = true
+updates (AddInt key number) = true
+updates Vanish = true
+updates (Misc name options args) = updates_call name args
+updates _ = false

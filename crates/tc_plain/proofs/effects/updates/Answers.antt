@@ -1,4 +1,4 @@
-use Rattle.tc_model.proofs.Updating.{updates_is}
+use Rattle.ty_wire.proofs.UpdateTest.{updates_is}
 use Rattle.tc_plain.proofs.effects.updates.Goals as goal
 
 pub returns : goal.returns

@@ -1,6 +1,6 @@
 use Rattle.std.proofs.Common.{◌∙◌}
 use Rattle.tc_model.specs.Misc.{updates_call}
-use Rattle.tc_model.proofs.Updating.{updates_call_is}
+use Rattle.ty_wire.proofs.UpdateTest.{updates_call_is}
 use Rattle.tc_plain.proofs.effects.updates_call.Goals as goal
 
 pub returns : goal.returns

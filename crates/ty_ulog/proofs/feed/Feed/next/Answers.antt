@@ -1,7 +1,7 @@
 use Rattle.std.proofs.Common.{◌-◌, ◌≤◌, ◌∙◌, ℕ, List, length, take, drop, ap, subst, refl, arith}
 use Rattle.std.specs.Prelude.{Option, min}
 use Rattle.ty_ulog.specs.Feeds.{room, IsFound}
-use Rattle.ty_ulog.proofs.Feeding.{given, given_none}
+use Rattle.ty_ulog.proofs.Feeding.{counts_more, given, given_none}
 use Rattle.ty_ulog.proofs.feed.Feed.next.Goals as goal
 
 pub returns-in_default-clause-gives : goal.returns-in_default-clause-gives
@@ -22,13 +22,13 @@ returns-clause-few g c =
     (few.0, omega (arith, falls, few.1))
 
 pub returns-in_err-at-clause-counted : goal.returns-in_err-at-clause-counted
-returns-in_err-at-clause-counted g c = λ rs m. omega (arith, c.find.ensures.counted rs m)
+returns-in_err-at-clause-counted g c = counts_more g.S.Space c.args.log.now c.args.self.now.place c.args.space.now c.find.new.space _ 4096 c.find.ensures.counted (omega arith)
 
 pub returns-in_default-clause-counted : goal.returns-in_default-clause-counted
-returns-in_default-clause-counted g c = λ rs m. omega (arith, c.find.ensures.counted rs m)
+returns-in_default-clause-counted g c = counts_more g.S.Space c.args.log.now c.args.self.now.place c.args.space.now c.find.new.space _ 4096 c.find.ensures.counted (omega arith)
 
 pub returns-in_err-n-clause-counted : goal.returns-in_err-n-clause-counted
-returns-in_err-n-clause-counted g c = λ rs m. omega (arith, c.find.ensures.counted rs m, c.next_bytes.ensures.counted)
+returns-in_err-n-clause-counted g c = counts_more g.S.Space c.args.log.now c.args.self.now.place c.args.space.now c.find.new.space _ 4096 c.find.ensures.counted (c.next_bytes.ensures.counted)
 
 pub returns-clause-counted : goal.returns-clause-counted
-returns-clause-counted g c = λ rs m. omega (arith, c.find.ensures.counted rs m, c.next_bytes.ensures.counted)
+returns-clause-counted g c = counts_more g.S.Space c.args.log.now c.args.self.now.place c.args.space.now c.find.new.space _ 4096 c.find.ensures.counted (c.next_bytes.ensures.counted)

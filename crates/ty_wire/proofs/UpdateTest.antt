@@ -6,9 +6,8 @@ use Rattle.std.specs.List.{list_any}
 use Rattle.std.specs.Cmp.Lexicographic.{same_text, other_text}
 use Rattle.tc_base.specs.declared.request.Request.{Request}
 use Rattle.tc_base.specs.declared.request.Request.TheVariants.{Put, PutKeep, PutCat, PutShl, PutNr, Out, AddInt, Vanish, Misc}
-use Rattle.ty_wire.specs.Updating.{IsUpdating, IsUpdatingCall}
+use Rattle.ty_wire.specs.Updating.{IsUpdating, IsUpdatingCall, updates, updates_call, updating_names}
 use Rattle.tc_base.specs.Texts.{is_text}
-use Rattle.ty_ulog.specs.Updates.{updates, updates_call, updating_names}
 
 text_true : (a b : List ℕ) → a ≡ b → is_text a b ≡ true
 text_true a b same = go (is_text a b) refl
@@ -95,3 +94,11 @@ updates_is false r only if' = go (updates r) refl
     go : (t : Bool) → updates r ≡ t → false ≡ updates r
     go false e = sym e
     go true e = absurd (let f = if' (updates_only r e) in cc)
+
+pub updates_call_is : (b : Bool) (name : List ℕ) (args : List (List ℕ)) → (b ≡ true → IsUpdatingCall name args) → (IsUpdatingCall name args → b ≡ true) → b ≡ updates_call name args
+updates_call_is true name args only if' = sym (call_if name args (only refl))
+updates_call_is false name args only if' = go (updates_call name args) refl
+  where
+    go : (t : Bool) → updates_call name args ≡ t → false ≡ updates_call name args
+    go false e = sym e
+    go true e = absurd (let f = if' (call_only name args e) in cc)
