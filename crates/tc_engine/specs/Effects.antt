@@ -1,20 +1,20 @@
 -- What a call on an engine leaves of what it holds.
 use Rattle.std.specs.Prelude.{◌≡◌, ℕ, List, Bool, true, false, Option, Some, None, Result, OnOk, IfOk, IsErrOf}
 use Rattle.tc_base.specs.Files.{Files}
-use Rattle.tc_space.specs.Frames.{Reads}
+use Rattle.tc_space.specs.Frames.{Others, Reads}
 use Rattle.tc_space.specs.declared.errors.RecErr.{RecErr}
 use Rattle.tc_space.specs.declared.errors.RecErr.TheVariants.{Full}
 use Rattle.tc_space.specs.declared.space.Space.{Ghosts}
 use Rattle.tc_model.specs.Contents.{Contents}
-use Rattle.ty_base.specs.Holding.{Held, OfHeld, Stays}
+use Rattle.ty_base.specs.Holding.{Held, OfHeld}
 use Rattle.tc_engine.specs.Changes.{Change, wanted}
 use Rattle.tc_engine.specs.Rows.{Adds, IsItem}
 use Rattle.tc_engine.specs.declared.rows.Rows.{Rows}
 
 -- the change was made; or it fails, and nothing has changed
-pub record Makes {S E : Type 0} (s : Ghosts S) (holds : E → Files → Contents → Type 0) (f : Change) (done : Bool) (e e' : E) (old new : S) : Type 0 where
+pub record Makes {S E : Type 0} (s : Ghosts S) (own : ℕ → Type 0) (holds : E → Files → Contents → Type 0) (f : Change) (done : Bool) (e e' : E) (old new : S) : Type 0 where
   pub sound : s.sound new
-  pub log : Stays s 2 old new
+  pub others : Others s own old new
   pub made : done ≡ true → (c : Contents) → Held s holds e old c → (d : Contents) × (f c ≡ Some d) × Held s holds e' new d
   pub fails : done ≡ false → (c : Contents) → Held s holds e old c → f c ≡ None
   pub same : done ≡ false → Reads s (Held s holds) e e' old new
@@ -26,8 +26,8 @@ pub record IsFull {S E : Type 0} (s : Ghosts S) (holds : E → Files → Content
 -- ---- by the result of a call
 
 module _ {S E : Type 0} (s : Ghosts S) (holds : E → Files → Contents → Type 0) where
-  abbrev pub MadeBy : Result Bool RecErr → Change → E → E → S → S → Type 0
-  MadeBy result f e e' old new = IfOk result (λ done. Makes s holds f done e e' old new)
+  abbrev pub MadeBy : (ℕ → Type 0) → Result Bool RecErr → Change → E → E → S → S → Type 0
+  MadeBy own result f e e' old new = IfOk result (λ done. Makes s own holds f done e e' old new)
 
   abbrev pub FullFor : {T : Type 0} → (S → Contents → Contents → Type 0) → Result T RecErr → Change → E → S → S → Type 0
   FullFor fills result f e old new = IsErrOf result Full → IsFull s holds fills f e old new

@@ -130,7 +130,7 @@ pub trait Engine: Storage {
         value: Blob,
     ) -> Result<bool, RecErr>
         requires { IsReady Self.S.Space Self.holds self.old space.old }
-        ensures makes { MadeBy Self.S.Space Self.holds result (stored mode key value) self.old self.new space.old space.new }
+        ensures makes { MadeBy Self.S.Space Self.holds Self.own result (stored mode key value) self.old self.new space.old space.new }
         ensures refused { RefusesHeld Self.S.Space Self.holds result self.old self.new space.old space.new }
         ensures full { FullFor Self.S.Space Self.holds Self.fills result (stored mode key value) self.old space.old space.new }
         ensures keeps { Keeps Self.S.Space space.old space.new }
@@ -139,7 +139,7 @@ pub trait Engine: Storage {
     /// Adds a value behind those that a tree has of a key.
     fn push(&mut self, space: &mut Self::S, key: Key, value: Blob) -> Result<bool, RecErr>
         requires { IsReady Self.S.Space Self.holds self.old space.old }
-        ensures makes { MadeBy Self.S.Space Self.holds result (pushed key value) self.old self.new space.old space.new }
+        ensures makes { MadeBy Self.S.Space Self.holds Self.own result (pushed key value) self.old self.new space.old space.new }
         ensures refused { RefusesHeld Self.S.Space Self.holds result self.old self.new space.old space.new }
         ensures full { FullFor Self.S.Space Self.holds Self.fills result (pushed key value) self.old space.old space.new }
         ensures keeps { Keeps Self.S.Space space.old space.new }
@@ -148,7 +148,7 @@ pub trait Engine: Storage {
     /// Takes a key out, of a tree its first value. It answers whether it was held.
     fn out(&mut self, space: &mut Self::S, key: &Key) -> Result<bool, RecErr>
         requires { IsReady Self.S.Space Self.holds self.old space.old }
-        ensures makes { MadeBy Self.S.Space Self.holds result (taken key.now) self.old self.new space.old space.new }
+        ensures makes { MadeBy Self.S.Space Self.holds Self.own result (taken key.now) self.old self.new space.old space.new }
         ensures refused { RefusesHeld Self.S.Space Self.holds result self.old self.new space.old space.new }
         ensures full { FullFor Self.S.Space Self.holds Self.fills result (taken key.now) self.old space.old space.new }
         ensures keeps { Keeps Self.S.Space space.old space.new }
@@ -157,7 +157,7 @@ pub trait Engine: Storage {
     /// Gives each key its value, one pair after the other; none where one of them can't be stored.
     fn store_all(&mut self, space: &mut Self::S, pairs: Pairs) -> Result<bool, RecErr>
         requires { IsReady Self.S.Space Self.holds self.old space.old }
-        ensures makes { MadeBy Self.S.Space Self.holds result (all_stored pairs) self.old self.new space.old space.new }
+        ensures makes { MadeBy Self.S.Space Self.holds Self.own result (all_stored pairs) self.old self.new space.old space.new }
         ensures refused { RefusesHeld Self.S.Space Self.holds result self.old self.new space.old space.new }
         ensures full { FullFor Self.S.Space Self.holds Self.fills result (all_stored pairs) self.old space.old space.new }
         ensures keeps { Keeps Self.S.Space space.old space.new }
@@ -166,7 +166,7 @@ pub trait Engine: Storage {
     /// Adds each value behind those of its key, one pair after the other; none where one of them can't be added.
     fn push_all(&mut self, space: &mut Self::S, pairs: Pairs) -> Result<bool, RecErr>
         requires { IsReady Self.S.Space Self.holds self.old space.old }
-        ensures makes { MadeBy Self.S.Space Self.holds result (all_pushed pairs) self.old self.new space.old space.new }
+        ensures makes { MadeBy Self.S.Space Self.holds Self.own result (all_pushed pairs) self.old self.new space.old space.new }
         ensures refused { RefusesHeld Self.S.Space Self.holds result self.old self.new space.old space.new }
         ensures full { FullFor Self.S.Space Self.holds Self.fills result (all_pushed pairs) self.old space.old space.new }
         ensures keeps { Keeps Self.S.Space space.old space.new }
@@ -175,7 +175,7 @@ pub trait Engine: Storage {
     /// Takes out what is held of each key, of a tree all its values. It answers true.
     fn clear_all(&mut self, space: &mut Self::S, keys: Blobs) -> Result<bool, RecErr>
         requires { IsReady Self.S.Space Self.holds self.old space.old }
-        ensures makes { MadeBy Self.S.Space Self.holds result (all_cleared keys) self.old self.new space.old space.new }
+        ensures makes { MadeBy Self.S.Space Self.holds Self.own result (all_cleared keys) self.old self.new space.old space.new }
         ensures refused { RefusesHeld Self.S.Space Self.holds result self.old self.new space.old space.new }
         ensures full { FullFor Self.S.Space Self.holds Self.fills result (all_cleared keys) self.old space.old space.new }
         ensures keeps { Keeps Self.S.Space space.old space.new }
@@ -184,7 +184,7 @@ pub trait Engine: Storage {
     /// Takes out all that is held. It answers true.
     fn clear(&mut self, space: &mut Self::S) -> Result<bool, RecErr>
         requires { IsReady Self.S.Space Self.holds self.old space.old }
-        ensures makes { MadeBy Self.S.Space Self.holds result all_gone self.old self.new space.old space.new }
+        ensures makes { MadeBy Self.S.Space Self.holds Self.own result all_gone self.old self.new space.old space.new }
         ensures refused { RefusesHeld Self.S.Space Self.holds result self.old self.new space.old space.new }
         ensures full { FullFor Self.S.Space Self.holds Self.fills result all_gone self.old space.old space.new }
         ensures keeps { Keeps Self.S.Space space.old space.new }

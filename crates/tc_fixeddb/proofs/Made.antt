@@ -1,31 +1,26 @@
 -- A file that is opened, or made anew.
 use Rattle.std.proofs.Common.{◌≡◌, ◌∙◌, inl, inr, ⊎_elim, ℕ, ◌≤◌, List, length, refl, sym, ap, subst, arith}
-use Rattle.std.specs.Prelude.{None, map, unwrap_or}
-use Rattle.std.specs.List.{last_or}
-use Rattle.std.specs.Ordering.{nat_cmp}
+use Rattle.std.specs.Prelude.{Result, Ok, Err, IfOk, OnOk}
 use Rattle.std.specs.FinMap.{empty}
-use Rattle.tc_model.proofs.MapLaws.{entries-empty}
 use Rattle.tc_base.specs.Files.{Files}
 use Rattle.tc_base.specs.declared.kind.Kind.{Kind}
 use Rattle.tc_base.specs.declared.kind.Kind.TheVariants as kinds
+use Rattle.tc_space.specs.Stores.{Only}
 use Rattle.tc_space.specs.declared.space.Space.{Ghosts}
-use Rattle.tc_model.specs.Arrays.{Array, greatest}
+use Rattle.tc_model.specs.Arrays.{Array}
 use Rattle.tc_model.specs.Contents.{Contents, fixed}
-use Rattle.ty_base.specs.Opening.{CreatesAs, IsCreated, IsOpened, OpensFor, OpensTo}
+use Rattle.ty_base.specs.Holding.{StaysUsable}
+use Rattle.ty_base.specs.Opening.{CreatesAs, IsCreated, IsOpened, OpensFor, OpensTo, OpensUsable}
 use Rattle.ty_base.proofs.Refusals.{no_bytes}
 use Rattle.hf_head.specs.declared.fixed.FixedHead.{FixedHead}
 use Rattle.tc_fixed.specs.declared.fixed.Fixed.{Fixed}
-use Rattle.tc_fixed.specs.Cells.{end_of}
-use Rattle.tc_fixed.specs.Holding.{HasNoRoom, Means, max_id_of, width_of}
+use Rattle.tc_fixed.specs.Holding.{Means, max_id_of, width_of}
 use Rattle.tc_fixed.specs.Shapes.{most_id}
 use Rattle.tc_fixed.specs.Standing.{HasHead, Stands}
 use Rattle.tc_fixeddb.specs.declared.holding.FixedEngine.{FixedEngine}
-use Rattle.tc_fixeddb.specs.Holding.{Fills, HoldsIds, Reopens}
-use Rattle.tc_fixeddb.specs.Shapes.{Lacks, Shaped, anew, usual}
+use Rattle.tc_fixeddb.specs.Holding.{HoldsIds, Reopens}
+use Rattle.tc_fixeddb.specs.Shapes.{Shaped, anew, usual}
 use Rattle.tc_fixeddb.specs.declared.shape.FixedShape.{FixedShape}
-
-greatest_none : greatest empty ≡ 0
-greatest_none = ap (λ es. unwrap_or (last_or None (map (λ (e : ℕ × List ℕ). e.0) es)) 0) (entries-empty nat_cmp)
 
 long_file : (bytes : List ℕ) (width most : ℕ) (m : Array) → Stands bytes width most m → 256 ≤ length bytes
 long_file bytes width most m stands = stands.by.head.long
@@ -62,8 +57,10 @@ module _ {S : Type 0} (s : Ghosts S) where
   pub opens_made : (e : FixedEngine S) (kind : Kind) (a b : S) → (s.tells → length (s.now a 0) ≡ 0) → CreatesAs s Reopens HoldsIds Shaped e (anew usual) usual b → OpensFor s Reopens HoldsIds kind e a b
   opens_made e kind a b none created t = made_opened e kind a b (none t) (created t)
 
-  pub made_full : (b : S) → Lacks s b usual → Fills s b (anew usual) (anew usual)
-  made_full b full = subst (λ n. HasNoRoom (s.limit b 0) (s.log_full b) n) (sym (ap (λ n. end_of 255 n) greatest_none)) full
+  -- it was made of the usual numbers
+  pub made_usual : {E : Type 0} (r : Result (FixedEngine S) E) (a b : S) → IfOk r (λ e. CreatesAs s Reopens HoldsIds Shaped e (anew usual) usual b) → OnOk r (StaysUsable s (Only 0) a b) → OnOk r (OpensUsable s (Only 0) (Shaped usual) a b)
+  made_usual (Ok e) a b created usable = record { sound = usable.sound; others = usable.others; made = λ t none. (created t).numbers }
+  made_usual (Err x) a b created usable = tt
 
   pub main_opens : (f : Fixed S) (kind : Kind) (a : S) → kinds.Fixed ≡ kind → (m : Array) × Stands (s.now a 0) (width_of f) (max_id_of f) m → (c : Contents) × OpensTo kind Reopens (s.now a) c
   main_opens f kind a is stood = (fixed (width_of f) (max_id_of f) stood.0, record { kind_is = is; stand = inr (record { width = width_of f; most = max_id_of f; ids = stood.0; is = refl; stands = stood.1 }) })

@@ -2,6 +2,7 @@
 use Rattle.std.specs.Prelude.{◌≡◌, false}
 use Rattle.std.proofs.Common.{◌∙◌, sym, ap, subst, inl, inr, ⊎_elim}
 use Rattle.tc_base.specs.Files.{Files}
+use Rattle.tc_space.specs.Stores.{Only}
 use Rattle.tc_model.specs.Contents.{Contents, is_table}
 use Rattle.ty_base.specs.Holding.{AreApart, main_apart}
 use Rattle.tc_fixed.specs.Holding.{holds}
@@ -13,7 +14,7 @@ module _ {S : Type 0} where
   pub never_table : (e : FixedEngine S) (files : Files) (c : Contents) → HoldsIds e files c → is_table c ≡ false
   never_table e files c h = ap is_table h.is
 
-  pub moved_apart : (e : FixedEngine S) (f g : Files) (c : Contents) → AreApart f g → (HoldsIds e f c → HoldsIds e g c) × (Reopens f c → Reopens g c)
+  pub moved_apart : (e : FixedEngine S) (f g : Files) (c : Contents) → AreApart (Only 0) f g → (HoldsIds e f c → HoldsIds e g c) × (Reopens f c → Reopens g c)
   moved_apart e f g c apart = (
     (λ h. record { ids = h.ids; is = h.is; holds_them = subst (λ bytes. holds e.fixed bytes h.ids) (main_apart f g apart) h.holds_them }),
     (λ r. ⊎_elim

@@ -5,10 +5,11 @@ use Rattle.std.specs.FinMap.{get}
 use Rattle.std.specs.Fmt.{decimal}
 use Rattle.tc_space.specs.Frames.{Reads, Refuses}
 use Rattle.tc_space.specs.Stores as stores
+use Rattle.tc_space.specs.Stores.{Only}
 use Rattle.tc_space.specs.declared.space.Space.{Ghosts}
 use Rattle.tc_model.specs.Arrays.{Array, id_of, named, number_named}
 use Rattle.tc_model.specs.Contents.{Contents, fixed}
-use Rattle.ty_base.specs.Holding.{Held, IsReady, log_stays}
+use Rattle.ty_base.specs.Holding.{Held, IsReady}
 use Rattle.tc_engine.specs.Changes.{Change}
 use Rattle.tc_engine.specs.Effects.{IsFull, Makes}
 use Rattle.tc_fixed.specs.declared.fixed.Fixed.{Fixed}
@@ -52,10 +53,10 @@ module _ {S : Type 0} (s : Ghosts S) where
   pub refuses_up : (e e' : FixedEngine S) (a b : S) → Refuses s (Means s) e.fixed e'.fixed a b → SameShape e.fixed e'.fixed → Refuses s (Held s HoldsIds) e e' a b
   refuses_up e e' a b refuses same = ⊎_elim (λ spoiled. inl spoiled) (λ reads. inr (reads_up e e' a b reads same)) refuses
 
-  pub made_up : (change : Change) (step : Step) (done : Bool) (e e' : FixedEngine S) (a b : S) → Takes s step done e.fixed e'.fixed a b → ((m : Array) → Means s e.fixed a m → IsStep e.fixed change step m) → Makes s HoldsIds change done e e' a b
+  pub made_up : (change : Change) (step : Step) (done : Bool) (e e' : FixedEngine S) (a b : S) → Takes s step done e.fixed e'.fixed a b → ((m : Array) → Means s e.fixed a m → IsStep e.fixed change step m) → Makes s (Only 0) HoldsIds change done e e' a b
   made_up change step done e e' a b takes is_step = record {
     sound = takes.sound;
-    log = log_stays s a b takes.others;
+    others = takes.others;
     made = λ yes c h.
         let made = takes.made yes h.1.ids (means_of e a c h) in
         (as_contents e.fixed made.0, ap change h.1.is ∙ (is_step h.1.ids (means_of e a c h)).is ∙ ap (option_map (λ n. as_contents e.fixed n)) made.1, held_again e e' b made.0 takes.shape made.2);

@@ -1,6 +1,9 @@
 //! A fixed-length database behind the trait of engines.
-#![tactic(auto, using(tc_space::specs::Frames::keeps_refl, tc_space::specs::Frames::reads_refl, tc_engine::specs::Rows::extends_refl, crate::specs::Lifting::ready_down, crate::specs::Lifting::reads_up, crate::specs::Lifting::refuses_up))]
+#![tactic(auto, using(tc_space::specs::Frames::keeps_refl, tc_space::specs::Frames::others_refl, tc_space::specs::Frames::reads_refl, tc_engine::specs::Rows::extends_refl, crate::specs::Lifting::ready_down, crate::specs::Lifting::reads_up, crate::specs::Lifting::refuses_up))]
 
+ghost use Rattle.std.proofs.Common.{inr};
+ghost use Rattle.tc_space.specs.Stores.{Only};
+ghost use Rattle.ty_base.specs.Holding.{main_no_log};
 ghost use Rattle.tc_fixeddb.specs.Holding.{Fills, HoldsIds, Lines, Reopens};
 ghost use Rattle.tc_fixeddb.specs.Laws.{moved_apart, never_table};
 
@@ -21,7 +24,11 @@ impl<S: Space> Storage for FixedEngine<S> {
 
     ghost reopens = { λ files c. Reopens files c };
 
+    ghost own = { λ file. Only 0 file };
+
     ghost fills = { λ space c d. Fills S.Space space c d };
+
+    ghost lacks_large = { λ space c. ⊥ };
 
     ghost lines = { λ files text. Lines files text };
 
@@ -29,7 +36,11 @@ impl<S: Space> Storage for FixedEngine<S> {
 
     ghost packed = { λ form files. Unit {0} };
 
+    ghost no_logs = { main_no_log };
+
     ghost apart = { λ e f g c same. moved_apart e f g c same };
+
+    ghost log_fills = { λ space c d full. inr full };
 
     fn kind(&self) -> Kind {
         Kind::Fixed

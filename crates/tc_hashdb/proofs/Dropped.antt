@@ -1,15 +1,13 @@
 -- Keys taken out, one after the other.
 use Rattle.std.proofs.Common.{◌≡◌, ◌∙◌, ℕ, ◌+◌, ◌<◌, List, length, take, ap, subst}
 use Rattle.std.proofs.Math.ListN.{get_or}
-use Rattle.tc_base.specs.Maps.{Map}
 use Rattle.tc_space.specs.Frames.{Writes, writes_then}
 use Rattle.tc_space.specs.Stores.{Only}
 use Rattle.tc_space.specs.declared.space.Space.{Ghosts}
 use Rattle.tc_hashdb.specs.declared.holding.HashEngine.{HashEngine}
 use Rattle.tc_hashdb.specs.Changing.{all_out, out_one}
-use Rattle.tc_hashdb.specs.Filling.{FillsMap}
 use Rattle.tc_hashdb.specs.Holding.{Means}
-use Rattle.tc_hashdb.proofs.Several.{fills_out, out_on}
+use Rattle.tc_hashdb.proofs.Several.{out_on}
 
 module _ {S : Type 0} (s : Ghosts S) where
   pub out_more : (v u w : HashEngine S) (a b c : S) (keys : List (List ℕ)) (i : ℕ) (key text : List ℕ) → i < length keys → key ≡ get_or keys i key → text ≡ key → Writes s (Only 0) (Means s) (all_out (take i keys)) v u a b → Writes s (Only 0) (Means s) (λ m. out_one m text) u w b c → Writes s (Only 0) (Means s) (all_out (take (i + 1) keys)) v w a c
@@ -20,6 +18,3 @@ module _ {S : Type 0} (s : Ghosts S) where
         others = both.others;
         means = λ m means. subst (λ n. Means s w c n) (ap (out_one (all_out (take i keys) m)) named ∙ out_on keys i key m lt is) (both.means m means);
       }
-
-  pub fills_dropped : (v u : HashEngine S) (a b c : S) (keys : List (List ℕ)) (i : ℕ) (key text : List ℕ) → text ≡ key → Writes s (Only 0) (Means s) (all_out (take i keys)) v u a b → ((m : Map) → Means s u b m → FillsMap s c m (out_one m text)) → (m : Map) → Means s v a m → FillsMap s c m (all_out keys m)
-  fills_dropped v u a b c keys i key text named first full m means = fills_out (s.limit c 0) (length (s.now c 0)) (s.log_full c) keys i m (all_out keys m) text (full (all_out (take i keys) m) (first.means m means))

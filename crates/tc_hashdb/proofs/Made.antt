@@ -9,7 +9,9 @@ use Rattle.tc_base.specs.declared.kind.Kind.TheVariants as kinds
 use Rattle.tc_maps.specs.Sizes.{size_of}
 use Rattle.tc_maps.proofs.Bytes.{size-empty}
 use Rattle.tc_space.specs.declared.space.Space.{Ghosts}
-use Rattle.ty_base.specs.Opening.{CanOpen, CreatesAs, IsCreated, IsOpened, OpensFor, OpensTo}
+use Rattle.ty_base.specs.Opening.{CanOpen, CreatesAs, IsCreated, IsOpened, OpensFor, OpensTo, OpensUsable}
+use Rattle.tc_space.specs.Stores.{Only}
+use Rattle.ty_base.specs.Holding.{StaysUsable}
 use Rattle.ty_base.proofs.Refusals.{no_bytes}
 use Rattle.hf_head.specs.declared.head.Head.{Head}
 use Rattle.hf_head.specs.Heads.{head_in}
@@ -21,7 +23,6 @@ use Rattle.tc_hash.specs.Settling.{IsBrought}
 use Rattle.tc_hash.specs.Standing.{StandsWith}
 use Rattle.tc_model.specs.Contents.{Contents, hash}
 use Rattle.tc_hashdb.specs.declared.holding.HashEngine.{HashEngine}
-use Rattle.tc_hashdb.specs.Filling.{Fills}
 use Rattle.tc_hashdb.specs.Holding.{HoldsKeys, Reopens}
 use Rattle.tc_hashdb.specs.Shapes.{IsNewIn, Lacks, Shaped, anew, usual}
 use Rattle.tc_hashdb.specs.declared.shape.HashShape.{HashShape}
@@ -63,8 +64,9 @@ module _ {S : Type 0} (s : Ghosts S) where
   all_opened (Ok e) kind a b none created = λ t. made_opened e kind a b (none t) (created t)
   all_opened (Err x) kind a b none created = tt
 
-  pub made_full : (b : S) → Lacks s b usual → Fills s b (hash false empty) (hash false empty)
-  made_full b lacks = inr (refl, lacks)
+  pub made_usual : {E : Type 0} (r : Result (HashEngine S) E) (a b : S) → IfOk r (λ e. CreatesAs s Reopens HoldsKeys Shaped e (anew usual) usual b) → OnOk r (StaysUsable s (Only 0) a b) → OnOk r (OpensUsable s (Only 0) (Shaped usual) a b)
+  made_usual (Ok e) a b created usable = record { sound = usable.sound; others = usable.others; made = λ t none. (created t).numbers }
+  made_usual (Err x) a b created usable = tt
 
   pub main_opens : (h : Hash S) (kind : Kind) (a : S) → kinds.Hash ≡ kind → (m : Map) × StandsWith 0 (s.now a 0) m h.region → (c : Contents) × OpensTo kind Reopens (s.now a) c
   main_opens h kind a is stood = (hash false stood.0, record { kind_is = is; stand = inr (record { map = stood.0; is = refl; stands = stood.1.is }) })

@@ -1,25 +1,37 @@
 -- A packing keeps what is held, and a limit that it meets is one of the database.
-use Rattle.std.proofs.Common.{◌≡◌, sym, subst, inl, inr, ⊎_elim}
+use Rattle.std.proofs.Common.{◌≡◌, ◌⊎◌, ◌+◌, ◌<◌, ℕ, List, length, sym, ap, subst, inl, inr, ⊎_elim}
+use Rattle.std.specs.FinMap.{keys}
+use Rattle.tc_base.specs.Files.{Files}
+use Rattle.tc_base.specs.Maps.{Map}
+use Rattle.tc_base.specs.declared.seq.Pair.{Pair}
 use Rattle.tc_base.specs.declared.kind.Form.{Form}
 use Rattle.tc_base.specs.declared.kind.Form.TheVariants as forms
 use Rattle.tc_space.specs.Changes.{same}
 use Rattle.tc_space.specs.Frames.{In, Refuses, Writes}
-use Rattle.tc_space.specs.Stores.{FullBy, Only}
+use Rattle.tc_space.specs.Stores.{Only}
 use Rattle.tc_space.specs.declared.space.Space.{Ghosts}
-use Rattle.ty_base.specs.Holding.{Held, IsReady}
+use Rattle.hf_head.specs.declared.head.Head.{Head}
+use Rattle.hf_head.specs.Heads.{unit}
+use Rattle.hf_block.specs.Written.{block_len}
+use Rattle.hf_pool.specs.Pools.{frees}
+use Rattle.hf_tree.specs.Links.{width}
+use Rattle.hf_record.specs.Holding.{HasMap}
+use Rattle.hf_record.specs.Moves.{IsRefusedFor}
+use Rattle.ty_base.specs.Holding.{Held, IsPast, IsReady}
+use Rattle.tc_hash.specs.Holding.{IsNumbered}
 use Rattle.tc_hash.specs.Keeping.{file_of, holds}
-use Rattle.tc_hash.specs.Packing.{StaysNumbered, fills_packing}
+use Rattle.tc_hash.specs.Packing.{ArePairs, LacksLarge as LacksIts, LacksOne, LacksPacking, StaysNumbered, blocks_long}
 use Rattle.tc_model.specs.Contents.{Contents}
 use Rattle.tc_hashdb.specs.declared.holding.HashEngine.{HashEngine}
-use Rattle.tc_hashdb.specs.Filling.{Fills}
-use Rattle.tc_hashdb.specs.Holding.{HoldsKeys}
+use Rattle.tc_hashdb.specs.Filling.{LacksLarge, LacksLargeAt, LacksLargeOf, LacksOne as LacksOneOf}
+use Rattle.tc_hashdb.specs.Holding.{HoldsKeys, Means}
 use Rattle.tc_hashdb.specs.Lifting.{held_again, means_of, ready_down, refuses_up}
 use Rattle.tc_hashdb.proofs.Kept.{Counts, in_of, means_again, writes_again}
 
 module _ {S : Type 0} (s : Ghosts S) where
   pub packed_up : (e e' : HashEngine S) (a b : S) → IsReady s HoldsKeys e a → Writes s (Only (file_of e.hash)) (In s file_of holds) same e.hash e'.hash a b → StaysNumbered e.hash e'.hash → e'.total ≡ e.total → (c : Contents) → Held s HoldsKeys e a c → Held s HoldsKeys e' b c
   packed_up e e' a b ready writes stays total c h =
-      let again = writes_again s same e e' a b (ready_down s e a ready) writes stays.map.file stays.kind (λ m means. subst (λ o. Counts o m) (sym total) means.1.counted) in
+      let again = writes_again s same e e' a b (ready_down s e a ready) writes stays.map.file stays.map.sort_same (λ m means. subst (λ o. Counts o m) (sym total) means.1.counted) in
       subst (λ d. Held s HoldsKeys e' b d) (sym h.1.is) (held_again s e' b h.1.map (again.means h.1.map (means_of s e a c h)))
 
   pub pack_refused : (e e' : HashEngine S) (a b : S) → Refuses s (In s file_of holds) e.hash e'.hash a b → StaysNumbered e.hash e'.hash → e'.total ≡ e.total → Refuses s (Held s HoldsKeys) e e' a b
@@ -29,12 +41,49 @@ module _ {S : Type 0} (s : Ghosts S) where
         now = reads.now;
         touched = reads.touched;
         sound = reads.sound;
-        means = λ m means. means_again s e e' a b m m means stays.map.file stays.kind (reads.means m (in_of s e a m means)) (subst (λ o. Counts o m) (sym total) means.1.counted);
+        means = λ m means. means_again s e e' a b m m means stays.map.file stays.map.sort_same (reads.means m (in_of s e a m means)) (subst (λ o. Counts o m) (sym total) means.1.counted);
       }))
       refused)
 
-  pub pack_full : (form : Form) (e : HashEngine S) (a b : S) → forms.Keep ≡ form → FullBy (In s file_of holds) (fills_packing form s) same e.hash a b → (c : Contents) → Held s HoldsKeys e a c → Fills s b c c
-  pack_full form e a b keep full c h =
-      let means = means_of s e a c h in
-      let log = subst (λ f. fills_packing f s e.hash b h.1.map h.1.map) (sym keep) (full.by h.1.map (in_of s e a h.1.map means)) in
-      subst (λ d. Fills s b d d) (sym h.1.is) (inl (inl log))
+  lacks_one : (limit long f : ℕ) (b : S) (head : Head) (m : Map) (pairs : List Pair) → s.limit b f ≡ limit → length (s.now b f) ≡ long → ArePairs m (keys m) pairs → LacksOne s head f head.first b pairs → LacksOneOf limit long head m
+  lacks_one limit long f b head m pairs is_limit is_long are one = record {
+    pairs = pairs;
+    are = are;
+    before = one.before;
+    pair = one.pair;
+    after = one.after;
+    parts = one.are;
+    free = one.lacks.free;
+    nothing = one.lacks.nothing;
+    refused = subst (λ (n : ℕ). IsRefusedFor head (head.first + blocks_long head one.before) one.lacks.free n long (block_len (width head) one.pair.key one.pair.value (unit head))) is_limit
+        (subst (λ (n : ℕ). IsRefusedFor head (head.first + blocks_long head one.before) one.lacks.free (s.limit b f) n (block_len (width head) one.pair.key one.pair.value (unit head))) is_long one.lacks.refused);
+  }
+
+  -- written anew in the large form it had no room
+  large_up : (e : HashEngine S) (a b : S) (m : Map) → e.hash.body.file ≡ 0 → Means s e a m → LacksIts s e.hash a b → LacksLargeAt (s.limit b 0) (length (s.now b 0)) (s.now a 0) m
+  large_up e a b m file means lacks =
+      let has = subst (λ (f : ℕ). HasMap e.hash.body.head e.hash.body.pool.size (frees e.hash.body.pool) m (s.now a f)) file (in_of s e a m means).1.map.has in
+      let numbers = subst (λ (f : ℕ). IsNumbered e.hash.body.head (s.now a f)) file (in_of s e a m means).1.numbers in
+      ⊎_elim
+      (λ x. record { own = e.hash.body.head; numbers = numbers; pool = e.hash.body.pool; has = has; head = x.head; is_new = x.is_new; lacks = ⊎_elim (λ less. inl (subst (λ (f : ℕ). s.limit b f < x.head.first) file less)) (λ wide. inr (inl wide)) x.lacks })
+      (λ x. record {
+        own = e.hash.body.head;
+        numbers = numbers;
+        pool = e.hash.body.pool;
+        has = has;
+        head = x.head;
+        is_new = x.is_new;
+        lacks = inr (inr (lacks_one (s.limit b 0) (length (s.now b 0)) e.hash.body.file b x.head m x.pairs (ap (λ (f : ℕ). s.limit b f) file) (ap (λ (f : ℕ). length (s.now b f)) file) (x.are m (in_of s e a m means)) x.one));
+      })
+      lacks
+
+  pub pack_full : (form : Form) (e : HashEngine S) (a b : S) → (s.tells → IsPast s a b) → (s.tells → LacksPacking form s e.hash a b) → (c : Contents) → Held s HoldsKeys e a c → s.log_full b ⊎ ((form ≡ forms.Large) × LacksLarge s b c)
+  pack_full form e a b past full c h =
+      let m : Map = h.1.map in
+      let p = past h.0 in
+      let of : LacksIts s e.hash a b → LacksLargeOf (s.limit b 0) (length (s.now b 0)) (s.files_at b) (s.moment b) m = λ lacks. record {
+        at = s.moment a;
+        within = p.later;
+        lacks = subst (λ (files : Files). LacksLargeAt (s.limit b 0) (length (s.now b 0)) (files 0) m) (sym p.files) (large_up e a b m h.1.holds_map.file (means_of s e a c h) lacks);
+      } in
+      ⊎_elim (λ log. inl log) (λ large. inr (large.0, subst (λ d. LacksLarge s b d) (sym h.1.is) (of large.1))) (full h.0)

@@ -15,7 +15,7 @@ use Rattle.tc_space.specs.Stores.{IsReady, Only, ready_writes}
 use Rattle.tc_space.specs.declared.space.Space.{Ghosts}
 use Rattle.tc_hashdb.specs.declared.holding.HashEngine.{HashEngine}
 use Rattle.tc_hashdb.specs.Changing.{all_set, last_values, set_entries, set_one}
-use Rattle.tc_hashdb.specs.Filling.{FillsMap}
+use Rattle.tc_hashdb.specs.Filling.{FillsKey, FillsMap}
 use Rattle.tc_hashdb.specs.Holding.{Means}
 use Rattle.tc_hashdb.proofs.Several.{all_entries, fills_on, last_set, set_next}
 
@@ -60,11 +60,11 @@ module _ {S : Type 0} (s : Ghosts S) where
       (sym (append-nil h.done) ∙ (ap (λ l. h.done ++ l) (sym none) ∙ (sym h.split ∙ (is ∙ all_entries m))))
       h.writes
 
-  pub set_full : (v u : HashEngine S) (a b c : S) (all rest next : List Entry) (e : Entry) (key value : List ℕ) (n : Map) (h : SetSoFar v u a b all rest) → rest ≡ e ∷ next → key ≡ e.0 → value ≡ e.1 → all ≡ entries_on [] n → IsStrictlySortedBy lexical (keys_of all) → ((m : Map) → Means s u b m → FillsMap s c m (set_one m key value)) → (m : Map) → Means s v a m → FillsMap s c m (set_entries m (entries n))
+  pub set_full : (v u : HashEngine S) (a b c : S) (all rest next : List Entry) (e : Entry) (key value : List ℕ) (n : Map) (h : SetSoFar v u a b all rest) → rest ≡ e ∷ next → key ≡ e.0 → value ≡ e.1 → all ≡ entries_on [] n → IsStrictlySortedBy lexical (keys_of all) → ((m : Map) → Means s u b m → FillsKey s c m key value) → (m : Map) → Means s v a m → FillsMap s c m (set_entries m (entries n))
   set_full v u a b c all rest next e key value n h is key_is value_is all_is rising full m means =
       subst (λ l. FillsMap s c m (set_entries m l)) (all_is ∙ all_entries n)
-      (fills_on (s.limit c 0) (length (s.now c 0)) (s.log_full c) all h.done next e m rising (h.split ∙ ap (λ l. h.done ++ l) is)
-      (subst (λ x. FillsMap s c (set_entries m h.done) x) (λ i. set_one (set_entries m h.done) (key_is i) (value_is i)) (full (set_entries m h.done) (h.writes.means m means))))
+      (fills_on (s.limit c 0) (length (s.now c 0)) (s.log_full c) (s.files_at c) (s.moment c) all h.done next e m rising (h.split ∙ ap (λ l. h.done ++ l) is)
+      (subst (λ k. FillsKey s c (set_entries m h.done) k e.1) key_is (subst (λ w. FillsKey s c (set_entries m h.done) key w) value_is (full (set_entries m h.done) (h.writes.means m means)))))
 
   -- ---- the last value of each key
 

@@ -1,5 +1,5 @@
 -- The file stands for the contents once they are settled.
-use Rattle.std.proofs.Common.{◌≡◌, ◌∙◌, inl, inr, sym, ap, subst}
+use Rattle.std.proofs.Common.{◌≡◌, ◌∙◌, inr, sym, ap, subst}
 use Rattle.std.specs.FinMap.{get}
 use Rattle.tc_base.specs.Maps.{Map}
 use Rattle.tc_base.specs.declared.kind.Form.{Form}
@@ -16,7 +16,6 @@ use Rattle.tc_hash.specs.Settling.{Brought, Settles}
 use Rattle.tc_hash.proofs.Tight.{packed_of, still_none}
 use Rattle.tc_model.specs.Contents.{Contents}
 use Rattle.tc_hashdb.specs.declared.holding.HashEngine.{HashEngine}
-use Rattle.tc_hashdb.specs.Filling.{Fills}
 use Rattle.tc_hashdb.specs.Holding.{HoldsKeys, Means, Reopens}
 use Rattle.tc_hashdb.specs.Lifting.{held_again, means_of, refuses_up}
 use Rattle.tc_hashdb.proofs.Kept.{Counts, in_of, means_again, refuses_again}
@@ -46,6 +45,3 @@ module _ {S : Type 0} (s : Ghosts S) where
 
   pub settle_refused : (e e' : HashEngine S) (a b : S) → e'.hash.body.file ≡ e.hash.body.file → e'.hash.body.head ≡ e.hash.body.head → e'.total ≡ e.total → Refused s e.hash e'.hash a b → Refuses s (Held s HoldsKeys) e e' a b
   settle_refused e e' a b file head total refused = refuses_up s e e' a b (refuses_again s e e' a b refused file head total)
-
-  pub settle_full : (e : HashEngine S) (a b : S) → (s.tells → s.log_full b) → (c : Contents) → Held s HoldsKeys e a c → Fills s b c c
-  settle_full e a b full c h = subst (λ d. Fills s b d d) (sym h.1.is) (inl (inl (full h.0)))

@@ -1,5 +1,5 @@
 -- Many keys, one after the other.
-use Rattle.std.proofs.Common.{◌≡◌, ◌∙◌, ◌⊎◌, inl, inr, ⊎_elim, ℕ, zero, suc, ◌+◌, ◌<◌, Bool, true, false, cond, ◌&&◌, List, [], ◌∷◌, ◌++◌, length, take, refl, sym, ap, subst, arith, append_assoc}
+use Rattle.std.proofs.Common.{◌≡◌, ◌∙◌, ◌⊎◌, inl, inr, ⊎_elim, ℕ, zero, suc, ◌+◌, ◌<◌, Bool, true, false, cond, ◌&&◌, List, [], ◌∷◌, ◌++◌, length, take, refl, sym, ap, subst, arith}
 use Rattle.std.specs.Prelude.{Option, Some, None, option_map, option_and_then, is_some, unwrap_or, fold, filter}
 use Rattle.std.specs.List.{AllByRecursion, list_all}
 use Rattle.std.specs.List.Sorted.{IsStrictlySortedBy}
@@ -8,11 +8,13 @@ use Rattle.std.specs.declared.cmp.Ordering.{Ordering}
 use Rattle.std.specs.declared.cmp.Ordering.TheVariants.{Less, Equal, Greater}
 use Rattle.std.specs.Ordering.{eq_by_cmp, is_eq, is_ge, nat_cmp}
 use Rattle.std.specs.Cmp.Lexicographic.{nat_list_cmp_total, slice_cmp}
-use Rattle.std.specs.FinMap.{empty, entries, find, get, get-empty, get-entries, get-insert, get-remove, insert, remove, same_map}
+use Rattle.std.specs.FinMap.{empty, entries, find, get, get-empty, get-entries, get-insert, insert, remove, same_map}
+use Rattle.std.proofs.lemmas.Cmp.{tied_itself}
 use Rattle.std.proofs.lemmas.List.Sums.{fold-append}
 use Rattle.std.proofs.lemmas.Map.Keys.{sorted_head, sorted_tail}
 use Rattle.std.proofs.lemmas.Map.Lookups.{exact_bytes}
 use Rattle.std.proofs.Math.ListN.{get_or}
+use Rattle.tc_base.specs.Files.{Files}
 use Rattle.tc_base.specs.Maps.{Map}
 use Rattle.tc_base.specs.Orders.{lexical}
 use Rattle.tc_base.specs.declared.kind.Mode.TheVariants.{Over}
@@ -22,7 +24,7 @@ use Rattle.tc_model.specs.Contents.{Contents, hash}
 use Rattle.tc_model.specs.Stores.{clear, put_last, store}
 use Rattle.tc_engine.specs.Changes.{all_pushed, all_stored}
 use Rattle.tc_hashdb.specs.Changing.{all_out, all_set, is_short, last_values, out_one, set_entries, set_one}
-use Rattle.tc_hashdb.specs.Filling.{FillsBy}
+use Rattle.tc_hashdb.specs.Filling.{FillsBy, WantsAt}
 
 abbrev Entry : Type 0
 Entry = List ℕ × List ℕ
@@ -132,62 +134,44 @@ once_front : (es fs : List Entry) → Once (es ++ fs) → Once es
 once_front [] fs once = tt
 once_front (e ∷ es) fs once = (find_fewer e.0 es fs once.0, once_front es fs once.1)
 
-over_which : (a b : Option (List ℕ)) (v : List ℕ) → over a b ≡ Some v → (a ≡ Some v) ⊎ (b ≡ Some v)
-over_which None b v is = inr is
-over_which (Some w) b v is = inl is
+-- a key on the way has what it had before, or what it has in the end
+on_the_way : (es fs : List Entry) (m : Map) (q : List ℕ) → Once (es ++ fs) → (get (set_entries m es) q ≡ get m q) ⊎ (get (set_entries m es) q ≡ get (set_entries m (es ++ fs)) q)
+on_the_way es fs m q once = go (find order q es) refl
+  where
+    here : get (set_entries m es) q ≡ over (find order q es) (get m q)
+    here = once_over es m q (once_front es fs once)
 
-on_the_way : (es fs : List Entry) (m : Map) (q v : List ℕ) → Once (es ++ fs) → get (set_entries m es) q ≡ Some v → (get m q ≡ Some v) ⊎ (get (set_entries m (es ++ fs)) q ≡ Some v)
-on_the_way es fs m q v once is = ⊎_elim
-    (λ found. inr (once_over (es ++ fs) m q once ∙ ap (λ o. over o (get m q)) (find_front q v es fs found)))
-    (λ before. inl before)
-    (over_which (find order q es) (get m q) v (sym (once_over es m q (once_front es fs once)) ∙ is))
+    go : (o : Option (List ℕ)) → find order q es ≡ o → (get (set_entries m es) q ≡ get m q) ⊎ (get (set_entries m es) q ≡ get (set_entries m (es ++ fs)) q)
+    go None is = inl (here ∙ ap (λ o. over o (get m q)) is)
+    go (Some v) is = inr (here ∙ ap (λ o. over o (get m q)) is ∙ sym (once_over (es ++ fs) m q once ∙ ap (λ o. over o (get m q)) (find_front q v es fs is)))
 
-either : {A B C : Type 0} → (A → C) → (B → C) → A ⊎ B → C
-either f g x = ⊎_elim f g x
+same_key : (k : List ℕ) → eq_by_cmp order k k ≡ true
+same_key k = rw (tied_itself nat_list_cmp_total k) refl
+
+find_at : (es : List Entry) (e : Entry) (fs : List Entry) → Once (es ++ e ∷ fs) → find order e.0 (es ++ e ∷ fs) ≡ Some e.1
+find_at [] e fs once = ap (λ b. cond b (Some e.1) (find order e.0 fs)) (same_key e.0)
+find_at (x ∷ es) e fs once = elim (order e.0 x.0) as (λ r. order e.0 x.0 ≡ r → cond (is_eq r) (Some x.1) (find order e.0 (es ++ e ∷ fs)) ≡ Some e.1) [
+  | Less ↦ λ is. find_at es e fs once.1
+  | Equal ↦ λ is. absurd (let never = sym (subst (λ k. find order k (es ++ e ∷ fs) ≡ Some e.1) (exact_bytes e.0 x.0 is) (find_at es e fs once.1)) ∙ once.0 in cc)
+  | Greater ↦ λ is. find_at es e fs once.1
+] refl
 
 pub set_next : (es : List Entry) (e : Entry) (m : Map) → set_entries m (es ++ e ∷ []) ≡ set_one (set_entries m es) e.0 e.1
 set_next es e m = fold-append (λ (n : Map) (e : Entry). set_one n e.0 e.1) m es (e ∷ [])
 
 -- those that were set, the next one, and those behind it
-pub fills_on : (limit long : ℕ) (log : Type 0) (all es fs : List Entry) (e : Entry) (m : Map) → IsStrictlySortedBy order (keys_of all) → all ≡ es ++ e ∷ fs → FillsBy limit long log (set_entries m es) (set_one (set_entries m es) e.0 e.1) → FillsBy limit long log m (set_entries m all)
-fills_on limit long log all es fs e m rising is (inl full) = inl full
-fills_on limit long log all es fs e m rising is (inr wants) =
-    let once : Once all = rising_once all rising in
-    let next : all ≡ (es ++ e ∷ []) ++ fs = is ∙ sym (append_assoc es (e ∷ []) fs) in
+pub fills_on : (limit long : ℕ) (log : Type 0) (past : ℕ → Files) (moment : ℕ) (all es fs : List Entry) (e : Entry) (m : Map) → IsStrictlySortedBy order (keys_of all) → all ≡ es ++ e ∷ fs → log ⊎ WantsAt limit long past moment (set_entries m es) e.0 e.1 → FillsBy limit long log past moment m (set_entries m all)
+fills_on limit long log past moment all es fs e m rising is (inl full) = inl full
+fills_on limit long log past moment all es fs e m rising is (inr wants) =
+    let once : Once (es ++ e ∷ fs) = subst Once is (rising_once all rising) in
     inr (record {
-      key = wants.key;
-      value = wants.value;
-      there = either
-          (λ before. ⊎_elim (λ first. inl first) (λ last. inr (ap (λ l. get (set_entries m l) wants.key) is ∙ last)) (on_the_way es (e ∷ fs) m wants.key wants.value (subst Once is once) before))
-          (λ after. ⊎_elim (λ first. inl first) (λ last. inr (ap (λ l. get (set_entries m l) wants.key) next ∙ last)) (on_the_way (es ++ e ∷ []) fs m wants.key wants.value (subst Once next once) (ap (λ n. get n wants.key) (set_next es e m) ∙ after)))
-          wants.there;
-      wants = wants.wants;
+      held = set_entries m es;
+      between = λ k. ⊎_elim (λ first. inl first) (λ last. inr (last ∙ sym (ap (λ l. get (set_entries m l) k) is))) (on_the_way es (e ∷ fs) m k once);
+      key = e.0;
+      value = e.1;
+      there = ap (λ l. get (set_entries m l) e.0) is ∙ once_over (es ++ e ∷ fs) m e.0 once ∙ ap (λ o. over o (get m e.0)) (find_at es e fs once);
+      wants = wants;
     })
-
-removed_less : (m : Map) (k q v : List ℕ) → get (remove m k) q ≡ Some v → get m q ≡ Some v
-removed_less m k q v is = elim (eq_by_cmp order q k) as (λ b. cond b None (get m q) ≡ Some v → get m q ≡ Some v) [
-  | true ↦ λ never. absurd (let x = never in cc)
-  | false ↦ λ is. is
-] (sym (get-remove nat_list_cmp_total m k q) ∙ is)
-
-pub out_less : (m : Map) (k q v : List ℕ) → get (out_one m k) q ≡ Some v → get m q ≡ Some v
-out_less m k q v is = elim (is_some (get m k)) as (λ b. get (unwrap_or (cond b (Some (remove m k)) None) m) q ≡ Some v → get m q ≡ Some v) [
-  | true ↦ λ is. removed_less m k q v is
-  | false ↦ λ is. is
-] is
-
-all_less : (ks : List (List ℕ)) (m : Map) (q v : List ℕ) → get (all_out ks m) q ≡ Some v → get m q ≡ Some v
-all_less [] m q v is = is
-all_less (k ∷ ks) m q v is = out_less m k q v (all_less ks (out_one m k) q v is)
-
-pub fills_out : (limit long : ℕ) (log : Type 0) (ks : List (List ℕ)) (i : ℕ) (m d : Map) (k : List ℕ) → FillsBy limit long log (all_out (take i ks) m) (out_one (all_out (take i ks) m) k) → FillsBy limit long log m d
-fills_out limit long log ks i m d k (inl full) = inl full
-fills_out limit long log ks i m d k (inr wants) = inr (record {
-  key = wants.key;
-  value = wants.value;
-  there = inl (all_less (take i ks) m wants.key wants.value (either (λ before. before) (λ after. out_less (all_out (take i ks) m) k wants.key wants.value after) wants.there));
-  wants = wants.wants;
-})
 
 -- ---- one more
 

@@ -13,7 +13,7 @@ use Rattle.tc_space.specs.declared.space.Space.{Ghosts}
 use Rattle.tc_hash.specs.declared.hash.Hash.{Hash}
 use Rattle.tc_hash.specs.declared.put.Put.{Put}
 use Rattle.tc_hash.specs.declared.put.Put.TheVariants as put
-use Rattle.tc_hash.specs.Keeping.{SameShape, StaysOpen, file_of, gets_of, holds, region_of}
+use Rattle.tc_hash.specs.Keeping.{SameShape, StaysOpen, file_of, gets_of, holds, region_of, sort_of}
 use Rattle.tc_hash.specs.Putting.{Answers, LacksWithin, StoresWithin, TakesLen}
 use Rattle.tc_model.specs.Maps.{with_value, without}
 use Rattle.tc_hashdb.specs.declared.holding.HashEngine.{HashEngine}
@@ -22,6 +22,7 @@ use Rattle.tc_hashdb.specs.Counting.{IsCountedWithout}
 use Rattle.tc_hashdb.specs.Filling.{FillsMap}
 use Rattle.tc_hashdb.specs.Holding.{Means}
 use Rattle.tc_hashdb.proofs.Counted.{counts_out}
+use Rattle.ty_base.specs.Holding.{IsPast}
 use Rattle.tc_hashdb.proofs.Filled.{fills_up}
 use Rattle.tc_hashdb.proofs.Kept.{Counts, in_of, reads_again, writes_again}
 
@@ -104,12 +105,12 @@ module _ {S : Type 0} (s : Ghosts S) where
   pub stored_so : (mode : Mode) (key value : List ℕ) (most : ℕ) (p : Put) (was : Option ℕ) (h h' : Hash S) (a b : S) → p ≡ put.Stored was → Answers s mode key value most p h h' a b → StoresWithin s mode key value most was h h' a b
   stored_so mode key value most p was h h' a b e x = subst (λ q. Answers s mode key value most q h h' a b) e x
 
-  pub lacks_put : (mode : Mode) (key value : List ℕ) (v : HashEngine S) (a b : S) → LacksWithin s mode key value 16777216 v.hash a b → LacksRoomFor s (stored_in mode key value) v a b
-  lacks_put mode key value v a b lacks = record {
+  pub lacks_put : (mode : Mode) (key value : List ℕ) (v : HashEngine S) (a b : S) → (s.tells → IsPast s a b) → LacksWithin s mode key value 16777216 v.hash a b → LacksRoomFor s (stored_in mode key value) v a b
+  lacks_put mode key value v a b past lacks = record {
     by = λ m means.
         let held = in_of s v a m means in
-        subst (λ n. FillsMap s b m n) (sym (ap (λ o. unwrap_or o m) (stored_put mode m key value (λ keep. lacks.may.free keep m held) (lacks.may.fits m held))))
-        (fills_up s mode key value v.hash a b m means.1.file held lacks.lacks);
+        subst (λ n. FillsMap s b m n) (sym (ap (λ o. unwrap_or o m) (stored_put mode m key value (λ keep. lacks.lacks.free keep m held) (lacks.fits m held))))
+        (fills_up s mode key value v.hash a b m means.1.file held (past means.0) lacks.lacks.block);
   }
 
   -- ---- outs
@@ -122,7 +123,7 @@ module _ {S : Type 0} (s : Ghosts S) where
   pub takes_none : (key : List ℕ) (v w : HashEngine S) (a b : S) → TakesLen s key None v.hash w.hash a b → StaysOpen v.hash w.hash → w.total ≡ v.total → Takes s (λ m. without m key) false v w a b
   takes_none key v w a b takes stays total = takes_nothing (λ m. without m key) v w a b (reads_again s v w a b (takes.out.none refl) stays.map.file stays.head total) (λ m means. held_false key m false (takes.out.held m (in_of s v a m means)) refl)
 
-  pub takes_cleared : (v w : HashEngine S) (a b : S) → IsReady s (Means s) v a → Writes s (Only (file_of v.hash)) (In s file_of holds) (λ m. empty) v.hash w.hash a b → StaysMap file_of region_of gets_of v.hash w.hash → SameShape v.hash w.hash → w.total ≡ Some 0 → Takes s (λ m. Some empty) true v w a b
+  pub takes_cleared : (v w : HashEngine S) (a b : S) → IsReady s (Means s) v a → Writes s (Only (file_of v.hash)) (In s file_of holds) (λ m. empty) v.hash w.hash a b → StaysMap file_of sort_of region_of gets_of v.hash w.hash → SameShape v.hash w.hash → w.total ≡ Some 0 → Takes s (λ m. Some empty) true v w a b
   takes_cleared v w a b ready writes stays shape total = takes_of (λ m. Some empty) (λ m. empty) v w a b
       (writes_again s (λ m. empty) v w a b ready writes stays.file shape.kind (λ m means. subst (λ o. Counts o empty) (sym total) (sym size-empty)))
       (λ m means. refl)

@@ -12,7 +12,7 @@ use Rattle.tc_hash.proofs.Kept.{reaches}
 use Rattle.tc_model.specs.Contents.{Contents}
 use Rattle.ty_base.specs.Holding.{Held}
 use Rattle.tc_hashdb.specs.declared.holding.HashEngine.{HashEngine}
-use Rattle.tc_hashdb.specs.Holding.{HoldsKeys, HoldsMap, Reopens}
+use Rattle.tc_hashdb.specs.Holding.{HoldsKeys, HoldsCounted, Reopens}
 use Rattle.tc_engine.specs.Lines.{line}
 use Rattle.tc_hashdb.specs.Informing.{form_line, lines_of}
 
@@ -22,7 +22,7 @@ module _ {S : Type 0} (s : Ghosts S) where
     now = reads.files;
     touched = reads.untouched;
     sound = reads.is_sound;
-    means = λ c h. (h.0, record { map = h.1.map; is = h.1.is; holds_map = subst (λ bytes. HoldsMap e bytes h.1.map) (sym (reads.files h.0 0)) h.1.holds_map });
+    means = λ c h. (h.0, record { map = h.1.map; is = h.1.is; holds_map = subst (λ bytes. HoldsCounted e bytes h.1.map) (sym (reads.files h.0 0)) h.1.holds_map });
   }
 
   pub only_refuses_up : (e : HashEngine S) (a b : S) → OnlyReads s a b → Refuses s (Held s HoldsKeys) e e a b

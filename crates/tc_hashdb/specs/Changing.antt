@@ -27,12 +27,6 @@ stored_in Over key value m = with_value m key value
 stored_in Keep key value m = if is_some (get m key) then None else with_value m key value
 stored_in Cat key value m = with_value m key (unwrap_or (get m key) [] ++ value)
 
--- how a value is put where nothing stands against it
-abbrev pub put_as : Mode → Mode
-put_as Over = Over
-put_as Keep = Over
-put_as Cat = Cat
-
 -- the length of the value that a put gives, where that of the old one and that of the new bytes are these
 abbrev pub len_after : Mode → Option ℕ → ℕ → ℕ
 len_after Over old more = more

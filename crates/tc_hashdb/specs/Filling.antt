@@ -1,46 +1,120 @@
 -- When a limit is reached.
-use Rattle.std.specs.Prelude.{◌≡◌, ◌⊎◌, ℕ, ◌^◌, ◌<◌, ◌≤◌, List, length, Some}
-use Rattle.std.specs.FinMap.{empty, get}
+use Rattle.std.specs.Prelude.{◌≡◌, ◌⊎◌, ◌++◌, ◌∷◌, ◌+◌, ℕ, ◌^◌, ◌<◌, ◌≤◌, true, List, length, Option, Some, None}
+use Rattle.std.specs.FinMap.{get, keys}
+use Rattle.tc_base.specs.Files.{Files}
 use Rattle.tc_base.specs.Maps.{Map}
+use Rattle.tc_base.specs.declared.seq.Pair.{Pair}
 use Rattle.tc_space.specs.declared.space.Space.{Ghosts}
 use Rattle.hf_head.specs.declared.head.Head.{Head}
 use Rattle.hf_head.specs.Heads.{unit}
 use Rattle.hf_block.specs.Written.{block_len}
 use Rattle.hf_layout.specs.Frees.{Frees}
+use Rattle.hf_pool.specs.declared.pool.Pool.{Pool}
+use Rattle.hf_pool.specs.Pools.{frees}
 use Rattle.hf_tree.specs.Links.{width}
+use Rattle.hf_record.specs.Allocating.{Stands, TakesFrom}
 use Rattle.hf_record.specs.Fields.{HasFields}
 use Rattle.hf_record.specs.Filling.{IsTooFar, IsTooLong}
+use Rattle.hf_record.specs.Holding.{HasMap}
+use Rattle.hf_record.specs.Moves.{IsRefusedFor}
+use Rattle.tc_hash.specs.Creating.{IsNew}
+use Rattle.tc_hash.specs.Holding.{IsNumbered}
+use Rattle.tc_hash.specs.Packing.{ArePairs, blocks_long}
 use Rattle.tc_model.specs.Contents.{Contents, hash}
-use Rattle.tc_hashdb.specs.Shapes.{LacksSections, usual}
 
--- in a file of so many bytes, where the blocks end, none was to be had for a record: it is larger than a block may be, or no free block is large enough
--- and the file would pass its limit, or no chain can name the place
-pub record WantsBlock (limit long : ℕ) (key value : List ℕ) : Type 0 where
+-- in a file of these bytes, with these free blocks, or with the block given back that the key's record had, too small for it, none has so many bytes: the
+-- place for it is too far, or the file, which now has so many and in which the blocks end, grows too long by it
+pub record LacksFree (limit long : ℕ) (bytes : List ℕ) (head : Head) (own : Pool) (held : Map) (key : List ℕ) (size : ℕ) : Type 0 where
+  pub was : Option (ℕ × ℕ)
+  pub stood : Stands head own.size (frees own) held key bytes was
+  pub pool : Pool
+  pub since : TakesFrom size was own pool
+  pub inside : pool.size ≤ long
+  pub refused : IsTooFar head pool.size size (frees pool) ⊎ IsTooLong limit pool.size size (frees pool)
+
+-- with these bytes, under the numbers of the head that stands in front of them, a hash file holds this map, and no block was to be had for a record of a key in
+-- it: none may be so large, or none is free
+pub record WantsBlock (limit long : ℕ) (bytes : List ℕ) (held : Map) (key value : List ℕ) : Type 0 where
   pub head : Head
   pub fields : HasFields head
-  pub end : ℕ
-  pub free : Frees
-  pub refused : (2 ^ 30 < block_len (width head) key value (unit head)) ⊎ ((end ≤ long) × (IsTooFar head end (block_len (width head) key value (unit head)) free ⊎ IsTooLong limit end (block_len (width head) key value (unit head)) free))
+  pub numbers : IsNumbered head bytes
+  pub own : Pool
+  pub has : HasMap head own.size (frees own) held bytes
+  pub refused : (2 ^ 30 < block_len (width head) key value (unit head)) ⊎ LacksFree limit long bytes head own held key (block_len (width head) key value (unit head))
 
--- it is one of the records before or after
-pub record WantsRecord (limit long : ℕ) (before after : Map) : Type 0 where
+-- so it was with the bytes of file 0 at some moment
+pub record WantsAt (limit long : ℕ) (past : ℕ → Files) (moment : ℕ) (held : Map) (key value : List ℕ) : Type 0 where
+  pub at : ℕ
+  pub within : at ≤ moment
+  pub wants : WantsBlock limit long (past at 0) held key value
+
+-- so it was when each key had what it has before or after, for a record of those after
+pub record WantsRecord (limit long : ℕ) (past : ℕ → Files) (moment : ℕ) (before after : Map) : Type 0 where
+  pub held : Map
+  pub between : (k : List ℕ) → (get held k ≡ get before k) ⊎ (get held k ≡ get after k)
   pub key : List ℕ
   pub value : List ℕ
-  pub there : (get before key ≡ Some value) ⊎ (get after key ≡ Some value)
-  pub wants : WantsBlock limit long key value
+  pub there : get after key ≡ Some value
+  pub wants : WantsAt limit long past moment held key value
+
+-- the undo log is full, or no block was to be had for this record beside those of a map
+abbrev pub FillsKey : {S : Type 0} → Ghosts S → S → Map → List ℕ → List ℕ → Type 0
+FillsKey s space held key value = s.log_full space ⊎ WantsAt (s.limit space 0) (length (s.now space 0)) (s.files_at space) (s.moment space) held key value
 
 -- the undo log is full, or no block was to be had for a record
-abbrev pub FillsBy : ℕ → ℕ → Type 0 → Map → Map → Type 0
-FillsBy limit long log_is_full before after = log_is_full ⊎ WantsRecord limit long before after
+abbrev pub FillsBy : ℕ → ℕ → Type 0 → (ℕ → Files) → ℕ → Map → Map → Type 0
+FillsBy limit long log_is_full past moment before after = log_is_full ⊎ WantsRecord limit long past moment before after
 
--- with the limit and the length of file 0 as the space stands
+-- with the limit and the length of file 0 as the space stands, and the bytes that it had up to now
 abbrev pub FillsMap : {S : Type 0} → Ghosts S → S → Map → Map → Type 0
-FillsMap s space before after = FillsBy (s.limit space 0) (length (s.now space 0)) (s.log_full space) before after
+FillsMap s space before after = FillsBy (s.limit space 0) (length (s.now space 0)) (s.log_full space) (s.files_at space) (s.moment space) before after
 
--- the same of contents; or a file was to be made anew, and its sections have no room
-abbrev pub FillsWith : ℕ → ℕ → Type 0 → Contents → Contents → Type 0
-FillsWith limit long log_is_full (hash a before) (hash b after) = FillsBy limit long log_is_full before after ⊎ ((after ≡ empty) × LacksSections limit log_is_full usual)
-FillsWith limit long log_is_full _ _ = ⊥
+-- one of the records of contents before or after wanted it
+abbrev pub WantsAny : ℕ → ℕ → (ℕ → Files) → ℕ → Contents → Contents → Type 0
+WantsAny limit long past moment (hash a before) (hash b after) = WantsRecord limit long past moment before after
+WantsAny limit long past moment _ _ = ⊥
+
+-- the same of contents
+abbrev pub FillsWith : ℕ → ℕ → Type 0 → (ℕ → Files) → ℕ → Contents → Contents → Type 0
+FillsWith limit long log_is_full past moment before after = log_is_full ⊎ WantsAny limit long past moment before after
 
 abbrev pub Fills : {S : Type 0} → Ghosts S → S → Contents → Contents → Type 0
-Fills s space before after = FillsWith (s.limit space 0) (length (s.now space 0)) (s.log_full space) before after
+Fills s space before after = FillsWith (s.limit space 0) (length (s.now space 0)) (s.log_full space) (s.files_at space) (s.moment space) before after
+
+-- ---- in the large form
+
+-- under this head a file of the records of a map, one behind the other in the order of their keys, has no room for one of them
+pub record LacksOne (limit long : ℕ) (head : Head) (held : Map) : Type 0 where
+  pub pairs : List Pair
+  pub are : ArePairs held (keys held) pairs
+  pub before : List Pair
+  pub pair : Pair
+  pub after : List Pair
+  pub parts : pairs ≡ before ++ pair ∷ after
+  pub free : Frees
+  pub nothing : (q : ℕ) → free q ≡ None
+  pub refused : IsRefusedFor head (head.first + blocks_long head before) free limit long (block_len (width head) pair.key pair.value (unit head))
+
+-- with these bytes, under the numbers of the head that stands in front of them, a hash file holds this map; written anew in the large form with these numbers it
+-- has no room for what stands in front of its records, or for one of them
+pub record LacksLargeAt (limit long : ℕ) (bytes : List ℕ) (held : Map) : Type 0 where
+  pub own : Head
+  pub numbers : IsNumbered own bytes
+  pub pool : Pool
+  pub has : HasMap own pool.size (frees pool) held bytes
+  pub head : Head
+  pub is_new : IsNew own.kind own.apow own.fpow own.buckets true head
+  pub lacks : (limit < head.first) ⊎ ((2 ^ 40 < head.first) ⊎ LacksOne limit long head held)
+
+-- so it was with the bytes of file 0 at some moment
+pub record LacksLargeOf (limit long : ℕ) (past : ℕ → Files) (moment : ℕ) (held : Map) : Type 0 where
+  pub at : ℕ
+  pub within : at ≤ moment
+  pub lacks : LacksLargeAt limit long (past at 0) held
+
+abbrev pub LacksLargeWith : ℕ → ℕ → (ℕ → Files) → ℕ → Contents → Type 0
+LacksLargeWith limit long past moment (hash a held) = LacksLargeOf limit long past moment held
+LacksLargeWith limit long past moment _ = ⊥
+
+abbrev pub LacksLarge : {S : Type 0} → Ghosts S → S → Contents → Type 0
+LacksLarge s space c = LacksLargeWith (s.limit space 0) (length (s.now space 0)) (s.files_at space) (s.moment space) c

@@ -16,7 +16,7 @@ use Rattle.tc_model.specs.Contents.{Contents, hash}
 use Rattle.tc_hashdb.specs.declared.holding.HashEngine.{HashEngine}
 
 -- it holds this map over the bytes of file 0, a hash file, and what was counted of it is so
-pub record HoldsMap {S : Type 0} (e : HashEngine S) (bytes : List ℕ) (m : Map) : Type 0 where
+pub record HoldsCounted {S : Type 0} (e : HashEngine S) (bytes : List ℕ) (m : Map) : Type 0 where
   pub file : e.hash.body.file ≡ 0
   pub kind : e.hash.body.head.kind ≡ 0
   pub holds_it : holds e.hash bytes m
@@ -24,13 +24,13 @@ pub record HoldsMap {S : Type 0} (e : HashEngine S) (bytes : List ℕ) (m : Map)
 
 -- with the bytes that file 0 has now
 abbrev pub Means : {S : Type 0} → Ghosts S → HashEngine S → S → Map → Type 0
-Means s e space m = s.tells × HoldsMap e (s.now space 0) m
+Means s e space m = s.tells × HoldsCounted e (s.now space 0) m
 
 -- the contents are that map
 pub record HoldsKeys {S : Type 0} (e : HashEngine S) (files : Files) (c : Contents) : Type 0 where
   pub map : Map
   pub is : c ≡ hash false map
-  pub holds_map : HoldsMap e (files 0) map
+  pub holds_map : HoldsCounted e (files 0) map
 
 -- file 0 is a hash file that stands for the contents
 pub record IsFileOf (files : Files) (c : Contents) : Type 0 where

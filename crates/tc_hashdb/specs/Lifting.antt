@@ -6,12 +6,13 @@ use Rattle.tc_space.specs.Frames.{Reads, Refuses}
 use Rattle.tc_space.specs.Stores as stores
 use Rattle.tc_space.specs.declared.space.Space.{Ghosts}
 use Rattle.tc_model.specs.Contents.{Contents, hash}
-use Rattle.ty_base.specs.Holding.{Held, IsReady, log_stays}
+use Rattle.tc_space.specs.Stores.{Only}
+use Rattle.ty_base.specs.Holding.{Held, IsReady}
 use Rattle.tc_engine.specs.Changes.{Change, wanted}
 use Rattle.tc_engine.specs.Effects.{IsFull, Makes}
 use Rattle.tc_hashdb.specs.declared.holding.HashEngine.{HashEngine}
 use Rattle.tc_hashdb.specs.Changing.{LacksRoomFor, Step, Takes, after}
-use Rattle.tc_hashdb.specs.Filling.{Fills}
+use Rattle.tc_hashdb.specs.Filling.{Fills, FillsMap}
 use Rattle.tc_hashdb.specs.Holding.{HoldsKeys, Means}
 
 -- a change of contents is a step of the map
@@ -44,10 +45,10 @@ module _ {S : Type 0} (s : Ghosts S) where
   refused_up (Ok x) e e' a b refused = tt
   refused_up (Err x) e e' a b refused = refuses_up e e' a b refused
 
-  pub made_up : (change : Change) (step : Step) (done : Bool) (e e' : HashEngine S) (a b : S) → Takes s step done e e' a b → ((m : Map) → IsStep change step m) → Makes s HoldsKeys change done e e' a b
+  pub made_up : (change : Change) (step : Step) (done : Bool) (e e' : HashEngine S) (a b : S) → Takes s step done e e' a b → ((m : Map) → IsStep change step m) → Makes s (Only 0) HoldsKeys change done e e' a b
   made_up change step done e e' a b takes is_step = record {
     sound = takes.sound;
-    log = log_stays s a b takes.others;
+    others = takes.others;
     made = λ yes c h.
         let made = takes.made yes h.1.map (means_of e a c h) in
         (hash false made.0, ap change h.1.is ∙ (is_step h.1.map).is ∙ ap (option_map (hash false)) made.1, held_again e' b made.0 made.2);
@@ -59,10 +60,13 @@ module _ {S : Type 0} (s : Ghosts S) where
   wanted_is m None = refl
   wanted_is m (Some n) = refl
 
+  fills_up : {space : S} (m n : Map) → FillsMap s space m n → Fills s space (hash false m) (hash false n)
+  fills_up m n full = full
+
   pub full_up : (change : Change) (step : Step) (e : HashEngine S) (a b : S) → LacksRoomFor s step e a b → ((m : Map) → IsStep change step m) → IsFull s HoldsKeys (Fills s) change e a b
   full_up change step e a b lacks is_step = record {
     by = λ c h.
         let m : Map = h.1.map in
         let is : wanted change c ≡ hash false (after step m) = ap (wanted change) h.1.is ∙ (ap (λ o. unwrap_or o (hash false m)) (is_step m).is ∙ wanted_is m (step m)) in
-        subst (λ d. Fills s b c d) (sym is) (subst (λ d. Fills s b d (hash false (after step m))) (sym h.1.is) (inl (lacks.by m (means_of e a c h))));
+        subst (λ d. Fills s b c d) (sym is) (subst (λ d. Fills s b d (hash false (after step m))) (sym h.1.is) (fills_up m (after step m) (lacks.by m (means_of e a c h))));
   }

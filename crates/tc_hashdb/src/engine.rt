@@ -1,7 +1,10 @@
 //! A hash database behind the trait of engines.
 #![tactic(auto, using(tc_space::specs::Frames::keeps_refl, tc_space::specs::Frames::reads_refl, tc_engine::specs::Rows::extends_refl, crate::specs::Lifting::ready_down, crate::specs::Lifting::reads_up, crate::specs::Lifting::refuses_up))]
 
-ghost use Rattle.tc_hashdb.specs.Filling.{Fills};
+ghost use Rattle.std.proofs.Common.{inl};
+ghost use Rattle.tc_space.specs.Stores.{Only};
+ghost use Rattle.ty_base.specs.Holding.{main_no_log};
+ghost use Rattle.tc_hashdb.specs.Filling.{Fills, LacksLarge};
 ghost use Rattle.tc_hashdb.specs.Holding.{HoldsKeys, Reopens};
 ghost use Rattle.tc_hashdb.specs.Informing.{Lines};
 ghost use Rattle.tc_hashdb.specs.Laws.{moved_apart, never_table};
@@ -23,7 +26,11 @@ impl<S: Space> Storage for HashEngine<S> {
 
     ghost reopens = { λ files c. Reopens files c };
 
+    ghost own = { Only 0 };
+
     ghost fills = { λ space c d. Fills S.Space space c d };
+
+    ghost lacks_large = { λ space c. LacksLarge S.Space space c };
 
     ghost lines = { λ files text. Lines files text };
 
@@ -31,7 +38,11 @@ impl<S: Space> Storage for HashEngine<S> {
 
     ghost packed = { λ form files. IsPacked form (files 0) };
 
+    ghost no_logs = { main_no_log };
+
     ghost apart = { λ e f g c same. moved_apart e f g c same };
+
+    ghost log_fills = { λ space c d full. inl full };
 
     fn kind(&self) -> Kind {
         Kind::Hash
@@ -42,15 +53,7 @@ impl<S: Space> Storage for HashEngine<S> {
     }
 
     fn pack(&mut self, space: &mut S, form: Form) -> Result<(), RecErr> {
-        match self.hash.pack(space, form) {
-            Ok(()) => Ok(()),
-            // no record of the contents is at fault where the larger sections have no room
-            Err(RecErr::Full) => match form {
-                Form::Keep => Err(RecErr::Full),
-                Form::Large => Err(RecErr::Memory),
-            },
-            Err(e) => Err(e),
-        }
+        self.hash.pack(space, form)
     }
 
     fn inform(&mut self, space: &mut S, into: &mut Blob) -> Result<(), RecErr> {

@@ -6,10 +6,10 @@ ghost use Rattle.std.specs.List.{list_all};
 ghost use Rattle.std.specs.FinMap.{entries};
 ghost use Rattle.tc_base.specs.Maps.{Map};
 ghost use Rattle.tc_space.specs.Frames.{Keeps, Refuses, Writes};
-ghost use Rattle.tc_space.specs.Refusals.{OnFault};
+ghost use Rattle.tc_space.specs.Refusals.{OnFault, OnlyLogIsFull};
 ghost use Rattle.tc_space.specs.Stores.{IsReady, Only};
 ghost use Rattle.tc_hashdb.specs.Changing.{after, all_out, all_set, is_short, last_values, out_one, set_entries, set_one};
-ghost use Rattle.tc_hashdb.specs.Filling.{FillsMap};
+ghost use Rattle.tc_hashdb.specs.Filling.{FillsKey, FillsMap};
 ghost use Rattle.tc_hashdb.specs.Holding.{Means};
 
 use crate::counting::counted_with;
@@ -18,6 +18,7 @@ use std::alloc::{AllocError, Global};
 use tc_base::{Blob, Key, Mode, Pair, Pairs, Steps, VALUE_MOST};
 use tc_hash::Put;
 use tc_maps::Bytemap;
+use tc_reach::give_up;
 use tc_space::{RecErr, Space};
 
 /// Whether no value is too long.
@@ -43,8 +44,9 @@ fn last_of_each(alloc: Global, pairs: Pairs) -> Result<Bytemap, AllocError>
     Ok(last)
 }
 
-// Why a call was refused behind others that wrote: the space isn't sound then.
+// Why a call was refused behind others that wrote: the space isn't sound then. Where a limit was met it wasn't sound before.
 fn given_up<S: Space>(space: &mut S, cause: RecErr) -> RecErr
+    requires { cause ≡ RecErr.Full → S.flag space.old ≡ false }
     ensures spoiled { S.flag space.new ≡ false }
     ensures keeps { Keeps S.Space space.old space.new }
     ensures faults { S.faults space.new ≡ S.faults space.old }
@@ -55,10 +57,6 @@ fn given_up<S: Space>(space: &mut S, cause: RecErr) -> RecErr
         return cause;
     }
     space.spoil();
-    // a space that met a limit isn't sound
-    if cause == RecErr::Full {
-        return RecErr::Memory;
-    }
     cause
 }
 
@@ -68,7 +66,7 @@ impl<S: Space> HashEngine<S> {
         requires ready { IsReady S.Space (Means S.Space) self.old space.old }
         ensures set { OnOk result (Writes S.Space (Only 0) (Means S.Space) (λ m. set_one m key.now value.now) self.old self.new space.old space.new) }
         ensures refused { OnErr result (S.flag space.new ≡ false) }
-        ensures full { IsErrOf result RecErr.Full → (m : Map) → Means S.Space self.old space.old m → FillsMap S.Space space.new m (set_one m key.now value.now) }
+        ensures full { IsErrOf result RecErr.Full → (m : Map) → Means S.Space self.old space.old m → FillsKey S.Space space.new m key.now value.now }
         ensures keeps { Keeps S.Space space.old space.new }
         ensures cause { OnFault S.Space result space.old space.new }
     {
@@ -82,7 +80,8 @@ impl<S: Space> HashEngine<S> {
         };
         let Put::Stored(old) = done else {
             // no value is so long
-            return Err(given_up(space, RecErr::Memory));
+            give_up(space);
+            return Err(RecErr::Memory);
         };
         let len = value.len() as u64;
         self.total = counted_with(self.total, key.len() as u64, old, Some(len));
@@ -125,7 +124,7 @@ impl<S: Space> HashEngine<S> {
         requires ready { IsReady S.Space (Means S.Space) self.old space.old }
         ensures out { OnOk result (Writes S.Space (Only 0) (Means S.Space) (λ m. out_one m key.now) self.old self.new space.old space.new) }
         ensures refused { OnErr result (S.flag space.new ≡ false) }
-        ensures full { IsErrOf result RecErr.Full → (m : Map) → Means S.Space self.old space.old m → FillsMap S.Space space.new m (out_one m key.now) }
+        ensures full { OnlyLogIsFull S.Space result space.new }
         ensures keeps { Keeps S.Space space.old space.new }
         ensures cause { OnFault S.Space result space.old space.new }
     {
@@ -140,7 +139,7 @@ impl<S: Space> HashEngine<S> {
         requires ready { IsReady S.Space (Means S.Space) self.old space.old }
         ensures out { OnOk result (Writes S.Space (Only 0) (Means S.Space) (all_out keys.now) self.old self.new space.old space.new) }
         ensures refused { OnErr result (S.flag space.new ≡ false) }
-        ensures full { IsErrOf result RecErr.Full → (m : Map) → Means S.Space self.old space.old m → FillsMap S.Space space.new m (all_out keys.now m) }
+        ensures full { OnlyLogIsFull S.Space result space.new }
         ensures keeps { Keeps S.Space space.old space.new }
         ensures cause { OnFault S.Space result space.old space.new }
     {

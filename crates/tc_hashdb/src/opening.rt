@@ -2,7 +2,7 @@
 #![tactic(auto, using(tc_space::specs::Frames::keeps_refl, tc_space::specs::Frames::only_reads_refl))]
 
 ghost use Rattle.tc_hashdb.specs.Holding.{BreaksAs};
-ghost use Rattle.tc_hashdb.specs.Shapes.{Lacks, MayHave, Shaped, anew};
+ghost use Rattle.tc_hashdb.specs.Shapes.{Lacks, MayHave, Shaped, anew, usual};
 ghost use Rattle.tc_hashdb.specs.Unbroken.{stands_unbroken};
 
 use crate::holding::HashEngine;
@@ -25,9 +25,13 @@ impl<S: Space> Opens for HashEngine<S> {
 
     ghost shaped = { λ shape files. Shaped shape files };
 
+    ghost usual = { usual };
+
     ghost lacks = { λ space shape. Lacks S.Space space shape };
 
     ghost breaks = { λ kind files file rule. BreaksAs kind files file rule };
+
+    ghost breaks_new = { λ files file rule. ⊥ };
 
     ghost unbroken = { λ kind files c file rule opens breaks. stands_unbroken kind files c file rule opens breaks };
 

@@ -1,5 +1,5 @@
 //! A database in memory behind the trait of engines.
-#![tactic(auto, using(tc_space::specs::Frames::keeps_refl, tc_space::specs::Frames::reads_refl, crate::specs::Making::reads_same, crate::specs::Making::refuses_same, crate::specs::Making::makes, tc_engine::specs::Rows::extends_refl))]
+#![tactic(auto, using(tc_space::specs::Frames::keeps_refl, tc_space::specs::Frames::others_refl, tc_space::specs::Frames::reads_refl, crate::specs::Making::reads_same, crate::specs::Making::refuses_same, crate::specs::Making::makes, tc_engine::specs::Rows::extends_refl))]
 
 ghost use Rattle.std.specs.Prelude.{◌≡◌, []};
 ghost use Rattle.tc_base.specs.declared.kind.Kind.TheVariants as kind;
@@ -53,7 +53,11 @@ impl Storage for MemEngine {
 
     ghost reopens = { λ files c. Unit {0} };
 
+    ghost own = { λ file. ⊥ };
+
     ghost fills = { λ s c d. ⊥ };
+
+    ghost lacks_large = { λ s c. ⊥ };
 
     ghost lines = { λ files text. text ≡ [] };
 
@@ -61,7 +65,11 @@ impl Storage for MemEngine {
 
     ghost packed = { λ form files. Unit {0} };
 
+    ghost no_logs = { ((λ h. h), (λ h. h)) };
+
     ghost apart = { λ e f g c same. ((λ h. h), (λ h. h)) };
+
+    ghost log_fills = { λ s c d full. full };
 
     fn kind(&self) -> Kind {
         self.held.kind()

@@ -18,8 +18,8 @@ applied_here : (r : Request) (c : Contents) (w : Walk) → apply false r c w ≡
 unfolding apply
 applied_here r c w = refl
 
-module _ {S E : Type 0} (s : Ghosts S) (holds : E → Files → Contents → Type 0) where
-  pub serves : (r : Request) (done updating : Bool) (a : Applied) (e : E) (d : Database E) (x y : S) (w w' : Walk) (old new : List ℕ) → updating ≡ updates r → a.ok ≡ done → a.updated ≡ (done && updating) → Steps s holds r done e (engine_of d) x y w w' old new → (c : Contents) → Held s holds e x c → Serves s (λ b. holds (engine_of b)) (apply false r c w) r a d y w' old new
+module _ {S E : Type 0} (s : Ghosts S) (own : ℕ → Type 0) (holds : E → Files → Contents → Type 0) where
+  pub serves : (r : Request) (done updating : Bool) (a : Applied) (e : E) (d : Database E) (x y : S) (w w' : Walk) (old new : List ℕ) → updating ≡ updates r → a.ok ≡ done → a.updated ≡ (done && updating) → Steps s own holds r done e (engine_of d) x y w w' old new → (c : Contents) → Held s holds e x c → Serves s (λ b. holds (engine_of b)) (apply false r c w) r a d y w' old new
   serves r done updating a e d x y w w' old new up ok updated n c h =
       let z = n.applied_is c h in
       record {
@@ -34,12 +34,13 @@ module _ {S E : Type 0} (s : Ghosts S) (holds : E → Files → Contents → Typ
         });
       }
 
-  pub leaves : (r : Request) (done updating : Bool) (idle : Type 0) (e e' : E) (x y : S) (w w' : Walk) (old new : List ℕ) → updating ≡ updates r → (idle → ((done && updating) ≡ false) × (is_optimize r ≡ false)) → Steps s holds r done e e' x y w w' old new → Leaves s idle x y
+  pub leaves : (r : Request) (done updating : Bool) (idle : Type 0) (e e' : E) (x y : S) (w w' : Walk) (old new : List ℕ) → updating ≡ updates r → (idle → ((done && updating) ≡ false) × (is_optimize r ≡ false)) → Steps s own holds r done e e' x y w w' old new → Leaves s own idle x y
   leaves r done updating idle e e' x y w w' old new up quiet n = record {
     sound = n.sound;
-    log = n.log;
+    others = n.others;
     reads = λ i. n.idle (sym (ap (λ u. done && u) up) ∙ (quiet i).0) (quiet i).1;
   }
 
+module _ {S E : Type 0} (s : Ghosts S) (holds : E → Files → Contents → Type 0) where
   pub full_applies : (fills : S → Contents → Contents → Type 0) (r : Request) (w : Walk) (e : E) (x y : S) → IsFullStep s holds fills r w e x y → FillsBy s holds (fills y) r e x (λ c. (apply false r c w).contents)
-  full_applies fills r w e x y full = record { writes = full.writes; by = λ c h. subst (λ step. fills y c step.contents) (sym (applied_here r c w)) (full.by c h) }
+  full_applies fills r w e x y full = record { writes = full.writes; packs = full.packs; by = λ c h. subst (λ step. fills y c step.contents) (sym (applied_here r c w)) (full.by c h) }

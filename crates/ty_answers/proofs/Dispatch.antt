@@ -10,7 +10,8 @@ use Rattle.tc_space.specs.declared.space.Space.{Ghosts}
 use Rattle.ty_wire.specs.Spelling.{reply_bytes}
 use Rattle.tc_model.specs.Contents.{Contents, Walk}
 use Rattle.tc_model.specs.Apply.{Effect, Step, applied, effect, fits, refusal_of, refused, took, updates}
-use Rattle.ty_base.specs.Holding.{Held, may_write}
+use Rattle.tc_model.specs.Packing.{is_optimize}
+use Rattle.ty_base.specs.Holding.{FillsAll, may_write}
 use Rattle.ty_answers.specs.Answers.{Answered, Answers, IsFullBy, contents_of, told_by}
 use Rattle.ty_answers.specs.Answers as answers
 use Rattle.ty_answers.specs.Steps.{Ends, IsFullStep, Steps}
@@ -66,10 +67,6 @@ plain_applied IterInit c w plain = absurd cc
 plain_applied IterNext c w plain = absurd cc
 plain_applied (Repl timestamp server) c w plain = absurd cc
 
-same_contents : (b : Bool) (c : Contents) → cond b c c ≡ c
-same_contents true c = refl
-same_contents false c = refl
-
 cond_contents : (b : Bool) (p q : Step) → (cond b p q).contents ≡ cond b p.contents q.contents
 cond_contents true p q = refl
 cond_contents false p q = refl
@@ -78,30 +75,32 @@ took_contents : (r : Request) (e : Effect) (c : Contents) (w : Walk) → content
 took_contents r None c w = refl
 took_contents r (Some x) c w = sym (cond_contents (fits x.1) (record { contents = x.0; walk = w; reply = x.1; ok = true }) (refused r c w))
 
-module _ {S E : Type 0} (s : Ghosts S) (holds : E → Files → Contents → Type 0) where
+module _ {S E : Type 0} (s : Ghosts S) (own : ℕ → Type 0) (holds : E → Files → Contents → Type 0) where
   -- an arm of the dispatch: what was shown is the effect of the request
-  pub arm : (r shape : Request) (shown : answers.Request) (refusal : Reply) (updating done : Bool) (e e' : E) (a b : S) (w : Walk) (old new : List ℕ) → r ≡ shape → is_plain shape ≡ true → ((c : Contents) → shown c ≡ effect shape c) → refusal ≡ refusal_of shape → updating ≡ updates shape → Answers s holds shown refusal updating done e e' a b old new → Steps s holds r done e e' a b w w old new
-  arm r shape shown refusal updating done e e' a b w old new is plain same refuses up n = subst (λ q. Steps s holds q done e e' a b w w old new) (sym is) (record {
+  pub arm : (r shape : Request) (shown : answers.Request) (refusal : Reply) (updating done : Bool) (e e' : E) (a b : S) (w : Walk) (old new : List ℕ) → r ≡ shape → is_plain shape ≡ true → ((c : Contents) → shown c ≡ effect shape c) → refusal ≡ refusal_of shape → updating ≡ updates shape → Answers s own holds shown refusal updating done e e' a b old new → Steps s own holds r done e e' a b w w old new
+  arm r shape shown refusal updating done e e' a b w old new is plain same refuses up n = subst (λ q. Steps s own holds q done e e' a b w w old new) (sym is) (record {
     sound = n.sound;
-    log = n.log;
+    others = n.others;
     applied_is = λ c h. let x = n.answered c h in (x.0, x.1, subst (λ q. Ends q done x.0 w old new) (sym (plain_applied shape c w plain)) (took_ends shape (effect shape c) done c x.0 w old new (subst (λ q. Answered (effect shape c) q done c x.0 old new) refuses (subst (λ q. Answered q refusal done c x.0 old new) (same c) x.2))));
     idle = λ i plain. n.idle (ap (λ q. done && q) up ∙ i);
   })
 
   -- a packing, which may have written
-  pub packing_arm : (r : Request) (text : List ℕ) (done : Bool) (e e' : E) (a b : S) (w : Walk) (old new : List ℕ) → r ≡ Optimize text → Answers s holds (told_by (λ c. Some answer.Done)) answer.Fail true done e e' a b old new → Steps s holds r done e e' a b w w old new
-  packing_arm r text done e e' a b w old new is n = subst (λ q. Steps s holds q done e e' a b w w old new) (sym is) (record {
+  pub packing_arm : (r : Request) (text : List ℕ) (done : Bool) (e e' : E) (a b : S) (w : Walk) (old new : List ℕ) → r ≡ Optimize text → Answers s own holds (told_by (λ c. Some answer.Done)) answer.Fail true done e e' a b old new → Steps s own holds r done e e' a b w w old new
+  packing_arm r text done e e' a b w old new is n = subst (λ q. Steps s own holds q done e e' a b w w old new) (sym is) (record {
     sound = n.sound;
-    log = n.log;
+    others = n.others;
     applied_is = λ c h. let x = n.answered c h in (x.0, x.1, took_ends (Optimize text) (effect (Optimize text) c) done c x.0 w old new x.2);
     idle = λ i packs. absurd (let f : true ≡ false = packs in cc);
   })
 
-  pub full_arm : (fills : S → Contents → Contents → Type 0) (r shape : Request) (shown : answers.Request) (e : E) (a b : S) (w : Walk) → r ≡ shape → is_plain shape ≡ true → may_write shape ≡ true → ((c : Contents) → shown c ≡ effect shape c) → IsFullBy s holds fills shown e a b → IsFullStep s holds fills r w e a b
-  full_arm fills r shape shown e a b w is plain may same full = subst (λ q. IsFullStep s holds fills q w e a b) (sym is) (record {
+module _ {S E : Type 0} (s : Ghosts S) (holds : E → Files → Contents → Type 0) where
+  pub full_arm : (fills : S → Contents → Contents → Type 0) (r shape : Request) (shown : answers.Request) (e : E) (a b : S) (w : Walk) → r ≡ shape → is_plain shape ≡ true → may_write shape ≡ true → is_optimize shape ≡ false → ((c : Contents) → shown c ≡ effect shape c) → IsFullBy s holds fills shown e a b → IsFullStep s holds fills r w e a b
+  full_arm fills r shape shown e a b w is plain may changes same full = subst (λ q. IsFullStep s holds fills q w e a b) (sym is) (record {
     writes = may;
+    packs = λ packs. absurd (let never : true ≡ false = sym packs ∙ changes in cc);
     by = λ c h. subst (λ d. fills b c d) (ap (λ q. contents_of q c) (same c) ∙ (took_contents shape (effect shape c) c w ∙ ap (λ q. q.contents) (sym (plain_applied shape c w plain)))) (full.by c h);
   })
 
-  pub full_packing : (fills : S → Contents → Contents → Type 0) (r : Request) (text : List ℕ) (e : E) (a b : S) (w : Walk) → r ≡ Optimize text → ((c : Contents) → Held s holds e a c → fills b c c) → IsFullStep s holds fills r w e a b
-  full_packing fills r text e a b w is full = full_arm fills r (Optimize text) (told_by (λ c. Some answer.Done)) e a b w is refl refl (λ c. refl) (record { by = λ c h. subst (λ d. fills b c d) (sym (same_contents (fits answer.Done) c)) (full c h) })
+  pub full_packing : (fills : S → Contents → Contents → Type 0) (r : Request) (text : List ℕ) (e : E) (a b : S) (w : Walk) → r ≡ Optimize text → (s.tells → FillsAll (fills b)) → IsFullStep s holds fills r w e a b
+  full_packing fills r text e a b w is full = subst (λ q. IsFullStep s holds fills q w e a b) (sym is) (record { writes = refl; packs = λ packs t. full t; by = λ c h. full h.0 c (applied (Optimize text) c w).contents })

@@ -3,13 +3,13 @@ use Rattle.std.proofs.Common.{◌≡◌, ◌∙◌, ℕ, Bool, true, false, cond
 use Rattle.std.specs.Prelude.{IfOk}
 use Rattle.tc_base.specs.Files.{Files}
 use Rattle.tc_base.specs.declared.request.Reply.{Reply}
-use Rattle.tc_space.specs.Frames.{Keeps, OnlyReads, Reads, Refuses, only_reads_refl, only_reads_then}
+use Rattle.tc_space.specs.Frames.{Keeps, OnlyReads, Reads, Refuses, only_reads_refl, only_reads_then, others_refl, others_then}
 use Rattle.tc_space.specs.declared.space.Space.{Ghosts}
 use Rattle.ty_wire.specs.Prefixes.{IsPrefix}
 use Rattle.ty_wire.specs.Spelling.{reply_bytes}
 use Rattle.tc_model.specs.Contents.{Contents}
 use Rattle.tc_model.specs.Apply.{fits}
-use Rattle.ty_base.specs.Holding.{Held, IsReady, stays_refl, stays_then}
+use Rattle.ty_base.specs.Holding.{Held, IsReady}
 use Rattle.tc_engine.specs.Changes.{Change}
 use Rattle.tc_engine.specs.Effects.{IsFull, Makes}
 use Rattle.ty_answers.specs.Answers.{Answered, Answers, IsFullBy, Request, changed_by, contents_of, done_reply}
@@ -59,50 +59,51 @@ same_wanted : (answer : Reply) (c : Contents) (o : Option Contents) → fits ans
 same_wanted answer c None fit = refl
 same_wanted answer c (Some x) fit = sym (ap (λ b. cond b x c) fit)
 
-module _ {S E : Type 0} (s : Ghosts S) (holds : E → Files → Contents → Type 0) where
+module _ {S E : Type 0} (s : Ghosts S) (own : ℕ → Type 0) (holds : E → Files → Contents → Type 0) where
   -- an engine's change, answered
-  pub made : (answer refusal : Reply) (f : Change) (done : Bool) (e e' : E) (a b : S) (old new : List ℕ) → fits answer ≡ true → Makes s holds f done e e' a b → Keeps s a b → new ≡ old ++ reply_bytes (cond done answer refusal) → Answers s holds (changed_by answer f) refusal true done e e' a b old new
+  pub made : (answer refusal : Reply) (f : Change) (done : Bool) (e e' : E) (a b : S) (old new : List ℕ) → fits answer ≡ true → Makes s own holds f done e e' a b → Keeps s a b → new ≡ old ++ reply_bytes (cond done answer refusal) → Answers s own holds (changed_by answer f) refusal true done e e' a b old new
   made answer refusal f true e e' a b old new fit m keeps bytes = record {
     sound = m.sound;
-    log = m.log;
+    others = m.others;
     answered = λ c h. let g = m.made refl c h in (g.0, g.2, said_made answer refusal c g.0 (f c) old new fit g.1 bytes);
     idle = λ no_change. absurd cc;
   }
   made answer refusal f false e e' a b old new fit m keeps bytes = record {
     sound = m.sound;
-    log = m.log;
+    others = m.others;
     answered = λ c h. (c, (m.same refl).means c h, said_failed answer refusal c (f c) old new (m.fails refl c h) bytes);
     idle = λ no_change. only_reads s (Held s holds) e e' a b keeps (m.same refl);
   }
 
-  pub full_by : (fills : S → Contents → Contents → Type 0) (answer : Reply) (f : Change) (e : E) (a b : S) → fits answer ≡ true → IsFull s holds fills f e a b → IsFullBy s holds fills (changed_by answer f) e a b
-  full_by fills answer f e a b fit full = record { by = λ c h. subst (λ d. fills b c d) (same_wanted answer c (f c) fit) (full.by c h) }
-
   -- where the change fails, nothing has changed
-  pub unmade : (f : Change) (done : Bool) (e e' : E) (a b : S) → Makes s holds f done e e' a b → done ≡ false → Refuses s (Held s holds) e e' a b
+  pub unmade : (f : Change) (done : Bool) (e e' : E) (a b : S) → Makes s own holds f done e e' a b → done ≡ false → Refuses s (Held s holds) e e' a b
   unmade f done e e' a b m is = inr (m.same is)
 
   -- a request that has no effect on what is held
-  pub failed : (effect : Request) (refusal : Reply) (updating : Bool) (e : E) (a : S) (old new : List ℕ) → IsReady s holds e a → new ≡ old ++ reply_bytes refusal → ((c : Contents) → Held s holds e a c → effect c ≡ None) → Answers s holds effect refusal updating false e e a a old new
+  pub failed : (effect : Request) (refusal : Reply) (updating : Bool) (e : E) (a : S) (old new : List ℕ) → IsReady s holds e a → new ≡ old ++ reply_bytes refusal → ((c : Contents) → Held s holds e a c → effect c ≡ None) → Answers s own holds effect refusal updating false e e a a old new
   failed effect refusal updating e a old new ready bytes none = record {
     sound = ready.sound;
-    log = stays_refl s 2 a;
+    others = others_refl s own a;
     answered = λ c h. (c, h, subst (λ x. Answered x refusal false c c old new) (sym (none c h)) (record { ok = refl; contents = refl; bytes = bytes }));
     idle = λ i. only_reads_refl s a ready.sound;
   }
 
   -- a request behind a read, which may have shown what its effect is
-  pub after_reads : (effect shown : Request) (refusal : Reply) (updating done : Bool) (e f g : E) (a b d : S) (old new : List ℕ) → Reads s (Held s holds) e f a b → Keeps s a b → ((c : Contents) → Held s holds e a c → shown c ≡ effect c) → Answers s holds shown refusal updating done f g b d old new → Answers s holds effect refusal updating done e g a d old new
+  pub after_reads : (effect shown : Request) (refusal : Reply) (updating done : Bool) (e f g : E) (a b d : S) (old new : List ℕ) → Reads s (Held s holds) e f a b → Keeps s a b → ((c : Contents) → Held s holds e a c → shown c ≡ effect c) → Answers s own holds shown refusal updating done f g b d old new → Answers s own holds effect refusal updating done e g a d old new
   after_reads effect shown refusal updating done e f g a b d old new reads keeps same n = record {
     sound = n.sound;
-    log = stays_then s 2 a b d (record { same = λ t. reads.now t 2 }) n.log;
+    others = others_then s own a b d (record { same = λ t g other. reads.now t g }) n.others;
     answered = λ c h. let x = n.answered c (reads.means c h) in (x.0, x.1, subst (λ y. Answered y refusal done c x.0 old new) (same c h) x.2);
     idle = λ i. only_reads_then s a b d (only_reads s (Held s holds) e f a b keeps reads) (n.idle i);
   }
 
+  pub fails_by : {F : Type 0} (effect : Request) (refusal : Reply) (updating : Bool) (e : E) (a : S) (old new : List ℕ) (r : Result Bool F) → IsReady s holds e a → ((c : Contents) → Held s holds e a c → effect c ≡ None) → IfOk r (λ done. (done ≡ false) × (new ≡ old ++ reply_bytes refusal)) → IfOk r (λ done. Answers s own holds effect refusal updating done e e a a old new)
+  fails_by effect refusal updating e a old new (Ok done) ready none said = subst (λ d. Answers s own holds effect refusal updating d e e a a old new) (sym said.0) (failed effect refusal updating e a old new ready said.1 none)
+  fails_by effect refusal updating e a old new (Err x) ready none said = tt
+
+module _ {S E : Type 0} (s : Ghosts S) (holds : E → Files → Contents → Type 0) where
+  pub full_by : (fills : S → Contents → Contents → Type 0) (answer : Reply) (f : Change) (e : E) (a b : S) → fits answer ≡ true → IsFull s holds fills f e a b → IsFullBy s holds fills (changed_by answer f) e a b
+  full_by fills answer f e a b fit full = record { by = λ c h. subst (λ d. fills b c d) (same_wanted answer c (f c) fit) (full.by c h) }
+
   pub full_after : (fills : S → Contents → Contents → Type 0) (effect shown : Request) (e f : E) (a b d : S) → Reads s (Held s holds) e f a b → ((c : Contents) → Held s holds e a c → shown c ≡ effect c) → IsFullBy s holds fills shown f b d → IsFullBy s holds fills effect e a d
   full_after fills effect shown e f a b d reads same full = record { by = λ c h. subst (λ y. fills d c (contents_of y c)) (same c h) (full.by c (reads.means c h)) }
-
-  pub fails_by : {F : Type 0} (effect : Request) (refusal : Reply) (updating : Bool) (e : E) (a : S) (old new : List ℕ) (r : Result Bool F) → IsReady s holds e a → ((c : Contents) → Held s holds e a c → effect c ≡ None) → IfOk r (λ done. (done ≡ false) × (new ≡ old ++ reply_bytes refusal)) → IfOk r (λ done. Answers s holds effect refusal updating done e e a a old new)
-  fails_by effect refusal updating e a old new (Ok done) ready none said = subst (λ d. Answers s holds effect refusal updating d e e a a old new) (sym said.0) (failed effect refusal updating e a old new ready said.1 none)
-  fails_by effect refusal updating e a old new (Err x) ready none said = tt

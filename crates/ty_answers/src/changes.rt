@@ -1,8 +1,8 @@
 //! Requests that change contents in one call of the engine.
-ghost use Rattle.std.specs.Prelude.{true, Some, OnOk, IsErrOf};
+ghost use Rattle.std.specs.Prelude.{true, Some, OnOk};
 ghost use Rattle.tc_space.specs.Frames.{Keeps};
-ghost use Rattle.tc_space.specs.Refusals.{OnFault};
-ghost use Rattle.ty_base.specs.Holding.{FillsAsIs, IsReady, RefusesHeld};
+ghost use Rattle.tc_space.specs.Refusals.{OnFault, OnlyLogIsFull};
+ghost use Rattle.ty_base.specs.Holding.{IsReady, RefusesHeld};
 ghost use Rattle.ty_wire.specs.Prefixes.{IsPrefix};
 ghost use Rattle.tc_engine.specs.Changes.{all_cleared, all_gone, all_pushed, all_stored, pushed, stored, taken};
 ghost use Rattle.tc_base.specs.declared.kind.Form.TheVariants.{Keep};
@@ -26,7 +26,7 @@ pub fn store<E: Engine>(
     reply: &mut Blob,
 ) -> Result<bool, RecErr>
     requires { IsReady E.S.Space E.holds engine.old space.old }
-    ensures answers { AnswersChange E.S.Space E.holds result voice (stored mode key value) engine.old engine.new space.old space.new reply.old reply.new }
+    ensures answers { AnswersChange E.S.Space E.own E.holds result voice (stored mode key value) engine.old engine.new space.old space.new reply.old reply.new }
     ensures refused { RefusesHeld E.S.Space E.holds result engine.old engine.new space.old space.new }
     ensures front { IsPrefix reply.old reply.new }
     ensures full { FullChange E.S.Space E.holds E.fills result voice (stored mode key value) engine.old space.old space.new }
@@ -50,7 +50,7 @@ pub fn push<E: Engine>(
     reply: &mut Blob,
 ) -> Result<bool, RecErr>
     requires { IsReady E.S.Space E.holds engine.old space.old }
-    ensures answers { AnswersChange E.S.Space E.holds result voice (pushed key value) engine.old engine.new space.old space.new reply.old reply.new }
+    ensures answers { AnswersChange E.S.Space E.own E.holds result voice (pushed key value) engine.old engine.new space.old space.new reply.old reply.new }
     ensures refused { RefusesHeld E.S.Space E.holds result engine.old engine.new space.old space.new }
     ensures front { IsPrefix reply.old reply.new }
     ensures full { FullChange E.S.Space E.holds E.fills result voice (pushed key value) engine.old space.old space.new }
@@ -73,7 +73,7 @@ pub fn out<E: Engine>(
     reply: &mut Blob,
 ) -> Result<bool, RecErr>
     requires { IsReady E.S.Space E.holds engine.old space.old }
-    ensures answers { AnswersChange E.S.Space E.holds result voice (taken key.now) engine.old engine.new space.old space.new reply.old reply.new }
+    ensures answers { AnswersChange E.S.Space E.own E.holds result voice (taken key.now) engine.old engine.new space.old space.new reply.old reply.new }
     ensures refused { RefusesHeld E.S.Space E.holds result engine.old engine.new space.old space.new }
     ensures front { IsPrefix reply.old reply.new }
     ensures full { FullChange E.S.Space E.holds E.fills result voice (taken key.now) engine.old space.old space.new }
@@ -96,7 +96,7 @@ pub fn store_all<E: Engine>(
     reply: &mut Blob,
 ) -> Result<bool, RecErr>
     requires { IsReady E.S.Space E.holds engine.old space.old }
-    ensures answers { AnswersChange E.S.Space E.holds result voice (all_stored pairs) engine.old engine.new space.old space.new reply.old reply.new }
+    ensures answers { AnswersChange E.S.Space E.own E.holds result voice (all_stored pairs) engine.old engine.new space.old space.new reply.old reply.new }
     ensures refused { RefusesHeld E.S.Space E.holds result engine.old engine.new space.old space.new }
     ensures front { IsPrefix reply.old reply.new }
     ensures full { FullChange E.S.Space E.holds E.fills result voice (all_stored pairs) engine.old space.old space.new }
@@ -119,7 +119,7 @@ pub fn push_all<E: Engine>(
     reply: &mut Blob,
 ) -> Result<bool, RecErr>
     requires { IsReady E.S.Space E.holds engine.old space.old }
-    ensures answers { AnswersChange E.S.Space E.holds result voice (all_pushed pairs) engine.old engine.new space.old space.new reply.old reply.new }
+    ensures answers { AnswersChange E.S.Space E.own E.holds result voice (all_pushed pairs) engine.old engine.new space.old space.new reply.old reply.new }
     ensures refused { RefusesHeld E.S.Space E.holds result engine.old engine.new space.old space.new }
     ensures front { IsPrefix reply.old reply.new }
     ensures full { FullChange E.S.Space E.holds E.fills result voice (all_pushed pairs) engine.old space.old space.new }
@@ -142,7 +142,7 @@ pub fn clear_all<E: Engine>(
     reply: &mut Blob,
 ) -> Result<bool, RecErr>
     requires { IsReady E.S.Space E.holds engine.old space.old }
-    ensures answers { AnswersChange E.S.Space E.holds result voice (all_cleared keys) engine.old engine.new space.old space.new reply.old reply.new }
+    ensures answers { AnswersChange E.S.Space E.own E.holds result voice (all_cleared keys) engine.old engine.new space.old space.new reply.old reply.new }
     ensures refused { RefusesHeld E.S.Space E.holds result engine.old engine.new space.old space.new }
     ensures front { IsPrefix reply.old reply.new }
     ensures full { FullChange E.S.Space E.holds E.fills result voice (all_cleared keys) engine.old space.old space.new }
@@ -164,7 +164,7 @@ pub fn clear<E: Engine>(
     reply: &mut Blob,
 ) -> Result<bool, RecErr>
     requires { IsReady E.S.Space E.holds engine.old space.old }
-    ensures answers { AnswersChange E.S.Space E.holds result voice all_gone engine.old engine.new space.old space.new reply.old reply.new }
+    ensures answers { AnswersChange E.S.Space E.own E.holds result voice all_gone engine.old engine.new space.old space.new reply.old reply.new }
     ensures refused { RefusesHeld E.S.Space E.holds result engine.old engine.new space.old space.new }
     ensures front { IsPrefix reply.old reply.new }
     ensures full { FullChange E.S.Space E.holds E.fills result voice all_gone engine.old space.old space.new }
@@ -178,7 +178,7 @@ pub fn clear<E: Engine>(
     Ok(done)
 }
 
-/// Packs the files in the form that they have; the contents stay.
+/// Packs the files in the form that they have; the contents stay. It is full only where the undo log is.
 pub fn optimize<E: Engine>(
     engine: &mut E,
     space: &mut E::S,
@@ -186,10 +186,10 @@ pub fn optimize<E: Engine>(
 ) -> Result<bool, RecErr>
     requires { IsReady E.S.Space E.holds engine.old space.old }
     ensures tight { OnOk result (E.tight engine.new Keep) }
-    ensures answers { AnswersBy E.S.Space E.holds result (told_by (λ c. Some answer.Done)) answer.Fail true engine.old engine.new space.old space.new reply.old reply.new }
+    ensures answers { AnswersBy E.S.Space E.own E.holds result (told_by (λ c. Some answer.Done)) answer.Fail true engine.old engine.new space.old space.new reply.old reply.new }
     ensures refused { RefusesHeld E.S.Space E.holds result engine.old engine.new space.old space.new }
     ensures front { IsPrefix reply.old reply.new }
-    ensures full { IsErrOf result RecErr.Full → FillsAsIs E.S.Space E.holds E.fills engine.old space.old space.new }
+    ensures full { OnlyLogIsFull E.S.Space result space.new }
     ensures keeps { Keeps E.S.Space space.old space.new }
     ensures cause { OnFault E.S.Space result space.old space.new }
 {

@@ -52,7 +52,7 @@ fn serve<E: Engine>(
 ) -> Result<bool, RecErr>
     requires ready { IsReady E.S.Space E.holds engine.old space.old }
     requires updating { updating ≡ updates request }
-    ensures steps { StepsBy E.S.Space E.holds result request engine.old engine.new space.old space.new walk.old walk.new reply.old reply.new }
+    ensures steps { StepsBy E.S.Space E.own E.holds result request engine.old engine.new space.old space.new walk.old walk.new reply.old reply.new }
     ensures tight { OnOk result (is_optimize request ≡ true → E.tight engine.new Keep) }
     ensures declines { OnErr result (Declines E.S.Space E.holds engine.old engine.new space.old space.new walk.old walk.new) }
     ensures front { IsPrefix reply.old reply.new }
@@ -114,7 +114,11 @@ impl<E: Storage> Storage for Database<E> {
 
     ghost reopens = { E.reopens };
 
+    ghost own = { E.own };
+
     ghost fills = { E.fills };
+
+    ghost lacks_large = { E.lacks_large };
 
     ghost lines = { E.lines };
 
@@ -122,7 +126,11 @@ impl<E: Storage> Storage for Database<E> {
 
     ghost packed = { E.packed };
 
+    ghost no_logs = { E.no_logs };
+
     ghost apart = { λ b. E.apart (engine_of b) };
+
+    ghost log_fills = { E.log_fills };
 
     fn kind(&self) -> Kind {
         self.engine.kind()
@@ -175,9 +183,13 @@ impl<E: Opens> Opens for Database<E> {
 
     ghost shaped = { E.shaped };
 
+    ghost usual = { E.usual };
+
     ghost lacks = { E.lacks };
 
     ghost breaks = { E.breaks };
+
+    ghost breaks_new = { E.breaks_new };
 
     ghost unbroken = { E.unbroken };
 

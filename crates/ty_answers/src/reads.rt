@@ -98,7 +98,7 @@ pub fn get<E: Engine>(
     reply: &mut Blob,
 ) -> Result<bool, RecErr>
     requires { IsReady E.S.Space E.holds engine.old space.old }
-    ensures answers { TellsBy E.S.Space E.holds result (got key.now) answer.Fail engine.old engine.new space.old space.new reply.old reply.new }
+    ensures answers { TellsBy E.S.Space E.own E.holds result (got key.now) answer.Fail engine.old engine.new space.old space.new reply.old reply.new }
     ensures reads { ReadsHeld E.S.Space E.holds engine.old engine.new space.old space.new }
     ensures front { IsPrefix reply.old reply.new }
     ensures keeps { Keeps E.S.Space space.old space.new }
@@ -118,7 +118,7 @@ pub fn vsiz<E: Engine>(
     reply: &mut Blob,
 ) -> Result<bool, RecErr>
     requires { IsReady E.S.Space E.holds engine.old space.old }
-    ensures answers { TellsBy E.S.Space E.holds result (got_len key.now) answer.Fail engine.old engine.new space.old space.new reply.old reply.new }
+    ensures answers { TellsBy E.S.Space E.own E.holds result (got_len key.now) answer.Fail engine.old engine.new space.old space.new reply.old reply.new }
     ensures reads { ReadsHeld E.S.Space E.holds engine.old engine.new space.old space.new }
     ensures front { IsPrefix reply.old reply.new }
     ensures keeps { Keeps E.S.Space space.old space.new }
@@ -162,7 +162,7 @@ pub fn mget<E: Engine>(
     reply: &mut Blob,
 ) -> Result<bool, RecErr>
     requires { IsReady E.S.Space E.holds engine.old space.old }
-    ensures answers { TellsBy E.S.Space E.holds result (got_all keys.now) answer.Fail engine.old engine.new space.old space.new reply.old reply.new }
+    ensures answers { TellsBy E.S.Space E.own E.holds result (got_all keys.now) answer.Fail engine.old engine.new space.old space.new reply.old reply.new }
     ensures reads { ReadsHeld E.S.Space E.holds engine.old engine.new space.old space.new }
     ensures front { IsPrefix reply.old reply.new }
     ensures keeps { Keeps E.S.Space space.old space.new }
@@ -201,7 +201,7 @@ pub fn fwmkeys<E: Engine>(
     reply: &mut Blob,
 ) -> Result<bool, RecErr>
     requires { IsReady E.S.Space E.holds engine.old space.old }
-    ensures answers { TellsBy E.S.Space E.holds result (got_keys prefix.now maximum) answer.Fail engine.old engine.new space.old space.new reply.old reply.new }
+    ensures answers { TellsBy E.S.Space E.own E.holds result (got_keys prefix.now maximum) answer.Fail engine.old engine.new space.old space.new reply.old reply.new }
     ensures reads { ReadsHeld E.S.Space E.holds engine.old engine.new space.old space.new }
     ensures front { IsPrefix reply.old reply.new }
     ensures keeps { Keeps E.S.Space space.old space.new }
@@ -223,7 +223,7 @@ pub fn fwmkeys<E: Engine>(
 /// Answers the number of pairs of a tree, else of keys.
 pub fn rnum<E: Engine>(engine: &E, _space: &E::S, reply: &mut Blob) -> Result<bool, RecErr>
     requires { IsReady E.S.Space E.holds engine.now _space.now }
-    ensures answers { TellsBy E.S.Space E.holds result counted_keys answer.Fail engine.now engine.now _space.now _space.now reply.old reply.new }
+    ensures answers { TellsBy E.S.Space E.own E.holds result counted_keys answer.Fail engine.now engine.now _space.now _space.now reply.old reply.new }
     ensures err { OnErr result (reply.new ≡ reply.old) }
     ensures front { IsPrefix reply.old reply.new }
     ensures cause { OnlyMemory result }
@@ -234,7 +234,7 @@ pub fn rnum<E: Engine>(engine: &E, _space: &E::S, reply: &mut Blob) -> Result<bo
 /// Answers the bytes of all keys and values.
 pub fn size<E: Engine>(engine: &mut E, space: &mut E::S, reply: &mut Blob) -> Result<bool, RecErr>
     requires { IsReady E.S.Space E.holds engine.old space.old }
-    ensures answers { TellsBy E.S.Space E.holds result sized answer.Fail engine.old engine.new space.old space.new reply.old reply.new }
+    ensures answers { TellsBy E.S.Space E.own E.holds result sized answer.Fail engine.old engine.new space.old space.new reply.old reply.new }
     ensures reads { ReadsHeld E.S.Space E.holds engine.old engine.new space.old space.new }
     ensures front { IsPrefix reply.old reply.new }
     ensures keeps { Keeps E.S.Space space.old space.new }
@@ -252,7 +252,7 @@ pub fn stat<E: Engine>(
     reply: &mut Blob,
 ) -> Result<bool, RecErr>
     requires { IsReady E.S.Space E.holds engine.old space.old }
-    ensures answers { TellsBy E.S.Space E.holds result lines_told answer.Fail engine.old engine.new space.old space.new reply.old reply.new }
+    ensures answers { TellsBy E.S.Space E.own E.holds result lines_told answer.Fail engine.old engine.new space.old space.new reply.old reply.new }
     ensures reads { ReadsHeld E.S.Space E.holds engine.old engine.new space.old space.new }
     ensures front { IsPrefix reply.old reply.new }
     ensures keeps { Keeps E.S.Space space.old space.new }
@@ -273,7 +273,7 @@ pub fn misc_get<E: Engine>(
     reply: &mut Blob,
 ) -> Result<bool, RecErr>
     requires { IsReady E.S.Space E.holds engine.old space.old }
-    ensures answers { TellsBy E.S.Space E.holds result (meant (misc.Get key.now)) answer.FailMisc engine.old engine.new space.old space.new reply.old reply.new }
+    ensures answers { TellsBy E.S.Space E.own E.holds result (meant (misc.Get key.now)) answer.FailMisc engine.old engine.new space.old space.new reply.old reply.new }
     ensures reads { ReadsHeld E.S.Space E.holds engine.old engine.new space.old space.new }
     ensures front { IsPrefix reply.old reply.new }
     ensures keeps { Keeps E.S.Space space.old space.new }
@@ -315,7 +315,7 @@ pub fn misc_getlist<E: Engine>(
     reply: &mut Blob,
 ) -> Result<bool, RecErr>
     requires { IsReady E.S.Space E.holds engine.old space.old }
-    ensures answers { TellsBy E.S.Space E.holds result (meant (misc.GetList keys)) answer.FailMisc engine.old engine.new space.old space.new reply.old reply.new }
+    ensures answers { TellsBy E.S.Space E.own E.holds result (meant (misc.GetList keys)) answer.FailMisc engine.old engine.new space.old space.new reply.old reply.new }
     ensures reads { ReadsHeld E.S.Space E.holds engine.old engine.new space.old space.new }
     ensures front { IsPrefix reply.old reply.new }
     ensures keeps { Keeps E.S.Space space.old space.new }
@@ -364,7 +364,7 @@ pub fn misc_range<E: Engine>(
     reply: &mut Blob,
 ) -> Result<bool, RecErr>
     requires { IsReady E.S.Space E.holds engine.old space.old }
-    ensures answers { TellsBy E.S.Space E.holds result (meant (misc.Range from maximum.now to)) answer.FailMisc engine.old engine.new space.old space.new reply.old reply.new }
+    ensures answers { TellsBy E.S.Space E.own E.holds result (meant (misc.Range from maximum.now to)) answer.FailMisc engine.old engine.new space.old space.new reply.old reply.new }
     ensures reads { ReadsHeld E.S.Space E.holds engine.old engine.new space.old space.new }
     ensures front { IsPrefix reply.old reply.new }
     ensures keeps { Keeps E.S.Space space.old space.new }

@@ -8,7 +8,7 @@ use Rattle.tc_space.specs.declared.errors.RecErr.{RecErr}
 use Rattle.tc_space.specs.declared.errors.RecErr.TheVariants as rec
 use Rattle.ty_base.specs.declared.errors.AnyErr.{AnyErr}
 use Rattle.ty_base.specs.declared.errors.AnyErr.TheVariants as any
-use Rattle.ty_base.specs.Opening.{Breaks, IsNotBroken, any_of}
+use Rattle.ty_base.specs.Opening.{Breaks, any_of}
 
 pub no_bytes : (xs : List ℕ) → length xs ≡ 0 → xs ≡ []
 no_bytes [] e = refl
@@ -47,9 +47,9 @@ full_of e a is full = full_only e (sym is ∙ cause_is a any.Full full)
 pub full_from : {T U : Type 0} (r : Result T AnyErr) (e : RecErr) → IsErrAnd r (λ a. a ≡ any_of e) → IsErrOf r any.Full → IsErrOf {T = U} (Err e) rec.Full
 full_from r e is full = let p = err_from_is_err_and r is in ap (λ x. Err x) (full_of e p.0 p.2 (sym p.1 ∙ full))
 
--- whatever is asked of a rule
-pub breaks_none : (e : AnyErr) (P : ℕ → Rule → Type 0) → IsNotBroken e → Breaks e P
-breaks_none (any.Broken file rule) P none = absurd none
-breaks_none any.Full P none = tt
-breaks_none any.Fault P none = tt
-breaks_none any.Memory P none = tt
+-- where none is named, whatever is asked of a rule
+pub breaks_none : (e : AnyErr) (told : Type 0) (P : ℕ → Rule → Type 0) → Breaks e (λ file rule. told → ⊥) → Breaks e (λ file rule. told → P file rule)
+breaks_none (any.Broken file rule) told P none = λ t. absurd (none t)
+breaks_none any.Full told P none = tt
+breaks_none any.Fault told P none = tt
+breaks_none any.Memory told P none = tt

@@ -1,10 +1,12 @@
 -- What a database holds over the files of its space.
-use Rattle.std.specs.Prelude.{◌≡◌, ◌≢◌, ◌⊎◌, ◌||◌, ◌++◌, ℕ, Bool, true, false, List, Result, IfOk, OnErr}
+use Rattle.std.specs.Prelude.{◌≡◌, ◌⊎◌, ◌||◌, ◌++◌, ◌≤◌, ℕ, Bool, true, false, List, Result, IfOk, OnErr}
 use Rattle.std.proofs.Common.{◌∙◌, arith, refl, sym}
 use Rattle.tc_base.specs.Files.{Files}
 use Rattle.tc_base.specs.declared.kind.Form.{Form}
+use Rattle.tc_base.specs.declared.kind.Form.TheVariants.{Large}
 use Rattle.tc_base.specs.declared.request.Request.{Request}
-use Rattle.tc_space.specs.Frames.{OnlyReads, Others, Reads, Refuses, only_reads_refl}
+use Rattle.tc_space.specs.Frames.{OnlyReads, Others, Reads, Refuses, only_reads_refl, others_refl}
+use Rattle.tc_space.specs.Moments.{Past}
 use Rattle.tc_space.specs.Stores.{Only}
 use Rattle.tc_space.specs.declared.space.Space.{Ghosts}
 use Rattle.tc_model.specs.Contents.{Contents, Walk}
@@ -50,9 +52,9 @@ module _ {S B : Type 0} (s : Ghosts S) (holds : B → Files → Contents → Typ
   abbrev pub PacksHeld : (B → Form → Type 0) → (Form → Files → Type 0) → B → S → S → Type 0
   PacksHeld tight packed base old new = (form : Form) (c : Contents) → tight base form → Held s holds base old c → packed form (s.now new)
 
-  -- a limit is reached where what is held is to be written as it is
-  abbrev pub FillsAsIs : (S → Contents → Contents → Type 0) → B → S → S → Type 0
-  FillsAsIs fills base old new = OfHeld base old (λ c. fills new c c)
+  -- a packing had no room: the undo log is full, or what is held had none in the large form
+  abbrev pub FullPack : (S → Contents → Type 0) → Form → B → S → S → Type 0
+  FullPack lacks_large form base old new = OfHeld base old (λ c. s.log_full new ⊎ ((form ≡ Large) × lacks_large new c))
 
 -- these lines are told of the files
 abbrev pub TellsLines : {S : Type 0} → Ghosts S → (Files → List ℕ → Type 0) → S → List ℕ → List ℕ → Type 0
@@ -80,9 +82,14 @@ is_idle r a = (a.updated ≡ false) × (is_optimize r ≡ false)
 abbrev pub may_write : Request → Bool
 may_write r = updates r || is_optimize r
 
--- a limit is reached, where a request may write, between what is held and what it makes of that
+-- a limit is reached between whatever contents: that of the undo log
+abbrev pub FillsAll : (Contents → Contents → Type 0) → Type 0
+FillsAll fills = (c d : Contents) → fills c d
+
+-- a limit is reached, where a request may write, between what is held and what it makes of that; where it packs the files, that of the undo log
 pub record FillsBy {S B : Type 0} (s : Ghosts S) (holds : B → Files → Contents → Type 0) (fills : Contents → Contents → Type 0) (r : Request) (base : B) (space : S) (after : Contents → Contents) : Type 0 where
   pub writes : may_write r ≡ true
+  pub packs : is_optimize r ≡ true → s.tells → FillsAll fills
   pub by : (c : Contents) → Held s holds base space c → fills c (after c)
 
 -- it may be used: so may the space, and some contents are held where files are told
@@ -94,15 +101,15 @@ pub record IsReady {S B : Type 0} (s : Ghosts S) (holds : B → Files → Conten
 pub record Stays {S : Type 0} (s : Ghosts S) (file : ℕ) (old new : S) : Type 0 where
   pub same : s.tells → s.now new file ≡ s.now old file
 
--- the space may be used, and file 2 stays
-pub record StaysUsable {S : Type 0} (s : Ghosts S) (old new : S) : Type 0 where
+-- the space may be used, and files that aren't its own stay
+pub record StaysUsable {S : Type 0} (s : Ghosts S) (own : ℕ → Type 0) (old new : S) : Type 0 where
   pub sound : s.sound new
-  pub log : Stays s 2 old new
+  pub others : Others s own old new
 
--- the space may be used, file 2 stays, and nothing is written where it is idle
-pub record Leaves {S : Type 0} (s : Ghosts S) (idle : Type 0) (old new : S) : Type 0 where
+-- besides, nothing is written where it is idle
+pub record Leaves {S : Type 0} (s : Ghosts S) (own : ℕ → Type 0) (idle : Type 0) (old new : S) : Type 0 where
   pub sound : s.sound new
-  pub log : Stays s 2 old new
+  pub others : Others s own old new
   pub reads : idle → OnlyReads s old new
 
 -- the space may not be used any more, or files, contents and walk stay
@@ -116,18 +123,36 @@ module _ {S : Type 0} (s : Ghosts S) where
   pub stays_then : (file : ℕ) (a b c : S) → Stays s file a b → Stays s file b c → Stays s file a c
   stays_then file a b c first second = record { same = λ t. second.same t ∙ first.same t }
 
-  pub log_stays : (a b : S) → Others s (Only 0) a b → Stays s 2 a b
-  log_stays a b others = record { same = λ t. others.same t 2 (λ e. absurd (omega (arith, e))) }
+  pub log_stays : (own : ℕ → Type 0) (a b : S) → (own 2 → ⊥) → Others s own a b → Stays s 2 a b
+  log_stays own a b other others = record { same = λ t. others.same t 2 other }
 
-  pub leaves_nothing : (idle : Type 0) (a : S) → s.sound a → Leaves s idle a a
-  leaves_nothing idle a is = record { sound = is; log = stays_refl 2 a; reads = λ i. only_reads_refl s a is }
+  pub leaves_nothing : (own : ℕ → Type 0) (idle : Type 0) (a : S) → s.sound a → Leaves s own idle a a
+  leaves_nothing own idle a is = record { sound = is; others = others_refl s own a; reads = λ i. only_reads_refl s a is }
 
-  pub leaves_less : (idle less : Type 0) (a b : S) → (less → idle) → Leaves s idle a b → Leaves s less a b
-  leaves_less idle less a b fewer l = record { sound = l.sound; log = l.log; reads = λ i. l.reads (fewer i) }
+  pub leaves_less : (own : ℕ → Type 0) (idle less : Type 0) (a b : S) → (less → idle) → Leaves s own idle a b → Leaves s own less a b
+  leaves_less own idle less a b fewer l = record { sound = l.sound; others = l.others; reads = λ i. l.reads (fewer i) }
 
--- files that differ in file 2 alone
-abbrev pub AreApart : Files → Files → Type 0
-AreApart f g = (n : ℕ) → n ≢ 2 → g n ≡ f n
+-- files that may differ in others than these
+abbrev pub AreApart : (ℕ → Type 0) → Files → Files → Type 0
+AreApart own f g = (n : ℕ) → own n → g n ≡ f n
 
-pub main_apart : (f g : Files) → AreApart f g → f 0 ≡ g 0
-main_apart f g apart = sym (apart 0 (λ e. absurd (omega (arith, e))))
+-- neither the undo log's file nor the update log's
+abbrev pub NoLogs : (ℕ → Type 0) → Type 0
+NoLogs own = (own 1 → ⊥) × (own 2 → ⊥)
+
+pub main_no_log : NoLogs (Only 0)
+main_no_log = ((λ e. absurd (omega (arith, e))), (λ e. absurd (omega (arith, e))))
+
+pub main_apart : (f g : Files) → AreApart (Only 0) f g → f 0 ≡ g 0
+main_apart f g apart = sym (apart 0 refl)
+
+-- the files that a space had at a moment, whose bytes it was over then, and which may have been written since
+pub record IsPast {S : Type 0} (s : Ghosts S) (before now : S) : Type 0 where
+  pub later : s.moment before ≤ s.moment now
+  pub files : s.files_at now (s.moment before) ≡ s.now before
+
+pub past_of : {S : Type 0} (s : Ghosts S) (a b : S) → s.tells → s.files_at a (s.moment a) ≡ s.now a → Past s.moment s.files_at a b → IsPast s a b
+past_of s a b t present past = record { later = past.later; files = past.same (s.moment a) (omega arith) ∙ present }
+
+pub past_since : {S : Type 0} (s : Ghosts S) (a b c : S) → IsPast s a b → Past s.moment s.files_at b c → IsPast s a c
+past_since s a b c is past = record { later = omega (arith, is.later, past.later); files = past.same (s.moment a) is.later ∙ is.files }

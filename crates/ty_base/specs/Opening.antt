@@ -1,11 +1,12 @@
 -- A database opened or made anew, and why it wasn't.
-use Rattle.std.specs.Prelude.{◌≡◌, ℕ, [], Result, IfOk, IfErr, IsErrOf}
+use Rattle.std.specs.Prelude.{◌≡◌, ◌⊎◌, ℕ, false, [], Result, IfOk, IfErr, OnErr, IsErrOf}
 use Rattle.std.proofs.Common.{refl}
 use Rattle.tc_base.specs.Files.{Files}
 use Rattle.tc_base.specs.declared.kind.Kind.{Kind}
 use Rattle.tc_model.specs.Contents.{Contents, kind_of}
 use Rattle.tc_base.specs.declared.kind.Rule.{Rule}
 use Rattle.tc_io.specs.Causes.{Rose}
+use Rattle.tc_space.specs.Frames.{OnlyReads, Others}
 use Rattle.tc_space.specs.declared.space.Space.{Ghosts}
 use Rattle.tc_space.specs.declared.errors.RecErr.{RecErr}
 use Rattle.tc_space.specs.declared.errors.RecErr.TheVariants as rec
@@ -31,12 +32,12 @@ pub record IsCreated {B N : Type 0} (held : B → Files → Contents → Type 0)
   pub some : files 0 ≡ [] → ⊥
   pub numbers : has_numbers shape files
 
--- the main file is empty, and a limit is reached as it is given what it is to stand for
-pub record FillsNew (opens : Files → Contents → Type 0) (fills : Contents → Contents → Type 0) (files : Files) : Type 0 where
+-- the main file is empty, and there was no room for what it is to be
+pub record FillsNew (opens : Files → Contents → Type 0) (lacks : Type 0) (files : Files) : Type 0 where
   pub empty : files 0 ≡ []
   pub contents : Contents
   pub stand : opens files contents
-  pub full : fills contents contents
+  pub full : lacks
 
 -- the same cause
 abbrev pub any_of : RecErr → AnyErr
@@ -57,10 +58,6 @@ Breaks any.Full P = Unit {0}
 Breaks any.Fault P = Unit {0}
 Breaks any.Memory P = Unit {0}
 
--- no rule is named
-abbrev pub IsNotBroken : AnyErr → Type 0
-IsNotBroken e = Breaks e (λ file rule. ⊥)
-
 -- ---- of a call that opens the files of a space, or makes them
 
 module _ {S : Type 0} (s : Ghosts S) (reopens : Files → Contents → Type 0) where
@@ -75,18 +72,30 @@ module _ {S : Type 0} (s : Ghosts S) (reopens : Files → Contents → Type 0) w
   abbrev pub CreatesAs : {B N : Type 0} → (B → Files → Contents → Type 0) → (N → Files → Type 0) → B → Contents → N → S → Type 0
   CreatesAs held has_numbers base c shape new = s.tells → IsCreated held reopens has_numbers base c shape (s.now new)
 
-  -- a new main file had no room
-  abbrev pub LacksNew : (S → Contents → Contents → Type 0) → Kind → S → S → Type 0
-  LacksNew fills kind old new = s.tells → FillsNew (OpensTo kind reopens) (fills new) (s.now old)
+-- the space may be used, files that aren't its own stay, and an empty main file was made one of these numbers
+pub record OpensUsable {S : Type 0} (s : Ghosts S) (own : ℕ → Type 0) (shaped : Files → Type 0) (old new : S) : Type 0 where
+  pub sound : s.sound new
+  pub others : Others s own old new
+  pub made : s.tells → s.now old 0 ≡ [] → shaped (s.now new)
+
+module _ {S : Type 0} (s : Ghosts S) where
+  -- the main file is empty, so that the files stand for contents of the kind, and a new one had no room
+  abbrev pub LacksNew : (Files → Contents → Type 0) → Type 0 → Kind → S → Type 0
+  LacksNew reopens lacks kind old = s.tells → FillsNew (OpensTo kind reopens) lacks (s.now old)
 
 module _ {S T : Type 0} (s : Ghosts S) (result : Result T AnyErr) where
   -- the rule that it names is one that the files break
   abbrev pub NamesRule : (Kind → Files → ℕ → Rule → Type 0) → Kind → S → Type 0
   NamesRule breaks kind space = IfErr result (λ e. Breaks e (λ file rule. s.tells → breaks kind (s.now space) file rule))
 
-  -- a fault comes only where a call of the volume failed
-  abbrev pub OnAnyFault : S → S → Type 0
-  OnAnyFault old new = IsErrOf result any.Fault → Rose (s.faults old) (s.faults new)
+  -- the rule that it names is one that files beside an empty main file break
+  abbrev pub NamesNew : (Files → ℕ → Rule → Type 0) → S → Type 0
+  NamesNew breaks space = IfErr result (λ e. Breaks e (λ file rule. s.tells → breaks (s.now space) file rule))
+
+  -- after a refusal the space may not be used any more, or nothing was written; a fault comes only where a call of the volume failed
+  pub record RefusesToOpen (old new : S) : Type 0 where
+    pub left : OnErr result ((s.flag new ≡ false) ⊎ OnlyReads s old new)
+    pub cause : IsErrOf result any.Fault → Rose (s.faults old) (s.faults new)
 
 -- what was made anew opens again as it is
 pub created_opens : {B N : Type 0} (held : B → Files → Contents → Type 0) (reopens : Files → Contents → Type 0) (has_numbers : N → Files → Type 0) (base : B) (c : Contents) (shape : N) (files : Files) → IsCreated held reopens has_numbers base c shape files → OpensTo (kind_of c) reopens files c

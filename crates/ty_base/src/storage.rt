@@ -2,18 +2,18 @@
 ghost use Rattle.std.specs.Prelude.{◌≡◌, ℕ, List, OnOk, IsErrOf};
 ghost use Rattle.tc_base.specs.Files.{Files};
 ghost use Rattle.tc_base.specs.declared.kind.Form.{Form};
-ghost use Rattle.tc_space.specs.Frames.{Keeps};
-ghost use Rattle.tc_space.specs.Refusals.{OnFault};
+ghost use Rattle.tc_space.specs.Frames.{Keeps, Others};
+ghost use Rattle.tc_space.specs.Refusals.{OnFault, OnlyLogIsFull};
 ghost use Rattle.ty_wire.specs.Prefixes.{IsPrefix};
 ghost use Rattle.tc_model.specs.Contents.{Contents, kind_of};
-ghost use Rattle.ty_base.specs.Holding.{AreApart, FillsAsIs, IsReady, FilesStand, ReadsHeld, PacksHeld, RefusesHeld, Remains, SettlesHeld, Stays, TellsLines};
+ghost use Rattle.ty_base.specs.Holding.{AreApart, FilesStand, FullPack, IsReady, NoLogs, PacksHeld, ReadsHeld, RefusesHeld, Remains, SettlesHeld, TellsLines};
 
 use tc_base::{Blob, Form, Kind};
 use tc_space::{RecErr, Space};
 
 /// What holds contents over a space, and brings them to its files.
 ///
-/// After a refusal the space isn't sound, or nothing has changed: neither files nor contents. It leaves file 2 alone.
+/// After a refusal the space isn't sound, or nothing has changed: neither files nor contents. It changes no files but its own.
 pub trait Storage {
     type S: Space;
 
@@ -23,8 +23,14 @@ pub trait Storage {
     /// Whether files, read with an empty undo log, reopen to contents. Of what stands in memory any files do.
     ghost reopens: { Files → Contents → Type 0 };
 
+    /// Its files.
+    ghost own: { ℕ → Type 0 };
+
     /// A limit is reached, as the space stands, between contents before a change and after it; never in memory.
     ghost fills: { Self.S → Contents → Contents → Type 0 };
+
+    /// So it is where files are written anew in the large form with these contents.
+    ghost lacks_large: { Self.S → Contents → Type 0 };
 
     /// What an inspection tells of files behind what it tells of contents; nothing in memory.
     ghost lines: { Files → List ℕ → Type 0 };
@@ -39,27 +45,27 @@ pub trait Storage {
     fn kind(&self) -> Kind
         ensures { (files : Files) (c : Contents) → holds self.now files c → result ≡ kind_of c };
 
-    /// Brings what is held in memory to the files, which then stand for the contents.
+    /// Brings what is held in memory to the files, which then stand for the contents. It is full only where the undo log is.
     fn settle(&mut self, space: &mut Self::S) -> Result<(), RecErr>
         requires ready { IsReady Self.S.Space holds self.old space.old }
         ensures packs { OnOk result (PacksHeld Self.S.Space holds tight packed self.old space.old space.new) }
         ensures settled { OnOk result (SettlesHeld Self.S.Space holds reopens self.old self.new space.old space.new) }
         ensures sound { OnOk result (Self.S.sound space.new) }
-        ensures log { OnOk result (Stays Self.S.Space 2 space.old space.new) }
+        ensures others { OnOk result (Others Self.S.Space own space.old space.new) }
         ensures refused { RefusesHeld Self.S.Space holds result self.old self.new space.old space.new }
-        ensures full { IsErrOf result RecErr.Full → FillsAsIs Self.S.Space holds fills self.old space.old space.new }
+        ensures full { OnlyLogIsFull Self.S.Space result space.new }
         ensures keeps { Keeps Self.S.Space space.old space.new }
         ensures cause { OnFault Self.S.Space result space.old space.new };
 
-    /// Packs the files, in place or in the large form. The contents stay, and stand in the files once it is settled.
+    /// Packs the files, in place or in the large form. The contents stay, and stand in the files once it is settled. In place it is full only where the undo log is.
     fn pack(&mut self, space: &mut Self::S, form: Form) -> Result<(), RecErr>
         requires ready { IsReady Self.S.Space holds self.old space.old }
         ensures tight { OnOk result (tight self.new form) }
         ensures packed { OnOk result (Remains Self.S.Space holds self.old self.new space.old space.new) }
         ensures sound { OnOk result (Self.S.sound space.new) }
-        ensures log { OnOk result (Stays Self.S.Space 2 space.old space.new) }
+        ensures others { OnOk result (Others Self.S.Space own space.old space.new) }
         ensures refused { RefusesHeld Self.S.Space holds result self.old self.new space.old space.new }
-        ensures full { IsErrOf result RecErr.Full → FillsAsIs Self.S.Space holds fills self.old space.old space.new }
+        ensures full { IsErrOf result RecErr.Full → FullPack Self.S.Space holds lacks_large form self.old space.old space.new }
         ensures keeps { Keeps Self.S.Space space.old space.new }
         ensures cause { OnFault Self.S.Space result space.old space.new };
 
@@ -75,6 +81,12 @@ pub trait Storage {
         ensures keeps { Keeps Self.S.Space space.old space.new }
         ensures cause { OnFault Self.S.Space result space.old space.new };
 
-    /// What it holds, and what files reopen to, has nothing to do with file 2.
-    ghost apart: { (b : Self) (f g : Files) (c : Contents) → AreApart f g → (holds b f c → holds b g c) × (reopens f c → reopens g c) };
+    /// They are neither log.
+    ghost no_logs: { NoLogs own };
+
+    /// What it holds, and what files reopen to, has to do with them alone.
+    ghost apart: { (b : Self) (f g : Files) (c : Contents) → AreApart own f g → (holds b f c → holds b g c) × (reopens f c → reopens g c) };
+
+    /// Where the undo log is full a limit is reached, whatever was to be made.
+    ghost log_fills: { (space : Self.S) (c d : Contents) → Self.S.log_full space → fills space c d };
 }

@@ -33,10 +33,10 @@ module _ {S : Type 0} (s : Ghosts S) where
     pub none_two : (a : S) (m n : Mark) → LeavesTwo s reopens a a m n
     none_two a m n = record { leaves = record { later = omega arith; each = λ t o le l. inl l } }
 
-    pub steady_two : (a b : S) (m n : Mark) → Reopens reopens (s.kept a) m → Steady s.moment s.left s.kept a b → LeavesTwo s reopens a b m n
+    pub steady_two : (a b : S) (m n : Mark) → Reopens reopens (s.kept a) m → Steady s.moment s.files_at s.left s.kept a b → LeavesTwo s reopens a b m n
     steady_two a b m n k st = record { leaves = record { later = st.leaves.later; each = λ t o le l. ⊎_elim (λ was. inl was) (λ is. inr (inl (was_kept a o m k is))) (st.leaves.each t o le l) } }
 
-    pub moved_two : (a b e : S) (m n : Mark) → Reopens reopens (s.kept a) m → Steady s.moment s.left s.kept a b → MovesTo s reopens b e n → LeavesTwo s reopens a e m n
+    pub moved_two : (a b e : S) (m n : Mark) → Reopens reopens (s.kept a) m → Steady s.moment s.files_at s.left s.kept a b → MovesTo s reopens b e n → LeavesTwo s reopens a e m n
     moved_two a b e m n k st mv = record {
       leaves = record {
         later = omega (arith, st.leaves.later, mv.leaves.later);

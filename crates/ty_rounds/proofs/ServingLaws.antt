@@ -6,9 +6,9 @@ use Rattle.std.proofs.lemmas.Bool.{ne_eqb, eqb-true, or_parts}
 use Rattle.tc_base.specs.Files.{Files}
 use Rattle.tc_base.specs.declared.request.Request.{Request}
 use Rattle.tc_base.specs.declared.request.Request.TheVariants.{Repl}
-use Rattle.tc_space.specs.Frames.{only_reads_then}
+use Rattle.tc_space.specs.Frames.{only_reads_then, others_then}
 use Rattle.tc_space.specs.declared.space.Space.{Ghosts}
-use Rattle.ty_base.specs.Holding.{IsReady, Leaves, stays_then}
+use Rattle.ty_base.specs.Holding.{IsReady, Leaves}
 use Rattle.tc_base.specs.declared.fields.NotWhole.{NotWhole}
 use Rattle.tc_base.specs.declared.fields.NotWhole.TheVariants.{Part}
 use Rattle.tc_base.specs.Reading.{Front}
@@ -26,7 +26,7 @@ use Rattle.ty_rounds.specs.Peers.{numbers, all_taken}
 use Rattle.ty_rounds.specs.Ready.{FewUnread, FewWaiting}
 use Rattle.ty_rounds.specs.Holding.{Holds, AllHold, RoundsTo}
 use Rattle.ty_rounds.specs.Repls.{OwesRepl}
-use Rattle.ty_rounds.specs.Serving.{RoundsOne, ServesOne, FillsAt, Halfway, MayWrite}
+use Rattle.ty_rounds.specs.Serving.{RoundsOne, ServesOne, FillsAt, FillsOne, Halfway}
 use Rattle.ty_rounds.specs.declared.peer.Peer.{Peer}
 
 -- ---- one
@@ -198,7 +198,7 @@ more u v c0 c c' w0 w w' old ps ks i p q h lt is serves = go h.back h.rest refl 
         }
 
 -- a limit was reached at the next request
-pub fills_at : (fills : Contents → Contents → Type 0) (u : Bool) (c0 : Contents) (c : Contents → Type 0) (w0 w : Walk) (old ps : List Peer) (ks : List Client) (i : ℕ) (p : Peer) → Halfway u c0 c w0 w old ps i ks → i < length ps → p ≡ get_or ps i p → ((d : Contents) → c d → (k : Client) → Holds p k → MayWrite k × fills d (round_one d w k).contents) → FillsAt fills c0 w0 ks
+pub fills_at : (fills : Contents → Contents → Type 0) (u : Bool) (c0 : Contents) (c : Contents → Type 0) (w0 w : Walk) (old ps : List Peer) (ks : List Client) (i : ℕ) (p : Peer) → Halfway u c0 c w0 w old ps i ks → i < length ps → p ≡ get_or ps i p → ((d : Contents) → c d → (k : Client) → Holds p k → FillsOne fills d w k) → FillsAt fills c0 w0 ks
 fills_at fills u c0 c w0 w old ps ks i p h lt is full = go h.back h.rest refl refl h.left
   where
     go : (back : List Peer) (rest : List Client) → h.back ≡ back → h.rest ≡ rest → AllHold back rest → FillsAt fills c0 w0 ks
@@ -214,8 +214,7 @@ fills_at fills u c0 c w0 w old ps ks i p h lt is full = go h.back h.rest refl re
           front = h.served;
           back = k ∷ ys;
           parts = h.clients_are ∙ ap (λ (l : List Client). h.served ++ l) f;
-          writes = one.0;
-          full = subst (λ (d : Contents). fills now.contents d) (sym (more_contents c0 w0 h.served k)) (subst (λ (v : Walk). fills now.contents (round_one now.contents v k).contents) h.walk one.1);
+          next = subst (λ (v : Walk). FillsOne fills now.contents v k) h.walk one;
         }
 
 pub finish : (u : Bool) (c0 : Contents) (c : Contents → Type 0) (w0 w : Walk) (old ps : List Peer) (ks : List Client) (i : ℕ) → Halfway u c0 c w0 w old ps i ks → length ps ≤ i → RoundsTo u c w ps (round_all c0 w0 ks)
@@ -240,15 +239,15 @@ more_is x u v c0 c c' w0 w w' old ps ks i p q is h lt at serves = subst (λ (b :
 
 -- ---- what the space is and what the connection holds
 
-pub leaves_then : {S : Type 0} (s : Ghosts S) (x u v : Bool) (a b c : S) → x ≡ (u || v) → Leaves s (u ≡ false) a b → Leaves s (v ≡ false) b c → Leaves s (x ≡ false) a c
-leaves_then s x u v a b c is first second = record {
+pub leaves_then : {S : Type 0} (s : Ghosts S) (own : ℕ → Type 0) (x u v : Bool) (a b c : S) → x ≡ (u || v) → Leaves s own (u ≡ false) a b → Leaves s own (v ≡ false) b c → Leaves s own (x ≡ false) a c
+leaves_then s own x u v a b c is first second = record {
   sound = second.sound;
-  log = stays_then s 2 a b c first.log second.log;
+  others = others_then s own a b c first.others second.others;
   reads = λ e. let n = or_parts u v (sym is ∙ e) in only_reads_then s a b c (first.reads n.0) (second.reads n.1);
 }
 
-pub still_ready : {S B : Type 0} (s : Ghosts S) (holds : B → Files → Contents → Type 0) (logs : Bool) (d : Served) (base base' : B) (old new : S) (w w' : Walk) (unread unread' waiting waiting' : List ℕ) (idle : Type 0) → IsReady s holds base old → ServesFront s holds false logs d base base' old new w w' unread unread' waiting waiting' → Leaves s idle old new → IsReady s holds base' new
-still_ready s holds logs d base base' old new w w' unread unread' waiting waiting' idle is f l = record { sound = l.sound; held = λ t. let h = is.held t in let x = f.serves h.0 (t, h.1) in (x.0, x.1.1) }
+pub still_ready : {S B : Type 0} (s : Ghosts S) (own : ℕ → Type 0) (holds : B → Files → Contents → Type 0) (logs : Bool) (d : Served) (base base' : B) (old new : S) (w w' : Walk) (unread unread' waiting waiting' : List ℕ) (idle : Type 0) → IsReady s holds base old → ServesFront s holds false logs d base base' old new w w' unread unread' waiting waiting' → Leaves s own idle old new → IsReady s holds base' new
+still_ready s own holds logs d base base' old new w w' unread unread' waiting waiting' idle is f l = record { sound = l.sound; held = λ t. let h = is.held t in let x = f.serves h.0 (t, h.1) in (x.0, x.1.1) }
 
 pub fewer_unread : (p p' : Peer) (q : Queue) (r : Request) (d : Served) → TakesOff r d p.session.unread q.unread → OwesRepl (record p { session = q }) p' r → FewUnread p → FewUnread p'
 fewer_unread p p' q r d t o few = omega (arith, few, ap length t.spelled, length-append (spelling r) q.unread, ap (λ (z : Queue). length z.unread) o.session)

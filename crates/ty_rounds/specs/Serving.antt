@@ -7,7 +7,8 @@ use Rattle.tc_base.specs.Files.{Files}
 use Rattle.tc_base.specs.declared.request.Request.{Request}
 use Rattle.tc_space.specs.declared.space.Space as space
 use Rattle.ty_base.specs.Holding as holding
-use Rattle.ty_base.specs.Holding.{Held, Leaves, OfHeld, may_write}
+use Rattle.tc_model.specs.Packing.{is_optimize}
+use Rattle.ty_base.specs.Holding.{FillsAll, Held, Leaves, OfHeld, may_write}
 use Rattle.ty_core.specs.Serving.{Begins}
 use Rattle.ty_rounds.specs.Holding.{Holds, AllHold, RoundsTo}
 use Rattle.ty_rounds.specs.Peers.{numbers}
@@ -24,29 +25,26 @@ pub record RoundsOne (u : Bool) (c : Contents) (known : Contents → Type 0) (w 
 pub record ServesOne (u : Bool) (c : Contents) (known : Contents → Type 0) (w w' : Walk) (p p' : Peer) : Type 0 where
   pub each : (k : Client) → Holds p k → RoundsOne u c known w w' p' k
 
--- the contents behind the first requests of a round and one more, where there is one
-abbrev pub behind_next : Contents → Walk → List Client → List Client → Contents
-behind_next c w front [] = (round_all c w front).contents
-behind_next c w front (k ∷ ks) = (round_all c w (front ++ k ∷ [])).contents
-
--- the request at the front of a client's bytes may write
-pub record MayWrite (k : Client) : Type 0 where
+-- a limit is reached in the request at the front of a client's bytes, which may write: between the contents before it and those behind it; where it packs
+-- the files, that of the undo log
+pub record FillsOne (fills : Contents → Contents → Type 0) (c : Contents) (w : Walk) (k : Client) : Type 0 where
   pub request : Request
   pub begins : Begins request k.unread
   pub writes : may_write request ≡ true
+  pub packs : is_optimize request ≡ true → FillsAll fills
+  pub full : fills c (round_one c w k).contents
 
--- so may the next request, or behind the last there is anything to commit
-abbrev pub NextWrites : Bool → List Client → Type 0
-NextWrites commits [] = commits ≡ true
-NextWrites commits (k ∷ ks) = MayWrite k
+-- in the next request behind the first ones of a round; behind the last, where there is anything to commit, that of the undo log
+abbrev pub FillsNext : (Contents → Contents → Type 0) → Contents → Walk → List Client → List Client → Type 0
+FillsNext fills c w front [] = ((round_all c w front).commits ≡ true) × FillsAll fills
+FillsNext fills c w front (k ∷ ks) = FillsOne fills (round_all c w front).contents (round_all c w front).walk k
 
--- somewhere in a round, where something is to be written, this holds of the contents behind its first requests and of those behind one more
+-- somewhere in a round
 pub record FillsAt (fills : Contents → Contents → Type 0) (c : Contents) (w : Walk) (ks : List Client) : Type 0 where
   pub front : List Client
   pub back : List Client
   pub parts : ks ≡ front ++ back
-  pub writes : NextWrites (round_all c w front).commits back
-  pub full : fills (round_all c w front).contents (behind_next c w front back)
+  pub next : FillsNext fills c w front back
 
 -- and in the round of an event
 abbrev pub FillsIn : (Contents → Contents → Type 0) → World → Ev → List ℕ → Type 0
@@ -58,27 +56,27 @@ FullRound s holds fills base old new w ps = OfHeld s holds base old (λ c. (ks :
 
 -- and in the request of one of them
 abbrev pub FullOne : {S B : Type 0} → space.Ghosts S → (B → Files → Contents → Type 0) → (S → Contents → Contents → Type 0) → B → S → S → Walk → Peer → Type 0
-FullOne s holds fills base old new w p = OfHeld s holds base old (λ c. (k : Client) → Holds p k → MayWrite k × fills new c (round_one c w k).contents)
+FullOne s holds fills base old new w p = OfHeld s holds base old (λ c. (k : Client) → Holds p k → FillsOne (fills new) c w k)
 
 -- the round was made: its numbers stay, no connection holds more but for one reply, and the space may be used; nothing is written where it has nothing to commit
-pub record Rounds {S B : Type 0} (s : space.Ghosts S) (holds : B → Files → Contents → Type 0) (commits : Bool) (base base' : B) (old new : S) (w w' : Walk) (ps ps' : List Peer) : Type 0 where
+pub record Rounds {S B : Type 0} (s : space.Ghosts S) (own : ℕ → Type 0) (holds : B → Files → Contents → Type 0) (commits : Bool) (base base' : B) (old new : S) (w w' : Walk) (ps ps' : List Peer) : Type 0 where
   pub numbers : numbers ps' ≡ numbers ps
   pub unread : Each FewUnread ps → Each FewUnread ps'
   pub waiting : Each FewWaiting ps → Each FewWaiting ps'
   pub calm : Each IsCalm ps'
   pub each : (c : Contents) → Held s holds base old c → (ks : List Client) → AllHold ps ks → RoundsTo commits (Held s holds base' new) w' ps' (round_all c w ks)
   pub ready : holding.IsReady s holds base' new
-  pub leaves : Leaves s (commits ≡ false) old new
+  pub leaves : Leaves s own (commits ≡ false) old new
 
 -- the same of one connection
-pub record ServesReady {S B : Type 0} (s : space.Ghosts S) (holds : B → Files → Contents → Type 0) (commits : Bool) (base base' : B) (old new : S) (w w' : Walk) (p p' : Peer) : Type 0 where
+pub record ServesReady {S B : Type 0} (s : space.Ghosts S) (own : ℕ → Type 0) (holds : B → Files → Contents → Type 0) (commits : Bool) (base base' : B) (old new : S) (w w' : Walk) (p p' : Peer) : Type 0 where
   pub conn : p'.conn ≡ p.conn
   pub unread : FewUnread p → FewUnread p'
   pub waiting : FewWaiting p → FewWaiting p'
   pub calm : IsCalm p'
   pub each : (c : Contents) → Held s holds base old c → ServesOne commits c (Held s holds base' new) w w' p p'
   pub ready : holding.IsReady s holds base' new
-  pub leaves : Leaves s (commits ≡ false) old new
+  pub leaves : Leaves s own (commits ≡ false) old new
 
 -- a round over the first connections
 pub record Halfway (u : Bool) (c : Contents) (known : Contents → Type 0) (w w' : Walk) (old now : List Peer) (count : ℕ) (ks : List Client) : Type 0 where

@@ -2,7 +2,7 @@
 ghost use Rattle.std.specs.Prelude.{◌≡◌, false, true, OnOk, IfErr, IsErrOf};
 ghost use Rattle.tc_io.specs.Causes.{Rose};
 ghost use Rattle.tc_space.specs.Frames.{Follows, OnlyReads};
-ghost use Rattle.ty_base.specs.Holding.{FillsAsIs, PacksHeld};
+ghost use Rattle.ty_base.specs.Holding.{PacksHeld};
 ghost use Rattle.ty_world.specs.World.{Mark};
 ghost use Rattle.ty_rounds.specs.declared.outcome.TurnErr.TheVariants.{Wire as wire_err};
 ghost use Rattle.ty_rounds.specs.Kept.{HasMark, MovesTo};
@@ -12,7 +12,7 @@ use crate::outcome::TurnErr;
 use tc_space::Space;
 use ty_base::Base;
 
-/// Settles and commits, where there is anything to commit.
+/// Settles and commits, where there is anything to commit. It is full only where the undo log is.
 ///
 /// On an `Err`, which is never `Wire`, a stop leaves what was kept before or what stands for what was held; the space is to be opened again.
 pub fn keep<B: Base>(base: &mut B, space: &mut B::S, commits: bool) -> Result<(), TurnErr>
@@ -22,7 +22,7 @@ pub fn keep<B: Base>(base: &mut B, space: &mut B::S, commits: bool) -> Result<()
     ensures moments { (m : Mark) → HasMark B.S.Space B.holds base.old space.old m → MovesTo B.S.Space B.reopens space.old space.new m }
     ensures idle { commits ≡ false → OnlyReads B.S.Space space.old space.new }
     ensures not_wire { IfErr result (λ e. e ≡ wire_err → ⊥) }
-    ensures full { IsErrOf result TurnErr.Full → (commits ≡ true) × FillsAsIs B.S.Space B.holds B.fills base.old space.old space.new }
+    ensures full { IsErrOf result TurnErr.Full → (commits ≡ true) × (B.S.tells → B.S.log_full space.new) }
     ensures follows { Follows B.S.Space space.old space.new }
     ensures cause { IsErrOf result TurnErr.Volume → Rose (B.S.faults space.old) (B.S.faults space.new) }
 {

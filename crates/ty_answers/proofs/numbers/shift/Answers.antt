@@ -10,6 +10,6 @@ use Rattle.std.proofs.Common.{true}
 
 pub returns-clause-answers : goal.returns-clause-answers
 returns-clause-answers g c = if_ok _ (λ done n.
-    after_reads g.E.S.Space g.E.Storage.holds (shifted c.args.key c.args.value.now c.args.width) (changed_by Done (stored Over c.args.key c.in_ok-after.after)) Fail true done _ _ _ _ _ _ _ _ c.in_ok-held.ensures.reads c.in_ok-held.ensures.keeps
+    after_reads g.E.S.Space g.E.Storage.own g.E.Storage.holds (shifted c.args.key c.args.value.now c.args.width) (changed_by Done (stored Over c.args.key c.in_ok-after.after)) Fail true done _ _ _ _ _ _ _ _ c.in_ok-held.ensures.reads c.in_ok-held.ensures.keeps
     (λ m h. shows_shift m c.args.key c.args.value.now c.args.width c.in_ok-held.held c.in_ok-after.after (g.met.E.Engine.no_table _ _ m h.1) (c.in_ok-held.ensures.value m h) c.in_ok-after.ensures)
     n) c.store.ensures.answers

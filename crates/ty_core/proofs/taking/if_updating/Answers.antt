@@ -1,7 +1,7 @@
 use Rattle.std.proofs.Common.{Bool, sym, ap, ◌∙◌}
 use Rattle.std.specs.Prelude.{◌&&◌}
 use Rattle.tc_model.specs.Apply.{updates}
-use Rattle.tc_model.proofs.Updating.{updates_is}
+use Rattle.ty_wire.proofs.UpdateTest.{updates_is}
 use Rattle.ty_core.proofs.taking.if_updating.Goals as goal
 
 pub returns-then-test : goal.returns-then-test

@@ -16,12 +16,12 @@ pub keep-requires : goal.keep-requires
 keep-requires g c = record { may = record { ready = search rules; untouched = λ e. search rules } }
 
 pub returns-in_err-keep-clause-told : goal.returns-in_err-keep-clause-told
-returns-in_err-keep-clause-told g c = rw (err_is c.from_residual-in_err-keep.result _ c.from_residual-in_err-keep.ensures.1) (keep_ends g.B.S.Space g.W.Wire g.B.Storage.holds g.B.Storage.reopens _ c.round_of_all.new.base _ c.args.space.now c.round_of_all.new.space c.keep.new.space _ _ _ c.round_of_all.new.walk _ _ c.listen.new.peers.items c.round_of_all.new.peers.items _ c.in_ok-ev.ev c.in_ok-commits.commits c.in_err-keep.field-0.0 c.in_ok-ev.ensures.ok c.in_err-keep.ensures.not_wire c.in_ok-commits.ensures.rounds c.round_of_all.ensures.keeps c.keep.ensures.moments c.keep.ensures.idle
+returns-in_err-keep-clause-told g c = rw (err_is c.from_residual-in_err-keep.result _ c.from_residual-in_err-keep.ensures.1) (keep_ends g.B.S.Space g.W.Wire g.B.Storage.holds g.B.Storage.reopens g.B.Storage.own g.met.B.Storage.no_logs.1 _ c.round_of_all.new.base _ c.args.space.now c.round_of_all.new.space c.keep.new.space _ _ _ c.round_of_all.new.walk _ _ c.listen.new.peers.items c.round_of_all.new.peers.items _ c.in_ok-ev.ev c.in_ok-commits.commits c.in_err-keep.field-0.0 c.in_ok-ev.ensures.ok c.in_err-keep.ensures.not_wire c.in_ok-commits.ensures.rounds c.round_of_all.ensures.keeps c.keep.ensures.moments c.keep.ensures.idle
     (record { sound = c.requires.ready.base_is.sound; only = λ o t l. g.met.B.S.Space.only_kept c.args.space.now o t c.requires.ready.base_is.sound l; clean = λ t. g.met.B.S.Space.clean c.args.space.now t c.requires.ready.base_is.sound c.requires.ready.untouched })
     (λ t u o le l. g.met.B.S.Space.earlier c.keep.new.space t u o le l))
 
 pub returns-in_err-finish-clause-told : goal.returns-in_err-finish-clause-told
-returns-in_err-finish-clause-told g c = rw (err_is c.from_residual-in_err-finish.result _ c.from_residual-in_err-finish.ensures.1, c.in_err-finish.ensures.only_wire) (finish_ends g.B.S.Space g.W.Wire g.B.Storage.holds g.B.Storage.reopens _ c.round_of_all.new.base c.keep.new.base _ c.args.space.now c.round_of_all.new.space c.keep.new.space _ c.listen.new.wire _ _ c.round_of_all.new.walk _ _ c.listen.new.peers.items c.round_of_all.new.peers.items _ c.in_ok-ev.ev c.in_ok-commits.commits c.finish.result
+returns-in_err-finish-clause-told g c = rw (err_is c.from_residual-in_err-finish.result _ c.from_residual-in_err-finish.ensures.1, c.in_err-finish.ensures.only_wire) (finish_ends g.B.S.Space g.W.Wire g.B.Storage.holds g.B.Storage.reopens g.B.Storage.own g.met.B.Storage.no_logs.1 _ c.round_of_all.new.base c.keep.new.base _ c.args.space.now c.round_of_all.new.space c.keep.new.space _ c.listen.new.wire _ _ c.round_of_all.new.walk _ _ c.listen.new.peers.items c.round_of_all.new.peers.items _ c.in_ok-ev.ev c.in_ok-commits.commits c.finish.result
     (record { sound = c.in_ok-keep.ensures.kept.ready.sound; only = λ o t l. g.met.B.S.Space.only_kept c.keep.new.space o t c.in_ok-keep.ensures.kept.ready.sound l; clean = λ t. g.met.B.S.Space.clean c.keep.new.space t c.in_ok-keep.ensures.kept.ready.sound c.in_ok-keep.ensures.kept.untouched })
     (record {
       hears = c.in_ok-ev.ensures.ok;
@@ -35,7 +35,7 @@ returns-in_err-finish-clause-told g c = rw (err_is c.from_residual-in_err-finish
     }))
 
 pub returns-then-is_shut-clause-told : goal.returns-then-is_shut-clause-told
-returns-then-is_shut-clause-told g c = shut_ends g.B.S.Space g.W.Wire g.B.Storage.holds g.B.Storage.reopens _ c.round_of_all.new.base c.keep.new.base c.args.space.now c.round_of_all.new.space c.keep.new.space _ c.listen.new.wire _ _ c.round_of_all.new.walk _ c.listen.new.peers.items c.round_of_all.new.peers.items _ c.in_ok-ev.ev c.in_ok-commits.commits (c.if-is_shut.ensures.0 refl)
+returns-then-is_shut-clause-told g c = shut_ends g.B.S.Space g.W.Wire g.B.Storage.holds g.B.Storage.reopens g.B.Storage.own g.met.B.Storage.no_logs.1 _ c.round_of_all.new.base c.keep.new.base c.args.space.now c.round_of_all.new.space c.keep.new.space _ c.listen.new.wire _ _ c.round_of_all.new.walk _ c.listen.new.peers.items c.round_of_all.new.peers.items _ c.in_ok-ev.ev c.in_ok-commits.commits (c.if-is_shut.ensures.0 refl)
     (record {
       hears = c.in_ok-ev.ensures.ok;
       rounds = c.in_ok-commits.ensures.rounds;
@@ -48,7 +48,7 @@ returns-then-is_shut-clause-told g c = shut_ends g.B.S.Space g.W.Wire g.B.Storag
     })
 
 pub returns-clause-told : goal.returns-clause-told
-returns-clause-told g c = went_ends g.B.S.Space g.W.Wire g.B.Storage.holds g.B.Storage.reopens _ c.round_of_all.new.base c.keep.new.base c.args.space.now c.round_of_all.new.space c.keep.new.space _ c.listen.new.wire _ _ c.round_of_all.new.walk _ c.listen.new.peers.items c.round_of_all.new.peers.items _ c.in_ok-ev.ev c.in_ok-commits.commits (λ e. absurd (let f = c.if-is_shut.ensures.1 e in cc))
+returns-clause-told g c = went_ends g.B.S.Space g.W.Wire g.B.Storage.holds g.B.Storage.reopens g.B.Storage.own g.met.B.Storage.no_logs.1 _ c.round_of_all.new.base c.keep.new.base c.args.space.now c.round_of_all.new.space c.keep.new.space _ c.listen.new.wire _ _ c.round_of_all.new.walk _ c.listen.new.peers.items c.round_of_all.new.peers.items _ c.in_ok-ev.ev c.in_ok-commits.commits (λ e. absurd (let f = c.if-is_shut.ensures.1 e in cc))
     (record {
       hears = c.in_ok-ev.ensures.ok;
       rounds = c.in_ok-commits.ensures.rounds;
@@ -61,7 +61,7 @@ returns-clause-told g c = went_ends g.B.S.Space g.W.Wire g.B.Storage.holds g.B.S
     })
 
 pub returns-then-is_shut-clause-ready : goal.returns-then-is_shut-clause-ready
-returns-then-is_shut-clause-ready g c = ready_again g.B.S.Space g.W.Wire g.B.Storage.holds g.B.Storage.reopens _ c.round_of_all.new.base c.keep.new.base c.args.space.now c.round_of_all.new.space c.keep.new.space _ c.listen.new.wire _ _ c.round_of_all.new.walk _ c.listen.new.peers.items c.round_of_all.new.peers.items _ c.in_ok-ev.ev c.in_ok-commits.commits c.requires.ready
+returns-then-is_shut-clause-ready g c = ready_again g.B.S.Space g.W.Wire g.B.Storage.holds g.B.Storage.reopens g.B.Storage.own _ c.round_of_all.new.base c.keep.new.base c.args.space.now c.round_of_all.new.space c.keep.new.space _ c.listen.new.wire _ _ c.round_of_all.new.walk _ c.listen.new.peers.items c.round_of_all.new.peers.items _ c.in_ok-ev.ev c.in_ok-commits.commits c.requires.ready
     (record {
       hears = c.in_ok-ev.ensures.ok;
       rounds = c.in_ok-commits.ensures.rounds;
@@ -74,7 +74,7 @@ returns-then-is_shut-clause-ready g c = ready_again g.B.S.Space g.W.Wire g.B.Sto
     }) c.finish.ensures.opened c.in_ok-finish.ensures.wired
 
 pub returns-clause-ready : goal.returns-clause-ready
-returns-clause-ready g c = ready_again g.B.S.Space g.W.Wire g.B.Storage.holds g.B.Storage.reopens _ c.round_of_all.new.base c.keep.new.base c.args.space.now c.round_of_all.new.space c.keep.new.space _ c.listen.new.wire _ _ c.round_of_all.new.walk _ c.listen.new.peers.items c.round_of_all.new.peers.items _ c.in_ok-ev.ev c.in_ok-commits.commits c.requires.ready
+returns-clause-ready g c = ready_again g.B.S.Space g.W.Wire g.B.Storage.holds g.B.Storage.reopens g.B.Storage.own _ c.round_of_all.new.base c.keep.new.base c.args.space.now c.round_of_all.new.space c.keep.new.space _ c.listen.new.wire _ _ c.round_of_all.new.walk _ c.listen.new.peers.items c.round_of_all.new.peers.items _ c.in_ok-ev.ev c.in_ok-commits.commits c.requires.ready
     (record {
       hears = c.in_ok-ev.ensures.ok;
       rounds = c.in_ok-commits.ensures.rounds;
@@ -90,4 +90,4 @@ pub returns-in_err-commits-clause-full : goal.returns-in_err-commits-clause-full
 returns-in_err-commits-clause-full g c = λ is. full_round g.B.S.Space g.W.Wire g.B.Storage.holds g.B.Storage.reopens (g.B.Storage.fills c.round_of_all.new.space) _ c.args.space.now _ _ _ _ c.listen.new.peers.items c.in_ok-ev.ev c.in_ok-ev.ensures.ok (c.in_err-commits.ensures.full (search (rules, is)))
 
 pub returns-in_err-keep-clause-full : goal.returns-in_err-keep-clause-full
-returns-in_err-keep-clause-full g c = λ is. full_keep g.B.S.Space g.W.Wire g.B.Storage.holds g.B.Storage.reopens (g.B.Storage.fills c.keep.new.space) _ c.round_of_all.new.base c.args.space.now c.round_of_all.new.space _ _ _ c.round_of_all.new.walk _ c.listen.new.peers.items c.round_of_all.new.peers.items c.in_ok-ev.ev c.in_ok-commits.commits c.in_ok-ev.ensures.ok c.in_ok-commits.ensures.rounds (c.in_err-keep.ensures.full (search (rules, is)))
+returns-in_err-keep-clause-full g c = λ is. full_keep g.B.S.Space g.W.Wire g.B.Storage.holds g.B.Storage.reopens g.B.Storage.own (g.B.Storage.fills c.keep.new.space) _ c.round_of_all.new.base c.args.space.now c.round_of_all.new.space _ _ _ c.round_of_all.new.walk _ c.listen.new.peers.items c.round_of_all.new.peers.items c.in_ok-ev.ev c.in_ok-commits.commits c.in_ok-ev.ensures.ok c.in_ok-commits.ensures.rounds (let full = c.in_err-keep.ensures.full (search (rules, is)) in (full.0, λ t d e. g.met.B.Storage.log_fills c.keep.new.space d e (full.1 t)))

@@ -1,9 +1,10 @@
-use Rattle.std.proofs.Common.{rules, ◌≡◌, ◌∙◌, sym, arith}
+use Rattle.std.proofs.Common.{rules, ◌≡◌, ◌∙◌, ap, inr, length, sym, arith}
 use Rattle.std.proofs.lemmas.Result.{IfErr-weaker, IfOk-weaker}
 use Rattle.tc_base.specs.declared.kind.Kind.TheVariants as kinds
-use Rattle.ty_base.proofs.Refusals.{breaks_none, no_bytes, on_ok_of}
+use Rattle.ty_base.proofs.Refusals.{breaks_none, no_bytes, on_err_of, on_ok_of}
+use Rattle.tc_fixeddb.specs.Holding.{BreaksAs}
 use Rattle.tc_fixeddb.specs.Shapes.{anew, usual}
-use Rattle.tc_fixeddb.proofs.Made.{made_full, made_opens, opens_made, main_opened, main_opens}
+use Rattle.tc_fixeddb.proofs.Made.{made_opens, made_usual, opens_made, main_opened, main_opens}
 use Rattle.tc_fixeddb.proofs.opening.FixedEngineOpens.open.Goals as goal
 
 pub returns-then-len-eq0-clause-stands : goal.returns-then-len-eq0-clause-stands
@@ -18,7 +19,7 @@ pub returns-then-len-eq0-clause-reads : goal.returns-then-len-eq0-clause-reads
 returns-then-len-eq0-clause-reads g c = λ t some. absurd (some (no_bytes (g.S.Space.now c.args.space.now 0) (sym (c.len.ensures t) ∙ c.if-len-eq0.true)))
 
 pub returns-then-len-eq0-clause-broken : goal.returns-then-len-eq0-clause-broken
-returns-then-len-eq0-clause-broken g c = IfErr-weaker _ _ _ (λ e unbroken. breaks_none e _ unbroken) c.create.ensures.unbroken
+returns-then-len-eq0-clause-broken g c = IfErr-weaker _ _ _ (λ e none. breaks_none e g.S.Space.tells (BreaksAs c.args.kind (g.S.Space.now c.args.space.now)) none) c.create.ensures.broken
 
 pub returns-then-len-eq0-clause-full : goal.returns-then-len-eq0-clause-full
 returns-then-len-eq0-clause-full g c = λ full t.
@@ -27,8 +28,11 @@ returns-then-len-eq0-clause-full g c = λ full t.
       empty = no_bytes (g.S.Space.now c.args.space.now 0) (sym (c.len.ensures t) ∙ c.if-len-eq0.true);
       contents = anew usual;
       stand = made_opens c.args.kind (g.S.Space.now c.args.space.now) is (sym (c.len.ensures t) ∙ c.if-len-eq0.true);
-      full = made_full g.S.Space c.create.new.space (c.create.ensures.full full t);
+      full = c.create.ensures.full full t;
     }
+
+pub returns-then-len-eq0-clause-usable : goal.returns-then-len-eq0-clause-usable
+returns-then-len-eq0-clause-usable g c = made_usual g.S.Space c.create.result c.args.space.now c.create.new.space c.create.ensures.created c.create.ensures.usable
 
 pub returns-clause-stands : goal.returns-clause-stands
 returns-clause-stands g c = λ t.
@@ -37,3 +41,13 @@ returns-clause-stands g c = λ t.
 
 pub returns-clause-opened : goal.returns-clause-opened
 returns-clause-opened g c = λ t. main_opened g.S.Space _ c.args.kind c.args.space.now c.open.new.space (λ zero. omega (arith, c.if-len-eq0.false, c.len.ensures t, zero)) (c.open.ensures.reads.files t 0) (c.in_ok-fixed.ensures.holds t)
+
+pub returns-in_err-fixed-clause-refused : goal.returns-in_err-fixed-clause-refused
+returns-in_err-fixed-clause-refused g c = record { left = on_err_of _ (inr c.open.ensures.reads); cause = search rules }
+
+pub returns-clause-usable : goal.returns-clause-usable
+returns-clause-usable g c = record {
+  sound = c.open.ensures.reads.is_sound;
+  others = record { same = λ t n other. c.open.ensures.reads.files t n };
+  made = λ t none. absurd (let zero = ap length none in omega (arith, c.if-len-eq0.false, c.len.ensures t, zero));
+}

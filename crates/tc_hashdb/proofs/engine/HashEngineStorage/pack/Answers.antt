@@ -1,4 +1,6 @@
-use Rattle.std.proofs.Common.{refl, sym, ap, Err}
+use Rattle.std.proofs.Common.{refl}
+use Rattle.ty_base.specs.Holding.{past_of}
+use Rattle.tc_hash.proofs.Stored.{from_done, from_refused}
 use Rattle.tc_hash.proofs.Tight.{tight_of}
 use Rattle.tc_hashdb.specs.Lifting.{ready_down}
 use Rattle.tc_hashdb.proofs.Kept.{ready_hash}
@@ -8,20 +10,14 @@ use Rattle.tc_hashdb.proofs.engine.HashEngineStorage.pack.Goals as goal
 pub pack-requires : goal.pack-requires
 pack-requires g c = ready_hash g.S.Space c.args.self.now c.args.space.now (ready_down g.S.Space c.args.self.now c.args.space.now c.requires.ready)
 
-pub returns-in-Ok-clause-tight : goal.returns-in-Ok-clause-tight
-returns-in-Ok-clause-tight g c = tight_of c.args.form _ _ c.in-Ok.ensures.packs
+pub returns-clause-tight : goal.returns-clause-tight
+returns-clause-tight g c = from_done c.pack.result c.pack.ensures.packs (λ packs. tight_of c.args.form c.args.self.now.hash c.pack.new.self packs)
 
-pub returns-in-Ok-clause-packed : goal.returns-in-Ok-clause-packed
-returns-in-Ok-clause-packed g c = packed_up g.S.Space _ _ _ _ c.requires.ready c.in-Ok.ensures.packed c.pack.ensures.stays refl
+pub returns-clause-packed : goal.returns-clause-packed
+returns-clause-packed g c = from_done _ c.pack.ensures.packed (λ packed. packed_up g.S.Space c.args.self.now (record c.args.self.now { hash = c.pack.new.self }) c.args.space.now c.pack.new.space c.requires.ready packed c.pack.ensures.stays refl)
 
-pub returns-in-Err-clause-refused : goal.returns-in-Err-clause-refused
-returns-in-Err-clause-refused g c = pack_refused g.S.Space _ _ _ _ c.in-Err.ensures.refused c.pack.ensures.stays refl
+pub returns-clause-refused : goal.returns-clause-refused
+returns-clause-refused g c = from_refused _ c.pack.ensures.refused (λ refused. pack_refused g.S.Space c.args.self.now (record c.args.self.now { hash = c.pack.new.self }) c.args.space.now c.pack.new.space refused c.pack.ensures.stays refl)
 
-pub returns-in-Keep-clause-refused : goal.returns-in-Keep-clause-refused
-returns-in-Keep-clause-refused g c = pack_refused g.S.Space _ _ _ _ c.in-Err-Full.ensures.refused c.pack.ensures.stays refl
-
-pub returns-in-Keep-clause-full : goal.returns-in-Keep-clause-full
-returns-in-Keep-clause-full g c = λ full. pack_full g.S.Space c.args.form _ _ _ (sym c.in-Keep.is) (c.in-Err-Full.ensures.full (ap Err c.in-Err-Full.field-0-is))
-
-pub returns-in-Large-clause-refused : goal.returns-in-Large-clause-refused
-returns-in-Large-clause-refused g c = pack_refused g.S.Space _ _ _ _ c.in-Err-Full.ensures.refused c.pack.ensures.stays refl
+pub returns-clause-full : goal.returns-clause-full
+returns-clause-full g c = λ full. pack_full g.S.Space c.args.form c.args.self.now c.args.space.now c.pack.new.space (λ t. past_of g.S.Space c.args.space.now c.pack.new.space t (g.met.S.Space.present c.args.space.now t) (c.pack.ensures.keeps.steady t).past) (c.pack.ensures.full full)

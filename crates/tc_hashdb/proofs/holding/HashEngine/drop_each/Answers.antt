@@ -1,8 +1,7 @@
 use Rattle.tc_space.specs.Frames.{keeps_then}
 use Rattle.tc_space.specs.Stores.{Only, ready_writes}
 use Rattle.tc_hashdb.specs.Holding.{Means}
-use Rattle.tc_hashdb.proofs.Dropped.{fills_dropped, out_more}
-use Rattle.tc_reach.proofs.Handed.{err_handed}
+use Rattle.tc_hashdb.proofs.Dropped.{out_more}
 use Rattle.tc_hashdb.proofs.holding.HashEngine.drop_each.Goals as goal
 
 pub drop_key-requires : goal.drop_key-requires
@@ -13,6 +12,3 @@ loop-key-preserved g c = record {
   writes = out_more g.S.Space _ _ _ _ _ _ c.args.keys.now c.loop-key.key-index c.key-item.result c.as_slice.result.now c.loop-key-test.true c.key-item.is c.as_slice.ensures c.loop-key.invariant.writes c.in_ok-drop_key.ensures.out;
   keeps = keeps_then g.S.Space _ _ _ c.loop-key.invariant.keeps c.drop_key.ensures.keeps;
 }
-
-pub returns-in_err-drop_key-clause-full : goal.returns-in_err-drop_key-clause-full
-returns-in_err-drop_key-clause-full g c = λ full. fills_dropped g.S.Space _ _ _ _ _ c.args.keys.now c.loop-key.key-index c.key-item.result c.as_slice.result.now c.as_slice.ensures c.loop-key.invariant.writes (c.in_err-drop_key.ensures.full (err_handed c.from_residual.result c.in_err-drop_key.field-0.0 _ c.from_residual.ensures.1 full))

@@ -1,9 +1,11 @@
-use Rattle.std.proofs.Common.{rules, ◌≡◌, ◌∙◌, false, refl, sym, arith}
+use Rattle.std.proofs.Common.{rules, ◌≡◌, ◌∙◌, false, length, refl, sym, ap, arith, inr}
+use Rattle.std.proofs.lemmas.Result.{IfErr-weaker}
 use Rattle.std.specs.FinMap.{empty}
 use Rattle.tc_base.specs.declared.kind.Kind.TheVariants as kinds
 use Rattle.tc_model.specs.Contents.{hash}
-use Rattle.ty_base.proofs.Refusals.{no_bytes}
-use Rattle.tc_hashdb.proofs.Made.{all_opened, all_stand, made_full, made_opens, main_opened, main_opens}
+use Rattle.ty_base.proofs.Refusals.{breaks_none, no_bytes, on_err_of}
+use Rattle.tc_hashdb.specs.Holding.{BreaksAs}
+use Rattle.tc_hashdb.proofs.Made.{all_opened, made_usual, all_stand, made_opens, main_opened, main_opens}
 use Rattle.tc_hashdb.proofs.opening.HashEngineOpens.open.Goals as goal
 
 pub returns-then-len-eq0-clause-stands : goal.returns-then-len-eq0-clause-stands
@@ -19,7 +21,7 @@ returns-then-len-eq0-clause-full g c = λ full t.
       empty = no_bytes (g.S.Space.now c.args.space.now 0) (sym (c.len.ensures t) ∙ c.if-len-eq0.true);
       contents = hash false empty;
       stand = made_opens c.args.kind (g.S.Space.now c.args.space.now) is (sym (c.len.ensures t) ∙ c.if-len-eq0.true);
-      full = made_full g.S.Space c.create.new.space (c.create.ensures.full full t);
+      full = c.create.ensures.full full t;
     }
 
 pub returns-clause-stands : goal.returns-clause-stands
@@ -29,3 +31,19 @@ returns-clause-stands g c = λ t.
 
 pub returns-clause-opened : goal.returns-clause-opened
 returns-clause-opened g c = λ t. main_opened g.S.Space _ c.args.kind c.args.space.now c.open.new.space (λ zero. omega (arith, c.if-len-eq0.false, c.len.ensures t, zero)) (c.open.ensures.reads.files t 0) c.in_ok-hash.ensures.file.0 c.in_ok-hash.ensures.file.1 refl (c.in_ok-hash.ensures.holds t)
+
+pub returns-then-len-eq0-clause-usable : goal.returns-then-len-eq0-clause-usable
+returns-then-len-eq0-clause-usable g c = made_usual g.S.Space c.create.result c.args.space.now c.create.new.space c.create.ensures.created c.create.ensures.usable
+
+pub returns-clause-usable : goal.returns-clause-usable
+returns-clause-usable g c = record {
+  sound = c.open.ensures.reads.is_sound;
+  others = record { same = λ t n other. c.open.ensures.reads.files t n };
+  made = λ t none. absurd (let zero = ap length none in omega (arith, c.if-len-eq0.false, c.len.ensures t, zero));
+}
+
+pub returns-then-len-eq0-clause-broken : goal.returns-then-len-eq0-clause-broken
+returns-then-len-eq0-clause-broken g c = IfErr-weaker _ _ _ (λ e none. breaks_none e g.S.Space.tells (BreaksAs c.args.kind (g.S.Space.now c.args.space.now)) none) c.create.ensures.broken
+
+pub returns-in_err-hash-clause-refused : goal.returns-in_err-hash-clause-refused
+returns-in_err-hash-clause-refused g c = record { left = on_err_of _ (inr c.open.ensures.reads); cause = search rules }
