@@ -85,7 +85,7 @@ module _ {S B O : Type 0} (s : space.Ghosts S) (g : sink.Ghosts O) (holds : B 鈫
       none = 位 is. absurd cc;
       by = 位 m h. record {
         ok = 位 b is. cc;
-        printed = inr (record { text = text; prints = is_text m h; front = ([], sym (append-nil text)) });
+        printed = inr (record { ok = refl; text = text; prints = is_text m h; front = ([], sym (append-nil text)) });
         whole = 位 is. is_text m h;
         moments = marks m h;
         last = 位 x o l. last m h o l;
@@ -100,7 +100,7 @@ module _ {S B O : Type 0} (s : space.Ghosts S) (g : sink.Ghosts O) (holds : B 鈫
       none = 位 is. absurd cc;
       by = 位 m h. record {
         ok = 位 b is. absurd cc;
-        printed = inr (record { text = text; prints = is_text m h; front = (adds.back, adds.parts) });
+        printed = inr (record { ok = refl; text = text; prints = is_text m h; front = (adds.back, adds.parts) });
         whole = 位 is. absurd cc;
         moments = marks m h;
         last = 位 x o l. last m h o l;

@@ -1,5 +1,5 @@
 -- What tasks leave, by what their requests left.
-use Rattle.std.proofs.Common.{◌≡◌, inl, inr, ⊎_elim, ℕ, Bool, true, false, List, [], ◌∷◌, refl, sym, ap, subst, ◌∙◌, arith, Ok, Err}
+use Rattle.std.proofs.Common.{◌≡◌, ◌⊎◌, inl, inr, ⊎_elim, ℕ, Bool, true, false, List, [], ◌∷◌, refl, sym, ap, subst, ◌∙◌, arith, Ok, Err}
 use Rattle.std.specs.Prelude.{◌&&◌, Option, Some, None, Result, IsErrOf, map, unwrap_or}
 use Rattle.std.specs.Result.{IsErrAnd}
 use Rattle.std.proofs.lemmas.Result.{err_from_is_err_and}
@@ -30,8 +30,8 @@ use Rattle.tk_mgr.specs.declared.task.Task.{Task}
 use Rattle.tk_mgr.specs.declared.task.Task.TheVariants.{Optimize}
 use Rattle.tk_mgr.specs.Errors.{mgr_of}
 use Rattle.tk_mgr.specs.Tasks.{Prints, after, all_marks, answered, asked, at_step, before_last, ok_of, steps_of}
-use Rattle.tk_mgr.specs.Managing.{ArePacked, FillsTask, IsThrough, Manages, MayManage, PacksTask, form_for, last_mark, packing, with_contents}
-use Rattle.tk_mgr.specs.Asking.{Answers, Carries, FillsAsked, IsIdle, Looks}
+use Rattle.tk_mgr.specs.Managing.{ArePacked, FillsTask, IsThrough, LacksKeeping, Manages, MayManage, PacksTask, form_for, last_mark, packing, with_contents}
+use Rattle.tk_mgr.specs.Asking.{Answers, Carries, IsIdle, Looks}
 use Rattle.tk_mgr.specs.Showing.{Shows}
 
 pub keeps_follows : {S : Type 0} (s : space.Ghosts S) (a b : S) → Keeps s a b → Follows s a b
@@ -45,6 +45,9 @@ full_rec rec.Memory is = absurd cc
 -- a refusal for want of room, at the exit of a `?`
 pub full_at : {T U : Type 0} (r : Result T MgrErr) (e : RecErr) → IsErrAnd r (λ f. f ≡ mgr_of e) → IsErrOf r err.Full → IsErrOf {T = U} (Err e) rec.Full
 full_at r e is full = let p = err_from_is_err_and r is in ap (λ x. Err x) (full_rec e (sym p.2 ∙ cause_is p.0 err.Full (sym p.1 ∙ full)))
+
+pub not_both : {b : Bool} → b ≡ true → b ≡ false → ⊥
+not_both writes reads = let both = sym writes ∙ reads in cc
 
 -- ---- requests
 
@@ -73,7 +76,7 @@ module _ {S B : Type 0} (s : space.Ghosts S) (holds : B → Files → Contents �
       (x.0, (l.held x.0 (t, x.1)).1, subst (λ (files : Files). reopens files x.0) (λ i f. sym (l.files t f) i) x.2)
 
   -- an idle request
-  pub asked_looks : (r : Request) (x : Applied) (b b' : B) (a a' : S) (reply : List ℕ) → IsIdle r → IsReady s holds b a → Keeps s a a' → Leaves s ((x.updated ≡ false) × (is_optimize r ≡ false)) a a'
+  pub asked_looks : {own : ℕ → Type 0} (r : Request) (x : Applied) (b b' : B) (a a' : S) (reply : List ℕ) → IsIdle r → IsReady s holds b a → Keeps s a a' → Leaves s own ((x.updated ≡ false) × (is_optimize r ≡ false)) a a'
       → ((c : Contents) → Held s holds b a c → Answers s holds r x c b' a' reply) → Looks s holds b b' a a'
   asked_looks r x b b' a a' reply idle is keeps leaves answers = record {
     keeps = keeps;
@@ -197,12 +200,12 @@ module _ {S : Type 0} (s : space.Ghosts S) (reopens : Files → Contents → Typ
 
   module _ {B : Type 0} (holds : B → Files → Contents → Type 0) where
     -- the mark that is held behind a request
-    pub asked_mark : (r : Request) (x : Applied) (base base' : B) (a b : S) (reply : List ℕ) (m : Mark) → Leaves s ((x.updated ≡ false) × (is_optimize r ≡ false)) a b → Answers s holds r x m.contents base' b reply → HasMark s holds base a m
+    pub asked_mark : {own : ℕ → Type 0} (r : Request) (x : Applied) (base base' : B) (a b : S) (reply : List ℕ) (m : Mark) → (own 2 → ⊥) → Leaves s own ((x.updated ≡ false) × (is_optimize r ≡ false)) a b → Answers s holds r x m.contents base' b reply → HasMark s holds base a m
         → HasMark s holds base' b (with_contents m (asked (Some r) m.contents))
-    asked_mark r x base base' a b reply m leaves answers h = record { held = answers.held; log = leaves.log.same h.held.0 ∙ h.log }
+    asked_mark r x base base' a b reply m other leaves answers h = record { held = answers.held; log = leaves.others.same h.held.0 2 other ∙ h.log }
 
     -- and it stood in the files already where nothing is to be kept
-    pub asked_stood : (r : Request) (x : Applied) (base base' : B) (a b : S) (reply : List ℕ) (m : Mark) → is_optimize r ≡ false → Leaves s ((x.updated ≡ false) × (is_optimize r ≡ false)) a b → Answers s holds r x m.contents base' b reply → HoldsMark s holds reopens base a m
+    pub asked_stood : {own : ℕ → Type 0} (r : Request) (x : Applied) (base base' : B) (a b : S) (reply : List ℕ) (m : Mark) → is_optimize r ≡ false → Leaves s own ((x.updated ≡ false) × (is_optimize r ≡ false)) a b → Answers s holds r x m.contents base' b reply → HoldsMark s holds reopens base a m
         → x.updated ≡ false → reopens (s.now b) (asked (Some r) m.contents)
     asked_stood r x base base' a b reply m packs leaves answers h idle =
         let only = leaves.reads (idle, packs) in
@@ -212,12 +215,18 @@ module _ {S : Type 0} (s : space.Ghosts S) (reopens : Files → Contents → Typ
 
 -- ---- limits
 
-pub fills_as : (fills : Contents → Contents → Type 0) (now task : Task) (c : Contents) → now ≡ task → FillsTask fills task c → FillsTask fills now c
-fills_as fills now task c is h = subst (λ (t : Task). FillsTask fills t c) (sym is) h
+module _ (log_is_full : Type 0) (fills : Contents → Contents → Type 0) (lacks_large : Contents → Type 0) where
+  pub fills_as : (now task : Task) (c : Contents) → now ≡ task → FillsTask log_is_full fills lacks_large task c → FillsTask log_is_full fills lacks_large now c
+  fills_as now task c is h = subst (λ (t : Task). FillsTask log_is_full fills lacks_large t c) (sym is) h
 
-pub fills_before : (fills : Contents → Contents → Type 0) (task : Task) (c : Contents) → at_step task c 0 ≡ c → fills c c → FillsTask fills task c
-fills_before fills task c start h = record { step = 0; within = omega arith; by = inr (subst (λ (d : Contents). fills d d) (sym start) h) }
+  -- before its first request
+  pub fills_before : (task : Task) (c : Contents) → at_step task c 0 ≡ c → LacksKeeping log_is_full lacks_large task c → FillsTask log_is_full fills lacks_large task c
+  fills_before task c start h = record { step = 0; within = omega arith; by = inr (subst (λ (d : Contents). LacksKeeping log_is_full lacks_large task d) (sym start) h) }
 
-pub fills_asked : (fills : Contents → Contents → Type 0) (task : Task) (r : Option Request) (c : Contents) → steps_of task ≡ 1 → at_step task c 0 ≡ c → at_step task c 1 ≡ asked r c → FillsAsked fills r c → FillsTask fills task c
-fills_asked fills task r c one start end (inl h) = record { step = 0; within = omega arith; by = inl (omega (arith, one), subst (λ (d : Contents). fills d (at_step task c 1)) (sym start) (subst (λ (d : Contents). fills c d) (sym end) h)) }
-fills_asked fills task r c one start end (inr h) = record { step = 1; within = omega (arith, one); by = inr (subst (λ (d : Contents). fills d d) (sym end) h) }
+  -- at its only one
+  pub fills_asked : (task : Task) (r : Option Request) (c : Contents) → steps_of task ≡ 1 → at_step task c 0 ≡ c → at_step task c 1 ≡ asked r c → fills c (asked r c) → FillsTask log_is_full fills lacks_large task c
+  fills_asked task r c one start end h = record { step = 0; within = omega arith; by = inl (omega (arith, one), subst (λ (d : Contents). fills d (at_step task c 1)) (sym start) (subst (λ (d : Contents). fills c d) (sym end) h)) }
+
+-- the form in which a task packs files is the large one
+pub packs_large : (log_is_full : Type 0) (lacks_large : Contents → Type 0) (large : Bool) (c : Contents) → log_is_full ⊎ ((form_for large ≡ form.Large) × lacks_large c) → LacksKeeping log_is_full lacks_large (Optimize large) c
+packs_large log_is_full lacks_large large c full = ⊎_elim (λ log. inl log) (λ lacks. inr (ap Some lacks.0, lacks.1)) full

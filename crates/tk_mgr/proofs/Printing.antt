@@ -46,7 +46,7 @@ shows_text s holds lines task ok text result base a p q by x = record {
       let y = by c h in
       record {
         ok = λ b is. x.ok b is ∙ y.0;
-        printed = ⊎_elim (λ none. inl none) (λ some. inr (record { text = text; prints = y.1 some.0; front = some.1 })) x.printed;
+        printed = ⊎_elim (λ none. inl none) (λ some. inr (record { ok = sym y.0 ∙ some.0; text = text; prints = y.1 some.0; front = some.1 })) x.printed;
         whole = λ is. subst (λ (l : List ℕ). Prints lines task (s.now a) c l) (sym (x.whole is)) (y.1 (sym (x.ok true is)));
       };
 }
@@ -209,7 +209,7 @@ module _ {S B : Type 0} (s : space.Ghosts S) (holds : B → Files → Contents �
         let text : x.taken ≡ lines_of values c (keys_listed maximum c) = x.whole c (keys_listed maximum c) r.0 r.1 in
         record {
           ok = λ b is. let same : true ≡ b = cc in sym same ∙ r.2;
-          printed = inr (record { text = lines_of values c (keys_listed maximum c); prints = refl; front = ([], sym text ∙ sym (append-nil x.taken)) });
+          printed = inr (record { ok = sym r.2; text = lines_of values c (keys_listed maximum c); prints = refl; front = ([], sym text ∙ sym (append-nil x.taken)) });
           whole = λ is. text;
         };
   }
@@ -223,7 +223,7 @@ module _ {S B : Type 0} (s : space.Ghosts S) (holds : B → Files → Contents �
         let r = reply c h in
         record {
           ok = λ b is. absurd cc;
-          printed = inr (record { text = lines_of values c (keys_listed maximum c); prints = refl; front = x.front c (keys_listed maximum c) r.0 r.1 });
+          printed = inr (record { ok = sym r.2; text = lines_of values c (keys_listed maximum c); prints = refl; front = x.front c (keys_listed maximum c) r.0 r.1 });
           whole = λ is. absurd cc;
         };
   }

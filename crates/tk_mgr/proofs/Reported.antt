@@ -6,15 +6,11 @@ use Rattle.tc_base.specs.declared.request.Request.TheVariants.{Stat}
 use Rattle.tc_space.specs.declared.space.Space as space
 use Rattle.tc_model.specs.Contents.{Contents, kind_of}
 use Rattle.ty_base.specs.Holding.{Held, IsReady}
-use Rattle.ty_world.specs.World.{Mark}
 use Rattle.tk_mgr.specs.Asking.{IsTold, Looks}
-use Rattle.tk_mgr.specs.Drilling.{Holds, Makes, Tells}
+use Rattle.tk_mgr.specs.Drilling.{Makes, Tells}
 use Rattle.tk_mgr.specs.Drills.{Drilled, drilled, summary}
-use Rattle.tk_mgr.specs.Managing.{FillsTask}
 use Rattle.tk_mgr.specs.declared.run.Run.{Run}
-use Rattle.tk_mgr.specs.declared.task.Task.TheVariants.{Drill}
 use Rattle.tk_mgr.proofs.Ends.{ready_looks}
-use Rattle.tk_mgr.proofs.Steps.{fills_still}
 
 module _ {S B : Type 0} (s : space.Ghosts S) (holds : B → Files → Contents → Type 0) where
   -- what was asked for is what the text needs

@@ -4,13 +4,11 @@ use Rattle.tc_base.specs.Files.{Files}
 use Rattle.tc_space.specs.Frames.{Keeps}
 use Rattle.tc_space.specs.declared.space.Space as space
 use Rattle.tc_model.specs.Contents.{Contents}
-use Rattle.ty_base.specs.Holding.{Held}
 use Rattle.ty_world.specs.World.{Mark}
 use Rattle.ty_rounds.specs.Keeping.{IsKept}
 use Rattle.ty_rounds.specs.Kept.{HasMark, MovesTo}
 use Rattle.ty_rounds.proofs.Keeping.{settled_moves}
 use Rattle.tk_mgr.specs.Drilling.{Holds, Makes, Secures, Stands, mark_behind}
-use Rattle.tk_mgr.specs.Drills.{drilled}
 use Rattle.tk_mgr.specs.Managing.{FillsTask, MayManage}
 use Rattle.tk_mgr.specs.declared.run.Run.{Run}
 use Rattle.tk_mgr.specs.declared.task.Task.TheVariants.{Drill}
@@ -51,8 +49,8 @@ module _ {S B : Type 0} (s : space.Ghosts S) (holds : B → Files → Contents �
         }
 
     -- a limit was reached as it was settled
-    pub secured_fills : (fills : Contents → Contents → Type 0) → ((c : Contents) → Held s holds mid_base mid c → fills c c) → (seed : ℕ) (m : Mark) → Stands s holds reopens seed run base old m → FillsTask fills (Drill seed (run.made + more)) m.contents
-    secured_fills fills full seed m st = let h = makes.each seed m (stands_hold seed run base old m st) in fills_still fills seed run'.made (run.made + more) m.contents (omega (arith, makes.made)) (full (drilled run'.made seed m.contents).contents h.has.held)
+    pub secured_fills : (log_is_full : Type 0) (fills : Contents → Contents → Type 0) (lacks_large : Contents → Type 0) → (s.tells → log_is_full) → (seed : ℕ) (m : Mark) → Stands s holds reopens seed run base old m → FillsTask log_is_full fills lacks_large (Drill seed (run.made + more)) m.contents
+    secured_fills log_is_full fills lacks_large full seed m st = fills_still log_is_full fills lacks_large seed run'.made (run.made + more) m.contents (omega (arith, makes.made)) (full st.stands.has.held.0)
 
   pub unmade_moves : (more : ℕ) (run : Run) (base : B) (old new : S) → Keeps s old new → (seed : ℕ) (m : Mark) → Stands s holds reopens seed run base old m → MovesTo s reopens old new (mark_behind (run.made + more) seed m)
   unmade_moves more run base old new keeps seed m st = settled_moves s reopens old new (mark_behind (run.made + more) seed m) keeps st.stands.has.held.0

@@ -22,12 +22,13 @@ drilled_more k seed c = ap (λ (n : ℕ). drilled n seed c) (add-one k)
 
 -- ---- limits
 
-pub fills_within : (fills : Contents → Contents → Type 0) (seed n k : ℕ) (c : Contents) → n ≤ k → FillsTask fills (Drill seed n) c → FillsTask fills (Drill seed k) c
-fills_within fills seed n k c le f = record { step = f.step; within = omega (arith, f.within); by = ⊎_elim (λ x. inl (omega (arith, x.0), x.1)) (λ x. inr x) f.by }
+module _ (log_is_full : Type 0) (fills : Contents → Contents → Type 0) (lacks_large : Contents → Type 0) where
+  pub fills_within : (seed n k : ℕ) (c : Contents) → n ≤ k → FillsTask log_is_full fills lacks_large (Drill seed n) c → FillsTask log_is_full fills lacks_large (Drill seed k) c
+  fills_within seed n k c le f = record { step = f.step; within = omega (arith, f.within); by = ⊎_elim (λ x. inl (omega (arith, x.0), x.1)) (λ x. inr x) f.by }
 
--- as what was made is brought to the files, or asked for
-pub fills_still : (fills : Contents → Contents → Type 0) (seed n k : ℕ) (c : Contents) → n ≤ k → fills (drilled n seed c).contents (drilled n seed c).contents → FillsTask fills (Drill seed k) c
-fills_still fills seed n k c le f = record { step = n; within = le; by = inr f }
+  -- as what was made is brought to the files, or asked for
+  pub fills_still : (seed n k : ℕ) (c : Contents) → n ≤ k → log_is_full → FillsTask log_is_full fills lacks_large (Drill seed k) c
+  fills_still seed n k c le full = record { step = n; within = le; by = inr (inl full) }
 
 -- ---- one request
 
@@ -73,10 +74,10 @@ module _ {S B : Type 0} (s : space.Ghosts S) (holds : B → Files → Contents �
       }
 
   -- a limit was reached as it was made
-  pub one_fills : (fills : Contents → Contents → Type 0) (seed : ℕ) (m : Mark) (run : Run) (rows : Bool) (x : ℕ) (r : Request) (base : B) (old : S)
+  pub one_fills : (log_is_full : Type 0) (fills : Contents → Contents → Type 0) (lacks_large : Contents → Type 0) (seed : ℕ) (m : Mark) (run : Run) (rows : Bool) (x : ℕ) (r : Request) (base : B) (old : S)
       → ((c : Contents) → Held s holds base old c → Determines run rows x r c)
-      → ((c : Contents) → Held s holds base old c → fills c (apply false r c None).contents) → Holds s holds seed run base old m → FillsTask fills (Drill seed (run.made + 1)) m.contents
-  one_fills fills seed m run rows x r base old determines full h =
+      → ((c : Contents) → Held s holds base old c → fills c (apply false r c None).contents) → Holds s holds seed run base old m → FillsTask log_is_full fills lacks_large (Drill seed (run.made + 1)) m.contents
+  one_fills log_is_full fills lacks_large seed m run rows x r base old determines full h =
       let c = m.contents in
       let d = drilled run.made seed c in
       let step : apply false r d.contents None ≡ step_of d = step_is seed run rows x r c h.counts (determines d.contents h.has.held) in

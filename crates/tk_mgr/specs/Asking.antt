@@ -1,5 +1,5 @@
 -- What the requests of a task leave of a database and its space.
-use Rattle.std.specs.Prelude.{◌≡◌, ◌⊎◌, ℕ, Bool, false, List, Option, None, Result, Ok, IsErrOf}
+use Rattle.std.specs.Prelude.{◌≡◌, ℕ, Bool, false, List, Option, None, Result, Ok, IsErrOf}
 use Rattle.tc_base.specs.Files.{Files}
 use Rattle.tc_base.specs.declared.request.Request.{Request}
 use Rattle.tc_space.specs.Frames.{Keeps, keeps_refl, keeps_then}
@@ -70,10 +70,6 @@ pub record Carries {S : Type 0} (s : space.Ghosts S) (reopens : Files → Conten
   pub moments : LeavesTwo s reopens old new m (with_contents m (asked r m.contents))
   pub last : IsThrough result → (o : Option Files) → s.left new (s.moment new) o → Reopens reopens o (with_contents m (asked r m.contents))
 
--- as contents are brought to the files, or before and after a request
-abbrev pub FillsAsked : (Contents → Contents → Type 0) → Option Request → Contents → Type 0
-FillsAsked fills r c = fills c (asked r c) ⊎ fills (asked r c) (asked r c)
-
 -- ---- whatever the files stood for, and whatever was held
 
 abbrev pub OfMark : {S B : Type 0} → space.Ghosts S → (B → Files → Contents → Type 0) → (Files → Contents → Type 0) → B → S → (Mark → Type 0) → Type 0
@@ -83,7 +79,7 @@ abbrev pub CarriesOf : {S B : Type 0} → space.Ghosts S → (B → Files → Co
 CarriesOf s holds reopens r result base old new = OfMark s holds reopens base old (λ m. Carries s reopens r result old new m)
 
 abbrev pub FillsRequest : {S B T : Type 0} → space.Ghosts S → (B → Files → Contents → Type 0) → (S → Contents → Contents → Type 0) → Option Request → Result T MgrErr → B → S → S → Type 0
-FillsRequest s holds fills r result base old new = IsErrOf result Full → OfHeld s holds base old (λ c. FillsAsked (fills new) r c)
+FillsRequest s holds fills r result base old new = IsErrOf result Full → OfHeld s holds base old (λ c. fills new c (asked r c))
 
 -- a stop at the exit leaves files that stand for the last mark of a task
 abbrev pub LeavesLast : {S B : Type 0} → space.Ghosts S → (B → Files → Contents → Type 0) → (Files → Contents → Type 0) → Task → B → S → S → Type 0

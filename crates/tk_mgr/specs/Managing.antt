@@ -44,8 +44,9 @@ IsThrough (Err err.Fault) = ⊥
 IsThrough (Err err.Sink) = Unit {0}
 IsThrough (Err err.Memory) = ⊥
 
--- a front of what it prints
+-- a front of what it prints, where its request succeeds
 pub record IsFrontOf (lines : Files → List ℕ → Type 0) (task : Task) (files : Files) (c : Contents) (taken : List ℕ) : Type 0 where
+  pub ok : ok_of task c ≡ true
   pub text : List ℕ
   pub prints : Prints lines task files c text
   pub front : IsPrefix taken text
@@ -98,15 +99,24 @@ writes_files (Lists maximum values) = false
 writes_files Inform = false
 writes_files _ = true
 
+-- the undo log is full, or the large form that a task packs files in has no room for contents
+abbrev pub LacksKeeping : Type 0 → (Contents → Type 0) → Task → Contents → Type 0
+LacksKeeping log_is_full lacks_large task c = log_is_full ⊎ ((packing task ≡ Some form.Large) × lacks_large c)
+
 -- between the contents behind some of its requests and those behind the next, or as those are brought to the files
-pub record FillsTask (fills : Contents → Contents → Type 0) (task : Task) (c : Contents) : Type 0 where
+pub record FillsTask (log_is_full : Type 0) (fills : Contents → Contents → Type 0) (lacks_large : Contents → Type 0) (task : Task) (c : Contents) : Type 0 where
   pub step : ℕ
   pub within : step ≤ steps_of task
-  pub by : ((step < steps_of task) × fills (at_step task c step) (at_step task c (step + 1))) ⊎ fills (at_step task c step) (at_step task c step)
+  pub by : ((step < steps_of task) × fills (at_step task c step) (at_step task c (step + 1))) ⊎ LacksKeeping log_is_full lacks_large task (at_step task c step)
+
+-- the same as a space stands
+abbrev pub FillsTaskIn : {S : Type 0} → space.Ghosts S → (S → Contents → Contents → Type 0) → (S → Contents → Type 0) → S → Task → Contents → Type 0
+FillsTaskIn s fills lacks_large space task c = FillsTask (s.log_full space) (fills space) (lacks_large space) task c
 
 -- whatever the files stood for
-abbrev pub FillsTaskOf : {S B T : Type 0} → space.Ghosts S → (B → Files → Contents → Type 0) → (Files → Contents → Type 0) → (S → Contents → Contents → Type 0) → Task → Result T MgrErr → B → S → S → Type 0
-FillsTaskOf s holds reopens fills task result base old new = IsErrOf result err.Full → (m : Mark) → HoldsMark s holds reopens base old m → FillsTask (fills new) task m.contents
+module _ {S B : Type 0} (s : space.Ghosts S) (holds : B → Files → Contents → Type 0) (reopens : Files → Contents → Type 0) (fills : S → Contents → Contents → Type 0) (lacks_large : S → Contents → Type 0) where
+  abbrev pub FillsTaskOf : {T : Type 0} → Task → Result T MgrErr → B → S → S → Type 0
+  FillsTaskOf task result base old new = IsErrOf result err.Full → (m : Mark) → HoldsMark s holds reopens base old m → FillsTaskIn s fills lacks_large new task m.contents
 
 abbrev pub PacksTaskOf : {S B : Type 0} → space.Ghosts S → (B → Files → Contents → Type 0) → (Files → Contents → Type 0) → (Form → Files → Type 0) → Task → Result Bool MgrErr → B → S → S → Type 0
 PacksTaskOf s holds reopens packed task result base old new = (m : Mark) → HoldsMark s holds reopens base old m → PacksTask s packed task result new

@@ -51,9 +51,11 @@ answered (Some r) c = (apply false r c None).ok
 abbrev pub ok_of : Task → Contents → Bool
 ok_of task c = answered (request_of task) c
 
--- how many requests it makes
+-- how many requests it makes: none where files are packed or told of
 abbrev pub steps_of : Task → ℕ
 steps_of (Drill seed n) = n
+steps_of (Optimize large) = 0
+steps_of Inform = 0
 steps_of task = 1
 
 -- the contents behind so many of them

@@ -2,7 +2,7 @@
 ghost use Rattle.std.specs.Prelude.{◌≡◌, false, true, Some, OnOk, IfOk, IsErrOf};
 ghost use Rattle.tc_space.specs.Frames.{Follows, Keeps};
 ghost use Rattle.tc_model.specs.Packing.{is_optimize};
-ghost use Rattle.ty_base.specs.Holding.{FillsAsIs, FillsBy, IsReady, Leaves, OfHeld, PacksHeld, is_idle};
+ghost use Rattle.ty_base.specs.Holding.{FillsBy, IsReady, Leaves, OfHeld, PacksHeld, is_idle};
 ghost use Rattle.ty_world.specs.World.{Mark};
 ghost use Rattle.ty_rounds.specs.Kept.{HasMark, MovesTo};
 ghost use Rattle.ty_rounds.specs.Keeping.{IsKept};
@@ -26,7 +26,7 @@ pub fn ask<B: Base>(
 ) -> Result<Applied, MgrErr>
     requires ready { IsReady B.S.Space B.holds base.old space.old }
     ensures answers { IfOk result (λ a. AnswersOf B.S.Space B.holds request a base.old base.new space.old space.new reply.new) }
-    ensures leaves { IfOk result (λ a. Leaves B.S.Space (is_idle request a) space.old space.new) }
+    ensures leaves { IfOk result (λ a. Leaves B.S.Space B.own (is_idle request a) space.old space.new) }
     ensures full { IsErrOf result MgrErr.Full → FillsBy B.S.Space B.holds (B.fills space.new) request base.old space.old (asked (Some request)) }
     ensures not_sink { IsErrOf result MgrErr.Sink → ⊥ }
     ensures keeps { Keeps B.S.Space space.old space.new }
@@ -64,7 +64,7 @@ pub fn save<B: Base>(base: &mut B, space: &mut B::S, commits: bool) -> Result<()
     ensures kept { OnOk result (IsKept B.S.Space B.holds B.reopens commits base.old base.new space.old space.new) }
     ensures packs { OnOk result (commits ≡ true → PacksHeld B.S.Space B.holds B.tight B.packed base.old space.old space.new) }
     ensures moments { (m : Mark) → HasMark B.S.Space B.holds base.old space.old m → MovesTo B.S.Space B.reopens space.old space.new m }
-    ensures full { IsErrOf result MgrErr.Full → FillsAsIs B.S.Space B.holds B.fills base.old space.old space.new }
+    ensures full { IsErrOf result MgrErr.Full → B.S.tells → B.S.log_full space.new }
     ensures not_sink { IsErrOf result MgrErr.Sink → ⊥ }
     ensures follows { Follows B.S.Space space.old space.new }
     ensures cause { OnMgrFault B.S.Space result space.old space.new }

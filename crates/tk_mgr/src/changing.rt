@@ -4,7 +4,7 @@ ghost use Rattle.tc_base.specs.declared.request.Request.TheVariants as request;
 ghost use Rattle.tk_mgr.specs.Managing.{MayManage, PacksTaskOf, form_for};
 ghost use Rattle.tk_mgr.specs.Tasks.{put_request};
 ghost use Rattle.tk_mgr.specs.declared.task.Task.TheVariants.{Optimize};
-ghost use Rattle.ty_base.specs.Holding.{FillsAsIs};
+ghost use Rattle.ty_base.specs.Holding.{FullPack};
 ghost use Rattle.tc_space.specs.Frames.{Follows};
 ghost use Rattle.tk_mgr.specs.Asking.{CarriesOf, FillsRequest, OnMgrFault};
 
@@ -104,7 +104,7 @@ pub fn optimize<B: Base>(large: bool, base: &mut B, space: &mut B::S) -> Result<
     requires may { MayManage B.S.Space B.holds B.reopens base.old space.old }
     ensures carries { CarriesOf B.S.Space B.holds B.reopens None result base.old space.old space.new }
     ensures packs { PacksTaskOf B.S.Space B.holds B.reopens B.packed (Optimize large) result base.old space.old space.new }
-    ensures full { IsErrOf result MgrErr.Full → FillsAsIs B.S.Space B.holds B.fills base.old space.old space.new }
+    ensures full { IsErrOf result MgrErr.Full → FullPack B.S.Space B.holds B.lacks_large (form_for large) base.old space.old space.new }
     ensures not_sink { IsErrOf result MgrErr.Sink → ⊥ }
     ensures follows { Follows B.S.Space space.old space.new }
     ensures cause { OnMgrFault B.S.Space result space.old space.new }

@@ -1,8 +1,8 @@
 //! A task carried out on a database.
-ghost use Rattle.std.specs.Prelude.{◌≡◌, ◌≤◌, true, IsErrOf};
+ghost use Rattle.std.specs.Prelude.{◌≡◌, ◌≤◌, false, true, IsErrOf};
 ghost use Rattle.tc_io.specs.Causes.{Rose};
 ghost use Rattle.tk_mgr.specs.Managing.{FillsTaskOf, Manages, MayManage, PacksTaskOf, writes_files};
-ghost use Rattle.tc_space.specs.Frames.{Follows};
+ghost use Rattle.tc_space.specs.Frames.{Follows, Keeps};
 ghost use Rattle.tk_mgr.specs.Asking.{OnMgrFault};
 
 use crate::changing::{optimize, put, take_out};
@@ -33,7 +33,8 @@ pub fn manage<B: Base, O: Sink>(
     ensures managed { Manages B.S.Space O.Sink B.holds B.reopens B.lines task result base.old space.old space.new out.old out.new }
     ensures packs { PacksTaskOf B.S.Space B.holds B.reopens B.packed task result base.old space.old space.new }
     ensures writes { IsErrOf result MgrErr.Full → writes_files task ≡ true }
-    ensures full { FillsTaskOf B.S.Space B.holds B.reopens B.fills task result base.old space.old space.new }
+    ensures reads { writes_files task ≡ false → Keeps B.S.Space space.old space.new }
+    ensures full { FillsTaskOf B.S.Space B.holds B.reopens B.fills B.lacks_large task result base.old space.old space.new }
     ensures follows { Follows B.S.Space space.old space.new }
     ensures later { O.faults out.old ≤ O.faults out.new }
     ensures cause { OnMgrFault B.S.Space result space.old space.new }

@@ -1,5 +1,5 @@
 -- A run of what is asked for.
-use Rattle.std.proofs.Common.{◌≡◌, inl, inr, ℕ, List, [], refl, sym, subst, ◌∙◌}
+use Rattle.std.proofs.Common.{◌≡◌, inl, inr, ⊎_elim, ℕ, List, [], refl, sym, subst, ◌∙◌}
 use Rattle.std.specs.Prelude.{Option, Some, None}
 use Rattle.tc_io.specs.declared.sink.Sink as sink
 use Rattle.tc_io.specs.declared.volume.Volume as volume
@@ -10,7 +10,7 @@ use Rattle.tk_top.specs.declared.ends.End.{End}
 use Rattle.tk_top.specs.declared.ends.End.TheVariants.{Words, NoMemory}
 use Rattle.tk_top.specs.Over.{BreaksAt, Judged, StandsFor}
 use Rattle.tk_top.specs.Making.{IsThere, JudgedMaking, MainIsEmpty, MainIsThere}
-use Rattle.tk_top.specs.Stored.{anew_of, breaks_of, kind_in, lines_in, numbers_of, packed_in, reopens_of, stored_as}
+use Rattle.tk_top.specs.Stored.{anew_of, breaks_new_of, breaks_of, kind_in, lines_in, numbers_of, packed_in, reopens_of, stored_as}
 use Rattle.tk_top.specs.Tasks.{IsMisplaced, JudgedTask, RefusedAt}
 use Rattle.tk_top.specs.Top.{AskedRun, CausedBy, DrillsMemory, FileRun, IsDrilled, IsServing, MakesFiles, Opens, RunsAsked, SourceRun, TaskOnFiles}
 use Rattle.tk_mgr.specs.declared.task.Task.{Task}
@@ -25,17 +25,20 @@ use Rattle.tk_top.proofs.Made.{made_unopened}
 use Rattle.tk_top.proofs.Managed.{managed_unopened}
 use Rattle.tk_top.proofs.Memory.{memory_none}
 use Rattle.tk_top.proofs.Named.{ends_unnamed}
-use Rattle.tk_top.proofs.Staying.{left_alone_unnamed}
+use Rattle.tk_top.specs.Staying.{IsDamaged}
+use Rattle.tk_top.proofs.Staying.{left_alone_unnamed, spares_unnamed}
 use Rattle.tk_top.proofs.Stopping.{files_unopened}
 
 module _ {V W O : Type 0} (v : volume.Ghosts V) (g : wire.Ghosts W) (o : sink.Ghosts O) where
   -- there was no memory before any call
   file_none : (name : List ℕ) (stored : Stored) (limit : ℕ) (at : At) (turns : ℕ) (vol : V) (x : W) → FileRun v g NoMemory name stored limit at turns vol vol x x
   file_none name stored limit at turns vol x = record {
-    names = inr (Adds-none (v.names vol));
+    names = (ends_unnamed v name vol).names;
     told = files_unopened g (kind_in stored) (reopens_of stored) NoMemory turns at x (ends_unnamed v name vol);
     judged = tt;
     begun = inl refl;
+    spared = spares_unnamed (ends_unnamed v name vol) (IsDamaged (Opens stored));
+    within = λ out. absurd (⊎_elim (λ is. cc) (λ is. cc) out);
     full = λ e. absurd cc;
     caused = tt;
   }
@@ -46,10 +49,11 @@ module _ {V W O : Type 0} (v : volume.Ghosts V) (g : wire.Ghosts W) (o : sink.Gh
 
   task_none : (name : List ℕ) (stored : Stored) (task : Task) (vol : V) (p : O) → TaskOnFiles v o NoMemory name stored task vol vol p p
   task_none name stored task vol p = record {
-    names = inr (Adds-none (v.names vol));
+    names = (ends_unnamed v name vol).names;
     told = managed_unopened o (reopens_of stored) (lines_in stored) (packed_in stored) task (kind_in stored) NoMemory p (ends_unnamed v name vol);
     judged = tt;
     begun = inl refl;
+    spared = spares_unnamed (ends_unnamed v name vol) (IsDamaged (Opens stored));
     misplaced = left_alone_unnamed (ends_unnamed v name vol) (IsMisplaced task);
     full = λ e. absurd cc;
     caused = tt;
@@ -57,7 +61,7 @@ module _ {V W O : Type 0} (v : volume.Ghosts V) (g : wire.Ghosts W) (o : sink.Gh
 
   make_none : (name : List ℕ) (shape : Shape) (vol : V) → MakesFiles v NoMemory name shape vol vol
   make_none name shape vol = record {
-    names = inr (Adds-none (v.names vol));
+    names = (ends_unnamed v name vol).names;
     made = made_unopened (reopens_of (stored_as shape)) (numbers_of shape) (anew_of shape) NoMemory (ends_unnamed v name vol);
     judged = tt;
     there = left_alone_unnamed (ends_unnamed v name vol) IsThere;
@@ -83,7 +87,7 @@ module _ {V W O : Type 0} (v : volume.Ghosts V) (g : wire.Ghosts W) (o : sink.Gh
   not_words : (a : Asked) (end : End) (vol vol' : V) (x y : W) (p q : O) → AskedRun v g o end a vol vol' x y p q → end ≡ Words → ⊥
   not_words (asked.Serve source at turns) end vol vol' x y p q run is = served_words source end at turns vol vol' x y run.0 is
   not_words (asked.Task name stored task) end vol vol' x y p q run is = subst (λ (e : End). JudgedTask e (v.tells → StandsFor (Opens stored) (v.calls vol)) (λ file rule. v.tells → BreaksAt (breaks_of stored) (v.calls vol) (v.calls vol') file rule) (v.tells → RefusedAt (Opens stored) task (v.calls vol))) is run.0.judged
-  not_words (asked.Create name shape) end vol vol' x y p q run is = subst (λ (e : End). JudgedMaking e (v.tells → MainIsEmpty (v.calls vol)) (λ file rule. v.tells → BreaksAt (λ files f r. ⊥) (v.calls vol) (v.calls vol') file rule) (v.tells → MainIsThere (v.calls vol) (v.calls vol'))) is run.0.judged
+  not_words (asked.Create name shape) end vol vol' x y p q run is = subst (λ (e : End). JudgedMaking e (v.tells → MainIsEmpty (v.calls vol)) (λ file rule. v.tells → BreaksAt (breaks_new_of shape) (v.calls vol) (v.calls vol') file rule) (v.tells → MainIsThere (v.calls vol) (v.calls vol'))) is run.0.judged
   not_words (asked.Drill memory seed n) end vol vol' x y p q run is = subst IsDrilled is run.0.ends
 
   some_asked : (a b : Asked) → Some a ≡ Some b → a ≡ b

@@ -1,5 +1,5 @@
 -- Causes, over several calls.
-use Rattle.std.proofs.Common.{◌≡◌, ◌≤◌, ℕ, refl, arith}
+use Rattle.std.proofs.Common.{◌≡◌, ◌≤◌, ⊎_elim, ℕ, refl, arith}
 use Rattle.tc_io.specs.Causes.{Rose}
 use Rattle.ty_rounds.specs.declared.outcome.TurnErr.{TurnErr}
 use Rattle.ty_rounds.specs.declared.outcome.TurnErr.TheVariants as turn
@@ -7,12 +7,19 @@ use Rattle.tk_top.specs.declared.ends.End.{End}
 use Rattle.tk_top.specs.declared.ends.End.TheVariants.{Done, Words, Refused, VolumeFault, Broken, NoMemory, Full, WireFault, TurnsSpent}
 use Rattle.tk_top.specs.Ends.{IsEnd, end_of_turn}
 use Rattle.tk_top.specs.Causes.{Caused}
+use Rattle.tk_top.specs.Over.{IsOut}
 
 pub is_end_turn : (e : TurnErr) → IsEnd (end_of_turn e)
 is_end_turn turn.Volume = tt
 is_end_turn turn.Full = tt
 is_end_turn turn.Wire = tt
 is_end_turn turn.Memory = tt
+
+pub not_out : (e : TurnErr) → IsOut (end_of_turn e) → ⊥
+not_out turn.Volume out = ⊎_elim (λ is. cc) (λ is. cc) out
+not_out turn.Full out = ⊎_elim (λ is. cc) (λ is. cc) out
+not_out turn.Wire out = ⊎_elim (λ is. cc) (λ is. cc) out
+not_out turn.Memory out = ⊎_elim (λ is. cc) (λ is. cc) out
 
 pub full_turn : (e : TurnErr) → end_of_turn e ≡ Full → e ≡ turn.Full
 full_turn turn.Volume is = absurd cc

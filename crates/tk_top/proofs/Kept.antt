@@ -1,5 +1,5 @@
 -- A database in the files of a space: what its opening leaves, and the run behind it.
-use Rattle.std.proofs.Common.{◌≡◌, ◌⊎◌, ◌≢◌, inl, inr, ⊎_elim, ℕ, Bool, true, false, cond, List, [], ◌∷◌, refl, sym, subst, ◌∙◌, arith}
+use Rattle.std.proofs.Common.{◌≡◌, ◌⊎◌, ◌≢◌, inl, inr, ⊎_elim, ℕ, Bool, true, false, cond, List, [], ◌∷◌, refl, sym, ap, subst, ◌∙◌, arith}
 use Rattle.std.specs.Prelude.{Option, Some}
 use Rattle.tc_base.specs.Files.{Files}
 use Rattle.tc_base.specs.declared.kind.Rule.{Rule}
@@ -24,9 +24,13 @@ use Rattle.tk_top.specs.Ends.{end_of}
 use Rattle.tk_top.specs.Over.{Judged}
 use Rattle.tk_top.specs.Runs.{FullRun}
 use Rattle.tk_top.specs.Serving.{Begins, RunsOver}
+use Rattle.tk_top.specs.Staying.{IsStill}
 use Rattle.tk_top.proofs.Events.{had_none}
 use Rattle.tk_top.proofs.Fresh.{Earlier, Fresh}
 use Rattle.tk_top.proofs.Over.{not_played, unserved}
+
+some_files : (a b : Files) → Some a ≡ Some b → a ≡ b
+some_files a b e = cc
 
 -- ---- marks stay
 
@@ -51,10 +55,10 @@ first_in es first = all_keep es (started [] first) first (inl refl)
 -- ---- opening
 
 module _ {S : Type 0} (s : space.Ghosts S) (reopens : Files → Contents → Type 0) where
-  pub steady_moves : (old mid : S) (m : Mark) → Steady s.moment s.left s.kept old mid → MovesTo s reopens old mid m
+  pub steady_moves : (old mid : S) (m : Mark) → Steady s.moment s.files_at s.left s.kept old mid → MovesTo s reopens old mid m
   steady_moves old mid m st = record { leaves = record { later = st.leaves.later; each = λ t o le l. ⊎_elim (λ was. inl was) (λ is. inr (inl is)) (st.leaves.each t o le l) } }
 
-  pub commit_moves : (old mid new : S) (m : Mark) → Steady s.moment s.left s.kept old mid → LeavesOnly s.moment s.left mid new (λ o. (o ≡ s.kept mid) ⊎ (o ≡ Some (s.now mid))) → StandFor reopens (s.now mid) m → MovesTo s reopens old new m
+  pub commit_moves : (old mid new : S) (m : Mark) → Steady s.moment s.files_at s.left s.kept old mid → LeavesOnly s.moment s.left mid new (λ o. (o ≡ s.kept mid) ⊎ (o ≡ Some (s.now mid))) → StandFor reopens (s.now mid) m → MovesTo s reopens old new m
   commit_moves old mid new m st cm stand = record {
     leaves = record {
       later = omega (arith, st.leaves.later, cm.later);
@@ -111,9 +115,24 @@ module _ {S : Type 0} (s : space.Ghosts S) (reopens opens : Files → Contents �
     };
   }
 
-module _ {S W : Type 0} (s : space.Ghosts S) (g : wire.Ghosts W) (reopens opens : Files → Contents → Type 0) (stand : (files : Files) (c : Contents) → opens files c → reopens files c) where
+-- a main file that was empty was made anew, and others stay
+pub still_opened : (made : Files → Type 0) (old new : Files) → ((old 0 ≡ [] → ⊥) → (f : ℕ) → new f ≡ old f) → (old 0 ≡ [] → made new) → IsStill made old (Some new)
+still_opened made old new same anew = which (old 0) refl
+  where
+    which : (main : List ℕ) → old 0 ≡ main → IsStill made old (Some new)
+    which [] is = record { which = inr (is, new, refl, anew is) }
+    which (x ∷ xs) is = let there : new ≡ old = λ i f. same (λ none. let e = sym none ∙ is in cc) f i in record { which = inl (ap (λ (f : Files). Some f) there) }
+
+-- where it wasn't empty they are the files
+pub still_same : (made : Files → Type 0) (old new : Files) → IsStill made old (Some new) → (old 0 ≡ [] → ⊥) → new ≡ old
+still_same made old new still some = some_files new old (⊎_elim (λ is. is) (λ made. absurd (some made.0)) still.which)
+
+still_then : (made : Files → Type 0) (old mid : Files) (o : Option Files) → IsStill made old (Some mid) → IsStill (λ files. ⊥) mid o → IsStill made old o
+still_then made old mid o opened run = subst (λ (p : Option Files). IsStill made old p) (sym (⊎_elim (λ is. is) (λ none. absurd none.3) run.which)) opened
+
+module _ {S W : Type 0} (s : space.Ghosts S) (g : wire.Ghosts W) (reopens opens : Files → Contents → Type 0) (made : Files → Type 0) (stand : (files : Files) (c : Contents) → opens files c → reopens files c) where
   -- it was refused
-  pub over_refused : (e : AnyErr) (turns : ℕ) (at : At) (s0 s1 : S) (x : W) → Fresh s s0 → Earlier s s1 → ((m : Mark) → Begins s opens s0 m → MovesTo s reopens s0 s1 m) → RunsOver s g reopens (end_of e) turns at s0 s1 x x (Begins s opens s0)
+  pub over_refused : (e : AnyErr) (turns : ℕ) (at : At) (s0 s1 : S) (x : W) → Fresh s s0 → Earlier s s1 → ((m : Mark) → Begins s opens s0 m → MovesTo s reopens s0 s1 m) → RunsOver s g reopens made (end_of e) turns at s0 s1 x x (Begins s opens s0)
   over_refused e turns at s0 s1 x fresh earlier moves = record {
     entries = [];
     told = Adds-none (g.transcript x);
@@ -124,13 +143,15 @@ module _ {S W : Type 0} (s : space.Ghosts S) (g : wire.Ghosts W) (reopens opens 
       serves = unserved (end_of e) turns at [] first [] refl (inr refl) (ended_not e).0 (ended_not e).1;
       exit = λ o l. inl (still_first s reopens opens stand s0 s1 first fresh earlier h (moves first h) o l);
       moments = opening_marks s reopens opens stand s0 s1 first (first ∷ []) (inl refl) (kept_stands s reopens opens stand s0 first fresh h) (moves first h);
+      idle = λ some. absurd (some refl);
     };
+    played = λ ended. absurd (⊎_elim (ended_not e).0 (ended_not e).1 ended);
     plays = λ first h acts given p. not_played turns (g.plays x) (end_of e) acts given (ended_not e).0 (ended_not e).1;
   }
 
   -- it wasn't
-  pub over_opened : (begun : Mark → Type 0) (end : End) (turns : ℕ) (at : At) (s0 s1 s2 : S) (x y : W) → Fresh s s0 → ((m : Mark) → Begins s opens s0 m → MovesTo s reopens s0 s1 m) → ((m : Mark) → Begins s opens s0 m → begun m) → RunsOver s g reopens end turns at s1 s2 x y begun → RunsOver s g reopens end turns at s0 s2 x y (Begins s opens s0)
-  over_opened begun end turns at s0 s1 s2 x y fresh moves begins run = record {
+  pub over_opened : (begun : Mark → Type 0) (end : End) (turns : ℕ) (at : At) (s0 s1 s2 : S) (x y : W) → Fresh s s0 → ((m : Mark) → Begins s opens s0 m → MovesTo s reopens s0 s1 m) → ((m : Mark) → Begins s opens s0 m → begun m) → (s.tells → IsStill made (s.now s0) (Some (s.now s1))) → RunsOver s g reopens (λ files. ⊥) end turns at s1 s2 x y begun → RunsOver s g reopens made end turns at s0 s2 x y (Begins s opens s0)
+  over_opened begun end turns at s0 s1 s2 x y fresh moves begins still run = record {
     entries = run.entries;
     told = run.told;
     opened = run.opened;
@@ -143,7 +164,9 @@ module _ {S W : Type 0} (s : space.Ghosts S) (g : wire.Ghosts W) (reopens opens 
           serves = r.serves;
           exit = r.exit;
           moments = marks_then s reopens opens stand s0 s1 s2 _ (opening_marks s reopens opens stand s0 s1 first _ (first_in run.entries first) k (moves first h)) r.moments;
+          idle = λ some kept o l. still_then made (s.now s0) (s.now s1) o (still h.0) (r.idle some kept o l);
         };
+    played = run.played;
     plays = λ first h acts given p. run.plays first (begins first h) acts given p;
   }
 

@@ -7,10 +7,14 @@ use Rattle.tc_io.specs.declared.volume.Volume as volume
 use Rattle.tc_space.specs.declared.space.Space as space
 use Rattle.tc_model.specs.Contents.{Contents}
 use Rattle.ty_world.specs.World.{Mark}
+use Rattle.ty_base.specs.Opening.{Breaks}
+use Rattle.ty_base.specs.declared.errors.AnyErr.{AnyErr}
+use Rattle.ty_base.specs.declared.errors.AnyErr.TheVariants as any
 use Rattle.ty_rounds.specs.Kept.{AtMark, LeavesMarks, MovesTo, Reopens}
 use Rattle.tk_mgr.specs.Managing.{with_contents}
 use Rattle.tk_top.specs.declared.ends.End.{End}
 use Rattle.tk_top.specs.declared.ends.End.TheVariants.{Done, Words, Refused, VolumeFault, Broken, NoMemory, Full, WireFault, TurnsSpent}
+use Rattle.tk_top.specs.Ends.{end_of}
 use Rattle.tk_top.specs.Making.{ExitsMaking, FilesMade, IsMade, JudgedMaking, MakingOver}
 use Rattle.tk_top.specs.Naming.{EndsUnopened, OpensNamed}
 use Rattle.tk_top.specs.Serving.{Begins}
@@ -30,6 +34,12 @@ judged_made NoMemory empty some empty' some' breaks breaks' f g h j = tt
 judged_made Full empty some empty' some' breaks breaks' f g h j = f j
 judged_made WireFault empty some empty' some' breaks breaks' f g h j = j
 judged_made TurnsSpent empty some empty' some' breaks breaks' f g h j = j
+
+pub making_err : (e : AnyErr) (empty some : Type 0) (breaks : ℕ → Rule → Type 0) → empty → Breaks e breaks → JudgedMaking (end_of e) empty breaks some
+making_err (any.Broken file rule) empty some breaks is broken = broken
+making_err any.Full empty some breaks is broken = is
+making_err any.Fault empty some breaks is broken = tt
+making_err any.Memory empty some breaks is broken = tt
 
 module _ (reopens : Files → Contents → Type 0) (numbers : Files → Type 0) (anew : Contents) where
   at_first : (first : Mark) (o : Option Files) → Reopens reopens o first → AtMark reopens o (with_contents first anew ∷ first ∷ [])

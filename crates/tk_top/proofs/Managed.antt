@@ -1,5 +1,5 @@
 -- A task over a space, and over its volume.
-use Rattle.std.proofs.Common.{◌≡◌, ◌≢◌, inl, inr, ⊎_elim, ℕ, zero, suc, Bool, true, false, List, [], map, refl, sym, subst, ◌∙◌, arith}
+use Rattle.std.proofs.Common.{◌≡◌, ◌≢◌, ◌⊎◌, inl, inr, ⊎_elim, ℕ, zero, suc, Bool, true, false, List, [], map, refl, sym, ap, subst, ◌∙◌, arith}
 use Rattle.std.specs.Prelude.{Option, Some, None, Result, Ok, Err, if◌then◌else◌}
 use Rattle.tc_base.specs.Files.{Files}
 use Rattle.tc_base.specs.declared.kind.Form.{Form}
@@ -8,6 +8,7 @@ use Rattle.tc_base.specs.declared.request.Request.TheVariants as request
 use Rattle.tc_io.specs.Images.{now}
 use Rattle.tc_io.specs.declared.sink.Sink as sink
 use Rattle.tc_io.specs.declared.volume.Volume as volume
+use Rattle.tc_space.specs.Frames.{Keeps}
 use Rattle.tc_space.specs.declared.space.Space as space
 use Rattle.ud_log.specs.Undo.{recovered}
 use Rattle.tc_model.specs.Apply.{Effect, Step, apply, effect, fits, refused, took}
@@ -32,15 +33,15 @@ use Rattle.tk_top.specs.declared.ends.End.{End}
 use Rattle.tk_top.specs.declared.ends.End.TheVariants.{Done, Words, Refused, VolumeFault, Broken, NoMemory, Full, WireFault, TurnsSpent}
 use Rattle.tk_top.specs.Ends.{end_of}
 use Rattle.tk_top.specs.Naming.{EndsUnopened, OpensNamed}
-use Rattle.tk_top.specs.Over.{BeginsAt, Recover}
+use Rattle.tk_top.specs.Over.{BeginsAt, MainIsBare}
 use Rattle.tk_top.specs.Serving.{Begins}
 use Rattle.tk_top.specs.Staying.{IsSilent}
 use Rattle.tk_top.specs.Stops.{IsEarly, StopsOver}
 use Rattle.tk_top.specs.Tasks.{ExitsTask, FilesManaged, FullTask, IsCarried, IsMisplaced, JudgedTask, ManagesOver, ReasonOver, RefusedAt, TaskOn, end_of_task, wants_empty}
-use Rattle.tk_top.proofs.Fresh.{Earlier, Fresh}
+use Rattle.tk_top.proofs.Fresh.{Earlier, Fresh, still_left}
 use Rattle.tk_top.proofs.Kept.{kept_stands, marks_then, moved, opening_marks, still_first}
-use Rattle.tk_top.proofs.Named.{begins_so, early_of, fills_so, of_kind, opened_whole, same_files, unopened_broken}
-use Rattle.tk_top.proofs.Stops.{Closes, stops_run, stops_unopened}
+use Rattle.tk_top.proofs.Named.{bare_so, begins_so, early_of, of_kind, opened_whole, same_files, unopened_broken}
+use Rattle.tk_top.proofs.Stops.{Closes, exit_left, stops_run, stops_unopened}
 
 -- ---- ends
 
@@ -139,6 +140,19 @@ placed_writes (Optimize large) files placed empty = refl
 placed_writes Inform files placed empty = absurd (placed empty)
 placed_writes (Drill seed n) files placed empty = refl
 
+-- nor is one that only reads for an empty one
+reads_there : (task : Task) → writes_files task ≡ false → wants_empty task ≡ false
+reads_there (Put word key value) reads = refl
+reads_there (Out key) reads = refl
+reads_there (Get key) reads = refl
+reads_there (Lists maximum values) reads = refl
+reads_there (Optimize large) reads = refl
+reads_there Inform reads = refl
+reads_there (Drill seed n) reads = absurd cc
+
+unbegun_not : (end : End) → IsUnbegun end → IsCarried end ⊎ (end ≡ Refused) → ⊥
+unbegun_not end un ends = ⊎_elim un.not_carried un.not_refused ends
+
 -- ---- marks
 
 hundreds_have : (seed k : ℕ) (m : Mark) → IsIn m (map (with_contents m) (hundreds seed k m.contents))
@@ -205,7 +219,7 @@ module _ {S O : Type 0} (s : space.Ghosts S) (g : sink.Ghosts O) (opens reopens 
     taken = [];
     told = Adds-none (g.taken p);
     silent = λ is. refl;
-    ends = λ first h. record { on = on_unbegun lines task (end_of e) (s.now old) first (unbegun_of e); stops = first_left (end_of e) old mid first (unbegun_of e) fresh earlier h (moves first h) };
+    ends = λ first h. record { on = on_unbegun lines task (end_of e) (s.now old) first (unbegun_of e); looks = λ reads ends. absurd (unbegun_not (end_of e) (unbegun_of e) ends); stops = first_left (end_of e) old mid first (unbegun_of e) fresh earlier h (moves first h) };
   }
 
   -- the main file isn't as it is wanted
@@ -222,14 +236,15 @@ module _ {S O : Type 0} (s : space.Ghosts S) (g : sink.Ghosts O) (opens reopens 
             exit = λ o l. exits_misplaced reopens packed task first o (moved k ((fresh h.0).0 o l));
             moments = record { leaves = record { later = omega arith; each = λ t o le l. inl l } };
           };
+          looks = λ reads ends o l. (fresh h.0).0 o l ∙ (fresh h.0).1;
         };
   }
 
   -- it was opened
   pub over_managed : {B : Type 0} (holds : B → Files → Contents → Type 0) (result : Result Bool MgrErr) (base : B) (old mid new : S) (p q : O) → Fresh s old → Fresh s mid → Earlier s new
       → ((m : Mark) → Begins s opens old m → MovesTo s reopens old mid m) → ((m : Mark) → Begins s opens old m → HoldsMark s holds reopens base mid m) → (s.tells → wants_empty task ≡ false → s.now mid ≡ s.now old) → (s.tells → IsMisplaced task (s.now old) → ⊥)
-      → Manages s g holds reopens lines task result base mid new p q → ((m : Mark) → HoldsMark s holds reopens base mid m → PacksTask s packed task result new) → ManagesOver s g opens reopens lines packed task (end_of_task result) old new p q
-  over_managed holds result base old mid new p q fresh calm earlier moves marks same placed managed packs = record {
+      → (writes_files task ≡ false → Keeps s mid new) → Manages s g holds reopens lines task result base mid new p q → ((m : Mark) → HoldsMark s holds reopens base mid m → PacksTask s packed task result new) → ManagesOver s g opens reopens lines packed task (end_of_task result) old new p q
+  over_managed holds result base old mid new p q fresh calm earlier moves marks same placed reads managed packs = record {
     taken = managed.taken;
     told = managed.told;
     silent = λ is. managed.none (silent_is result is);
@@ -244,7 +259,7 @@ module _ {S O : Type 0} (s : space.Ghosts S) (g : sink.Ghosts O) (opens reopens 
             ok = λ is. sym (m.ok true (done_is result is));
             printed = λ is. prints managed.taken (m.whole (done_is result is));
             refused = λ is. inr (sym (m.ok false (refused_is result is)));
-            front = ⊎_elim (λ nothing. inl nothing) (λ f. inr (record { text = f.text; prints = prints f.text f.prints; front = f.front })) m.printed;
+            front = ⊎_elim (λ nothing. inl nothing) (λ f. inr (record { ok = f.ok; text = f.text; prints = prints f.text f.prints; front = f.front })) m.printed;
           };
           stops = record {
             exit = λ o l. record {
@@ -258,6 +273,7 @@ module _ {S O : Type 0} (s : space.Ghosts S) (g : sink.Ghosts O) (opens reopens 
             };
             moments = marks_then s reopens opens stand old mid new (marks_of task first) (opening_marks s reopens opens stand old mid first (marks_of task first) (first_marked task first) k (moves first h)) m.moments;
           };
+          looks = λ only ends o l. still_left s mid new o calm earlier h.0 (reads only) l ∙ ap (λ (f : Files). Some f) (same h.0 (reads_there task only));
         };
   }
 
@@ -273,6 +289,7 @@ module _ {V O : Type 0} {v : volume.Ghosts V} (g : sink.Ghosts O) (reopens : Fil
     broken = unopened_broken u;
     ends = λ settled first h. record {
       on = on_unbegun lines task end h.1.files first un;
+      looks = λ reads ends. absurd (unbegun_not end un ends);
       stops = stops_unopened reopens _ _ _ (v.calls old) (v.calls new) first (early_of u, refl) (u.leaves h.0 settled) (of_kind kind reopens _ first h.1) (λ o r. exits_unbegun reopens packed task end first o un r);
     };
   }
@@ -289,6 +306,7 @@ module _ {V O : Type 0} {v : volume.Ghosts V} (g : sink.Ghosts O) (reopens : Fil
         record {
           on = subst (λ (f : Files). TaskOn lines task end f run.taken first) (sym (same_files o h.1.files h.0 h.1.is)) r.on;
           stops = stops_run reopens _ _ _ (o.over h.0) closed settled r.stops;
+          looks = λ reads ends ims are. r.looks reads ends (recovered ims) (exit_left closed ims are) ∙ ap (λ (f : Files). Some f) (sym (same_files o h.1.files h.0 h.1.is));
         };
   }
 
@@ -326,5 +344,6 @@ module _ {S V : Type 0} {s : space.Ghosts S} {v : volume.Ghosts V} {name : List 
   pub reason_so : ReasonOver s opens task a → v.tells → RefusedAt opens task (v.calls vol)
   reason_so r t = let b = o.over t in record { which = ⊎_elim (λ not. inl (s.now a, b.files, not)) (λ x. inr (x.0, record { files = s.now a; is = b.files; stand = x.1 }, x.2)) (r.which b.tells) }
 
-  pub full_task_so : (fills : Contents → Contents → Type 0) → FullTask s.tells fills (opens (s.now a)) (Begins s opens a) task → FullTask v.tells fills (Recover opens (recovered (now (v.calls vol)))) (BeginsAt v.tells opens (v.calls vol)) task
-  full_task_so fills x = record { writes = λ t. x.writes (o.over t).tells; which = ⊎_elim (λ y. inl (fills_so o opens fills y)) (λ y. inr (λ first h. y first (begins_so o opens first h))) x.which }
+  pub full_task_so : {lacks : Type 0} (fills : Task → Contents → Type 0) → FullTask s.tells (s.now a 0 ≡ []) lacks fills (Begins s opens a) task
+      → FullTask v.tells (MainIsBare (recovered (now (v.calls vol)))) lacks fills (BeginsAt v.tells opens (v.calls vol)) task
+  full_task_so fills x = record { writes = λ t. x.writes (o.over t).tells; which = ⊎_elim (λ y. inl (bare_so o opens y)) (λ y. inr (λ first h. y first (begins_so o opens first h))) x.which }

@@ -1,5 +1,5 @@
 -- A run that serves a database in memory.
-use Rattle.std.proofs.Common.{◌≡◌, ◌<◌, ◌-◌, ◌^◌, ◌++◌, inr, ⊎_elim, ℕ, Bool, true, false, List, [], refl, sym, ap, subst, arith}
+use Rattle.std.proofs.Common.{◌≡◌, ◌<◌, ◌-◌, ◌^◌, ◌++◌, inr, ⊎_elim, ℕ, Bool, true, false, List, [], ◌∷◌, refl, sym, ap, subst, arith}
 use Rattle.std.specs.Prelude.{Result, Ok, Err, OnOk}
 use Rattle.tc_base.specs.Files.{Files}
 use Rattle.tc_base.specs.declared.fault.Fault.{Fault}
@@ -8,10 +8,11 @@ use Rattle.tc_io.specs.declared.sink.Sink as sink
 use Rattle.tc_io.specs.declared.wire.At.{At}
 use Rattle.tc_io.specs.declared.wire.Wire as wire
 use Rattle.tc_space.specs.declared.space.Space as space
-use Rattle.tc_model.specs.Contents.{Contents}
-use Rattle.ty_world.specs.World.{Mark}
+use Rattle.tc_model.specs.Contents.{Contents, Walk}
+use Rattle.ty_world.specs.World.{Client, Mark}
 use Rattle.ty_wire.specs.Prefixes.{IsPrefix}
 use Rattle.ty_rounds.specs.Kept.{HoldsMark}
+use Rattle.ty_rounds.specs.Serving.{FillsAt, FillsNext}
 use Rattle.ty_rounds.proofs.Telling.{Adds-none}
 use Rattle.tk_mgr.specs.Managing.{Manages}
 use Rattle.tk_mgr.specs.Tasks.{text_of}
@@ -47,6 +48,14 @@ no_volume end w w' c is = let r : Rose 0 0 = subst (λ (e : End). Caused e 0 0 w
 pub wire_fault : (end : End) (v v' w w' : ℕ) → Caused end v v' w w' → end ≡ WireFault → Rose w w'
 wire_fault end v v' w w' c is = subst (λ (e : End). Caused e v v' w w') is c
 
+-- where no contents fill it, no round does
+pub none_filled : {fills : Contents → Contents → Type 0} → ((c d : Contents) → fills c d → ⊥) → (c : Contents) (w : Walk) (ks : List Client) → FillsAt fills c w ks → ⊥
+none_filled {fills} none c w ks full = next full.back full.next
+  where
+    next : (back : List Client) → FillsNext fills c w full.front back → ⊥
+    next [] x = none c c (x.1 c c)
+    next (k ∷ more) x = none _ _ x.full
+
 -- and a fault is one of the wire
 pub serving_caused : (end : End) (v v' w w' : ℕ) → IsServing end → (end ≡ WireFault → Rose w w') → Caused end v v' w w'
 serving_caused Done v v' w w' is rose = tt
@@ -60,8 +69,8 @@ serving_caused WireFault v v' w w' is rose = rose refl
 serving_caused TurnsSpent v v' w w' is rose = tt
 
 module _ {W : Type 0} (g : wire.Ghosts W) where
-  pub memory_run : {S : Type 0} (s : space.Ghosts S) (reopens : Files → Contents → Type 0) (end : End) (memory : Memory) (at : At) (turns : ℕ) (old new : S) (x y : W) (start : Mark → Type 0) → RunsOver s g reopens end turns at old new x y start → IsServing end → start (no_keys memory) → MemoryRun g end memory at turns x y
-  memory_run s reopens end memory at turns old new x y start run is h = let r = run.ends (no_keys memory) h in record { ends = is; entries = run.entries; told = run.told; asks = r.asked; serves = r.serves; plays = run.plays (no_keys memory) h }
+  pub memory_run : {S : Type 0} (s : space.Ghosts S) (reopens : Files → Contents → Type 0) {made : Files → Type 0} (end : End) (memory : Memory) (at : At) (turns : ℕ) (old new : S) (x y : W) (start : Mark → Type 0) → RunsOver s g reopens made end turns at old new x y start → IsServing end → start (no_keys memory) → MemoryRun g end memory at turns x y
+  memory_run s reopens {made} end memory at turns old new x y start run is h = let r = run.ends (no_keys memory) h in record { ends = is; entries = run.entries; told = run.told; asks = r.asked; serves = r.serves; played = run.played; plays = run.plays (no_keys memory) h }
 
   -- there was no memory before any call
   pub memory_none : (memory : Memory) (at : At) (turns : ℕ) (x : W) → MemoryRun g NoMemory memory at turns x x
@@ -71,6 +80,7 @@ module _ {W : Type 0} (g : wire.Ghosts W) where
     told = Adds-none (g.transcript x);
     asks = tt;
     serves = unserved NoMemory turns at [] (no_keys memory) [] refl (inr refl) (λ e. absurd cc) (λ e. absurd cc);
+    played = λ e. absurd (⊎_elim (λ i. cc) (λ i. cc) e);
     plays = λ acts given p. not_played turns (g.plays x) NoMemory acts given (λ e. absurd cc) (λ e. absurd cc);
   }
 

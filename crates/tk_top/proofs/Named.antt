@@ -1,17 +1,21 @@
 -- A volume that is named and opened.
-use Rattle.std.proofs.Common.{◌≡◌, ◌⊎◌, ◌≢◌, ◌≤◌, inl, inr, ⊎_elim, ℕ, max, true, List, [], ◌∷◌, length, refl, sym, ap, subst, ◌∙◌, arith}
+use Rattle.std.proofs.Common.{◌≡◌, ◌⊎◌, ◌≢◌, ◌≤◌, inl, inr, ⊎_elim, ℕ, Bool, cond, max, true, List, [], ◌∷◌, length, refl, sym, ap, subst, ◌∙◌, arith}
 use Rattle.std.specs.Prelude.{Option, Some, Result, Err}
 use Rattle.tc_base.specs.Files.{Files}
 use Rattle.tc_base.specs.declared.kind.Kind.{Kind}
 use Rattle.tc_base.specs.declared.kind.Rule.{Rule}
+use Rattle.tc_io.specs.Copies.{Named}
 use Rattle.tc_io.specs.Images.{Calls, synced, now, Images, ImagesSince, IsLostSync}
+use Rattle.tc_io.specs.Told.{Adds}
 use Rattle.tc_io.specs.declared.volume.Volume as volume
 use Rattle.tc_space.specs.declared.space.Space as space
 use Rattle.tc_undo.specs.Opening.{IsRefused, OpensKept}
 use Rattle.tc_undo.specs.Errors.{OnRule}
 use Rattle.tc_undo.specs.declared.errors.UndoErr.{UndoErr}
 use Rattle.tc_undo.specs.declared.errors.UndoErr.TheVariants as undo_err
-use Rattle.ud_log.specs.Undo.{files_of, is_data, recovered, undo}
+use Rattle.tc_space.specs.Ranges.{IsDataFile}
+use Rattle.tc_undo.specs.Usable.{data_file}
+use Rattle.ud_log.specs.Undo.{data_of, files_of, is_data, recovered, undo}
 use Rattle.ud_state.specs.Recovery.{StaysSettled, FromTheSync, not_yet, since, Recovers}
 use Rattle.ud_state.specs.Since.{LeftSince, Since, quiet_calm, since_later}
 use Rattle.ud_state.specs.State.{IsSettled}
@@ -26,8 +30,8 @@ use Rattle.ty_rounds.proofs.Telling.{Adds-none}
 use Rattle.tk_top.specs.declared.ends.End.{End}
 use Rattle.tk_top.specs.declared.ends.End.TheVariants.{Done, VolumeFault, NoMemory, TurnsSpent}
 use Rattle.tk_top.specs.Ends.{end_of_undo}
-use Rattle.tk_top.specs.Naming.{EndsUnopened, LeavesOpening, OpensNamed, OpensOver}
-use Rattle.tk_top.specs.Over.{BeginsAt, IsOver, Recover, StandsFor}
+use Rattle.tk_top.specs.Naming.{EndsUnopened, LeavesOpening, NamesOnce, OpensNamed, OpensOver}
+use Rattle.tk_top.specs.Over.{BeginsAt, IsOver, MainIsBare, StandsFor, StaysWithin}
 use Rattle.tk_top.specs.Serving.{Begins}
 use Rattle.tk_top.specs.Staying.{AsOpening, BreaksLog, LeavesBroken}
 use Rattle.tk_top.specs.Stops.{IsEarly}
@@ -89,7 +93,7 @@ refused_rule undo_err.Memory told old bound new same refused = tt
 
 -- there was no memory before any call
 pub ends_unnamed : {V : Type 0} (v : volume.Ghosts V) (name : List ℕ) (vol : V) → EndsUnopened v name NoMemory vol vol
-ends_unnamed v name vol = record { why = undo_err.Memory; is = refl; broken = tt; no_memory = λ is. refl; names = inr (Adds-none (v.names vol)); caused = λ count count'. tt; leaves = λ t settled. unbound_leaves (v.calls vol) (v.calls vol) refl }
+ends_unnamed v name vol = record { why = undo_err.Memory; is = refl; broken = tt; no_memory = λ is. refl; names = record { told = inr (Adds-none (v.names vol).told); copies = λ t. refl }; caused = λ count count'. tt; leaves = λ t settled. unbound_leaves (v.calls vol) (v.calls vol) refl }
 
 module _ {V : Type 0} {v : volume.Ghosts V} {name : List ℕ} {end : End} {old new : V} (u : EndsUnopened v name end old new) where
   pub early_of : IsEarly end
@@ -108,7 +112,7 @@ module _ {V : Type 0} {v : volume.Ghosts V} {name : List ℕ} {end : End} {old n
 
 -- ---- it was opened
 
-pub opens_over : {S : Type 0} (s : space.Ghosts S) (told : Type 0) (most : ℕ) (old bound ca : Calls) (a : S) (names given : Option (List (List ℕ))) (faults count : ℕ) → bound ≡ old → OpensKept bound ca → ((f : ℕ) → is_data f ≡ true → s.limit a f ≡ max most (length (s.now a f)))
+pub opens_over : {S : Type 0} (s : space.Ghosts S) (told : Type 0) (most : ℕ) (old bound ca : Calls) (a : S) (names given : Named) (faults count : ℕ) → bound ≡ old → OpensKept bound ca → ((f : ℕ) → is_data f ≡ true → s.limit a f ≡ max most (length (s.now a f)))
     → IsOver s.tells told ca (s.moment a) (s.left a) (s.now a) names given faults count → told → OpensOver s most old a
 opens_over s told most old bound ca a names given faults count same kept limits over t =
     let k : OpensKept old ca = subst (λ (cs : Calls). OpensKept cs ca) same kept in
@@ -124,12 +128,29 @@ module _ {S V : Type 0} {s : space.Ghosts S} {v : volume.Ghosts V} {name : List 
   pub same_files : (files : Files) → v.tells → recovered (now (v.calls vol)) ≡ Some files → files ≡ s.now a
   same_files files t is = some_is files (s.now a) (sym is ∙ (o.over t).files)
 
+  -- at the exit the volume has the names of the space
+  pub names_so : (t : S) (w : V) → v.names w ≡ s.names t → s.names t ≡ s.names a → NamesOnce v name vol w
+  names_so t w given same = let is : v.names w ≡ s.names a = given ∙ same in record {
+    told = inl (subst (λ (n : Named). Adds (v.names vol).told n.told (name ∷ [])) (sym is) o.names);
+    copies = λ told. ap (λ (n : Named). n.copies) is ∙ o.copies told;
+  }
+
   -- over a broken log none is opened
   pub opened_whole : (end : End) (new : Calls) → v.tells → LeavesBroken end (v.calls vol) new
   opened_whole end new t = record { stays = λ rule broken. absurd (no_files (v.calls vol) rule (s.now a) broken (o.over t).files) }
 
   pub limits_so : (limit : ℕ → ℕ) → limit ≡ s.limit a → v.tells → (files : Files) → recovered (now (v.calls vol)) ≡ Some files → (f : ℕ) → is_data f ≡ true → limit f ≡ max most (length (files f))
   limits_so limit same t files is f isd = ap (λ (l : ℕ → ℕ). l f) same ∙ (o.over t).limits f isd ∙ ap (λ (fs : Files). max most (length (fs f))) (sym (same_files files t is))
+
+  -- no file has passed its limit
+  pub within_so : (t : S) (limit : ℕ → ℕ) → limit ≡ s.limit a → v.tells → {new calls : Calls} → new ≡ calls → s.now t ≡ data_of (now calls) → ((f : ℕ) → IsDataFile f → length (s.now t f) ≤ limit f) → StaysWithin most (v.calls vol) new
+  within_so t limit same told {new} {calls} is now_is short = record {
+    each = λ files recovers f is_file.
+        let isd : is_data f ≡ true = data_file f is_file in
+        let len : length (s.now t f) ≡ length (now new f) = ap (λ (fs : Files). length (fs f)) now_is ∙ ap (λ (b : Bool). length (cond b (now calls f) [])) isd ∙ ap (λ (cs : Calls). length (now cs f)) (sym is) in
+        let most_is = limits_so limit same told files recovers f isd in
+        omega (arith, short f is_file, len, most_is);
+  }
 
   module _ (opens : Files → Contents → Type 0) where
     pub begins_so : (first : Mark) → BeginsAt v.tells opens (v.calls vol) first → Begins s opens a first
@@ -138,9 +159,9 @@ module _ {S V : Type 0} {s : space.Ghosts S} {v : volume.Ghosts V} {name : List 
     pub stands_so : (s.tells → (c : Contents) × opens (s.now a) c) → v.tells → StandsFor opens (v.calls vol)
     stands_so stands t = let b = o.over t in let x = stands b.tells in record { contents = x.0; stand = record { files = s.now a; is = b.files; stand = x.1 } }
 
-    -- a limit was reached where the files were opened
-    pub fills_so : (fills : Contents → Contents → Type 0) → (s.tells → (c : Contents) × opens (s.now a) c × fills c c) → v.tells → (c : Contents) × Recover opens (recovered (now (v.calls vol))) c × fills c c
-    fills_so fills filled t = let b = o.over t in let x = filled b.tells in (x.0, record { files = s.now a; is = b.files; stand = x.1 }, x.2)
+    -- a limit was reached where the main file was made
+    pub bare_so : {lacks : Type 0} → (s.tells → (s.now a 0 ≡ []) × lacks) → v.tells → MainIsBare (recovered (now (v.calls vol))) × lacks
+    bare_so lacking t = let b = o.over t in let x = lacking b.tells in ((s.now a, b.files, x.0), x.1)
 
 -- what was opened as contents of a kind
 pub of_kind : (kind : Kind) (reopens : Files → Contents → Type 0) (o : Option Files) (first : Mark) → Reopens (OpensTo kind reopens) o first → Reopens reopens o first

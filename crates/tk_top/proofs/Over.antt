@@ -22,13 +22,13 @@ use Rattle.ty_world.proofs.Spelled.{all_spelled}
 use Rattle.ty_rounds.specs.Kept.{LeavesMarks}
 use Rattle.ty_rounds.specs.Holding.{AllFine}
 use Rattle.ty_rounds.specs.Turns.{Told, MarksMore}
-use Rattle.ty_rounds.proofs.Telling.{Adds-then}
+use Rattle.ty_rounds.proofs.Telling.{Adds-then, Plays-then}
 use Rattle.tk_top.specs.declared.ends.End.{End}
 use Rattle.tk_top.specs.declared.ends.End.TheVariants.{Done, WireFault, TurnsSpent}
 use Rattle.tk_top.specs.Runs.{Ends, FullRun}
 use Rattle.tk_top.specs.Serving.{ServesAt, PlaysAll, RunsOver}
 use Rattle.tk_top.proofs.Events.{had_none}
-use Rattle.tk_top.proofs.Fresh.{Fresh}
+use Rattle.tk_top.proofs.Fresh.{Earlier, Fresh, still_left}
 use Rattle.tk_top.proofs.Running.{Known, still_stands}
 
 -- ---- what was sent is all that is owed
@@ -74,7 +74,7 @@ module _ {S B W : Type 0} (s : space.Ghosts S) (g : wire.Ghosts W) (holds : B �
   none_marks a ms = record { leaves = record { later = omega arith; each = λ t o le l. inl l } }
 
   -- the wire wasn't opened
-  pub over_unopened : (b : B) (turns : ℕ) (at : At) (a : S) (x y : W) → Fresh s a → Adds (g.transcript x) (g.transcript y) [] ⊎ Adds (g.transcript x) (g.transcript y) (Open at ∷ []) → RunsOver s g reopens WireFault turns at a a x y (Known s g holds reopens b a)
+  pub over_unopened : (b : B) (turns : ℕ) (at : At) (a : S) (x y : W) → Fresh s a → Adds (g.transcript x) (g.transcript y) [] ⊎ Adds (g.transcript x) (g.transcript y) (Open at ∷ []) → RunsOver s g reopens (λ files. ⊥) WireFault turns at a a x y (Known s g holds reopens b a)
   over_unopened b turns at a x y only (inl told) = record {
     entries = [];
     told = told;
@@ -85,7 +85,9 @@ module _ {S B W : Type 0} (s : space.Ghosts S) (g : wire.Ghosts W) (holds : B �
       serves = unserved WireFault turns at [] first [] refl (inr refl) (λ e. absurd cc) (λ e. absurd cc);
       exit = λ o l. inl (still_stands s g holds reopens b a first only h o l);
       moments = none_marks a (first ∷ []);
+      idle = λ some. absurd (some refl);
     };
+    played = λ e. absurd (⊎_elim (λ i. cc) (λ i. cc) e);
     plays = λ first h acts given p. not_played turns (g.plays y) WireFault acts given (λ e. absurd cc) (λ e. absurd cc);
   }
   over_unopened b turns at a x y only (inr told) = record {
@@ -98,13 +100,15 @@ module _ {S B W : Type 0} (s : space.Ghosts S) (g : wire.Ghosts W) (holds : B �
       serves = unserved WireFault turns at (at ∷ []) first (Open at ∷ []) refl (inl refl) (λ e. absurd cc) (λ e. absurd cc);
       exit = λ o l. inl (still_stands s g holds reopens b a first only h o l);
       moments = none_marks a (first ∷ []);
+      idle = λ some kept o l. let x = only h.has.held.0 in record { which = inl (x.0 o l ∙ x.1) };
     };
+    played = λ e. absurd (⊎_elim (λ i. cc) (λ i. cc) e);
     plays = λ first h acts given p. not_played turns (g.plays y) WireFault acts given (λ e. absurd cc) (λ e. absurd cc);
   }
 
   -- it was, and turns came behind it
-  pub over_served : (b : B) (end : End) (turns : ℕ) (at : At) (old new : S) (x y z : W) → Adds (g.transcript x) (g.transcript y) (Open at ∷ []) → Plays (g.plays x) (g.plays y) (Open at ∷ []) → Ends s g holds reopens end turns b old new y z → RunsOver s g reopens end turns at old new x z (Known s g holds reopens b old)
-  over_served b end turns at old new x y z told opening ends = record {
+  pub over_served : (b : B) (end : End) (turns : ℕ) (at : At) (old new : S) (x y z : W) → Fresh s old → Earlier s new → Adds (g.transcript x) (g.transcript y) (Open at ∷ []) → Plays (g.plays x) (g.plays y) (Open at ∷ []) → Ends s g holds reopens end turns b old new y z → RunsOver s g reopens (λ files. ⊥) end turns at old new x z (Known s g holds reopens b old)
+  over_served b end turns at old new x y z fresh earlier told opening ends = record {
     entries = Open at ∷ ends.entries;
     told = Adds-then (g.transcript x) (g.transcript y) (g.transcript z) (Open at ∷ []) ends.entries told ends.told;
     opened = inr (ends.entries, refl, ends.served);
@@ -126,7 +130,9 @@ module _ {S B W : Type 0} (s : space.Ghosts S) (g : wire.Ghosts W) (holds : B �
       };
       exit = e.exit;
       moments = e.moments;
+      idle = λ some kept o l. record { which = inl (still_left s old new o fresh earlier h.has.held.0 (e.idle kept.1) l) };
     };
+    played = λ e. Plays-then (g.plays x) (g.plays y) (g.plays z) (Open at ∷ []) ends.entries opening (ends.plays e);
     plays = λ first h acts given p.
         let there : g.plays y ≡ Some (unplayed acts given) = (subst (λ (q : Option Script). Plays q (g.plays y) (Open at ∷ [])) p opening).0 in
         record {

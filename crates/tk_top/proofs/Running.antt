@@ -1,21 +1,23 @@
 -- A run, turn by turn.
-use Rattle.std.proofs.Common.{◌≡◌, ◌⊎◌, ◌<◌, ◌+◌, ◌≢◌, inl, inr, ⊎_elim, ℕ, true, List, [], ◌∷◌, ◌++◌, map, refl, sym, ap, subst, ◌∙◌, arith}
+use Rattle.std.proofs.Common.{◌≡◌, ◌⊎◌, ◌<◌, ◌+◌, ◌≢◌, inl, inr, ⊎_elim, ℕ, true, false, List, [], ◌∷◌, ◌++◌, map, refl, sym, ap, subst, ◌∙◌, arith}
 use Rattle.std.specs.Prelude.{Option, Some, None, Result, Ok, Err}
 use Rattle.std.proofs.lemmas.List.{append-nil}
 use Rattle.tc_base.specs.Files.{Files}
 use Rattle.tc_io.specs.Script.{Script, Plays}
 use Rattle.tc_io.specs.declared.wire.Wire as wire
 use Rattle.tc_io.specs.declared.wire.At.{At}
-use Rattle.tc_io.specs.declared.wire.Entry.TheVariants.{Event}
+use Rattle.tc_io.specs.declared.wire.Entry.{Entry}
+use Rattle.tc_io.specs.declared.wire.Entry.TheVariants.{Open, Dial, Event, Send, Close}
+use Rattle.tc_space.specs.Frames.{Keeps, keeps_then, only_reads_refl, only_reads_then}
 use Rattle.tc_space.specs.declared.space.Space as space
 use Rattle.tc_model.specs.Contents.{Contents, Walk}
-use Rattle.ty_world.specs.World.{Client, World, Mark, mark_of, started, world_after, IsRested}
+use Rattle.ty_world.specs.World.{Client, World, Mark, mark_of, started, happens, world_after, commits_in, IsRested}
 use Rattle.ty_world.specs.Playing.{unplayed}
 use Rattle.ty_world.proofs.Complete.{turns_bound}
 use Rattle.ty_rounds.specs.Kept.{HoldsMark, Reopens, LeavesTwo, LeavesMarks, IsIn}
 use Rattle.ty_rounds.specs.Holding.{AllHold, Wired}
 use Rattle.ty_rounds.specs.Peers.{numbers}
-use Rattle.ty_rounds.specs.Turns.{MarksMore, FullTurn, Turns, TurnEnds, IsTurn}
+use Rattle.ty_rounds.specs.Turns.{Idles, MarksMore, FullTurn, Turns, TurnEnds, IsTurn}
 use Rattle.ty_rounds.specs.declared.peer.Peer.{Peer}
 use Rattle.ty_rounds.specs.declared.outcome.Outcome.{Outcome}
 use Rattle.ty_rounds.specs.declared.outcome.Outcome.TheVariants.{Went, Shut}
@@ -30,7 +32,7 @@ use Rattle.tk_top.specs.Ends.{IsStopped, end_of_turn}
 use Rattle.tk_top.specs.Events.{events_of}
 use Rattle.tk_top.proofs.Events.{had_all, had_last, turn_events, went_more, went_none}
 use Rattle.tk_top.proofs.Opened.{served_then, turn_served}
-use Rattle.tk_top.specs.Runs.{IsAt, RunsTo, EndsTurn, RunEnds, Ends, FullRun, conns_of}
+use Rattle.tk_top.specs.Runs.{IsAt, NoneKept, RunsTo, EndsTurn, RunEnds, Ends, FullRun, conns_of}
 use Rattle.tk_top.proofs.Fresh.{Fresh}
 
 -- ---- marks
@@ -53,6 +55,32 @@ conns_held (p ∷ ps) (k ∷ ks) h = λ i. sym h.0.conn i ∷ conns_held ps ks h
 conns_held [] (k ∷ ks) h = absurd h
 conns_held (p ∷ ps) [] h = absurd h
 
+-- ---- rounds that have nothing to commit
+
+none_parts : (xs ys : List Entry) (w : World) → NoneKept w (xs ++ ys) → NoneKept w xs × NoneKept (world_after xs w) ys
+none_parts [] ys w none = (tt, none)
+none_parts (x ∷ xs) ys w none = let rest = none_parts xs ys (happens w x) none.1 in ((first_kept x (xs ++ ys) xs w none.0, rest.0), rest.1)
+  where
+    first_kept : (e : Entry) (es fs : List Entry) (v : World) → commits_in v (e ∷ es) ≡ false → commits_in v (e ∷ fs) ≡ false
+    first_kept (Open at) es fs v is = is
+    first_kept (Dial host port answer) es fs v is = is
+    first_kept (Event paused busy ev bytes) es fs v is = is
+    first_kept (Send k bytes answer) es fs v is = is
+    first_kept (Close k) es fs v is = is
+
+-- nor has the turn behind them
+none_in : (es : List Entry) (w : World) → NoneKept w es → commits_in w es ≡ false
+none_in [] w none = refl
+none_in (e ∷ es) w none = none.0
+
+module _ {S : Type 0} (s : space.Ghosts S) (reopens : Files → Contents → Type 0) where
+  idle_keeps : (res : Result Outcome TurnErr) (a t : S) → Idles s reopens res a t → Keeps s a t
+  idle_keeps (Ok x) a t only = only.keeps
+  idle_keeps (Err turn.Wire) a t only = only.keeps
+  idle_keeps (Err turn.Memory) a t keeps = keeps
+  idle_keeps (Err turn.Volume) a t keeps = keeps
+  idle_keeps (Err turn.Full) a t keeps = keeps
+
 module _ {S B W : Type 0} (s : space.Ghosts S) (g : wire.Ghosts W) (holds : B → Files → Contents → Type 0) (reopens : Files → Contents → Type 0) where
   abbrev pub Known : B → S → Mark → Type 0
   Known b a m = HoldsMark s holds reopens b a m
@@ -71,8 +99,8 @@ module _ {S B W : Type 0} (s : space.Ghosts S) (g : wire.Ghosts W) (holds : B �
     };
   }
 
-  pub run_start : (b : B) (a : S) (x : W) (k : Walk) (ps : List Peer) → k ≡ None → ps ≡ [] → RunsTo s g holds reopens b b a a x x k ps 0
-  run_start b a x k ps still none = subst (λ (z : List Peer). RunsTo s g holds reopens b b a a x x k z 0) (sym none) (record {
+  pub run_start : (b : B) (a : S) (x : W) (k : Walk) (ps : List Peer) → s.sound a → k ≡ None → ps ≡ [] → RunsTo s g holds reopens b b a a x x k ps 0
+  run_start b a x k ps sound still none = subst (λ (z : List Peer). RunsTo s g holds reopens b b a a x x k z 0) (sym none) (record {
     entries = [];
     told = Adds-none (g.transcript x);
     served = tt;
@@ -85,6 +113,7 @@ module _ {S B W : Type 0} (s : space.Ghosts S) (g : wire.Ghosts W) (holds : B �
       on = refl;
       events = refl;
       opens_are = refl;
+      idle = λ kept. only_reads_refl s a sound;
       moments = record { leaves = record { later = omega arith; each = λ n o le l. inl l } };
     };
   })
@@ -107,6 +136,7 @@ module _ {S B W : Type 0} (s : space.Ghosts S) (g : wire.Ghosts W) (holds : B �
           on = e.ends.1;
           events = (let i = e.ends.2 in let f = at.events in omega (arith, i, f));
           opens_are = e.opens ∙ at.opens_are;
+          idle = λ kept. let parts = none_parts run.entries turned.entries (started opens first) kept in only_reads_then s s0 a t (at.idle parts.0) (e.idle (none_in turned.entries w parts.1));
           moments = moments_more s0 a t w (world_after turned.entries w) at.stands.older at.stands.marked e.marks at.moments e.moments;
         });
   }
@@ -145,6 +175,7 @@ module _ {S B W : Type 0} (s : space.Ghosts S) (g : wire.Ghosts W) (holds : B �
             within = inl (let n = at.events in omega (arith, n, few));
           };
           exit = exits w (world_after turned.entries w) e.ends;
+          idle = λ kept. let parts = none_parts run.entries turned.entries (started opens first) kept in keeps_then s s0 a t (at.idle parts.0).keeps (idle_keeps s reopens res a t (e.idle (none_in turned.entries w parts.1)));
           moments = moments_more s0 a t w (world_after turned.entries w) at.stands.older at.stands.marked e.marks at.moments e.moments;
           done = λ i. (done w (world_after turned.entries w) e.ends i).0;
           rested = λ i. ⊎_elim (λ j. (done w (world_after turned.entries w) e.ends j).1) (λ j. absurd (other j)) i;
@@ -189,6 +220,7 @@ module _ {S B W : Type 0} (s : space.Ghosts S) (g : wire.Ghosts W) (holds : B �
       last = record { earlier = run.entries; last = []; parts = sym (append-nil run.entries); rested = at.stands.rested; calls = inl refl; marks = record { more = inl (refl, refl) }; within = inr (refl, (let n = at.events in omega (arith, n, all))) };
       exit = λ o l. inl (still_stands base a (mark_of (world_after run.entries (started opens first))) only at.stands.mark o l);
       moments = at.moments;
+      idle = λ kept. (at.idle kept).keeps;
       done = λ e. absurd cc;
       rested = λ e. at.stands.rested;
       spent = λ e. (at.on, at.events ∙ all);

@@ -22,7 +22,7 @@ use Rattle.tk_top.specs.Making.{JudgedMaking, MainIsThere}
 use Rattle.tk_top.specs.Naming.{EndsUnopened, OpensNamed, OpensOver}
 use Rattle.tk_top.specs.Over.{BreaksAt, Judged}
 use Rattle.tk_top.specs.Staying.{AsOpening, BreaksLog, BreaksOver, IsHindered}
-use Rattle.tk_top.specs.Stops.{LeavesAlone}
+use Rattle.tk_top.specs.Stops.{LeavesAlone, Spares}
 use Rattle.tk_top.specs.Tasks.{JudgedTask}
 use Rattle.tk_top.proofs.Fresh.{Fresh}
 use Rattle.tk_top.proofs.Named.{at_exit, early_of, no_files, same_files}
@@ -62,6 +62,16 @@ module _ {S V : Type 0} {s : space.Ghosts S} {v : volume.Ghosts V} {name : List 
     };
   }
 
+  -- where nothing is written
+  pub spares_so : (v.tells → Images (v.calls vol) (now (v.calls vol))) → (which : Files → Type 0) (end : End) → (s.tells → which (s.now a) → OnlyReads s a t) → v.tells → Spares which end (v.calls vol) (v.calls w)
+  spares_so image which end spared told =
+      let b = o.over told in
+      let reads = λ (files : Files) (is : recovered (now (v.calls vol)) ≡ Some files) (holds : which files). spared b.tells (subst (λ (f : Files). which f) (same_files o files told is) holds) in
+      record {
+        stays = λ settled files is holds ims are. let r = reads files is holds in inl (reads_exit b closed (laws t r.is_sound (r.untouched ∙ o.untouched)) r files is ims are);
+        moments = λ settled files is holds. reads_moments b closed (laws a o.sound o.untouched) (reads files is holds) (image told) settled;
+      }
+
   -- the space is as it was
   module _ (same : t ≡ a) (told : v.tells) where
     same_exit : (files : Files) → recovered (now (v.calls vol)) ≡ Some files → (ims : Files) → Images (v.calls w) ims → recovered ims ≡ Some files
@@ -78,8 +88,10 @@ module _ {S V : Type 0} {s : space.Ghosts S} {v : volume.Ghosts V} {name : List 
       let looked = λ (files : Files) (is : recovered (now (v.calls vol)) ≡ Some files) (not : wrong files). alone b.tells (subst (λ (f : Files). wrong f) (same_files o files told is) not) in
       record {
         ends = λ files is not. inl (looked files is not).0;
-        stays = λ settled files is not ims are. inl (same_exit (looked files is not).1 told files is ims are);
-        moments = λ settled files is not. same_moments (looked files is not).1 told settled;
+        spares = record {
+          stays = λ settled files is not ims are. inl (same_exit (looked files is not).1 told files is ims are);
+          moments = λ settled files is not. same_moments (looked files is not).1 told settled;
+        };
       }
 
   pub there_so : (s.tells → s.now a 0 ≡ [] → ⊥) × (t ≡ a) → v.tells → MainIsThere (v.calls vol) (v.calls w)
@@ -120,11 +132,16 @@ module _ {V : Type 0} {v : volume.Ghosts V} {name : List ℕ} {end : End} {old n
         which (undo_err.Broken rule) b = log_breaks breaks rule b
         which undo_err.Memory b = tt
 
+  pub spares_unnamed : (which : Files → Type 0) → v.tells → Spares which end (v.calls old) (v.calls new)
+  spares_unnamed which told = record {
+    stays = λ settled files is holds ims are. ⊎_elim (λ same. inl (same ∙ is)) (λ lost. inr (early_of u, lost.0, lost.1)) ((u.leaves told settled).exit ims are);
+    moments = λ settled files is holds. (u.leaves told settled).moments;
+  }
+
   pub left_alone_unnamed : (wrong : Files → Type 0) → v.tells → LeavesAlone wrong end (v.calls old) (v.calls new)
   left_alone_unnamed wrong told = record {
     ends = λ files is not. of_rule (λ (e : End). (e ≡ Refused) ⊎ IsHindered e) (λ why b. which files is why b);
-    stays = λ settled files is not ims are. ⊎_elim (λ same. inl (same ∙ is)) (λ lost. inr (early_of u, lost.0, lost.1)) ((u.leaves told settled).exit ims are);
-    moments = λ settled files is not. (u.leaves told settled).moments;
+    spares = spares_unnamed wrong told;
   }
     where
       which : (files : Files) → recovered (now (v.calls old)) ≡ Some files → (why : UndoErr) → OnRule why (λ rule. v.tells → BreaksLog (v.calls old) (v.calls new) rule) → (end_of_undo why ≡ Refused) ⊎ IsHindered (end_of_undo why)

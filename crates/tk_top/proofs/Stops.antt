@@ -2,7 +2,7 @@
 use Rattle.std.proofs.Common.{◌≡◌, inl, inr, ⊎_elim, ℕ, List, length, sym, subst}
 use Rattle.std.specs.Prelude.{Option}
 use Rattle.tc_base.specs.Files.{Files}
-use Rattle.tc_io.specs.Images.{Calls, now, ImagesSince}
+use Rattle.tc_io.specs.Images.{Calls, now, Images, ImagesSince}
 use Rattle.tc_io.specs.declared.volume.Volume as volume
 use Rattle.tc_space.specs.declared.space.Space as space
 use Rattle.ud_log.specs.Undo.{recovered}
@@ -24,6 +24,10 @@ pub record Closes {S V : Type 0} (s : space.Ghosts S) (v : volume.Ghosts V) (t :
 pub closes : {S V : Type 0} (s : space.Ghosts S) (v : volume.Ghosts V) (under : S → V) (t : S) (w : V) → w ≡ under t → IsOver s.tells v.tells (v.calls (under t)) (s.moment t) (s.left t) (s.now t) (s.names t) (v.names (under t)) (s.faults t) (v.faults (under t)) → Closes s v t w
 closes s v under t w is over = subst (λ z. Closes s v t z) (sym is) (record { moment = over.moment_is; leaves = over.leaves })
 
+-- at the exit
+pub exit_left : {S V : Type 0} {s : space.Ghosts S} {v : volume.Ghosts V} {t : S} {w : V} → Closes s v t w → (ims : Files) → Images (v.calls w) ims → s.left t (s.moment t) (recovered ims)
+exit_left {S} {V} {s} {v} {t} {w} closed ims are = subst (λ (n : ℕ). s.left t n (recovered ims)) (sym closed.moment) (closed.leaves (length (v.calls w)) ims (at_exit (v.calls w) ims are))
+
 module _ (reopens : Files → Contents → Type 0) (exits : Option Files → Type 0) (early : Type 0) (marks : List Mark) where
   -- the run never came to an open space
   pub stops_unopened : (old new : Calls) (first : Mark) → early → LeavesOpening old new → Reopens reopens (recovered (now old)) first → ((o : Option Files) → Reopens reopens o first → exits o) → StopsAt reopens exits early marks old new
@@ -35,7 +39,7 @@ module _ (reopens : Files → Contents → Type 0) (exits : Option Files → Typ
   -- the run went on over one
   pub stops_run : {S V : Type 0} {s : space.Ghosts S} {v : volume.Ghosts V} {most : ℕ} {old : Calls} {a t : S} {w : V} → OpensOver s most old a → Closes s v t w → IsSettled old → StopsOver s reopens exits marks a t → StopsAt reopens exits early marks old (v.calls w)
   stops_run {S} {V} {s} {v} {most} {old} {a} {t} {w} o closed settled run = record {
-    exit = λ ims are. inl (run.exit (recovered ims) (subst (λ (n : ℕ). s.left t n (recovered ims)) (sym closed.moment) (closed.leaves (length (v.calls w)) ims (at_exit (v.calls w) ims are))));
+    exit = λ ims are. inl (run.exit (recovered ims) (exit_left closed ims are));
     moments = λ ims some. ⊎_elim
         (λ was. inr (o.moments settled (recovered ims) was))
         (λ m. inl m)

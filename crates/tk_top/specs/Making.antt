@@ -15,7 +15,7 @@ use Rattle.tk_top.specs.declared.ends.End.{End}
 use Rattle.tk_top.specs.declared.ends.End.TheVariants.{Done, Words, Refused, VolumeFault, Broken, NoMemory, Full, WireFault, TurnsSpent}
 use Rattle.tk_top.specs.Over.{BeginsAt, BreaksOn}
 use Rattle.tk_top.specs.Serving.{Begins}
-use Rattle.tk_top.specs.Staying.{LeavesBroken, StaysAt}
+use Rattle.tk_top.specs.Staying.{BreaksOver, LeavesBroken, StaysAt}
 use Rattle.tk_top.specs.Stops.{IsEarly, StopsAt, StopsOver}
 
 -- an end of making a file: no wire, and nothing is printed
@@ -82,9 +82,9 @@ module _ {S : Type 0} (s : space.Ghosts S) where
   abbrev pub MakesOver : (Files → Contents → Type 0) → (Files → Type 0) → Contents → End → S → S → Type 0
   MakesOver reopens numbers anew end old new = (first : Mark) → Begins s reopens old first → MakingOver s reopens numbers anew end old new first
 
-  -- what it is made in had an empty main file; where it is refused it hadn't, and is left alone; and no rule is named
-  abbrev pub JudgedMakingOver : End → S → S → Type 0
-  JudgedMakingOver end old new = JudgedMaking end (s.tells → s.now old 0 ≡ []) (λ file rule. ⊥) ((s.tells → s.now old 0 ≡ [] → ⊥) × (new ≡ old))
+  -- what it is made in had an empty main file; where it is refused it hadn't, and is left alone; and a rule that is named is broken
+  abbrev pub JudgedMakingOver : (Files → ℕ → Rule → Type 0) → End → S → S → Type 0
+  JudgedMakingOver breaks end old new = JudgedMaking end (s.tells → s.now old 0 ≡ []) (BreaksOver s breaks old new) ((s.tells → s.now old 0 ≡ [] → ⊥) × (new ≡ old))
 
 -- ---- of a volume
 
@@ -92,9 +92,9 @@ module _ {V : Type 0} (v : volume.Ghosts V) where
   abbrev pub MakesOn : (Files → Contents → Type 0) → (Files → Type 0) → Contents → End → V → V → Type 0
   MakesOn reopens numbers anew end old new = FilesMade v.tells reopens reopens numbers anew end (v.calls old) (v.calls new)
 
-  -- a rule that is named is one of the log
-  abbrev pub JudgedMakingOn : End → V → V → Type 0
-  JudgedMakingOn end old new = JudgedMaking end (v.tells → MainIsEmpty (v.calls old)) (BreaksOn v (λ files f r. ⊥) old new) (v.tells → MainIsThere (v.calls old) (v.calls new))
+  -- a rule that is named is one of the log, or of files beside an empty main file
+  abbrev pub JudgedMakingOn : (Files → ℕ → Rule → Type 0) → End → V → V → Type 0
+  JudgedMakingOn breaks end old new = JudgedMaking end (v.tells → MainIsEmpty (v.calls old)) (BreaksOn v breaks old new) (v.tells → MainIsThere (v.calls old) (v.calls new))
 
   -- of files that may have so many bytes as any may
   abbrev pub LacksOn : {S N : Type 0} → space.Ghosts S → (S → V) → (S → N → Type 0) → N → V → V → Type 0

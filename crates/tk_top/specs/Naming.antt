@@ -33,15 +33,17 @@ pub record LeavesOpening (old new : Calls) : Type 0 where
   -- at any moment, as an opening image
   pub moments : (ims : Files) → ImagesSince new (length old) ims → AsOpening old (recovered ims)
 
--- the names that it was given grew by this one, or by nothing
-abbrev pub NamesOnce : {V : Type 0} → volume.Ghosts V → List ℕ → V → V → Type 0
-NamesOnce v name old new = Adds (v.names old) (v.names new) (name ∷ []) ⊎ Adds (v.names old) (v.names new) []
+-- the names that it was given grew by this one, or by nothing; and no copy changes
+pub record NamesOnce {V : Type 0} (v : volume.Ghosts V) (name : List ℕ) (old new : V) : Type 0 where
+  pub told : Adds (v.names old).told (v.names new).told (name ∷ []) ⊎ Adds (v.names old).told (v.names new).told []
+  pub copies : v.tells → (v.names new).copies ≡ (v.names old).copies
 
 -- a volume was given a name, and a space was opened over it
 pub record OpensNamed {S V : Type 0} (s : space.Ghosts S) (v : volume.Ghosts V) (name : List ℕ) (most : ℕ) (vol : V) (a : S) : Type 0 where
   pub sound : s.sound a
   pub untouched : s.touched a ≡ false
-  pub names : Adds (v.names vol) (s.names a) (name ∷ [])
+  pub names : Adds (v.names vol).told (s.names a).told (name ∷ [])
+  pub copies : v.tells → (s.names a).copies ≡ (v.names vol).copies
   pub later : v.faults vol ≤ s.faults a
   pub over : v.tells → OpensOver s most (v.calls vol) a
 

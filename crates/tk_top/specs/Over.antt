@@ -1,15 +1,18 @@
 -- What a run over a volume leaves of it.
-use Rattle.std.specs.Prelude.{◌≡◌, ◌⊎◌, ℕ, max, true, false, List, [], length, Option, Some}
+use Rattle.std.specs.Prelude.{◌≡◌, ◌≢◌, ◌⊎◌, ◌≤◌, ℕ, max, true, false, List, [], length, Option, Some}
 use Rattle.tc_base.specs.Files.{Files}
 use Rattle.tc_base.specs.declared.kind.Kind.{Kind}
 use Rattle.tc_base.specs.declared.kind.Rule.{Rule}
+use Rattle.tc_io.specs.Copies.{Named}
 use Rattle.tc_io.specs.Images.{Calls, now, Images, ImagesSince, IsLostSync}
+use Rattle.tc_io.specs.Script.{Plays}
 use Rattle.tc_io.specs.Told.{Adds}
 use Rattle.tc_io.specs.declared.act.Act.{Act}
 use Rattle.tc_io.specs.declared.volume.Volume as volume
 use Rattle.tc_io.specs.declared.wire.Wire as wire
 use Rattle.tc_io.specs.declared.wire.At.{At}
 use Rattle.tc_io.specs.declared.wire.Entry.{Entry}
+use Rattle.tc_space.specs.Ranges.{IsDataFile}
 use Rattle.tc_space.specs.declared.space.Space as space
 use Rattle.ud_log.specs.Undo.{data_of, is_data, recovered}
 use Rattle.ud_state.specs.Since.{LeftSince}
@@ -24,38 +27,46 @@ use Rattle.ty_rounds.specs.Turns.{Told}
 use Rattle.tk_top.specs.declared.ends.End.{End}
 use Rattle.tk_top.specs.declared.ends.End.TheVariants.{Done, Words, Refused, VolumeFault, Broken, NoMemory, Full, WireFault, TurnsSpent}
 use Rattle.tk_top.specs.Opened.{OpensOnly}
-use Rattle.tk_top.specs.Runs.{AtExit, FullRun}
+use Rattle.tk_top.specs.Runs.{AtExit, FullRun, NoneKept}
 use Rattle.tk_top.specs.Serving.{Begins, ServesAt, PlaysAll}
 use Rattle.tk_top.specs.Events.{HadEvents, events_of}
-use Rattle.tk_top.specs.Staying.{AsOpening, BreaksLog, BreaksOver, FilesStay, LeavesBroken}
+use Rattle.tk_top.specs.Staying.{AsOpening, BreaksLog, BreaksOver, FilesStay, IsStill, LeavesBroken}
 
--- a run over a volume whose files, as they read, recovered and reopened to this mark. The files as they read are one of the images
-pub record VolumeRun (reopens : Files → Contents → Type 0) (end : End) (turns : ℕ) (at : At) (old new : Calls) (first : Mark) (es : List Entry) (v : World) : Type 0 where
+-- a run over a volume whose files, as they read, recovered to these and reopened to this mark. The files as they read are one of the images
+pub record VolumeRun (reopens : Files → Contents → Type 0) (made : Files → Type 0) (files : Files) (end : End) (turns : ℕ) (at : At) (old new : Calls) (first : Mark) (es : List Entry) (v : World) : Type 0 where
   pub asked : AllAsked (started [] first) es
   pub serves : ServesAt end turns at first es v
   -- at the exit; where the run ended before the log was brought to the disk, as an opening image
   pub exit : (ims : Files) → Images new ims → AtExit reopens end (mark_of (world_after serves.last.earlier (started [] first))) v (recovered ims) ⊎ ((es ≡ []) × IsLostSync old new 1 × AsOpening old (recovered ims))
   -- at any moment: a mark, or as an opening image
   pub moments : (ims : Files) → ImagesSince new (length old) ims → AtMark reopens (recovered ims) v.marks ⊎ AsOpening old (recovered ims)
+  -- once the wire was called, where no round had anything to commit: the files as they were, or, where the main file was empty, ones in which it was made
+  pub idle : es ≢ [] → NoneKept (started [] first) es → (ims : Files) → Images new ims → IsStill made files (recovered ims)
 
 -- the files, as they read, are told, recovered, and may be opened as this mark
 abbrev pub BeginsAt : Type 0 → (Files → Contents → Type 0) → Calls → Mark → Type 0
 BeginsAt tells opens old first = tells × Reopens opens (recovered (now old)) first
 
 -- what came of the wire, and what it makes of a volume that was settled and of a script
-pub record FilesRun {W : Type 0} (tells : Type 0) (g : wire.Ghosts W) (opens reopens : Files → Contents → Type 0) (end : End) (turns : ℕ) (at : At) (old new : Calls) (x y : W) : Type 0 where
+pub record FilesRun {W : Type 0} (tells : Type 0) (g : wire.Ghosts W) (opens reopens : Files → Contents → Type 0) (made : Files → Type 0) (end : End) (turns : ℕ) (at : At) (old new : Calls) (x y : W) : Type 0 where
   pub entries : List Entry
   pub told : Adds (g.transcript x) (g.transcript y) entries
   -- whatever the volume tells, and whatever its files are
   pub opened : OpensOnly at entries
   pub events : HadEvents end turns (events_of entries)
-  pub ends : IsSettled old → (first : Mark) → BeginsAt tells opens old first → VolumeRun reopens end turns at old new first entries (world_after entries (started [] first))
+  pub ends : IsSettled old → (first : Mark) (b : BeginsAt tells opens old first) → VolumeRun reopens made b.1.files end turns at old new first entries (world_after entries (started [] first))
+  -- where a script is played, each event and answer is as the script has it, and all bytes offered were taken
+  pub played : (end ≡ Done) ⊎ (end ≡ TurnsSpent) → Plays (g.plays x) (g.plays y) entries
   pub plays : (first : Mark) → BeginsAt tells opens old first → (acts : List Act) (given : ℕ) → g.plays x ≡ Some (unplayed acts given) → PlaysAll turns (g.plays y) end acts given
   pub broken : tells → LeavesBroken end old new
 
--- a limit was reached where the files were opened, or in the round of the last event
-pub record FullFiles (tells : Type 0) (fills : Contents → Contents → Type 0) (opens : Contents → Type 0) (start : Mark → Type 0) (a b : Told) : Type 0 where
-  pub which : (tells → (c : Contents) × opens c × fills c c) ⊎ FullRun fills start [] a b
+-- the main file of these files is empty
+abbrev pub MainIsBare : Option Files → Type 0
+MainIsBare o = (files : Files) × (o ≡ Some files) × (files 0 ≡ [])
+
+-- a limit was reached where the files were opened, whose main file is empty, as it was made; or in the round of the last event
+pub record FullFiles (tells empty lacks : Type 0) (fills : Contents → Contents → Type 0) (start : Mark → Type 0) (a b : Told) : Type 0 where
+  pub which : (tells → empty × lacks) ⊎ FullRun fills start [] a b
 
 -- a rule that is broken is one of the log, and no file was changed; or it is one of the layout, of what the log makes of the files, and where the main file
 -- isn't empty they stay
@@ -75,7 +86,7 @@ pub record StandsFor (opens : Files → Contents → Type 0) (old : Calls) : Typ
   pub stand : Recover opens (recovered (now old)) contents
 
 -- what a space over a volume tells is what the calls of the volume make of its files
-pub record IsOver (tells told : Type 0) (calls : Calls) (moment : ℕ) (left : ℕ → Option Files → Type 0) (files : Files) (names given : Option (List (List ℕ))) (faults count : ℕ) : Type 0 where
+pub record IsOver (tells told : Type 0) (calls : Calls) (moment : ℕ) (left : ℕ → Option Files → Type 0) (files : Files) (names given : Named) (faults count : ℕ) : Type 0 where
   pub to : tells → told
   pub from : told → tells
   pub moment_is : moment ≡ length calls
@@ -91,6 +102,14 @@ pub record OpensAs {S B : Type 0} (s : space.Ghosts S) (holds : B → Files → 
   pub untouched : s.touched new ≡ false
   pub marks : (m : Mark) → Begins s opens old m → HoldsMark s holds reopens b new m
 
+-- the end of a run that came to the end of its turns, or of the wire
+abbrev pub IsOut : End → Type 0
+IsOut end = (end ≡ Done) ⊎ (end ≡ TurnsSpent)
+
+-- each data file has at most so many bytes, or as many as it had where that is more
+pub record StaysWithin (most : ℕ) (old new : Calls) : Type 0 where
+  pub each : (files : Files) → recovered (now old) ≡ Some files → (f : ℕ) → IsDataFile f → length (now new f) ≤ max most (length (files f))
+
 -- these ends come only over files that stand for contents; and where a rule is named, it is broken
 abbrev pub Judged : End → Type 0 → (ℕ → Rule → Type 0) → Type 0
 Judged Done stand breaks = stand
@@ -104,11 +123,11 @@ Judged WireFault stand breaks = stand
 Judged TurnsSpent stand breaks = stand
 
 -- a space of this volume that has reached a limit; each of its data files may have so many bytes, or as many as it had where that is more
-pub record FilesFull {S V : Type 0} (s : space.Ghosts S) (under : S → V) (tells : Type 0) (fills : S → Contents → Contents → Type 0) (opens : Files → Contents → Type 0) (most : ℕ) (old : Calls) (vol : V) (a b : Told) : Type 0 where
+pub record FilesFull {S V : Type 0} (s : space.Ghosts S) (under : S → V) (tells : Type 0) (lacks : S → Type 0) (fills : S → Contents → Contents → Type 0) (opens : Files → Contents → Type 0) (most : ℕ) (old : Calls) (vol : V) (a b : Told) : Type 0 where
   pub space : S
   pub vol_is : under space ≡ vol
   pub limits : tells → (files : Files) → recovered (now old) ≡ Some files → (f : ℕ) → is_data f ≡ true → s.limit space f ≡ max most (length (files f))
-  pub full : FullFiles tells (fills space) (Recover opens (recovered (now old))) (BeginsAt tells opens old) a b
+  pub full : FullFiles tells (MainIsBare (recovered (now old))) (lacks space) (fills space) (BeginsAt tells opens old) a b
 
 -- ---- of a space
 
@@ -116,8 +135,8 @@ module _ {S : Type 0} (s : space.Ghosts S) where
   abbrev pub JudgedOver : (Files → Contents → Type 0) → (Kind → Files → ℕ → Rule → Type 0) → Kind → End → S → S → Type 0
   JudgedOver reopens breaks kind end old new = Judged end (CanOpen s reopens kind old) (BreaksOver s (breaks kind) old new)
 
-  abbrev pub FullOver : {W : Type 0} → wire.Ghosts W → (S → Contents → Contents → Type 0) → (Files → Contents → Type 0) → S → S → W → W → Type 0
-  FullOver g fills opens old new x y = FullFiles s.tells (fills new) (opens (s.now old)) (Begins s opens old) (g.transcript x) (g.transcript y)
+  abbrev pub FullOver : {W : Type 0} → wire.Ghosts W → (S → Type 0) → (S → Contents → Contents → Type 0) → (Files → Contents → Type 0) → S → S → W → W → Type 0
+  FullOver g lacks fills opens old new x y = FullFiles s.tells (s.now old 0 ≡ []) (lacks new) (fills new) (Begins s opens old) (g.transcript x) (g.transcript y)
 
 -- ---- of a volume
 
@@ -131,8 +150,8 @@ module _ {V : Type 0} (v : volume.Ghosts V) where
   abbrev pub JudgedOn : (Files → Contents → Type 0) → (Files → ℕ → Rule → Type 0) → End → V → V → Type 0
   JudgedOn opens breaks end old new = Judged end (CanStand opens old) (BreaksOn breaks old new)
 
-  abbrev pub RunsOn : {W : Type 0} → wire.Ghosts W → (Files → Contents → Type 0) → Kind → End → ℕ → At → V → V → W → W → Type 0
-  RunsOn g reopens kind end turns at old new x y = FilesRun v.tells g (OpensTo kind reopens) reopens end turns at (v.calls old) (v.calls new) x y
+  abbrev pub RunsOn : {W : Type 0} → wire.Ghosts W → (Files → Contents → Type 0) → (Files → Type 0) → Kind → End → ℕ → At → V → V → W → W → Type 0
+  RunsOn g reopens made kind end turns at old new x y = FilesRun v.tells g (OpensTo kind reopens) reopens made end turns at (v.calls old) (v.calls new) x y
 
-  abbrev pub FullOn : {S W : Type 0} → space.Ghosts S → wire.Ghosts W → (S → V) → (S → Contents → Contents → Type 0) → (Files → Contents → Type 0) → ℕ → V → V → W → W → Type 0
-  FullOn s g under fills opens most old new x y = FilesFull s under v.tells fills opens most (v.calls old) new (g.transcript x) (g.transcript y)
+  abbrev pub FullOn : {S W : Type 0} → space.Ghosts S → wire.Ghosts W → (S → V) → (S → Type 0) → (S → Contents → Contents → Type 0) → (Files → Contents → Type 0) → ℕ → V → V → W → W → Type 0
+  FullOn s g under lacks fills opens most old new x y = FilesFull s under v.tells lacks fills opens most (v.calls old) new (g.transcript x) (g.transcript y)

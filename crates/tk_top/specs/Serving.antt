@@ -3,7 +3,7 @@ use Rattle.std.specs.Prelude.{◌≡◌, ◌⊎◌, ◌≢◌, ◌<◌, ◌+◌,
 use Rattle.tc_base.specs.Files.{Files}
 use Rattle.tc_base.specs.declared.kind.Kind.{Kind}
 use Rattle.tc_io.specs.Told.{Adds}
-use Rattle.tc_io.specs.Script.{Script}
+use Rattle.tc_io.specs.Script.{Plays, Script}
 use Rattle.tc_io.specs.declared.act.Act.{Act}
 use Rattle.tc_io.specs.declared.wire.Wire as wire
 use Rattle.tc_io.specs.declared.wire.At.{At}
@@ -21,7 +21,8 @@ use Rattle.tk_top.specs.declared.ends.End.{End}
 use Rattle.tk_top.specs.declared.ends.End.TheVariants.{Done, TurnsSpent}
 use Rattle.tk_top.specs.Events.{HadEvents, events_of}
 use Rattle.tk_top.specs.Opened.{OpensOnly}
-use Rattle.tk_top.specs.Runs.{IsLast, AtExit}
+use Rattle.tk_top.specs.Runs.{IsLast, AtExit, NoneKept}
+use Rattle.tk_top.specs.Staying.{IsStill}
 
 -- what a run that ends so leaves of the world that its transcript makes
 pub record ServesAt (end : End) (turns : ℕ) (at : At) (first : Mark) (es : List Entry) (v : World) : Type 0 where
@@ -48,19 +49,23 @@ pub record PlaysAll (turns : ℕ) (now : Option Script) (end : End) (acts : List
   pub out : end ≡ Done → (s : Script) × (now ≡ Some s) × (s.acts ≡ [])
 
 -- a run over a space that began at this mark
-pub record SpaceRun {S : Type 0} (s : space.Ghosts S) (reopens : Files → Contents → Type 0) (end : End) (turns : ℕ) (at : At) (old new : S) (first : Mark) (es : List Entry) (v : World) : Type 0 where
+pub record SpaceRun {S : Type 0} (s : space.Ghosts S) (reopens : Files → Contents → Type 0) (made : Files → Type 0) (end : End) (turns : ℕ) (at : At) (old new : S) (first : Mark) (es : List Entry) (v : World) : Type 0 where
   pub asked : AllAsked (started [] first) es
   pub serves : ServesAt end turns at first es v
   pub exit : (o : Option Files) → s.left new (s.moment new) o → AtExit reopens end (mark_of (world_after serves.last.earlier (started [] first))) v o
   pub moments : LeavesMarks s reopens old new v.marks
+  -- once the wire was called, where no round had anything to commit, the files stay
+  pub idle : es ≢ [] → NoneKept (started [] first) es → (o : Option Files) → s.left new (s.moment new) o → IsStill made (s.now old) o
 
 -- what came of the wire, and what it makes of a space and of a script, where it began so
-pub record RunsOver {S W : Type 0} (s : space.Ghosts S) (g : wire.Ghosts W) (reopens : Files → Contents → Type 0) (end : End) (turns : ℕ) (at : At) (old new : S) (x y : W) (start : Mark → Type 0) : Type 0 where
+pub record RunsOver {S W : Type 0} (s : space.Ghosts S) (g : wire.Ghosts W) (reopens : Files → Contents → Type 0) (made : Files → Type 0) (end : End) (turns : ℕ) (at : At) (old new : S) (x y : W) (start : Mark → Type 0) : Type 0 where
   pub entries : List Entry
   pub told : Adds (g.transcript x) (g.transcript y) entries
   pub opened : OpensOnly at entries
   pub events : HadEvents end turns (events_of entries)
-  pub ends : (first : Mark) → start first → SpaceRun s reopens end turns at old new first entries (world_after entries (started [] first))
+  pub ends : (first : Mark) → start first → SpaceRun s reopens made end turns at old new first entries (world_after entries (started [] first))
+  -- where a script is played, each event and answer is as the script has it, and all bytes offered were taken
+  pub played : (end ≡ Done) ⊎ (end ≡ TurnsSpent) → Plays (g.plays x) (g.plays y) entries
   pub plays : (first : Mark) → start first → (acts : List Act) (given : ℕ) → g.plays x ≡ Some (unplayed acts given) → PlaysAll turns (g.plays y) end acts given
 
 -- a space whose files are told, and stand for a mark
@@ -68,10 +73,10 @@ abbrev pub Begins : {S : Type 0} → space.Ghosts S → (Files → Contents → 
 Begins s opens space m = s.tells × StandFor opens (s.now space) m
 
 module _ {S W : Type 0} (s : space.Ghosts S) (g : wire.Ghosts W) (reopens : Files → Contents → Type 0) where
-  -- of a database that is held
+  -- of a database that is held, whose files are there
   abbrev pub RunsHeld : {B : Type 0} → (B → Files → Contents → Type 0) → B → End → ℕ → At → S → S → W → W → Type 0
-  RunsHeld holds base end turns at old new x y = RunsOver s g reopens end turns at old new x y (HoldsMark s holds reopens base old)
+  RunsHeld holds base end turns at old new x y = RunsOver s g reopens (λ files. ⊥) end turns at old new x y (HoldsMark s holds reopens base old)
 
-  -- of files that are opened as this kind
-  abbrev pub RunsOpened : Kind → End → ℕ → At → S → S → W → W → Type 0
-  RunsOpened kind end turns at old new x y = RunsOver s g reopens end turns at old new x y (Begins s (OpensTo kind reopens) old)
+  -- of files that are opened as this kind, where an empty main file is made so
+  abbrev pub RunsOpened : (Files → Type 0) → Kind → End → ℕ → At → S → S → W → W → Type 0
+  RunsOpened made kind end turns at old new x y = RunsOver s g reopens made end turns at old new x y (Begins s (OpensTo kind reopens) old)

@@ -7,6 +7,7 @@ use Rattle.tc_space.specs.Frames.{OnlyReads}
 use Rattle.tc_space.specs.declared.space.Space as space
 use Rattle.ud_log.specs.Undo.{recovered, undo}
 use Rattle.ud_state.specs.State.{IsSettled}
+use Rattle.tc_model.specs.Contents.{Contents}
 use Rattle.tk_top.specs.declared.ends.End.{End}
 use Rattle.tk_top.specs.declared.ends.End.TheVariants.{Done, Words, Refused, VolumeFault, Broken, NoMemory, Full, WireFault, TurnsSpent}
 
@@ -58,6 +59,15 @@ pub record LeavesBroken (end : End) (old new : Calls) : Type 0 where
 pub record BreaksOver {S : Type 0} (s : space.Ghosts S) (breaks : Files → ℕ → Rule → Type 0) (old new : S) (file : ℕ) (rule : Rule) : Type 0 where
   pub is : s.tells → breaks (s.now old) file rule
   pub reads : s.tells → (s.now old 0 ≡ [] → ⊥) → OnlyReads s old new
+
+-- the main file isn't empty, and the files stand for nothing
+pub record IsDamaged (opens : Files → Contents → Type 0) (files : Files) : Type 0 where
+  pub some : files 0 ≡ [] → ⊥
+  pub none : (c : Contents) → opens files c → ⊥
+
+-- these files, or, where the main file is empty, ones in which it was made anew
+pub record IsStill (made : Files → Type 0) (files : Files) (o : Option Files) : Type 0 where
+  pub which : (o ≡ Some files) ⊎ ((files 0 ≡ []) × (anew : Files) × (o ≡ Some anew) × made anew)
 
 -- the volume was settled, and what its files, as they read, recover to stays where this holds of it
 pub record FilesStay (which : Files → Type 0) (old new : Calls) : Type 0 where

@@ -29,13 +29,17 @@ pub record StopsOver {S : Type 0} (s : space.Ghosts S) (reopens : Files → Cont
   pub exit : (o : Option Files) → s.left new (s.moment new) o → exits o
   pub moments : LeavesMarks s reopens old new marks
 
+-- over a volume that was settled: where this holds of its files, as they read, they are looked at, and no more
+pub record Spares (which : Files → Type 0) (end : End) (old new : Calls) : Type 0 where
+  -- at the exit, however it ended; where it ended before the log was brought to the disk, as an opening image
+  pub stays : IsSettled old → (files : Files) → recovered (now old) ≡ Some files → which files → (ims : Files) → Images new ims → (recovered ims ≡ Some files) ⊎ (IsEarly end × IsLostSync old new 1 × AsOpening old (recovered ims))
+  -- at any moment, as an opening image
+  pub moments : IsSettled old → (files : Files) → recovered (now old) ≡ Some files → which files → (ims : Files) → ImagesSince new (length old) ims → AsOpening old (recovered ims)
+
 -- over a volume whose files, as they read, are refused: the run is, if no call failed before and there was memory, and they stay
 pub record LeavesAlone (wrong : Files → Type 0) (end : End) (old new : Calls) : Type 0 where
   pub ends : (files : Files) → recovered (now old) ≡ Some files → wrong files → (end ≡ Refused) ⊎ IsHindered end
-  -- at the exit, however it ended; where it ended before the log was brought to the disk, as an opening image
-  pub stays : IsSettled old → (files : Files) → recovered (now old) ≡ Some files → wrong files → (ims : Files) → Images new ims → (recovered ims ≡ Some files) ⊎ (IsEarly end × IsLostSync old new 1 × AsOpening old (recovered ims))
-  -- at any moment, as an opening image
-  pub moments : IsSettled old → (files : Files) → recovered (now old) ≡ Some files → wrong files → (ims : Files) → ImagesSince new (length old) ims → AsOpening old (recovered ims)
+  pub spares : Spares wrong end old new
 
 -- over a volume
 pub record StopsAt (reopens : Files → Contents → Type 0) (exits : Option Files → Type 0) (early : Type 0) (marks : List Mark) (old new : Calls) : Type 0 where

@@ -8,7 +8,7 @@ use Rattle.tc_base.specs.declared.kind.Rule.{Rule}
 use Rattle.tc_model.specs.Contents.{Contents}
 use Rattle.tc_fixed.specs.Holding.{HasNoRoom}
 use Rattle.tc_hash.specs.Packing.{IsPacked}
-use Rattle.tc_hashdb.specs.Filling.{FillsWith}
+use Rattle.tc_hashdb.specs.Filling.{FillsWith, LacksLargeWith}
 use Rattle.tc_hashdb.specs.Holding as hash
 use Rattle.tc_hashdb.specs.Informing as hash_lines
 use Rattle.tc_hashdb.specs.Shapes as hash_shape
@@ -43,16 +43,31 @@ abbrev pub packed_in : Stored → Form → Files → Type 0
 packed_in Hash form files = IsPacked form (files 0)
 packed_in Fixed form files = Unit {0}
 
--- a limit is reached between contents and those that a request makes of them: of the length of files, which have these now, or of the undo log
-abbrev pub fills_of : Stored → (ℕ → ℕ) → (ℕ → ℕ) → Type 0 → Contents → Contents → Type 0
-fills_of Hash limits lengths log_is_full before after = FillsWith (limits 0) (lengths 0) log_is_full before after
-fills_of Fixed limits lengths log_is_full before after = HasNoRoom (limits 0) log_is_full (fixed.length_with after)
+-- a limit is reached between contents and those that a request makes of them: of the length of files, which have these now and which were these at the moments up
+-- to this one, or of the undo log
+abbrev pub fills_of : Stored → (ℕ → ℕ) → (ℕ → ℕ) → Type 0 → (ℕ → Files) → ℕ → Contents → Contents → Type 0
+fills_of Hash limits lengths log_is_full past moment before after = FillsWith (limits 0) (lengths 0) log_is_full past moment before after
+fills_of Fixed limits lengths log_is_full past moment before after = HasNoRoom (limits 0) log_is_full (fixed.length_with after)
+
+-- so it is where files are written anew in the large form; a fixed-length file has none
+abbrev pub lacks_large_of : Stored → (ℕ → ℕ) → (ℕ → ℕ) → (ℕ → Files) → ℕ → Contents → Type 0
+lacks_large_of Hash limits lengths past moment c = LacksLargeWith (limits 0) (lengths 0) past moment c
+lacks_large_of Fixed limits lengths past moment c = ⊥
 
 -- ---- files made anew
 
 abbrev pub stored_as : Shape → Stored
 stored_as (shapes.Hash shape) = Hash
 stored_as (shapes.Fixed shape) = Fixed
+
+-- the numbers of a file that an opening makes
+abbrev pub usual_of : Stored → Shape
+usual_of Hash = shapes.Hash hash_shape.usual
+usual_of Fixed = shapes.Fixed fixed_shape.usual
+
+-- the rules that files beside an empty main file may break: none, since these kinds have no file but that
+abbrev pub breaks_new_of : Shape → Files → ℕ → Rule → Type 0
+breaks_new_of shape files file rule = ⊥
 
 -- no data, in that shape
 abbrev pub anew_of : Shape → Contents

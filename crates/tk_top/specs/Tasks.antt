@@ -4,7 +4,7 @@ use Rattle.tc_base.specs.Files.{Files}
 use Rattle.tc_base.specs.declared.kind.Form.{Form}
 use Rattle.tc_base.specs.declared.kind.Kind.{Kind}
 use Rattle.tc_base.specs.declared.kind.Rule.{Rule}
-use Rattle.tc_io.specs.Images.{Calls, now}
+use Rattle.tc_io.specs.Images.{Calls, now, Images}
 use Rattle.tc_io.specs.Told.{Adds}
 use Rattle.tc_io.specs.declared.sink.Sink as sink
 use Rattle.tc_io.specs.declared.volume.Volume as volume
@@ -15,7 +15,7 @@ use Rattle.tc_model.specs.Contents.{Contents}
 use Rattle.ty_world.specs.World.{Mark}
 use Rattle.ty_base.specs.Opening.{CanOpen, OpensTo}
 use Rattle.ty_rounds.specs.Kept.{AtMark, Reopens}
-use Rattle.tk_mgr.specs.Managing.{ArePacked, FillsTask, IsFrontOf, last_mark, marks_of, packing, writes_files}
+use Rattle.tk_mgr.specs.Managing.{ArePacked, IsFrontOf, last_mark, marks_of, packing, writes_files}
 use Rattle.tk_mgr.specs.Tasks.{Prints, ok_of}
 use Rattle.tk_mgr.specs.declared.errors.MgrErr.{MgrErr}
 use Rattle.tk_mgr.specs.declared.errors.MgrErr.TheVariants as mgr
@@ -23,7 +23,7 @@ use Rattle.tk_mgr.specs.declared.task.Task.{Task}
 use Rattle.tk_mgr.specs.declared.task.Task.TheVariants.{Drill}
 use Rattle.tk_top.specs.declared.ends.End.{End}
 use Rattle.tk_top.specs.declared.ends.End.TheVariants.{Done, Words, Refused, VolumeFault, Broken, NoMemory, Full, WireFault, TurnsSpent}
-use Rattle.tk_top.specs.Over.{BeginsAt, BreaksOn, CanStand, Recover}
+use Rattle.tk_top.specs.Over.{BeginsAt, BreaksOn, CanStand, MainIsBare, Recover}
 use Rattle.tk_top.specs.Serving.{Begins}
 use Rattle.tk_top.specs.Staying.{BreaksOver, IsSilent, LeavesBroken}
 use Rattle.tk_top.specs.Stops.{IsEarly, StopsAt, StopsOver}
@@ -102,6 +102,8 @@ pub record ExitsTask (reopens : Files → Contents → Type 0) (packed : Form �
 pub record TaskOver {S : Type 0} (s : space.Ghosts S) (reopens : Files → Contents → Type 0) (lines : Files → List ℕ → Type 0) (packed : Form → Files → Type 0) (task : Task) (end : End) (old new : S) (taken : List ℕ) (first : Mark) : Type 0 where
   pub on : TaskOn lines task end (s.now old) taken first
   pub stops : StopsOver s reopens (ExitsTask reopens packed task end taken first) (marks_of task first) old new
+  -- a task that only reads leaves the files as they are once it comes to its end
+  pub looks : writes_files task ≡ false → IsCarried end ⊎ (end ≡ Refused) → (o : Option Files) → s.left new (s.moment new) o → o ≡ Some (s.now old)
 
 pub record ManagesOver {S O : Type 0} (s : space.Ghosts S) (g : sink.Ghosts O) (opens reopens : Files → Contents → Type 0) (lines : Files → List ℕ → Type 0) (packed : Form → Files → Type 0) (task : Task) (end : End) (old new : S) (p q : O) : Type 0 where
   pub taken : List ℕ
@@ -113,6 +115,8 @@ pub record ManagesOver {S O : Type 0} (s : space.Ghosts S) (g : sink.Ghosts O) (
 pub record TaskRun (reopens : Files → Contents → Type 0) (lines : Files → List ℕ → Type 0) (packed : Form → Files → Type 0) (task : Task) (end : End) (files : Files) (old new : Calls) (taken : List ℕ) (first : Mark) : Type 0 where
   pub on : TaskOn lines task end files taken first
   pub stops : StopsAt reopens (ExitsTask reopens packed task end taken first) (IsEarly end × (taken ≡ [])) (marks_of task first) old new
+  -- a task that only reads leaves the files as they are once it comes to its end
+  pub looks : writes_files task ≡ false → IsCarried end ⊎ (end ≡ Refused) → (ims : Files) → Images new ims → recovered ims ≡ Some files
 
 -- what was printed, and what a task makes of a volume that was settled
 pub record FilesManaged {O : Type 0} (tells : Type 0) (g : sink.Ghosts O) (opens reopens : Files → Contents → Type 0) (lines : Files → List ℕ → Type 0) (packed : Form → Files → Type 0) (task : Task) (end : End) (old new : Calls) (p q : O) : Type 0 where
@@ -130,17 +134,17 @@ pub record ReasonOver {S : Type 0} (s : space.Ghosts S) (opens : Files → Conte
 pub record RefusedAt (opens : Files → Contents → Type 0) (task : Task) (old : Calls) : Type 0 where
   pub which : ((files : Files) × (recovered (now old) ≡ Some files) × IsMisplaced task files) ⊎ ((c : Contents) × Recover opens (recovered (now old)) c × (ok_of task c ≡ false))
 
--- a limit was reached where the files were opened, or along the task, which is one that may write
-pub record FullTask (tells : Type 0) (fills : Contents → Contents → Type 0) (opens : Contents → Type 0) (start : Mark → Type 0) (task : Task) : Type 0 where
+-- a limit was reached where the files were opened, whose main file is empty, as it was made; or along the task, which is one that may write
+pub record FullTask (tells empty lacks : Type 0) (fills : Task → Contents → Type 0) (start : Mark → Type 0) (task : Task) : Type 0 where
   pub writes : tells → writes_files task ≡ true
-  pub which : (tells → (c : Contents) × opens c × fills c c) ⊎ ((first : Mark) → start first → FillsTask fills task first.contents)
+  pub which : (tells → empty × lacks) ⊎ ((first : Mark) → start first → fills task first.contents)
 
 -- a space of this volume that has reached a limit; each of its data files may have so many bytes, or as many as it had where that is more
-pub record FilesFullTask {S V : Type 0} (s : space.Ghosts S) (under : S → V) (tells : Type 0) (fills : S → Contents → Contents → Type 0) (opens : Files → Contents → Type 0) (task : Task) (most : ℕ) (old : Calls) (vol : V) : Type 0 where
+pub record FilesFullTask {S V : Type 0} (s : space.Ghosts S) (under : S → V) (tells : Type 0) (lacks : S → Type 0) (fills : S → Task → Contents → Type 0) (opens : Files → Contents → Type 0) (task : Task) (most : ℕ) (old : Calls) (vol : V) : Type 0 where
   pub space : S
   pub vol_is : under space ≡ vol
   pub limits : tells → (files : Files) → recovered (now old) ≡ Some files → (f : ℕ) → is_data f ≡ true → s.limit space f ≡ max most (length (files f))
-  pub full : FullTask tells (fills space) (Recover opens (recovered (now old))) (BeginsAt tells opens old) task
+  pub full : FullTask tells (MainIsBare (recovered (now old))) (lacks space) (fills space) (BeginsAt tells opens old) task
 
 -- ---- of a space
 
@@ -152,8 +156,8 @@ module _ {S : Type 0} (s : space.Ghosts S) (reopens : Files → Contents → Typ
   abbrev pub JudgedTaskOver : (Kind → Files → ℕ → Rule → Type 0) → Kind → Task → End → S → S → Type 0
   JudgedTaskOver breaks kind task end old new = JudgedTask end (CanOpen s reopens kind old) (BreaksOver s (breaks kind) old new) (ReasonOver s (OpensTo kind reopens) task old)
 
-  abbrev pub FullTaskOver : (S → Contents → Contents → Type 0) → Kind → Task → S → S → Type 0
-  FullTaskOver fills kind task old new = FullTask s.tells (fills new) (OpensTo kind reopens (s.now old)) (Begins s (OpensTo kind reopens) old) task
+  abbrev pub FullTaskOver : (S → Type 0) → (S → Task → Contents → Type 0) → Kind → Task → S → S → Type 0
+  FullTaskOver lacks fills kind task old new = FullTask s.tells (s.now old 0 ≡ []) (lacks new) (fills new) (Begins s (OpensTo kind reopens) old) task
 
 -- ---- of a volume
 
@@ -165,5 +169,5 @@ module _ {V : Type 0} (v : volume.Ghosts V) where
   JudgedTaskOn opens breaks task end old new = JudgedTask end (CanStand v opens old) (BreaksOn v breaks old new) (v.tells → RefusedAt opens task (v.calls old))
 
   -- of files that may have so many bytes as any may
-  abbrev pub FullTaskOn : {S : Type 0} → space.Ghosts S → (S → V) → (S → Contents → Contents → Type 0) → (Files → Contents → Type 0) → Task → V → V → Type 0
-  FullTaskOn s under fills opens task old new = FilesFullTask s under v.tells fills opens task (2 ^ 40) (v.calls old) new
+  abbrev pub FullTaskOn : {S : Type 0} → space.Ghosts S → (S → V) → (S → Type 0) → (S → Task → Contents → Type 0) → (Files → Contents → Type 0) → Task → V → V → Type 0
+  FullTaskOn s under lacks fills opens task old new = FilesFullTask s under v.tells lacks fills opens task (2 ^ 40) (v.calls old) new

@@ -4,6 +4,7 @@ ghost use Rattle.tc_space.specs.Frames.{Follows};
 ghost use Rattle.ty_base.specs.Holding.{IsReady};
 ghost use Rattle.tk_top.specs.declared.ends.End.TheVariants.{Full};
 ghost use Rattle.tk_top.specs.Ends.{IsEnd};
+ghost use Rattle.tk_top.specs.Over.{IsOut};
 ghost use Rattle.tk_top.specs.Causes.{CausedIn};
 ghost use Rattle.tk_top.specs.Serving.{RunsHeld};
 ghost use Rattle.tk_top.specs.Runs.{FullRunOf};
@@ -37,6 +38,7 @@ pub fn serve_base<B: Base + Drop, W: Wire, K: Clock>(
     ensures later_wire { W.faults wire.old ≤ W.faults wire.new }
     ensures caused { CausedIn B.S.faults W.faults result space.old space.new wire.old wire.new }
     ensures ends { IsEnd result }
+    ensures sound { IsOut result → B.S.sound space.new }
 {
     match wire.open(at) {
         Ok(()) => {}

@@ -1,14 +1,15 @@
 //! A database in files: opened, served, and its volume handed back.
-ghost use Rattle.std.specs.Prelude.{◌≡◌, ◌⊎◌, ◌≤◌, ◌^◌, [], ℕ, false, OnOk, IfOk, IfErr, IsErrOf};
+ghost use Rattle.std.specs.Prelude.{◌≡◌, ◌⊎◌, ◌≤◌, ◌^◌, false, Some, OnOk, IfOk, IfErr, IsErrOf};
 ghost use Rattle.tc_io.specs.Images.{now};
-ghost use Rattle.tc_space.specs.Frames.{Follows};
+ghost use Rattle.tc_space.specs.Frames.{Follows, OnlyReads};
 ghost use Rattle.tc_space.specs.Refusals.{Blamed};
 ghost use Rattle.ty_base.specs.Opening.{Breaks, CanOpen, LacksNew, OpensTo};
 ghost use Rattle.ty_world.specs.World.{Mark};
 ghost use Rattle.ty_rounds.specs.Kept.{MovesTo};
 ghost use Rattle.tk_top.specs.declared.ends.End.TheVariants.{Full};
-ghost use Rattle.tk_top.specs.Over.{CanStand, FullOn, FullOver, JudgedOn, JudgedOver, OpensAs, RunsOn};
-ghost use Rattle.tk_top.specs.Staying.{BreaksOver};
+ghost use Rattle.tk_top.specs.Over.{CanStand, FullOn, FullOver, IsOut, JudgedOn, JudgedOver, OpensAs, RunsOn, StaysWithin};
+ghost use Rattle.tk_top.specs.Staying.{BreaksOver, IsDamaged, IsStill};
+ghost use Rattle.tk_top.specs.Stops.{Spares};
 ghost use Rattle.tk_top.specs.Serving.{Begins, RunsOpened};
 ghost use Rattle.tk_top.specs.Causes.{CausedIn};
 ghost use Rattle.tk_top.specs.Naming.{NamesOnce};
@@ -28,10 +29,12 @@ pub fn open_kept<B: Opens + Drop>(alloc: Global, kind: Kind, space: &mut B::S) -
     requires sound { B.S.sound space.old }
     ensures opened { IfOk result (λ b. OpensAs B.S.Space B.holds B.reopens (OpensTo kind B.reopens) b space.old space.new) }
     ensures stands { OnOk result (CanOpen B.S.Space B.reopens kind space.old) }
-    ensures same { OnOk result (B.S.tells → (B.S.now space.old 0 ≡ [] → ⊥) → (f : ℕ) → B.S.now space.new f ≡ B.S.now space.old f) }
+    ensures still { OnOk result (B.S.tells → IsStill (B.shaped B.usual) (B.S.now space.old) (Some (B.S.now space.new))) }
+    // Files that break a rule are looked at, and no more.
+    ensures spared { B.S.tells → IsDamaged (OpensTo kind B.reopens) (B.S.now space.old) → OnlyReads B.S.Space space.old space.new }
     ensures broken { IfErr result (λ e. Breaks e (BreaksOver B.S.Space (B.breaks kind) space.old space.new)) }
     ensures moments { (m : Mark) → Begins B.S.Space (OpensTo kind B.reopens) space.old m → MovesTo B.S.Space B.reopens space.old space.new m }
-    ensures full { IsErrOf result AnyErr.Full → LacksNew B.S.Space B.reopens B.fills kind space.old space.new }
+    ensures full { IsErrOf result AnyErr.Full → LacksNew B.S.Space B.reopens (B.lacks space.new B.usual) kind space.old }
     ensures follows { Follows B.S.Space space.old space.new }
     ensures cause { Blamed B.S.Space (IsErrOf result AnyErr.Fault) space.old space.new }
 {
@@ -55,10 +58,12 @@ pub fn serve_files<B: Base + Opens + Drop, W: Wire, K: Clock>(
     requires opened { W.opened wire.old ≡ false }
     requires sound { B.S.sound space.old }
     requires untouched { B.S.touched space.old ≡ false }
-    ensures told { RunsOpened B.S.Space W.Wire B.reopens kind result turns at.now space.old space.new wire.old wire.new }
+    ensures told { RunsOpened B.S.Space W.Wire B.reopens (B.shaped B.usual) kind result turns at.now space.old space.new wire.old wire.new }
     ensures judged { JudgedOver B.S.Space B.reopens B.breaks kind result space.old space.new }
     ensures begun { (wire.new ≡ wire.old) ⊎ CanOpen B.S.Space B.reopens kind space.old }
-    ensures full { result ≡ Full → FullOver B.S.Space W.Wire B.fills (OpensTo kind B.reopens) space.old space.new wire.old wire.new }
+    ensures spared { B.S.tells → IsDamaged (OpensTo kind B.reopens) (B.S.now space.old) → OnlyReads B.S.Space space.old space.new }
+    ensures sound { IsOut result → B.S.sound space.new }
+    ensures full { result ≡ Full → FullOver B.S.Space W.Wire (λ x. B.lacks x B.usual) B.fills (OpensTo kind B.reopens) space.old space.new wire.old wire.new }
     ensures follows { Follows B.S.Space space.old space.new }
     ensures later_wire { W.faults wire.old ≤ W.faults wire.new }
     ensures caused { CausedIn B.S.faults W.faults result space.old space.new wire.old wire.new }
@@ -86,12 +91,14 @@ pub fn run_files<S: OnVolume, B: Base + Opens<S = S> + Drop, W: Wire, K: Clock>(
     requires limit { limit ≤ 2 ^ 40 }
     ensures names { NamesOnce S.V.Volume name.now vol result.vol }
     // What came of the wire, and what any stop leaves of a volume that was settled and whose files stood for contents.
-    ensures told { RunsOn S.V.Volume W.Wire B.reopens kind result.end turns at.now vol result.vol wire.old wire.new }
+    ensures told { RunsOn S.V.Volume W.Wire B.reopens (B.shaped B.usual) kind result.end turns at.now vol result.vol wire.old wire.new }
     // Where it was served, the files stood for contents; and where a rule is named, it is broken.
     ensures judged { JudgedOn S.V.Volume (OpensTo kind B.reopens) (B.breaks kind) result.end vol result.vol }
     // However it ended, the wire was used only where they did.
     ensures begun { (wire.new ≡ wire.old) ⊎ CanStand S.V.Volume (OpensTo kind B.reopens) vol }
-    ensures full { result.end ≡ Full → FullOn S.V.Volume S.Space W.Wire S.under B.fills (OpensTo kind B.reopens) limit vol result.vol wire.old wire.new }
+    ensures spared { S.V.tells → Spares (IsDamaged (OpensTo kind B.reopens)) result.end (S.V.calls vol) (S.V.calls result.vol) }
+    ensures within { IsOut result.end → S.V.tells → StaysWithin limit (S.V.calls vol) (S.V.calls result.vol) }
+    ensures full { result.end ≡ Full → FullOn S.V.Volume S.Space W.Wire S.under (λ x. B.lacks x B.usual) B.fills (OpensTo kind B.reopens) limit vol result.vol wire.old wire.new }
     ensures caused { CausedIn S.V.faults W.faults result.end vol result.vol wire.old wire.new }
 {
     let mut space = match open_named::<S>(name, vol, limit) {

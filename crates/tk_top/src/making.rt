@@ -23,7 +23,7 @@ pub fn make_opened<B: Opens + Drop>(alloc: Global, shape: &B::Shape, space: &mut
     requires untouched { B.S.touched space.old ≡ false }
     requires numbers { B.may_be shape.now }
     ensures made { MakesOver B.S.Space B.reopens (B.shaped shape.now) (B.anew shape.now) result space.old space.new }
-    ensures judged { JudgedMakingOver B.S.Space result space.old space.new }
+    ensures judged { JudgedMakingOver B.S.Space B.breaks_new result space.old space.new }
     // A main file that is there is looked at, and no more.
     ensures there { B.S.tells → IsThere (B.S.now space.old) → (result ≡ Refused) × (space.new ≡ space.old) }
     ensures full { result ≡ Full → B.S.tells → B.lacks space.new shape.now }
@@ -55,8 +55,8 @@ pub fn make_files<S: OnVolume, B: Opens<S = S> + Drop>(
     ensures names { NamesOnce S.V.Volume name.now vol result.vol }
     // What any stop leaves of a volume that was settled and whose files stood for contents.
     ensures made { MakesOn S.V.Volume B.reopens (B.shaped shape.now) (B.anew shape.now) result.end vol result.vol }
-    // Where it was made, the main file was empty; where it was refused, it wasn't; and where a rule is named, it is one of the log.
-    ensures judged { JudgedMakingOn S.V.Volume result.end vol result.vol }
+    // Where it was made, the main file was empty; where it was refused, it wasn't; and where a rule is named, it is broken.
+    ensures judged { JudgedMakingOn S.V.Volume B.breaks_new result.end vol result.vol }
     ensures there { S.V.tells → LeavesAlone IsThere result.end (S.V.calls vol) (S.V.calls result.vol) }
     ensures full { result.end ≡ Full → LacksOn S.V.Volume S.Space S.under B.lacks shape.now vol result.vol }
     ensures caused { CausedByVolume S.V.faults result.end vol result.vol }

@@ -5,6 +5,7 @@ ghost use Rattle.tc_space.specs.Frames.{Follows};
 ghost use Rattle.ty_rounds.specs.Servers.{IsReadyAs};
 ghost use Rattle.tk_top.specs.declared.ends.End.TheVariants.{Full};
 ghost use Rattle.tk_top.specs.Ends.{IsEnd};
+ghost use Rattle.tk_top.specs.Over.{IsOut};
 ghost use Rattle.tk_top.specs.Runs.{Ends, FullRunOf};
 ghost use Rattle.tk_top.specs.Causes.{CausedIn};
 
@@ -31,6 +32,7 @@ pub fn serve<B: Base, W: Wire, K: Clock>(
     ensures later_wire { W.faults wire.old ≤ W.faults wire.new }
     ensures caused { CausedIn B.S.faults W.faults result space.old space.new wire.old wire.new }
     ensures ends { IsEnd result }
+    ensures sound { IsOut result → B.S.sound space.new }
 {
     for _done in 0..turns {
         let outcome = match turn(server, space, wire, clock) {

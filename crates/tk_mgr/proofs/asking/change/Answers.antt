@@ -1,4 +1,4 @@
-use Rattle.std.proofs.Common.{rules, inl, inr}
+use Rattle.std.proofs.Common.{rules}
 use Rattle.std.specs.Prelude.{Some}
 use Rattle.tk_mgr.specs.Managing.{with_contents}
 use Rattle.tk_mgr.specs.Tasks.{asked}
@@ -12,7 +12,7 @@ returns-clause-carries g c = λ m h.
     let w = c.in_ok-applied.ensures.answers m.contents h.has.held in
     let k = c.in_ok-save.ensures.kept in
     let n = with_contents m (asked (Some c.args.request) m.contents) in
-    let has = asked_mark s g.B.Storage.reopens g.B.Storage.holds c.args.request c.in_ok-applied.applied _ _ _ _ _ m c.in_ok-applied.ensures.leaves w h.has in
+    let has = asked_mark s g.B.Storage.reopens g.B.Storage.holds c.args.request c.in_ok-applied.applied _ _ _ _ _ m g.met.B.Storage.no_logs.1 c.in_ok-applied.ensures.leaves w h.has in
     carries_kept s g.B.Storage.reopens g.B.Storage.holds (Some c.args.request) c.in_ok-applied.applied.ok _ c.save.new.base _ c.ask.new.space _ m w.ok
     (record { sound = c.requires.may.sound; only = λ o t l. g.met.B.S.Space.only_kept c.args.space.now o t c.requires.may.sound l; clean = λ t. g.met.B.S.Space.clean c.args.space.now t c.requires.may.sound c.requires.may.untouched })
     (record { sound = k.ready.sound; only = λ o t l. g.met.B.S.Space.only_kept c.save.new.space o t k.ready.sound l; clean = λ t. g.met.B.S.Space.clean c.save.new.space t k.ready.sound k.untouched })
@@ -30,11 +30,11 @@ returns-in_err-save-clause-carries g c = λ m h.
     (λ is. c.in_err-save.ensures.not_sink (search (rules, is)))
     (record { sound = c.requires.may.sound; only = λ o t l. g.met.B.S.Space.only_kept c.args.space.now o t c.requires.may.sound l; clean = λ t. g.met.B.S.Space.clean c.args.space.now t c.requires.may.sound c.requires.may.untouched })
     c.in_ok-applied.ensures.keeps
-    (c.in_err-save.ensures.moments n (asked_mark s g.B.Storage.reopens g.B.Storage.holds c.args.request c.in_ok-applied.applied _ _ _ _ _ m c.in_ok-applied.ensures.leaves w h.has))
+    (c.in_err-save.ensures.moments n (asked_mark s g.B.Storage.reopens g.B.Storage.holds c.args.request c.in_ok-applied.applied _ _ _ _ _ m g.met.B.Storage.no_logs.1 c.in_ok-applied.ensures.leaves w h.has))
     h)
 
 pub returns-in_err-save-clause-full : goal.returns-in_err-save-clause-full
-returns-in_err-save-clause-full g c = λ is d h. inr (c.in_err-save.ensures.full (search (rules, is)) (asked (Some c.args.request) d) (c.in_ok-applied.ensures.answers d h).held)
+returns-in_err-save-clause-full g c = λ is d h. g.met.B.Storage.log_fills c.save.new.space d (asked (Some c.args.request) d) (c.in_err-save.ensures.full (search (rules, is)) h.0)
 
 pub returns-in_err-applied-clause-full : goal.returns-in_err-applied-clause-full
-returns-in_err-applied-clause-full g c = λ is d h. inl ((c.in_err-applied.ensures.full (search (rules, is))).by d h)
+returns-in_err-applied-clause-full g c = λ is d h. (c.in_err-applied.ensures.full (search (rules, is))).by d h

@@ -1,4 +1,4 @@
-use Rattle.std.proofs.Common.{rules, subst, Bool}
+use Rattle.std.proofs.Common.{rules}
 use Rattle.tk_mgr.proofs.Ends.{asked_looks, idle_writes_none}
 use Rattle.tk_mgr.proofs.asking.look.Goals as goal
 

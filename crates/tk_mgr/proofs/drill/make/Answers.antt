@@ -36,9 +36,9 @@ returns-in_err-keep_hundreds-clause-moments g c = λ m h.
 pub returns-in_err-keep_hundreds-clause-full : goal.returns-in_err-keep_hundreds-clause-full
 returns-in_err-keep_hundreds-clause-full g c = λ is m h.
     let st = begun g.B.S.Space g.B.Storage.holds g.B.Storage.reopens c.args.seed c.new-run.result _ _ m c.new-run.ensures.drawn c.new-run.ensures.made c.new-run.ensures.accepted h in
-    fills_within _ c.args.seed (100 * (c.args.count / 100)) _ _ (omega arith) (c.in_err-keep_hundreds.ensures.full (search (rules, is)) c.args.seed m st)
+    fills_within (g.B.S.Space.log_full c.keep_hundreds.new.space) (g.B.Storage.fills c.keep_hundreds.new.space) (g.B.Storage.lacks_large c.keep_hundreds.new.space) c.args.seed (100 * (c.args.count / 100)) _ _ (omega arith) (c.in_err-keep_hundreds.ensures.full (search (rules, is)) c.args.seed m st)
 
 pub returns-clause-full : goal.returns-clause-full
 returns-clause-full g c = λ is m h.
     let st = begun g.B.S.Space g.B.Storage.holds g.B.Storage.reopens c.args.seed c.new-run.result _ _ m c.new-run.ensures.drawn c.new-run.ensures.made c.new-run.ensures.accepted h in
-    fills_within _ c.args.seed (c.keep_hundreds.new.run.made + c.args.count % 100) _ _ (omega (arith, c.in_ok-keep_hundreds.ensures.secures.made)) (c.keep_rest.ensures.full is c.args.seed m (c.in_ok-keep_hundreds.ensures.secures.each c.args.seed m st))
+    fills_within (g.B.S.Space.log_full c.keep_rest.new.space) (g.B.Storage.fills c.keep_rest.new.space) (g.B.Storage.lacks_large c.keep_rest.new.space) c.args.seed (c.keep_hundreds.new.run.made + c.args.count % 100) _ _ (omega (arith, c.in_ok-keep_hundreds.ensures.secures.made)) (c.keep_rest.ensures.full is c.args.seed m (c.in_ok-keep_hundreds.ensures.secures.each c.args.seed m st))

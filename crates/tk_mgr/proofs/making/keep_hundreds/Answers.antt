@@ -32,4 +32,4 @@ returns-in_err-keep_some-clause-moments g c = λ seed m st. let i = c.loop-done.
     (hundred_more g.B.S.Space g.B.Storage.reopens g.B.Storage.holds seed c.loop-done._done c.loop-done.run c.loop-done.base c.args.space.now c.loop-done.space c.keep_some.new.space m (omega arith) (λ t. g.met.B.S.Space.clean c.loop-done.space t i.secures.may.sound i.secures.may.untouched) there (i.moments seed m st) (c.keep_some.ensures.moments seed m there))
 
 pub returns-in_err-keep_some-clause-full : goal.returns-in_err-keep_some-clause-full
-returns-in_err-keep_some-clause-full g c = λ is seed m st. let i = c.loop-done.invariant in fills_within _ seed (c.loop-done.run.made + 100) _ _ (omega arith) (c.in_err-keep_some.ensures.full (search (rules, is)) seed m (i.secures.each seed m st))
+returns-in_err-keep_some-clause-full g c = λ is seed m st. let i = c.loop-done.invariant in fills_within (g.B.S.Space.log_full c.keep_some.new.space) (g.B.Storage.fills c.keep_some.new.space) (g.B.Storage.lacks_large c.keep_some.new.space) seed (c.loop-done.run.made + 100) _ _ (omega arith) (c.in_err-keep_some.ensures.full (search (rules, is)) seed m (i.secures.each seed m st))

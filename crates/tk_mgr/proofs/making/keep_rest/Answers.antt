@@ -22,4 +22,4 @@ pub returns-in_err-save-clause-moments : goal.returns-in_err-save-clause-moments
 returns-in_err-save-clause-moments g c = secured_moves g.B.S.Space g.B.Storage.holds g.B.Storage.reopens _ _ _ _ _ c.save.new.base _ _ _ c.in_ok-text.ensures.makes c.tell_some.ensures.keeps c.save.ensures.moments
 
 pub returns-in_err-save-clause-full : goal.returns-in_err-save-clause-full
-returns-in_err-save-clause-full g c = λ is. secured_fills g.B.S.Space g.B.Storage.holds g.B.Storage.reopens _ _ _ _ _ c.save.new.base _ _ c.save.new.space c.in_ok-text.ensures.makes _ (c.in_err-save.ensures.full (search (rules, is)))
+returns-in_err-save-clause-full g c = λ is. secured_fills g.B.S.Space g.B.Storage.holds g.B.Storage.reopens _ _ _ _ _ c.save.new.base _ _ c.save.new.space c.in_ok-text.ensures.makes _ _ _ (c.in_err-save.ensures.full (search (rules, is)))

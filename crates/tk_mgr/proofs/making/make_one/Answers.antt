@@ -1,4 +1,5 @@
 use Rattle.std.proofs.Common.{rules}
+use Rattle.ty_base.specs.Holding.{log_stays}
 use Rattle.tk_mgr.proofs.Steps.{answered_ready, one_fills, one_made}
 use Rattle.tk_mgr.proofs.making.make_one.Goals as goal
 
@@ -7,9 +8,9 @@ returns-clause-makes g c = record {
   made = c.note.ensures.made;
   ready = answered_ready g.B.S.Space g.B.Storage.holds _ _ _ _ _ _ _ c.requires.ready c.in_ok-applied.ensures.leaves.sound c.in_ok-applied.ensures.answers;
   each = λ seed m h. one_made g.B.S.Space g.B.Storage.holds seed m _ _ c.has_rows-rows.result c.draw-x.result c.in_ok-request.request c.in_ok-applied.applied _ _ _ _ _
-      c.note.ensures.made c.note.ensures.drawn c.note.ensures.accepted (λ e held. (c.draw-x.ensures, c.in_ok-request.ensures, c.has_rows-rows.ensures e (c.kind.ensures _ e held.1))) c.in_ok-applied.ensures.answers c.in_ok-applied.ensures.leaves.log h;
+      c.note.ensures.made c.note.ensures.drawn c.note.ensures.accepted (λ e held. (c.draw-x.ensures, c.in_ok-request.ensures, c.has_rows-rows.ensures e (c.kind.ensures _ e held.1))) c.in_ok-applied.ensures.answers (log_stays g.B.S.Space g.B.Storage.own _ _ g.met.B.Storage.no_logs.1 c.in_ok-applied.ensures.leaves.others) h;
 }
 
 pub returns-in_err-applied-clause-full : goal.returns-in_err-applied-clause-full
-returns-in_err-applied-clause-full g c = λ is seed m h. one_fills g.B.S.Space g.B.Storage.holds _ seed m _ c.has_rows-rows.result c.draw-x.result c.in_ok-request.request _ _
+returns-in_err-applied-clause-full g c = λ is seed m h. one_fills g.B.S.Space g.B.Storage.holds _ _ _ seed m _ c.has_rows-rows.result c.draw-x.result c.in_ok-request.request _ _
     (λ e held. (c.draw-x.ensures, c.in_ok-request.ensures, c.has_rows-rows.ensures e (c.kind.ensures _ e held.1))) (c.in_err-applied.ensures.full (search (rules, is))).by h

@@ -16,4 +16,4 @@ pub returns-clause-makes : goal.returns-clause-makes
 returns-clause-makes g c = makes_as g.B.S.Space g.B.Storage.holds c.loop-done._done _ _ _ _ _ _ _ (omega arith) c.loop-done.invariant.makes
 
 pub returns-in_err-make_one-clause-full : goal.returns-in_err-make_one-clause-full
-returns-in_err-make_one-clause-full g c = λ is seed m h. fills_within _ seed (c.loop-done.run.made + 1) _ _ (omega arith) (c.in_err-make_one.ensures.full (search (rules, is)) seed m (c.loop-done.invariant.makes.each seed m h))
+returns-in_err-make_one-clause-full g c = λ is seed m h. fills_within (g.B.S.Space.log_full c.make_one.new.space) (g.B.Storage.fills c.make_one.new.space) (g.B.Storage.lacks_large c.make_one.new.space) seed (c.loop-done.run.made + 1) _ _ (omega arith) (c.in_err-make_one.ensures.full (search (rules, is)) seed m (c.loop-done.invariant.makes.each seed m h))

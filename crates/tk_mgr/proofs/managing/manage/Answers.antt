@@ -4,7 +4,7 @@ use Rattle.tc_base.specs.declared.request.Request.TheVariants as request
 use Rattle.tk_mgr.specs.declared.task.Task.TheVariants as task
 use Rattle.tk_mgr.specs.Managing.{writes_files}
 use Rattle.tk_mgr.specs.Tasks.{maximum_of, put_request}
-use Rattle.tk_mgr.proofs.Ends.{carries_manages, shows_manages, manages_as, idle_stays, keeps_follows, fills_as, fills_asked, fills_before, packs_as}
+use Rattle.tk_mgr.proofs.Ends.{carries_manages, shows_manages, manages_as, idle_stays, keeps_follows, fills_as, fills_asked, fills_before, not_both, packs_as, packs_large}
 use Rattle.tk_mgr.proofs.managing.manage.Goals as goal
 
 pub returns-in-Put-clause-managed : goal.returns-in-Put-clause-managed
@@ -89,19 +89,42 @@ returns-in-List-clause-writes g c = λ full. absurd (c.list.ensures.not_full ful
 pub returns-in-Inform-clause-writes : goal.returns-in-Inform-clause-writes
 returns-in-Inform-clause-writes g c = λ full. absurd (c.inform.ensures.not_full full)
 
+-- ---- which only read
+
+pub returns-in-Get-clause-reads : goal.returns-in-Get-clause-reads
+returns-in-Get-clause-reads g c = λ reads. c.get.ensures.keeps
+
+pub returns-in-List-clause-reads : goal.returns-in-List-clause-reads
+returns-in-List-clause-reads g c = λ reads. c.list.ensures.keeps
+
+pub returns-in-Inform-clause-reads : goal.returns-in-Inform-clause-reads
+returns-in-Inform-clause-reads g c = λ reads. c.inform.ensures.keeps
+
+pub returns-in-Put-clause-reads : goal.returns-in-Put-clause-reads
+returns-in-Put-clause-reads g c = λ reads. absurd (not_both (ap writes_files c.in-Put.is) reads)
+
+pub returns-in-Out-clause-reads : goal.returns-in-Out-clause-reads
+returns-in-Out-clause-reads g c = λ reads. absurd (not_both (ap writes_files c.in-Out.is) reads)
+
+pub returns-in-Optimize-clause-reads : goal.returns-in-Optimize-clause-reads
+returns-in-Optimize-clause-reads g c = λ reads. absurd (not_both (ap writes_files c.in-Optimize.is) reads)
+
+pub returns-in-Drill-clause-reads : goal.returns-in-Drill-clause-reads
+returns-in-Drill-clause-reads g c = λ reads. absurd (not_both (ap writes_files c.in-Drill.is) reads)
+
 -- ---- limits
 
 pub returns-in-Put-clause-full : goal.returns-in-Put-clause-full
-returns-in-Put-clause-full g c = λ is m h. fills_as (g.B.Storage.fills c.put.new.space) _ (task.Put c.in-Put.word c.in-Put.key c.in-Put.value) m.contents c.in-Put.is
-    (fills_asked (g.B.Storage.fills c.put.new.space) (task.Put c.in-Put.word c.in-Put.key c.in-Put.value) (Some (put_request c.in-Put.word c.in-Put.key c.in-Put.value)) m.contents refl refl refl (c.put.ensures.full is m.contents h.has.held))
+returns-in-Put-clause-full g c = λ is m h. fills_as _ (g.B.Storage.fills c.put.new.space) _ _ (task.Put c.in-Put.word c.in-Put.key c.in-Put.value) m.contents c.in-Put.is
+    (fills_asked _ (g.B.Storage.fills c.put.new.space) _ (task.Put c.in-Put.word c.in-Put.key c.in-Put.value) (Some (put_request c.in-Put.word c.in-Put.key c.in-Put.value)) m.contents refl refl refl (c.put.ensures.full is m.contents h.has.held))
 
 pub returns-in-Out-clause-full : goal.returns-in-Out-clause-full
-returns-in-Out-clause-full g c = λ is m h. fills_as (g.B.Storage.fills c.take_out.new.space) _ (task.Out c.in-Out.key) m.contents c.in-Out.is
-    (fills_asked (g.B.Storage.fills c.take_out.new.space) (task.Out c.in-Out.key) (Some (request.Out c.in-Out.key)) m.contents refl refl refl (c.take_out.ensures.full is m.contents h.has.held))
+returns-in-Out-clause-full g c = λ is m h. fills_as _ (g.B.Storage.fills c.take_out.new.space) _ _ (task.Out c.in-Out.key) m.contents c.in-Out.is
+    (fills_asked _ (g.B.Storage.fills c.take_out.new.space) _ (task.Out c.in-Out.key) (Some (request.Out c.in-Out.key)) m.contents refl refl refl (c.take_out.ensures.full is m.contents h.has.held))
 
 pub returns-in-Optimize-clause-full : goal.returns-in-Optimize-clause-full
-returns-in-Optimize-clause-full g c = λ is m h. fills_as (g.B.Storage.fills c.optimize.new.space) _ (task.Optimize c.in-Optimize.large) m.contents c.in-Optimize.is
-    (fills_before (g.B.Storage.fills c.optimize.new.space) (task.Optimize c.in-Optimize.large) m.contents refl (c.optimize.ensures.full is m.contents h.has.held))
+returns-in-Optimize-clause-full g c = λ is m h. fills_as _ (g.B.Storage.fills c.optimize.new.space) _ _ (task.Optimize c.in-Optimize.large) m.contents c.in-Optimize.is
+    (fills_before _ (g.B.Storage.fills c.optimize.new.space) _ (task.Optimize c.in-Optimize.large) m.contents refl (packs_large _ (g.B.Storage.lacks_large c.optimize.new.space) c.in-Optimize.large m.contents (c.optimize.ensures.full is m.contents h.has.held)))
 
 pub returns-in-Get-clause-full : goal.returns-in-Get-clause-full
 returns-in-Get-clause-full g c = λ is m h. absurd (c.get.ensures.not_full is)

@@ -1,4 +1,4 @@
-use Rattle.std.proofs.Common.{◌≡◌, ◌⊎◌, [], ◌∷◌, true, rules, arith, ◌∙◌, subst}
+use Rattle.std.proofs.Common.{◌≡◌, ◌⊎◌, ⊎_elim, [], ◌∷◌, true, rules, arith, ◌∙◌, subst}
 use Rattle.tc_io.specs.Script.{Plays}
 use Rattle.tc_io.specs.Told.{Adds}
 use Rattle.tc_io.specs.declared.wire.Entry.TheVariants.{Open}
@@ -25,7 +25,8 @@ pub returns-clause-told : goal.returns-clause-told
 returns-clause-told g c = let s = g.B.S.Space in let w = g.W.Wire in
     let told : Adds (w.transcript c.args.wire.now) (w.transcript c.open.new.self) (Open c.args.at.now ∷ []) = search rules in
     let plays : Plays (w.plays c.args.wire.now) (w.plays c.open.new.self) (Open c.args.at.now ∷ []) = search rules in
-    over_served s w g.B.Storage.holds g.B.Storage.reopens c.args.base c.serve-end.result c.args.turns c.args.at.now c.args.space.now c.serve-end.new.space _ _ _ told plays
+    over_served s w g.B.Storage.holds g.B.Storage.reopens c.args.base c.serve-end.result c.args.turns c.args.at.now c.args.space.now c.serve-end.new.space _ _ _
+    (fresh g.B.S.Space c.args.space.now g.met.B.S.Space.only_kept g.met.B.S.Space.clean c.requires.ready.sound c.requires.untouched) (g.met.B.S.Space.earlier c.serve-end.new.space) told plays
     (subst (λ b. Ends s w g.B.Storage.holds g.B.Storage.reopens c.serve-end.result c.args.turns b c.args.space.now c.serve-end.new.space c.open.new.self c.serve-end.new.wire) c.new-server.ensures.base c.serve-end.ensures.told)
 
 pub returns-clause-full : goal.returns-clause-full
@@ -36,3 +37,6 @@ returns-clause-full g c = λ is. let s = g.B.S.Space in let w = g.W.Wire in
 
 pub returns-clause-caused : goal.returns-clause-caused
 returns-clause-caused g c = caused_later c.serve-end.result _ _ _ _ _ _ (omega arith) (omega (arith, c.open.ensures.cause.later)) c.serve-end.ensures.caused
+
+pub returns-in-Err-clause-sound : goal.returns-in-Err-clause-sound
+returns-in-Err-clause-sound g c = λ out. absurd (⊎_elim (λ is. cc) (λ is. cc) out)

@@ -1,4 +1,4 @@
-use Rattle.std.proofs.Common.{◌≡◌, inl, inr, refl, rules, sym, subst, ◌∙◌}
+use Rattle.std.proofs.Common.{◌≡◌, inl, inr, ⊎_elim, refl, rules, sym, subst, ◌∙◌}
 use Rattle.tc_model.specs.Contents.{Contents}
 use Rattle.tk_top.specs.declared.ends.End.{End}
 use Rattle.ty_base.specs.Opening.{OpensTo}
@@ -7,14 +7,14 @@ use Rattle.tk_top.specs.Over.{Judged}
 use Rattle.tk_top.specs.Serving.{Begins, RunsOver}
 use Rattle.tk_top.specs.Staying.{BreaksOver}
 use Rattle.ty_rounds.specs.Kept.{HoldsMark}
-use Rattle.tk_top.proofs.Kept.{full_err, full_opened, judged_err, over_opened, over_refused}
+use Rattle.tk_top.proofs.Kept.{ended_not, full_err, full_opened, judged_err, over_opened, over_refused}
 use Rattle.tk_top.proofs.Fresh.{fresh}
 use Rattle.tk_top.proofs.files.serve_files.Goals as goal
 
 pub returns-in-Err-clause-told : goal.returns-in-Err-clause-told
 returns-in-Err-clause-told g c = let s = g.B.S.Space in let b = g.B.Storage in let w = g.W.Wire in
-    subst (λ end. RunsOver s w b.reopens end c.args.turns c.args.at.now c.args.space.now c.open_kept.new.space c.args.wire.now c.args.wire.now (Begins s (OpensTo c.args.kind b.reopens) c.args.space.now)) (sym c.from.ensures)
-    (over_refused s w b.reopens (OpensTo c.args.kind b.reopens) (λ files d h. h.stand) c.in-Err.e c.args.turns c.args.at.now c.args.space.now c.open_kept.new.space c.args.wire.now
+    subst (λ end. RunsOver s w b.reopens (g.B.Opens.shaped g.B.Opens.usual) end c.args.turns c.args.at.now c.args.space.now c.open_kept.new.space c.args.wire.now c.args.wire.now (Begins s (OpensTo c.args.kind b.reopens) c.args.space.now)) (sym c.from.ensures)
+    (over_refused s w b.reopens (OpensTo c.args.kind b.reopens) (g.B.Opens.shaped g.B.Opens.usual) (λ files d h. h.stand) c.in-Err.e c.args.turns c.args.at.now c.args.space.now c.open_kept.new.space c.args.wire.now
     (fresh g.B.S.Space c.args.space.now g.met.B.S.Space.only_kept g.met.B.S.Space.clean c.requires.sound c.requires.untouched)
     (g.met.B.S.Space.earlier c.open_kept.new.space) c.open_kept.ensures.moments)
 
@@ -32,14 +32,25 @@ pub returns-clause-begun : goal.returns-clause-begun
 returns-clause-begun g c = inr c.in-Ok.ensures.stands
 
 pub returns-in-Err-clause-full : goal.returns-in-Err-clause-full
-returns-in-Err-clause-full g c = λ is. let e : c.in-Err.e ≡ any.Full = full_err c.in-Err.e (sym c.from.ensures ∙ is) in record { which = inl (λ t. let new = c.in-Err.ensures.full (search rules) t in (new.contents, new.stand, new.full)) }
+returns-in-Err-clause-full g c = λ is. let e : c.in-Err.e ≡ any.Full = full_err c.in-Err.e (sym c.from.ensures ∙ is) in record { which = inl (λ t. let new = c.in-Err.ensures.full (search rules) t in (new.empty, new.full)) }
 
 pub returns-clause-told : goal.returns-clause-told
 returns-clause-told g c = let s = g.B.S.Space in let b = g.B.Storage in let w = g.W.Wire in
-    over_opened s w b.reopens (OpensTo c.args.kind b.reopens) (λ files d h. h.stand) (HoldsMark s b.holds b.reopens c.in-Ok.base c.open_kept.new.space) c.serve_base.result c.args.turns c.args.at.now c.args.space.now c.open_kept.new.space c.serve_base.new.space c.args.wire.now c.serve_base.new.wire
+    over_opened s w b.reopens (OpensTo c.args.kind b.reopens) (g.B.Opens.shaped g.B.Opens.usual) (λ files d h. h.stand) (HoldsMark s b.holds b.reopens c.in-Ok.base c.open_kept.new.space) c.serve_base.result c.args.turns c.args.at.now c.args.space.now c.open_kept.new.space c.serve_base.new.space c.args.wire.now c.serve_base.new.wire
     (fresh g.B.S.Space c.args.space.now g.met.B.S.Space.only_kept g.met.B.S.Space.clean c.requires.sound c.requires.untouched)
-    c.open_kept.ensures.moments c.in-Ok.ensures.opened.marks c.serve_base.ensures.told
+    c.open_kept.ensures.moments c.in-Ok.ensures.opened.marks
+    c.in-Ok.ensures.still
+    c.serve_base.ensures.told
 
 pub returns-clause-full : goal.returns-clause-full
 returns-clause-full g c = λ is. let s = g.B.S.Space in let b = g.B.Storage in
     record { which = inr (full_opened (b.fills c.serve_base.new.space) (Begins s (OpensTo c.args.kind b.reopens) c.args.space.now) (HoldsMark s b.holds b.reopens c.in-Ok.base c.open_kept.new.space) (g.W.Wire.transcript c.args.wire.now) (g.W.Wire.transcript c.serve_base.new.wire) c.in-Ok.ensures.opened.marks (c.serve_base.ensures.full is)) }
+
+pub returns-in-Err-clause-spared : goal.returns-in-Err-clause-spared
+returns-in-Err-clause-spared g c = c.open_kept.ensures.spared
+
+pub returns-clause-spared : goal.returns-clause-spared
+returns-clause-spared g c = λ t damaged. let x = c.in-Ok.ensures.stands t in absurd (damaged.none x.0 x.1)
+
+pub returns-in-Err-clause-sound : goal.returns-in-Err-clause-sound
+returns-in-Err-clause-sound g c = λ out. let other = ended_not c.in-Err.e in absurd (⊎_elim (λ is. other.0 (sym c.from.ensures ∙ is)) (λ is. other.1 (sym c.from.ensures ∙ is)) out)

@@ -1,13 +1,15 @@
-use Rattle.std.proofs.Common.{arith, sym, subst, ◌∙◌}
+use Rattle.std.proofs.Common.{arith, sym, subst, ◌∙◌, ◌≡◌, []}
 use Rattle.std.proofs.lemmas.List.{nil_from_length}
 use Rattle.tk_top.specs.declared.ends.End.{End}
 use Rattle.tk_top.specs.declared.ends.End.TheVariants.{Done, VolumeFault}
 use Rattle.ty_rounds.specs.Kept.{StandFor}
 use Rattle.tk_mgr.specs.Managing.{with_contents}
 use Rattle.tk_top.specs.Ends.{end_of}
-use Rattle.tk_top.specs.Making.{MakingOver}
+use Rattle.tk_top.specs.Making.{JudgedMaking, MakingOver}
+use Rattle.tk_top.specs.Staying.{BreaksOver}
+use Rattle.tk_top.proofs.Staying.{breaks_over}
 use Rattle.tk_top.proofs.Kept.{commit_moves, steady_moves}
-use Rattle.tk_top.proofs.Made.{making_over}
+use Rattle.tk_top.proofs.Made.{making_err, making_over}
 use Rattle.tk_top.proofs.Managed.{unbegun_of}
 use Rattle.tk_top.proofs.Fresh.{fresh}
 use Rattle.tk_top.proofs.making.make_opened.Goals as goal
@@ -24,7 +26,7 @@ returns-in-Err-clause-made g c = λ first h. let s = g.B.S.Space in let b = g.B.
 pub returns-in-Ok-commit-clause-made : goal.returns-in-Ok-commit-clause-made
 returns-in-Ok-commit-clause-made g c = λ first h. let s = g.B.S.Space in let b = g.B.Storage in let old = c.args.space.now in let mid = c.create.new.space in let new = c.commit.new.self in
     let created = c.in-Ok.ensures.created h.0 in
-    let stand : StandFor b.reopens (s.now mid) (with_contents first (g.B.Opens.anew c.args.shape.now)) = record { contents = created.stand; log = c.in-Ok.ensures.usable.log.same h.0 ∙ h.1.log } in
+    let stand : StandFor b.reopens (s.now mid) (with_contents first (g.B.Opens.anew c.args.shape.now)) = record { contents = created.stand; log = c.in-Ok.ensures.usable.others.same h.0 2 g.met.B.Storage.no_logs.1 ∙ h.1.log } in
     making_over b.reopens (g.B.Opens.shaped c.args.shape.now) (g.B.Opens.anew c.args.shape.now) s Done old new first
     (fresh g.B.S.Space old g.met.B.S.Space.only_kept g.met.B.S.Space.clean c.requires.sound c.requires.untouched)
     (g.met.B.S.Space.earlier new) h
@@ -42,7 +44,7 @@ returns-in-Err-commit-clause-made g c = λ first h. let s = g.B.S.Space in let b
     making_over b.reopens (g.B.Opens.shaped c.args.shape.now) (g.B.Opens.anew c.args.shape.now) s VolumeFault old new first
     (fresh g.B.S.Space old g.met.B.S.Space.only_kept g.met.B.S.Space.clean c.requires.sound c.requires.untouched)
     (g.met.B.S.Space.earlier new) h
-    (commit_moves s b.reopens old mid new (with_contents first (g.B.Opens.anew c.args.shape.now)) (c.in-Ok.ensures.keeps.steady h.0) (c.commit.ensures.moments h.0) (record { contents = created.stand; log = c.in-Ok.ensures.usable.log.same h.0 ∙ h.1.log }))
+    (commit_moves s b.reopens old mid new (with_contents first (g.B.Opens.anew c.args.shape.now)) (c.in-Ok.ensures.keeps.steady h.0) (c.commit.ensures.moments h.0) (record { contents = created.stand; log = c.in-Ok.ensures.usable.others.same h.0 2 g.met.B.Storage.no_logs.1 ∙ h.1.log }))
     (λ is. absurd cc) (λ is. absurd cc)
 
 pub returns-in-Err-clause-there : goal.returns-in-Err-clause-there
@@ -53,3 +55,9 @@ returns-in-Ok-commit-clause-there g c = λ t some. absurd (some (nil_from_length
 
 pub returns-in-Err-commit-clause-there : goal.returns-in-Err-commit-clause-there
 returns-in-Err-commit-clause-there g c = λ t some. absurd (some (nil_from_length _ (omega (arith, c.len.ensures t))))
+
+pub returns-in-Err-clause-judged : goal.returns-in-Err-clause-judged
+returns-in-Err-clause-judged g c = let s = g.B.S.Space in let old = c.args.space.now in let new = c.create.new.space in let breaks = BreaksOver s g.B.Opens.breaks_new old new in
+    let empty : s.tells → s.now old 0 ≡ [] = λ t. nil_from_length _ (omega (arith, c.len.ensures t)) in
+    subst (λ (end : End). JudgedMaking end (s.tells → s.now old 0 ≡ []) breaks ((s.tells → s.now old 0 ≡ [] → ⊥) × (new ≡ old))) (sym c.from.ensures)
+    (making_err c.in-Err.e _ _ breaks empty (breaks_over s g.B.Opens.breaks_new c.in-Err.e old new c.in-Err.ensures.broken (λ t some. absurd (some (empty t)))))

@@ -1,12 +1,18 @@
-use Rattle.std.proofs.Common.{inl, inr, ⊎_elim, refl, sym}
+use Rattle.std.proofs.Common.{◌∙◌, inl, inr, ⊎_elim, refl, sym, ap}
 use Rattle.ty_base.specs.Opening.{OpensTo}
+use Rattle.tk_mgr.specs.Managing.{FillsTaskIn}
+use Rattle.tk_top.specs.Staying.{IsDamaged}
 use Rattle.tk_top.specs.Tasks.{IsMisplaced}
 use Rattle.tk_top.proofs.Managed.{full_task_so, judged_task_as, managed_run, managed_unopened, reason_so}
-use Rattle.tk_top.proofs.Named.{limits_so, stands_so}
+use Rattle.tk_top.proofs.Named.{limits_so, names_so, stands_so}
 use Rattle.tk_top.proofs.Fresh.{fresh}
-use Rattle.tk_top.proofs.Staying.{breaks_so, left_alone_so, left_alone_unnamed, task_unnamed}
+use Rattle.tk_top.proofs.Staying.{breaks_so, left_alone_so, left_alone_unnamed, spares_so, spares_unnamed, task_unnamed}
 use Rattle.tk_top.proofs.Stops.{closes}
 use Rattle.tk_top.proofs.managing.manage_files.Goals as goal
+
+pub returns-clause-names : goal.returns-clause-names
+returns-clause-names g c = let end = c.manage_opened-end.new.space in
+    names_so c.in-Ok.ensures.opened end _ (ap g.S.V.Volume.names c.close_over.ensures ∙ sym (g.met.S.OnVolume.is_over end).names_are) c.manage_opened-end.ensures.follows.same_names
 
 pub returns-in-Err-clause-told : goal.returns-in-Err-clause-told
 returns-in-Err-clause-told g c = let b = g.B.Storage in managed_unopened g.O.Sink b.reopens b.lines b.packed c.args.task c.args.kind _ c.args.out.now c.in-Err.ensures.unopened
@@ -42,5 +48,12 @@ returns-clause-full g c = λ is. let o = c.in-Ok.ensures.opened in let end = c.m
   space = end;
   vol_is = sym c.close_over.ensures;
   limits = limits_so o (g.S.Space.limit end) c.manage_opened-end.ensures.follows.same_limit;
-  full = full_task_so o (OpensTo c.args.kind g.B.Storage.reopens) c.args.task (g.B.Storage.fills end) (c.manage_opened-end.ensures.full is);
+  full = full_task_so o (OpensTo c.args.kind g.B.Storage.reopens) c.args.task (FillsTaskIn g.S.Space g.B.Storage.fills g.B.Storage.lacks_large end) (c.manage_opened-end.ensures.full is);
 }
+
+pub returns-in-Err-clause-spared : goal.returns-in-Err-clause-spared
+returns-in-Err-clause-spared g c = spares_unnamed c.in-Err.ensures.unopened (IsDamaged (OpensTo c.args.kind g.B.Storage.reopens))
+
+pub returns-clause-spared : goal.returns-clause-spared
+returns-clause-spared g c = let end = c.manage_opened-end.new.space in
+    spares_so c.in-Ok.ensures.opened (closes g.S.Space g.S.V.Volume g.S.OnVolume.under end _ c.close_over.ensures (g.met.S.OnVolume.is_over end)) (λ x. fresh g.S.Space x g.met.S.Space.only_kept g.met.S.Space.clean) (g.met.S.V.Volume.now_is_image c.args.vol) (IsDamaged (OpensTo c.args.kind g.B.Storage.reopens)) c.manage_opened-end.result c.manage_opened-end.ensures.spared

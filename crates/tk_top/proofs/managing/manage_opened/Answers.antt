@@ -6,7 +6,8 @@ use Rattle.tk_top.specs.Staying.{BreaksOver}
 use Rattle.tk_top.specs.Tasks.{IsMisplaced, JudgedTask, ManagesOver, ReasonOver, is_refused_by}
 use Rattle.tk_top.specs.declared.ends.End.{End}
 use Rattle.ty_base.specs.declared.errors.AnyErr.TheVariants as any
-use Rattle.tk_top.proofs.Kept.{full_err}
+use Rattle.tc_space.specs.Frames.{only_reads_refl}
+use Rattle.tk_top.proofs.Kept.{full_err, still_same}
 use Rattle.tk_top.proofs.Managed.{full_is, judged_begun, over_managed, over_misplaced, over_unopened, placed_writes}
 use Rattle.tk_top.proofs.Fresh.{fresh}
 use Rattle.tk_top.proofs.managing.manage_opened.Goals as goal
@@ -44,8 +45,8 @@ returns-clause-told g c = let s = g.B.S.Space in let b = g.B.Storage in let old 
     (fresh g.B.S.Space old g.met.B.S.Space.only_kept g.met.B.S.Space.clean c.requires.sound c.requires.untouched)
     (fresh g.B.S.Space mid g.met.B.S.Space.only_kept g.met.B.S.Space.clean c.in-Ok.ensures.opened.ready.sound c.in-Ok.ensures.opened.untouched)
     (g.met.B.S.Space.earlier c.manage.new.space) c.open_kept.ensures.moments c.in-Ok.ensures.opened.marks
-    (λ t w i f. c.in-Ok.ensures.same t (subst (λ (e : Bool). is_refused_by e (s.now old 0) → ⊥) w (placed t)) f i)
-    placed c.manage.ensures.managed c.manage.ensures.packs)
+    (λ t w. still_same (g.B.Opens.shaped g.B.Opens.usual) (s.now old) (s.now mid) (c.in-Ok.ensures.still t) (subst (λ (e : Bool). is_refused_by e (s.now old 0) → ⊥) w (placed t)))
+    placed c.manage.ensures.reads c.manage.ensures.managed c.manage.ensures.packs)
 
 pub returns-clause-judged : goal.returns-clause-judged
 returns-clause-judged g c = let s = g.B.S.Space in let opens = OpensTo c.args.kind g.B.Storage.reopens in let old = c.args.space.now in
@@ -90,5 +91,14 @@ pub returns-in-Err-clause-full : goal.returns-in-Err-clause-full
 returns-in-Err-clause-full g c = λ is. let s = g.B.S.Space in let old = c.args.space.now in let e : c.in-Err.e ≡ any.Full = full_err c.in-Err.e (sym c.from.ensures ∙ is) in
     let placed : s.tells → IsMisplaced c.args.task (s.now old) → ⊥ = λ t m. c.if-not-is_placed.ensures.yes (search rules) (s.now old 0) (c.len.ensures t) (subst (λ (b : Bool). is_refused_by b (s.now old 0)) (sym c.wants_empty.ensures) m) in record {
       writes = λ t. placed_writes c.args.task (s.now old) (placed t) (c.in-Err.ensures.full (search rules) t).empty;
-      which = inl (λ t. let new = c.in-Err.ensures.full (search rules) t in (new.contents, new.stand, new.full));
+      which = inl (λ t. let new = c.in-Err.ensures.full (search rules) t in (new.empty, new.full));
     }
+
+pub returns-then-not-is_placed-clause-spared : goal.returns-then-not-is_placed-clause-spared
+returns-then-not-is_placed-clause-spared g c = λ t damaged. only_reads_refl g.B.S.Space c.args.space.now c.requires.sound
+
+pub returns-in-Err-clause-spared : goal.returns-in-Err-clause-spared
+returns-in-Err-clause-spared g c = c.open_kept.ensures.spared
+
+pub returns-clause-spared : goal.returns-clause-spared
+returns-clause-spared g c = λ t damaged. let x = c.in-Ok.ensures.stands t in absurd (damaged.none x.0 x.1)

@@ -5,7 +5,8 @@ use Rattle.ty_rounds.specs.declared.outcome.TurnErr.TheVariants as turn
 use Rattle.tk_top.specs.Causes.{Caused}
 use Rattle.tk_top.specs.Ends.{IsEnd}
 use Rattle.tk_top.specs.Runs.{Ends}
-use Rattle.tk_top.proofs.Causes.{caused_turn, full_turn, is_end_turn}
+use Rattle.tk_top.specs.Over.{IsOut}
+use Rattle.tk_top.proofs.Causes.{caused_turn, full_turn, is_end_turn, not_out}
 use Rattle.tk_top.proofs.Running.{run_err, run_fills, run_more, run_shut, run_spent, run_start, turn_is}
 use Rattle.tk_top.proofs.Fresh.{fresh}
 use Rattle.tk_top.proofs.serving.serve.Goals as goal
@@ -13,7 +14,7 @@ use Rattle.tk_top.proofs.serving.serve.Goals as goal
 pub loop-done-init : goal.loop-done-init
 loop-done-init g c = let s = g.B.S.Space in let w = g.W.Wire in record {
   ready = c.requires.ready;
-  told = run_start s w g.B.Storage.holds g.B.Storage.reopens _ _ _ _ _ c.requires.walk c.requires.peers;
+  told = run_start s w g.B.Storage.holds g.B.Storage.reopens _ _ _ _ _ c.requires.ready.base_is.sound c.requires.walk c.requires.peers;
   later_wire = omega arith;
   follows = follows_refl s c.args.space.now;
 }
@@ -56,3 +57,12 @@ returns-clause-told g c = let s = g.B.S.Space in let w = g.W.Wire in let ready =
     run_spent s w g.B.Storage.holds g.B.Storage.reopens _ _ _ _ _ _ _ _ c.loop-done._done c.args.turns all
     (fresh g.B.S.Space c.loop-done.space g.met.B.S.Space.only_kept g.met.B.S.Space.clean ready.base_is.sound ready.untouched)
     c.loop-done.invariant.told
+
+pub returns-in-Shut-clause-sound : goal.returns-in-Shut-clause-sound
+returns-in-Shut-clause-sound g c = λ out. c.in-Ok.ensures.ready.base_is.sound
+
+pub returns-in-Err-clause-sound : goal.returns-in-Err-clause-sound
+returns-in-Err-clause-sound g c = λ out. absurd (not_out c.in-Err.e (subst IsOut c.from.ensures out))
+
+pub returns-clause-sound : goal.returns-clause-sound
+returns-clause-sound g c = λ out. c.loop-done.invariant.ready.base_is.sound
