@@ -2,8 +2,9 @@
 ghost use Rattle.std.specs.Prelude.{◌≡◌, ℕ, List, Ok};
 ghost use Rattle.ty_memc.specs.Reading.{text_at};
 
+use crate::behind::{begun, is_behind};
 use crate::texts::command_at;
-use play_text::{Line, Pattern, Wrong, shown, told};
+use play_text::{Line, Pattern, Wrong};
 use std::alloc::{AllocError, Global};
 use tc_base::Blob;
 use ty_memc::{Text, Then, answer, asked_key, spell_update, write_error, write_value};
@@ -42,16 +43,6 @@ fn some_up_to(line: &mut Line<'_>, mark: &str) -> Result<Option<Pattern>, Wrong>
     Err(Wrong::Unread)
 }
 
-// Bytes are as they are to be, or there are none.
-fn told_if(alloc: Global, wanted: &Option<Pattern>, found: Option<&[u8]>) -> Result<(), Wrong> {
-    match (wanted, found) {
-        (Some(wanted), Some(found)) => told(alloc, wanted, found),
-        (None, None) => Ok(()),
-        (Some(_), None) => Err(Wrong::Not("nothing is asked")),
-        (None, Some(found)) => Err(Wrong::Differs(shown(alloc, found)?)),
-    }
-}
-
 fn slice_of(bytes: &Option<Pattern>) -> Option<&[u8]> {
     match bytes {
         Some(bytes) => Some(bytes.as_slice()),
@@ -75,8 +66,8 @@ pub fn is_then(alloc: Global, line: &mut Line<'_>) -> Result<(), Wrong> {
     let reply = line.bytes()?;
     let text = command_at(alloc, bytes.as_slice())?;
     let asked = asked_of(alloc, text, slice_of(&held))?;
-    told_if(alloc, &request, blob_slice(&asked.request))?;
-    told(alloc, &reply, asked.reply.as_slice())
+    line.told_if(request.as_ref(), blob_slice(&asked.request))?;
+    line.told(&reply, asked.reply.as_slice())
 }
 
 /// `asks BYTES => KEY`: the key whose value a text command asks for first, `-` where it asks for none.
@@ -84,17 +75,8 @@ pub fn asks(alloc: Global, line: &mut Line<'_>) -> Result<(), Wrong> {
     let bytes = line.given()?;
     let text = command_at(alloc, bytes.as_slice())?;
     match asked_key(alloc, &text)? {
-        Some(key) => told(alloc, &line.bytes()?, key.as_slice()),
-        None if line.rest() == "-" => Ok(()),
-        None => Err(Wrong::Not("no key is asked for")),
-    }
-}
-
-// Bytes that were written behind `..` are as they are to be.
-fn is_behind(alloc: Global, wanted: &Pattern, all: &Blob) -> Result<(), Wrong> {
-    match all.as_slice().strip_prefix(b"..") {
-        Some(found) => told(alloc, wanted, found),
-        None => Err(Wrong::Not("what stood there is gone")),
+        Some(key) => line.is_bytes(key.as_slice()),
+        None => line.is_text(String::from_str(alloc, "-")?),
     }
 }
 
@@ -102,9 +84,10 @@ fn is_behind(alloc: Global, wanted: &Pattern, all: &Blob) -> Result<(), Wrong> {
 pub fn is_value(alloc: Global, line: &mut Line<'_>) -> Result<(), Wrong> {
     let key = line.bytes_up_to(" = ")?;
     let value = line.given()?;
-    let mut all = Blob::from_slice(alloc, b"..")?;
+    let wanted = line.bytes()?;
+    let mut all = begun(alloc)?;
     write_value(key.as_slice(), value.as_slice(), &mut all)?;
-    is_behind(alloc, &line.bytes()?, &all)
+    is_behind(line, &wanted, &all)
 }
 
 /// `error quiet|loud => BYTES`: the reply where a request fails, as it is written behind other bytes.
@@ -115,7 +98,7 @@ pub fn is_error(alloc: Global, line: &mut Line<'_>) -> Result<(), Wrong> {
         _ => return Err(Wrong::Unread),
     };
     let wanted = line.wanted()?;
-    let mut all = Blob::from_slice(alloc, b"..")?;
+    let mut all = begun(alloc)?;
     write_error(quiet, &mut all)?;
-    is_behind(alloc, &wanted, &all)
+    is_behind(line, &wanted, &all)
 }

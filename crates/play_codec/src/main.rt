@@ -3,6 +3,7 @@
 #![tactic(auto)]
 
 mod answers;
+mod behind;
 mod blocks;
 mod commands;
 mod heads;
@@ -12,13 +13,14 @@ mod slots;
 mod tables;
 mod telling;
 mod texts;
+mod told;
 mod wire;
 
-use play_text::play_files;
+use play_text::play_inputs;
 use std::io;
 use std::process::ExitCode;
 use tables::Tables;
 
 fn main(rt: HostRuntime) -> io::Result<ExitCode> {
-    play_files(&rt, &mut Tables::new(rt.alloc()))
+    play_inputs(&rt, &mut Tables::new(rt.alloc()))
 }

@@ -1,23 +1,21 @@
 //! Numbers, their fields, hashes and decimal texts.
 ghost use Rattle.std.specs.Prelude.{◌≡◌, ◌<◌, ◌≤◌, ◌^◌, length, IfOk};
 
-use play_text::{Line, Wrong, is_same, told};
+use crate::behind::{begun, is_behind};
+use play_text::{Line, Wrong};
 use std::alloc::Global;
 use tc_base::{
-    Blob, bucket_of, get_be, get_le, number_of, put_vnum, read_le, read_number, read_vnum,
-    second_hash, set_be, set_le, vnum_len,
+    bucket_of, get_be, get_le, number_of, put_vnum, read_le, read_number, read_vnum, second_hash,
+    set_be, set_le, vnum_len,
 };
 
 /// `spelled N => BYTES`: a varying number as it is written behind other bytes, and how long it is.
 pub fn is_spelled(alloc: Global, line: &mut Line<'_>) -> Result<(), Wrong> {
     let number = line.number()?;
     let wanted = line.wanted()?;
-    let mut into = Blob::from_slice(alloc, b"x")?;
+    let mut into = begun(alloc)?;
     put_vnum(number, &mut into)?;
-    let Some(found) = into.as_slice().strip_prefix(b"x") else {
-        return Err(Wrong::Not("what stood there is gone"));
-    };
-    told(alloc, &wanted, found)?;
+    is_behind(line, &wanted, &into)?;
     if vnum_len(number) == wanted.len() {
         Ok(())
     } else {
@@ -28,23 +26,19 @@ pub fn is_spelled(alloc: Global, line: &mut Line<'_>) -> Result<(), Wrong> {
 /// `vnum BYTES => READ`: what is read, with how many bytes it takes.
 pub fn is_vnum(alloc: Global, line: &mut Line<'_>) -> Result<(), Wrong> {
     let bytes = line.given()?;
-    is_same(
-        alloc,
-        line.rest(),
-        format!(in alloc; "{:?}", read_vnum(bytes.as_slice()))?,
-    )
+    line.is_text(format!(in alloc; "{:?}", read_vnum(bytes.as_slice()))?)
 }
 
 /// `number WIDTH BYTES => READ`: what is read, with what stands behind it. The number has that width, its least byte first, or varies where that is 0.
 pub fn is_number(alloc: Global, line: &mut Line<'_>) -> Result<(), Wrong> {
-    let width = line.number()?;
+    let width = line.within(0, 8)?;
     let bytes = line.given()?;
-    let read = if width < 1 || width > 8 {
+    let read = if width < 1 {
         format!(in alloc; "{:?}", read_number(bytes.as_slice()))?
     } else {
         format!(in alloc; "{:?}", read_le(width as usize, bytes.as_slice()))?
     };
-    is_same(alloc, line.rest(), read)
+    line.is_text(read)
 }
 
 // A place and a width within bytes.
@@ -64,11 +58,8 @@ fn field_of(line: &mut Line<'_>) -> Result<Field, Wrong>
         "be" => false,
         _ => return Err(Wrong::Unread),
     };
-    let at = line.number()?;
-    let width = line.number()?;
-    if width < 1 || width > 8 || at > 1024 {
-        return Err(Wrong::Unread);
-    }
+    let at = line.within(0, 1024)?;
+    let width = line.within(1, 8)?;
     Ok(Field {
         at: at as usize,
         width: width as usize,
@@ -89,7 +80,7 @@ pub fn is_field(alloc: Global, line: &mut Line<'_>) -> Result<(), Wrong> {
     } else {
         get_be(bytes, field.at, field.width)
     };
-    is_same(alloc, line.rest(), format!(in alloc; "{found}")?)
+    line.is_text(format!(in alloc; "{found}")?)
 }
 
 /// `set le|be PLACE WIDTH NUMBER BYTES => BYTES`: what bytes are once a field holds a number of up to four bytes.
@@ -107,7 +98,7 @@ pub fn is_set(alloc: Global, line: &mut Line<'_>) -> Result<(), Wrong> {
     } else {
         set_be(&mut bytes, field.at, field.width, number);
     }
-    told(alloc, &line.bytes()?, &bytes)
+    line.is_bytes(&bytes)
 }
 
 // How many numbers so many bytes hold; none is held by more than four.
@@ -126,23 +117,15 @@ fn limit_of(width: usize) -> u64
 
 /// `hash BUCKETS KEY => BUCKET SECOND`: where a key stands, and its second hash.
 pub fn is_hash(alloc: Global, line: &mut Line<'_>) -> Result<(), Wrong> {
-    let buckets = line.number()?.max(1);
+    let buckets = line.within(1, u64::MAX)?;
     let key = line.given()?;
     let bucket = bucket_of(key.as_slice(), buckets);
     let second = second_hash(key.as_slice());
-    is_same(
-        alloc,
-        line.rest(),
-        format!(in alloc; "{bucket} {second:#04x}")?,
-    )
+    line.is_text(format!(in alloc; "{bucket} {second:#04x}")?)
 }
 
 /// `decimal BYTES => NUMBER`: the number that a text begins with, in parts of 10^9.
 pub fn is_decimal(alloc: Global, line: &mut Line<'_>) -> Result<(), Wrong> {
     let text = line.given()?;
-    is_same(
-        alloc,
-        line.rest(),
-        format!(in alloc; "{}", number_of(text.as_slice()))?,
-    )
+    line.is_text(format!(in alloc; "{}", number_of(text.as_slice()))?)
 }

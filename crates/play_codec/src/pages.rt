@@ -1,7 +1,7 @@
 //! Pages of trees, and the keys of their records.
 
 use bt_page::{Item, Leaf, Node, page_id, page_key, read_leaf, read_node, write_leaf, write_node};
-use play_text::{Line, Wrong, is_same, told};
+use play_text::{Line, Wrong};
 use std::alloc::{AllocError, Global};
 use tc_base::Blob;
 
@@ -32,11 +32,11 @@ pub fn is_leaf(alloc: Global, line: &mut Line<'_>) -> Result<(), Wrong> {
     };
     let mut into = Blob::new(alloc);
     write_leaf(&leaf, &mut into)?;
-    told(alloc, &bytes, into.as_slice())?;
+    line.told(&bytes, into.as_slice())?;
     if line.number()? != leaf.prev || line.number()? != leaf.next {
         return Err(Wrong::Not("other links"));
     }
-    told(alloc, &line.bytes()?, items_of(alloc, &leaf)?.as_slice())
+    line.is_bytes(items_of(alloc, &leaf)?.as_slice())
 }
 
 // The heir and the entries of a node as text.
@@ -57,8 +57,8 @@ pub fn is_node(alloc: Global, line: &mut Line<'_>) -> Result<(), Wrong> {
     };
     let mut into = Blob::new(alloc);
     write_node(&node, &mut into)?;
-    told(alloc, &bytes, into.as_slice())?;
-    is_same(alloc, line.rest(), entries_of(alloc, &node)?)
+    line.told(&bytes, into.as_slice())?;
+    line.is_text(entries_of(alloc, &node)?)
 }
 
 /// `no_page leaf|node BYTES`: bytes that are no such page.
@@ -70,7 +70,7 @@ pub fn is_page(alloc: Global, line: &mut Line<'_>) -> Result<(), Wrong> {
         "node" => read_node(alloc, bytes.as_slice()).err(),
         _ => return Err(Wrong::Unread),
     };
-    is_same(alloc, "Some(Bad)", format!(in alloc; "{read:?}")?)
+    line.is_same("Some(Bad)", format!(in alloc; "{read:?}")?)
 }
 
 /// `page_key ID => BYTES`: the key of a page's record.
@@ -78,15 +78,12 @@ pub fn is_key(alloc: Global, line: &mut Line<'_>) -> Result<(), Wrong> {
     let id = line.number()?;
     let mut into = Blob::new(alloc);
     page_key(id, &mut into)?;
-    told(alloc, &line.wanted()?, into.as_slice())
+    let wanted = line.wanted()?;
+    line.told(&wanted, into.as_slice())
 }
 
 /// `page_id BYTES => ID`: the page that a key names.
 pub fn is_id(alloc: Global, line: &mut Line<'_>) -> Result<(), Wrong> {
     let key = line.given()?;
-    is_same(
-        alloc,
-        line.rest(),
-        format!(in alloc; "{:?}", page_id(key.as_slice()))?,
-    )
+    line.is_text(format!(in alloc; "{:?}", page_id(key.as_slice()))?)
 }

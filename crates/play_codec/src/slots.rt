@@ -3,18 +3,9 @@ ghost use Rattle.std.specs.Prelude.{◌≡◌};
 
 use bt_page::PageErr;
 use bt_slots::{SlottedLeaf, SlottedNode};
-use play_text::{Line, Wrong, is_same, told};
+use play_text::{Line, Wrong};
 use std::alloc::{AllocError, Global};
 use tc_base::Blob;
-
-/// What a line did that was played.
-#[derive(Clone, Copy, PartialEq, Eq)]
-pub enum Played {
-    /// It compared something.
-    Compared,
-    /// It made what later lines compare.
-    Prepared,
-}
 
 /// The leaf of a case.
 #[derive(Drop)]
@@ -109,12 +100,27 @@ fn is_itself(alloc: Global, leaf: &SlottedLeaf, bytes: &[u8]) -> Result<bool, Al
 }
 
 // Bytes are no leaf.
-fn is_none(read: Result<SlottedLeaf, PageErr>) -> Result<Played, Wrong> {
+fn is_none(line: &mut Line<'_>, read: Result<SlottedLeaf, PageErr>) -> Result<(), Wrong> {
+    line.compares();
     match read {
         Ok(_) => Err(Wrong::Not("a leaf")),
-        Err(PageErr::Bad) => Ok(Played::Compared),
+        Err(PageErr::Bad) => Ok(()),
         Err(PageErr::Memory) => Err(Wrong::Memory),
     }
+}
+
+// Looks at the item at a place: `item PLACE COUNT KEY = FIRST`.
+fn is_item(leaf: &SlottedLeaf, line: &mut Line<'_>) -> Result<(), Wrong> {
+    let place = line.small()? as usize;
+    if place >= leaf.len() {
+        return Err(Wrong::Unread);
+    }
+    if leaf.count(place) != line.number()? {
+        return Err(Wrong::Not("another count"));
+    }
+    let key = line.bytes_up_to(" = ")?;
+    line.told(&key, leaf.key(place))?;
+    line.is_bytes(leaf.first_value(place))
 }
 
 impl SlotsOf {
@@ -126,13 +132,16 @@ impl SlotsOf {
         }
     }
 
-    /// Whether the leaf was changed, and no line has looked at its bytes since.
-    pub fn is_changed(&self) -> bool {
-        self.is_changed
+    /// Each change was looked at: the leaf's bytes were, since it was changed.
+    pub fn is_told(&self) -> Result<(), Wrong> {
+        if self.is_changed {
+            return Err(Wrong::Not("a change that nothing is said of"));
+        }
+        Ok(())
     }
 
     // Keeps a leaf that was read from its bytes.
-    fn keep(&mut self, read: Result<SlottedLeaf, PageErr>, bytes: &[u8]) -> Result<Played, Wrong> {
+    fn keep(&mut self, read: Result<SlottedLeaf, PageErr>, bytes: &[u8]) -> Result<(), Wrong> {
         let Ok(leaf) = read else {
             return Err(Wrong::Not("no leaf"));
         };
@@ -140,45 +149,30 @@ impl SlotsOf {
             return Err(Wrong::Not("other bytes"));
         }
         self.leaf = Some(leaf);
-        Ok(Played::Prepared)
+        Ok(())
     }
 
     // Takes a leaf; `slots none BYTES` are bytes of none.
-    fn take(&mut self, line: &mut Line<'_>) -> Result<Played, Wrong> {
-        if self.is_changed {
-            return Err(Wrong::Not("a change that nothing is said of"));
-        }
+    fn take(&mut self, line: &mut Line<'_>) -> Result<(), Wrong> {
+        self.is_told()?;
         let wanted = line.word();
         let bytes = line.bytes()?;
         let read = SlottedLeaf::read(self.alloc, Blob::from_slice(self.alloc, bytes.as_slice())?);
         match wanted {
             "leaf" => self.keep(read, bytes.as_slice()),
-            "none" => is_none(read),
+            "none" => is_none(line, read),
             _ => Err(Wrong::Unread),
         }
     }
 
     // Changes the leaf.
-    fn change(&mut self, line: &mut Line<'_>) -> Result<Played, Wrong> {
+    fn change(&mut self, line: &mut Line<'_>) -> Result<(), Wrong> {
         let Some(leaf) = self.leaf.take() else {
             return Err(Wrong::Unread);
         };
         self.leaf = Some(changed(self.alloc, leaf, line)?);
         self.is_changed = true;
-        Ok(Played::Prepared)
-    }
-
-    // Looks at the item at a place: `item PLACE COUNT KEY = FIRST`.
-    fn is_item(&self, leaf: &SlottedLeaf, line: &mut Line<'_>) -> Result<(), Wrong> {
-        let place = line.small()? as usize;
-        if place >= leaf.len() {
-            return Err(Wrong::Unread);
-        }
-        if leaf.count(place) != line.number()? {
-            return Err(Wrong::Not("another count"));
-        }
-        told(self.alloc, &line.bytes_up_to(" = ")?, leaf.key(place))?;
-        told(self.alloc, &line.bytes()?, leaf.first_value(place))
+        Ok(())
     }
 
     // Looks at the leaf.
@@ -187,7 +181,7 @@ impl SlotsOf {
             return Err(Wrong::Unread);
         };
         match what {
-            "now" => told(self.alloc, &line.bytes()?, leaf.as_slice()),
+            "now" => line.is_bytes(leaf.as_slice()),
             "links" => {
                 let text = format!(in self.alloc;
                     "{} {} {} {}",
@@ -196,21 +190,21 @@ impl SlotsOf {
                     leaf.len(),
                     leaf.items_len()
                 )?;
-                is_same(self.alloc, line.rest(), text)
+                line.is_text(text)
             }
-            _ => self.is_item(leaf, line),
+            _ => is_item(leaf, line),
         }
     }
 
     /// Plays a line.
-    pub fn play(&mut self, what: &str, line: &mut Line<'_>) -> Result<Played, Wrong> {
+    pub fn play(&mut self, what: &str, line: &mut Line<'_>) -> Result<(), Wrong> {
         match what {
             "slots" => self.take(line),
             "change" => self.change(line),
             _ => {
                 self.look(what, line)?;
                 self.is_changed = self.is_changed && what != "now";
-                Ok(Played::Compared)
+                Ok(())
             }
         }
     }
@@ -232,9 +226,9 @@ pub fn is_slotted_node(alloc: Global, line: &mut Line<'_>) -> Result<(), Wrong> 
     match SlottedNode::read(alloc, Blob::from_slice(alloc, bytes.as_slice())?) {
         Ok(node) => {
             let again = SlottedNode::of(alloc, &node.to_node(alloc)?)?;
-            told(alloc, &bytes, again.as_slice())?;
-            is_same(alloc, line.rest(), text_of(alloc, &node)?)
+            line.told(&bytes, again.as_slice())?;
+            line.is_text(text_of(alloc, &node)?)
         }
-        Err(e) => is_same(alloc, line.rest(), format!(in alloc; "{e:?}")?),
+        Err(e) => line.is_text(format!(in alloc; "{e:?}")?),
     }
 }

@@ -5,13 +5,13 @@ use crate::blocks::{is_block, is_record};
 use crate::heads::{is_fixed, is_head, is_tree};
 use crate::numbers::{is_decimal, is_field, is_hash, is_number, is_set, is_spelled, is_vnum};
 use crate::pages::{is_id, is_key, is_leaf, is_node, is_page};
-use crate::slots::{Played, SlotsOf, is_slotted_node};
+use crate::slots::{SlotsOf, is_slotted_node};
 use crate::telling::asked;
 use crate::texts::{awaits, is_part, is_piece, is_said, is_the_end};
 use crate::wire::{
     agrees_in_pieces, has_limit, is_bad, is_reply, is_request, is_text, is_whole, wants,
 };
-use play_text::{Line, Player, Script, Wrong, is_same, words_of};
+use play_text::{Line, Player, Script, Wrong, words_of};
 use std::alloc::Global;
 
 /// What plays tables.
@@ -29,7 +29,7 @@ impl Tables {
 // Looks at words and what they ask for.
 fn is_order(alloc: Global, line: &mut Line<'_>) -> Result<(), Wrong> {
     let words = words_of(alloc, line.up_to(" => ")?)?;
-    is_same(alloc, line.rest(), asked(alloc, &words)?)
+    line.is_text(asked(alloc, &words)?)
 }
 
 // Looks at a line of numbers.
@@ -42,12 +42,12 @@ fn number_line(alloc: Global, what: &str, line: &mut Line<'_>) -> Result<(), Wro
         "set" => is_set(alloc, line),
         "hash" => is_hash(alloc, line),
         "decimal" => is_decimal(alloc, line),
-        _ => page_line(alloc, what, line),
+        _ => head_line(alloc, what, line),
     }
 }
 
-// Looks at a line of heads, blocks and pages.
-fn page_line(alloc: Global, what: &str, line: &mut Line<'_>) -> Result<(), Wrong> {
+// Looks at a line of heads and blocks.
+fn head_line(alloc: Global, what: &str, line: &mut Line<'_>) -> Result<(), Wrong> {
     match what {
         "head" => is_head(alloc, line, true),
         "head_read" => is_head(alloc, line, false),
@@ -57,6 +57,13 @@ fn page_line(alloc: Global, what: &str, line: &mut Line<'_>) -> Result<(), Wrong
         "large_block" => is_block(alloc, line, true),
         "record" => is_record(alloc, line, false),
         "large_record" => is_record(alloc, line, true),
+        _ => page_line(alloc, what, line),
+    }
+}
+
+// Looks at a line of pages.
+fn page_line(alloc: Global, what: &str, line: &mut Line<'_>) -> Result<(), Wrong> {
+    match what {
         "leaf" => is_leaf(alloc, line),
         "node" => is_node(alloc, line),
         "no_page" => is_page(alloc, line),
@@ -75,14 +82,14 @@ fn wire_line(alloc: Global, what: &str, line: &mut Line<'_>) -> Result<(), Wrong
         "limit" => has_limit(alloc, line),
         "wants" => wants(alloc, line),
         "in_pieces" => agrees_in_pieces(alloc, line),
-        "whole" => is_whole(alloc, line),
+        "whole" => is_whole(line),
         "text" => is_text(alloc, line),
         "reply" => is_reply(alloc, line),
         _ => text_line(alloc, what, line),
     }
 }
 
-// Looks at a line of text commands, or of words.
+// Looks at a line of text commands and of pieces.
 fn text_line(alloc: Global, what: &str, line: &mut Line<'_>) -> Result<(), Wrong> {
     match what {
         "said" => is_said(alloc, line),
@@ -90,6 +97,13 @@ fn text_line(alloc: Global, what: &str, line: &mut Line<'_>) -> Result<(), Wrong
         "ends" => is_the_end(alloc, line),
         "awaits" => awaits(alloc, line),
         "piece" => is_piece(alloc, line),
+        _ => answer_line(alloc, what, line),
+    }
+}
+
+// Looks at a line of what a text command asks and is answered, or of words.
+fn answer_line(alloc: Global, what: &str, line: &mut Line<'_>) -> Result<(), Wrong> {
+    match what {
         "asks" => asks(alloc, line),
         "then" => is_then(alloc, line),
         "value" => is_value(alloc, line),
@@ -105,35 +119,22 @@ fn line_of(
     slots: &mut SlotsOf,
     what: &str,
     line: &mut Line<'_>,
-) -> Result<Played, Wrong> {
+) -> Result<(), Wrong> {
     match what {
         "slots" | "change" | "now" | "links" | "item" => slots.play(what, line),
-        _ => {
-            number_line(alloc, what, line)?;
-            Ok(Played::Compared)
-        }
+        _ => number_line(alloc, what, line),
     }
-}
-
-// Plays the lines of a case, and answers whether they say anything: some line compared something, and what was changed was looked at.
-fn says_something(alloc: Global, script: &mut Script<'_>) -> Result<bool, Wrong> {
-    let mut slots = SlotsOf::new(alloc);
-    let mut compared = false;
-    for _ in 0..script.len() {
-        if let Some((what, mut line)) = script.next_line() {
-            let played = line_of(alloc, &mut slots, what, &mut line)?;
-            compared = compared || played == Played::Compared;
-        }
-    }
-    Ok(compared && !slots.is_changed())
 }
 
 impl Player for Tables {
     fn play(&mut self, script: &mut Script<'_>) -> Result<(), Wrong> {
-        if says_something(self.alloc, script)? {
-            Ok(())
-        } else {
-            Err(Wrong::Not("says nothing"))
+        let mut slots = SlotsOf::new(self.alloc);
+        for _ in 0..script.len() {
+            if let Some((what, mut line)) = script.next_line() {
+                line_of(self.alloc, &mut slots, what, &mut line)?;
+                script.end(line)?;
+            }
         }
+        slots.is_told()
     }
 }

@@ -1,6 +1,8 @@
 //! What words ask for, as text.
+
+use crate::told::Told;
 use std::alloc::{AllocError, Global};
-use tc_base::{Blob, Blobs, Kind};
+use tc_base::{Blob, Kind, Pair};
 use tk_words::{CommandLine, PutWord, parse};
 
 fn kind_word(kind: Kind) -> &'static str {
@@ -23,33 +25,47 @@ fn put_word(word: PutWord) -> &'static str {
     }
 }
 
-fn text(alloc: Global, blob: &Blob) -> Result<String, AllocError> {
-    match std::str::from_utf8(blob.as_slice()) {
-        Ok(text) => format!(in alloc; "[{text}]"),
-        Err(_) => String::from_str(alloc, "not text"),
-    }
+// A command, and the file that it is of.
+fn tell_command(command: &str, kind: Kind, name: &str, told: &mut Told) {
+    told.word(command);
+    told.word(kind_word(kind));
+    told.word(name);
 }
 
-fn all(alloc: Global, blobs: &Blobs) -> Result<String, AllocError> {
-    let mut told = String::new(alloc);
-    for blob in blobs.as_slice() {
-        told.push_str(text(alloc, blob)?.as_str())?;
-    }
-    Ok(told)
-}
-
-fn most(alloc: Global, maximum: &Option<u32>) -> Result<String, AllocError> {
+// A number at most, or `all`.
+fn tell_most(maximum: Option<u32>, told: &mut Told) {
+    told.word("most");
     match maximum {
-        Some(n) => format!(in alloc; "{n}"),
-        None => String::from_str(alloc, "all"),
+        Some(most) => told.numbers(&[u64::from(most)]),
+        None => told.word("all"),
     }
 }
 
-fn tell_table(alloc: Global, order: &CommandLine) -> Result<String, AllocError> {
+// A master's host, or `none`.
+fn tell_master(host: &Option<Blob>, told: &mut Told) {
+    told.word("master");
+    match host {
+        Some(host) => told.text(host),
+        None => told.word("none"),
+    }
+}
+
+// A column and how it sorts, or `none`.
+fn tell_sort(sort: &Option<Pair>, told: &mut Told) {
+    told.word("sort");
+    match sort {
+        Some(pair) => told.pair(pair),
+        None => told.word("none"),
+    }
+}
+
+fn tell_table(order: &CommandLine, told: &mut Told) {
     match order {
         CommandLine::SetIndex { name, column, code } => {
-            let column = text(alloc, column)?;
-            format!(in alloc; "setindex {} {column} {code}", name.as_str())
+            told.word("setindex");
+            told.word(name.as_str());
+            told.text(column);
+            told.numbers(&[u64::from(*code)]);
         }
         CommandLine::Search {
             name,
@@ -60,32 +76,21 @@ fn tell_table(alloc: Global, order: &CommandLine) -> Result<String, AllocError> 
             values,
             remove,
         } => {
-            let triples = all(alloc, triples)?;
-            let most = most(alloc, maximum)?;
-            let sort = match sort {
-                Some(pair) => {
-                    let column = text(alloc, &pair.key)?;
-                    let way = text(alloc, &pair.value)?;
-                    format!(in alloc; "{column}{way}")?
-                }
-                None => String::from_str(alloc, "none")?,
-            };
-            format!(in alloc;
-                "search {} {triples} sort {sort} most {most} skip {skip} values {values} remove {remove}",
-                name.as_str()
-            )
+            told.word("search");
+            told.word(name.as_str());
+            told.texts(triples);
+            tell_sort(sort, told);
+            tell_most(*maximum, told);
+            told.named("skip", u64::from(*skip));
+            told.is("values", *values);
+            told.is("remove", *remove);
         }
-        _ => String::from_str(alloc, "other"),
+        _ => told.word("other"),
     }
 }
 
-fn tell_file(alloc: Global, order: &CommandLine) -> Result<String, AllocError> {
+fn tell_record(order: &CommandLine, told: &mut Told) {
     match order {
-        CommandLine::Inform { kind, name } => format!(in alloc;
-            "inform {} {}",
-            kind_word(*kind),
-            name.as_str()
-        ),
         CommandLine::Put {
             kind,
             name,
@@ -93,22 +98,27 @@ fn tell_file(alloc: Global, order: &CommandLine) -> Result<String, AllocError> {
             key,
             values,
         } => {
-            let key = text(alloc, key)?;
-            let values = all(alloc, values)?;
-            format!(in alloc;
-                "put {} {} {} {key} {values}",
-                kind_word(*kind),
-                name.as_str(),
-                put_word(*word)
-            )
+            tell_command("put", *kind, name.as_str(), told);
+            told.word(put_word(*word));
+            told.text(key);
+            told.texts(values);
         }
         CommandLine::Out { kind, name, key } => {
-            let key = text(alloc, key)?;
-            format!(in alloc; "out {} {} {key}", kind_word(*kind), name.as_str())
+            tell_command("out", *kind, name.as_str(), told);
+            told.text(key);
         }
         CommandLine::Get { kind, name, key } => {
-            let key = text(alloc, key)?;
-            format!(in alloc; "get {} {} {key}", kind_word(*kind), name.as_str())
+            tell_command("get", *kind, name.as_str(), told);
+            told.text(key);
+        }
+        _ => tell_table(order, told),
+    }
+}
+
+fn tell_file(order: &CommandLine, told: &mut Told) {
+    match order {
+        CommandLine::Inform { kind, name } => {
+            tell_command("inform", *kind, name.as_str(), told);
         }
         CommandLine::List {
             kind,
@@ -116,34 +126,33 @@ fn tell_file(alloc: Global, order: &CommandLine) -> Result<String, AllocError> {
             maximum,
             values,
         } => {
-            let most = most(alloc, maximum)?;
-            format!(in alloc;
-                "list {} {} most {most} values {values}",
-                kind_word(*kind),
-                name.as_str()
-            )
+            tell_command("list", *kind, name.as_str(), told);
+            tell_most(*maximum, told);
+            told.is("values", *values);
         }
-        CommandLine::Optimize { kind, name, large } => format!(in alloc;
-            "optimize {} {} large {large}",
-            kind_word(*kind),
-            name.as_str()
-        ),
-        CommandLine::Restore { kind, name, stamp } => format!(in alloc;
-            "restore {} {} {stamp}",
-            kind_word(*kind),
-            name.as_str()
-        ),
-        _ => tell_table(alloc, order),
+        CommandLine::Optimize { kind, name, large } => {
+            tell_command("optimize", *kind, name.as_str(), told);
+            told.is("large", *large);
+        }
+        CommandLine::Restore { kind, name, stamp } => {
+            tell_command("restore", *kind, name.as_str(), told);
+            told.numbers(&[*stamp]);
+        }
+        _ => tell_record(order, told),
     }
 }
 
-fn tell(alloc: Global, order: &CommandLine) -> Result<String, AllocError> {
+fn tell(order: &CommandLine, told: &mut Told) {
     match order {
-        CommandLine::Pipe { name } => format!(in alloc; "pipe {}", name.as_str()),
-        CommandLine::Drill { seed, count, name } => format!(in alloc;
-            "drill {seed} {count} {}",
-            name.as_str()
-        ),
+        CommandLine::Pipe { name } => {
+            told.word("pipe");
+            told.word(name.as_str());
+        }
+        CommandLine::Drill { seed, count, name } => {
+            told.word("drill");
+            told.numbers(&[*seed, u64::from(*count)]);
+            told.word(name.as_str());
+        }
         CommandLine::Serve {
             name,
             host,
@@ -155,15 +164,16 @@ fn tell(alloc: Global, order: &CommandLine) -> Result<String, AllocError> {
             limit,
             turns,
         } => {
-            let host = text(alloc, host)?;
-            let master = match mhost {
-                Some(host) => text(alloc, host)?,
-                None => String::from_str(alloc, "none")?,
-            };
-            format!(in alloc;
-                "serve {} {host} {port} log {ulog} id {sid} master {master} {mport} limit {limit} turns {turns}",
-                name.as_str()
-            )
+            told.word("serve");
+            told.word(name.as_str());
+            told.text(host);
+            told.numbers(&[u64::from(*port)]);
+            told.is("log", *ulog);
+            told.named("id", u64::from(*sid));
+            tell_master(mhost, told);
+            told.numbers(&[u64::from(*mport)]);
+            told.named("limit", *limit);
+            told.named("turns", *turns);
         }
         CommandLine::Create {
             kind,
@@ -178,20 +188,23 @@ fn tell(alloc: Global, order: &CommandLine) -> Result<String, AllocError> {
             limsiz,
             large,
         } => {
-            format!(in alloc;
-                "create {} {} {bnum} {apow} {fpow} decimal {decimal} {lmemb} {nmemb} {width} {limsiz} large {large}",
-                kind_word(*kind),
-                name.as_str()
-            )
+            tell_command("create", *kind, name.as_str(), told);
+            told.numbers(&[*bnum, u64::from(*apow), u64::from(*fpow)]);
+            told.is("decimal", *decimal);
+            told.numbers(&[u64::from(*lmemb), u64::from(*nmemb)]);
+            told.numbers(&[u64::from(*width), *limsiz]);
+            told.is("large", *large);
         }
-        _ => tell_file(alloc, order),
+        _ => tell_file(order, told),
     }
 }
 
 /// What words ask for, `-` where they are refused.
 pub fn asked(alloc: Global, words: &Vec<String>) -> Result<String, AllocError> {
+    let mut told = Told::new(alloc);
     match parse(alloc, words)? {
-        Some(order) => tell(alloc, &order),
-        None => String::from_str(alloc, "-"),
+        Some(order) => tell(&order, &mut told),
+        None => told.word("-"),
     }
+    told.end()
 }

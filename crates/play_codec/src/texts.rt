@@ -4,7 +4,7 @@ ghost use Rattle.ty_memc.specs.Fronts.{IsPieceRead};
 ghost use Rattle.ty_memc.specs.Reading.{text_at};
 
 use crate::commands::text_of;
-use play_text::{Line, Pattern, Wrong, is_same, told};
+use play_text::{Line, Pattern, Wrong};
 use std::alloc::{AllocError, Global};
 use tc_base::Blob;
 use ty_memc::{
@@ -54,12 +54,17 @@ fn becomes(alloc: Global, bytes: &[u8], wanted: Front) -> Result<(), Wrong> {
     }
 }
 
-/// The command at the front.
+/// The command that bytes are.
 pub fn command_at(alloc: Global, bytes: &[u8]) -> Result<Text, Wrong>
     ensures { IfOk result (λ t. (rest : List ℕ) × (text_at bytes.now ≡ Ok (t, rest))) }
 {
     match take_text(bytes) {
-        Front::Whole(_) => Ok(read_text(alloc, bytes)?),
+        Front::Whole(n) => {
+            if n != bytes.len() {
+                return Err(Wrong::Not("bytes stand behind it"));
+            }
+            Ok(read_text(alloc, bytes)?)
+        }
         Front::Part | Front::Bad => Err(Wrong::Not("not whole")),
     }
 }
@@ -70,12 +75,13 @@ pub fn is_said(alloc: Global, line: &mut Line<'_>) -> Result<(), Wrong> {
     let bytes = bytes.as_slice();
     becomes(alloc, bytes, Front::Whole(bytes.len()))?;
     let text = command_at(alloc, bytes)?;
-    told(alloc, &line.bytes()?, text_of(alloc, &text)?.as_slice())
+    line.is_bytes(text_of(alloc, &text)?.as_slice())
 }
 
 /// `ends BYTES`: what ends the connection with its last byte.
 pub fn is_the_end(alloc: Global, line: &mut Line<'_>) -> Result<(), Wrong> {
     let bytes = line.bytes()?;
+    line.compares();
     becomes(alloc, bytes.as_slice(), Front::Bad)
 }
 
@@ -92,10 +98,11 @@ fn some_bytes(line: &mut Line<'_>) -> Result<Pattern, Wrong> {
 pub fn is_part(alloc: Global, line: &mut Line<'_>) -> Result<(), Wrong> {
     let bytes = some_bytes(line)?;
     let found = take_text(bytes.as_slice());
-    if found == Front::Part && comes_in_parts(bytes.as_slice()) {
+    line.is_same("Part", format!(in alloc; "{found:?}")?)?;
+    if comes_in_parts(bytes.as_slice()) {
         return Ok(());
     }
-    Err(Wrong::Differs(format!(in alloc; "{found:?}")?))
+    Err(Wrong::Not("a front is no part"))
 }
 
 // What a look at bytes finds, and the value that a storing line awaits.
@@ -113,11 +120,7 @@ pub fn awaits(alloc: Global, line: &mut Line<'_>) -> Result<(), Wrong> {
     let (Front::Part, Some(value)) = looked(bytes.as_slice()) else {
         return Err(Wrong::Not("no value is awaited"));
     };
-    is_same(
-        alloc,
-        line.rest(),
-        format!(in alloc; "{} {}", value.at, value.size)?,
-    )
+    line.is_text(format!(in alloc; "{} {}", value.at, value.size)?)
 }
 
 // Whether `look_piece` at bytes that come one by one finds a part at each step, and a whole piece with the last.
@@ -166,5 +169,5 @@ pub fn is_piece(alloc: Global, line: &mut Line<'_>) -> Result<(), Wrong> {
         return Err(Wrong::Not("not whole with its last byte"));
     }
     let said = said_at(alloc, bytes.as_slice())?;
-    told(alloc, &line.bytes()?, said.as_slice())
+    line.is_bytes(said.as_slice())
 }

@@ -2,7 +2,8 @@
 ghost use Rattle.std.specs.Prelude.{◌≡◌, ◌<◌, IfOk};
 ghost use Rattle.ty_wire.specs.Spelling.{HasSpelling};
 
-use play_text::{Line, Wrong, is_same, told};
+use crate::behind::{begun, is_behind};
+use play_text::{Line, Wrong};
 use std::alloc::{AllocError, Global};
 use tc_base::{Blob, Blobs, Pair, Pairs, Reply, Request};
 use ty_look::{Seen, look};
@@ -31,21 +32,13 @@ pub fn is_request(alloc: Global, line: &mut Line<'_>) -> Result<(), Wrong> {
         Front::Whole(_) => is_updating(&read_request(alloc, bytes)?),
         Front::Part | Front::Bad => false,
     };
-    is_same(
-        alloc,
-        line.rest(),
-        String::from_str(alloc, if updates { "updates" } else { "reads" })?,
-    )
+    line.is_text(String::from_str(alloc, if updates { "updates" } else { "reads" })?)
 }
 
 /// `bad BYTES`: no request begins so.
 pub fn is_bad(alloc: Global, line: &mut Line<'_>) -> Result<(), Wrong> {
     let bytes = line.bytes()?;
-    is_same(
-        alloc,
-        "Bad",
-        format!(in alloc; "{:?}", take(bytes.as_slice()))?,
-    )
+    line.is_same("Bad", format!(in alloc; "{:?}", take(bytes.as_slice()))?)
 }
 
 // What stands at the front where a number follows.
@@ -58,14 +51,14 @@ fn taken_with(alloc: Global, front: &[u8], number: u32) -> Result<Front, AllocEr
 /// `limit NUMBER BYTES`: the most that a size or a count behind these bytes may be.
 pub fn has_limit(alloc: Global, line: &mut Line<'_>) -> Result<(), Wrong> {
     let most = line.small()?;
-    let front = line.bytes()?;
-    let within = taken_with(alloc, front.as_slice(), most)?;
-    let past = taken_with(alloc, front.as_slice(), most.saturating_add(1))?;
-    let far = taken_with(alloc, front.as_slice(), u32::MAX)?;
-    if within == Front::Part && past == Front::Bad && far == Front::Bad {
-        return Ok(());
-    }
-    Err(Wrong::Differs(format!(in alloc; "{within:?} {past:?} {far:?}")?))
+    let bytes = line.bytes()?;
+    let within = taken_with(alloc, bytes.as_slice(), most)?;
+    let past = taken_with(alloc, bytes.as_slice(), most.saturating_add(1))?;
+    let far = taken_with(alloc, bytes.as_slice(), u32::MAX)?;
+    line.is_same(
+        "Part Bad Bad",
+        format!(in alloc; "{within:?} {past:?} {far:?}")?,
+    )
 }
 
 // What a look at bytes finds, and how many it needs at least.
@@ -79,11 +72,9 @@ fn looked(bytes: &[u8]) -> (Front, usize) {
 pub fn wants(alloc: Global, line: &mut Line<'_>) -> Result<(), Wrong> {
     let wanted = line.number()?;
     let bytes = line.bytes()?;
-    let (front, least) = looked(bytes.as_slice());
-    if front == Front::Part && least as u64 == wanted {
-        return Ok(());
-    }
-    Err(Wrong::Differs(format!(in alloc; "{front:?} {least}")?))
+    let (found, least) = looked(bytes.as_slice());
+    let wanted = format!(in alloc; "Part {wanted}")?;
+    line.is_same(wanted.as_str(), format!(in alloc; "{found:?} {least}")?)
 }
 
 // Whether `look` at bytes that come in such pieces answers at each step what `take` answers.
@@ -108,6 +99,7 @@ pub fn agrees_in_pieces(alloc: Global, line: &mut Line<'_>) -> Result<(), Wrong>
     if bytes.is_empty() {
         return Err(Wrong::Not("says nothing"));
     }
+    line.compares();
     for piece in [1, 7, 100, 4096] {
         if !agrees(bytes.as_slice(), piece) {
             return Err(Wrong::Differs(format!(in alloc; "by {piece}")?));
@@ -132,9 +124,10 @@ fn ready_at(bytes: &[u8], piece: usize) -> usize
 }
 
 /// `whole BYTES`: a request that is whole with its last byte, in whatever pieces it comes.
-pub fn is_whole(alloc: Global, line: &mut Line<'_>) -> Result<(), Wrong> {
+pub fn is_whole(line: &mut Line<'_>) -> Result<(), Wrong> {
     let bytes = line.bytes()?;
     let bytes = bytes.as_slice();
+    line.compares();
     let n = bytes.len();
     if take(bytes) == Front::Whole(n) && ready_at(bytes, 4096) == n && ready_at(bytes, 1) == n {
         return Ok(());
@@ -177,16 +170,15 @@ fn texts_of(request: &Request) -> Option<Texts<'_>> {
 }
 
 // Looks at the texts of a request.
-fn has_texts(alloc: Global, request: &Request, line: &mut Line<'_>) -> Result<(), Wrong> {
+fn has_texts(request: &Request, line: &mut Line<'_>) -> Result<(), Wrong> {
     let wanted = line.number()?;
-    let last = line.bytes()?;
     let Some(texts) = texts_of(request) else {
         return Err(Wrong::Unread);
     };
     if texts.count as u64 != wanted {
         return Err(Wrong::Not("another number of texts"));
     }
-    told(alloc, &last, texts.last)
+    line.is_bytes(texts.last)
 }
 
 /// `text BYTES => COUNT TEXT`: how many keys or arguments a request has, and the last of them, which is nothing where there is none. Of a shift it is its value alone, of an
@@ -195,9 +187,12 @@ pub fn is_text(alloc: Global, line: &mut Line<'_>) -> Result<(), Wrong> {
     let bytes = line.given()?;
     let bytes = bytes.as_slice();
     match take(bytes) {
-        Front::Whole(_) => {
+        Front::Whole(n) => {
+            if n != bytes.len() {
+                return Err(Wrong::Not("bytes stand behind it"));
+            }
             let request = read_request(alloc, bytes)?;
-            has_texts(alloc, &request, line)
+            has_texts(&request, line)
         }
         Front::Part | Front::Bad => Err(Wrong::Not("not whole")),
     }
@@ -237,15 +232,11 @@ fn value_of_first(alloc: Global) -> Result<Reply, AllocError>
     })
 }
 
-// A reply by name: `b` and an empty text, `one` with `first`, the value `first`, a number, or one that has no parts.
+// A reply by name: a number, one that has parts, or one that has none.
 fn reply_of(alloc: Global, line: &mut Line<'_>) -> Result<Reply, Wrong>
     ensures { IfOk result HasSpelling }
 {
     match line.word() {
-        "fail" => Ok(Reply::Fail),
-        "fail_by_name" => Ok(Reply::FailMisc),
-        "silent" => Ok(Reply::Silent),
-        "done" => Ok(Reply::Done),
         "four" => Ok(Reply::Four {
             number: line.small()?,
         }),
@@ -255,6 +246,19 @@ fn reply_of(alloc: Global, line: &mut Line<'_>) -> Result<Reply, Wrong>
         "first" => Ok(value_of_first(alloc)?),
         "list" => Ok(list_of_two(alloc)?),
         "pairs" => Ok(pair_of_one(alloc)?),
+        word => plain_reply(word),
+    }
+}
+
+// A reply that has no parts, by name.
+fn plain_reply(name: &str) -> Result<Reply, Wrong>
+    ensures { IfOk result HasSpelling }
+{
+    match name {
+        "fail" => Ok(Reply::Fail),
+        "fail_by_name" => Ok(Reply::FailMisc),
+        "silent" => Ok(Reply::Silent),
+        "done" => Ok(Reply::Done),
         _ => Err(Wrong::Unread),
     }
 }
@@ -263,10 +267,7 @@ fn reply_of(alloc: Global, line: &mut Line<'_>) -> Result<Reply, Wrong>
 pub fn is_reply(alloc: Global, line: &mut Line<'_>) -> Result<(), Wrong> {
     let reply = reply_of(alloc, line)?;
     let wanted = line.wanted()?;
-    let mut all = Blob::from_slice(alloc, b"..")?;
+    let mut all = begun(alloc)?;
     write_reply(&reply, &mut all)?;
-    match all.as_slice().strip_prefix(b"..") {
-        Some(found) => told(alloc, &wanted, found),
-        None => Err(Wrong::Not("what stood there is gone")),
-    }
+    is_behind(line, &wanted, &all)
 }

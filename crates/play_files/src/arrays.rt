@@ -1,9 +1,8 @@
 //! Cases of fixed-length files.
-ghost use Rattle.std.specs.Prelude.{◌≡◌, ◌≤◌, ◌^◌, true, OnOk};
 
 use crate::failures::Failure;
-use crate::looks::{are_bytes, is_number, is_so, is_value};
-use play_text::{Line, Script, Wrong, is_same};
+use crate::looks::{are_bytes, is_number, is_so, is_value, usable};
+use play_text::{Line, Script, Wrong, number_of};
 use std::alloc::Global;
 use tc_base::Blob;
 use tc_fixed::Fixed;
@@ -11,10 +10,13 @@ use tc_memstores::OneFile;
 use tc_space::RecErr;
 
 // A value put where it may be.
-fn put(fixed: &mut Fixed<OneFile>, space: &mut OneFile, id: u64, value: &[u8]) -> Result<(), RecErr>
-    requires { space.old.sound ≡ true }
-    ensures { OnOk result (space.new.sound ≡ true) }
-{
+fn put(
+    fixed: &mut Fixed<OneFile>,
+    space: &mut OneFile,
+    id: u64,
+    value: &[u8],
+) -> Result<(), RecErr> {
+    usable(space)?;
     if id == 0 || id > fixed.max_id() || value.len() > fixed.width() as usize {
         return Err(RecErr::Full);
     }
@@ -22,53 +24,56 @@ fn put(fixed: &mut Fixed<OneFile>, space: &mut OneFile, id: u64, value: &[u8]) -
 }
 
 // A value.
-fn value(fixed: &mut Fixed<OneFile>, space: &mut OneFile, id: u64) -> Result<Option<Blob>, RecErr>
-    requires { space.old.sound ≡ true }
-    ensures { OnOk result (space.new.sound ≡ true) }
-{
+fn value(fixed: &mut Fixed<OneFile>, space: &mut OneFile, id: u64) -> Result<Option<Blob>, RecErr> {
+    usable(space)?;
     fixed.get(space, id)
 }
 
 // How long a value is.
-fn long(fixed: &mut Fixed<OneFile>, space: &mut OneFile, id: u64) -> Result<Option<u64>, RecErr>
-    requires { space.old.sound ≡ true }
-    ensures { OnOk result (space.new.sound ≡ true) }
-{
+fn long(fixed: &mut Fixed<OneFile>, space: &mut OneFile, id: u64) -> Result<Option<u64>, RecErr> {
+    usable(space)?;
     fixed.value_len(space, id)
 }
 
 // An id taken out; false where it isn't held.
-fn out(fixed: &mut Fixed<OneFile>, space: &mut OneFile, id: u64) -> Result<bool, RecErr>
-    requires { space.old.sound ≡ true }
-    ensures { OnOk result (space.new.sound ≡ true) }
-{
+fn out(fixed: &mut Fixed<OneFile>, space: &mut OneFile, id: u64) -> Result<bool, RecErr> {
+    usable(space)?;
     fixed.out(space, id)
+}
+
+// All values taken out.
+fn clear(fixed: &mut Fixed<OneFile>, space: &mut OneFile) -> Result<(), RecErr> {
+    usable(space)?;
+    fixed.clear(space)
+}
+
+// What is held in memory brought to the file.
+fn settle(fixed: &mut Fixed<OneFile>, space: &mut OneFile) -> Result<(), RecErr> {
+    usable(space)?;
+    fixed.settle(space)
 }
 
 // A line that asks for an id: `get ID = VALUE`, `none ID`, `length ID N`.
 fn get_line(
-    alloc: Global,
     fixed: &mut Fixed<OneFile>,
     space: &mut OneFile,
     what: &str,
     line: &mut Line<'_>,
-) -> Result<(), Failure>
-    requires { space.old.sound ≡ true }
-    ensures { OnOk result (space.new.sound ≡ true) }
-{
+) -> Result<(), Failure> {
     let id = line.number()?;
     if what == "length" {
         let found = long(fixed, space, id)?;
         let wanted = line.number()?;
-        return is_so(found == Some(wanted));
+        return is_so(line, found == Some(wanted));
     }
     let found = value(fixed, space, id)?;
     if what == "none" {
         let length = long(fixed, space, id)?;
-        is_so(length.is_none())?;
-        return is_value(alloc, None, &found);
+        is_so(line, length.is_none())?;
+        return is_value(line, None, &found);
     }
-    is_value(alloc, Some(&line.wanted()?), &found)
+    let wanted = line.wanted()?;
+    is_value(line, Some(&wanted), &found)
 }
 
 // A line that changes the file: `put ID => VALUE`, `out ID`, `no_out ID`, `clear`, `settle`.
@@ -77,13 +82,10 @@ fn change_line(
     space: &mut OneFile,
     what: &str,
     line: &mut Line<'_>,
-) -> Result<(), Failure>
-    requires { space.old.sound ≡ true }
-    ensures { OnOk result (space.new.sound ≡ true) }
-{
+) -> Result<(), Failure> {
     match what {
-        "settle" => Ok(fixed.settle(space)?),
-        "clear" => Ok(fixed.clear(space)?),
+        "settle" => Ok(settle(fixed, space)?),
+        "clear" => Ok(clear(fixed, space)?),
         "put" => {
             let id = line.number()?;
             let value = line.wanted()?;
@@ -91,8 +93,16 @@ fn change_line(
         }
         _ => {
             let taken = out(fixed, space, line.number()?)?;
-            is_so(taken == (what == "out"))
+            is_so(line, taken == (what == "out"))
         }
+    }
+}
+
+// A number at most, or `all` for any.
+fn most_of(line: &mut Line<'_>) -> Result<Option<u64>, Failure> {
+    match line.word() {
+        "all" => Ok(None),
+        word => Ok(Some(number_of(word).ok_or(Wrong::Unread)?)),
     }
 }
 
@@ -102,19 +112,14 @@ fn ids_line(
     fixed: &mut Fixed<OneFile>,
     space: &mut OneFile,
     line: &mut Line<'_>,
-) -> Result<(), Failure>
-    requires { space.old.sound ≡ true }
-    ensures { OnOk result (space.new.sound ≡ true) }
-{
+) -> Result<(), Failure> {
     let first = line.number()?;
     let last = line.number()?;
-    let most = match line.word() {
-        "all" => None,
-        word => play_text::number_of(word),
-    };
+    let most = most_of(line)?;
     let mut ids = Vec::new(alloc);
+    usable(space)?;
     fixed.ids_in(space, first, last, most, &mut ids)?;
-    Ok(is_same(alloc, line.rest(), format!(in alloc; "{ids:?}")?)?)
+    Ok(line.is_text(format!(in alloc; "{ids:?}")?)?)
 }
 
 // A line on what is held: `numbers LEAST GREATEST COUNT SIZE`, `most_id N`, `bytes PLACE BYTES`, `ends N`.
@@ -134,10 +139,10 @@ fn look(
                 fixed.count(),
                 fixed.size()
             )?;
-            Ok(is_same(alloc, line.rest(), found)?)
+            Ok(line.is_text(found)?)
         }
         "most_id" => is_number(alloc, line, fixed.max_id()),
-        "bytes" => are_bytes(alloc, line, file),
+        "bytes" => are_bytes(line, file),
         "ends" => is_number(alloc, line, file.len() as u64),
         _ => Err(Failure::Line(Wrong::Unread)),
     }
@@ -150,12 +155,9 @@ fn play_line(
     space: &mut OneFile,
     what: &str,
     line: &mut Line<'_>,
-) -> Result<(), Failure>
-    requires { space.old.sound ≡ true }
-    ensures { OnOk result (space.new.sound ≡ true) }
-{
+) -> Result<(), Failure> {
     match what {
-        "get" | "none" | "length" => get_line(alloc, fixed, space, what, line),
+        "get" | "none" | "length" => get_line(fixed, space, what, line),
         "put" | "out" | "no_out" | "clear" | "settle" => change_line(fixed, space, what, line),
         "ids" => ids_line(alloc, fixed, space, line),
         _ => look(alloc, fixed, space.bytes(), what, line),
@@ -169,14 +171,15 @@ pub fn play_array(
     script: &mut Script<'_>,
 ) -> Result<(), Failure> {
     let mut space = OneFile::of(Vec::new(alloc));
-    let width = line.small()?.min(1_048_576).max(1);
-    let limit = line.number()?.min(1 << 40).max(512);
-    let mut fixed = Fixed::create(alloc, &mut space, width, limit)?;
+    let width = line.within(1, 1_048_576)?;
+    let limit = line.within(512, 1 << 40)?;
+    let mut fixed = Fixed::create(alloc, &mut space, width as u32, limit)?;
     for _ in 0..script.len() {
         let Some((what, mut line)) = script.next_line() else {
             return Ok(());
         };
         play_line(alloc, &mut fixed, &mut space, what, &mut line)?;
+        script.end(line)?;
     }
     Ok(())
 }

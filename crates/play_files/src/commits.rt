@@ -6,8 +6,9 @@ use crate::counted::Counted;
 use crate::failures::Failure;
 use crate::looks::{is_number, is_so, name_of};
 use play_stops::choices;
-use play_text::{Line, Script, Wrong, is_same, told};
+use play_text::{Line, Script, Wrong};
 use std::alloc::{AllocError, Global};
+use tc_base::Label;
 use tc_fakes::MemVolume;
 use tc_io::Volume;
 use tc_space::{Space, SpaceErr};
@@ -16,15 +17,15 @@ use tc_undo::{RecoverErr, Undo, recover};
 // The limits of a case on the length of a file.
 const LIMIT: u64 = 1 << 20;
 
-// A data file: 0, or 2 to 18.
-fn data_file(line: &mut Line<'_>) -> Result<u32, Failure>
+/// A data file: 0, or 2 to 18.
+pub fn data_file(line: &mut Line<'_>) -> Result<u32, Failure>
     ensures { IfOk result (λ file. IsDataFile file) }
 {
-    let file = line.small()?;
-    if file == 1 || file > 18 {
+    let file = line.within(0, 18)?;
+    if file == 1 {
         return Err(Failure::Line(Wrong::Unread));
     }
-    Ok(file)
+    Ok(file as u32)
 }
 
 // Writes at a place within the file or at its end; elsewhere it is as where the limit is reached.
@@ -51,23 +52,53 @@ fn cut<S: Space>(space: &mut S, file: u32, len: u64) -> Result<(), SpaceErr>
     space.cut(file, len)
 }
 
-/// Plays a line on files: `put FILE PLACE BYTES`, `cut FILE LENGTH`, `commit`.
+/// Commits, which calls nothing where nothing was written, and makes the copy of a line: `LABEL`. Answers whether it was made; where it wasn't, the files may be used
+/// as before.
+pub fn copy<S: Space>(space: &mut S, line: &mut Line<'_>) -> Result<bool, Failure>
+    requires { S.sound space.old }
+    ensures { OnOk result (S.sound space.new) }
+{
+    let Some(label) = Label::of(line.word().as_bytes()) else {
+        return Err(Failure::Line(Wrong::Unread));
+    };
+    space.commit()?;
+    Ok(space.copy(label.as_slice()).is_ok())
+}
+
+// `put FILE PLACE BYTES`.
+fn put_line<S: Space>(space: &mut S, line: &mut Line<'_>) -> Result<(), Failure>
+    requires { S.sound space.old }
+    ensures { OnOk result (S.sound space.new) }
+{
+    let file = data_file(line)?;
+    let at = line.number()?;
+    let bytes = line.bytes()?;
+    Ok(put(space, file, at, bytes.as_slice())?)
+}
+
+// `cut FILE LENGTH`.
+fn cut_line<S: Space>(space: &mut S, line: &mut Line<'_>) -> Result<(), Failure>
+    requires { S.sound space.old }
+    ensures { OnOk result (S.sound space.new) }
+{
+    let file = data_file(line)?;
+    let len = line.number()?;
+    Ok(cut(space, file, len)?)
+}
+
+/// Plays a line on files: `put FILE PLACE BYTES`, `cut FILE LENGTH`, `commit`, `copy LABEL`.
 pub fn change<S: Space>(space: &mut S, what: &str, line: &mut Line<'_>) -> Result<(), Failure>
     requires { S.sound space.old }
     ensures { OnOk result (S.sound space.new) }
 {
     match what {
-        "put" => {
-            let file = data_file(line)?;
-            let at = line.number()?;
-            let bytes = line.bytes()?;
-            Ok(put(space, file, at, bytes.as_slice())?)
-        }
-        "cut" => {
-            let file = data_file(line)?;
-            Ok(cut(space, file, line.number()?)?)
-        }
+        "put" => put_line(space, line),
+        "cut" => cut_line(space, line),
         "commit" => Ok(space.commit()?),
+        "copy" => {
+            let made = copy(space, line)?;
+            is_so(line, made)
+        }
         _ => Err(Failure::Line(Wrong::Unread)),
     }
 }
@@ -87,7 +118,7 @@ fn bound(vol: MemVolume) -> Result<Vol, Failure>
 #[derive(Drop)]
 pub struct Files {
     alloc: Global,
-    pub vol: MemVolume,
+    vol: MemVolume,
     limit: u64,
     syncs: u64,
 }
@@ -143,16 +174,21 @@ impl Files {
     fn file(line: &mut Line<'_>) -> Result<u32, Failure>
         ensures { IfOk result (λ file. file ≤ 18) }
     {
-        match line.small()? {
-            file if file < 19 => Ok(file),
-            _ => Err(Failure::Line(Wrong::Unread)),
-        }
+        let file = line.within(0, 18)?;
+        Ok(file as u32)
     }
 
     // Looks at a file: `file FILE BYTES`.
     fn is_file(&self, line: &mut Line<'_>) -> Result<(), Failure> {
         let file = Files::file(line)?;
-        Ok(told(self.alloc, &line.bytes()?, self.vol.bytes(file))?)
+        Ok(line.is_bytes(self.vol.bytes(file))?)
+    }
+
+    // Looks at a file of the copy under a label: `copied LABEL FILE BYTES`.
+    fn is_copied(&self, line: &mut Line<'_>) -> Result<(), Failure> {
+        let copy = self.vol.copy(line.word().as_bytes())?;
+        let file = Files::file(line)?;
+        Ok(line.is_bytes(copy.bytes(file))?)
     }
 
     // Looks at all that a stop may leave of a file once it is recovered: `stopped FILE BYTES`.
@@ -162,23 +198,30 @@ impl Files {
         for choice in choices().iter() {
             let mut image = self.vol.image(choice)?;
             image.bind("a")?;
-            is_so(recover(&mut image).is_ok())?;
-            told(self.alloc, &wanted, image.bytes(file))?;
+            is_so(line, recover(&mut image).is_ok())?;
+            line.told(&wanted, image.bytes(file))?;
         }
         Ok(())
+    }
+
+    // Recovers the files, which is not refused.
+    fn is_recovered(&mut self) -> Result<(), Failure> {
+        match self.recover()? {
+            None => Ok(()),
+            Some(_) => Err(Failure::Line(Wrong::Not("it is refused"))),
+        }
     }
 
     // Looks at the rule by which a recovery is refused: `broken U1`.
     fn is_broken(&mut self, line: &mut Line<'_>) -> Result<(), Failure> {
         match self.recover()? {
-            Some(RecoverErr::Broken(rule)) => {
-                Ok(is_same(self.alloc, line.rest(), name_of(self.alloc, rule)?)?)
-            }
+            Some(RecoverErr::Broken(rule)) => { Ok(line.is_text(name_of(self.alloc, rule)?)?) }
             _ => Err(Failure::Line(Wrong::Not("no broken rule"))),
         }
     }
 
-    /// Plays a line: `load FILE BYTES`, `limit N`, `open` up to `close`, `recover`, or `broken RULE` where that is refused, `syncs N`, `file FILE BYTES`, `stopped FILE BYTES`.
+    /// Plays a line: `load FILE BYTES`, `limit N`, `open` up to `close`, `recover`, or `broken RULE` where that is refused, `syncs N`, `file FILE BYTES`, `stopped FILE BYTES`,
+    /// `copied LABEL FILE BYTES`.
     pub fn play(
         &mut self,
         what: &str,
@@ -191,21 +234,51 @@ impl Files {
                 Ok(self.vol.load(file, line.bytes()?.as_slice())?)
             }
             "limit" => {
-                self.limit = line.number()?;
+                self.limit = line.within(0, 1 << 40)?;
                 Ok(())
             }
             "open" => self.open(script),
-            "recover" => is_so(self.recover()?.is_none()),
+            "recover" => self.is_recovered(),
             "broken" => self.is_broken(line),
             "syncs" => is_number(self.alloc, line, self.syncs),
             "file" => self.is_file(line),
             "stopped" => self.is_left(line),
+            "copied" => self.is_copied(line),
             _ => Err(Failure::Line(Wrong::Unread)),
         }
     }
 }
 
-// Plays lines on opened files, up to `close`, `spoil`, which gives all up, or `full` in front of a line that is refused for a limit.
+// Whether opened files may be used further is as it is to be.
+fn is_usable<S: Space>(space: &S, wanted: bool) -> Result<(), Failure> {
+    if space.is_sound() == wanted {
+        return Ok(());
+    }
+    Err(Failure::Line(Wrong::Not("it is otherwise")))
+}
+
+// Plays the last line on opened files: `close`, `spoil`, which gives all up, or `full` in front of a line that is refused for a limit.
+fn play_last<S: Space>(space: &mut S, what: &str, line: &mut Line<'_>) -> Result<(), Failure>
+    requires { S.sound space.old }
+{
+    match what {
+        "close" => is_usable(space, true),
+        "spoil" => {
+            space.spoil();
+            is_usable(space, false)
+        }
+        _ => {
+            let what = line.word();
+            let refused = matches!(
+                change(space, what, line),
+                Err(Failure::Space(SpaceErr::Full))
+            );
+            is_so(line, refused && !space.is_sound())
+        }
+    }
+}
+
+// Plays lines on opened files, up to the last.
 fn play_lines<S: Space>(space: &mut S, script: &mut Script<'_>) -> Result<(), Failure>
     requires { S.sound space.old }
 {
@@ -213,22 +286,12 @@ fn play_lines<S: Space>(space: &mut S, script: &mut Script<'_>) -> Result<(), Fa
         let Some((what, mut line)) = script.next_line() else {
             return Ok(());
         };
-        match what {
-            "close" => return is_so(space.is_sound()),
-            "spoil" => {
-                space.spoil();
-                return is_so(!space.is_sound());
-            }
-            "full" => {
-                let what = line.word();
-                let refused = matches!(
-                    change(space, what, &mut line),
-                    Err(Failure::Space(SpaceErr::Full))
-                );
-                return is_so(refused && !space.is_sound());
-            }
-            _ => change(space, what, &mut line)?,
+        if matches!(what, "close" | "spoil" | "full") {
+            play_last(space, what, &mut line)?;
+            return Ok(script.end(line)?);
         }
+        change(space, what, &mut line)?;
+        script.end(line)?;
     }
     Ok(())
 }

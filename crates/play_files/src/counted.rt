@@ -22,6 +22,8 @@ impl<V: Volume> Volume for Counted<V> {
 
     ghost now_is_image = { λ s told. V.now_is_image s.vol told };
 
+    ghost copy_is_image = { λ s label told. V.copy_is_image s.vol label told };
+
     fn bind(&mut self, name: &str) -> Result<(), Fault> {
         self.vol.bind(name)
     }
@@ -45,5 +47,34 @@ impl<V: Volume> Volume for Counted<V> {
     fn sync(&mut self, file: u32) -> Result<(), Fault> {
         self.syncs = self.syncs.saturating_add(1);
         self.vol.sync(file)
+    }
+
+    fn bind_copy(&mut self, label: &[u8]) -> Result<(), Fault> {
+        self.vol.bind_copy(label)
+    }
+
+    fn copy_len(&mut self, file: u32) -> Result<u64, Fault> {
+        self.vol.copy_len(file)
+    }
+
+    fn copy_read(&mut self, file: u32, at: u64, into: &mut [u8]) -> Result<(), Fault> {
+        self.vol.copy_read(file, at, into)
+    }
+
+    fn copy_write(&mut self, file: u32, at: u64, bytes: &[u8]) -> Result<(), Fault> {
+        self.vol.copy_write(file, at, bytes)
+    }
+
+    fn copy_cut(&mut self, file: u32, len: u64) -> Result<(), Fault> {
+        self.vol.copy_cut(file, len)
+    }
+
+    fn copy_sync(&mut self, file: u32) -> Result<(), Fault> {
+        self.syncs = self.syncs.saturating_add(1);
+        self.vol.copy_sync(file)
+    }
+
+    fn end_copy(&mut self) {
+        self.vol.end_copy();
     }
 }

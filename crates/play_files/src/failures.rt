@@ -32,10 +32,15 @@ impl From<Failure> for Wrong {
     fn from(failure: Failure) -> Wrong {
         match failure {
             Failure::Line(wrong) => wrong,
-            Failure::Memory(_) => Wrong::Memory,
+            Failure::Memory(_)
+            | Failure::Put(PutErr::Memory)
+            | Failure::Record(RecErr::Memory)
+            | Failure::Open(OpenErr::Memory)
+            | Failure::Walk(WalkErr::Memory)
+            | Failure::Space(SpaceErr::Memory) => { Wrong::Memory }
             Failure::Put(PutErr::Exists) => Wrong::Not("the key is held"),
             Failure::Open(OpenErr::Broken { .. }) => Wrong::Not("a broken file"),
-            Failure::Walk(_) => Wrong::Not("broken blocks"),
+            Failure::Walk(WalkErr::Broken(_)) => Wrong::Not("broken blocks"),
             Failure::Put(PutErr::Full)
             | Failure::Record(RecErr::Full)
             | Failure::Space(SpaceErr::Full) => { Wrong::Not("a limit was reached") }

@@ -1,8 +1,7 @@
 //! Cases of hash files.
-ghost use Rattle.std.specs.Prelude.{◌≡◌, ◌≤◌, ◌^◌, true, OnOk};
 
 use crate::failures::Failure;
-use crate::looks::{are_bytes, is_number, is_so};
+use crate::looks::{are_bytes, is_number, is_second, is_so, usable};
 use crate::maps::play_map;
 use play_text::{Line, Script, Wrong};
 use std::alloc::Global;
@@ -12,12 +11,35 @@ use tc_memstores::OneFile;
 use tc_space::{RecErr, Records};
 
 // How long the value of a key is.
-fn long(hash: &mut Hash<OneFile>, space: &mut OneFile, key: &[u8]) -> Result<Option<u64>, RecErr>
-    requires { space.old.sound ≡ true }
-    ensures { OnOk result (space.new.sound ≡ true) }
-{
+fn long(hash: &mut Hash<OneFile>, space: &mut OneFile, key: &[u8]) -> Result<Option<u64>, RecErr> {
+    usable(space)?;
     let mut steps: Steps<()> = Steps::new();
     hash.get_len(space, key, &mut steps)
+}
+
+// A line that asks for the length of a value: `length KEY = N`, `no_length KEY`.
+fn length_line(
+    hash: &mut Hash<OneFile>,
+    space: &mut OneFile,
+    what: &str,
+    line: &mut Line<'_>,
+) -> Result<(), Failure> {
+    if what == "no_length" {
+        let key = line.bytes()?;
+        let found = long(hash, space, key.as_slice())?;
+        return is_so(line, found.is_none());
+    }
+    let key = line.bytes_up_to(" = ")?;
+    let wanted = line.number()?;
+    let found = long(hash, space, key.as_slice())?;
+    is_so(line, found == Some(wanted))
+}
+
+// The file opens.
+fn opens(alloc: Global, bytes: &[u8]) -> Result<(), Failure> {
+    let mut again = OneFile::new(alloc, bytes)?;
+    let _opened: Hash<OneFile> = Hash::open(alloc, &mut again, 0, 0)?;
+    Ok(())
 }
 
 // A line on a hash file: `length KEY = N`, `no_length KEY`, `bytes PLACE BYTES`, `ends N` for its length, `size N` for that of its blocks, `opens`; `mark`, which keeps its bytes, and `same`, that they
@@ -29,35 +51,18 @@ fn look(
     marked: &mut Blob,
     what: &str,
     line: &mut Line<'_>,
-) -> Result<(), Failure>
-    requires { space.old.sound ≡ true }
-    ensures { OnOk result (space.new.sound ≡ true) }
-{
+) -> Result<(), Failure> {
     match what {
-        "length" => {
-            let key = line.bytes_up_to(" = ")?;
-            let wanted = line.number()?;
-            let found = long(hash, space, key.as_slice())?;
-            is_so(found == Some(wanted))
-        }
-        "no_length" => {
-            let key = line.bytes()?;
-            let found = long(hash, space, key.as_slice())?;
-            is_so(found.is_none())
-        }
-        "bytes" => are_bytes(alloc, line, space.bytes()),
+        "length" | "no_length" => length_line(hash, space, what, line),
+        "bytes" => are_bytes(line, space.bytes()),
         "ends" => is_number(alloc, line, space.bytes().len() as u64),
         "size" => is_number(alloc, line, hash.size()),
         "mark" => {
             *marked = Blob::from_slice(alloc, space.bytes())?;
             Ok(())
         }
-        "same" => is_so(marked.as_slice() == space.bytes()),
-        "opens" => {
-            let mut again = OneFile::new(alloc, space.bytes())?;
-            let _opened: Hash<OneFile> = Hash::open(alloc, &mut again, 0, 0)?;
-            Ok(())
-        }
+        "same" => is_so(line, marked.as_slice() == space.bytes()),
+        "opens" => opens(alloc, space.bytes()),
         _ => Err(Failure::Line(Wrong::Unread)),
     }
 }
@@ -67,12 +72,11 @@ fn created(
     alloc: Global,
     space: &mut OneFile,
     line: &mut Line<'_>,
-) -> Result<Hash<OneFile>, Failure>
-    requires { space.old.sound ≡ true }
-    ensures { OnOk result (space.new.sound ≡ true) }
-{
-    let buckets = line.number()?.min(1 << 38).max(1);
-    Ok(Hash::create(alloc, space, 0, 0, 4, 0, buckets, line.word() == "large")?)
+) -> Result<Hash<OneFile>, Failure> {
+    let buckets = line.within(1, 1 << 38)?;
+    let large = is_second(line, "small", "large")?;
+    usable(space)?;
+    Ok(Hash::create(alloc, space, 0, 0, 4, 0, buckets, large)?)
 }
 
 /// Plays a case of a hash file.
@@ -85,10 +89,12 @@ pub fn play_hash(
     let mut hash = created(alloc, &mut space, line)?;
     let mut marked = Blob::new(alloc);
     for _ in 0..script.len() {
+        usable(&space)?;
         let Some((what, mut line)) = play_map(alloc, &mut hash, &mut space, script)? else {
             return Ok(());
         };
         look(alloc, &mut hash, &mut space, &mut marked, what, &mut line)?;
+        script.end(line)?;
     }
     Ok(())
 }

@@ -4,7 +4,7 @@ ghost use Rattle.tc_space.specs.Frames.{In};
 ghost use Rattle.tc_space.specs.Stores.{IsReady};
 
 use crate::failures::Failure;
-use crate::looks::{are_pairs, are_texts, is_number, is_so, is_value};
+use crate::looks::{are_pairs, are_steps, are_texts, is_number, is_so, is_value};
 use bt_order::Stretch;
 use play_text::{Line, Script};
 use std::alloc::Global;
@@ -12,6 +12,7 @@ use tc_base::{Blob, Form, Mode, Pairs, Steps};
 use tc_space::{Multi, PutErr, RecErr};
 
 // A pair put, by the mode; false where its key is held and was to be kept.
+#[tactic(auto, using(tc_space::specs::Stores::ready_puts, tc_space::specs::Stores::ready_exists))]
 fn put<M: Multi>(
     list: &mut M,
     space: &mut M::S,
@@ -30,6 +31,7 @@ fn put<M: Multi>(
 }
 
 // The first pair of a key taken out, or all of them; false where there is none.
+#[tactic(auto, using(tc_space::specs::Stores::ready_takes))]
 fn out<M: Multi>(list: &mut M, space: &mut M::S, key: &[u8], all: bool) -> Result<bool, RecErr>
     requires { IsReady M.S.Space (In M.S.Space M.file_of M.holds) list.old space.old }
     ensures { OnOk result (IsReady M.S.Space (In M.S.Space M.file_of M.holds) list.new space.new) }
@@ -41,6 +43,7 @@ fn out<M: Multi>(list: &mut M, space: &mut M::S, key: &[u8], all: bool) -> Resul
 }
 
 // The first value of a key, and the steps to it.
+#[tactic(auto, using(tc_space::specs::Stores::ready_reads))]
 fn get<M: Multi>(list: &mut M, space: &mut M::S, key: &[u8]) -> Result<(Option<Blob>, u64), RecErr>
     requires { IsReady M.S.Space (In M.S.Space M.file_of M.holds) list.old space.old }
     ensures { OnOk result (IsReady M.S.Space (In M.S.Space M.file_of M.holds) list.new space.new) }
@@ -51,6 +54,7 @@ fn get<M: Multi>(list: &mut M, space: &mut M::S, key: &[u8]) -> Result<(Option<B
 }
 
 // The first pairs of a stretch of keys, and the steps to them.
+#[tactic(auto, using(tc_space::specs::Stores::ready_reads))]
 fn range<M: Multi>(
     list: &mut M,
     space: &mut M::S,
@@ -66,6 +70,7 @@ fn range<M: Multi>(
 }
 
 // The file packed in this form, and what is held in memory brought to it.
+#[tactic(auto, using(tc_space::specs::Stores::ready_writes))]
 fn pack<M: Multi>(list: &mut M, space: &mut M::S, form: Form) -> Result<(), RecErr>
     requires { IsReady M.S.Space (In M.S.Space M.file_of M.holds) list.old space.old }
     ensures { OnOk result (IsReady M.S.Space (In M.S.Space M.file_of M.holds) list.new space.new) }
@@ -75,6 +80,7 @@ fn pack<M: Multi>(list: &mut M, space: &mut M::S, form: Form) -> Result<(), RecE
 }
 
 // A line that puts: `put KEY = VALUE` over the first value, `keep` where there is none, `held` where there is one, `cat` behind the first, `add` as the last of its key.
+#[tactic(auto, using(tc_space::specs::Stores::ready_writes))]
 fn put_line<M: Multi>(
     list: &mut M,
     space: &mut M::S,
@@ -93,12 +99,14 @@ fn put_line<M: Multi>(
         _ => Mode::Keep,
     };
     let done = put(list, space, key.as_slice(), value.as_slice(), mode)?;
-    is_so(done == (what != "held"))
+    if mode != Mode::Keep {
+        return Ok(());
+    }
+    is_so(line, done == (what == "keep"))
 }
 
 // A line that asks for the first value of a key: `get KEY = VALUE`, or `none KEY` where there is none. Answers the steps to it.
 fn get_line<M: Multi>(
-    alloc: Global,
     list: &mut M,
     space: &mut M::S,
     what: &str,
@@ -110,17 +118,17 @@ fn get_line<M: Multi>(
     if what == "none" {
         let key = line.bytes()?;
         let (found, steps) = get(list, space, key.as_slice())?;
-        is_value(alloc, None, &found)?;
+        is_value(line, None, &found)?;
         return Ok(steps);
     }
     let key = line.bytes_up_to(" = ")?;
     let value = line.bytes()?;
     let (found, steps) = get(list, space, key.as_slice())?;
-    is_value(alloc, Some(&value), &found)?;
+    is_value(line, Some(&value), &found)?;
     Ok(steps)
 }
 
-// A line that asks for a stretch, `range MOST FIRST .. END = #KEY #VALUE ..`, from one key up to another, or to the end where that is `$`. Answers the steps to it.
+// A line that asks for a stretch, `range MOST FIRST .. END = #KEY #VALUE ..`, from one key up to another, or to the end where that is empty. Answers the steps to it.
 fn range_line<M: Multi>(
     alloc: Global,
     list: &mut M,
@@ -146,7 +154,24 @@ fn range_line<M: Multi>(
     Ok(steps)
 }
 
+// A line that takes out: `out KEY` the first pair, `out_all` all of them, and `no_out`, `no_out_all` where there is none.
+fn out_line<M: Multi>(
+    list: &mut M,
+    space: &mut M::S,
+    what: &str,
+    line: &mut Line<'_>,
+) -> Result<(), Failure>
+    requires { IsReady M.S.Space (In M.S.Space M.file_of M.holds) list.old space.old }
+    ensures { OnOk result (IsReady M.S.Space (In M.S.Space M.file_of M.holds) list.new space.new) }
+{
+    let all = what == "out_all" || what == "no_out_all";
+    let key = line.bytes()?;
+    let taken = out(list, space, key.as_slice(), all)?;
+    is_so(line, taken == (what == "out" || what == "out_all"))
+}
+
 // A line of another sort: what is settled, packed or taken out, or all values of a key, `all KEY = #VALUE ..`.
+#[tactic(auto, using(tc_space::specs::Stores::ready_reads, tc_space::specs::Stores::ready_writes))]
 fn other_line<M: Multi>(
     alloc: Global,
     list: &mut M,
@@ -166,55 +191,46 @@ fn other_line<M: Multi>(
             let found = list.all(space, key.as_slice())?;
             are_texts(alloc, line, &found)
         }
-        _ => {
-            let key = line.bytes()?;
-            let taken = out(
-                list,
-                space,
-                key.as_slice(),
-                what == "out_all" || what == "no_out_all",
-            )?;
-            is_so(taken == (what == "out" || what == "out_all"))
-        }
+        _ => out_line(list, space, what, line),
     }
 }
 
-// Plays a line that isn't a search, behind one of so many steps.
+// Plays a line that isn't a search, behind a search of so many steps, if there was one.
 fn plain_line<M: Multi>(
     alloc: Global,
     list: &mut M,
     space: &mut M::S,
     what: &str,
     line: &mut Line<'_>,
-    steps: u64,
+    steps: Option<u64>,
 ) -> Result<(), Failure>
     requires { IsReady M.S.Space (In M.S.Space M.file_of M.holds) list.old space.old }
     ensures { OnOk result (IsReady M.S.Space (In M.S.Space M.file_of M.holds) list.new space.new) }
 {
     match what {
         "put" | "keep" | "held" | "cat" | "add" => put_line(list, space, what, line),
-        "steps" => is_number(alloc, line, steps),
+        "steps" => are_steps(alloc, line, steps),
         "count" => is_number(alloc, line, list.count()),
         "file" => is_number(alloc, line, u64::from(list.file())),
         _ => other_line(alloc, list, space, what, line),
     }
 }
 
-// Plays a line, and answers the steps of the last search.
+// Plays a line, and answers the steps of the last search, if there was one.
 fn play_line<M: Multi>(
     alloc: Global,
     list: &mut M,
     space: &mut M::S,
     what: &str,
     line: &mut Line<'_>,
-    steps: u64,
-) -> Result<u64, Failure>
+    steps: Option<u64>,
+) -> Result<Option<u64>, Failure>
     requires { IsReady M.S.Space (In M.S.Space M.file_of M.holds) list.old space.old }
     ensures { OnOk result (IsReady M.S.Space (In M.S.Space M.file_of M.holds) list.new space.new) }
 {
     match what {
-        "get" | "none" => get_line(alloc, list, space, what, line),
-        "range" => range_line(alloc, list, space, line),
+        "get" | "none" => Ok(Some(get_line(list, space, what, line)?)),
+        "range" => Ok(Some(range_line(alloc, list, space, line)?)),
         _ => {
             plain_line(alloc, list, space, what, line, steps)?;
             Ok(steps)
@@ -258,7 +274,7 @@ pub fn play_list<'a, M: Multi>(
     requires { IsReady M.S.Space (In M.S.Space M.file_of M.holds) list.old space.old }
     ensures { OnOk result (IsReady M.S.Space (In M.S.Space M.file_of M.holds) list.new space.new) }
 {
-    let mut steps = 0;
+    let mut steps = None;
     for _ in 0..script.len() {
         let Some((what, mut line)) = script.next_line() else {
             return Ok(None);
@@ -267,6 +283,7 @@ pub fn play_list<'a, M: Multi>(
             return Ok(Some((what, line)));
         }
         steps = play_line(alloc, list, space, what, &mut line, steps)?;
+        script.end(line)?;
     }
     Ok(None)
 }

@@ -1,18 +1,36 @@
 //! What lines say of values.
+ghost use Rattle.std.specs.Prelude.{◌≡◌, true, OnOk};
 
 use crate::failures::Failure;
-use play_text::{Line, Pattern, Wrong, is_same, told};
+use play_text::{Line, Pattern, Wrong};
 use std::alloc::{AllocError, Global};
-use tc_base::{Blob, Blobs, Pairs, Rule};
-use tc_space::OpenErr;
+use tc_base::{Blob, Blobs, Fault, Pairs, Rule};
+use tc_memstores::OneFile;
+use tc_space::{OpenErr, Space};
+
+/// A file in memory may be used.
+pub fn usable(space: &OneFile) -> Result<(), Fault>
+    ensures { OnOk result (space.now.sound ≡ true) }
+{
+    if space.is_sound() { Ok(()) } else { Err(Fault) }
+}
 
 /// A number is that of a line, which has no more.
-pub fn is_number(alloc: Global, line: &Line<'_>, found: u64) -> Result<(), Failure> {
-    Ok(is_same(alloc, line.rest(), format!(in alloc; "{found}")?)?)
+pub fn is_number(alloc: Global, line: &mut Line<'_>, found: u64) -> Result<(), Failure> {
+    Ok(line.is_text(format!(in alloc; "{found}")?)?)
+}
+
+/// The steps of a search are those of a line; there was a search.
+pub fn are_steps(alloc: Global, line: &mut Line<'_>, steps: Option<u64>) -> Result<(), Failure> {
+    match steps {
+        Some(steps) => is_number(alloc, line, steps),
+        None => Err(Failure::Line(Wrong::Not("nothing was searched"))),
+    }
 }
 
 /// A test came out as a line says.
-pub fn is_so(found: bool) -> Result<(), Failure> {
+pub fn is_so(line: &mut Line<'_>, found: bool) -> Result<(), Failure> {
+    line.compares();
     if found {
         Ok(())
     } else {
@@ -22,16 +40,24 @@ pub fn is_so(found: bool) -> Result<(), Failure> {
 
 /// A value is that of a line, or there is none where none is wanted.
 pub fn is_value(
-    alloc: Global,
+    line: &mut Line<'_>,
     wanted: Option<&Pattern>,
     found: &Option<Blob>,
 ) -> Result<(), Failure> {
-    match (wanted, found) {
-        (Some(wanted), Some(found)) => Ok(told(alloc, wanted, found.as_slice())?),
-        (None, None) => Ok(()),
-        (Some(_), None) => Err(Failure::Line(Wrong::Not("there is none"))),
-        (None, Some(_)) => Err(Failure::Line(Wrong::Not("there is one"))),
+    let found = match found {
+        Some(found) => Some(found.as_slice()),
+        None => None,
+    };
+    Ok(line.told_if(wanted, found)?)
+}
+
+/// A word of a line is one of two; whether it is the second.
+pub fn is_second(line: &mut Line<'_>, first: &str, second: &str) -> Result<bool, Failure> {
+    let word = line.word();
+    if word == first || word == second {
+        return Ok(word == second);
     }
+    Err(Failure::Line(Wrong::Unread))
 }
 
 /// Texts are those of a line, each behind its size in four bytes.
@@ -40,7 +66,7 @@ pub fn are_texts(alloc: Global, line: &mut Line<'_>, texts: &Blobs) -> Result<()
     for text in texts.as_slice() {
         all.add_sized(text.as_slice())?;
     }
-    Ok(told(alloc, &line.bytes()?, all.as_slice())?)
+    Ok(line.is_bytes(all.as_slice())?)
 }
 
 /// Keys and values in turn are those of a line.
@@ -50,15 +76,18 @@ pub fn are_pairs(alloc: Global, line: &mut Line<'_>, pairs: &Pairs) -> Result<()
         all.add_sized(pair.key.as_slice())?;
         all.add_sized(pair.value.as_slice())?;
     }
-    Ok(told(alloc, &line.bytes()?, all.as_slice())?)
+    Ok(line.is_bytes(all.as_slice())?)
 }
 
-/// The bytes of a file from a place on are those of a line.
-pub fn are_bytes(alloc: Global, line: &mut Line<'_>, file: &[u8]) -> Result<(), Failure> {
-    let place = usize::try_from(line.number()?).unwrap_or(usize::MAX);
+/// The bytes of a file from a place in it on are those of a line, of which there is one at least.
+pub fn are_bytes(line: &mut Line<'_>, file: &[u8]) -> Result<(), Failure> {
+    let place = line.within(0, file.len() as u64)? as usize;
     let wanted = line.bytes()?;
-    let behind = &file[place.min(file.len())..];
-    Ok(told(alloc, &wanted, &behind[..wanted.len().min(behind.len())])?)
+    if wanted.is_empty() {
+        return Err(Failure::Line(Wrong::Unread));
+    }
+    let behind = &file[place..];
+    Ok(line.told(&wanted, &behind[..wanted.len().min(behind.len())])?)
 }
 
 /// A rule as text, as `L6`.
@@ -67,7 +96,7 @@ pub fn name_of(alloc: Global, rule: Rule) -> Result<String, AllocError> {
 }
 
 /// The file and the rule that an opening names are those of a line, as `0 L6`; `0` for none.
-pub fn is_rule(alloc: Global, line: &Line<'_>, opened: Option<OpenErr>) -> Result<(), Failure> {
+pub fn is_rule(alloc: Global, line: &mut Line<'_>, opened: Option<OpenErr>) -> Result<(), Failure> {
     let found = match opened {
         None => String::from_str(alloc, "0")?,
         Some(OpenErr::Broken { file, rule }) => {
@@ -76,5 +105,5 @@ pub fn is_rule(alloc: Global, line: &Line<'_>, opened: Option<OpenErr>) -> Resul
         }
         Some(e) => return Err(Failure::Open(e)),
     };
-    Ok(is_same(alloc, line.rest(), found)?)
+    Ok(line.is_text(found)?)
 }

@@ -4,7 +4,7 @@ ghost use Rattle.tc_space.specs.Frames.{In};
 ghost use Rattle.tc_space.specs.Stores.{IsReady};
 
 use crate::failures::Failure;
-use crate::looks::{are_texts, is_number, is_so, is_value};
+use crate::looks::{are_steps, are_texts, is_number, is_so, is_value};
 use play_text::{Line, Script, Wrong};
 use std::alloc::Global;
 use tc_base::{Blob, Blobs, Form, Mode, Steps};
@@ -95,12 +95,14 @@ fn put_line<R: Records>(
     let key = line.bytes_up_to(" = ")?;
     let value = line.bytes()?;
     let done = put(map, space, key.as_slice(), value.as_slice(), mode)?;
-    is_so(done == (what != "held"))
+    if mode != Mode::Keep {
+        return Ok(());
+    }
+    is_so(line, done == (what == "keep"))
 }
 
 // A line that asks for a key: `get KEY = VALUE`, or `none KEY` where there is none. Answers the steps to it.
 fn get_line<R: Records>(
-    alloc: Global,
     map: &mut R,
     space: &mut R::S,
     what: &str,
@@ -112,14 +114,29 @@ fn get_line<R: Records>(
     if what == "none" {
         let key = line.bytes()?;
         let (found, steps) = get(map, space, key.as_slice())?;
-        is_value(alloc, None, &found)?;
+        is_value(line, None, &found)?;
         return Ok(steps);
     }
     let key = line.bytes_up_to(" = ")?;
     let value = line.bytes()?;
     let (found, steps) = get(map, space, key.as_slice())?;
-    is_value(alloc, Some(&value), &found)?;
+    is_value(line, Some(&value), &found)?;
     Ok(steps)
+}
+
+// A line that takes a key out: `out KEY`, or `no_out KEY` where it isn't held.
+fn out_line<R: Records>(
+    map: &mut R,
+    space: &mut R::S,
+    what: &str,
+    line: &mut Line<'_>,
+) -> Result<(), Failure>
+    requires { IsReady R.S.Space (In R.S.Space R.file_of R.holds) map.old space.old }
+    ensures { OnOk result (IsReady R.S.Space (In R.S.Space R.file_of R.holds) map.new space.new) }
+{
+    let key = line.bytes()?;
+    let taken = out(map, space, key.as_slice())?;
+    is_so(line, taken == (what == "out"))
 }
 
 // A line that changes or lists the map.
@@ -141,49 +158,45 @@ fn other_line<R: Records>(
             let all = keys(map, space)?;
             are_texts(alloc, line, &all)
         }
-        _ => {
-            let key = line.bytes()?;
-            let taken = out(map, space, key.as_slice())?;
-            is_so(taken == (what == "out"))
-        }
+        _ => out_line(map, space, what, line),
     }
 }
 
-// Plays a line that isn't a search, behind one of so many steps.
+// Plays a line that isn't a search, behind a search of so many steps, if there was one.
 fn plain_line<R: Records>(
     alloc: Global,
     map: &mut R,
     space: &mut R::S,
     what: &str,
     line: &mut Line<'_>,
-    steps: u64,
+    steps: Option<u64>,
 ) -> Result<(), Failure>
     requires { IsReady R.S.Space (In R.S.Space R.file_of R.holds) map.old space.old }
     ensures { OnOk result (IsReady R.S.Space (In R.S.Space R.file_of R.holds) map.new space.new) }
 {
     match what {
         "put" | "keep" | "held" | "cat" => put_line(map, space, what, line),
-        "steps" => is_number(alloc, line, steps),
+        "steps" => are_steps(alloc, line, steps),
         "count" => is_number(alloc, line, map.count()),
         "file" => is_number(alloc, line, u64::from(map.file())),
         _ => other_line(alloc, map, space, what, line),
     }
 }
 
-// Plays a line, and answers the steps of the last search.
+// Plays a line, and answers the steps of the last search, if there was one.
 fn play_line<R: Records>(
     alloc: Global,
     map: &mut R,
     space: &mut R::S,
     what: &str,
     line: &mut Line<'_>,
-    steps: u64,
-) -> Result<u64, Failure>
+    steps: Option<u64>,
+) -> Result<Option<u64>, Failure>
     requires { IsReady R.S.Space (In R.S.Space R.file_of R.holds) map.old space.old }
     ensures { OnOk result (IsReady R.S.Space (In R.S.Space R.file_of R.holds) map.new space.new) }
 {
     match what {
-        "get" | "none" => get_line(alloc, map, space, what, line),
+        "get" | "none" => Ok(Some(get_line(map, space, what, line)?)),
         _ => {
             plain_line(alloc, map, space, what, line, steps)?;
             Ok(steps)
@@ -223,7 +236,7 @@ pub fn play_map<'a, R: Records>(
     requires { IsReady R.S.Space (In R.S.Space R.file_of R.holds) map.old space.old }
     ensures { OnOk result (IsReady R.S.Space (In R.S.Space R.file_of R.holds) map.new space.new) }
 {
-    let mut steps = 0;
+    let mut steps = None;
     for _ in 0..script.len() {
         let Some((what, mut line)) = script.next_line() else {
             return Ok(None);
@@ -232,6 +245,7 @@ pub fn play_map<'a, R: Records>(
             return Ok(Some((what, line)));
         }
         steps = play_line(alloc, map, space, what, &mut line, steps)?;
+        script.end(line)?;
     }
     Ok(None)
 }

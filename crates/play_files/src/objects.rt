@@ -26,6 +26,7 @@ fn play_commits(alloc: Global, script: &mut Script<'_>) -> Result<(), Failure> {
             return Ok(());
         };
         files.play(what, &mut line, script)?;
+        script.end(line)?;
     }
     Ok(())
 }
@@ -63,6 +64,7 @@ impl Player for Objects {
         let Some((what, mut line)) = script.next_line() else {
             return Ok(());
         };
-        Ok(play_of(self.alloc, what, &mut line, script)?)
+        play_of(self.alloc, what, &mut line, script)?;
+        script.end(line)
     }
 }

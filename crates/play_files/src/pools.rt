@@ -1,12 +1,11 @@
 //! Cases of blocks that are listed, and of a pool of free ones.
-ghost use Rattle.std.specs.Prelude.{◌≡◌, true, OnOk};
 
 use crate::failures::Failure;
-use crate::looks::{are_bytes, is_number, is_so, name_of};
+use crate::looks::{are_bytes, is_number, is_so, name_of, usable};
 use hf_block::{Blocks, WalkErr, walk};
 use hf_head::Head;
 use hf_pool::Pool;
-use play_text::{Line, Script, Wrong, is_same, told};
+use play_text::{Line, Script, Wrong};
 use std::alloc::{AllocError, Global};
 use tc_base::Blob;
 use tc_memstores::OneFile;
@@ -73,14 +72,12 @@ pub fn are_blocks(alloc: Global, line: &mut Line<'_>) -> Result<(), Failure> {
         Err(WalkErr::Broken(rule)) => name_of(alloc, rule)?,
         Err(e) => return Err(Failure::Walk(e)),
     };
-    Ok(is_same(alloc, line.rest(), text)?)
+    Ok(line.is_text(text)?)
 }
 
 // A block of a size, where the sum still fits.
-fn take(pool: &mut Pool, space: &mut OneFile, size: u64) -> Result<u64, RecErr>
-    requires { space.old.sound ≡ true }
-    ensures { OnOk result (space.new.sound ≡ true) }
-{
+fn take(pool: &mut Pool, space: &mut OneFile, size: u64) -> Result<u64, RecErr> {
+    usable(space)?;
     if size == 0 || size % pool.unit() != 0 || pool.size() > u64::MAX - size {
         return Err(RecErr::Full);
     }
@@ -88,10 +85,8 @@ fn take(pool: &mut Pool, space: &mut OneFile, size: u64) -> Result<u64, RecErr>
 }
 
 // A block given back, where it meets no free one.
-fn give(pool: &mut Pool, space: &mut OneFile, at: u64, size: u64) -> Result<(), RecErr>
-    requires { space.old.sound ≡ true }
-    ensures { OnOk result (space.new.sound ≡ true) }
-{
+fn give(pool: &mut Pool, space: &mut OneFile, at: u64, size: u64) -> Result<(), RecErr> {
+    usable(space)?;
     if size == 0 || size >= 1 << 32 || at > pool.size() || size > pool.size() - at {
         return Err(RecErr::Full);
     }
@@ -102,34 +97,38 @@ fn give(pool: &mut Pool, space: &mut OneFile, at: u64, size: u64) -> Result<(), 
 }
 
 // A record written into a file.
-fn write(space: &mut OneFile, at: u64, bytes: &[u8]) -> Result<(), Failure>
-    requires { space.old.sound ≡ true }
-    ensures { OnOk result (space.new.sound ≡ true) }
-{
+fn write(space: &mut OneFile, at: u64, bytes: &[u8]) -> Result<(), Failure> {
+    usable(space)?;
     Ok(space.write(0, at, bytes)?)
 }
 
-// A line that changes the pool: `take SIZE PLACE RECORD`, with the record written into the block, `give PLACE SIZE`, `trim`; or `written`, that the file has its section.
+// A block taken at a place, and a record written into it: `SIZE PLACE RECORD`.
+fn take_line(
+    alloc: Global,
+    pool: &mut Pool,
+    space: &mut OneFile,
+    line: &mut Line<'_>,
+) -> Result<(), Failure> {
+    let size = line.number()?;
+    let wanted = line.number()?;
+    line.compares();
+    let place = take(pool, space, size)?;
+    if place != wanted {
+        return Err(Failure::Line(Wrong::Differs(format!(in alloc; "{place}")?)));
+    }
+    write(space, place, line.bytes()?.as_slice())
+}
+
+// A line that changes the pool: `take SIZE PLACE RECORD`, `give PLACE SIZE`, `trim`; or `written`, that the file has its section.
 fn change(
     alloc: Global,
     pool: &mut Pool,
     space: &mut OneFile,
     what: &str,
     line: &mut Line<'_>,
-) -> Result<(), Failure>
-    requires { space.old.sound ≡ true }
-    ensures { OnOk result (space.new.sound ≡ true) }
-{
+) -> Result<(), Failure> {
     match what {
-        "take" => {
-            let size = line.number()?;
-            let wanted = line.number()?;
-            let place = take(pool, space, size)?;
-            if place != wanted {
-                return Err(Failure::Line(Wrong::Differs(format!(in alloc; "{place}")?)));
-            }
-            write(space, place, line.bytes()?.as_slice())
-        }
+        "take" => take_line(alloc, pool, space, line),
         "give" => {
             let at = line.number()?;
             Ok(give(pool, space, at, line.number()?)?)
@@ -153,18 +152,21 @@ fn section(alloc: Global, pool: &Pool) -> Result<Blob, AllocError> {
     Ok(into)
 }
 
-// Looks at the section without the zeros behind it.
-fn are_pairs(alloc: Global, pool: &Pool, line: &mut Line<'_>) -> Result<(), Failure> {
+// The section without the zeros behind it.
+fn pairs(alloc: Global, pool: &Pool) -> Result<Blob, AllocError> {
     let mut into = Blob::new(alloc);
     pool.pairs(68, &mut into)?;
-    Ok(told(alloc, &line.bytes()?, into.as_slice())?)
+    Ok(into)
 }
 
 // Looks whether a walk finds the pool again.
-fn is_found(alloc: Global, pool: &Pool, bytes: &[u8]) -> Result<(), Failure> {
+fn is_found(alloc: Global, pool: &Pool, bytes: &[u8], line: &mut Line<'_>) -> Result<(), Failure> {
     let again = found(alloc, bytes, pool.size())?;
     let (one, other) = (section(alloc, pool)?, section(alloc, &again)?);
-    is_so(one.as_slice() == other.as_slice() && pool.size() == again.size())
+    is_so(
+        line,
+        one.as_slice() == other.as_slice() && pool.size() == again.size(),
+    )
 }
 
 // Plays a line: `section BYTES` is what the pool lists, `pairs BYTES` the same without zeros, `changed` or `unchanged` whether that may differ from what was written, `size N` where the blocks end, `bytes PLACE BYTES` what stands in the file, `walked` that a walk finds the pool again.
@@ -174,18 +176,15 @@ fn play_line(
     space: &mut OneFile,
     what: &str,
     line: &mut Line<'_>,
-) -> Result<(), Failure>
-    requires { space.old.sound ≡ true }
-    ensures { OnOk result (space.new.sound ≡ true) }
-{
+) -> Result<(), Failure> {
     match what {
-        "changed" => is_so(pool.has_changed()),
-        "unchanged" => is_so(!pool.has_changed()),
-        "pairs" => are_pairs(alloc, pool, line),
-        "section" => Ok(told(alloc, &line.bytes()?, section(alloc, pool)?.as_slice())?),
+        "changed" => is_so(line, pool.has_changed()),
+        "unchanged" => is_so(line, !pool.has_changed()),
+        "pairs" => Ok(line.is_bytes(pairs(alloc, pool)?.as_slice())?),
+        "section" => Ok(line.is_bytes(section(alloc, pool)?.as_slice())?),
         "size" => is_number(alloc, line, pool.size()),
-        "bytes" => are_bytes(alloc, line, space.bytes()),
-        "walked" => is_found(alloc, pool, space.bytes()),
+        "bytes" => are_bytes(line, space.bytes()),
+        "walked" => is_found(alloc, pool, space.bytes(), line),
         _ => change(alloc, pool, space, what, line),
     }
 }
@@ -204,6 +203,7 @@ pub fn play_pool(
             return Ok(());
         };
         play_line(alloc, &mut pool, &mut space, what, &mut line)?;
+        script.end(line)?;
     }
     Ok(())
 }

@@ -1,15 +1,15 @@
-//! Transactions that are stopped or fail at each call of the volume, and recovery that is stopped or fails at each of its calls.
+//! Transactions and copies that are stopped or fail at each call of the volume, and recovery that is stopped or fails at each of its calls.
 ghost use Rattle.std.specs.Prelude.{OnOk};
 
-use crate::commits::change;
+use crate::commits::{change, copy, data_file};
 use crate::failures::Failure;
-use play_stops::{Seen, Trouble, WHOLE, choices};
+use play_stops::{Seen, Trouble, WHOLE, are_same, choices};
 use play_text::{Line, Pattern, Script, Wrong};
 use std::alloc::{AllocError, Global};
 use tc_fakes::{Choice, MemVolume};
 use tc_io::Volume;
 use tc_space::Space;
-use tc_undo::{Undo, recover};
+use tc_undo::{RecoverErr, Undo, recover};
 
 // What two files have.
 #[derive(Drop)]
@@ -27,27 +27,43 @@ impl Kept {
     }
 }
 
-/// The lines of transactions, what two files have before the first and behind each commit, and how calls go wrong.
+/// The lines of transactions, what two files have before the first and behind each commit, the label of the copies, and how calls go wrong.
 #[derive(Drop)]
 struct Trial<'a> {
     alloc: Global,
     lines: Script<'a>,
     kept: Vec<Kept>,
+    label: &'a str,
     trouble: Trouble,
 }
 
-// How many commits were begun, and how many of them came to their end.
+// How far transactions came.
 #[derive(Clone, Copy, PartialEq, Eq)]
-struct Commits {
+struct Progress {
+    // how many commits were begun, and how many of them came to their end
     begun: usize,
     ended: usize,
+    // behind how many commits the last whole copy was made, and the one that isn't whole
+    copied: Option<usize>,
+    copying: Option<usize>,
+    // whether all lines were played
+    is_through: bool,
 }
 
-// What was recovered from a state of commits, without trouble and with it.
+// Nothing was done.
+const NONE: Progress = Progress {
+    begun: 0,
+    ended: 0,
+    copied: None,
+    copying: None,
+    is_through: false,
+};
+
+// What was recovered from where transactions came, without trouble and with it.
 #[derive(Drop)]
 struct Course<'t, 'a> {
     trial: &'t Trial<'a>,
-    commits: Commits,
+    done: Progress,
     recovered: Seen,
     troubled: Seen,
 }
@@ -63,33 +79,55 @@ fn recovers(vol: &mut MemVolume) -> bool {
     }
 }
 
-// Plays a line of transactions.
+// Whether a log breaks the first rule.
+fn is_unusable(vol: &mut MemVolume) -> bool {
+    if vol.bind("a").is_err() {
+        return false;
+    }
+    match recover(vol) {
+        Err(RecoverErr::Broken(rule)) => rule.letter == b'U' && rule.number == 1,
+        _ => false,
+    }
+}
+
+// Plays a line of transactions. A copy that fails ends nothing.
 fn step<S: Space>(
     space: &mut S,
     what: &str,
     line: &mut Line<'_>,
-    commits: &mut Commits,
+    done: &mut Progress,
 ) -> Result<(), Failure>
     requires { S.sound space.old }
     ensures { OnOk result (S.sound space.new) }
 {
     match what {
-        "kept" | "trial" => Ok(()),
+        "kept" => {
+            line.skip();
+            Ok(())
+        }
         "commit" => {
-            commits.begun = commits.begun.saturating_add(1);
+            done.begun = done.begun.saturating_add(1);
             change(space, what, line)?;
-            commits.ended = commits.begun;
+            done.ended = done.begun;
+            Ok(())
+        }
+        "copy" => {
+            done.copying = Some(done.ended);
+            if copy(space, line)? {
+                done.copied = done.copying;
+                done.copying = None;
+            }
             Ok(())
         }
         _ => change(space, what, line),
     }
 }
 
-// Plays transactions as far as they go.
+// Plays transactions, up to the trial, as far as they go.
 fn transact<S: Space>(
     space: &mut S,
     lines: &mut Script<'_>,
-    commits: &mut Commits,
+    done: &mut Progress,
 ) -> Result<(), Failure>
     requires { S.sound space.old }
 {
@@ -97,16 +135,20 @@ fn transact<S: Space>(
         let Some((what, mut line)) = lines.next_line() else {
             return Ok(());
         };
-        step(space, what, &mut line, commits)?;
+        if what == "trial" {
+            return Ok(());
+        }
+        step(space, what, &mut line, done)?;
+        lines.end(line)?;
     }
     Ok(())
 }
 
 impl<'t, 'a> Course<'t, 'a> {
-    fn new(trial: &'t Trial<'a>, commits: Commits) -> Course<'t, 'a> {
+    fn new(trial: &'t Trial<'a>, done: Progress) -> Course<'t, 'a> {
         Course {
             trial,
-            commits,
+            done,
             recovered: Seen::new(trial.alloc),
             troubled: Seen::new(trial.alloc),
         }
@@ -114,7 +156,7 @@ impl<'t, 'a> Course<'t, 'a> {
 
     // Whether a volume has what the last commit that ended kept, or the one that had begun.
     fn holds(&self, vol: &MemVolume) -> bool {
-        self.trial.holds(vol, self.commits.ended) || self.trial.holds(vol, self.commits.begun)
+        self.trial.holds(vol, self.done.ended) || self.trial.holds(vol, self.done.begun)
     }
 
     // Whether what a stop leaves of a volume, by these choices, is recovered to that.
@@ -166,19 +208,46 @@ impl<'a> Trial<'a> {
         }
     }
 
-    // The volume of what is kept first.
-    fn volume(&self) -> Result<MemVolume, AllocError> {
+    // A volume of what was kept behind so many commits; an empty one where that isn't said.
+    fn volume(&self, commits: usize) -> Result<MemVolume, AllocError> {
         let mut vol = MemVolume::new(self.alloc)?;
-        if let Some(first) = self.kept.first() {
-            vol.load(first.files[0].min(18), first.bytes[0].as_slice())?;
-            vol.load(first.files[1].min(18), first.bytes[1].as_slice())?;
+        if let Some(kept) = self.kept.get(commits) {
+            vol.load(kept.files[0].min(18), kept.bytes[0].as_slice())?;
+            vol.load(kept.files[1].min(18), kept.bytes[1].as_slice())?;
         }
         Ok(vol)
     }
 
+    // Whether a volume has what was kept behind so many commits and nothing else; it is empty where there is no number.
+    fn is_copy(&self, vol: &MemVolume, commits: Option<usize>) -> Result<bool, AllocError> {
+        let wanted = self.volume(commits.unwrap_or(usize::MAX))?;
+        Ok(are_same(vol, &wanted))
+    }
+
+    // Whether what a stop leaves of the copy is the last whole one or, where one isn't whole, that one or none that can be opened.
+    fn copies_stand(&self, vol: &MemVolume, done: Progress) -> Result<bool, AllocError> {
+        if self.label.is_empty() {
+            return Ok(true);
+        }
+        let copy = vol.copy(self.label.as_bytes())?;
+        for choice in choices().iter() {
+            let mut image = copy.image(choice)?;
+            if self.is_copy(&image, done.copied)? {
+                continue;
+            }
+            if done.copying.is_none() {
+                return Ok(false);
+            }
+            if !self.is_copy(&image, done.copying)? && !is_unusable(&mut image) {
+                return Ok(false);
+            }
+        }
+        Ok(true)
+    }
+
     // A volume on which the transactions ran into trouble at a call, or didn't.
-    fn troubled(&self, call: u64, commits: &mut Commits) -> Result<MemVolume, AllocError> {
-        let mut vol = self.volume()?;
+    fn troubled(&self, call: u64, done: &mut Progress) -> Result<MemVolume, Failure> {
+        let mut vol = self.volume(0)?;
         self.trouble.meet(self.alloc, &mut vol, call)?;
         if vol.bind("a").is_err() {
             return Ok(vol);
@@ -187,31 +256,39 @@ impl<'a> Trial<'a> {
             Err(refused) => Ok(refused.vol),
             Ok(mut space) => {
                 let mut lines = self.lines;
-                let _ = transact(&mut space, &mut lines, commits);
-                Ok(space.close())
+                let played = transact(&mut space, &mut lines, done);
+                done.is_through = played.is_ok();
+                let vol = space.close();
+                match played {
+                    Err(Failure::Line(wrong)) => Err(Failure::Line(wrong)),
+                    _ => Ok(vol),
+                }
             }
         }
     }
 
-    // Whether all commits came to their end.
-    fn is_whole(&self, vol: &MemVolume, commits: Commits) -> bool {
-        commits.ended.saturating_add(1) == self.kept.len() && self.holds(vol, commits.ended)
+    // Whether all lines were played, and all commits and copies came to their end.
+    fn is_whole(&self, vol: &MemVolume, done: Progress) -> bool {
+        done.is_through
+            && done.copying.is_none()
+            && done.ended.saturating_add(1) == self.kept.len()
+            && self.holds(vol, done.ended)
     }
 
     // Each call goes wrong in turn, until none does. Answers the call at which something else came.
-    fn first_lost(&self) -> Result<Option<u64>, AllocError> {
-        let mut course = Course::new(self, Commits { begun: 0, ended: 0 });
+    fn first_lost(&self) -> Result<Option<u64>, Failure> {
+        let mut course = Course::new(self, NONE);
         for call in 1..MOST {
-            let mut commits = Commits { begun: 0, ended: 0 };
-            let vol = self.troubled(call, &mut commits)?;
-            if commits != course.commits {
-                course = Course::new(self, commits);
+            let mut done = NONE;
+            let vol = self.troubled(call, &mut done)?;
+            if done != course.done {
+                course = Course::new(self, done);
             }
-            if !course.survives(&vol)? {
+            if !course.survives(&vol)? || !self.copies_stand(&vol, done)? {
                 return Ok(Some(call));
             }
             if vol.calls() < call {
-                return Ok(if self.is_whole(&vol, commits) {
+                return Ok(if self.is_whole(&vol, done) {
                     None
                 } else {
                     Some(call)
@@ -223,15 +300,37 @@ impl<'a> Trial<'a> {
 
     // Takes what two files have: `kept FILE BYTES = FILE BYTES`.
     fn keep(&mut self, line: &mut Line<'_>) -> Result<(), Failure> {
-        let one = line.small()?;
+        let one = data_file(line)?;
         let first = line.bytes_up_to(" = ")?;
-        let other = line.small()?;
+        let other = data_file(line)?;
         let second = line.bytes()?;
         self.kept.push(Kept {
             files: [one, other],
             bytes: [first, second],
         })?;
         Ok(())
+    }
+
+    // Takes the label of a line `copy LABEL`, which is that of all of them.
+    fn take_label(&mut self, label: &'a str) -> Result<(), Failure> {
+        if !self.label.is_empty() && self.label != label {
+            return Err(Failure::Line(Wrong::Unread));
+        }
+        self.label = label;
+        Ok(())
+    }
+
+    // Takes a line in front of the trial, which plays those that change files.
+    fn take(&mut self, what: &str, line: &mut Line<'a>) -> Result<(), Failure> {
+        match what {
+            "kept" => self.keep(line),
+            "copy" => self.take_label(line.word()),
+            "put" | "cut" | "commit" => {
+                line.skip();
+                Ok(())
+            }
+            _ => Err(Failure::Line(Wrong::Unread)),
+        }
     }
 
     // Tries all calls, `trial stops` or `trial faults`.
@@ -241,6 +340,7 @@ impl<'a> Trial<'a> {
             "faults" => Trouble::Fault,
             _ => return Err(Failure::Line(Wrong::Unread)),
         };
+        line.compares();
         let Some(call) = self.first_lost()? else {
             return Ok(());
         };
@@ -250,22 +350,25 @@ impl<'a> Trial<'a> {
 }
 
 /// Plays a case of transactions in trouble: `trial stops|faults` behind lines of transactions, in which `kept FILE BYTES = FILE BYTES` says what two files have at first and behind each commit.
+/// What a stop leaves of the copies is looked at too.
 pub fn play_trial(alloc: Global, script: &mut Script<'_>) -> Result<(), Failure> {
     let mut trial = Trial {
         alloc,
         lines: *script,
         kept: Vec::new(alloc),
+        label: "",
         trouble: Trouble::Stop,
     };
     for _ in 0..script.len() {
         let Some((what, mut line)) = script.next_line() else {
-            break;
+            return Ok(());
         };
-        match what {
-            "kept" => trial.keep(&mut line)?,
-            "trial" => return trial.try_all(&mut line),
-            _ => {}
+        if what == "trial" {
+            trial.try_all(&mut line)?;
+            return Ok(script.end(line)?);
         }
+        trial.take(what, &mut line)?;
+        script.end(line)?;
     }
-    Err(Failure::Line(Wrong::Unread))
+    Ok(())
 }

@@ -1,12 +1,11 @@
 //! Cases of records in memory, and of the trees that they may be.
-ghost use Rattle.std.specs.Prelude.{◌≡◌, true, OnOk};
 
 use crate::failures::Failure;
 use crate::lists::play_list;
-use crate::looks::{is_number, is_rule, is_so};
+use crate::looks::{is_number, is_rule, is_second, usable};
 use crate::maps::play_map;
 use bt_check::check_tree;
-use play_text::{Line, Script, Wrong, told};
+use play_text::{Line, Script, Wrong};
 use std::alloc::Global;
 use tc_base::{Lexical, set_le};
 use tc_btree::Btree;
@@ -15,12 +14,17 @@ use tc_space::{NoSpace, OpenErr, Records};
 
 type Store = MemRecords<OneFile>;
 
-// The first rule of trees that the records break.
-fn broken(alloc: Global, store: &mut Store, space: &mut OneFile, index: bool) -> Option<OpenErr>
-    requires { space.old.sound ≡ true }
-    ensures { space.new.sound ≡ true }
-{
-    check_tree::<Store, Lexical>(alloc, store, space, index).err()
+// The first rule of trees that the records break: `plain|index FILE RULE`.
+fn breaks(
+    alloc: Global,
+    store: &mut Store,
+    space: &mut OneFile,
+    line: &mut Line<'_>,
+) -> Result<(), Failure> {
+    let index = is_second(line, "plain", "index")?;
+    usable(space)?;
+    let broken = check_tree::<Store, Lexical>(alloc, store, space, index).err();
+    is_rule(alloc, line, broken)
 }
 
 // The region of a tree with limits 4 and 4: `tree ORDER ROOT LAST LEAVES NODES PAIRS`, or other bytes: `region BYTES`.
@@ -36,7 +40,7 @@ fn set_region(store: &mut Store, what: &str, line: &mut Line<'_>) -> Result<(), 
         store.set_opaque(&region);
         return Ok(());
     }
-    region[0] = u8::try_from(line.number()?).unwrap_or(u8::MAX);
+    region[0] = line.within(0, 255)? as u8;
     set_le(&mut region, 8, 4, 4);
     set_le(&mut region, 12, 4, 4);
     set_le(&mut region, 16, 8, line.number()?);
@@ -55,18 +59,11 @@ fn look(
     space: &mut OneFile,
     what: &str,
     line: &mut Line<'_>,
-) -> Result<(), Failure>
-    requires { space.old.sound ≡ true }
-    ensures { OnOk result (space.new.sound ≡ true) }
-{
+) -> Result<(), Failure> {
     match what {
         "tree" | "region" => set_region(store, what, line),
-        "has_region" => Ok(told(alloc, &line.bytes()?, &store.opaque())?),
-        "rule" => {
-            let index = line.word() == "index";
-            let rule = broken(alloc, store, space, index);
-            is_rule(alloc, line, rule)
-        }
+        "has_region" => Ok(line.is_bytes(&store.opaque())?),
+        "rule" => breaks(alloc, store, space, line),
         _ => Err(Failure::Line(Wrong::Unread)),
     }
 }
@@ -77,14 +74,12 @@ fn opened(
     store: Store,
     space: &mut OneFile,
     index: bool,
-) -> Result<Btree<Store, Lexical>, OpenErr>
-    requires { space.old.sound ≡ true }
-    ensures { OnOk result (space.new.sound ≡ true) }
-{
+) -> Result<Btree<Store, Lexical>, OpenErr> {
     let opaque = store.opaque();
     if opaque[0] != 0 {
         return Err(OpenErr::Fault);
     }
+    usable(space)?;
     if index {
         return Btree::open_index(alloc, store, space);
     }
@@ -98,23 +93,23 @@ fn play_opened(
     mut space: OneFile,
     line: &mut Line<'_>,
     script: &mut Script<'_>,
-) -> Result<(), Failure>
-    requires { space.sound ≡ true }
-{
-    let index = line.word() == "index";
+) -> Result<(), Failure> {
+    let index = is_second(line, "plain", "index")?;
     let mut tree = match opened(alloc, store, &mut space, index) {
         Ok(tree) => tree,
         Err(e) => return is_rule(alloc, line, Some(e)),
     };
     is_rule(alloc, line, None)?;
     for _ in 0..script.len() {
+        usable(&space)?;
         let Some((what, mut line)) = play_list(alloc, &mut tree, &mut space, script)? else {
             return Ok(());
         };
         if what != "height" {
             return Err(Failure::Line(Wrong::Unread));
         }
-        is_number(alloc, &line, tree.tree().height())?;
+        is_number(alloc, &mut line, tree.tree().height())?;
+        script.end(line)?;
     }
     Ok(())
 }
@@ -128,13 +123,16 @@ pub fn play_records(
     let mut space = OneFile::of(Vec::new(alloc));
     let mut store: Store = MemRecords::new(alloc, line.small()?);
     for _ in 0..script.len() {
+        usable(&space)?;
         let Some((what, mut line)) = play_map(alloc, &mut store, &mut space, script)? else {
             return Ok(());
         };
         if what == "opens" {
-            return play_opened(alloc, store, space, &mut line, script);
+            play_opened(alloc, store, space, &mut line, script)?;
+            return Ok(script.end(line)?);
         }
         look(alloc, &mut store, &mut space, what, &mut line)?;
+        script.end(line)?;
     }
     Ok(())
 }
@@ -147,6 +145,8 @@ pub fn play_pairs(
 ) -> Result<(), Failure> {
     let mut space = NoSpace::new();
     let mut list: MemMulti<NoSpace, Lexical> = MemMulti::new(alloc, line.small()?);
-    let left = play_list(alloc, &mut list, &mut space, script)?;
-    is_so(left.is_none())
+    match play_list(alloc, &mut list, &mut space, script)? {
+        None => Ok(()),
+        Some(_) => Err(Failure::Line(Wrong::Unread)),
+    }
 }

@@ -1,11 +1,11 @@
 //! Cases of trees in hash files.
-ghost use Rattle.std.specs.Prelude.{◌≡◌, ◌≤◌, true, OnOk};
+ghost use Rattle.std.specs.Prelude.{◌≤◌, IfOk};
 
 use crate::failures::Failure;
 use crate::lists::play_list;
-use crate::looks::{are_bytes, is_number, is_rule, is_so, is_value};
+use crate::looks::{are_bytes, is_number, is_rule, is_second, is_so, is_value, usable};
 use bt_check::check_tree;
-use play_text::{Line, Script, Wrong, told};
+use play_text::{Line, Script, Wrong};
 use std::alloc::Global;
 use tc_base::{Blob, Lexical, Mode, Steps};
 use tc_btree::Btree;
@@ -21,16 +21,13 @@ type TreeOf = Btree<Store, Lexical>;
 fn limit(line: &mut Line<'_>) -> Result<u32, Failure>
     ensures { IfOk result (λ n. (4 ≤ n) × (n ≤ 256)) }
 {
-    Ok(line.small()?.min(256).max(4))
+    let limit = line.within(4, 256)?;
+    Ok(limit as u32)
 }
 
-ghost use Rattle.std.specs.Prelude.{IfOk};
-
 // A new file of type 1 of three buckets, with the record `column` or without records.
-fn file(alloc: Global, space: &mut OneFile, column: bool) -> Result<Store, Failure>
-    requires { space.old.sound ≡ true }
-    ensures { OnOk result (space.new.sound ≡ true) }
-{
+fn file(alloc: Global, space: &mut OneFile, column: bool) -> Result<Store, Failure> {
+    usable(space)?;
     let mut store = Hash::create(alloc, space, 0, 1, 4, 0, 3, false)?;
     if column {
         let mut steps: Steps<()> = Steps::new();
@@ -40,46 +37,52 @@ fn file(alloc: Global, space: &mut OneFile, column: bool) -> Result<Store, Failu
 }
 
 // A tree of no pairs in such a file: `tree LEAF NODE`, with `column` behind it where the record is there.
-fn created(alloc: Global, space: &mut OneFile, line: &mut Line<'_>) -> Result<TreeOf, Failure>
-    requires { space.old.sound ≡ true }
-    ensures { OnOk result (space.new.sound ≡ true) }
-{
+fn created(alloc: Global, space: &mut OneFile, line: &mut Line<'_>) -> Result<TreeOf, Failure> {
     let leaf = limit(line)?;
     let node = limit(line)?;
-    let store = file(alloc, space, line.word() == "column")?;
+    let column = is_second(line, "", "column")?;
+    let store = file(alloc, space, column)?;
+    usable(space)?;
     Ok(Btree::create(alloc, store, space, leaf, node)?)
 }
 
 // A record of a file.
-fn record(store: &mut Store, space: &mut OneFile, key: &[u8]) -> Result<Option<Blob>, RecErr>
-    requires { space.old.sound ≡ true }
-    ensures { OnOk result (space.new.sound ≡ true) }
-{
+fn record(store: &mut Store, space: &mut OneFile, key: &[u8]) -> Result<Option<Blob>, RecErr> {
+    usable(space)?;
     let mut steps: Steps<()> = Steps::new();
     store.get(space, key, &mut steps)
 }
 
-// A line on a file that is opened anew: how many `records` it has, a record, `record KEY = VALUE`, its `region`, or the `rule` of trees that it breaks.
+// A record of a file: `record KEY = VALUE`.
+fn is_record(store: &mut Store, space: &mut OneFile, line: &mut Line<'_>) -> Result<(), Failure> {
+    let key = line.bytes_up_to(" = ")?;
+    let value = line.bytes()?;
+    let found = record(store, space, key.as_slice())?;
+    is_value(line, Some(&value), &found)
+}
+
+// The rule of trees that a file breaks: `rule plain|index FILE RULE`.
+fn breaks(
+    alloc: Global,
+    store: &mut Store,
+    space: &mut OneFile,
+    line: &mut Line<'_>,
+) -> Result<(), Failure> {
+    let index = is_second(line, "plain", "index")?;
+    usable(space)?;
+    let broken = check_tree::<Store, Lexical>(alloc, store, space, index).err();
+    is_rule(alloc, line, broken)
+}
+
+// A line on a file that is opened anew: how many `records` it has, a `record`, its region, `has_region BYTES`, or the `rule` of trees that it breaks.
 fn look_anew(alloc: Global, bytes: &[u8], what: &str, line: &mut Line<'_>) -> Result<(), Failure> {
     let mut space = OneFile::new(alloc, bytes)?;
     let mut store: Store = Hash::open(alloc, &mut space, 0, 1)?;
     match what {
         "records" => is_number(alloc, line, store.count()),
-        "region" => Ok(told(alloc, &line.bytes()?, &store.opaque())?),
-        "record" => {
-            let key = line.bytes_up_to(" = ")?;
-            let value = line.bytes()?;
-            let found = record(&mut store, &mut space, key.as_slice())?;
-            is_value(alloc, Some(&value), &found)
-        }
-        "rule" => {
-            let index = line.word() == "index";
-            is_rule(
-                alloc,
-                line,
-                check_tree::<Store, Lexical>(alloc, &mut store, &mut space, index).err(),
-            )
-        }
+        "has_region" => Ok(line.is_bytes(&store.opaque())?),
+        "record" => is_record(&mut store, &mut space, line),
+        "rule" => breaks(alloc, &mut store, &mut space, line),
         _ => Err(Failure::Line(Wrong::Unread)),
     }
 }
@@ -98,9 +101,9 @@ fn look(
             *marked = Blob::from_slice(alloc, bytes)?;
             Ok(())
         }
-        "same" => is_so(marked.as_slice() == bytes),
+        "same" => is_so(line, marked.as_slice() == bytes),
         "height" => is_number(alloc, line, tree.tree().height()),
-        "bytes" => are_bytes(alloc, line, bytes),
+        "bytes" => are_bytes(line, bytes),
         _ => look_anew(alloc, bytes, what, line),
     }
 }
@@ -115,6 +118,7 @@ pub fn play_tree(
     let mut tree = created(alloc, &mut space, line)?;
     let mut marked = Blob::new(alloc);
     for _ in 0..script.len() {
+        usable(&space)?;
         let Some((what, mut line)) = play_list(alloc, &mut tree, &mut space, script)? else {
             return Ok(());
         };
@@ -126,6 +130,7 @@ pub fn play_tree(
             what,
             &mut line,
         )?;
+        script.end(line)?;
     }
     Ok(())
 }

@@ -8,12 +8,12 @@ mod runs;
 mod transcript;
 mod trials;
 
-use play_text::play_files;
+use play_text::play_inputs;
 use runs::Runs;
 use std::io;
 use std::process::ExitCode;
 
 fn main(rt: HostRuntime) -> io::Result<ExitCode> {
     let mut runs = Runs::new(rt.alloc())?;
-    play_files(&rt, &mut runs)
+    play_inputs(&rt, &mut runs)
 }

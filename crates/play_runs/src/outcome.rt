@@ -1,6 +1,7 @@
 //! How a run ended.
 
 use crate::plan::Plan;
+use crate::transcript::has_opened;
 use play_text::{Line, Wrong, shown, told};
 use std::alloc::{AllocError, Global};
 use tc_fakes::{MemSink, MemVolume, MemWire, StepClock};
@@ -40,16 +41,24 @@ pub fn ran(alloc: Global, plan: &Plan, vol: MemVolume) -> Result<(Outcome, MemVo
 }
 
 impl Outcome {
-    /// It ended with this status, and never for want of memory.
-    pub fn ended(&self, alloc: Global, status: u64) -> Result<(), Wrong> {
+    // Its status and its line.
+    fn differs(&self, alloc: Global) -> Result<(), Wrong> {
+        let line = shown(alloc, self.err.bytes())?;
+        let text = format!(in alloc; "status {}, {}", self.status, line.as_str())?;
+        Err(Wrong::Differs(text))
+    }
+
+    /// It ended with the status of a line, never for want of memory, and connection 0 was sent what the plan says.
+    pub fn ended(&self, alloc: Global, plan: &Plan, line: &mut Line<'_>) -> Result<(), Wrong> {
+        let status = line.number()?;
+        line.compares();
         if u64::from(self.status) != status {
-            let line = shown(alloc, self.err.bytes())?;
-            return Err(Wrong::Differs(format!(in alloc; "status {}, {line}", self.status)?));
+            return self.differs(alloc);
         }
         if self.wire.starved() != 0 || self.out.starved() != 0 || self.err.starved() != 0 {
             return Err(Wrong::Memory);
         }
-        Ok(())
+        self.is_answered(alloc, plan)
     }
 
     /// Connection 0 was sent what it is owed, where it asked.
@@ -60,36 +69,32 @@ impl Outcome {
         }
     }
 
-    // Whether a front of these bytes was sent.
-    fn is_front(&self, alloc: Global, line: &mut Line<'_>) -> Result<(), Wrong> {
+    /// The connection of a line, which opened.
+    pub fn conn(&self, line: &mut Line<'_>) -> Result<u32, Wrong> {
         let conn = line.small()?;
-        let owed = line.bytes()?;
-        if owed.begins(self.wire.sent(conn)) {
-            return Ok(());
+        if has_opened(self.wire.log(), conn) {
+            return Ok(conn);
         }
-        told(alloc, &owed, self.wire.sent(conn))
+        Err(Wrong::Not("it never opened"))
     }
 
     // Whether a connection is closed.
     fn is_closed(&self, line: &mut Line<'_>, closed: bool) -> Result<(), Wrong> {
-        if self.wire.is_closed(line.small()?) == closed {
+        let conn = self.conn(line)?;
+        line.compares();
+        if self.wire.is_closed(conn) == closed {
             return Ok(());
         }
         Err(Wrong::Not("it is the other way"))
     }
 
     /// Looks at a line that says what came of it.
-    pub fn is(&self, alloc: Global, what: &str, line: &mut Line<'_>) -> Result<(), Wrong> {
+    pub fn is(&self, what: &str, line: &mut Line<'_>) -> Result<(), Wrong> {
         match what {
-            "sent" => {
-                let conn = line.small()?;
-                told(alloc, &line.bytes()?, self.wire.sent(conn))
-            }
-            "front" => self.is_front(alloc, line),
             "closed" => self.is_closed(line, true),
             "open" => self.is_closed(line, false),
-            "out" => told(alloc, &line.bytes()?, self.out.bytes()),
-            "err" => told(alloc, &line.bytes()?, self.err.bytes()),
+            "out" => line.is_bytes(self.out.bytes()),
+            "err" => line.is_bytes(self.err.bytes()),
             _ => Err(Wrong::Unread),
         }
     }

@@ -26,6 +26,8 @@ pub struct Plan {
     pub words: Vec<String>,
     // what connection 0 is owed, where it asks
     pub owed: Option<Pattern>,
+    // a line was taken since the last run
+    pub waits: bool,
     steps: Vec<Step>,
     piece: usize,
     fails: Vec<u64>,
@@ -38,9 +40,15 @@ pub fn sent_of(line: &mut Line<'_>, all: usize) -> Result<Sent, Wrong> {
         "all" => Ok(Sent::Took(all)),
         "later" => Ok(Sent::NotYet),
         "gone" => Ok(Sent::Gone),
-        "took" => Ok(Sent::Took(usize::try_from(line.number()?).unwrap_or(all))),
+        "took" => took_of(line),
         _ => Err(Wrong::Unread),
     }
+}
+
+// How many bytes are taken, of which there is one at least.
+fn took_of(line: &mut Line<'_>) -> Result<Sent, Wrong> {
+    let bytes = line.within(1, u64::from(u32::MAX))?;
+    Ok(Sent::Took(bytes as usize))
 }
 
 // What happens on a connection.
@@ -72,7 +80,7 @@ fn answer(wire: &mut MemWire, first: u64, last: u64, sent: Sent) -> Result<(), A
     Ok(())
 }
 
-// Bytes come of a connection, in pieces.
+// Bytes come of a connection, in pieces of 1 to 4096.
 fn feed(wire: &mut MemWire, conn: u32, bytes: &Blob, piece: usize) -> Result<(), AllocError>
     ensures { wire.new.opened ≡ wire.old.opened }
 {
@@ -104,6 +112,7 @@ impl Plan {
             alloc,
             words: Vec::new(alloc),
             owed: None,
+            waits: false,
             steps: Vec::new(alloc),
             piece: 4096,
             fails: Vec::new(alloc),
@@ -120,18 +129,22 @@ impl Plan {
         Ok(plan)
     }
 
-    // Takes words: what was to be done with those before is forgotten.
-    fn begin(&mut self, words: Vec<String>) {
+    // Takes words: what was done with those before is forgotten.
+    fn begin(&mut self, words: Vec<String>) -> Result<(), Wrong> {
+        if self.waits {
+            return Err(Wrong::Not("nothing ran"));
+        }
         *self = Plan::new(self.alloc);
         self.words = words;
+        Ok(())
     }
 
     // Connections open.
     fn open(&mut self, line: &mut Line<'_>) -> Result<(), Wrong> {
         let (first, last) = line.numbers()?;
         for conn in first..=last {
-            self.steps
-                .push(Step::Opened(u32::try_from(conn).unwrap_or(u32::MAX)))?;
+            let conn = u32::try_from(conn).ok().ok_or(Wrong::Unread)?;
+            self.steps.push(Step::Opened(conn))?;
         }
         Ok(())
     }
@@ -163,16 +176,17 @@ impl Plan {
     /// Takes a line.
     pub fn take(&mut self, what: &str, line: &mut Line<'_>) -> Result<(), Wrong> {
         match what {
-            "words" => self.begin(line.words()?),
+            "words" => self.begin(line.words()?)?,
             "opened" => self.open(line)?,
             "ask" => self.ask(line)?,
-            "pieces" => self.piece = line.small()? as usize,
+            "pieces" => self.piece = line.within(1, 4096)? as usize,
             "wire" => Plan::take_fails(line, &mut self.fails)?,
             "sink" => Plan::take_fails(line, &mut self.refuses)?,
             _ => self
                 .steps
                 .push(step_of(self.alloc, what, line, self.piece)?)?,
         }
+        self.waits = true;
         Ok(())
     }
 

@@ -3,13 +3,13 @@ ghost use Rattle.std.specs.Prelude.{◌≤◌, IfOk};
 
 use crate::outcome::{Outcome, ran};
 use crate::plan::Plan;
-use crate::transcript::{is_call, next_told};
+use crate::transcript::{is_call, next_told, sent_besides};
 use crate::trials::{Trial, try_all};
 use play_stops::{Trouble, WHOLE, are_same};
 use play_text::{Line, Pattern, Player, Script, Wrong, told};
 use std::alloc::{AllocError, Global};
 use std::mem;
-use tc_fakes::{Choice, MemVolume};
+use tc_fakes::MemVolume;
 
 /// A volume, what the next run over it is given, and what came of the last one.
 #[derive(Drop)]
@@ -19,23 +19,42 @@ pub struct Runs {
     // the volume as it was before the last run
     before: MemVolume,
     plan: Plan,
+    // a file was made or changed since the last run
+    made: bool,
     outcome: Option<Outcome>,
-    // what was told of the last run: its output, its line, its log, and how many of its calls of the wire
+    told: Told,
+    trial: Trial,
+}
+
+// What was told of the last run: its output, its line, its log, what it sent to these connections, and how many of its calls of the wire.
+#[derive(Drop)]
+struct Told {
     out: bool,
     err: bool,
     log: bool,
+    sent: Vec<u32>,
     calls: usize,
-    trial: Trial,
+}
+
+impl Told {
+    // Nothing was told.
+    fn new(alloc: Global) -> Told {
+        Told {
+            out: false,
+            err: false,
+            log: false,
+            sent: Vec::new(alloc),
+            calls: 0,
+        }
+    }
 }
 
 // A file that there is.
 fn file_of(line: &mut Line<'_>) -> Result<u32, Wrong>
     ensures { IfOk result (λ file. file ≤ 18) }
 {
-    match line.small()? {
-        file if file < 19 => Ok(file),
-        _ => Err(Wrong::Unread),
-    }
+    let file = line.within(0, 18)?;
+    Ok(file as u32)
 }
 
 impl Runs {
@@ -45,109 +64,125 @@ impl Runs {
             vol: MemVolume::new(alloc)?,
             before: MemVolume::new(alloc)?,
             plan: Plan::new(alloc),
+            made: false,
             outcome: None,
-            out: false,
-            err: false,
-            log: false,
-            calls: 0,
+            told: Told::new(alloc),
             trial: Trial::new(alloc),
         })
     }
 
-    // Bytes at a place of a file become others; what reaches behind it is dropped.
-    fn poke(&mut self, file: u32, place: u64, bytes: &[u8]) -> Result<(), AllocError>
+    // Bytes at a place of a file, all of them in it, become others.
+    fn poke(&mut self, file: u32, line: &mut Line<'_>) -> Result<(), Wrong>
         requires { file ≤ 18 }
     {
         let mut all = Vec::from_slice(self.alloc, self.vol.bytes(file))?;
-        let place = usize::try_from(place).unwrap_or(usize::MAX);
-        for (there, byte) in all.iter_mut().skip(place).zip(bytes.iter()) {
-            *there = *byte;
+        let place = line.within(0, all.len() as u64)? as usize;
+        let bytes = line.bytes()?;
+        let bytes = bytes.as_slice();
+        if bytes.is_empty() || bytes.len() > all.len() - place {
+            return Err(Wrong::Unread);
         }
-        self.vol.load(file, &all)
+        all[place..place + bytes.len()].copy_from_slice(bytes);
+        Ok(self.vol.load(file, &all)?)
     }
 
-    // A file ends at a place.
-    fn cut(&mut self, file: u32, length: u64) -> Result<(), AllocError>
+    // A file ends at a place in it.
+    fn cut(&mut self, file: u32, line: &mut Line<'_>) -> Result<(), Wrong>
         requires { file ≤ 18 }
     {
         let mut all = Vec::from_slice(self.alloc, self.vol.bytes(file))?;
-        all.truncate(usize::try_from(length).unwrap_or(usize::MAX));
-        self.vol.load(file, &all)
+        let length = line.within(0, all.len() as u64)?;
+        all.truncate(length as usize);
+        Ok(self.vol.load(file, &all)?)
     }
 
     // Takes a line that makes files.
     fn make(&mut self, what: &str, line: &mut Line<'_>) -> Result<(), Wrong> {
+        self.made = true;
         let file = file_of(line)?;
         match what {
-            "load" => self.vol.load(file, line.bytes()?.as_slice())?,
-            "cut" => self.cut(file, line.number()?)?,
-            _ => {
-                let place = line.number()?;
-                self.poke(file, place, line.bytes()?.as_slice())?;
-            }
+            "load" => Ok(self.vol.load(file, line.bytes()?.as_slice())?),
+            "cut" => self.cut(file, line),
+            _ => self.poke(file, line),
         }
-        Ok(())
     }
 
-    // Takes a line that gives the volume trouble.
-    fn trouble(&mut self, line: &mut Line<'_>) -> Result<(), Wrong> {
-        match line.word() {
-            "stops" => self.vol.stop_after(line.number()?),
-            "fails" => {
-                let mut calls = Vec::new(self.alloc);
-                calls.push(line.number()?)?;
-                self.vol.fail_at(calls);
-            }
-            _ => return Err(Wrong::Unread),
-        }
-        Ok(())
-    }
-
-    // The volume becomes what a stop leaves of it: how many bytes are kept, what fills the others, and whether cuts happened.
-    fn leave(&mut self, line: &mut Line<'_>) -> Result<(), Wrong> {
-        let choice = Choice {
-            keep: line.number()?,
-            fill: u8::try_from(line.number()?).unwrap_or(u8::MAX),
-            cut: line.word() == "cut",
-        };
-        self.vol = self.vol.image(&choice)?;
-        Ok(())
-    }
-
-    // Runs, and looks at its status.
-    fn run(&mut self, line: &mut Line<'_>) -> Result<(), Wrong> {
-        self.is_all_told()?;
-        let status = line.number()?;
+    // Runs over the volume, and keeps what it was and is.
+    fn go(&mut self) -> Result<Outcome, AllocError> {
         self.before = self.vol.image(&WHOLE)?;
         let vol = mem::replace(&mut self.vol, MemVolume::new(self.alloc)?);
         let (outcome, vol) = ran(self.alloc, &self.plan, vol)?;
         self.vol = vol;
-        (self.out, self.err, self.log, self.calls) = (false, false, false, 0);
-        outcome.ended(self.alloc, status)?;
-        outcome.is_answered(self.alloc, &self.plan)?;
+        Ok(outcome)
+    }
+
+    // Runs, and looks at its status and at what connection 0 is owed, where it asked.
+    fn run(&mut self, line: &mut Line<'_>) -> Result<(), Wrong> {
+        self.is_all_told()?;
+        (self.made, self.plan.waits) = (false, false);
+        let outcome = self.go()?;
+        outcome.ended(self.alloc, &self.plan, line)?;
         self.outcome = Some(outcome);
+        self.told = Told::new(self.alloc);
+        if self.plan.owed.is_some() {
+            self.told.sent.push(0)?;
+        }
         if self.vol.starved() != 0 {
             return Err(Wrong::Memory);
         }
         Ok(())
     }
 
-    // What no line tells of the last run is nothing: what it printed, its line, and what is left in the log. Where a call of the wire is told, all are.
+    // Whether a line was taken for a run that wasn't made.
+    fn waits(&self) -> bool {
+        self.made || self.plan.waits
+    }
+
+    // The run of which a line speaks was made.
+    fn has_run(&self) -> Result<(), Wrong> {
+        if self.outcome.is_none() || self.waits() {
+            return Err(Wrong::Not("nothing ran"));
+        }
+        Ok(())
+    }
+
+    // All that was made ready for a run or a trial was used.
+    fn is_all_run(&self) -> Result<(), Wrong> {
+        if self.waits() || self.trial.waits {
+            return Err(Wrong::Not("nothing ran behind it"));
+        }
+        Ok(())
+    }
+
+    // Nothing was sent but to connections that lines told of.
+    fn is_all_sent(&self, outcome: &Outcome) -> Result<(), Wrong> {
+        match sent_besides(outcome.wire.log(), &self.told.sent) {
+            Some(conn) => Err(Wrong::Differs(format!(in self.alloc;
+                "connection {conn} was sent more"
+            )?)),
+            None => Ok(()),
+        }
+    }
+
+    // What no line tells of the last run is nothing: what it printed, its line, what is left in the log, and what it sent. Where a call of the wire is told, all are.
     fn is_all_told(&self) -> Result<(), Wrong> {
         let Some(outcome) = &self.outcome else {
             return Ok(());
         };
         let none = Pattern::new(self.alloc);
-        if !self.out {
+        if !self.told.out {
             told(self.alloc, &none, outcome.out.bytes())?;
         }
-        if !self.err {
+        if !self.told.err {
             told(self.alloc, &none, outcome.err.bytes())?;
         }
-        if !self.log {
+        if !self.told.log {
             told(self.alloc, &none, self.vol.bytes(1))?;
         }
-        if self.calls > 0 && next_told(outcome.wire.log(), self.calls).is_some() {
+        if self.told.calls == 0 {
+            return self.is_all_sent(outcome);
+        }
+        if next_told(outcome.wire.log(), self.told.calls).is_some() {
             return Err(Wrong::Not("the wire was asked more"));
         }
         Ok(())
@@ -156,7 +191,7 @@ impl Runs {
     // Looks at a line that says what files are left: the bytes of one, all as they were, or any log.
     fn is_left(&mut self, what: &str, line: &mut Line<'_>) -> Result<(), Wrong> {
         if what != "file" {
-            self.log = true;
+            self.told.log = true;
         }
         match what {
             "file" => self.is_file(line),
@@ -168,8 +203,8 @@ impl Runs {
     // Looks at the bytes of a file.
     fn is_file(&mut self, line: &mut Line<'_>) -> Result<(), Wrong> {
         let file = file_of(line)?;
-        self.log = self.log || file == 1;
-        told(self.alloc, &line.bytes()?, self.vol.bytes(file))
+        self.told.log = self.told.log || file == 1;
+        line.is_bytes(self.vol.bytes(file))
     }
 
     // Looks at a line that says what the wire was asked next, or that it was asked nothing.
@@ -178,17 +213,14 @@ impl Runs {
             return Err(Wrong::Unread);
         };
         let log = outcome.wire.log();
-        let Some(place) = next_told(log, self.calls) else {
+        let Some((place, entry)) = next_told(log, self.told.calls) else {
             if line.word() == "nothing" && log.is_empty() {
                 return Ok(());
             }
             return Err(Wrong::Not("nothing more"));
         };
-        self.calls = place.saturating_add(1);
-        match log.get(place) {
-            Some(entry) => is_call(self.alloc, line, entry),
-            None => Ok(()),
-        }
+        self.told.calls = place.saturating_add(1);
+        is_call(self.alloc, line, entry)
     }
 
     // Looks at a line that says how many calls the volume had.
@@ -202,36 +234,66 @@ impl Runs {
 
     // Looks at a line that says what came of the last run.
     fn is(&mut self, what: &str, line: &mut Line<'_>) -> Result<(), Wrong> {
-        self.out = self.out || what == "out";
-        self.err = self.err || what == "err";
+        self.told.out = self.told.out || what == "out";
+        self.told.err = self.told.err || what == "err";
         match &self.outcome {
-            Some(outcome) => outcome.is(self.alloc, what, line),
+            Some(outcome) => outcome.is(what, line),
             None => Err(Wrong::Unread),
         }
     }
 
-    // Tries a run with trouble at each call.
+    // Looks at a line that says what was sent to a connection.
+    fn is_sent(&mut self, line: &mut Line<'_>) -> Result<(), Wrong> {
+        let Some(outcome) = &self.outcome else {
+            return Err(Wrong::Unread);
+        };
+        let conn = outcome.conn(line)?;
+        self.told.sent.push(conn)?;
+        line.is_bytes(outcome.wire.sent(conn))
+    }
+
+    // Tries a run with trouble at each call. No line behind it speaks of an earlier run.
     fn try_run(&mut self, trouble: Trouble, line: &mut Line<'_>) -> Result<(), Wrong> {
+        self.is_all_told()?;
+        self.outcome = None;
+        (self.made, self.plan.waits, self.trial.waits) = (false, false, false);
         self.trial.calls = line.number()?;
+        line.compares();
         try_all(self.alloc, &self.plan, &self.trial, &self.vol, trouble)
     }
 }
 
 impl Runs {
+    // Looks at a line that speaks of the last run.
+    fn look(&mut self, what: &str, line: &mut Line<'_>) -> Result<(), Wrong> {
+        self.has_run()?;
+        match what {
+            "file" | "kept" | "log" => self.is_left(what, line),
+            "did" => self.is_asked(line),
+            "calls" => self.is_called(line),
+            "sent" => self.is_sent(line),
+            _ => self.is(what, line),
+        }
+    }
+
     // Plays a line.
     fn line(&mut self, what: &str, line: &mut Line<'_>) -> Result<(), Wrong> {
         match what {
             "load" | "poke" | "cut" => self.make(what, line),
-            "volume" => self.trouble(line),
-            "left" => self.leave(line),
             "run" => self.run(line),
             "again" | "asks" | "before" | "after" => self.trial.take(what, line),
             "stops" => self.try_run(Trouble::Stop, line),
             "faults" => self.try_run(Trouble::Fault, line),
-            "sent" | "front" | "closed" | "open" | "out" | "err" => self.is(what, line),
-            "file" | "kept" | "log" => self.is_left(what, line),
-            "did" => self.is_asked(line),
-            "calls" => self.is_called(line),
+            "sent"
+            | "closed"
+            | "open"
+            | "out"
+            | "err"
+            | "file"
+            | "kept"
+            | "log"
+            | "did"
+            | "calls" => { self.look(what, line) }
             _ => self.plan.take(what, line),
         }
     }
@@ -243,11 +305,10 @@ impl Player for Runs {
         for _ in 0..script.len() {
             if let Some((what, mut line)) = script.next_line() {
                 self.line(what, &mut line)?;
-                if !line.is_empty() {
-                    return Err(Wrong::Unread);
-                }
+                script.end(line)?;
             }
         }
+        self.is_all_run()?;
         self.is_all_told()
     }
 }

@@ -1,20 +1,48 @@
 //! What a wire was asked, in order.
 
 use crate::plan::sent_of;
-use play_text::{Line, Wrong, told};
+use play_text::{Line, Wrong};
 use std::alloc::Global;
-use tc_io::{At, Entry, Sent};
+use tc_io::{At, Entry, Ev, Sent};
 
 // Whether a call is one that a script tells.
 fn is_told(entry: &Entry) -> bool {
     !matches!(entry, Entry::Event { .. })
 }
 
-/// The place of the next call that a script tells, from a place on.
-pub fn next_told(log: &[Entry], from: usize) -> Option<usize> {
+/// The next call that a script tells, from a place on, and its place.
+pub fn next_told(log: &[Entry], from: usize) -> Option<(usize, &Entry)> {
     for (place, entry) in log.iter().enumerate() {
         if place >= from && is_told(entry) {
-            return Some(place);
+            return Some((place, entry));
+        }
+    }
+    None
+}
+
+/// Whether a connection opened.
+pub fn has_opened(log: &[Entry], conn: u32) -> bool {
+    for entry in log.iter() {
+        if let Entry::Event {
+            ev: Ev::Opened(opened),
+            ..
+        } = entry
+        {
+            if *opened == conn {
+                return true;
+            }
+        }
+    }
+    false
+}
+
+/// The first connection that was sent something, but for these.
+pub fn sent_besides(log: &[Entry], conns: &[u32]) -> Option<u32> {
+    for entry in log.iter() {
+        if let Entry::Send { conn, .. } = entry {
+            if !conns.contains(conn) {
+                return Some(*conn);
+            }
         }
     }
     None
@@ -45,7 +73,7 @@ fn is_send(
 ) -> Result<(), Wrong> {
     let to = line.small()?;
     let wanted = sent_of(line, bytes.len())?;
-    told(alloc, &line.bytes()?, bytes)?;
+    line.is_bytes(bytes)?;
     if to == conn && wanted == answer {
         return Ok(());
     }

@@ -7,13 +7,15 @@ use play_text::{Line, Pattern, Wrong, shown};
 use std::alloc::Global;
 use tc_fakes::MemVolume;
 
-/// The words of the run that opens what is left, what it is asked and answered, and how many calls of the volume a run may make.
+/// The words of the run that opens what is left, what it is asked and answered, and how many calls of the volume are more than a run makes.
 #[derive(Drop)]
 pub struct Trial {
     again: Vec<String>,
     asks: Pattern,
     before: Pattern,
     after: Pattern,
+    // a line was taken since the last trial
+    pub waits: bool,
     pub calls: u64,
 }
 
@@ -24,6 +26,7 @@ impl Trial {
             asks: Pattern::new(alloc),
             before: Pattern::new(alloc),
             after: Pattern::new(alloc),
+            waits: false,
             calls: 0,
         }
     }
@@ -36,6 +39,7 @@ impl Trial {
             "before" => self.before = line.bytes()?,
             _ => self.after = line.bytes()?,
         }
+        self.waits = true;
         Ok(())
     }
 }
@@ -58,8 +62,8 @@ fn lost(alloc: Global, outcome: &Outcome) -> Result<(), Wrong> {
     Err(Wrong::Differs(format!(in alloc; "status {}, {found}", outcome.status)?))
 }
 
-// There were more calls than a run may make.
-const ENDLESS: Wrong = Wrong::Not("more calls than a run may make");
+// There were as many calls as no run may make.
+const ENDLESS: Wrong = Wrong::Not("a run makes as many calls");
 
 impl<'a> Course<'a> {
     fn new(
@@ -102,7 +106,7 @@ impl<'a> Course<'a> {
 
     // The same of what is left by a run that opens a volume and meets trouble, at each of its calls.
     fn reopens_twice(&mut self, vol: &MemVolume) -> Result<(), Wrong> {
-        for call in 1..self.trial.calls {
+        for call in 1..=self.trial.calls {
             let mut copy = vol.image(&WHOLE)?;
             self.trouble.meet(self.alloc, &mut copy, call)?;
             let (_, left) = ran(self.alloc, self.again, copy)?;
@@ -154,9 +158,12 @@ pub fn try_all(
     files: &MemVolume,
     trouble: Trouble,
 ) -> Result<(), Wrong> {
+    if trial.asks.is_empty() {
+        return Err(Wrong::Not("nothing is asked"));
+    }
     let again = Plan::asking(alloc, trial.again.clone()?, trial.asks.as_slice())?;
     let mut course = Course::new(alloc, trial, &again, trouble, false);
-    for call in 1..trial.calls {
+    for call in 1..=trial.calls {
         let mut vol = files.image(&WHOLE)?;
         trouble.meet(alloc, &mut vol, call)?;
         let (outcome, left) = ran(alloc, plan, vol)?;

@@ -1,6 +1,6 @@
 //! A case, and what it is played for.
 
-use crate::numbers::number_of;
+use crate::numbers::numbers_of;
 use crate::terms::at_blank;
 use crate::wrongs::Wrong;
 use std::alloc::{AllocError, Global};
@@ -19,6 +19,8 @@ pub struct Case<'a> {
     name: &'a str,
     eaches: Vec<Each>,
     lines: Vec<&'a str>,
+    // a line of it couldn't be taken
+    is_refused: bool,
 }
 
 // A text with another in each place of a mark.
@@ -33,13 +35,9 @@ fn replaced(alloc: Global, text: &str, mark: &str, other: &str) -> Result<String
     Ok(all)
 }
 
-// Adds the numbers from one to another.
-fn add_numbers(
-    alloc: Global,
-    first: u64,
-    last: u64,
-    texts: &mut Vec<String>,
-) -> Result<(), AllocError> {
+// Adds the numbers that a word is.
+fn add_numbers(alloc: Global, word: &str, texts: &mut Vec<String>) -> Result<(), Wrong> {
+    let (first, last) = numbers_of(word)?;
     for number in first..=last {
         texts.push(format!(in alloc; "{number}")?)?;
     }
@@ -48,13 +46,14 @@ fn add_numbers(
 
 // Adds the texts that a word stands for: `first..=last` for numbers, `''` for an empty one, else itself.
 fn add_texts(alloc: Global, word: &str, texts: &mut Vec<String>) -> Result<(), Wrong> {
-    if let Some((first, last)) = word.split_once("..=") {
-        let (Some(first), Some(last)) = (number_of(first), number_of(last)) else {
-            return Err(Wrong::Unread);
-        };
-        return Ok(add_numbers(alloc, first, last, texts)?);
+    if word.contains("..=") {
+        return add_numbers(alloc, word, texts);
     }
-    let word = if word == "''" { "" } else { word };
+    let word = match word {
+        "" => return Err(Wrong::Unread),
+        "''" => "",
+        _ => word,
+    };
     texts.push(String::from_str(alloc, word)?)?;
     Ok(())
 }
@@ -66,13 +65,33 @@ impl<'a> Case<'a> {
             name,
             eaches: Vec::new(alloc),
             lines: Vec::new(alloc),
+            is_refused: false,
         }
+    }
+
+    /// Its name, with its marks.
+    pub fn name(&self) -> &'a str {
+        self.name
+    }
+
+    // Whether a mark stands at the front of another, or the other way.
+    fn meets(&self, mark: &str) -> bool {
+        for each in self.eaches.iter() {
+            let other = each.mark.as_str();
+            if other.starts_with(mark) || mark.starts_with(other) {
+                return true;
+            }
+        }
+        false
     }
 
     // Takes what a mark stands for.
     fn add_each(&mut self, text: &str) -> Result<(), Wrong> {
         let (mark, rest) = at_blank(text);
         let mark = format!(in self.alloc; "@{mark}")?;
+        if mark.as_str() == "@" || self.meets(mark.as_str()) {
+            return Err(Wrong::Unread);
+        }
         let mut texts = Vec::new(self.alloc);
         let between = if rest.contains(" | ") { " | " } else { " " };
         for word in rest.split(between) {
@@ -82,16 +101,46 @@ impl<'a> Case<'a> {
         Ok(())
     }
 
-    /// Takes a line more.
-    pub fn add(&mut self, line: &'a str) -> Result<(), Wrong> {
+    // Takes a line more, where it can be read.
+    fn add_line(&mut self, line: &'a str) -> Result<(), Wrong> {
         match line.strip_prefix("each ") {
             Some(text) => self.add_each(text),
             None => Ok(self.lines.push(line)?),
         }
     }
 
-    /// How many plays it has.
+    /// Takes a line more. Where it can't be read, the case isn't played.
+    pub fn add(&mut self, line: &'a str) -> Result<(), Wrong> {
+        let added = self.add_line(line);
+        self.is_refused = self.is_refused || added.is_err();
+        added
+    }
+
+    // Whether a mark stands in one of its lines.
+    fn has(&self, mark: &str) -> bool {
+        for line in self.lines.iter() {
+            if line.contains(mark) {
+                return true;
+            }
+        }
+        false
+    }
+
+    /// The first of its marks that stands in none of its lines.
+    pub fn unused(&self) -> Option<&str> {
+        for each in self.eaches.iter() {
+            if !self.has(each.mark.as_str()) {
+                return Some(each.mark.as_str());
+            }
+        }
+        None
+    }
+
+    /// How many plays it has; none where a line of it couldn't be read.
     pub fn plays(&self) -> usize {
+        if self.is_refused {
+            return 0;
+        }
         let mut plays: usize = 1;
         for each in self.eaches.iter() {
             plays = plays.saturating_mul(each.texts.len());

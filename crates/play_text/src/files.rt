@@ -1,7 +1,7 @@
 //! Files of cases, played.
 
 use crate::names::Names;
-use crate::playing::{Player, play_text};
+use crate::playing::{Player, play_cases};
 use crate::reports::Report;
 use std::env;
 use std::fs::Files;
@@ -18,7 +18,7 @@ fn play_one<R: Print + AllocGlobal, P: Player>(
     text: &str,
 ) -> io::Result<bool> {
     let mut report = Report::new(rt.alloc());
-    play_text(rt.alloc(), player, names, text, &mut report)?;
+    play_cases(rt.alloc(), player, names, text, &mut report)?;
     print!(rt; "{name}{}", report.text()?.as_str())?;
     Ok(report.is_well())
 }
@@ -35,7 +35,7 @@ fn play_input<R: Input + Print + AllocGlobal, P: Player>(
 
 /// Plays the files of cases that the program's words name, each with the names of those before; without words its standard input. Prints what came of each, and answers 1
 /// where a case failed.
-pub fn play_files<R: Files + Env + Input + Print + AllocGlobal, P: Player>(
+pub fn play_inputs<R: Files + Env + Input + Print + AllocGlobal, P: Player>(
     rt: &R,
     player: &mut P,
 ) -> io::Result<ExitCode> {

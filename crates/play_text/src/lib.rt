@@ -13,12 +13,12 @@ mod scripts;
 mod terms;
 mod wrongs;
 
-pub use files::play_files;
+pub use files::play_inputs;
 pub use lines::{Line, words_of};
 pub use names::Names;
 pub use numbers::number_of;
 pub use patterns::Pattern;
-pub use playing::{Player, play_text};
+pub use playing::{Player, play_cases};
 pub use reports::Report;
 pub use scripts::Script;
-pub use wrongs::{Wrong, is_same, shown, told};
+pub use wrongs::{Wrong, shown, told};

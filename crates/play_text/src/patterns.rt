@@ -93,9 +93,4 @@ impl Pattern {
         }
         self.bytes.len() == found.len() && self.fitting(found) == found.len()
     }
-
-    /// Whether bytes are a front of these.
-    pub fn begins(&self, found: &[u8]) -> bool {
-        found.len() <= self.bytes.len() && self.fitting(found) == found.len()
-    }
 }

@@ -2,15 +2,18 @@
 
 use crate::lines::Line;
 use crate::names::Names;
+use crate::wrongs::Wrong;
 use std::alloc::Global;
 
-/// The lines of a case that are left, and the names that they may have.
+/// The lines of a case that are left, the names that they may have, and what came of those in front: how many were played to their ends, and whether one compared something.
 #[derive(Clone, Copy)]
 pub struct Script<'a> {
     alloc: Global,
     names: &'a Names,
     lines: &'a [String],
     at: usize,
+    ended: usize,
+    has_compared: bool,
 }
 
 impl<'a> Script<'a> {
@@ -20,6 +23,8 @@ impl<'a> Script<'a> {
             names,
             lines,
             at: 0,
+            ended: 0,
+            has_compared: false,
         }
     }
 
@@ -28,18 +33,35 @@ impl<'a> Script<'a> {
         self.lines.len()
     }
 
-    /// Whether it has none.
-    pub fn is_empty(&self) -> bool {
-        self.lines.is_empty()
-    }
-
-    /// The first word of the next line, and the rest of it.
+    /// The first word of the next line, and the rest of it, which `end` takes once it was played.
     pub fn next_line(&mut self) -> Option<(&'a str, Line<'a>)> {
         let text = self.lines.get(self.at)?;
         self.at = self.at.saturating_add(1);
         let mut line = Line::new(self.alloc, self.names, text.as_str());
         let what = line.word();
         Some((what, line))
+    }
+
+    /// Ends a line that was played: no word of it is left.
+    pub fn end(&mut self, line: Line<'_>) -> Result<(), Wrong> {
+        line.is_over()?;
+        self.ended = self.ended.saturating_add(1);
+        self.has_compared = self.has_compared || line.has_compared();
+        Ok(())
+    }
+
+    // All lines were played to their ends, and one of them compared something.
+    pub(crate) fn is_played(&self) -> Result<(), Wrong> {
+        if self.at < self.lines.len() {
+            return Err(Wrong::Not("a line behind it isn't played"));
+        }
+        if self.ended < self.at {
+            return Err(Wrong::Not("a line isn't played to its end"));
+        }
+        if !self.has_compared {
+            return Err(Wrong::Not("nothing is compared"));
+        }
+        Ok(())
     }
 
     // The line that was played last.

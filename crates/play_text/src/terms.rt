@@ -1,4 +1,5 @@
 //! Bytes as a case writes them: terms with blanks between them.
+ghost use Rattle.std.specs.Prelude.{◌≤◌, IfOk};
 
 use crate::names::Names;
 use crate::numbers::number_of;
@@ -58,22 +59,41 @@ fn worded(text: &str) -> Result<Parted<'_>, Wrong> {
     })
 }
 
-// Adds a number in so many bytes, its least byte first.
-fn add_least_first(width: &str, number: &str, into: &mut Pattern) -> Result<(), Wrong> {
+// A number, and in how many bytes it stands.
+#[derive(Clone, Copy)]
+struct Numeral {
+    width: usize,
+    number: u64,
+}
+
+// A number in 1 to 8 bytes, which have room for it.
+fn numeral_of(width: &str, number: &str) -> Result<Numeral, Wrong>
+    ensures { IfOk result (λ n. n.width ≤ 8) }
+{
     let (Some(width), Some(number)) = (number_of(width), number_of(number)) else {
         return Err(Wrong::Unread);
     };
-    let bytes = number.to_le_bytes();
-    Ok(into.add(&bytes[..width.min(8) as usize])?)
+    if width < 1 || width > 8 || number > u64::MAX >> (64 - 8 * width) {
+        return Err(Wrong::Unread);
+    }
+    Ok(Numeral {
+        width: width as usize,
+        number,
+    })
+}
+
+// Adds a number in so many bytes, its least byte first.
+fn add_least_first(width: &str, number: &str, into: &mut Pattern) -> Result<(), Wrong> {
+    let numeral = numeral_of(width, number)?;
+    let bytes = numeral.number.to_le_bytes();
+    Ok(into.add(&bytes[..numeral.width])?)
 }
 
 // The same with its greatest byte first.
 fn add_greatest_first(width: &str, number: &str, into: &mut Pattern) -> Result<(), Wrong> {
-    let (Some(width), Some(number)) = (number_of(width), number_of(number)) else {
-        return Err(Wrong::Unread);
-    };
-    let bytes = number.to_be_bytes();
-    Ok(into.add(&bytes[8 - width.min(8) as usize..])?)
+    let numeral = numeral_of(width, number)?;
+    let bytes = numeral.number.to_be_bytes();
+    Ok(into.add(&bytes[8 - numeral.width..])?)
 }
 
 // Adds bytes that stand there as digits of sixteen.
@@ -96,10 +116,17 @@ fn add_word(alloc: Global, names: &Names, word: &str, into: &mut Pattern) -> Res
     if let Some((width, number)) = word.split_once('>') {
         return add_greatest_first(width, number, into);
     }
-    if word == "?" {
-        return Ok(into.add_free()?);
+    match word {
+        "" => Err(Wrong::Unread),
+        "?" => Ok(into.add_free()?),
+        _ => add_digits(alloc, word, into),
     }
-    add_digits(alloc, word, into)
+}
+
+// How many bytes a term has that stands so many times, in four bytes.
+fn size_of(length: usize, times: usize) -> Result<[u8; 4], Wrong> {
+    let size = u32::try_from(length.saturating_mul(times));
+    Ok(size.ok().ok_or(Wrong::Unread)?.to_be_bytes())
 }
 
 // Adds the first term of a text, and answers what stands behind it.
@@ -120,10 +147,9 @@ fn add_term<'a>(
         Atom::Text(text) => one.add(text.as_bytes())?,
         Atom::Word(word) => add_word(alloc, names, word, &mut one)?,
     }
-    let times = usize::try_from(parted.times).unwrap_or(0);
+    let times = usize::try_from(parted.times).ok().ok_or(Wrong::Unread)?;
     if sized.is_some() {
-        let size = u32::try_from(one.len().saturating_mul(times)).unwrap_or(u32::MAX);
-        into.add(&size.to_be_bytes())?;
+        into.add(&size_of(one.len(), times)?)?;
     }
     into.append_times(&one, times)?;
     Ok(parted.rest)

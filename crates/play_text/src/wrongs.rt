@@ -16,6 +16,9 @@ pub enum Wrong {
     /// It can't be read.
     #[error("it can't be read")]
     Unread,
+    /// Words stand behind what was read.
+    #[error("`{0}` is left")]
+    Left(String),
     /// There is no memory.
     #[error("no memory")]
     Memory,
@@ -34,11 +37,11 @@ impl<T: Drop> From<AllocFailed<T>> for Wrong {
 }
 
 // How many bytes are shown.
-const MOST: usize = 64;
+const SHOWN: usize = 64;
 
 /// Bytes as text: the first 64 of them, and how many there are.
 pub fn shown(alloc: Global, bytes: &[u8]) -> Result<String, AllocError> {
-    let text = hex::encode(alloc, &bytes[..bytes.len().min(MOST)])?;
+    let text = hex::encode(alloc, &bytes[..bytes.len().min(SHOWN)])?;
     format!(in alloc; "{} bytes {}", bytes.len(), text.as_str())
 }
 
@@ -54,7 +57,7 @@ pub fn told(alloc: Global, wanted: &Pattern, found: &[u8]) -> Result<(), Wrong> 
 }
 
 /// A text is as it is to be.
-pub fn is_same(alloc: Global, wanted: &str, found: String) -> Result<(), Wrong> {
+pub fn is_same(wanted: &str, found: String) -> Result<(), Wrong> {
     if found.as_str() == wanted {
         Ok(())
     } else {

@@ -1,16 +1,18 @@
 //! Makes the steps that its standard input has on a list of pairs, and writes what they are answered: what `tests/trees` draws, and `bench/trees` times. Its words are what keeps the list, and its
-//! order: `list` is a list in memory, `tree` a tree over a map in memory, `hash` a tree in a hash file in memory; `lexical` or `decimal`.
+//! order: `list` is a list in memory, `tree` a tree over a map in memory, `hash` a tree in a hash file in memory, `rows` one in a file whose records come first; `lexical` or `decimal`.
 #![tactic(auto)]
 
 ghost use Rattle.std.specs.Prelude.{◌≤◌};
 
 mod answers;
 mod playing;
+mod rows;
 mod script;
 mod trees;
 
 use anyhow::{Error, anyhow};
 use playing::play_all;
+use rows::play_rows;
 use script::Script;
 use std::alloc::Global;
 use std::env;
@@ -35,7 +37,8 @@ fn played<O: Order>(alloc: Global, kept: &str, bytes: &[u8]) -> Result<Blob, Err
         "list" => play_list::<O>(alloc, bytes, &mut out)?,
         "tree" => play_tree::<O>(alloc, bytes, &mut out)?,
         "hash" => play_hash::<O>(alloc, bytes, &mut out)?,
-        _ => return Err(anyhow!("list, tree or hash")),
+        "rows" => play_rows::<O>(alloc, bytes, &mut out)?,
+        _ => return Err(anyhow!("list, tree, hash or rows")),
     }
     Ok(out)
 }
@@ -46,7 +49,7 @@ fn main(rt: HostRuntime) -> Result<(), Error> {
     let mut bytes = Vec::new(alloc);
     rt.stdin().read_to_end(&mut bytes)?;
     let (Some(kept), Some(order)) = (words.first(), words.get(1)) else {
-        return Err(anyhow!("list, tree or hash, and lexical or decimal"));
+        return Err(anyhow!("list, tree, hash or rows, and lexical or decimal"));
     };
     let out = match order.as_str() {
         "lexical" => played::<Lexical>(alloc, kept.as_str(), &bytes)?,

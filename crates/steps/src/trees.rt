@@ -11,7 +11,7 @@ use tc_hash::Hash;
 use tc_memstores::{MemRecords, OneFile};
 use tc_space::{Multi, RecErr};
 
-type Store = Hash<OneFile>;
+pub type Store = Hash<OneFile>;
 
 // A tree of no pairs, with at most four keys a leaf and four entries a node, in a new file of 1031 buckets.
 fn in_file<O: Order>(alloc: Global, space: &mut OneFile) -> Result<Btree<Store, O>, RecErr>
@@ -29,8 +29,8 @@ fn in_file<O: Order>(alloc: Global, space: &mut OneFile) -> Result<Btree<Store, 
     }
 }
 
-// Settles the tree, and adds how many pairs and rows it has, and its file.
-fn look<O: Order>(
+/// Settles the tree, and adds how many pairs and rows it has, and its file.
+pub fn look<O: Order>(
     tree: &mut Btree<Store, O>,
     space: &mut OneFile,
     into: &mut Blob,

@@ -16,7 +16,7 @@ fn begin<S: Space>(space: &mut S) -> Result<(), SpaceErr>
     requires holds { Holds S.tells S.now [] [] space.old }
     ensures wrote { OnOk result (Holds S.tells S.now main_first side_first space.new) }
     ensures others { OnOk result (S.tells → OthersStay (S.now space.old) (S.now space.new)) }
-    ensures steady { S.tells → Steady S.moment S.left S.kept space.old space.new }
+    ensures steady { S.tells → Steady S.moment S.files_at S.left S.kept space.old space.new }
     ensures outcome { Outcome S.sound S.flag result space.new }
     ensures follows { Follows S.Space space.old space.new }
     ensures cause { (Blamed S.Space (IsErrOf result SpaceErr.Fault) space.old space.new) × (IsErrOf result SpaceErr.Memory → ⊥) }
@@ -35,7 +35,7 @@ fn go_on<S: Space>(space: &mut S) -> Result<(), SpaceErr>
     requires holds { Holds S.tells S.now main_first side_first space.old }
     ensures wrote { OnOk result (Holds S.tells S.now main_second side_second space.new) }
     ensures others { OnOk result (S.tells → OthersStay (S.now space.old) (S.now space.new)) }
-    ensures steady { S.tells → Steady S.moment S.left S.kept space.old space.new }
+    ensures steady { S.tells → Steady S.moment S.files_at S.left S.kept space.old space.new }
     ensures outcome { Outcome S.sound S.flag result space.new }
     ensures follows { Follows S.Space space.old space.new }
     ensures cause { (Blamed S.Space (IsErrOf result SpaceErr.Fault) space.old space.new) × (IsErrOf result SpaceErr.Memory → ⊥) }
@@ -54,7 +54,7 @@ fn end<S: Space>(space: &mut S) -> Result<(), SpaceErr>
     requires holds { Holds S.tells S.now main_second side_second space.old }
     ensures wrote { OnOk result (Holds S.tells S.now main_last side_last space.new) }
     ensures others { OnOk result (S.tells → OthersStay (S.now space.old) (S.now space.new)) }
-    ensures steady { S.tells → Steady S.moment S.left S.kept space.old space.new }
+    ensures steady { S.tells → Steady S.moment S.files_at S.left S.kept space.old space.new }
     ensures outcome { Outcome S.sound S.flag result space.new }
     ensures follows { Follows S.Space space.old space.new }
     ensures cause { (Blamed S.Space (IsErrOf result SpaceErr.Fault) space.old space.new) × (IsErrOf result SpaceErr.Memory → ⊥) }
@@ -73,7 +73,7 @@ fn write_all<S: Space>(space: &mut S) -> Result<(), SpaceErr>
     requires holds { Holds S.tells S.now [] [] space.old }
     ensures wrote { OnOk result (Holds S.tells S.now main_last side_last space.new) }
     ensures others { OnOk result (S.tells → OthersStay (S.now space.old) (S.now space.new)) }
-    ensures steady { S.tells → Steady S.moment S.left S.kept space.old space.new }
+    ensures steady { S.tells → Steady S.moment S.files_at S.left S.kept space.old space.new }
     ensures outcome { Outcome S.sound S.flag result space.new }
     ensures follows { Follows S.Space space.old space.new }
     ensures cause { (Blamed S.Space (IsErrOf result SpaceErr.Fault) space.old space.new) × (IsErrOf result SpaceErr.Memory → ⊥) }

@@ -1,5 +1,0 @@
-use Rattle.std.proofs.Common.{◌≡◌, true}
-use Rattle.play_files.proofs.stores.play_opened.Given as goal
-
-abbrev pub invariant-loop : goal.invariant-loop
-invariant-loop l = l.space.sound ≡ true

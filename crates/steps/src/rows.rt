@@ -1,0 +1,122 @@
+//! Steps on a tree in a file whose records are given.
+ghost use Rattle.std.specs.Prelude.{◌≡◌, true, OnOk};
+
+use crate::playing::play_on;
+use crate::script::Script;
+use crate::trees::{Store, look};
+use anyhow::{Error, anyhow};
+use std::alloc::Global;
+use tc_base::{Blob, Mode, Order, Steps};
+use tc_btree::Btree;
+use tc_hash::Hash;
+use tc_memstores::OneFile;
+use tc_space::{Records, Space};
+
+// The file may be used.
+fn usable(space: &OneFile) -> Result<(), Error>
+    ensures { OnOk result (space.now.sound ≡ true) }
+{
+    if space.is_sound() {
+        Ok(())
+    } else {
+        Err(anyhow!("the file is spoiled"))
+    }
+}
+
+// A file of trees without records.
+fn bare(alloc: Global, space: &mut OneFile) -> Result<Store, Error> {
+    usable(space)?;
+    match Hash::create(alloc, space, 0, 1, 4, 10, 16_381, false) {
+        Ok(store) => Ok(store),
+        Err(e) => Err(Error::from(e)),
+    }
+}
+
+// The value of a key.
+fn put(store: &mut Store, space: &mut OneFile, key: &[u8], value: &[u8]) -> Result<(), Error> {
+    usable(space)?;
+    let mut steps: Steps<()> = Steps::new();
+    match store.put(space, key, value, Mode::Over, &mut steps) {
+        Ok(()) => Ok(()),
+        Err(e) => Err(Error::from(e)),
+    }
+}
+
+// The region.
+fn set_region(store: &mut Store, bytes: &[u8]) -> Result<(), Error> {
+    if bytes.len() != 128 {
+        return Err(anyhow!("a region has 128 bytes"));
+    }
+    let mut region = [0; 128];
+    region.copy_from_slice(bytes);
+    store.set_opaque(&region);
+    Ok(())
+}
+
+// The records of a file, and its region, which ends them.
+fn fill(store: &mut Store, space: &mut OneFile, script: &mut Script<'_>) -> Result<(), Error> {
+    for _ in 0..script.left() {
+        let Some(step) = script.step() else {
+            return Ok(());
+        };
+        if step.kind == b'h' {
+            return set_region(store, step.value);
+        }
+        put(store, space, step.key, step.value)?;
+    }
+    Ok(())
+}
+
+// The tree that the records are, where its order is the one that was asked for.
+fn opened<O: Order>(
+    alloc: Global,
+    store: Store,
+    space: &mut OneFile,
+) -> Result<Btree<Store, O>, Error> {
+    let opaque = store.opaque();
+    if opaque[0] != O::CODE {
+        return Err(anyhow!("another order"));
+    }
+    usable(space)?;
+    match Btree::open(alloc, store, space) {
+        Ok(tree) => Ok(tree),
+        Err(e) => Err(Error::from(e)),
+    }
+}
+
+// Makes the steps up to the next `c`, and answers whether there is one, of which it adds what `look` does.
+fn play_one<O: Order>(
+    tree: &mut Btree<Store, O>,
+    space: &mut OneFile,
+    script: &mut Script<'_>,
+    into: &mut Blob,
+) -> Result<bool, Error>
+    requires { space.old.sound ≡ true }
+    ensures { OnOk result (space.new.sound ≡ true) }
+{
+    match play_on(tree, space, script, into) {
+        Ok(true) => {}
+        Ok(false) => return Ok(false),
+        Err(e) => return Err(Error::from(e)),
+    }
+    match look(tree, space, into) {
+        Ok(()) => Ok(true),
+        Err(e) => Err(Error::from(e)),
+    }
+}
+
+/// Puts records into a file in memory, `w`, gives it a region, `h`, and opens the tree that it then has, which must keep all rules. The steps that are left are made on the tree as `play_hash` makes them.
+pub fn play_rows<O: Order>(alloc: Global, bytes: &[u8], into: &mut Blob) -> Result<(), Error> {
+    let mut space = OneFile::of(Vec::new(alloc));
+    let mut store = bare(alloc, &mut space)?;
+    let mut script = Script::new(bytes);
+    fill(&mut store, &mut space, &mut script)?;
+    let mut tree = opened::<O>(alloc, store, &mut space)?;
+    for _ in 0..bytes.len() {
+        usable(&space)?;
+        if !play_one(&mut tree, &mut space, &mut script, into)? {
+            return Ok(());
+        }
+    }
+    Ok(())
+}
