@@ -118,14 +118,14 @@ impl<S: Space, O: Order> Multi for MemMulti<S, O> {
 
     type O = O;
 
-    ghost use Rattle.std.specs.Prelude.{◌≡◌, None};
+    ghost use Rattle.std.specs.Prelude.{◌≡◌, None, []};
     ghost use Rattle.tc_base.specs.Lists.{Rises};
 
     ghost file_of = { λ r. r.file };
 
     ghost holds = { λ r bytes ps. (r.pairs ≡ ps) × Rises O.cmp ps };
 
-    ghost made = { λ r. record { sort = 0; code = O.CODE; leaf = 0; node = 0; column = None } };
+    ghost made = { λ r. record { sort = 0; numbers = []; code = O.CODE; leaf = 0; node = 0; column = None } };
 
     ghost stands = { λ made bytes ps. Unit {0} };
 
@@ -213,6 +213,11 @@ impl<S: Space, O: Order> Multi for MemMulti<S, O> {
     }
 
     fn settle(&mut self, space: &mut S) -> Result<(), RecErr> {
+        Ok(())
+    }
+
+    fn clear(&mut self, space: &mut S) -> Result<(), RecErr> {
+        self.pairs = Pairs::new(self.alloc);
         Ok(())
     }
 

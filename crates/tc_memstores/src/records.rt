@@ -117,7 +117,7 @@ fn take_out(alloc: Global, map: &mut Cells, key: &[u8]) -> Result<bool, AllocErr
 impl<S: Space> Records for MemRecords<S> {
     type S = S;
 
-    ghost use Rattle.std.specs.Prelude.{◌≡◌};
+    ghost use Rattle.std.specs.Prelude.{◌≡◌, []};
 
     ghost file_of = { λ r. r.file };
 
@@ -125,7 +125,9 @@ impl<S: Space> Records for MemRecords<S> {
 
     ghost sort = { λ r. 0 };
 
-    ghost stands = { λ sort bytes m region. Unit {0} };
+    ghost numbers = { λ r. [] };
+
+    ghost stands = { λ sort numbers bytes m region. Unit {0} };
 
     ghost region = { λ r. r.region };
 
@@ -138,6 +140,8 @@ impl<S: Space> Records for MemRecords<S> {
     ghost packed = { λ form bytes. Unit {0} };
 
     ghost gets = { λ r. r.gets };
+
+    ghost lacks_still = { λ r old mid new key value given lacks. lacks };
 
     fn file(&self) -> u32 {
         self.file

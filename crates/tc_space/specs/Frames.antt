@@ -64,6 +64,13 @@ module _ {S : Type 0} (s : Ghosts S) where
   pub only_writes_then : (a b c : S) → OnlyWrites s a b → OnlyWrites s b c → OnlyWrites s a c
   only_writes_then a b c first second = record { keeps = keeps_then a b c first.keeps second.keeps; counted = second.counted ∙ first.counted }
 
+-- it was given up: it may not be used any more, its files and limits stay, and where its log was full it is so still
+pub record GivenUp {S : Type 0} (s : Ghosts S) (old new : S) : Type 0 where
+  pub flag : s.flag new ≡ false
+  pub keeps : Keeps s old new
+  pub files : s.tells → (g : ℕ) → s.now new g ≡ s.now old g
+  pub log : s.log_full old → s.log_full new
+
 -- ---- what is kept in files
 
 -- files that aren't its own stay, where they are told

@@ -1,10 +1,10 @@
 -- What a call does to a map, or to a list of pairs, that is kept in one file of a space.
-use Rattle.std.specs.Prelude.{◌≡◌, ◌⊎◌, ℕ, ◌+◌, ◌-◌, ◌^◌, ◌≤◌, min, List, Bool, true, false, Option, None, IsSome, Result, IfOk, OnErr}
+use Rattle.std.specs.Prelude.{◌≡◌, ◌⊎◌, ℕ, ◌+◌, ◌-◌, ◌^◌, ◌≤◌, min, List, [], ◌∷◌, Bool, true, false, Option, None, IsSome, Result, IfOk, OnErr, OnOk}
 use Rattle.std.specs.FinMap.{get}
 use Rattle.std.proofs.Common.{inl, inr, ⊎_elim, refl, arith}
 use Rattle.tc_base.specs.Maps.{Map}
 use Rattle.tc_base.specs.declared.kind.Form.{Form}
-use Rattle.tc_base.specs.declared.kind.Form.TheVariants.{Large}
+use Rattle.tc_base.specs.declared.kind.Form.TheVariants as forms
 use Rattle.tc_base.specs.declared.kind.Mode.{Mode}
 use Rattle.tc_base.specs.declared.kind.Mode.TheVariants.{Keep}
 use Rattle.tc_space.specs.Changes.{put_value}
@@ -20,19 +20,47 @@ pub record IsReady {S V M : Type 0} (s : Ghosts S) (Means : V → S → M → Ty
 abbrev pub Only : ℕ → ℕ → Type 0
 Only file g = g ≡ file
 
--- the file, its type, the region and the count of gets stay
-pub record StaysMap {V : Type 0} (file_of sort : V → ℕ) (region : V → List ℕ) (gets : V → ℕ) (old new : V) : Type 0 where
+-- the file, its type, its numbers, the region and the count of gets stay
+pub record StaysMap {V : Type 0} (file_of sort : V → ℕ) (numbers region : V → List ℕ) (gets : V → ℕ) (old new : V) : Type 0 where
+  pub file : file_of new ≡ file_of old
+  pub sort_same : sort new ≡ sort old
+  pub numbers_same : numbers new ≡ numbers old
+  pub region_same : region new ≡ region old
+  pub gets_same : gets new ≡ gets old
+
+-- the file, its type, its numbers and the region stay, and a get is counted
+pub record CountsGet {V : Type 0} (file_of sort : V → ℕ) (numbers region : V → List ℕ) (gets : V → ℕ) (old new : V) : Type 0 where
+  pub file : file_of new ≡ file_of old
+  pub sort_same : sort new ≡ sort old
+  pub numbers_same : numbers new ≡ numbers old
+  pub region_same : region new ≡ region old
+  pub counted : gets new ≡ min (gets old + 1) (2 ^ 64 - 1)
+
+-- the region has these bytes, and all else that is told stays
+pub record SetsRegion {V : Type 0} (file_of sort : V → ℕ) (numbers region : V → List ℕ) (gets : V → ℕ) (bytes : List ℕ) (old new : V) : Type 0 where
+  pub file : file_of new ≡ file_of old
+  pub sort_same : sort new ≡ sort old
+  pub numbers_same : numbers new ≡ numbers old
+  pub region_is : region new ≡ bytes
+  pub gets_same : gets new ≡ gets old
+
+-- the options of a file once it is written in this form, and its numbers, which begin with them
+abbrev pub options_in : Form → ℕ → ℕ
+options_in forms.Keep options = options
+options_in forms.Large options = 1
+
+abbrev pub in_form : Form → List ℕ → List ℕ
+in_form form [] = []
+in_form form (options ∷ numbers) = options_in form options ∷ numbers
+
+-- of a packing: the file, its type, the region and the count of gets stay; its numbers are those of that form, and where it was refused they stay, or the space may not be used any more
+pub record PacksMap {S V T E : Type 0} (flag : S → Bool) (file_of sort : V → ℕ) (numbers region : V → List ℕ) (gets : V → ℕ) (form : Form) (result : Result T E) (old new : V) (space : S) : Type 0 where
   pub file : file_of new ≡ file_of old
   pub sort_same : sort new ≡ sort old
   pub region_same : region new ≡ region old
   pub gets_same : gets new ≡ gets old
-
--- the file, its type and the region stay, and a get is counted
-pub record CountsGet {V : Type 0} (file_of sort : V → ℕ) (region : V → List ℕ) (gets : V → ℕ) (old new : V) : Type 0 where
-  pub file : file_of new ≡ file_of old
-  pub sort_same : sort new ≡ sort old
-  pub region_same : region new ≡ region old
-  pub counted : gets new ≡ min (gets old + 1) (2 ^ 64 - 1)
+  pub formed : OnOk result (numbers new ≡ in_form form (numbers old))
+  pub left : OnErr result ((flag space ≡ false) ⊎ (numbers new ≡ numbers old))
 
 -- a put gave the key a value. With Keep there was none
 pub record Puts {S V M : Type 0} (s : Ghosts S) (own : ℕ → Type 0) (Means : V → S → M → Type 0) (mode : Mode) (found : M → Option (List ℕ)) (f : M → M) (v v' : V) (old new : S) : Type 0 where
@@ -62,7 +90,7 @@ pub record FullPut {S V : Type 0} (s : Ghosts S) (Means : V → S → Map → Ty
 
 -- a packing had no room: the undo log is full, or a file written anew in the large form had none
 abbrev pub FullPack : {S V : Type 0} → Ghosts S → (V → S → S → Type 0) → Form → V → S → S → Type 0
-FullPack s lacks_large form v old new = s.tells → s.log_full new ⊎ ((form ≡ Large) × lacks_large v old new)
+FullPack s lacks_large form v old new = s.tells → s.log_full new ⊎ ((form ≡ forms.Large) × lacks_large v old new)
 
 -- what was packed in a form is so still
 abbrev pub KeepsTight : {V : Type 0} → (V → Form → Type 0) → V → V → Type 0

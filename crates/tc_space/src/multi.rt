@@ -1,11 +1,11 @@
 //! A list of pairs over one file.
-ghost use Rattle.std.specs.Prelude.{◌≡◌, ℕ, List, length, OnOk, IsErrOf};
+ghost use Rattle.std.specs.Prelude.{◌≡◌, ℕ, List, [], length, OnOk, IsErrOf};
 ghost use Rattle.tc_base.specs.Lists.{Rises};
 ghost use Rattle.tc_base.specs.declared.kind.Form.{Form};
 ghost use Rattle.tc_base.specs.declared.seq.Pair.{Pair};
 ghost use Rattle.tc_space.specs.Changes.{all_out, first_in, first_out, has_pair, inside_first, put_first, put_last, same, values_in};
 ghost use Rattle.tc_space.specs.Frames.{In, Keeps};
-ghost use Rattle.tc_space.specs.Lists.{FullFrom, Made, StaysList, StaysPacked};
+ghost use Rattle.tc_space.specs.Lists.{FullFrom, FullPutFrom, Made, PacksList, StaysList, StaysPacked};
 ghost use Rattle.tc_space.specs.Refusals.{Blamed, Blames, OnFault, OnlyLogIsFull};
 ghost use Rattle.tc_space.specs.Stores.{AnswersIn, ExistsIn, FullPack, PutsIn, ReadsIn, ReadyIn, RefusesIn, TakesIn, Ticks, WritesIn};
 
@@ -94,7 +94,7 @@ pub trait Multi {
         ensures put { OnOk result (PutsIn Self.S.Space file_of holds mode (first_in key.now) (put_first Self.O.cmp mode key.now value.now) self.old self.new space.old space.new) }
         ensures exists { IsErrOf result PutErr.Exists → ExistsIn Self.S.Space file_of holds mode (first_in key.now) self.old self.new space.old space.new }
         ensures refused { RefusesIn Self.S.Space file_of holds result self.old self.new space.old space.new }
-        ensures full { IsErrOf result PutErr.Full → FullFrom (In Self.S.Space file_of holds) fills (put_first Self.O.cmp mode key.now value.now) self.old space.old space.new }
+        ensures full { IsErrOf result PutErr.Full → FullPutFrom (In Self.S.Space file_of holds) fills mode (first_in key.now) (put_first Self.O.cmp mode key.now value.now) self.old space.old space.new }
         ensures keeps { Keeps Self.S.Space space.old space.new }
         ensures stays { StaysList file_of made self.old self.new }
         ensures cause { Blamed Self.S.Space (IsErrOf result PutErr.Fault) space.old space.new };
@@ -157,6 +157,16 @@ pub trait Multi {
         ensures stays { StaysPacked file_of made tight self.old self.new }
         ensures cause { OnFault Self.S.Space result space.old space.new };
 
+    /// Takes all pairs out. What the list was made with stays.
+    fn clear(&mut self, space: &mut Self::S) -> Result<(), RecErr>
+        requires { ReadyIn Self.S.Space file_of holds self.old space.old }
+        ensures cleared { OnOk result (WritesIn Self.S.Space file_of holds (λ ps. []) self.old self.new space.old space.new) }
+        ensures refused { RefusesIn Self.S.Space file_of holds result self.old self.new space.old space.new }
+        ensures full { IsErrOf result RecErr.Full → FullFrom (In Self.S.Space file_of holds) fills (λ ps. []) self.old space.old space.new }
+        ensures keeps { Keeps Self.S.Space space.old space.new }
+        ensures stays { StaysList file_of made self.old self.new }
+        ensures cause { OnFault Self.S.Space result space.old space.new };
+
     /// Packs the file, in the form that it has or in the large one. The pairs stay. In the form that it has it is full only where the undo log is.
     fn pack(&mut self, space: &mut Self::S, form: Form) -> Result<(), RecErr>
         requires { ReadyIn Self.S.Space file_of holds self.old space.old }
@@ -165,7 +175,7 @@ pub trait Multi {
         ensures refused { RefusesIn Self.S.Space file_of holds result self.old self.new space.old space.new }
         ensures full { IsErrOf result RecErr.Full → FullPack Self.S.Space lacks_large form self.old space.old space.new }
         ensures keeps { Keeps Self.S.Space space.old space.new }
-        ensures stays { StaysList file_of made self.old self.new }
+        ensures stays { PacksList Self.S.flag file_of made form result self.old self.new space.new }
         ensures cause { OnFault Self.S.Space result space.old space.new };
 
     /// The pairs stand in the order of their keys.

@@ -4,9 +4,9 @@ ghost use Rattle.std.specs.FinMap.{empty, keys, len};
 ghost use Rattle.tc_base.specs.Maps.{Map};
 ghost use Rattle.tc_base.specs.declared.kind.Form.{Form};
 ghost use Rattle.tc_space.specs.Changes.{is_in, out_of, put_in, same, value_in};
-ghost use Rattle.tc_space.specs.Frames.{In, Keeps};
+ghost use Rattle.tc_space.specs.Frames.{GivenUp, In, Keeps};
 ghost use Rattle.tc_space.specs.Refusals.{Blamed, Blames, OnFault, OnlyLogIsFull};
-ghost use Rattle.tc_space.specs.Stores.{AnswersIn, CountsGet, ExistsIn, FullPack, FullPutIn, KeepsTight, PutsIn, ReadsIn, ReadyIn, RefusesIn, StaysMap, TakesIn, WritesIn};
+ghost use Rattle.tc_space.specs.Stores.{AnswersIn, CountsGet, ExistsIn, FullPack, FullPutIn, KeepsTight, PacksMap, PutsIn, ReadsIn, ReadyIn, RefusesIn, SetsRegion, StaysMap, TakesIn, WritesIn};
 
 use crate::errors::{PutErr, RecErr};
 use crate::space::Space;
@@ -27,8 +27,11 @@ pub trait Records {
     /// The type byte of its file.
     ghost sort: { Self → ℕ };
 
-    /// A file of this type and these bytes opens to this map and region.
-    ghost stands: { ℕ → List ℕ → Map → List ℕ → Type 0 };
+    /// The numbers that the head of its file fixes, its options first.
+    ghost numbers: { Self → List ℕ };
+
+    /// A file of this type, these numbers and these bytes opens to this map and region.
+    ghost stands: { ℕ → List ℕ → List ℕ → Map → List ℕ → Type 0 };
 
     /// The region.
     ghost region: { Self → List ℕ };
@@ -71,7 +74,7 @@ pub trait Records {
         ensures value { AnswersIn Self.S.Space file_of holds result (value_in key.now) self.old space.old }
         ensures reads { ReadsIn Self.S.Space file_of holds self.old self.new space.old space.new }
         ensures keeps { Keeps Self.S.Space space.old space.new }
-        ensures counts { CountsGet file_of sort region gets self.old self.new }
+        ensures counts { CountsGet file_of sort numbers region gets self.old self.new }
         ensures tight { KeepsTight tight self.old self.new }
         ensures steps { steps.old ≤ steps.new }
         ensures cause { Blames Self.S.Space result space.old space.new };
@@ -91,7 +94,7 @@ pub trait Records {
         ensures refused { RefusesIn Self.S.Space file_of holds result self.old self.new space.old space.new }
         ensures full { IsErrOf result PutErr.Full → FullPutIn Self.S.Space file_of holds lacks mode key.now value.now self.old space.old space.new }
         ensures keeps { Keeps Self.S.Space space.old space.new }
-        ensures stays { StaysMap file_of sort region gets self.old self.new }
+        ensures stays { StaysMap file_of sort numbers region gets self.old self.new }
         ensures steps { steps.old ≤ steps.new }
         ensures cause { Blamed Self.S.Space (IsErrOf result PutErr.Fault) space.old space.new };
 
@@ -107,7 +110,7 @@ pub trait Records {
         ensures refused { RefusesIn Self.S.Space file_of holds result self.old self.new space.old space.new }
         ensures full { OnlyLogIsFull Self.S.Space result space.new }
         ensures keeps { Keeps Self.S.Space space.old space.new }
-        ensures stays { StaysMap file_of sort region gets self.old self.new }
+        ensures stays { StaysMap file_of sort numbers region gets self.old self.new }
         ensures steps { steps.old ≤ steps.new }
         ensures cause { OnFault Self.S.Space result space.old space.new };
 
@@ -117,18 +120,15 @@ pub trait Records {
         ensures value { AnswersIn Self.S.Space file_of holds result keys self.old space.old }
         ensures reads { ReadsIn Self.S.Space file_of holds self.old self.new space.old space.new }
         ensures keeps { Keeps Self.S.Space space.old space.new }
-        ensures stays { StaysMap file_of sort region gets self.old self.new }
+        ensures stays { StaysMap file_of sort numbers region gets self.old self.new }
         ensures tight { KeepsTight tight self.old self.new }
         ensures steps { steps.old ≤ steps.new }
         ensures cause { Blames Self.S.Space result space.old space.new };
 
     /// Gives the region other bytes, which `settle` brings to the file.
     fn set_opaque(&mut self, bytes: &[u8; 128])
-        ensures region { region self.new ≡ bytes.now }
+        ensures sets { SetsRegion file_of sort numbers region gets bytes.now self.old self.new }
         ensures means { (file : List ℕ) (m : Map) → holds self.old file m → holds self.new file m }
-        ensures file { file_of self.new ≡ file_of self.old }
-        ensures gets { gets self.new ≡ gets self.old }
-        ensures sort { sort self.new ≡ sort self.old }
         ensures tight { KeepsTight tight self.old self.new };
 
     /// Brings what is held in memory to the file, which then stands for the map and the region; where it was packed it is a packed file. It is full only where the
@@ -136,13 +136,13 @@ pub trait Records {
     fn settle(&mut self, space: &mut Self::S) -> Result<(), RecErr>
         requires { ReadyIn Self.S.Space file_of holds self.old space.old }
         ensures settled { OnOk result (WritesIn Self.S.Space file_of holds same self.old self.new space.old space.new) }
-        ensures stands { OnOk result ((m : Map) → In Self.S.Space file_of holds self.old space.old m → stands (sort self.old) (Self.S.now space.new (file_of self.old)) m (region self.old)) }
+        ensures stands { OnOk result ((m : Map) → In Self.S.Space file_of holds self.old space.old m → stands (sort self.old) (numbers self.old) (Self.S.now space.new (file_of self.old)) m (region self.old)) }
         ensures packs { OnOk result ((form : Form) (m : Map) → tight self.old form → In Self.S.Space file_of holds self.old space.old m → packed form (Self.S.now space.new (file_of self.old))) }
         ensures tight { KeepsTight tight self.old self.new }
         ensures refused { RefusesIn Self.S.Space file_of holds result self.old self.new space.old space.new }
         ensures full { OnlyLogIsFull Self.S.Space result space.new }
         ensures keeps { Keeps Self.S.Space space.old space.new }
-        ensures stays { StaysMap file_of sort region gets self.old self.new }
+        ensures stays { StaysMap file_of sort numbers region gets self.old self.new }
         ensures cause { OnFault Self.S.Space result space.old space.new };
 
     /// Takes all keys out. The region stays. It is full only where the undo log is.
@@ -152,7 +152,7 @@ pub trait Records {
         ensures refused { RefusesIn Self.S.Space file_of holds result self.old self.new space.old space.new }
         ensures full { OnlyLogIsFull Self.S.Space result space.new }
         ensures keeps { Keeps Self.S.Space space.old space.new }
-        ensures stays { StaysMap file_of sort region gets self.old self.new }
+        ensures stays { StaysMap file_of sort numbers region gets self.old self.new }
         ensures cause { OnFault Self.S.Space result space.old space.new };
 
     /// Packs the file, in the form that it has or in the large one. The map and the region stay. In the form that it has it is full only where the undo log is.
@@ -163,6 +163,9 @@ pub trait Records {
         ensures refused { RefusesIn Self.S.Space file_of holds result self.old self.new space.old space.new }
         ensures full { IsErrOf result RecErr.Full → FullPack Self.S.Space lacks_large form self.old space.old space.new }
         ensures keeps { Keeps Self.S.Space space.old space.new }
-        ensures stays { StaysMap file_of sort region gets self.old self.new }
+        ensures stays { PacksMap Self.S.flag file_of sort numbers region gets form result self.old self.new space.new }
         ensures cause { OnFault Self.S.Space result space.old space.new };
+
+    /// A block that wasn't to be had isn't to be had in the space that was given up since.
+    ghost lacks_still: { (v : Self) (old mid new : Self.S) (key value : List ℕ) → GivenUp Self.S.Space mid new → lacks v old mid key value → lacks v old new key value };
 }

@@ -3,7 +3,7 @@ ghost use Rattle.tc_base.specs.Files.{Files, wrote};
 ghost use Rattle.tc_base.specs.Labels.{is_label};
 ghost use Rattle.tc_io.specs.Causes.{Rose};
 ghost use Rattle.tc_io.specs.Copies.{IsCopied, Named};
-ghost use Rattle.tc_space.specs.Moments.{LeavesOnly};
+ghost use Rattle.tc_space.specs.Moments.{LeavesOnly, Past};
 ghost use Rattle.tc_space.specs.Effects.{Caused, Changes, Copies, FollowsIn, IsFull, LacksRoom, Outcome, Stays, Touches};
 ghost use Rattle.tc_space.specs.Ranges.{IsDataFile, Passes, Reaches};
 
@@ -111,6 +111,7 @@ pub trait Space {
         ensures now { OnOk result (tells → (g : ℕ) → now self.new g ≡ now self.old g) }
         ensures kept { OnOk result (tells → kept self.new ≡ Some (now self.old)) }
         ensures moments { tells → LeavesOnly moment left self.old self.new (λ o. (o ≡ kept self.old) ⊎ (o ≡ Some (now self.old))) }
+        ensures past { tells → Past moment files_at self.old self.new }
         ensures follows { FollowsIn faults limit names self.old self.new }
         ensures outcome { Outcome sound flag result self.new }
         ensures touched { touched self.new ≡ (if is_ok result then false else touched self.old) }
@@ -139,7 +140,8 @@ pub trait Space {
         ensures stays { Stays tells moment files_at left kept faults limit names self.old self.new }
         ensures touched { touched self.new ≡ touched self.old }
         ensures counted { bytes_read self.new ≡ bytes_read self.old }
-        ensures faults { faults self.new ≡ faults self.old };
+        ensures faults { faults self.new ≡ faults self.old }
+        ensures log { log_full self.old → log_full self.new };
 
     /// While it is sound a stop leaves the kept files and nothing else.
     ghost only_kept: { (s : Self) (o : Option Files) → tells → sound s → left s (moment s) o → o ≡ kept s };

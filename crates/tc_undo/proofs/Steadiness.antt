@@ -13,7 +13,7 @@ leaves_of calls a b P since = record {
   each = λ t o le left. ⊎_elim (λ was. inl (record { is = was })) (λ p. inr p) (since_each P (calls a) (calls b) since t o le left.is);
 }
 
-past_of : {S : Type 0} (calls : S → Calls) (P : Calls → Type 0) (a b : S) → Since P (calls a) (calls b) → Past (λ s. length (calls s)) (λ s t. data_of (now (calls_at t (calls s)))) a b
+pub past_of : {S : Type 0} (calls : S → Calls) (P : Calls → Type 0) (a b : S) → Since P (calls a) (calls b) → Past (λ s. length (calls s)) (λ s t. data_of (now (calls_at t (calls s)))) a b
 past_of calls P a b since = record { later = since_later P (calls a) (calls b) since; same = λ t le. ap (λ (cs : Calls). data_of (now cs)) (since_at P (calls a) (calls b) since t le) }
 
 past_quiet : {S : Type 0} (calls : S → Calls) (a b : S) → Quiet (calls a) (calls b) → Past (λ s. length (calls s)) (λ s t. data_of (now (calls_at t (calls s)))) a b
