@@ -10,15 +10,26 @@ abbrev pub IsThere : Frees → ℕ → ℕ → Type 0
 IsThere frees place size = frees place ≡ Some size
 
 -- the least free block that is large enough, the one at the lowest place among equals
-pub record IsBest (frees : Frees) (size place found : ℕ) : Type 0 where
+pub record IsLeast (frees : Frees) (size place found : ℕ) : Type 0 where
   pub there : IsThere frees place found
   pub enough : size ≤ found
   pub least : (q t : ℕ) → IsThere frees q t → size ≤ t → found ≤ t
   pub lowest : (q : ℕ) → IsThere frees q found → place ≤ q
 
 -- no free block is large enough
-abbrev pub HasNone : Frees → ℕ → Type 0
-HasNone frees size = (q t : ℕ) → IsThere frees q t → t < size
+abbrev pub AreSmall : Frees → ℕ → Type 0
+AreSmall frees size = (q t : ℕ) → IsThere frees q t → t < size
+
+-- the same of those that begin below a place; others are passed over
+pub record IsBest (frees : Frees) (most size place found : ℕ) : Type 0 where
+  pub there : IsThere frees place found
+  pub below : place < most
+  pub enough : size ≤ found
+  pub least : (q t : ℕ) → IsThere frees q t → q < most → size ≤ t → found ≤ t
+  pub lowest : (q : ℕ) → IsThere frees q found → place ≤ q
+
+abbrev pub HasNone : Frees → ℕ → ℕ → Type 0
+HasNone frees most size = (q t : ℕ) → IsThere frees q t → q < most → t < size
 
 -- no two free blocks meet
 abbrev pub AreApart : Frees → Type 0

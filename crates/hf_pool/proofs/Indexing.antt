@@ -6,7 +6,7 @@ use Rattle.std.specs.Ordering.{nat_cmp, ordering_then, is_eq, is_gt, is_lt}
 use Rattle.std.specs.Cmp.{nat_cmp_is}
 use Rattle.std.proofs.lemmas.Bool.{cases_eq, cases_lt, cases_order, eq-eqb, ne_eqb, eqb-true}
 use Rattle.hf_pool.specs.Trims.{Row, row_block}
-use Rattle.hf_layout.specs.Frees.{Frees, IsThere, IsBest, HasNone, AreApart, MeetsNone, with_block, without}
+use Rattle.hf_layout.specs.Frees.{Frees, IsThere, IsLeast, IsBest, AreSmall, HasNone, AreApart, MeetsNone, with_block, without}
 use Rattle.hf_pool.specs.Orders.{pair_cmp, is_size}
 
 pub cmp_less : (x y : ℕ) → x < y → nat_cmp x y ≡ Less
@@ -176,18 +176,53 @@ le_place a b d h = elim (cases_order b d) [
   | inr (inr more) ↦ absurd (let k : true ≡ false = sym (ap (λ (o : Ordering). is_gt (ordering_then o (nat_cmp b d))) (cmp_same a a refl) ∙ ap is_gt (cmp_more b d more)) ∙ h in cc)
 ]
 
-pub best_some : (held : ℕ × ℕ → Bool) (frees : Frees) (size found place : ℕ) → Both held frees → Le (size, 0) (found, place) → held (found, place) ≡ true → ((q : ℕ × ℕ) → Le (size, 0) q → held q ≡ true → Le (found, place) q) → IsBest frees size place found
-best_some held frees size found place both from here least = record {
+pub least_some : (held : ℕ × ℕ → Bool) (frees : Frees) (size found place : ℕ) → Both held frees → Le (size, 0) (found, place) → held (found, place) ≡ true → ((q : ℕ × ℕ) → Le (size, 0) q → held q ≡ true → Le (found, place) q) → IsLeast frees size place found
+least_some held frees size found place both from here least = record {
   there = both_there held frees both found place here;
   enough = le_size size 0 found place from;
   least = λ q t there enough. le_size found place t q (least (t, q) (le_from size t q enough) (there_both held frees both t q there));
   lowest = λ q there. le_place found place q (least (found, q) (le_from size found q (le_size size 0 found place from)) (there_both held frees both found q there));
 }
 
-pub best_none : (held : ℕ × ℕ → Bool) (frees : Frees) (size : ℕ) → Both held frees → ((q : ℕ × ℕ) → Le (size, 0) q → held q ≡ false) → HasNone frees size
-best_none held frees size both none = λ q t there. elim (cases_lt t size) [
+pub least_none : (held : ℕ × ℕ → Bool) (frees : Frees) (size : ℕ) → Both held frees → ((q : ℕ × ℕ) → Le (size, 0) q → held q ≡ false) → AreSmall frees size
+least_none held frees size both none = λ q t there. elim (cases_lt t size) [
   | inl less ↦ less
   | inr enough ↦ absurd (let a = none (t, q) (le_from size t q enough) in let b = there_both held frees both t q there in cc)
+]
+
+-- ---- the least of those that begin below a place
+
+-- all that are large enough and smaller than this begin behind the place
+abbrev pub BeginBehind : Frees → ℕ → ℕ → ℕ → Type 0
+BeginBehind frees most size from = (q t : ℕ) → IsThere frees q t → size ≤ t → t < from → most ≤ q
+
+pub best_found : (frees : Frees) (most size from place found : ℕ) → size ≤ from → BeginBehind frees most size from → IsLeast frees from place found → place < most → IsBest frees most size place found
+best_found frees most size from place found le passed least below = record {
+  there = least.there;
+  below = below;
+  enough = omega (arith, le, least.enough);
+  least = λ q t there low enough. elim (cases_lt t from) [
+    | inl few ↦ absurd (let far = passed q t there enough few in omega (arith, far, low))
+    | inr many ↦ least.least q t there many
+  ];
+  lowest = least.lowest;
+}
+
+-- one more was passed over, and with it all of its size
+pub best_passed : (frees : Frees) (most size from place found : ℕ) → BeginBehind frees most size from → IsLeast frees from place found → most ≤ place → BeginBehind frees most size (found + 1)
+best_passed frees most size from place found passed least far = λ q t there enough few. elim (cases_lt t from) [
+  | inl less ↦ passed q t there enough less
+  | inr many ↦ (
+      let same : t ≡ found = omega (arith, few, least.least q t there many) in
+      let low = least.lowest q (subst (λ (n : ℕ). IsThere frees q n) same there) in
+      omega (arith, far, low)
+      )
+]
+
+pub best_passed_all : (frees : Frees) (most size from : ℕ) → BeginBehind frees most size from → AreSmall frees from → HasNone frees most size
+best_passed_all frees most size from passed none = λ q t there low. elim (cases_lt t size) [
+  | inl less ↦ less
+  | inr enough ↦ absurd (let far = passed q t there enough (none q t there) in omega (arith, far, low))
 ]
 
 -- the greatest place in front of an end is that of the block that ends there

@@ -39,8 +39,8 @@ rest_inside unit first end ps frees lent bytes place size found h there less som
     (omega (arith, front, h.room), omega (arith, rest, h.room, far.1, k.size, e, h.within, less))
 
 -- a block is lent out: with a head of its size it is one of the file's
-pub taken : (unit first end : ℕ) (ps : List Piece) (frees new lent : Frees) (bytes after : List ℕ) (place size found : ℕ) → LaidOut unit first end ps frees lent bytes → IsBest frees size place found → 0 < size → size % unit ≡ 0 → Left frees new size place found → after ≡ parted place size found bytes → Keeps unit first end ps new (with_block lent place size) (marked place size after)
-taken unit first end ps frees new lent bytes after place size found h best some multiple left is = elim (cases_eq found size) [
+pub taken : (most unit first end : ℕ) (ps : List Piece) (frees new lent : Frees) (bytes after : List ℕ) (place size found : ℕ) → LaidOut unit first end ps frees lent bytes → IsBest frees most size place found → 0 < size → size % unit ≡ 0 → Left frees new size place found → after ≡ parted place size found bytes → Keeps unit first end ps new (with_block lent place size) (marked place size after)
+taken most unit first end ps frees new lent bytes after place size found h best some multiple left is = elim (cases_eq found size) [
   | inl e ↦
       let t = eq-eqb found size e in
       let there : IsThere frees place size = best.there ∙ ap (λ (n : ℕ). Some n) e in

@@ -40,16 +40,22 @@ pub record MayGive (pool : Pool) (at size : ℕ) : Type 0 where
   pub aligned : (at % pool.unit ≡ 0) × (size % pool.unit ≡ 0)
   pub apart : MeetsNone (frees pool) at size
 
--- a free block was large enough: the best is taken, and what is left over stays free
-pub record TakesFree (old new : Pool) (size place found : ℕ) : Type 0 where
-  pub best : IsBest (frees old) size place found
+-- the front of a free block was taken in memory, and what is left over stays free
+pub record Parts (old new : Pool) (size place found : ℕ) : Type 0 where
+  pub left : (q : ℕ) → frees new q ≡ (if found == size then without (frees old) place q else with_block (without (frees old) place) (place + size) (found - size) q)
+  pub end : new.size ≡ old.size
+  pub unit : new.unit ≡ old.unit
+
+-- a free block that begins below a place was large enough: the best is taken, and what is left over stays free
+pub record TakesFree (most : ℕ) (old new : Pool) (size place found : ℕ) : Type 0 where
+  pub best : IsBest (frees old) most size place found
   pub left : (q : ℕ) → frees new q ≡ (if found == size then without (frees old) place q else with_block (without (frees old) place) (place + size) (found - size) q)
   pub end : new.size ≡ old.size
   pub unit : new.unit ≡ old.unit
 
 -- no free block was large enough: the block stands at the end, and the size grows by it alone
-pub record Grows (old new : Pool) (size place : ℕ) : Type 0 where
-  pub none : HasNone (frees old) size
+pub record Grows (most : ℕ) (old new : Pool) (size place : ℕ) : Type 0 where
+  pub none : HasNone (frees old) most size
   pub at : place ≡ old.size
   pub end : new.size ≡ old.size + size
   pub same : (q : ℕ) → frees new q ≡ frees old q
@@ -57,8 +63,8 @@ pub record Grows (old new : Pool) (size place : ℕ) : Type 0 where
   pub noted : new.changed ≡ old.changed
 
 -- either way
-abbrev pub Takes : Pool → Pool → ℕ → ℕ → Type 0
-Takes old new size place = ((found : ℕ) × TakesFree old new size place found) ⊎ Grows old new size place
+abbrev pub Takes : ℕ → Pool → Pool → ℕ → ℕ → Type 0
+Takes most old new size place = ((found : ℕ) × TakesFree most old new size place found) ⊎ Grows most old new size place
 
 -- the unit stays, and where no change of free blocks is noted there was none, neither now nor before
 pub record Notes (old new : Pool) : Type 0 where
@@ -70,23 +76,23 @@ pub notes_refl : (a : Pool) → Notes a a
 notes_refl a = record { unit = refl; kept = λ no. no; same = λ no q. refl }
 
 -- what taking a block does to the bytes: the head of what is left over is written, and nothing where the block is taken whole or stands at the end
-pub record IsTaken (old : Frees) (size place : ℕ) (bytes bytes' : List ℕ) : Type 0 where
-  pub parts : (found : ℕ) → IsBest old size place found → bytes' ≡ parted place size found bytes
-  pub same : HasNone old size → bytes' ≡ bytes
+pub record IsTaken (most : ℕ) (old : Frees) (size place : ℕ) (bytes bytes' : List ℕ) : Type 0 where
+  pub parts : (found : ℕ) → IsBest old most size place found → bytes' ≡ parted place size found bytes
+  pub same : HasNone old most size → bytes' ≡ bytes
 
 -- what taking a block does to the blocks of the file, whatever they are: once it has a head of its own size, which whoever took it writes with its
 -- record, it is a block that is lent out
-pub record Lends (unit end : ℕ) (old new : Frees) (size place : ℕ) (bytes bytes' : List ℕ) : Type 0 where
-  pub lent : (first last found : ℕ) (pieces : List Piece) (lent : Frees) → LaidOut unit first last pieces old lent bytes → IsBest old size place found → Keeps unit first last pieces new (with_block lent place size) (marked place size bytes')
-  pub beyond : (first last : ℕ) (pieces : List Piece) (lent : Frees) → LaidOut unit first last pieces old lent bytes → HasNone old size → LaidOut unit first last pieces new lent bytes'
+pub record Lends (most unit end : ℕ) (old new : Frees) (size place : ℕ) (bytes bytes' : List ℕ) : Type 0 where
+  pub lent : (first last found : ℕ) (pieces : List Piece) (lent : Frees) → LaidOut unit first last pieces old lent bytes → IsBest old most size place found → Keeps unit first last pieces new (with_block lent place size) (marked place size bytes')
+  pub beyond : (first last : ℕ) (pieces : List Piece) (lent : Frees) → LaidOut unit first last pieces old lent bytes → HasNone old most size → LaidOut unit first last pieces new lent bytes'
   pub clear : (first last : ℕ) (pieces : List Piece) (lent : Frees) → LaidOut unit first last pieces old lent bytes → last ≤ end → MeetsNoRecord first pieces place size
 
 -- what taking a block does to files: other files stay, and in its own it begins a whole number of units from the front
-pub record TakesIn {S : Type 0} (s : Ghosts S) (file : ℕ) (old new : Pool) (size place : ℕ) (before after : S) : Type 0 where
+pub record TakesIn {S : Type 0} (s : Ghosts S) (file most : ℕ) (old new : Pool) (size place : ℕ) (before after : S) : Type 0 where
   pub aligned : place % old.unit ≡ 0
   pub others : Others s (λ g. g ≡ file) before after
-  pub bytes : s.tells → IsTaken (frees old) size place (s.now before file) (s.now after file)
-  pub lends : s.tells → Lends old.unit old.size (frees old) (frees new) size place (s.now before file) (s.now after file)
+  pub bytes : s.tells → IsTaken most (frees old) size place (s.now before file) (s.now after file)
+  pub lends : s.tells → Lends most old.unit old.size (frees old) (frees new) size place (s.now before file) (s.now after file)
 
 -- what giving a block back does to the blocks of the file: a block that stands there, or would stand there with a head of that size
 pub record GoesBack (unit : ℕ) (old new : Frees) (at size : ℕ) (bytes bytes' : List ℕ) : Type 0 where
@@ -95,8 +101,8 @@ pub record GoesBack (unit : ℕ) (old new : Frees) (at size : ℕ) (bytes bytes'
 
 module _ {S : Type 0} (s : Ghosts S) where
   -- the head of what is left over of the best block passes a limit
-  abbrev pub LacksRoomToPart : Pool → ℕ → ℕ → S → S → Type 0
-  LacksRoomToPart pool size file before after = (place : ℕ) × (found : ℕ) × IsBest (frees pool) size place found × (size < found) × Passes (s.limit before file) (s.log_full after) (place + size) 5
+  abbrev pub LacksRoomToPart : ℕ → Pool → ℕ → ℕ → S → S → Type 0
+  LacksRoomToPart most pool size file before after = (place : ℕ) × (found : ℕ) × IsBest (frees pool) most size place found × (size < found) × Passes (s.limit before file) (s.log_full after) (place + size) 5
 
   -- a block was given back, and its head written
   abbrev pub GivesIn : ℕ → Pool → Pool → ℕ → ℕ → S → S → Type 0

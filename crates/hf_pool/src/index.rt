@@ -3,7 +3,7 @@ ghost use Rattle.std.specs.Prelude.{◌≡◌, ℕ, ◌+◌, ◌^◌, ◌<◌, O
 ghost use Rattle.std.specs.Ordering.{nat_cmp};
 ghost use Rattle.std.specs.BTreeMap as tree;
 ghost use Rattle.std.specs.BTreeSet as set;
-ghost use Rattle.hf_layout.specs.Frees.{IsThere, IsBest, HasNone, AreApart, MeetsNone, with_block, without};
+ghost use Rattle.hf_layout.specs.Frees.{IsThere, IsLeast, AreSmall, AreApart, MeetsNone, with_block, without};
 ghost use Rattle.hf_pool.specs.Orders.{pair_cmp, is_size};
 
 use std::alloc::{AllocError, Global};
@@ -59,9 +59,9 @@ impl Index {
     }
 
     /// The place and size of the least block of at least that size, the one at the lowest place among equals.
-    pub fn best(&self, size: u64) -> Option<(u64, u64)>
-        ensures some { IfSome result (λ b. IsBest (found_in self.now) size b.0 b.1) }
-        ensures none { IfNone result (HasNone (found_in self.now) size) }
+    pub fn least(&self, size: u64) -> Option<(u64, u64)>
+        ensures some { IfSome result (λ b. IsLeast (found_in self.now) size b.0 b.1) }
+        ensures none { IfNone result (AreSmall (found_in self.now) size) }
     {
         match self.by_size.range((size, 0)..).next() {
             Some((found, place)) => Some((*place, *found)),

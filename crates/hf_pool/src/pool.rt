@@ -23,10 +23,10 @@ pub struct Pool {
 }
 
 impl Pool {
-    ghost use Rattle.std.specs.Prelude.{◌≡◌, ℕ, ◌+◌, ◌-◌, ◌%◌, ◌<◌, ◌≤◌, ◌^◌, ◌↔◌, ◌++◌, length, IfOk, OnOk, OnErr, IsErrOf, IsTrue, true, false};
+    ghost use Rattle.std.specs.Prelude.{◌≡◌, ℕ, ◌+◌, ◌-◌, ◌%◌, ◌<◌, ◌≤◌, ◌^◌, ◌↔◌, ◌++◌, length, IfOk, IfSome, IfNone, OnOk, OnErr, IsErrOf, IsTrue, true, false};
     ghost use Rattle.hf_block.specs.Walks.{HoldsUpTo};
-    ghost use Rattle.hf_layout.specs.Frees.{IsThere, IsBest, MeetsNone};
-    ghost use Rattle.hf_pool.specs.Pools.{GivesIn, GoesBackIn, HoldsFrees, IsLaidOut, KeepsLaid, LacksRoomToGive, LacksRoomToPart, MayGive, MayTake, Notes, Takes, TakesFree, TakesIn, frees};
+    ghost use Rattle.hf_layout.specs.Frees.{IsThere, IsBest, HasNone, MeetsNone};
+    ghost use Rattle.hf_pool.specs.Pools.{GivesIn, GoesBackIn, HoldsFrees, IsLaidOut, KeepsLaid, LacksRoomToGive, LacksRoomToPart, MayGive, MayTake, Notes, Parts, Takes, TakesIn, frees};
     ghost use Rattle.tc_space.specs.Effects.{Outcome};
     ghost use Rattle.tc_space.specs.Frames.{OnlyWrites};
     ghost use Rattle.hf_pool.specs.Multiples.{LieWithin};
@@ -84,12 +84,29 @@ impl Pool {
         self.changed = false;
     }
 
-    // The best block parted in memory: the front is taken, and what is left over stays free.
+    // The place and size of the least block of at least that size among those that begin below a place, the one at the lowest place among equals. Of those that
+    // begin behind it a file that was written here has one at most.
+    fn best(&self, size: u64, most: u64) -> Option<(u64, u64)>
+        ensures some { IfSome result (λ b. IsBest (frees self.now) most size b.0 b.1) }
+        ensures none { IfNone result (HasNone (frees self.now) most size) }
+    {
+        let mut from = size;
+        while let Some((place, found)) = self.index.least(from) {
+            if place < most {
+                return Some((place, found));
+            }
+            from = found + 1;
+        }
+        None
+    }
+
+    // A free block parted in memory: the front is taken, and what is left over stays free.
     fn part_in_memory(&mut self, place: u64, found: u64, size: u64) -> Result<(), AllocError>
-        requires best { IsBest (frees self.old) size place found }
+        requires there { IsThere (frees self.old) place found }
+        requires enough { size ≤ found }
         requires some { 0 < size }
         requires aligned { size % self.old.unit ≡ 0 }
-        ensures ok { OnOk result (TakesFree self.old self.new size place found) }
+        ensures ok { OnOk result (Parts self.old self.new size place found) }
         ensures unit { self.new.unit ≡ self.old.unit }
         ensures changed { self.new.changed ≡ true }
     {
@@ -101,21 +118,27 @@ impl Pool {
         Ok(())
     }
 
-    /// Takes a block of that size, a multiple of the unit: the least free block that is large enough, the one at the lowest place among equals, of
-    /// which what is left over stays free; else one at the end. It answers the block's place, a multiple of the unit. Only the head of what is left
-    /// over is written. After a refusal the space isn't sound.
-    pub fn take<S: Space>(&mut self, space: &mut S, file: u32, size: u64) -> Result<u64, RecErr>
+    /// Takes a block of that size, a multiple of the unit: of the free blocks that begin below `most` the least that is large enough, the one at the lowest
+    /// place among equals, of which what is left over stays free; else one at the end, wherever that is. It answers the block's place, a multiple of the unit.
+    /// Only the head of what is left over is written. After a refusal the space isn't sound.
+    pub fn take<S: Space>(
+        &mut self,
+        space: &mut S,
+        file: u32,
+        size: u64,
+        most: u64,
+    ) -> Result<u64, RecErr>
         requires holds { HoldsFrees S.Space space.old file (frees self.old) }
         requires may { MayTake self.old size }
-        ensures taken { IfOk result (Takes self.old self.new size) }
-        ensures file { IfOk result (λ place. TakesIn S.Space file self.old self.new size place space.old space.new) }
+        ensures taken { IfOk result (Takes most self.old self.new size) }
+        ensures file { IfOk result (λ place. TakesIn S.Space file most self.old self.new size place space.old space.new) }
         ensures outcome { Outcome S.sound S.flag result space.new }
         ensures writes { OnlyWrites S.Space space.old space.new }
         ensures notes { Notes self.old self.new }
-        ensures full { IsErrOf result RecErr.Full → LacksRoomToPart S.Space self.old size file space.old space.new }
+        ensures full { IsErrOf result RecErr.Full → LacksRoomToPart S.Space most self.old size file space.old space.new }
         ensures cause { OnFault S.Space result space.old space.new }
     {
-        let Some((place, found)) = self.index.best(size) else {
+        let Some((place, found)) = self.best(size, most) else {
             let place = self.size;
             self.size += size;
             return Ok(place);

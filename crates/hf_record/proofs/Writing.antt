@@ -38,6 +38,7 @@ use Rattle.hf_record.specs.Allocating.{HoldsWritten}
 use Rattle.hf_record.specs.Holding.{HasMap}
 use Rattle.tc_space.specs.Ranges.{Passes}
 use Rattle.hf_record.specs.Costs.{FewDiffer}
+use Rattle.hf_record.specs.Filling.{reach}
 use Rattle.hf_record.specs.Moves.{Replaced, Added, IsWithin, IsGiven, HasNoRoom}
 use Rattle.hf_record.proofs.Bytes.{unit_some}
 use Rattle.hf_record.proofs.Differ.{few_same, few_wrote}
@@ -86,6 +87,9 @@ past h place le =
     let c : 2 ^ 32 * unit h ≡ unit h * 2 ^ 32 = mul_comm (2 ^ 32) (unit h) in
     omega (arith, e, m, c, some)
 
+pub reach_small : (h : Head) → is_large h ≡ false → reach h ≡ 2 ^ (32 + h.apow)
+reach_small h small = ap (λ (b : Bool). cond b (2 ^ 64 - 1) (2 ^ (32 + h.apow))) small
+
 -- the front of the file once a block was parted
 parted_front_same : (first place size found : ℕ) (bytes : List ℕ) → first ≤ place → size ≤ found → place + found ≤ length bytes → (take first (parted place size found bytes) ≡ take first bytes) × (length bytes ≤ length (parted place size found bytes))
 parted_front_same first place size found bytes low enough fits = elim (cases_eq found size) [
@@ -97,30 +101,30 @@ parted_front_same first place size found bytes low enough fits = elim (cases_eq 
 ]
 
 -- the place lies in the file, where a record is written, and behind the first block
-pub taken_inside : (u first : ℕ) (old new : Pool) (place size : ℕ) (ps : List Piece) (before middle : List ℕ) → LaidOut u first old.size ps (frees old) none before → Takes old new size place → IsTaken (frees old) size place before middle → (first ≤ place) × (place ≤ length middle)
-taken_inside u first old new place size ps before middle l (inl (found, t)) cut =
+pub taken_inside : (most u first : ℕ) (old new : Pool) (place size : ℕ) (ps : List Piece) (before middle : List ℕ) → LaidOut u first old.size ps (frees old) none before → Takes most old new size place → IsTaken most (frees old) size place before middle → (first ≤ place) × (place ≤ length middle)
+taken_inside most u first old new place size ps before middle l (inl (found, t)) cut =
     let k = known u first old.size ps (frees old) none before place found l t.best.there in
     let w = ends_within u first ps k.piece place k.at in
     let last = ends u first old.size ps (frees old) none before l in
     let fits : place + found ≤ length before = omega (arith, w.1, k.size, last, l.within) in
     let p = parted_front_same first place size found before w.0 t.best.enough fits in
     (w.0, omega (arith, fits, p.1, ap length (cut.parts found t.best)))
-taken_inside u first old new place size ps before middle l (inr g) cut = (omega (arith, g.at, l.on), omega (arith, g.at, l.within, ap length (cut.same g.none)))
+taken_inside most u first old new place size ps before middle l (inr g) cut = (omega (arith, g.at, l.on), omega (arith, g.at, l.within, ap length (cut.same g.none)))
 
 -- and the blocks end in the file as before
-pub taken_long : (u first : ℕ) (old new : Pool) (place size : ℕ) (ps : List Piece) (before middle : List ℕ) → LaidOut u first old.size ps (frees old) none before → Takes old new size place → IsTaken (frees old) size place before middle → old.size ≤ length middle
-taken_long u first old new place size ps before middle l (inl (found, t)) cut =
+pub taken_long : (most u first : ℕ) (old new : Pool) (place size : ℕ) (ps : List Piece) (before middle : List ℕ) → LaidOut u first old.size ps (frees old) none before → Takes most old new size place → IsTaken most (frees old) size place before middle → old.size ≤ length middle
+taken_long most u first old new place size ps before middle l (inl (found, t)) cut =
     let k = known u first old.size ps (frees old) none before place found l t.best.there in
     let w = ends_within u first ps k.piece place k.at in
     let last = ends u first old.size ps (frees old) none before l in
     let fits : place + found ≤ length before = omega (arith, w.1, k.size, last, l.within) in
     let p = parted_front_same first place size found before w.0 t.best.enough fits in
     omega (arith, l.within, p.1, ap length (cut.parts found t.best))
-taken_long u first old new place size ps before middle l (inr g) cut = omega (arith, l.within, ap length (cut.same g.none))
+taken_long most u first old new place size ps before middle l (inr g) cut = omega (arith, l.within, ap length (cut.same g.none))
 
-pub added_taken : (u first : ℕ) (old new : Pool) (place size : ℕ) (ps : List Piece) (before middle : List ℕ) (r : Record) → LaidOut u first old.size ps (frees old) none before → IsWhole u (held r) → size_of (held r) ≡ size → Takes old new size place → IsTaken (frees old) size place before middle → Lends u old.size (frees old) (frees new) size place before middle
+pub added_taken : (most u first : ℕ) (old new : Pool) (place size : ℕ) (ps : List Piece) (before middle : List ℕ) (r : Record) → LaidOut u first old.size ps (frees old) none before → IsWhole u (held r) → size_of (held r) ≡ size → Takes most old new size place → IsTaken most (frees old) size place before middle → Lends most u old.size (frees old) (frees new) size place before middle
     → Added u first new.size ps (frees new) place r before (wrote place (spell (held r)) middle)
-added_taken u first old new place size ps before middle r l whole sized (inl (found, t)) cut lends =
+added_taken most u first old new place size ps before middle r l whole sized (inl (found, t)) cut lends =
     let k = known u first old.size ps (frees old) none before place found l t.best.there in
     let w = ends_within u first ps k.piece place k.at in
     let last = ends u first old.size ps (frees old) none before l in
@@ -145,7 +149,7 @@ added_taken u first old new place size ps before middle r l whole sized (inl (fo
       };
       fresh = sym (keeps.records place) ∙ gone;
     }
-added_taken u first old new place size ps before middle r l whole sized (inr g) cut lends =
+added_taken most u first old new place size ps before middle r l whole sized (inr g) cut lends =
     let e : middle ≡ before = cut.same g.none in
     let now = lends.beyond first old.size ps none l g.none in
     let done = stands_behind u first old.size ps (frees new) none middle r now whole in
@@ -163,18 +167,18 @@ added_taken u first old new place size ps before middle r l whole sized (inr g) 
     })
 
 -- what taking a block changes: the head of what is left over
-pub few_taken : (u first : ℕ) (old new : Pool) (place size : ℕ) (ps : List Piece) (before middle : List ℕ) → LaidOut u first old.size ps (frees old) none before → Takes old new size place → IsTaken (frees old) size place before middle → FewDiffer 5 before middle
-few_taken u first old new place size ps before middle l (inl (found, t)) cut = elim (cases_eq found size) [
+pub few_taken : (most u first : ℕ) (old new : Pool) (place size : ℕ) (ps : List Piece) (before middle : List ℕ) → LaidOut u first old.size ps (frees old) none before → Takes most old new size place → IsTaken most (frees old) size place before middle → FewDiffer 5 before middle
+few_taken most u first old new place size ps before middle l (inl (found, t)) cut = elim (cases_eq found size) [
   | inl e ↦ few_same 5 before middle (cut.parts found t.best ∙ parted_whole place size found before e)
   | inr ne ↦ (let inside = pool_lies_inside u first old.size ps (frees old) none before l place found t.best.there in
       subst (λ (x : List ℕ). FewDiffer 5 before x) (sym (cut.parts found t.best ∙ parted_front place size found before (omega (arith, t.best.enough, ne))))
       (few_wrote (place + size) 5 (free_head (found - size)) before (omega (arith, inside, t.best.enough)) (omega (arith, head_long (found - size)))))
 ]
-few_taken u first old new place size ps before middle l (inr g) cut = few_same 5 before middle (cut.same g.none)
+few_taken most u first old new place size ps before middle l (inr g) cut = few_same 5 before middle (cut.same g.none)
 
 -- the head of what is left over of a free block lies in the file
-pub part_inside : (u first : ℕ) (old : Pool) (place size found : ℕ) (ps : List Piece) (before : List ℕ) → old.unit ≡ u → LaidOut u first old.size ps (frees old) none before → IsBest (frees old) size place found → size < found → size % u ≡ 0 → place + size + 5 ≤ length before
-part_inside u first old place size found ps before same l best less aligned =
+pub part_inside : (most u first : ℕ) (old : Pool) (place size found : ℕ) (ps : List Piece) (before : List ℕ) → old.unit ≡ u → LaidOut u first old.size ps (frees old) none before → IsBest (frees old) most size place found → size < found → size % u ≡ 0 → place + size + 5 ≤ length before
+part_inside most u first old place size found ps before same l best less aligned =
     let inside = pool_lies_inside u first old.size ps (frees old) none before l place found best.there in
     let m = old.multiples place found best.there in
     let rest : (found - size) % old.unit ≡ 0 = rest_aligned old.unit size found less (ap (λ (z : ℕ). size % z) same ∙ aligned) m.1 in
@@ -182,44 +186,36 @@ part_inside u first old place size found ps before same l best less aligned =
     omega (arith, inside, five, less)
 
 -- what stands before the first block stays, also once the block is written
-pub taken_front : (u first : ℕ) (old new : Pool) (place size : ℕ) (ps : List Piece) (x before middle : List ℕ) → LaidOut u first old.size ps (frees old) none before → Takes old new size place → IsTaken (frees old) size place before middle → take first (wrote place x middle) ≡ take first before
-taken_front u first old new place size ps x before middle l (inl (found, t)) cut =
+pub taken_front : (most u first : ℕ) (old new : Pool) (place size : ℕ) (ps : List Piece) (x before middle : List ℕ) → LaidOut u first old.size ps (frees old) none before → Takes most old new size place → IsTaken most (frees old) size place before middle → take first (wrote place x middle) ≡ take first before
+taken_front most u first old new place size ps x before middle l (inl (found, t)) cut =
     let k = known u first old.size ps (frees old) none before place found l t.best.there in
     let w = ends_within u first ps k.piece place k.at in
     let last = ends u first old.size ps (frees old) none before l in
     let fits : place + found ≤ length before = omega (arith, w.1, k.size, last, l.within) in
     let p = parted_front_same first place size found before w.0 t.best.enough fits in
     front_stays first place x middle w.0 (omega (arith, fits, p.1, ap length (cut.parts found t.best))) ∙ ap (take first) (cut.parts found t.best) ∙ p.0
-taken_front u first old new place size ps x before middle l (inr g) cut = front_stays first place x middle (omega (arith, g.at, l.on)) (omega (arith, g.at, l.within, ap length (cut.same g.none))) ∙ ap (take first) (cut.same g.none)
+taken_front most u first old new place size ps x before middle l (inr g) cut = front_stays first place x middle (omega (arith, g.at, l.on)) (omega (arith, g.at, l.within, ap length (cut.same g.none))) ∙ ap (take first) (cut.same g.none)
 
 -- the file is as long as before
-pub taken_same : (u first : ℕ) (old new : Pool) (place size : ℕ) (ps : List Piece) (before middle : List ℕ) → old.unit ≡ u → size % u ≡ 0 → LaidOut u first old.size ps (frees old) none before → Takes old new size place → IsTaken (frees old) size place before middle → length middle ≡ length before
-taken_same u first old new place size ps before middle same aligned l (inl (found, t)) cut = elim (cases_eq found size) [
+pub taken_same : (most u first : ℕ) (old new : Pool) (place size : ℕ) (ps : List Piece) (before middle : List ℕ) → old.unit ≡ u → size % u ≡ 0 → LaidOut u first old.size ps (frees old) none before → Takes most old new size place → IsTaken most (frees old) size place before middle → length middle ≡ length before
+taken_same most u first old new place size ps before middle same aligned l (inl (found, t)) cut = elim (cases_eq found size) [
   | inl e ↦ ap length (cut.parts found t.best ∙ parted_whole place size found before e)
   | inr ne ↦
       (let less : size < found = omega (arith, t.best.enough, ne) in
-      let inside = part_inside u first old place size found ps before same l t.best less aligned in
+      let inside = part_inside most u first old place size found ps before same l t.best less aligned in
       ap length (cut.parts found t.best ∙ parted_front place size found before less) ∙ length_over (place + size) (free_head (found - size)) before (omega (arith, inside, head_long (found - size))))
 ]
-taken_same u first old new place size ps before middle same aligned l (inr g) cut = ap length (cut.same g.none)
-
--- a free block ends where the blocks do, or before
-free_inside : (u first end : ℕ) (ps : List Piece) (free : Frees) (before : List ℕ) → LaidOut u first end ps free none before → (place size : ℕ) → free place ≡ Some size → place + size ≤ end
-free_inside u first end ps free before l place size there =
-    let k = known u first end ps free none before place size l there in
-    omega (arith, (ends_within u first ps k.piece place k.at).1, k.size, ends u first end ps free none before l)
+taken_same most u first old new place size ps before middle same aligned l (inr g) cut = ap length (cut.same g.none)
 
 -- the place can't be named, or the file is too long
-pub no_room : (h : Head) (u first : ℕ) (old new : Pool) (place size limit long : ℕ) (log : Type 0) (ps : List Piece) (before : List ℕ) → LaidOut u first old.size ps (frees old) none before → old.size ≤ 2 ^ 40 → old.size ≤ long → Takes old new size place → (2 ^ 40 < new.size) ⊎ ((is_large h ≡ false) × (2 ^ 32 ≤ place / unit h)) → HasNoRoom h old.size (frees old) limit long log size
+pub no_room : (h : Head) (u first : ℕ) (old new : Pool) (place size limit long : ℕ) (log : Type 0) (ps : List Piece) (before : List ℕ) → LaidOut u first old.size ps (frees old) none before → old.size ≤ 2 ^ 40 → old.size ≤ long → Takes (reach h) old new size place → (2 ^ 40 < new.size) ⊎ ((is_large h ≡ false) × (2 ^ 32 ≤ place / unit h)) → HasNoRoom h old.size (frees old) limit long log size
 no_room h u first old new place size limit long log ps before l low on (inl (found, t)) (inl past) = absurd (omega (arith, past, t.end, low))
-no_room h u first old new place size limit long log ps before l low on (inl (found, t)) (inr far) =
-    let inside = free_inside u first old.size ps (frees old) before l place found t.best.there in
-    inl (on, inl (record { small = far.0; place = place; is = inl (found, t.best); within = omega (arith, inside); far = past h place far.1 }))
+no_room h u first old new place size limit long log ps before l low on (inl (found, t)) (inr far) = absurd (let p = past h place far.1 in omega (arith, p, t.best.below, reach_small h far.0))
 no_room h u first old new place size limit long log ps before l low on (inr g) (inl past) = inl (on, inr (record { none = g.none; past = inr (omega (arith, past, g.end)) }))
-no_room h u first old new place size limit long log ps before l low on (inr g) (inr far) = inl (on, inl (record { small = far.0; place = place; is = inr (g.none, g.at); within = omega (arith, g.at); far = past h place far.1 }))
+no_room h u first old new place size limit long log ps before l low on (inr g) (inr far) = inl (on, inl (record { small = far.0; none = g.none; far = (let p = past h place far.1 in omega (arith, p, g.at)) }))
 
 -- the file grows past its limit
-pub too_long : (h : Head) (u first : ℕ) (old new : Pool) (place size limit long : ℕ) (log : Type 0) (ps : List Piece) (before : List ℕ) → LaidOut u first old.size ps (frees old) none before → Takes old new size place → length before ≤ limit → old.size ≤ long → Passes limit log place size → HasNoRoom h old.size (frees old) limit long log size
+pub too_long : (h : Head) (u first : ℕ) (old new : Pool) (place size limit long : ℕ) (log : Type 0) (ps : List Piece) (before : List ℕ) → LaidOut u first old.size ps (frees old) none before → Takes (reach h) old new size place → length before ≤ limit → old.size ≤ long → Passes limit log place size → HasNoRoom h old.size (frees old) limit long log size
 too_long h u first old new place size limit long log ps before l taken within on (inr full) = inr full
 too_long h u first old new place size limit long log ps before l (inl (found, t)) within on (inl past) = absurd (let inside = pool_lies_inside u first old.size ps (frees old) none before l place found t.best.there in omega (arith, inside, t.best.enough, within, past))
 too_long h u first old new place size limit long log ps before l (inr g) within on (inl past) = inl (on, inr (record { none = g.none; past = inl (omega (arith, past, g.at)) }))

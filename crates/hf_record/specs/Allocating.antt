@@ -43,11 +43,11 @@ pub record Stays (size place : ℕ) (was : ℕ × ℕ) (old new : Pool) : Type 0
   pub shortens : Shortens size was.0 was.1 old new
 
 -- it isn't: it goes back first, and another is taken
-pub record Moves (size place : ℕ) (was : ℕ × ℕ) (old new : Pool) : Type 0 where
+pub record Moves (most size place : ℕ) (was : ℕ × ℕ) (old new : Pool) : Type 0 where
   pub few : was.1 < size
   pub middle : Pool
   pub gives : Gives was.0 was.1 old middle
-  pub takes : Takes middle new size place
+  pub takes : Takes most middle new size place
 
 -- the free blocks from which the block of a put's record is taken, by the one that the key's record had: as they are, or with that one given back, since it
 -- is too small
@@ -55,7 +55,7 @@ abbrev pub TakesFrom : ℕ → Option (ℕ × ℕ) → Pool → Pool → Type 0
 TakesFrom size None old new = new ≡ old
 TakesFrom size (Some was) old new = (was.1 < size) × Gives was.0 was.1 old new
 
--- the block of a put's record, by the one that the key's record had, if it had one
-abbrev pub Allocates : ℕ → ℕ → Option (ℕ × ℕ) → Pool → Pool → Type 0
-Allocates size place None old new = Takes old new size place
-Allocates size place (Some was) old new = Stays size place was old new ⊎ Moves size place was old new
+-- the block of a put's record, by the one that the key's record had, if it had one; a free block is taken only where it begins below a place
+abbrev pub Allocates : ℕ → ℕ → ℕ → Option (ℕ × ℕ) → Pool → Pool → Type 0
+Allocates most size place None old new = Takes most old new size place
+Allocates most size place (Some was) old new = Stays size place was old new ⊎ Moves most size place was old new

@@ -17,6 +17,7 @@ use Rattle.hf_record.specs.declared.body.Body.{Body}
 use Rattle.hf_record.specs.Allocating.{HoldsWritten}
 use Rattle.hf_record.specs.Costs.{Edits, FewBeside, Spares}
 use Rattle.hf_record.specs.Holding.{Has, HasMap}
+use Rattle.hf_record.specs.Filling.{reach}
 use Rattle.hf_record.specs.Moves.{Added, IsGiven, IsWithin, MayReplace, Replaced}
 
 -- the space may be used, and some map is held
@@ -56,7 +57,7 @@ module _ {S : Type 0} (s : Ghosts S) where
   pub record PutsNew (key : Key) (value : List ℕ) (old new : Body) (before after : S) : Type 0 where
     pub place : ℕ
     pub puts : PutsAt key value place 13 old new before after
-    pub takes : Takes old.pool new.pool (size_in old key value) place
+    pub takes : Takes (reach old.head) old.pool new.pool (size_in old key value) place
 
 -- ---- the bytes of a record
 
@@ -91,7 +92,7 @@ module _ {S : Type 0} (s : Ghosts S) where
         → Added (unit old.head) old.head.first new.pool.size ps (frees new.pool) place r (s.now before old.file) (s.now after old.file)
     pub named : CanName old.head place
     pub low : new.pool.size ≤ 2 ^ 40
-    pub taken : Takes old.pool new.pool (length bytes) place
+    pub taken : Takes (reach old.head) old.pool new.pool (length bytes) place
     pub spares : Spares s (length bytes + 5) old new before after
     pub beside : s.tells → FewBeside place (length bytes) 5 (s.now before old.file) (s.now after old.file)
     pub long : s.tells → length (s.now after old.file) ≡ max (length (s.now before old.file)) (place + length bytes)

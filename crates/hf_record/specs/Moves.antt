@@ -66,11 +66,11 @@ pub record IsBlockAt (h : Head) (at size : ℕ) (bytes : List ℕ) : Type 0 wher
 -- no block of so many bytes is to be had: the blocks end within the file, which has so many bytes, and the place for it is too far, or the file grows too
 -- long by it; or the undo log is full
 abbrev pub HasNoRoom : Head → ℕ → Frees → ℕ → ℕ → Type 0 → ℕ → Type 0
-HasNoRoom h end free limit long log_is_full b = ((end ≤ long) × (IsTooFar h end b free ⊎ IsTooLong limit end b free)) ⊎ log_is_full
+HasNoRoom h end free limit long log_is_full b = ((end ≤ long) × (IsTooFar h end b free ⊎ IsTooLong h limit end b free)) ⊎ log_is_full
 
 -- the same without the log; or it is larger than a block may be
 abbrev pub IsRefusedFor : Head → ℕ → Frees → ℕ → ℕ → ℕ → Type 0
-IsRefusedFor h end free limit long b = (2 ^ 30 < b) ⊎ ((end ≤ long) × (IsTooFar h end b free ⊎ IsTooLong limit end b free))
+IsRefusedFor h end free limit long b = (2 ^ 30 < b) ⊎ ((end ≤ long) × (IsTooFar h end b free ⊎ IsTooLong h limit end b free))
 
 module _ {S : Type 0} (s : Ghosts S) where
   -- the block of the record there has so many bytes

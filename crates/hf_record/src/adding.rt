@@ -6,6 +6,7 @@ ghost use Rattle.tc_space.specs.Refusals.{OnFault};
 ghost use Rattle.hf_head.specs.Heads.{IsValid, unit, is_large};
 ghost use Rattle.hf_tree.specs.Links.{width};
 ghost use Rattle.hf_record.specs.Changing.{AddsRecord, CanChange, IsSized, StaysBody};
+ghost use Rattle.hf_record.specs.Filling.{reach};
 ghost use Rattle.hf_record.specs.Moves.{LacksPlace};
 
 use crate::body::Body;
@@ -23,6 +24,18 @@ fn can_name(head: &Head, place: u64) -> bool
     head.is_large() || place / head.unit() < SMALL_STARTS
 }
 
+// A chain can name the places below this one.
+fn reach(head: &Head) -> u64
+    requires head { IsValid head.now }
+    ensures { result ≡ reach head.now }
+{
+    if head.is_large() {
+        u64::MAX
+    } else {
+        SMALL_STARTS.saturating_mul(head.unit())
+    }
+}
+
 // Whether a record may stand at a place of a file that then ends there.
 fn has_room(head: &Head, place: u64, end: u64) -> bool
     requires head { IsValid head.now }
@@ -36,7 +49,7 @@ fn has_room(head: &Head, place: u64, end: u64) -> bool
 }
 
 impl Body {
-    // Takes a block for a record that has these bytes, and writes it there: the place. After a refusal the space isn't sound.
+    // Takes a block that a chain can name for a record that has these bytes, and writes it there: the place. After a refusal the space isn't sound.
     pub(crate) fn add<S: Space>(&mut self, space: &mut S, bytes: &[u8]) -> Result<u64, RecErr>
         requires may { CanChange S.Space self.old space.old }
         requires sized { IsSized self.old.head (length bytes.now) }
@@ -52,7 +65,8 @@ impl Body {
             give_up(space);
             return Err(RecErr::Memory);
         }
-        let place = self.pool.take(space, self.file, bytes.len() as u64)?;
+        let most = reach(&self.head);
+        let place = self.pool.take(space, self.file, bytes.len() as u64, most)?;
         if !has_room(&self.head, place, self.pool.size()) {
             give_up(space);
             return Err(RecErr::Full);

@@ -14,3 +14,4 @@ pub mod Batches
 pub mod Batched
 pub mod Judged
 pub mod Surveyed
+pub mod Pieced

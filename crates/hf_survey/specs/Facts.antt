@@ -7,12 +7,17 @@ use Rattle.hf_block.specs.Pieces.{Record, Piece, held, free, size_of}
 use Rattle.hf_tree.specs.Keys.{bucket_of}
 use Rattle.hf_tree.specs.Links.{HasBlocks, entry_at, width}
 use Rattle.hf_survey.specs.declared.facts.Fact.{Fact}
+use Rattle.hf_survey.specs.declared.facts.Marks.{Marks}
 use Rattle.hf_chain.specs.declared.heads.RecHead.{RecHead}
 use Rattle.hf_chain.specs.Heads.{HasRecord, IsInBounds, capped, head_of, head_size}
 
 -- the first 16 bytes of a key, with zeros behind a shorter one
 abbrev pub front_of : List ℕ → List ℕ
 front_of key = take 16 key ++ replicate (16 - length key) 0
+
+-- the bucket of a key among so many, its second hash, and its first bytes
+abbrev pub marks_of : ℕ → List ℕ → Marks
+marks_of buckets key = record { bucket = bucket_of buckets key; second = second key; front = front_of key }
 
 -- what the rules ask of a record at a place
 abbrev pub fact_of : Head → ℕ → Record → Fact
@@ -78,6 +83,10 @@ HasBadChain facts = (i : ℕ) × (x : Fact) × (slice_get facts i ≡ Some x) ×
 -- it is the fact of whatever record has this head and key,
 abbrev pub IsFactFrom : Head → ℕ → RecHead → List ℕ → Fact → Type 0
 IsFactFrom h place rec key x = (r : Record) → rec ≡ head_of r → key ≡ r.key → IsInBounds r → x ≡ fact_of h place r
+
+-- the same of whatever record has this head and a key with these marks,
+abbrev pub IsFactOfMarks : Head → ℕ → RecHead → Marks → Fact → Type 0
+IsFactOfMarks h place rec marks x = (r : Record) → rec ≡ head_of r → marks ≡ marks_of h.buckets r.key → IsInBounds r → x ≡ fact_of h place r
 
 -- or stands at a place
 abbrev pub IsFactAt : Head → ℕ → List ℕ → Fact → Type 0

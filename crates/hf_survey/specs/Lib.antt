@@ -1,3 +1,4 @@
+pub mod Hashing
 pub mod Batches
 pub mod Entries
 pub mod Facts

@@ -1,13 +1,14 @@
 -- Cells in the bytes of a file.
 use Rattle.std.proofs.Common.{◌≡◌, ◌≢◌, ◌∙◌, ◌⊎◌, inl, inr, ℕ, zero, suc, ◌+◌, ◌-◌, ◌*◌, ◌^◌, ◌<◌, ◌≤◌, Bool, cond, List, [], ◌∷◌, ◌++◌, length, take, drop, replicate, refl, sym, ap, subst, arith, length-append, length-drop}
-use Rattle.std.specs.Prelude.{Option, Some, None, nat_le}
+use Rattle.std.specs.Prelude.{Option, Some, None, nat_le, option_map, unwrap_or}
 use Rattle.std.proofs.lemmas.Bool.{cases_lt, le-leb, lt-leb}
 use Rattle.std.proofs.lemmas.Nat.{mul-le}
-use Rattle.std.proofs.lemmas.List.{take_at, drop_at, take_all, take-take, length-take-le, length-replicate, take-replicate, places, same_lists}
+use Rattle.std.proofs.lemmas.List.{take_at, drop_at, take_all, take-take, length-take-le, length-replicate, take-replicate, drop-drop, places, same_lists}
 use Rattle.tc_base.specs.Endian.{le_number, le_bytes, field}
 use Rattle.tc_base.specs.Files.{wrote}
 use Rattle.tc_base.proofs.Endians.{le-cons, le-nil, length-le_bytes, le_number-le_bytes}
 use Rattle.hf_head.specs.FixedHeads.{cell}
+use Rattle.tc_fixed.specs.Looks.{IsReadAs}
 use Rattle.tc_fixed.specs.Cells.{IsCell, HasValue, size_len, mark_in, place, end_of, cell_at, spelled, blank, marked, padded}
 
 -- ---- sizes
@@ -163,6 +164,21 @@ cell_long width id bytes some fits = length-take-le (cell width) (drop (place wi
 pub front_of_cell : (width id n at : ℕ) (front bytes : List ℕ) → 1 ≤ width → n ≡ size_len width + 1 → at ≡ place width id → front ≡ take n (drop at bytes) → front ≡ take (size_len width + 1) (cell_at width id bytes)
 front_of_cell width id n at front bytes some is there read =
     read ∙ ap (λ p. take n (drop p bytes)) there ∙ ap (λ k. take k (drop (place width id) bytes)) is ∙ sym (take-take (size_len width + 1) (cell width) (drop (place width id) bytes) (omega (arith, some)))
+
+pub value_of_cell : (width id n at : ℕ) (bytes : List ℕ) → n ≤ width → at ≡ place width id + size_len width → take n (drop at bytes) ≡ field (size_len width) n (cell_at width id bytes)
+value_of_cell width id n at bytes fits there =
+    ap (λ p. take n (drop p bytes)) there ∙ ap (λ (l : List ℕ). take n l) (sym (drop-drop (size_len width) (place width id) bytes)) ∙ sym (field_take (size_len width) n (cell width) (drop (place width id) bytes) (omega (arith, fits)))
+
+-- a value, or none, whose length was read and then its bytes
+pub read_as : (width long : ℕ) (o : Option (List ℕ)) (c into : List ℕ) → IsCell width o c → Some long ≡ option_map length o → take long into ≡ field (size_len width) long c → IsReadAs o (Some long) into
+read_as width long None c into cell is got = absurd (let never = is in cc)
+read_as width long (Some v) c into cell is got =
+    let same : long ≡ length v = ap (λ (x : Option ℕ). unwrap_or x 0) is in
+    record { long = is; value = ap (λ (l : List ℕ). Some l) (got ∙ ap (λ n. field (size_len width) n c) same ∙ cell.bytes) }
+
+pub read_none : (o : Option (List ℕ)) (into : List ℕ) → None ≡ option_map length o → IsReadAs o None into
+read_none None into is = record { long = is; value = refl }
+read_none (Some v) into is = absurd (let never = is in cc)
 
 -- ---- a cell that is spelled
 

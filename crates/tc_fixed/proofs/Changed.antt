@@ -6,6 +6,7 @@ use Rattle.std.proofs.lemmas.Bool.{cases_lt}
 use Rattle.std.proofs.lemmas.List.{append-nil, length-take-le, take-append-drop, take-take, take_all, take_at}
 use Rattle.std.proofs.Math.Nat.{div-le_self}
 use Rattle.tc_base.specs.Files.{wrote}
+use Rattle.hf_head.specs.declared.fixed.FixedHead.{FixedHead}
 use Rattle.hf_head.specs.FixedHeads.{SpellsFixed, HasFixedNumbers, cell, fixed_in, fixed_spelled}
 use Rattle.tc_model.specs.Arrays.{Array, least, greatest}
 use Rattle.tc_fixed.specs.declared.tally.Tally.{Tally}
@@ -195,3 +196,6 @@ module _ (width limit : ℕ) (t : Tally) (x old new : List ℕ) (shape : (1 ≤ 
 
   pub create_head : SpellsFixed (head_of width limit t) (fixed_spelled (head_of width limit t)) → t.records ≡ 0 → t.least ≡ 0 → fixed_in (take 256 new) ≡ new_head width limit
   create_head spells no_records no_least = ap (λ (l : List ℕ). fixed_in l) front_all ∙ spells.fields ∙ head_none no_records no_least
+
+  pub create_made : t.records ≡ 0 → t.least ≡ 0 → new ≡ fixed_spelled (new_head width limit)
+  create_made no_records no_least = create_front ∙ ap (λ (h : FixedHead). fixed_spelled h) (head_none no_records no_least)

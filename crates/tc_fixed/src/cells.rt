@@ -1,13 +1,13 @@
 //! The cells of the file.
-ghost use Rattle.std.specs.Prelude.{◌≡◌, ℕ, ◌+◌, ◌^◌, ◌<◌, ◌≤◌, List, length, take, IfOk, OnOk, Option};
+ghost use Rattle.std.specs.Prelude.{◌≡◌, ℕ, ◌+◌, ◌^◌, ◌<◌, ◌≤◌, List, length, take, OnOk};
 ghost use Rattle.tc_base.specs.Files.{wrote};
 ghost use Rattle.hf_head.specs.FixedHeads.{cell};
 ghost use Rattle.tc_fixed.specs.declared.cells.Look.TheVariants.{Value};
-ghost use Rattle.tc_fixed.specs.Cells.{IsCell, blank, marked, place, size_len, spelled};
+ghost use Rattle.tc_fixed.specs.Cells.{blank, marked, place, size_len, spelled};
 ghost use Rattle.tc_fixed.specs.Looks.{Sees};
 
-use std::alloc::{AllocError, Global};
-use tc_base::{Blob, get_le, set_le};
+use std::alloc::AllocError;
+use tc_base::{get_le, set_le};
 
 /// What the front of a cell tells.
 #[derive(Clone, Copy, Debug, PartialEq, Eq)]
@@ -73,22 +73,6 @@ pub fn look_in(width: u32, front: &[u8]) -> Look
         0 => Look::Absent,
         1 => Look::Value(0),
         _ => Look::Bad,
-    }
-}
-
-/// The value of a cell, or none.
-pub fn value_of(alloc: Global, width: u32, bytes: &[u8]) -> Result<Option<Blob>, AllocError>
-    requires some { 1 ≤ width }
-    requires long { length bytes.now ≡ cell width }
-    ensures { IfOk result (λ found. (o : Option (List ℕ)) → IsCell width o bytes.now → found ≡ o) }
-{
-    let at = size_len(width);
-    match look_in(width, &bytes[..at + 1]) {
-        Look::Value(size) => {
-            let value = Blob::from_slice(alloc, &bytes[at..at + size as usize])?;
-            Ok(Some(value))
-        }
-        _ => Ok(None),
     }
 }
 

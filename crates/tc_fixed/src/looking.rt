@@ -1,9 +1,11 @@
 //! Cells looked at.
-ghost use Rattle.std.specs.Prelude.{◌≡◌, ◌+◌, ◌≤◌, length, IfOk, OnOk, IsErrOf};
+ghost use Rattle.std.specs.Prelude.{◌≡◌, ℕ, ◌+◌, ◌≤◌, length, drop, take, IfOk, OnOk, IsErrOf};
+ghost use Rattle.tc_base.specs.Endian.{field};
 ghost use Rattle.tc_io.specs.Causes.{HasCause};
 ghost use Rattle.tc_space.specs.Frames.{OnlyReads};
 ghost use Rattle.tc_space.specs.Refusals.{Blamed};
 ghost use Rattle.tc_reach.specs.Windows.{Shows};
+ghost use Rattle.tc_fixed.specs.declared.cells.Look.TheVariants.{Value};
 ghost use Rattle.tc_fixed.specs.Cells.{cell_at, size_len};
 ghost use Rattle.tc_fixed.specs.Holding.{HasCellsTo};
 ghost use Rattle.tc_fixed.specs.Looks.{Sees};
@@ -23,6 +25,7 @@ fn read_look<S: Space>(space: &mut S, width: u32, id: u64, into: &mut [u8]) -> R
     requires some { 1 ≤ id }
     requires front { length into.old ≡ size_len width + 1 }
     ensures sees { IfOk result (λ look. S.tells → Sees width look (cell_at width id (S.now space.old 0))) }
+    ensures few { IfOk result (λ look. (n : ℕ) → look ≡ Value n → n ≤ width) }
     ensures reads { OnlyReads S.Space space.old space.new }
     ensures cause { HasCause (S.faults space.old) (S.faults space.new) result }
 {
@@ -35,11 +38,45 @@ pub fn look_at<S: Space>(space: &mut S, width: u32, id: u64) -> Result<Look, Fau
     requires cells { HasCellsTo S.Space space.old width id }
     requires some { 1 ≤ id }
     ensures sees { IfOk result (λ look. S.tells → Sees width look (cell_at width id (S.now space.old 0))) }
+    ensures few { IfOk result (λ look. (n : ℕ) → look ≡ Value n → n ≤ width) }
     ensures reads { OnlyReads S.Space space.old space.new }
     ensures cause { HasCause (S.faults space.old) (S.faults space.new) result }
 {
     let mut front = [0; 5];
     read_look(space, width, id, &mut front[..size_len(width) + 1])
+}
+
+// Fills the front with the bytes of the file from a place on.
+fn read_front<S: Space>(space: &mut S, at: u64, long: usize, into: &mut [u8]) -> Result<(), Fault>
+    requires sound { S.sound space.old }
+    requires room { long ≤ length into.old }
+    requires inside { S.tells → at + long ≤ length (S.now space.old 0) }
+    ensures bytes { OnOk result (S.tells → take long into.new ≡ take long (drop at (S.now space.old 0))) }
+    ensures reads { OnlyReads S.Space space.old space.new }
+    ensures cause { HasCause (S.faults space.old) (S.faults space.new) result }
+{
+    read_into(space, FILE, at, &mut into[..long])
+}
+
+/// So many bytes behind the size in the cell of an id, read to the front of others.
+pub fn read_value<S: Space>(
+    space: &mut S,
+    width: u32,
+    id: u64,
+    long: usize,
+    into: &mut [u8],
+) -> Result<(), Fault>
+    requires cells { HasCellsTo S.Space space.old width id }
+    requires some { 1 ≤ id }
+    requires fits { long ≤ width }
+    requires room { long ≤ length into.old }
+    ensures bytes { OnOk result (S.tells → take long into.new ≡ field (size_len width) long (cell_at width id (S.now space.old 0))) }
+    ensures reads { OnlyReads S.Space space.old space.new }
+    ensures cause { HasCause (S.faults space.old) (S.faults space.new) result }
+{
+    let at = place(width, id) + size_len(width) as u64;
+    read_front(space, at, long, into)?;
+    Ok(())
 }
 
 // The first of the cells that are read with that of an id: as many as fit into a piece are read at once, always the same ones.

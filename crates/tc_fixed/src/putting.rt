@@ -8,6 +8,7 @@ ghost use Rattle.tc_space.specs.Refusals.{OnFault};
 ghost use Rattle.tc_space.specs.Stores.{IsReady, Only};
 ghost use Rattle.tc_fixed.specs.Cells.{end_of, with_cell};
 ghost use Rattle.tc_fixed.specs.Holding.{HasCellsTo, HasNoRoom, Means, SameShape, max_id_of};
+ghost use Rattle.tc_fixed.specs.Settling.{with_value};
 
 use crate::cells::{place, spell};
 use crate::fixed::{FILE, Fixed};
@@ -42,12 +43,13 @@ fn write_cell<S: Space>(
 }
 
 impl<S: Space> Fixed<S> {
-    /// Gives an id a value, in place of its old one. After a refusal the space isn't sound, or nothing has changed; with `Full` it isn't.
+    /// Gives an id a value, in place of its old one: its whole cell is written, with zeros behind the value, and so are those between the last one and it. After a refusal the space isn't sound, or nothing has changed; with `Full` it isn't.
     pub fn put(&mut self, space: &mut S, id: u64, value: &[u8]) -> Result<(), RecErr>
         requires ready { IsReady S.Space (Means S.Space) self.old space.old }
         requires id { (1 ≤ id) × (id ≤ max_id_of self.old) }
         requires value { length value.now ≤ self.old.width }
         ensures put { OnOk result (Writes S.Space (Only 0) (Means S.Space) (λ m. insert m id value.now) self.old self.new space.old space.new) }
+        ensures wrote { OnOk result (S.tells → Changes S.now 0 (with_value self.old id value.now (S.now space.old 0)) space.old space.new) }
         ensures refused { OnErr result (Refuses S.Space (Means S.Space) self.old self.new space.old space.new) }
         ensures full { IsErrOf result RecErr.Full → (S.flag space.new ≡ false) × (S.tells → HasNoRoom (S.limit space.new 0) (S.log_full space.new) (end_of self.old.width id)) }
         ensures keeps { Keeps S.Space space.old space.new }

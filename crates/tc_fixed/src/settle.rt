@@ -9,7 +9,7 @@ ghost use Rattle.tc_space.specs.Frames.{Keeps, Refuses, Writes};
 ghost use Rattle.tc_space.specs.Refusals.{OnFault, OnlyLogIsFull};
 ghost use Rattle.tc_space.specs.Stores.{IsReady, Only};
 ghost use Rattle.tc_fixed.specs.Holding.{Means, ReachesTo, SameShape, max_id_of};
-ghost use Rattle.tc_fixed.specs.Settling.{head_of};
+ghost use Rattle.tc_fixed.specs.Settling.{head_of, settled};
 ghost use Rattle.tc_fixed.specs.Standing.{Stands};
 
 use crate::cells::cell_len;
@@ -61,12 +61,13 @@ pub fn head_now(width: u32, limit: u64, tally: &Tally) -> FixedHead
 }
 
 impl<S: Space> Fixed<S> {
-    /// Brings what is held in memory to the file: its head is written where it has changed, and the file is cut to its size. Then it stands for the
-    /// map. After a refusal the space isn't sound.
+    /// Brings what is held in memory to the file: its head is written where it has changed, and the file is cut to the end of the cell of the greatest id.
+    /// Then it stands for the map. After a refusal the space isn't sound.
     pub fn settle(&mut self, space: &mut S) -> Result<(), RecErr>
         requires ready { IsReady S.Space (Means S.Space) self.old space.old }
         ensures settled { OnOk result (Writes S.Space (Only 0) (Means S.Space) same self.old self.new space.old space.new) }
         ensures stands { OnOk result ((m : Array) → Means S.Space self.old space.old m → Stands (S.now space.new 0) self.old.width (max_id_of self.old) m) }
+        ensures wrote { OnOk result (S.tells → Changes S.now 0 (settled self.old (S.now space.old 0)) space.old space.new) }
         ensures refused { OnErr result (Refuses S.Space (Means S.Space) self.old self.new space.old space.new) }
         ensures full { IsErrOf result RecErr.Full → (S.flag space.new ≡ false) × (S.tells → S.log_full space.new) }
         ensures keeps { Keeps S.Space space.old space.new }

@@ -1,11 +1,13 @@
 //! Ids taken out.
-ghost use Rattle.std.specs.Prelude.{◌≡◌, ◌≤◌, IfOk, OnOk, OnErr, IsErrOf, IsSome, is_some, false};
+ghost use Rattle.std.specs.Prelude.{◌≡◌, ◌≤◌, IfOk, OnOk, OnErr, IsErrOf, IsSome, is_some, take, true, false};
 ghost use Rattle.std.specs.FinMap.{empty, get, remove};
 ghost use Rattle.tc_model.specs.Arrays.{Array, least, greatest};
+ghost use Rattle.tc_space.specs.Effects.{Changes};
 ghost use Rattle.tc_space.specs.Frames.{Keeps, OnlyReads, Refuses, Writes};
 ghost use Rattle.tc_space.specs.Refusals.{Blames, OnFault};
 ghost use Rattle.tc_space.specs.Stores.{IsReady, Only, TakesOut};
 ghost use Rattle.tc_fixed.specs.Holding.{Means, SameShape};
+ghost use Rattle.tc_fixed.specs.Settling.{without_value};
 
 use crate::cells::{blank, place};
 use crate::fixed::{FILE, Fixed};
@@ -47,9 +49,10 @@ impl<S: Space> Fixed<S> {
         Ok(found)
     }
 
-    /// Takes an id out, and says whether it was held. After a refusal the space isn't sound, or nothing has changed; with `Full` it isn't.
+    /// Takes an id out, and says whether it was held: zeros are written over its whole cell. After a refusal the space isn't sound, or nothing has changed; with `Full` it isn't.
     pub fn out(&mut self, space: &mut S, id: u64) -> Result<bool, RecErr>
         requires ready { IsReady S.Space (Means S.Space) self.old space.old }
+        ensures wrote { IfOk result (λ taken. taken ≡ true → S.tells → Changes S.now 0 (without_value self.old id (S.now space.old 0)) space.old space.new) }
         ensures out { IfOk result (λ taken. TakesOut S.Space (Only 0) (Means S.Space) (λ m. is_some (get m id)) (λ m. remove m id) taken self.old self.new space.old space.new) }
         ensures refused { OnErr result (Refuses S.Space (Means S.Space) self.old self.new space.old space.new) }
         ensures full { IsErrOf result RecErr.Full → (S.flag space.new ≡ false) × (S.tells → S.log_full space.new) }
@@ -71,6 +74,7 @@ impl<S: Space> Fixed<S> {
     /// Takes all ids out: the file is cut to its head. After a refusal the space isn't sound.
     pub fn clear(&mut self, space: &mut S) -> Result<(), RecErr>
         requires ready { IsReady S.Space (Means S.Space) self.old space.old }
+        ensures wrote { OnOk result (S.tells → Changes S.now 0 (take 256 (S.now space.old 0)) space.old space.new) }
         ensures clear { OnOk result (Writes S.Space (Only 0) (Means S.Space) (λ m. empty) self.old self.new space.old space.new) }
         ensures refused { OnErr result (Refuses S.Space (Means S.Space) self.old self.new space.old space.new) }
         ensures full { IsErrOf result RecErr.Full → (S.flag space.new ≡ false) × (S.tells → S.log_full space.new) }

@@ -117,14 +117,14 @@ in_all m (q ∷ ps) (suc i) p e all = in_all m ps i p e all.1
 -- ---- the pool
 
 -- a pool without free blocks stays so
-pub still_nothing : (size place : ℕ) (old new : Pool) → Takes old new size place → ((q : ℕ) → frees_in old q ≡ None) → (q : ℕ) → frees_in new q ≡ None
-still_nothing size place old new (inl w) nothing q = absurd (let e : None ≡ Some w.0 = sym (nothing place) ∙ w.1.best.there in cc)
-still_nothing size place old new (inr g) nothing q = g.same q ∙ nothing q
+pub still_nothing : (most size place : ℕ) (old new : Pool) → Takes most old new size place → ((q : ℕ) → frees_in old q ≡ None) → (q : ℕ) → frees_in new q ≡ None
+still_nothing most size place old new (inl w) nothing q = absurd (let e : None ≡ Some w.0 = sym (nothing place) ∙ w.1.best.there in cc)
+still_nothing most size place old new (inr g) nothing q = g.same q ∙ nothing q
 
 -- and grows by each block
-pub ends_behind : (size place : ℕ) (old new : Pool) → Takes old new size place → ((q : ℕ) → frees_in old q ≡ None) → new.size ≡ old.size + size
-ends_behind size place old new (inl w) nothing = absurd (let e : None ≡ Some w.0 = sym (nothing place) ∙ w.1.best.there in cc)
-ends_behind size place old new (inr g) nothing = g.end
+pub ends_behind : (most size place : ℕ) (old new : Pool) → Takes most old new size place → ((q : ℕ) → frees_in old q ≡ None) → new.size ≡ old.size + size
+ends_behind most size place old new (inl w) nothing = absurd (let e : None ≡ Some w.0 = sym (nothing place) ∙ w.1.best.there in cc)
+ends_behind most size place old new (inr g) nothing = g.end
 
 -- ---- the file made anew
 

@@ -9,6 +9,8 @@ pub mod Kept
 pub mod Keyed
 pub mod KeysRead
 pub mod Listing
+pub mod Numbered
+pub mod OneMap
 pub mod Opened
 pub mod Ordered
 pub mod Packed

@@ -22,6 +22,7 @@ use Rattle.hf_record.specs.Allocating.{Allocates, HoldsAt, HoldsWritten, Shorten
 use Rattle.hf_record.specs.Changing.{MapsBy, PutsAt, PutsNew, StaysBody}
 use Rattle.hf_record.specs.Costs.{Edits, FewBeside}
 use Rattle.hf_record.specs.Holding.{Has}
+use Rattle.hf_record.specs.Filling.{reach}
 use Rattle.hf_record.specs.Moves.{Gives, HasRoom, IsRefusedFor, LacksRoom}
 use Rattle.hf_record.specs.Searching.{IsFound, IsGap}
 use Rattle.hf_record.proofs.Differ.{beside_after, beside_more, edits_after, edits_more, edits_then}
@@ -225,10 +226,10 @@ module _ {S : Type 0} (s : Ghosts S) where
   sized_same key value v v' e = ap (λ (h : Head). block_len (width h) key value (unit h)) e
 
   -- a key that isn't held gets a block from the pool as it is
-  takes_fresh : (key : List ℕ) (size most : ℕ) (m n : Map) (v v' : Hash S) (a b : S) → get m key ≡ None → (p : IsPlaced s key size most m n v v' a b) → Takes v.body.pool v'.body.pool size p.place
+  takes_fresh : (key : List ℕ) (size most : ℕ) (m n : Map) (v v' : Hash S) (a b : S) → get m key ≡ None → (p : IsPlaced s key size most m n v v' a b) → Takes (reach v.body.head) v.body.pool v'.body.pool size p.place
   takes_fresh key size most m n v v' a b none p = go p.was p.stood p.allocates
     where
-      go : (was : Option (ℕ × ℕ)) → Stands v.body.head v.body.pool.size (frees v.body.pool) m key (s.now a v.body.file) was → Allocates size p.place was v.body.pool v'.body.pool → Takes v.body.pool v'.body.pool size p.place
+      go : (was : Option (ℕ × ℕ)) → Stands v.body.head v.body.pool.size (frees v.body.pool) m key (s.now a v.body.file) was → Allocates (reach v.body.head) size p.place was v.body.pool v'.body.pool → Takes (reach v.body.head) v.body.pool v'.body.pool size p.place
       go None stands takes = takes
       go (Some is) at takes = absurd (let e : None ≡ Some at.r.value = sym none ∙ (at.has.is.map key at.r.value).1 (is.0, at.r, at.there, at.key_is, refl) in cc)
 
@@ -256,7 +257,7 @@ module _ {S : Type 0} (s : Ghosts S) where
             few = few;
             middle = w.body.pool;
             gives = t.gives;
-            takes = subst (λ (n : ℕ). Takes w.body.pool u.body.pool n p.place) long (takes_fresh key (size_for w key value) 13 k (insert k key value) w u b c (remove_here m key) p);
+            takes = subst (λ (x : Head). Takes (reach x) w.body.pool u.body.pool (size_for v key value) p.place) t.head (subst (λ (n : ℕ). Takes (reach w.body.head) w.body.pool u.body.pool n p.place) long (takes_fresh key (size_for w key value) 13 k (insert k key value) w u b c (remove_here m key) p));
           });
           stands =
               subst (λ (x : Map). HoldsWritten v.body.head u.body.pool.size (frees u.body.pool) x key p.place (size_for v key value) (s.now c v.body.file)) (insert_again m key value)

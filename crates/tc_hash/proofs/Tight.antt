@@ -1,5 +1,5 @@
 -- A packed file once it is settled.
-use Rattle.std.proofs.Common.{◌≡◌, ◌∙◌, ◌⊎◌, inl, inr, ℕ, ◌<◌, ◌≤◌, List, Option, None, refl, sym, ap, subst}
+use Rattle.std.proofs.Common.{◌≡◌, ◌∙◌, ◌⊎◌, inl, inr, ℕ, ◌<◌, ◌≤◌, List, length, Option, None, refl, sym, ap, subst}
 use Rattle.std.proofs.lemmas.Bool.{cases_lt}
 use Rattle.tc_base.specs.Maps.{Map}
 use Rattle.tc_base.specs.declared.kind.Form.{Form}
@@ -31,12 +31,13 @@ pub tight_of : {S : Type 0} (f : Form) (old new : Hash S) → Packs (options_for
 tight_of form.Keep old new packs = record { nothing = packs.nothing; large = λ is. absurd cc }
 tight_of form.Large old new packs = record { nothing = packs.nothing; large = λ is. packs.options_is }
 
-pub packed_of : (f : Form) (h : Head) (end : ℕ) (frees : Frees) (records : ℕ) (region : List ℕ) (m : Map) (bytes : List ℕ) → Brought h end frees records region m bytes → ((q : ℕ) → frees q ≡ None) → (f ≡ form.Large → h.options ≡ 1) → IsPacked f bytes
-packed_of f h end frees records region m bytes brought nothing large =
+pub packed_of : (f : Form) (h : Head) (end : ℕ) (frees : Frees) (records : ℕ) (region : List ℕ) (m : Map) (bytes : List ℕ) → Brought h end frees records region m bytes → length bytes ≡ end → ((q : ℕ) → frees q ≡ None) → (f ≡ form.Large → h.options ≡ 1) → IsPacked f bytes
+packed_of f h end frees records region m bytes brought long nothing large =
     let is = brought.holds.has.is in record {
       head = head_now h records end region;
       pieces = brought.holds.has.pieces;
       in_front = brought.head;
+      long = long;
       blocks = record { on = is.laid.on; within = is.laid.within; filled = is.laid.filled; widths = is.widths };
       none_free = λ q. none_there _ _ _ (nothing q) refl (is.laid.shared q);
       large = large;

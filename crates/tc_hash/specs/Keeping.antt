@@ -1,12 +1,13 @@
 -- What a hash file that is held open keeps, and what calls on its records do.
 use Rattle.std.specs.Prelude.{◌≡◌, ◌⊎◌, ℕ, ◌+◌, ◌^◌, ◌<◌, ◌≤◌, false, List, length, max, Option}
+use Rattle.std.proofs.Common.{inl, inr, ⊎_elim, ap, subst, sym}
 use Rattle.std.specs.FinMap.{get}
 use Rattle.tc_base.specs.Maps.{Map}
 use Rattle.tc_base.specs.declared.kind.Mode.{Mode}
 use Rattle.tc_base.specs.declared.kind.Mode.TheVariants.{Over}
 use Rattle.tc_space.specs.Changes.{out_of, put_in, put_value}
-use Rattle.tc_space.specs.Frames.{In, Reads, Refuses, Writes}
-use Rattle.tc_space.specs.Stores.{CountsGet, IsReady, Only, StaysMap}
+use Rattle.tc_space.specs.Frames.{GivenUp, In, Reads, Refuses, Writes}
+use Rattle.tc_space.specs.Stores.{CountsGet, IsReady, Only}
 use Rattle.tc_space.specs.declared.space.Space.{Ghosts}
 use Rattle.hf_pool.specs.declared.pool.Pool.{Pool}
 use Rattle.hf_pool.specs.Pools.{Takes, frees}
@@ -14,10 +15,11 @@ use Rattle.hf_record.specs.Allocating.{Allocates, HoldsAt, HoldsWritten, Stands,
 use Rattle.hf_record.specs.Asking.{Asked}
 use Rattle.hf_record.specs.Changing.{size_in}
 use Rattle.hf_record.specs.Costs.{Edits, FewBeside}
-use Rattle.hf_record.specs.Filling.{IsTooFar, IsTooLong}
+use Rattle.hf_record.specs.Filling.{IsTooFar, IsTooLong, reach}
 use Rattle.hf_record.specs.Moves.{Gives}
 use Rattle.tc_hash.specs.declared.hash.Hash.{Hash}
 use Rattle.tc_hash.specs.Holding.{HoldsFile}
+use Rattle.tc_hash.specs.Standing.{numbers_in}
 
 abbrev pub file_of : {S : Type 0} → Hash S → ℕ
 file_of h = h.body.file
@@ -26,6 +28,10 @@ file_of h = h.body.file
 abbrev pub sort_of : {S : Type 0} → Hash S → ℕ
 sort_of h = h.body.head.kind
 
+-- the numbers that the head of its file fixes, its options first
+abbrev pub numbers_of : {S : Type 0} → Hash S → List ℕ
+numbers_of h = numbers_in h.body.head
+
 abbrev pub region_of : {S : Type 0} → Hash S → List ℕ
 region_of h = h.region
 
@@ -33,14 +39,21 @@ region_of h = h.region
 abbrev pub gets_of : {S : Type 0} → Hash S → ℕ
 gets_of h = h.gets
 
--- the file, its type, the region, the count of gets and the head as the file was opened or made with it stay
+-- the file, its type, the region and the count of gets stay
+pub record SameMap {S : Type 0} (old new : Hash S) : Type 0 where
+  pub file : file_of new ≡ file_of old
+  pub sort_same : sort_of new ≡ sort_of old
+  pub region_same : region_of new ≡ region_of old
+  pub gets_same : gets_of new ≡ gets_of old
+
+-- besides, so does the head as the file was opened or made with it
 pub record StaysOpen {S : Type 0} (old new : Hash S) : Type 0 where
-  pub map : StaysMap file_of sort_of region_of gets_of old new
+  pub map : SameMap old new
   pub head : new.body.head ≡ old.body.head
 
 -- a get is counted, and the file, its type, the region, the head and the free blocks stay
 pub record CountsOne {S : Type 0} (old new : Hash S) : Type 0 where
-  pub map : CountsGet file_of sort_of region_of gets_of old new
+  pub map : CountsGet file_of sort_of numbers_of region_of gets_of old new
   pub body : new.body ≡ old.body
 
 -- the numbers of its file and their form stay
@@ -59,6 +72,10 @@ module _ {S : Type 0} (s : Ghosts S) where
   -- with the bytes that its file has now
   abbrev pub Means : Hash S → S → Map → Type 0
   Means h space m = In s file_of holds h space m
+
+  -- it is one map
+  abbrev pub HoldsOne : Type 0
+  HoldsOne = (h : Hash S) (space : S) (m n : Map) → Means h space m → Means h space n → m ≡ n
 
   -- it may be called
   abbrev pub CanCall : Hash S → S → Type 0
@@ -92,7 +109,7 @@ pub record LacksFree {S : Type 0} (s : Ghosts S) (h : Hash S) (key : List ℕ) (
   pub pool : Pool
   pub since : TakesFrom size was h.body.pool pool
   pub inside : pool.size ≤ length (s.now new h.body.file)
-  pub refused : IsTooFar h.body.head pool.size size (frees pool) ⊎ IsTooLong (s.limit new h.body.file) pool.size size (frees pool)
+  pub refused : IsTooFar h.body.head pool.size size (frees pool) ⊎ IsTooLong h.body.head (s.limit new h.body.file) pool.size size (frees pool)
 
 -- or a block may not have so many bytes
 abbrev pub WantsBlock : {S : Type 0} → Ghosts S → Hash S → List ℕ → Map → S → S → ℕ → Type 0
@@ -125,7 +142,7 @@ pub record IsPlaced {S : Type 0} (s : Ghosts S) (key : List ℕ) (size most : �
   pub was : Option (ℕ × ℕ)
   pub stood : Stands v.body.head v.body.pool.size (frees v.body.pool) m key (s.now old v.body.file) was
   pub place : ℕ
-  pub allocates : Allocates size place was v.body.pool v'.body.pool
+  pub allocates : Allocates (reach v.body.head) size place was v.body.pool v'.body.pool
   pub stands : HoldsWritten v.body.head v'.body.pool.size (frees v'.body.pool) n key place size (s.now new v.body.file)
   pub beside : FewBeside place size most (s.now old v.body.file) (s.now new v.body.file)
   pub long : length (s.now new v.body.file) ≡ max (length (s.now old v.body.file)) (place + size)
@@ -140,9 +157,31 @@ pub record GivesValue {S : Type 0} (s : Ghosts S) (mode : Mode) (key value : Lis
 pub record GivesNew {S : Type 0} (s : Ghosts S) (key value : List ℕ) (v v' : Hash S) (old new : S) : Type 0 where
   pub gives : GivesValue s Over key value 13 v v' old new
   pub place : ℕ
-  pub takes : Takes v.body.pool v'.body.pool (size_for v key value) place
+  pub takes : Takes (reach v.body.head) v.body.pool v'.body.pool (size_for v key value) place
 
 -- the undo log is full, or the block for that record wasn't to be had; the space may not be used any more
 pub record LacksBlock {S : Type 0} (s : Ghosts S) (mode : Mode) (key value : List ℕ) (v : Hash S) (old new : S) : Type 0 where
   pub spoiled : s.flag new ≡ false
   pub wants : (m : Map) → Means s v old m → s.log_full new ⊎ WantsBlock s v key m old new (size_for v key (put_value mode (get m key) value))
+
+-- so it is in a space that was given up since
+pub lacks_still : {S : Type 0} (s : Ghosts S) (h : Hash S) (old mid new : S) (key value : List ℕ) → GivenUp s mid new → LacksRecordOf s h old mid key value → LacksRecordOf s h old new key value
+lacks_still s h old mid new key value given lacks =
+    let size : ℕ = size_for h key value in
+    let same : s.now new h.body.file ≡ s.now mid h.body.file = given.files lacks.means.0 h.body.file in
+    let limit : s.limit new h.body.file ≡ s.limit mid h.body.file = ap (λ (l : ℕ → ℕ). l h.body.file) given.keeps.same_limit in
+    record {
+      held = lacks.held;
+      means = lacks.means;
+      wants = ⊎_elim
+          (λ (large : 2 ^ 30 < size). inl large)
+          (λ (f : LacksFree s h key lacks.held old mid size). inr (record {
+            was = f.was;
+            stood = f.stood;
+            pool = f.pool;
+            since = f.since;
+            inside = subst (λ (bytes : List ℕ). f.pool.size ≤ length bytes) (sym same) f.inside;
+            refused = subst (λ (n : ℕ). IsTooFar h.body.head f.pool.size size (frees f.pool) ⊎ IsTooLong h.body.head n f.pool.size size (frees f.pool)) (sym limit) f.refused;
+          }))
+          lacks.wants;
+    }

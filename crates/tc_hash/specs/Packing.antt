@@ -1,11 +1,10 @@
 -- A file packed: written anew in the large form, or in the form that it has.
-use Rattle.std.specs.Prelude.{◌≡◌, ◌⊎◌, ℕ, ◌+◌, ◌^◌, ◌<◌, true, List, [], ◌∷◌, ◌++◌, length, map, take, Option, Some, None}
+use Rattle.std.specs.Prelude.{◌≡◌, ◌⊎◌, ℕ, ◌+◌, ◌^◌, ◌<◌, true, false, List, [], ◌∷◌, ◌++◌, length, map, take, Option, Some, None}
 use Rattle.std.specs.FinMap.{empty, get, insert, keys}
 use Rattle.tc_base.specs.Maps.{Map}
 use Rattle.tc_base.specs.declared.kind.Form.{Form}
 use Rattle.tc_base.specs.declared.kind.Form.TheVariants as form
 use Rattle.tc_base.specs.declared.seq.Pair.{Pair}
-use Rattle.tc_space.specs.Stores.{StaysMap}
 use Rattle.tc_space.specs.declared.space.Space.{Ghosts}
 use Rattle.hf_head.specs.declared.head.Head.{Head}
 use Rattle.hf_head.specs.Heads.{head_in, unit}
@@ -20,7 +19,7 @@ use Rattle.hf_tree.specs.Keys.{Key}
 use Rattle.hf_tree.specs.Standing.{AllHang}
 use Rattle.tc_hash.specs.declared.hash.Hash.{Hash}
 use Rattle.tc_hash.specs.Creating.{IsNew}
-use Rattle.tc_hash.specs.Keeping.{Means, Turns, file_of, gets_of, region_of, sort_of}
+use Rattle.tc_hash.specs.Keeping.{Means, SameMap, Turns}
 use Rattle.hf_record.specs.Moves.{IsRefusedFor}
 
 -- no free block is left, and this is the form of the file
@@ -33,18 +32,19 @@ pub record IsTight {S : Type 0} (f : Form) (h : Hash S) : Type 0 where
   pub nothing : (q : ℕ) → frees h.body.pool q ≡ None
   pub large : f ≡ form.Large → h.body.head.options ≡ 1
 
--- a file of this form whose blocks are all those of records
+-- a file of this form that has just the size that its head says, and whose blocks are all those of records
 pub record IsPacked (f : Form) (bytes : List ℕ) : Type 0 where
   pub head : Head
   pub pieces : List Piece
   pub in_front : head_in (take 256 bytes) ≡ head
+  pub long : length bytes ≡ head.size
   pub blocks : HasBlocks head head.size pieces bytes
   pub none_free : (q : ℕ) → frees_of head.first pieces q ≡ None
   pub large : f ≡ form.Large → head.options ≡ 1
 
 -- the file, the region and the count of gets stay, and so do the numbers of the file
 pub record StaysNumbered {S : Type 0} (old new : Hash S) : Type 0 where
-  pub map : StaysMap file_of sort_of region_of gets_of old new
+  pub map : SameMap old new
   pub apow : new.body.head.apow ≡ old.body.head.apow
   pub fpow : new.body.head.fpow ≡ old.body.head.fpow
   pub buckets : new.body.head.buckets ≡ old.body.head.buckets
@@ -132,3 +132,7 @@ LacksLarge s h old new = LacksSections s h new ⊎ LacksRecord s h old new
 -- a packing had none, in the form that a file has only since the undo log is full
 abbrev pub LacksPacking : {S : Type 0} → Form → Ghosts S → Hash S → S → S → Type 0
 LacksPacking f s h old new = s.log_full new ⊎ ((f ≡ form.Large) × LacksLarge s h old new)
+
+-- the space may not be used any more, or the head is what it was
+abbrev pub LeavesHead : {S : Type 0} → Ghosts S → Hash S → Hash S → S → Type 0
+LeavesHead s v v' new = (s.flag new ≡ false) ⊎ (v'.body.head ≡ v.body.head)

@@ -5,12 +5,11 @@ ghost use Rattle.tc_space.specs.Effects.{Changes, Outcome};
 ghost use Rattle.tc_space.specs.Frames.{Keeps};
 ghost use Rattle.tc_space.specs.Ranges.{IsDataFile};
 ghost use Rattle.tc_space.specs.Refusals.{OnFault, OnlyLogIsFull};
-ghost use Rattle.tc_space.specs.Stores.{StaysMap};
 ghost use Rattle.hf_head.specs.Heads.{Spells, is_large, spelled, unit};
 ghost use Rattle.tc_reach.specs.Limits.{AreZeros};
 ghost use Rattle.tc_hash.specs.Creating.{IsNew};
 ghost use Rattle.hf_record.specs.Fields.{HasFields};
-ghost use Rattle.tc_hash.specs.Keeping.{CanCall, Refused, SameShape, Turns, file_of, gets_of, region_of, sort_of};
+ghost use Rattle.tc_hash.specs.Keeping.{CanCall, Refused, SameMap, SameShape, Turns};
 
 use crate::create::{PIECE, new_head, new_pool, write_new};
 use crate::hash::Hash;
@@ -84,7 +83,7 @@ impl<S: Space> Hash<S> {
         ensures refused { OnErr result (Refused S.Space self.old self.new space.old space.new) }
         ensures full { OnlyLogIsFull S.Space result space.new }
         ensures keeps { Keeps S.Space space.old space.new }
-        ensures stays { StaysMap file_of sort_of region_of gets_of self.old self.new }
+        ensures stays { SameMap self.old self.new }
         ensures shape { SameShape self.old self.new }
         ensures cause { OnFault S.Space result space.old space.new }
     {

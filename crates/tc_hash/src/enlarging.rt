@@ -12,7 +12,7 @@ ghost use Rattle.hf_record.specs.Fields.{HasFields};
 ghost use Rattle.hf_record.specs.Holding.{Has};
 ghost use Rattle.tc_hash.specs.Creating.{IsNew};
 ghost use Rattle.tc_hash.specs.Keeping.{CanCall, Means, Refused, StaysOpen, Turns};
-ghost use Rattle.tc_hash.specs.Packing.{AddsPair, ArePairs, LacksLarge, LacksOne, LacksSections, MakesLarge, Packs, StaysNumbered, with_pairs};
+ghost use Rattle.tc_hash.specs.Packing.{AddsPair, ArePairs, LacksLarge, LacksOne, LacksSections, LeavesHead, MakesLarge, Packs, StaysNumbered, with_pairs};
 
 use crate::clearing::write_anew;
 use crate::create::{PIECE, new_head, new_pool};
@@ -100,6 +100,7 @@ impl<S: Space> Hash<S> {
         ensures full { IsErrOf result RecErr.Full → S.tells → S.log_full space.new ⊎ LacksSections S.Space self.old space.new }
         ensures keeps { Keeps S.Space space.old space.new }
         ensures stays { StaysNumbered self.old self.new }
+        ensures left { OnErr result (LeavesHead S.Space self.old self.new space.new) }
         ensures cause { OnFault S.Space result space.old space.new }
     {
         let head = large_head(&self.body.head);
@@ -122,6 +123,7 @@ impl<S: Space> Hash<S> {
         ensures full { IsErrOf result RecErr.Full → S.tells → S.log_full space.new ⊎ LacksLarge S.Space self.old space.old space.new }
         ensures keeps { Keeps S.Space space.old space.new }
         ensures stays { StaysNumbered self.old self.new }
+        ensures left { OnErr result (LeavesHead S.Space self.old self.new space.new) }
         ensures packs { OnOk result (Packs 1 self.new) }
         ensures cause { OnFault S.Space result space.old space.new }
     {
@@ -139,6 +141,7 @@ impl<S: Space> Hash<S> {
         ensures full { IsErrOf result RecErr.Full → S.tells → S.log_full space.new ⊎ LacksLarge S.Space self.old space.old space.new }
         ensures keeps { Keeps S.Space space.old space.new }
         ensures stays { StaysNumbered self.old self.new }
+        ensures left { OnErr result (LeavesHead S.Space self.old self.new space.new) }
         ensures packs { OnOk result (Packs 1 self.new) }
         ensures cause { OnFault S.Space result space.old space.new }
     {

@@ -15,6 +15,7 @@ mod enlarging;
 mod front;
 mod getting;
 mod hash;
+mod laws;
 mod mapping;
 mod open;
 mod out;
@@ -27,4 +28,5 @@ mod totals;
 mod walking;
 
 pub use hash::Hash;
+pub use laws::files_hold_one_map;
 pub use put::Put;

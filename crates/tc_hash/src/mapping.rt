@@ -1,7 +1,7 @@
 //! A hash file as a map over one file.
-ghost use Rattle.tc_hash.specs.Keeping.{LacksRecordOf, file_of, gets_of, holds, region_of, sort_of};
+ghost use Rattle.tc_hash.specs.Keeping.{LacksRecordOf, file_of, gets_of, holds, lacks_still, numbers_of, region_of, sort_of};
 ghost use Rattle.tc_hash.specs.Packing.{IsPacked, IsTight, LacksLarge};
-ghost use Rattle.tc_hash.specs.Standing.{StandsWith};
+ghost use Rattle.tc_hash.specs.Standing.{StandsAs};
 
 use crate::hash::Hash;
 use tc_base::{Blob, Blobs, Form, Mode, Steps};
@@ -16,7 +16,9 @@ impl<S: Space> Records for Hash<S> {
 
     ghost sort = { sort_of };
 
-    ghost stands = { StandsWith };
+    ghost numbers = { numbers_of };
+
+    ghost stands = { StandsAs };
 
     ghost region = { region_of };
 
@@ -29,6 +31,8 @@ impl<S: Space> Records for Hash<S> {
     ghost packed = { IsPacked };
 
     ghost gets = { gets_of };
+
+    ghost lacks_still = { λ h old mid new key value given lacks. lacks_still _ h old mid new key value given lacks };
 
     fn file(&self) -> u32 {
         self.body.file

@@ -9,7 +9,7 @@ ghost use Rattle.hf_pool.specs.Pools.{frees};
 ghost use Rattle.hf_record.specs.Fields.{HasFields};
 ghost use Rattle.tc_hash.specs.Keeping.{CanCall, Refused, Turns};
 ghost use Rattle.tc_hash.specs.Listed.{CanList, OfBlocks};
-ghost use Rattle.tc_hash.specs.Packing.{IsRepacked, LacksPacking, Packs, StaysNumbered, options_for};
+ghost use Rattle.tc_hash.specs.Packing.{IsRepacked, LacksPacking, LeavesHead, Packs, StaysNumbered, options_for};
 
 use crate::hash::Hash;
 use crate::walking::list_blocks;
@@ -64,6 +64,7 @@ impl<S: Space> Hash<S> {
         ensures full { OnlyLogIsFull S.Space result space.new }
         ensures keeps { Keeps S.Space space.old space.new }
         ensures stays { StaysNumbered self.old self.new }
+        ensures head { self.new.body.head ≡ self.old.body.head }
         ensures packs { OnOk result (Packs self.old.body.head.options self.new) }
         ensures cause { OnFault S.Space result space.old space.new }
     {
@@ -97,6 +98,7 @@ impl<S: Space> Hash<S> {
         ensures full { IsErrOf result RecErr.Full → S.tells → LacksPacking form S.Space self.old space.old space.new }
         ensures keeps { Keeps S.Space space.old space.new }
         ensures stays { StaysNumbered self.old self.new }
+        ensures left { OnErr result (LeavesHead S.Space self.old self.new space.new) }
         ensures packs { OnOk result (Packs (options_for form self.old) self.new) }
         ensures cause { OnFault S.Space result space.old space.new }
     {

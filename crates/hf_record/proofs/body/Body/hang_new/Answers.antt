@@ -13,6 +13,7 @@ use Rattle.hf_record.specs.Changing.{record_in, size_in}
 use Rattle.hf_chain.specs.Chains.{MayHang}
 use Rattle.hf_chain.specs.Differs.{OnlyLinks}
 use Rattle.hf_chain.specs.Linking.{ChangesBy, IsHung}
+use Rattle.hf_record.specs.Filling.{reach}
 use Rattle.hf_record.specs.Holding.{Has}
 use Rattle.hf_record.specs.Moves.{Added, LacksPlace}
 use Rattle.hf_record.proofs.Bytes.{written_zeros}
@@ -85,7 +86,7 @@ returns-clause-put g c =
         beside = λ t. beside_then place long 5 8 13 before middle after (omega arith) (subst (λ (n : ℕ). FewBeside place n 5 before middle) long_as (adds.beside t)) (few_links t);
         long = λ t. (links t).long ∙ adds.long t ∙ ap (λ (n : ℕ). max (length before) (place + n)) long_as;
       };
-      takes = subst (λ (k : ℕ). Takes self.pool c.add.new.self.pool k place) long_as adds.taken;
+      takes = subst (λ (k : ℕ). Takes (reach h) self.pool c.add.new.self.pool k place) long_as adds.taken;
     }
 
 pub returns-in_err-place-clause-full : goal.returns-in_err-place-clause-full

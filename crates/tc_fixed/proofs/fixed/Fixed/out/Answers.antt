@@ -53,3 +53,16 @@ returns-clause-out g c =
       };
       none = λ not. absurd (let never : true ≡ false = not in cc);
     }
+
+pub returns-in_default-clause-wrote : goal.returns-in_default-clause-wrote
+returns-in_default-clause-wrote g c = λ yes. absurd cc
+
+pub returns-clause-wrote : goal.returns-clause-wrote
+returns-clause-wrote g c = λ yes t.
+    let f = c.args.self.now in
+    let old = c.args.space.now in
+    let reads = only_reads_then g.S.Space old c.least_without.new.space c.greatest_without.new.space (only_reads_then g.S.Space old c.held_at.new.space c.least_without.new.space c.held_at.ensures.reads c.least_without.ensures.reads) c.greatest_without.ensures.reads in
+    let w = c.in_ok-write_over.ensures.wrote t in record {
+      here = w.here ∙ (λ i. wrote (c.place.ensures.value i) ((c.deref.ensures.value ∙ c.in_ok-blank.ensures) i) (reads.files t 0 i));
+      others = λ n other. w.others n other ∙ reads.files t n;
+    }

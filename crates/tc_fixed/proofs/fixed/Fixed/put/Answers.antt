@@ -23,3 +23,9 @@ returns-clause-put g c = record {
       );
   others = record { same = λ t g other. (c.in_ok-write_cell.ensures.wrote t).others g other ∙ c.held_at.ensures.reads.files t g };
 }
+
+pub returns-clause-wrote : goal.returns-clause-wrote
+returns-clause-wrote g c = λ t. let f = c.args.self.now in let w = c.in_ok-write_cell.ensures.wrote t in record {
+  here = w.here ∙ (λ i. with_cell f.width f.tally.greatest c.args.id ((c.deref.ensures.value ∙ c.in_ok-spell.ensures) i) (c.held_at.ensures.reads.files t 0 i));
+  others = λ n other. w.others n other ∙ c.held_at.ensures.reads.files t n;
+}

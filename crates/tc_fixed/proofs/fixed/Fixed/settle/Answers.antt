@@ -1,5 +1,6 @@
 use Rattle.std.proofs.Common.{◌∙◌, take, ap, subst}
 use Rattle.tc_base.specs.Files.{wrote}
+use Rattle.tc_space.specs.Effects.{Changes}
 use Rattle.hf_head.specs.declared.fixed.FixedHead.{FixedHead}
 use Rattle.hf_head.specs.FixedHeads.{fixed_spelled, SpellsFixed}
 use Rattle.tc_fixed.proofs.Changed.{settle_front, settle_holds, stands_of}
@@ -27,3 +28,6 @@ returns-clause-stands g c = λ m means.
     stands_of f.width f.limit f.tally m new holds
     (settle_front f.width f.limit f.tally m (fixed_spelled c.head_now.result) old new means.1 c.in_ok-write_head.ensures.spells.1 is ∙ ap (λ (h : FixedHead). fixed_spelled h) c.head_now.ensures)
     (subst (λ (h : FixedHead). SpellsFixed h (fixed_spelled h)) c.head_now.ensures c.in_ok-write_head.ensures.spells.0)
+
+pub returns-clause-wrote : goal.returns-clause-wrote
+returns-clause-wrote g c = λ t. subst (λ (h : FixedHead). Changes g.S.Space.now 0 (take h.size (wrote 0 (fixed_spelled h) (g.S.Space.now c.args.space.now 0))) c.args.space.now c.write_head.new.space) c.head_now.ensures (c.in_ok-write_head.ensures.wrote t)

@@ -1,8 +1,9 @@
-use Rattle.std.proofs.Common.{◌∙◌, inl, inr, ⊎_elim, ℕ, List, subst}
+use Rattle.std.proofs.Common.{◌∙◌, inl, inr, ⊎_elim, ℕ, List, ap, subst}
 use Rattle.tc_hash.proofs.Enlarged.{in_before, large_before, packed_after}
 use Rattle.tc_hash.proofs.Records.{can_change, looks_again, refuses_after, still_ready, turns_after}
 use Rattle.tc_hash.proofs.Stored.{from_done, from_refused}
 use Rattle.tc_hash.specs.Keeping.{Means}
+use Rattle.tc_hash.specs.declared.hash.Hash.{Hash}
 use Rattle.tc_hash.specs.Packing.{ArePairs}
 use Rattle.tc_reach.proofs.Handed.{on_err_any}
 use Rattle.tc_space.specs.Frames.{refuses_then}
@@ -42,3 +43,12 @@ returns-in_err-keys-clause-refused g c = on_err_any c.from_residual.result (inr 
 
 pub returns-in_err-pairs-clause-refused : goal.returns-in_err-pairs-clause-refused
 returns-in_err-pairs-clause-refused g c = on_err_any c.from_residual-in_err-pairs.result (refuses_then g.S.Space (Means g.S.Space) c.args.self.now c.keys.new.self c.keys.new.self c.args.space.now c.keys.new.space c.pairs_of.new.space c.keys.ensures.reads (inr (looks_again g.S.Space c.keys.new.self c.keys.new.space c.pairs_of.new.space c.pairs_of.ensures.reads)))
+
+pub returns-in_err-keys-clause-left : goal.returns-in_err-keys-clause-left
+returns-in_err-keys-clause-left g c = on_err_any _ (inr (ap (λ (h : Hash _). h.body.head) c.keys.ensures.same))
+
+pub returns-in_err-pairs-clause-left : goal.returns-in_err-pairs-clause-left
+returns-in_err-pairs-clause-left g c = on_err_any _ (inr (ap (λ (h : Hash _). h.body.head) c.keys.ensures.same))
+
+pub returns-clause-left : goal.returns-clause-left
+returns-clause-left g c = from_refused _ c.write_large.ensures.left (λ left. ⊎_elim (λ spoiled. inl spoiled) (λ same. inr (same ∙ ap (λ (h : Hash _). h.body.head) c.keys.ensures.same)) left)

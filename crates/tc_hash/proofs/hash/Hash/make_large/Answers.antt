@@ -1,4 +1,4 @@
-use Rattle.std.proofs.Common.{◌∙◌, ◌<◌, inl, inr, ⊎_elim, ℕ, sym, ap, subst, arith}
+use Rattle.std.proofs.Common.{◌∙◌, ◌<◌, inl, inr, ⊎_elim, ℕ, refl, sym, ap, subst, arith}
 use Rattle.hf_head.specs.declared.head.Head.{Head}
 use Rattle.hf_pool.specs.Pools.{frees}
 use Rattle.hf_pool.specs.declared.pool.Pool.{Pool}
@@ -6,7 +6,7 @@ use Rattle.hf_record.proofs.Valid.{is_data}
 use Rattle.tc_hash.proofs.Cleared.{emptied, some_zeros}
 use Rattle.tc_hash.proofs.Enlarged.{large_fields, large_holds}
 use Rattle.tc_hash.specs.Packing.{IsLargeOf}
-use Rattle.tc_reach.proofs.Handed.{err_handed}
+use Rattle.tc_reach.proofs.Handed.{err_handed, on_err_any}
 use Rattle.tc_hash.proofs.hash.Hash.make_large.Goals as goal
 
 pub new_pool-requires-clause-valid : goal.new_pool-requires-clause-valid
@@ -58,3 +58,15 @@ returns-in_err-write_anew-clause-full g c = λ full t. ⊎_elim
 
 pub returns-then-head-gt-FILE_MOST-clause-full : goal.returns-then-head-gt-FILE_MOST-clause-full
 returns-then-head-gt-FILE_MOST-clause-full g c = λ full t. inr (record { head = c.large_head-head.result; is_new = c.large_head-head.ensures.new; lacks = inr (omega (arith, c.large_head-head.ensures.new.size, c.if-head-gt-FILE_MOST.true)) })
+
+pub returns-then-head-gt-FILE_MOST-clause-left : goal.returns-then-head-gt-FILE_MOST-clause-left
+returns-then-head-gt-FILE_MOST-clause-left g c = inr refl
+
+pub returns-in_err-zeros-clause-left : goal.returns-in_err-zeros-clause-left
+returns-in_err-zeros-clause-left g c = on_err_any _ (inr refl)
+
+pub returns-in_err-pool-clause-left : goal.returns-in_err-pool-clause-left
+returns-in_err-pool-clause-left g c = on_err_any _ (inr refl)
+
+pub returns-in_err-write_anew-clause-left : goal.returns-in_err-write_anew-clause-left
+returns-in_err-write_anew-clause-left g c = on_err_any _ (inr refl)

@@ -25,8 +25,8 @@ returns-in_err-insert_absent-clause-full g c = λ full t. ⊎_elim
 pub loop-i-preserved : goal.loop-i-preserved
 loop-i-preserved g c = record {
   writes = put_more g.S.Space c.args.self.now c.loop-i.self c.insert_absent.new.self c.args.space.now c.loop-i.space c.insert_absent.new.space c.args.pairs.now c.loop-i.i c.at-pair.result.now _ _ c.as_slice.ensures c.as_slice-in-loop-i.ensures c.at-pair.ensures c.loop-i.invariant.stays c.loop-i.invariant.writes c.in_ok-insert_absent.ensures.put.gives;
-  nothing = still_nothing _ c.in_ok-insert_absent.ensures.put.place c.loop-i.self.body.pool c.insert_absent.new.self.body.pool c.in_ok-insert_absent.ensures.put.takes c.loop-i.invariant.nothing;
-  ends = ends_more g.S.Space c.args.self.now c.loop-i.self c.insert_absent.new.self c.args.pairs.now c.loop-i.i c.at-pair.result.now _ _ c.as_slice.ensures c.as_slice-in-loop-i.ensures c.at-pair.ensures c.loop-i.invariant.stays (ends_behind _ c.in_ok-insert_absent.ensures.put.place c.loop-i.self.body.pool c.insert_absent.new.self.body.pool c.in_ok-insert_absent.ensures.put.takes c.loop-i.invariant.nothing) c.loop-i.invariant.ends;
+  nothing = still_nothing _ _ c.in_ok-insert_absent.ensures.put.place c.loop-i.self.body.pool c.insert_absent.new.self.body.pool c.in_ok-insert_absent.ensures.put.takes c.loop-i.invariant.nothing;
+  ends = ends_more g.S.Space c.args.self.now c.loop-i.self c.insert_absent.new.self c.args.pairs.now c.loop-i.i c.at-pair.result.now _ _ c.as_slice.ensures c.as_slice-in-loop-i.ensures c.at-pair.ensures c.loop-i.invariant.stays (ends_behind _ _ c.in_ok-insert_absent.ensures.put.place c.loop-i.self.body.pool c.insert_absent.new.self.body.pool c.in_ok-insert_absent.ensures.put.takes c.loop-i.invariant.nothing) c.loop-i.invariant.ends;
   keeps = keeps_then g.S.Space c.args.space.now c.loop-i.space c.insert_absent.new.space c.loop-i.invariant.keeps c.insert_absent.ensures.keeps;
   stays = stays_then c.args.self.now c.loop-i.self c.insert_absent.new.self c.loop-i.invariant.stays c.insert_absent.ensures.stays;
 }

@@ -1,7 +1,7 @@
 use Rattle.std.proofs.Common.{inl, inr, ⊎_elim}
 use Rattle.tc_hash.proofs.Enlarged.{anew_packed, lacks_record, pairs_make}
 use Rattle.tc_hash.specs.Keeping.{Means, file_of}
-use Rattle.tc_reach.proofs.Handed.{err_handed}
+use Rattle.tc_reach.proofs.Handed.{err_handed, on_err_any}
 use Rattle.tc_space.specs.Stores.{Only, ready_writes}
 use Rattle.tc_hash.proofs.hash.Hash.write_large.Goals as goal
 
@@ -22,3 +22,9 @@ returns-in_err-put_pairs-clause-full g c = λ full t. ⊎_elim
 
 pub returns-in_err-make_large-clause-full : goal.returns-in_err-make_large-clause-full
 returns-in_err-make_large-clause-full g c = λ full t. ⊎_elim (λ log. inl log) (λ sections. inr (inl sections)) (c.in_err-make_large.ensures.full (err_handed c.from_residual.result c.in_err-make_large.field-0.0 _ c.from_residual.ensures.1 full) t)
+
+pub returns-in_err-make_large-clause-left : goal.returns-in_err-make_large-clause-left
+returns-in_err-make_large-clause-left g c = on_err_any _ c.in_err-make_large.ensures.left
+
+pub returns-in_err-put_pairs-clause-left : goal.returns-in_err-put_pairs-clause-left
+returns-in_err-put_pairs-clause-left g c = on_err_any _ (inl c.in_err-put_pairs.ensures.outcome.err)

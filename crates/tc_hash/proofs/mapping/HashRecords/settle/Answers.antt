@@ -1,6 +1,7 @@
 use Rattle.tc_hash.proofs.Packed.{settled_packs, settled_same, settled_stands}
 use Rattle.tc_hash.proofs.Stored.{from_done}
 use Rattle.tc_hash.proofs.Tight.{tight_trimmed}
+use Rattle.tc_hash.proofs.Numbered.{stays_map}
 use Rattle.tc_hash.proofs.mapping.HashRecords.settle.Goals as goal
 
 pub returns-clause-settled : goal.returns-clause-settled
@@ -14,3 +15,6 @@ returns-clause-packs g c = from_done _ c.settle.ensures.settled (λ done. settle
 
 pub returns-clause-tight : goal.returns-clause-tight
 returns-clause-tight g c = tight_trimmed c.args.self.now c.settle.new.self c.settle.ensures.stays.head c.settle.ensures.trimmed.dropped
+
+pub returns-clause-stays : goal.returns-clause-stays
+returns-clause-stays g c = stays_map c.args.self.now c.settle.new.self c.settle.ensures.stays
