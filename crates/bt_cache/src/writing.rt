@@ -1,5 +1,5 @@
 //! Pages written to a store, and taken out of it.
-ghost use Rattle.std.specs.Prelude.{◌≡◌, ◌<◌, ◌≤◌, ◌^◌, OnOk};
+ghost use Rattle.std.specs.Prelude.{◌≡◌, ◌<◌, ◌≤◌, ◌^◌, [], OnOk};
 ghost use Rattle.tc_base.specs.Maps.{Map};
 ghost use Rattle.tc_space.specs.Refusals.{OnFault, OnlyLogIsFull};
 ghost use Rattle.bt_page.specs.Pages.{leaf_bytes, node_bytes};
@@ -129,6 +129,14 @@ impl<R: Records> Cache<R> {
         let _count = self.pages.len();
         let _page = self.pages.pop(&id);
         Ok(())
+    }
+
+    /// Takes all pages out of the list alone.
+    pub fn forget_all(&mut self)
+        ensures none { self.new.pages.entries ≡ [] }
+        ensures room { self.new.pages.cap ≡ self.old.pages.cap }
+    {
+        self.pages.clear();
     }
 
     /// Takes the page of an id out of the list alone. Who holds a handle to it may then be the only one, and change the page without copying it.

@@ -12,12 +12,13 @@ use Rattle.tc_space.specs.declared.records.Records.{Ghosts as Store}
 use Rattle.tc_space.specs.declared.space.Space.{Ghosts}
 use Rattle.bt_rows.specs.declared.page.Slot.{Slot}
 
--- nothing is written: the map, the region, the file and its type stay, and what was packed is so still
+-- nothing is written: the map, the region, the file, its type and its numbers stay, and what was packed is so still
 pub record Looks {S V : Type 0} (s : Ghosts S) (r : Store V S) (v v' : V) (old new : S) : Type 0 where
   pub reads : Reads s (In s r.file_of r.holds) v v' old new
   pub keeps : Keeps s old new
   pub file : r.file_of v' ≡ r.file_of v
   pub sort_same : r.sort v' ≡ r.sort v
+  pub numbers_same : r.numbers v' ≡ r.numbers v
   pub region_same : r.region v' ≡ r.region v
   pub tight : KeepsTight r.tight v v'
 
@@ -49,7 +50,7 @@ module _ {S V : Type 0} (s : Ghosts S) (r : Store V S) where
   AsksFor n v v' space = (m : Map) → In s r.file_of r.holds v space m → r.gets v' ≤ r.gets v + n * len m
 
   pub looks_refl : (v : V) (a : S) → s.sound a → Looks s r v v a a
-  looks_refl v a sound = record { reads = reads_refl s (In s r.file_of r.holds) v a sound; keeps = keeps_refl s a; file = refl; sort_same = refl; region_same = refl; tight = λ form is. is }
+  looks_refl v a sound = record { reads = reads_refl s (In s r.file_of r.holds) v a sound; keeps = keeps_refl s a; file = refl; sort_same = refl; numbers_same = refl; region_same = refl; tight = λ form is. is }
 
   pub looks_then : (u v w : V) (a b c : S) → Looks s r u v a b → Looks s r v w b c → Looks s r u w a c
   looks_then u v w a b c first second = record {
@@ -57,6 +58,7 @@ module _ {S V : Type 0} (s : Ghosts S) (r : Store V S) where
     keeps = keeps_then s a b c first.keeps second.keeps;
     file = second.file ∙ first.file;
     sort_same = second.sort_same ∙ first.sort_same;
+    numbers_same = second.numbers_same ∙ first.numbers_same;
     region_same = second.region_same ∙ first.region_same;
     tight = λ form is. second.tight form (first.tight form is);
   }

@@ -18,7 +18,7 @@ use Rattle.bt_rows.specs.declared.page.Page.TheVariants.{Node as node_page}
 use Rattle.bt_rows.specs.Pages.{PageMap, IsGiven}
 use Rattle.bt_rows.specs.Rules.{B1}
 use Rattle.bt_cache.specs.Effects.{SameStore, same_store_refl, same_store_then}
-use Rattle.bt_ways.specs.Climbs.{ClimbsWith}
+use Rattle.bt_ways.specs.Climbs.{ClimbsWith, OnlyNodes}
 use Rattle.bt_ways.specs.Laws.{spliced}
 use Rattle.bt_ways.specs.Writes.{put_at}
 use Rattle.bt_ways.proofs.Climbing.{node_parts, node_takes, root_grows}
@@ -26,10 +26,10 @@ use Rattle.bt_ways.proofs.Keys.{all_map, all_part}
 use Rattle.bt_ways.proofs.HeldWays.{WayAbove, way_node, way_parted}
 use Rattle.bt_ways.proofs.Spots.{got_at}
 use Rattle.bt_tree.specs.declared.tree.Tree.{Tree}
-use Rattle.bt_tree.specs.Climbing.{CanClimb, Divided, Grows, HasWay, IsAmong, IsNodeOf, IsWayNode, ShowsWay, StoodIn, TurnsClimbed, TurnsDivided, entry_key}
+use Rattle.bt_tree.specs.Climbing.{CanClimb, Divided, FillsWay, Grows, HasWay, IsAmong, IsFullWay, IsKnownNode, IsNodeOf, IsWayNode, ShowsWay, StoodIn, TurnsClimbed, TurnsDivided, WritesKnown, entry_key}
 use Rattle.bt_tree.specs.Meaning.{file_in}
-use Rattle.bt_tree.specs.Paging.{ComesAnew, HasNodeAt, IsNodeId, IsPageOf, IsShown, LacksPage, Peeks, PutsAt, Shows, StaysStill}
-use Rattle.bt_tree.proofs.Pagings.{Gives, IsMoved, anew_over, anew_put, anew_then, lacks_after, looked_shows, more_shows, moved_column, moved_head, moved_height, moved_pages, moved_store, node_fresh, node_given, others_at, put_all, put_here, put_other, same_store_at, some_node}
+use Rattle.bt_tree.specs.Paging.{ComesAnew, ComesFrom, FillsIds, HasNodeAt, IsNodeId, IsPageOf, IsShown, LacksPage, Peeks, PutsAt, Shows, StaysStill}
+use Rattle.bt_tree.proofs.Pagings.{Gives, IsMoved, anew_over, anew_put, anew_then, fills_node, fills_none, fills_on, fills_then, lacks_after, looked_shows, more_shows, moved_column, moved_head, moved_height, moved_pages, moved_store, node_fresh, node_given, others_at, put_all, put_here, put_other, same_store_at, some_node}
 
 -- a list is what is in front of a place, the one there and what is behind it
 pub cut_around : (xs front back : List NodeEntry) (i n child : ℕ) (key : List ℕ) → i < length xs → n ≡ length xs → ((e : NodeEntry) → slice_get xs i ≡ Some e → child ≡ e.child) → ((e : NodeEntry) → slice_get xs i ≡ Some e → key ≡ e.key)
@@ -121,14 +121,41 @@ put_was pages id j page none = ⊎_elim (λ (same : j ≡ id). absurd (clash (sy
     clash : Some page ≡ None → ⊥
     clash e = cc
 
+-- where nodes alone were written no page goes
+pub nodes_stay : (limit : ℕ) (old new : PageMap) → OnlyNodes limit old new → ComesFrom old new
+nodes_stay limit old new only j none = ⊎_elim
+    (λ (same : new j ≡ old j). sym same ∙ none)
+    (λ node. absurd (clash node.0 (sym none ∙ node.1)))
+    (only j)
+  where
+    clash : (n : Node) → ◌≡◌ {A = Option Page} None (Some (node_page n)) → ⊥
+    clash n e = cc
+
+-- a page once one was put
+pub put_either : (pages : PageMap) (id j : ℕ) (page p : Page) → put_at id page pages j ≡ Some p → (p ≡ page) ⊎ (pages j ≡ Some p)
+put_either pages id j page p is = ⊎_elim
+    (λ (same : j ≡ id). inl (one (sym is ∙ ap (put_at id page pages) same ∙ put_here pages id page)))
+    (λ (other : j ≡ id → ⊥). inr (sym (put_other pages id page j other) ∙ is))
+    (cases_eq j id)
+  where
+    one : Some p ≡ Some page → p ≡ page
+    one e = cc
+
+-- where one such node was written, each page is an old one or such a node
+pub one_known : (limit : ℕ) (added : List NodeEntry) (pages : PageMap) (id : ℕ) (n : Node) → IsKnownNode limit added pages (node_page n) → WritesKnown limit added pages (put_at id (node_page n) pages)
+one_known limit added pages id n known j p is = ⊎_elim
+    (λ (here : p ≡ node_page n). inr (subst (λ (q : Page). IsKnownNode limit added pages q) (sym here) known))
+    (λ (old : pages j ≡ Some p). inl old)
+    (put_either pages id j (node_page n) p is)
+
 module _ {S V O : Type 0} (s : Ghosts S) (R : Stores V S) where
   pub divided : (t u v w : Tree V O) (a b d : S) (id second heir : ℕ) (entries front back : List NodeEntry) (up : NodeEntry) (above : List NodeEntry)
       → t.head.node_ids + 1 < node_offset → u ≡ record t { head = record t.head { node_ids = t.head.node_ids + 1 } } → second ≡ node_offset + (t.head.node_ids + 1)
       → entries ≡ front ++ up ∷ back → length front ≡ length entries / 2 → above ≡ record { child = second; key = up.key } ∷ []
       → PutsAt s R second (node_page (record { heir = up.child; entries = back })) u v a b
-      → PutsAt s R id (node_page (record { heir = heir; entries = front })) v w b d → R.file_of v.store ≡ R.file_of u.store
+      → PutsAt s R id (node_page (record { heir = heir; entries = front })) v w b d → R.file_of v.store ≡ R.file_of u.store → v.head ≡ u.head → w.head ≡ v.head
       → TurnsDivided s R id (record { heir = heir; entries = entries }) above t w a d
-  divided t u v w a b d id second heir entries front back up above small noted given cut half is first later file = record {
+  divided t u v w a b d id second heir entries front back up above small noted given cut half is first later file vhead whead = record {
     sound = later.sound;
     means = λ pages h.
         let k : Shows s R u a pages = more_shows s R t u a (ap (λ (x : Tree V O). x.store) noted) (ap (λ (x : Tree V O). x.cache.pages) noted) (ap (λ (x : Tree V O). x.column) noted)
@@ -150,6 +177,8 @@ module _ {S V O : Type 0} (s : Ghosts S) (R : Stores V S) where
             λ there. anew_then t.head t.head pages (put_at second (node_page (record { heir = up.child; entries = back })) pages) _ (λ j g. g)
                 (anew_put t.head pages second (node_page (record { heir = up.child; entries = back })) (λ g none. not_node t.head second h.1.head given g))
                 (anew_put t.head (put_at second (node_page (record { heir = up.child; entries = back })) pages) id (node_page (record { heir = heir; entries = front })) (λ g none. there (put_was pages second id (node_page (record { heir = up.child; entries = back })) none))),
+            fills_on t.head w.head (put_at second (node_page (record { heir = up.child; entries = back })) pages) (put_at id (node_page (record { heir = heir; entries = front })) (put_at second (node_page (record { heir = up.child; entries = back })) pages)) (λ j none. put_was (put_at second (node_page (record { heir = up.child; entries = back })) pages) id j (node_page (record { heir = heir; entries = front })) none)
+                (fills_node t.head w.head pages second (node_page (record { heir = up.child; entries = back })) (ap (λ (x : TreeHead). x.leaf_ids) from) (ap (λ (x : TreeHead). x.node_ids) from) given),
           ),
         );
     others = others_then s (Only (file_in R t)) a b d (others_at s _ _ a b at first.others) (others_at s _ _ b d (file ∙ at) later.others);
@@ -157,6 +186,9 @@ module _ {S V O : Type 0} (s : Ghosts S) (R : Stores V S) where
     where
       at : R.file_of u.store ≡ R.file_of t.store
       at = ap (λ (x : Tree V O). R.file_of x.store) noted
+
+      from : w.head ≡ record t.head { node_ids = t.head.node_ids + 1 }
+      from = whead ∙ vhead ∙ ap (λ (x : Tree V O). x.head) noted
 
   -- ---- no room for one of its nodes
 
@@ -186,9 +218,9 @@ module _ {S V O : Type 0} (s : Ghosts S) (R : Stores V S) where
   pub grown : (t u v w : Tree V O) (a b : S) (id heir : ℕ) (added : List NodeEntry) → t.path ≡ [] → length added ≤ 2
       → t.head.node_ids + 1 < node_offset → u ≡ record t { head = record t.head { node_ids = t.head.node_ids + 1 } } → id ≡ node_offset + (t.head.node_ids + 1) → heir ≡ t.head.root
       → PutsAt s R id (node_page (record { heir = heir; entries = added })) u v a b
-      → w.store ≡ v.store → w.cache.pages ≡ v.cache.pages → w.column ≡ v.column → w.head ≡ record v.head { root = id } → w.height ≡ t.height + 1
+      → w.store ≡ v.store → w.cache.pages ≡ v.cache.pages → w.column ≡ v.column → w.head ≡ record v.head { root = id } → w.height ≡ t.height + 1 → v.head ≡ u.head
       → TurnsClimbed s R added t w a b
-  grown t u v w a b id heir added none few small noted given old_root put store cache column head height = record {
+  grown t u v w a b id heir added none few small noted given old_root put store cache column head height vhead = record {
     sound = put.sound;
     means = λ pages h.
         let k : Shows s R u a pages = more_shows s R t u a (ap (λ (x : Tree V O). x.store) noted) (ap (λ (x : Tree V O). x.cache.pages) noted) (ap (λ (x : Tree V O). x.column) noted)
@@ -204,10 +236,16 @@ module _ {S V O : Type 0} (s : Ghosts S) (R : Stores V S) where
                 (subst (λ (n : ℕ). ClimbsWith t.head.node_limit pages (put_at id (node_page (record { heir = n; entries = added })) pages) t.height (suc t.height) t.head.root id [] added) (sym old_root)
                 (root_grows t.head.node_limit pages t.height t.head.root id added fresh within)))),
             anew_put t.head pages id (node_page (record { heir = heir; entries = added })) (λ g none. not_node t.head id h.0.1.head given g),
+            one_known t.head.node_limit added pages id (record { heir = heir; entries = added })
+                (record { heir = heir; entries = added }, refl, within, all_map (λ (x : NodeEntry). IsAmong entry_key x.key added) (λ (x : NodeEntry). IsAmong entry_key x.key added ⊎ StoodIn pages x.key) added (λ x k. inl k) (keys_in [] added)),
+            fills_node t.head w.head pages id (node_page (record { heir = heir; entries = added })) (ap (λ (x : TreeHead). x.leaf_ids) from) (ap (λ (x : TreeHead). x.node_ids) from) given,
           ),
         );
     others = others_at s _ _ a b (ap (λ (x : Tree V O). R.file_of x.store) noted) put.others;
   }
+    where
+      from : w.head ≡ record t.head { root = id; node_ids = t.head.node_ids + 1 }
+      from = head ∙ ap (λ (x : TreeHead). record x { root = id }) (vhead ∙ ap (λ (x : Tree V O). x.head) noted)
 
 -- ---- the lowest node of a way
 
@@ -220,6 +258,10 @@ pub at_step : (limit : ℕ) (pages : PageMap) (root id place : ℕ) (path rest :
 at_step limit pages root id place path rest e k =
     let n = way_node pages root id place rest k.crumbs k.place (sym e ∙ k.along) k.way in
     record { node = n.0; is = n.1; within = k.within id n.0 n.1 }
+
+-- past the root there is no node
+pub full_end : (limit : ℕ) (pages : PageMap) (path : List (ℕ × ℕ)) (more : ℕ) → path ≡ [] → IsFullWay limit pages path more
+full_end limit pages path more none = subst (λ (p : List (ℕ × ℕ)). IsFullWay limit pages p more) (sym none) tt
 
 -- where it is a node, it is within its limit
 abbrev InLimit : ℕ → ℕ → Option Page → Type 0
@@ -296,6 +338,8 @@ module _ {S V O : Type 0} (s : Ghosts S) (R : Stores V S) where
                   (subst (λ (n : ℕ). ClimbsWith u.head.node_limit pages k.0 n w.height u.head.root w.head.root t.path added) (moved_height t u path moved)
                   (subst (λ (p : List (ℕ × ℕ)). ClimbsWith u.head.node_limit pages k.0 u.height w.height u.head.root w.head.root p added) path_same k.2.0)),
               subst (λ (x : TreeHead). ComesAnew x pages k.0) head_same k.2.1,
+              subst (λ (x : TreeHead). WritesKnown x.node_limit added pages k.0) head_same k.2.2,
+              subst (λ (x : TreeHead). FillsIds x w.head k.0) head_same k.2.3,
             ),
           );
       others = others_at s _ _ a b (ap R.file_of (moved_store t u path moved)) turns.others;
@@ -347,6 +391,31 @@ module _ {S V O : Type 0} (s : Ghosts S) (R : Stores V S) where
         stood : IsAmong entry_key key node.entries → StoodIn pages key
         stood among = record { id = id; node = node; is = here pages h; among = among }
 
+    -- it has no room for the entries
+    pub full_step : t.head.node_limit < length (spliced node.entries place added) → FillsWay s R added t a
+    full_step over pages h = subst (λ (p : List (ℕ × ℕ)). IsFullWay t.head.node_limit pages p (length added)) (sym e) (node, here pages h, omega (arith, over, spliced_long node.entries place added))
+
+    -- the node with the entries put in, and a half of it
+    whole_known : length (spliced node.entries place added) ≤ t.head.node_limit → (pages : PageMap) → ShowsWay s R t a pages → IsKnownNode t.head.node_limit added pages (node_page (record { heir = node.heir; entries = spliced node.entries place added }))
+    whole_known within pages h = (
+      record { heir = node.heir; entries = spliced node.entries place added },
+      refl,
+      within,
+      all_map (λ (x : NodeEntry). IsAmong entry_key x.key (spliced node.entries place added)) (λ (x : NodeEntry). IsAmong entry_key x.key added ⊎ StoodIn pages x.key) (spliced node.entries place added) (λ x k. spliced_known pages h x.key k) (keys_in [] (spliced node.entries place added)),
+    )
+
+    few_more : (pages : PageMap) → ShowsWay s R t a pages → length (spliced node.entries place added) / 2 ≤ t.head.node_limit
+    few_more pages h = omega (arith, spliced_long node.entries place added, long pages h, few, h.0.1.head.node_limit.0)
+
+    half_known : (n : Node) → length n.entries ≤ length (spliced node.entries place added) / 2 → AllByRecursion (λ x. IsAmong entry_key x.key (spliced node.entries place added)) n.entries → (pages : PageMap) → ShowsWay s R t a pages
+        → IsKnownNode t.head.node_limit added pages (node_page n)
+    half_known n half among pages h = (
+      n,
+      refl,
+      omega (arith, half, few_more pages h),
+      all_map (λ (x : NodeEntry). IsAmong entry_key x.key (spliced node.entries place added)) (λ (x : NodeEntry). IsAmong entry_key x.key added ⊎ StoodIn pages x.key) n.entries (λ x k. spliced_known pages h x.key k) among,
+    )
+
     abbrev Fine : Page → Type 0
     Fine p = IsWayNode s R added t a p
 
@@ -373,13 +442,12 @@ module _ {S V O : Type 0} (s : Ghosts S) (R : Stores V S) where
               (subst (λ (n : ℕ). ClimbsWith t.head.node_limit pages (put_at id (node_page (record { heir = node.heir; entries = spliced node.entries place added })) pages) t.height t.height t.head.root n ((id, place) ∷ path) added) (sym (ap (λ (x : TreeHead). x.root) (still.head ∙ vhead)))
               (node_takes t.head.node_limit pages t.height t.head.root id place path node added (here pages h) within))),
           anew_over t.head pages id (node_page (record { heir = node.heir; entries = spliced node.entries place added })) (node_page node) (here pages h),
+          one_known t.head.node_limit added pages id (record { heir = node.heir; entries = spliced node.entries place added }) (whole_known within pages h),
+          fills_none t.head w.head (put_at id (node_page (record { heir = node.heir; entries = spliced node.entries place added })) pages) (ap (λ (x : TreeHead). x.leaf_ids) (still.head ∙ vhead)) (ap (λ (x : TreeHead). x.node_ids) (still.head ∙ vhead)),
         ),
       );
       others = others_then s (Only (file_in R t)) a b d (record { same = λ told g other. peeks.looks.reads.now told g }) (others_at s _ _ b d vmade.file put.others);
     }
-
-    few_more : (pages : PageMap) → ShowsWay s R t a pages → length (spliced node.entries place added) / 2 ≤ t.head.node_limit
-    few_more pages h = omega (arith, spliced_long node.entries place added, long pages h, few, h.0.1.head.node_limit.0)
 
     pub lacks_half : (d : S) → LacksPage s R (IsNodeOf (length (spliced node.entries place added) / 2) (spliced node.entries place added)) v.store b d → LacksPage s R Fine t.store a d
     lacks_half d l = lacks_after s R (IsNodeOf (length (spliced node.entries place added) / 2) (spliced node.entries place added)) Fine t.store v.store a b d peeks.looks.keeps vmade
@@ -431,6 +499,22 @@ module _ {S V O : Type 0} (s : Ghosts S) (R : Stores V S) where
           up (inl e) = spliced_known pages h key (subst (λ (x : List ℕ). IsAmong entry_key x (spliced node.entries place added)) e (keys_cut (spliced node.entries place added) div.front div.back div.up div.cut).1.0)
           up (inr none) = absurd none
 
+      above_known : (pages mid : PageMap) → ShowsWay s R t a pages → Divided id (record { heir = node.heir; entries = spliced node.entries place added }) above pages mid → (p : Page) → IsKnownNode w.head.node_limit above mid p → IsKnownNode t.head.node_limit added pages p
+      above_known pages mid h div p n =
+          let limit : w.head.node_limit ≡ t.head.node_limit = wlimit ∙ ap (λ (y : TreeHead). y.node_limit) vhead in
+          (n.0, n.1, omega (arith, n.2, limit), all_map (λ (x : NodeEntry). IsAmong entry_key x.key above ⊎ StoodIn mid x.key) (λ (x : NodeEntry). IsAmong entry_key x.key added ⊎ StoodIn pages x.key) n.0.entries (λ x kn. mid_known pages mid h div x.key kn) n.3)
+
+      mid_written : (pages mid : PageMap) → ShowsWay s R t a pages → Divided id (record { heir = node.heir; entries = spliced node.entries place added }) above pages mid → WritesKnown t.head.node_limit added pages mid
+      mid_written pages mid h div j p is =
+          let left : Node = record { heir = node.heir; entries = div.front } in
+          let right : Node = record { heir = div.up.child; entries = div.back } in
+          let among = keys_cut (spliced node.entries place added) div.front div.back div.up div.cut in
+          ⊎_elim
+          (λ (here_is : p ≡ node_page left). inr (subst (λ (q : Page). IsKnownNode t.head.node_limit added pages q) (sym here_is) (half_known left (half_front (spliced node.entries place added) div.front div.back div.up div.cut div.half) among.0 pages h)))
+          (λ (rest : put_at div.second (node_page right) pages j ≡ Some p).
+          one_known t.head.node_limit added pages div.second right (half_known right (half_back (spliced node.entries place added) div.front div.back div.up div.cut div.half) among.1.1 pages h) j p rest)
+          (put_either (put_at div.second (node_page right) pages) id j (node_page left) p (ap (λ (x : PageMap). x j) (sym div.are) ∙ is))
+
       pub lacks_above : (f : S) → LacksPage s R (IsWayNode s R above w d) w.store d f → LacksPage s R Fine t.store a f
       lacks_above f l = lacks_after s R (IsWayNode s R above w d) Fine t.store w.store a d f (keeps_then s a b d peeks.looks.keeps grows.keeps) (same_store_then R t.store v.store w.store vmade grows.made)
           (λ p fine pages h.
@@ -446,8 +530,16 @@ module _ {S V O : Type 0} (s : Ghosts S) (R : Stores V S) where
             let k = turns.means pages (read_shows pages h.0) in
             let div : Divided id (record { heir = node.heir; entries = spliced node.entries place added }) above pages k.0 = k.2.0 in
             let l = climb.means k.0 (k.1, on_way pages k.0 h div) in
-            let half : length (spliced node.entries place added) / 2 ≤ t.head.node_limit = few_more pages h in
-            (l.0, l.1, (join pages k.0 l.0 h div half l.2.0, anew_then t.head w.head pages k.0 l.0 (given_on) (subst (λ (y : TreeHead). ComesAnew y pages k.0) vhead (k.2.1 (λ none. absurd (some_none (sym (here pages h) ∙ none))))) l.2.1));
+            let half : length (spliced node.entries place added) / 2 ≤ t.head.node_limit = few_more pages h in (
+              l.0,
+              l.1,
+              (
+                join pages k.0 l.0 h div half l.2.0,
+                anew_then t.head w.head pages k.0 l.0 (given_on) (subst (λ (y : TreeHead). ComesAnew y pages k.0) vhead (k.2.1 (λ none. absurd (some_none (sym (here pages h) ∙ none))))) l.2.1,
+                λ j p is. ⊎_elim (λ (was : k.0 j ≡ Some p). mid_written pages k.0 h div j p was) (λ known. inr (above_known pages k.0 h div p known)) (l.2.2 j p is),
+                fills_then t.head w.head x.head l.0 (fills_on t.head w.head k.0 l.0 (nodes_stay w.head.node_limit k.0 l.0 l.2.0.limits) (subst (λ (y : TreeHead). FillsIds y w.head k.0) vhead k.2.2)) l.2.3,
+              ),
+            );
         others = others_then s (Only (file_in R t)) a d f
             (others_then s (Only (file_in R t)) a b d (record { same = λ told g other. peeks.looks.reads.now told g }) (others_at s _ _ b d vmade.file turns.others))
             (others_at s _ _ d f (grows.made.file ∙ vmade.file) climb.others);

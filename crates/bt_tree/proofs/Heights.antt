@@ -29,6 +29,38 @@ some_down (L ∷ Ls) slots bottom d lt = some_down Ls (all_children L) bottom d.
     some [] lt = absurd (omega (arith, lt))
     some (n ∷ ns) lt = omega arith
 
+-- so many rows are all
+pub high_of : (before : Before) (pages : PageMap) (root : ℕ) (leaves : List LeafAt) (levels : List (List NodeAt)) → Stands before pages root leaves levels → IsHigh pages root (suc (length levels))
+high_of before pages root leaves levels st = record {
+  ends = (rows_rules before pages root leaves levels st).0.ends;
+  last = λ k e. let same : k ≡ length levels = omega (arith, e) in subst (λ (n : ℕ). 0 < length (row pages n (root_slot root ∷ []))) (sym same) some;
+}
+  where
+    down : LeadsDown (turned levels []) (root_slot root ∷ []) (map leaf_slot leaves)
+    down = turn root levels [] (map leaf_slot leaves) (map leaf_slot leaves) st.up refl
+
+    len : length (turned levels []) ≡ length levels
+    len = length-turned levels [] ∙ omega arith
+
+    last_row : row pages (length levels) (root_slot root ∷ []) ≡ map leaf_slot leaves
+    last_row = ap (λ (n : ℕ). row pages n (root_slot root ∷ [])) (sym len) ∙ row_down pages (turned levels []) (root_slot root ∷ []) (map leaf_slot leaves) down (levels_turn pages levels [] st.nodes_held tt)
+
+    some : 0 < length (row pages (length levels) (root_slot root ∷ []))
+    some = subst (λ (t : List Slot). 0 < length t) (sym last_row) (some_down (turned levels []) (root_slot root ∷ []) (map leaf_slot leaves) down (omega arith))
+
+-- and no other number
+not_higher : (pages : PageMap) (root a b : ℕ) → IsHigh pages root a → IsHigh pages root b → a < b → ⊥
+not_higher pages root a zero x y lt = omega (arith, lt)
+not_higher pages root a (suc k) x y lt =
+    let none : length (row pages k (root_slot root ∷ [])) ≡ 0 = ap (λ (t : List Slot). length t) (row_past pages a k (root_slot root ∷ []) x.ends (omega (arith, lt))) in
+    omega (arith, none, y.last k refl)
+
+pub high_one : (pages : PageMap) (root a b : ℕ) → IsHigh pages root a → IsHigh pages root b → a ≡ b
+high_one pages root a b x y = ⊎_elim
+    (λ (lt : a < b). absurd (not_higher pages root a b x y lt))
+    (λ (le : b ≤ a). ⊎_elim (λ (gt : b < a). absurd (not_higher pages root b a y x gt)) (λ (ge : a ≤ b). omega (arith, le, ge)) (cases_lt b a))
+    (cases_lt a b)
+
 -- the rows of a tree are as many as the walk down counts
 pub high_is : (before : Before) (pages : PageMap) (root height : ℕ) (leaves : List LeafAt) (levels : List (List NodeAt)) → IsHigh pages root height → Stands before pages root leaves levels → height ≡ suc (length levels)
 high_is before pages root height leaves levels high st = go (cases_lt (length levels) height)

@@ -12,7 +12,7 @@ use Rattle.tc_base.specs.Maps.{Map}
 use Rattle.tc_base.specs.declared.order.Order.{Ghosts as Orders}
 use Rattle.tc_base.specs.declared.seq.Pair.{Pair}
 use Rattle.tc_space.specs.Effects.{Stays as StaysOver}
-use Rattle.tc_space.specs.Frames.{Keeps, Reads, Refuses, others_then, reads_then}
+use Rattle.tc_space.specs.Frames.{GivenUp, Keeps, Reads, Refuses, others_then, reads_then}
 use Rattle.tc_space.specs.Stores.{Only}
 use Rattle.tc_space.specs.declared.records.Records.{Ghosts as Stores}
 use Rattle.tc_space.specs.declared.space.Space.{Ghosts}
@@ -49,21 +49,21 @@ use Rattle.bt_page.specs.Pages.{HasValue}
 use Rattle.tc_base.specs.Lists.{pair}
 use Rattle.bt_page.specs.declared.page.NodeEntry.{NodeEntry}
 use Rattle.bt_tree.specs.declared.tree.Tree.{Tree}
-use Rattle.bt_tree.specs.Climbing.{NodesWithin, IsAmong, StoodIn}
+use Rattle.bt_tree.specs.Climbing.{NodesWithin, IsAmong, IsFullWay, StoodIn}
 use Rattle.bt_tree.specs.Finding.{LeadsTo}
-use Rattle.bt_tree.specs.Inserting.{AddsAnew, AreItemsOf, Gains, Inserts, IsCrowded, IsPutPage, IsWritten, TakesInLeaf, TakesPair, pair_key}
+use Rattle.bt_tree.specs.Inserting.{AreItemsOf, CrowdsWay, Gains, Inserts, IsCrowded, IsPutPage, IsWritten, TakesInLeaf, TakesPair, WritesPages, pair_key}
 use Rattle.bt_tree.specs.Meaning.{IsOpen, Means, file_in}
 use Rattle.bt_tree.specs.Numbers.{with_pairs}
-use Rattle.bt_tree.specs.Paging.{ComesAnew, GivenUp, HasLeafAt, IsLeafId, IsPageOf, IsShown, LacksPage, PutsAt, Shows, StaysStill}
-use Rattle.bt_tree.specs.Parting.{AtLeaf, HasLeaf, IsLeafPiece, IsParted, IsPiece, IsStretch, ShowsLeaf, TurnsParted, Widens, last_part, item_key}
+use Rattle.bt_tree.specs.Paging.{ComesAnew, FillsIds, HasLeafAt, IsLeafId, IsPageOf, IsShown, LacksPage, PutsAt, Shows, StaysStill}
+use Rattle.bt_tree.specs.Parting.{AtLeaf, FillsLeafWay, HasLeaf, IsLeafPiece, IsParted, IsPiece, IsStretch, ShowsLeaf, TurnsParted, Widens, last_part, item_key}
 use Rattle.bt_tree.specs.Trees.{HasKeys, HoldsPairs}
 use Rattle.bt_tree.specs.Visits.{LooksAt, StaysTree}
-use Rattle.bt_tree.proofs.Climbings.{among_back, among_front}
+use Rattle.bt_tree.proofs.Climbings.{among_back, among_front, put_either}
 use Rattle.bt_tree.proofs.Contents.{changed_items, page_items}
 use Rattle.bt_tree.proofs.Descents.{leaf_values}
 use Rattle.bt_tree.proofs.Finds.{tree_reads}
 use Rattle.bt_tree.proofs.Pages.{found_leaf, has_page}
-use Rattle.bt_tree.proofs.Pagings.{Gives, anew_over, lacks_after, leaf_given, leaf_node, looked_shows, more_shows, others_at, put_all, puts_over}
+use Rattle.bt_tree.proofs.Pagings.{Gives, anew_over, fills_none, fills_same, lacks_after, leaf_given, leaf_node, looked_shows, more_shows, others_at, put_all, puts_over}
 use Rattle.bt_tree.proofs.Partings.{cons_nil, parted_last}
 
 pub not_both : (b : Bool) → b ≡ true → b ≡ false → ⊥
@@ -457,7 +457,7 @@ module _ {S V O : Type 0} (s : Ghosts S) (R : Stores V S) (o : Orders O) (last :
 -- t at the start, u once the leaf was changed, v once it is written, w in the end
 module _ {S V O : Type 0} (s : Ghosts S) (R : Stores V S) (o : Orders O) (total : IsTotalOrder o.cmp) (order : IsOrder (before_by o.cmp)) (last : Bool) (key value : List ℕ)
     (t u : Tree V O) (a b : S) (x : Changed) (looks : LooksAt s R t u a b) (stays : StaysTree t u) (taken : TakesInLeaf s R o last key value t a u.path x) where
-  limit_same : u.head.leaf_limit ≡ t.head.leaf_limit
+  pub limit_same : u.head.leaf_limit ≡ t.head.leaf_limit
   limit_same = ap (λ (y : TreeHead). y.leaf_limit) stays.head
 
   pub over_there : IsOpen s R o t a → (ItemsWithin u.head.leaf_limit x.leaf.items → ⊥) → s.tells → IsOver u.head.leaf_limit x.leaf.items x.place
@@ -543,23 +543,64 @@ module _ {S V O : Type 0} (s : Ghosts S) (R : Stores V S) (o : Orders O) (total 
           );
     }
 
+  -- the leaf itself, where it is within the limit
+  leaf_put : ItemsWithin u.head.leaf_limit x.leaf.items → (ps : List Pair) (h : Means s R o t a ps) → IsPutPage o.cmp t.head h.1.is.tree.pages ps (inserted o.cmp last key value ps) (leaf_page x.leaf)
+  leaf_put fits ps h =
+      ((record { keys = omega (arith, fits.keys, limit_same); bytes = fits.bytes }, inr (new_items o.cmp total order last key value t.head t.height t.column h.1.records ps h.1.is u.path x (taken ps h) x.leaf.items ([], [], sym (append-nil x.leaf.items)))), tt)
+
+  -- pages that a put may write
+  piece_held : (ps : List Pair) (h : Means s R o t a ps) (k : List ℕ) → IsAmong item_key k x.leaf.items ⊎ StoodIn h.1.is.tree.pages k → IsAmong pair_key k (inserted o.cmp last key value ps) ⊎ StoodIn h.1.is.tree.pages k
+  piece_held ps h k w =
+      let tk = taken ps h in
+      let n = new_stretch o.cmp total order last key value t.head t.height t.column h.1.records ps h.1.is u.path x tk in
+      ⊎_elim (λ (own : IsAmong item_key k x.leaf.items). inl (subst (λ (y : List Pair). IsAmong pair_key k y) (sym n.2) (among_back pair_key k n.0 (items_pairs x.leaf.items ++ n.1) (among_front pair_key k (items_pairs x.leaf.items) n.1 (item_held k x.leaf.items tk.changed.items.some own)))))
+      (λ (stood : StoodIn h.1.is.tree.pages k). inr stood) w
+
+  piece_put : (p : Page) (ps : List Pair) (h : Means s R o t a ps) → IsPiece u.head x.leaf.items x.leaf.next h.1.is.tree.pages p → IsPutPage o.cmp t.head h.1.is.tree.pages ps (inserted o.cmp last key value ps) p
+  piece_put (leaf_page l) ps h (inl own) = (
+    (
+      record { keys = omega (arith, own.0.keys, limit_same); bytes = own.0.bytes },
+      inr (new_items o.cmp total order last key value t.head t.height t.column h.1.records ps h.1.is u.path x (taken ps h) l.items own.1),
+    ),
+    tt,
+  )
+  piece_put (leaf_page l) ps h (inr k) =
+      let w = (leaves_within (before_by o.cmp) t.head t.height t.column h.1.records ps h.1.is key u.path x.id (taken ps h).found x.leaf.next k.0 k.1).within in
+      let w' : ItemsWithin t.head.leaf_limit l.items = subst (λ (y : List Item). ItemsWithin t.head.leaf_limit y) (sym k.2) (items_within t.head.leaf_limit k.0 w) in
+      ((record { keys = w'.keys; bytes = w'.bytes }, inl (subst (λ (y : List Item). AreItemsOf o.cmp y ps) (sym k.2) (page_items o.cmp order t.head t.height t.column h.1.records ps h.1.is x.leaf.next k.0 k.1))), tt)
+  piece_put (node_page n) ps h w = (
+    omega (arith, w.0, ap (λ (y : TreeHead). y.node_limit) stays.head),
+    all_map (λ (e : NodeEntry). IsAmong item_key e.key x.leaf.items ⊎ StoodIn h.1.is.tree.pages e.key) (λ (e : NodeEntry). IsAmong pair_key e.key (inserted o.cmp last key value ps) ⊎ StoodIn h.1.is.tree.pages e.key) n.entries (λ e k. piece_held ps h e.key k) w.1,
+  )
+
   -- pages that come
   module _ (v w : Tree V O) (d : S) (noted : w ≡ with_pairs (v.head.pairs + (if x.grown then 1 else 0)) v) where
-    pub kept_anew : PutsAt s R x.id (leaf_page x.leaf) u v b d → AddsAnew s R o t w a d
-    kept_anew put ps h =
+    pub kept_pages : ItemsWithin u.head.leaf_limit x.leaf.items → PutsAt s R x.id (leaf_page x.leaf) u v b d → StaysStill s R u v b d → WritesPages s R o (inserted o.cmp last key value) t w a d
+    kept_pages fits put still ps h =
         let new : PageMap = put_at x.id (leaf_page x.leaf) h.1.is.tree.pages in (
           new,
           counted_shows v w d noted new (put.means h.1.is.tree.pages (means_looked s R o t u a b looks stays ps h)),
           anew_over t.head h.1.is.tree.pages x.id (leaf_page x.leaf) (leaf_page (taken ps h).found.leaf.leaf) (leaf_held (before_by o.cmp) t.head t.height t.column h.1.records ps h.1.is key u.path x.id (taken ps h).found),
+          fills_none t.head w.head new (ap (λ (y : Tree V O). y.head.leaf_ids) noted ∙ ap (λ (y : TreeHead). y.leaf_ids) (still.head ∙ stays.head))
+              (ap (λ (y : Tree V O). y.head.node_ids) noted ∙ ap (λ (y : TreeHead). y.node_ids) (still.head ∙ stays.head)),
+          λ id p is. ⊎_elim
+              (λ (here : p ≡ leaf_page x.leaf). inr (subst (λ (q : Page). IsPutPage o.cmp t.head h.1.is.tree.pages ps (inserted o.cmp last key value ps) q) (sym here) (leaf_put fits ps h)))
+              (λ (old : h.1.is.tree.pages id ≡ Some p). inl old)
+              (put_either h.1.is.tree.pages x.id id (leaf_page x.leaf) p is),
         )
 
-    pub spread_anew : TurnsParted s R x.id x.leaf u v b d → AddsAnew s R o t w a d
-    spread_anew turns ps h =
-        let k = turns.means h.1.is.tree.pages (leaf_shown ps h) in
-        (k.0, counted_shows v w d noted k.0 k.1, subst (λ (y : TreeHead). ComesAnew y h.1.is.tree.pages k.0) stays.head k.2.anew)
+    pub spread_pages : TurnsParted s R x.id x.leaf u v b d → WritesPages s R o (inserted o.cmp last key value) t w a d
+    spread_pages turns ps h =
+        let k = turns.means h.1.is.tree.pages (leaf_shown ps h) in (
+          k.0,
+          counted_shows v w d noted k.0 k.1,
+          subst (λ (y : TreeHead). ComesAnew y h.1.is.tree.pages k.0) stays.head k.2.anew,
+          fills_same t.head v.head w.head k.0 (ap (λ (y : Tree V O). y.head.leaf_ids) noted) (ap (λ (y : Tree V O). y.head.node_ids) noted) (subst (λ (y : TreeHead). FillsIds y v.head k.0) stays.head k.2.filled),
+          λ id p is. ⊎_elim (λ (old : h.1.is.tree.pages id ≡ Some p). inl old) (λ piece. inr (piece_put p ps h piece)) (k.2.written id p is),
+        )
 
   -- what a refusal says of the tree
-  pub is_crowded : (ItemsWithin u.head.leaf_limit x.leaf.items → ⊥) → (ps : List Pair) (h : Means s R o t a ps) → IsCrowded o.cmp last key value h.1.is.tree
+  abbrev pub is_crowded : (ItemsWithin u.head.leaf_limit x.leaf.items → ⊥) → (ps : List Pair) (h : Means s R o t a ps) → IsCrowded o.cmp last key value h.1.is.tree
   is_crowded over ps h =
       let tk = taken ps h in
       record {
@@ -573,6 +614,12 @@ module _ {S V O : Type 0} (s : Ghosts S) (R : Stores V S) (o : Orders O) (total 
         over = λ w. over (subst (λ (n : ℕ). ItemsWithin n x.leaf.items) (sym limit_same) w);
       }
 
+  pub crowds_way : (ItemsWithin u.head.leaf_limit x.leaf.items → ⊥) → FillsLeafWay s R x.id x.leaf u b → CrowdsWay s R o last key value t a
+  crowds_way over full ps h = (
+    is_crowded over ps h,
+    subst (λ (n : ℕ). IsFullWay n h.1.is.tree.pages u.path 2) (ap (λ (y : TreeHead). y.node_limit) stays.head) (full h.1.is.tree.pages (leaf_shown ps h)),
+  )
+
   abbrev Fine : Page → Type 0
   Fine p = IsWritten s R o last key value t a p
 
@@ -582,31 +629,7 @@ module _ {S V O : Type 0} (s : Ghosts S) (R : Stores V S) (o : Orders O) (total 
 
   pub lacks_piece : (d : S) → LacksPage s R (IsLeafPiece s R x.id x.leaf u b) u.store b d → LacksPage s R Fine t.store a d
   lacks_piece d l = lacks_after s R (IsLeafPiece s R x.id x.leaf u b) Fine t.store u.store a b d looks.keeps looks.made
-      (λ p piece ps h. fine p ps h (piece h.1.is.tree.pages (leaf_shown ps h))) l
-    where
-      held_on : (ps : List Pair) (h : Means s R o t a ps) (k : List ℕ) → IsAmong item_key k x.leaf.items ⊎ StoodIn h.1.is.tree.pages k → IsAmong pair_key k (inserted o.cmp last key value ps) ⊎ StoodIn h.1.is.tree.pages k
-      held_on ps h k w =
-          let tk = taken ps h in
-          let n = new_stretch o.cmp total order last key value t.head t.height t.column h.1.records ps h.1.is u.path x tk in
-          ⊎_elim (λ (own : IsAmong item_key k x.leaf.items). inl (subst (λ (y : List Pair). IsAmong pair_key k y) (sym n.2) (among_back pair_key k n.0 (items_pairs x.leaf.items ++ n.1) (among_front pair_key k (items_pairs x.leaf.items) n.1 (item_held k x.leaf.items tk.changed.items.some own)))))
-          (λ (stood : StoodIn h.1.is.tree.pages k). inr stood) w
-
-      fine : (p : Page) (ps : List Pair) (h : Means s R o t a ps) → IsPiece u.head x.leaf.items x.leaf.next h.1.is.tree.pages p → IsPutPage o.cmp t.head h.1.is.tree.pages ps (inserted o.cmp last key value ps) p
-      fine (leaf_page l) ps h (inl own) = (
-        (
-          record { keys = omega (arith, own.0.keys, limit_same); bytes = own.0.bytes },
-          inr (new_items o.cmp total order last key value t.head t.height t.column h.1.records ps h.1.is u.path x (taken ps h) l.items own.1),
-        ),
-        tt,
-      )
-      fine (leaf_page l) ps h (inr k) =
-          let w = (leaves_within (before_by o.cmp) t.head t.height t.column h.1.records ps h.1.is key u.path x.id (taken ps h).found x.leaf.next k.0 k.1).within in
-          let w' : ItemsWithin t.head.leaf_limit l.items = subst (λ (y : List Item). ItemsWithin t.head.leaf_limit y) (sym k.2) (items_within t.head.leaf_limit k.0 w) in
-          ((record { keys = w'.keys; bytes = w'.bytes }, inl (subst (λ (y : List Item). AreItemsOf o.cmp y ps) (sym k.2) (page_items o.cmp order t.head t.height t.column h.1.records ps h.1.is x.leaf.next k.0 k.1))), tt)
-      fine (node_page n) ps h w = (
-        omega (arith, w.0, ap (λ (y : TreeHead). y.node_limit) stays.head),
-        all_map (λ (e : NodeEntry). IsAmong item_key e.key x.leaf.items ⊎ StoodIn h.1.is.tree.pages e.key) (λ (e : NodeEntry). IsAmong pair_key e.key (inserted o.cmp last key value ps) ⊎ StoodIn h.1.is.tree.pages e.key) n.entries (λ e k. held_on ps h e.key k) w.1,
-      )
+      (λ p piece ps h. piece_put p ps h (piece h.1.is.tree.pages (leaf_shown ps h))) l
 
 -- ---- what a call leaves, whatever it answers
 
@@ -614,8 +637,8 @@ pub kept_over : {S : Type 0} (s : Ghosts S) (a b : S) → StaysOver s.tells s.mo
 kept_over s a b stays = record { steady = stays.steady; same_limit = stays.follows.same_limit; same_names = stays.follows.same_names; later = stays.follows.later }
 
 -- a space that was given up
-pub given_up : {S : Type 0} (s : Ghosts S) (a b : S) → s.flag b ≡ false → StaysOver s.tells s.moment s.files_at s.left s.kept s.faults s.limit s.names a b → (s.tells → (g : ℕ) → s.now b g ≡ s.now a g) → GivenUp s a b
-given_up s a b flag stays files = record { flag = flag; keeps = kept_over s a b stays; files = files }
+pub given_up : {S : Type 0} (s : Ghosts S) (a b : S) → s.flag b ≡ false → StaysOver s.tells s.moment s.files_at s.left s.kept s.faults s.limit s.names a b → (s.tells → (g : ℕ) → s.now b g ≡ s.now a g) → (s.log_full a → s.log_full b) → GivenUp s a b
+given_up s a b flag stays files log = record { flag = flag; keeps = kept_over s a b stays; files = files; log = log }
 
 module _ {S V O : Type 0} (s : Ghosts S) (R : Stores V S) (o : Orders O) (t u v : Tree V O) (a b d : S) (looks : LooksAt s R t u a b) (stays : StaysTree t u) where
   pub put_refused : StaysStill s R u v b d → Refuses s (Beside s R) (u.cache.pages, u.store) (v.cache.pages, v.store) b d → Refuses s (Means s R o) t v a d
@@ -627,6 +650,24 @@ module _ {S V O : Type 0} (s : Ghosts S) (R : Stores V S) (o : Orders O) (t u v 
 -- no pair more
 pub none_more : {V O : Type 0} (v : Tree V O) → v ≡ with_pairs (v.head.pairs + 0) v
 none_more v = let same : v.head.pairs ≡ v.head.pairs + 0 = omega arith in ap (λ (n : ℕ). record v { head = record v.head { pairs = n } }) same
+
+-- a tree that was looked at gave no ids
+pub gains_looked : {V O : Type 0} (t u : Tree V O) → StaysTree t u → Gains 2 t.height 1 t u
+gains_looked t u stays =
+    let leaves : u.head.leaf_ids ≡ t.head.leaf_ids = ap (λ (y : TreeHead). y.leaf_ids) stays.head in
+    let nodes : u.head.node_ids ≡ t.head.node_ids = ap (λ (y : TreeHead). y.node_ids) stays.head in
+    let rows : u.height ≡ t.height = stays.height in
+    record { leaves_least = omega (arith, leaves); leaves_most = omega (arith, leaves); nodes_least = omega (arith, nodes); nodes_most = omega (arith, nodes); rows_least = omega (arith, rows); rows_most = omega (arith, rows) }
+
+pub gains_within : {V O : Type 0} (t w : Tree V O) → Gains 0 0 0 t w → Gains 2 t.height 1 t w
+gains_within t w g = record {
+  leaves_least = g.leaves_least;
+  leaves_most = omega (arith, g.leaves_most);
+  nodes_least = g.nodes_least;
+  nodes_most = omega (arith, g.nodes_most);
+  rows_least = g.rows_least;
+  rows_most = omega (arith, g.rows_most);
+}
 
 -- pages that come, where a leaf is parted and where not
 module _ {V O : Type 0} (t u v w : Tree V O) (grown : ℕ) (stays : StaysTree t u) (noted : w ≡ with_pairs (v.head.pairs + grown) v) where

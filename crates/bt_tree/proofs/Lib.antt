@@ -1,3 +1,4 @@
+pub mod Clears
 pub mod Climbings
 pub mod Contents
 pub mod Cuts

@@ -1,5 +1,5 @@
 -- A tree that stands is open.
-use Rattle.std.proofs.Common.{◌≡◌, ℕ, ◌<◌, List, [], Bool, true, false, Option, Some, None, refl, sym, ap, ◌∙◌, subst, inl, inr, ⊎_elim, arith}
+use Rattle.std.proofs.Common.{◌≡◌, ℕ, ◌+◌, ◌≤◌, ◌<◌, List, [], Bool, true, false, Option, Some, None, refl, sym, ap, ◌∙◌, subst, inl, inr, ⊎_elim, arith}
 use Rattle.std.specs.Prelude.{if◌then◌else◌, is_some}
 use Rattle.std.specs.FinMap.{get}
 use Rattle.tc_base.specs.Maps.{Map}
@@ -11,13 +11,13 @@ use Rattle.bt_rows.specs.declared.head.TreeHead.{TreeHead}
 use Rattle.bt_rows.specs.Heads.{head_of}
 use Rattle.bt_rows.specs.Levels.{NodeAt, Stands}
 use Rattle.bt_rows.specs.Orders.{Before, before_by}
-use Rattle.bt_rows.specs.Pages.{Map as Records}
+use Rattle.bt_rows.specs.Pages.{Map as Records, AreHeld, PageMap}
 use Rattle.bt_rows.specs.Rules.{B1, B2, IsPageAt, column as column_key}
 use Rattle.bt_rows.specs.Standing.{PagesStand, TreeStands, tree_pairs, leaves_of}
 use Rattle.bt_rows.proofs.Standing.{rules_rows}
-use Rattle.bt_rows.proofs.Held.{column_free, given_small, records_give_pairs}
+use Rattle.bt_rows.proofs.Held.{column_free, given_small, records_give_pages, records_give_pairs}
 use Rattle.bt_check.proofs.Unbroken.{trees_break_no_rule}
-use Rattle.bt_check.specs.Looks.{Looks, looks_then}
+use Rattle.bt_check.specs.Looks.{AsksFor, Looks, looks_then}
 use Rattle.bt_check.specs.Walks.{IsHigh}
 use Rattle.bt_cache.specs.Held.{AreSame, Holds}
 use Rattle.bt_cache.specs.declared.shared.SharedPage.{SharedPage}
@@ -25,7 +25,7 @@ use Rattle.bt_tree.specs.declared.tree.Tree.{Tree}
 use Rattle.bt_tree.specs.Meaning.{Means}
 use Rattle.bt_tree.specs.Opening.{IsAllowed, IsColumn, IsOpened, IsOrdered, Opens, SettledKeepsRules, SettledOpens}
 use Rattle.bt_tree.specs.Trees.{HasKeys, HoldsPairs}
-use Rattle.bt_tree.proofs.Heights.{high_is}
+use Rattle.bt_tree.proofs.Heights.{high_is, high_one}
 
 -- ---- the record `column`
 
@@ -104,7 +104,7 @@ stands_high before h index m height column t high is =
 -- ---- the call
 
 -- v at the start, x once the tree was measured, w once its record was looked for
-module _ {S V : Type 0} (s : Ghosts S) (R : Stores V S) (v x w : V) (old mid new : S) (first : Looks s R v x old mid) (second : Looks s R x w mid new) where
+module _ {S V : Type 0} (s : Ghosts S) (R : Stores V S) (v x w : V) (old mid new : S) (first : Looks s R v x old mid) (second : Looks s R x w mid new) (measured : AsksFor s R 2 v x old) (found : R.gets w ≤ R.gets x + 1) where
   looks : Looks s R v w old new
   looks = looks_then s R v x w old mid new first second
 
@@ -115,7 +115,8 @@ module _ {S V : Type 0} (s : Ghosts S) (R : Stores V S) (v x w : V) (old mid new
   opened {O} o height index t order stands column store empty head high = record {
     opens = opens;
     head_is = head_is;
-    made = record { file = ap R.file_of store ∙ looks.file; sort = ap R.sort store ∙ looks.sort_same; region = ap R.region store ∙ looks.region_same };
+    made = record { file = ap R.file_of store ∙ looks.file; sort = ap R.sort store ∙ looks.sort_same; numbers = ap R.numbers store ∙ looks.numbers_same; region = ap R.region store ∙ looks.region_same };
+    asks = λ m i. omega (arith, measured m i, found, ap R.gets store);
   }
     where
       head_is : t.head ≡ head_of (R.region v)
@@ -145,6 +146,7 @@ module _ {S V : Type 0} (s : Ghosts S) (R : Stores V S) (v x w : V) (old mid new
                 is = here;
               },
             );
+            high = subst (λ (n : ℕ). IsHigh all.0.stand.pages (head_of (R.region v)).root n) (sym high) all.1;
             column_is = sym here.keys.has;
           }
 
@@ -157,18 +159,27 @@ same_pairs before h k index m e s = subst (λ (x : TreeHead). (t : TreeStands be
 allowed : (index : Bool) (column : Option (List ℕ)) → IsAllowed index column → index ≡ false → is_some column ≡ false
 allowed index column may e = ap (λ (o : Option (List ℕ)). is_some o) (may e)
 
+-- records are as many rows, whatever names their head
+same_rows : {before : Before} (m : Records) (h k : TreeHead) → h ≡ k → (i j : Bool) (s : TreeStands before h i m) (t : TreeStands before k j m) (a b : ℕ) → IsHigh s.stand.pages h.root a → IsHigh t.stand.pages k.root b → a ≡ b
+same_rows {before} m h k e i j s t a b x y =
+    let held : AreHeld k m s.stand.pages = subst (λ (z : TreeHead). AreHeld z m s.stand.pages) e s.stand.held in
+    let all = records_give_pages k j m t.stand.head t.stand.keys in
+    let same : s.stand.pages ≡ t.stand.pages = all.2 s.stand.pages held ∙ sym (all.2 t.stand.pages t.stand.held) in
+    high_one t.stand.pages k.root a b (subst (λ (p : PageMap). IsHigh p k.root a) same (subst (λ (z : TreeHead). IsHigh s.stand.pages z.root a) e x)) y
+
 module _ {S V O : Type 0} (s : Ghosts S) (R : Stores V S) (o : Orders O) where
   pub settled_opens : SettledOpens s R o
-  settled_opens sort h column bytes ps f v t index old new from may is =
+  settled_opens sort fixed h height column bytes ps f v t index old new from may is =
       let x = is.opens f.records from.held in
       let head : head_of (R.region v) ≡ h = ap head_of from.region_is ∙ f.numbers in
       let wide = widened (before_by o.cmp) h (get f.records) (is_some column) index (allowed index column may) f.tree in (
         subst (λ (qs : List Pair). Means s R o t new qs) (same_pairs (before_by o.cmp) (head_of (R.region v)) h index (get f.records) head x.stands wide.0 ∙ wide.1 ∙ sym f.are) x.means,
         x.column_is ∙ f.has,
+        same_rows (get f.records) (head_of (R.region v)) h head index (is_some column) x.stands f.tree t.height height x.high f.high,
       )
 
   pub settled_keeps : SettledKeepsRules s R o
-  settled_keeps sort h column bytes ps f v index old e from may breaks g rule named =
+  settled_keeps sort fixed h height column bytes ps f v index old e from may breaks g rule named =
       let head : head_of (R.region v) ≡ h = ap head_of from.region_is ∙ f.numbers in
       let wide = widened (before_by o.cmp) h (get f.records) (is_some column) index (allowed index column may) f.tree in
       trees_break_no_rule (before_by o.cmp) (head_of (R.region v)) index (get f.records) rule (subst (λ (x : TreeHead). TreeStands (before_by o.cmp) x index (get f.records)) (sym head) wide.0) ((breaks g rule named).1 f.records from.held)

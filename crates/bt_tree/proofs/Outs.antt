@@ -35,20 +35,24 @@ use Rattle.bt_ways.proofs.Within.{items_within, taken_within}
 use Rattle.bt_tree.specs.declared.removing.Lessened.{Lessened}
 use Rattle.bt_tree.specs.declared.tree.Tree.{Tree}
 use Rattle.bt_tree.specs.Climbing.{IsAmong, StoodIn}
-use Rattle.bt_tree.specs.Inserting.{AreItemsOf, IsPutPage, pair_key}
+use Rattle.bt_tree.specs.Inserting.{AreItemsOf, IsPutPage, WritesPages, pair_key}
 use Rattle.bt_tree.specs.Meaning.{Changes, IsOpen, Means}
 use Rattle.bt_tree.specs.Paging.{IsLeafId, IsShown, LacksPage, PutsAt, Shows}
-use Rattle.bt_tree.specs.Removing.{AtLast, GivesInLeaf, HasLast, IsLeftPage, IsLone, IsRemnant, LacksLast, LacksRoom, LowersRoot, Narrows, ShowsLast, TurnsVacated, Vacated, Vacates}
+use Rattle.bt_tree.specs.Removing.{AtLast, GivesInLeaf, HasLast, IsLeftPage, IsLessPage, IsLone, IsRemnant, LacksLast, LacksRoom, LowersRoot, Narrows, ShowsLast, TurnsVacated, Vacated, Vacates}
 use Rattle.bt_tree.specs.Trees.{HoldsPairs}
 use Rattle.bt_tree.specs.Visits.{LooksAt, StaysTree}
-use Rattle.bt_tree.proofs.Climbings.{put_was}
+use Rattle.bt_tree.proofs.Climbings.{put_either, put_was}
 use Rattle.bt_tree.proofs.Contents.{changed_items, no_items_of, page_items}
 use Rattle.bt_tree.proofs.Droppings.{SameIds, leaf_id_shown, room_after, same_shows}
 use Rattle.bt_tree.proofs.Inserts.{means_looked}
 use Rattle.bt_tree.proofs.Pages.{found_leaf}
-use Rattle.bt_tree.proofs.Pagings.{lacks_after, others_at, put_all}
+use Rattle.bt_tree.proofs.Pagings.{anew_over, fills_none, lacks_after, others_at, put_all}
 use Rattle.bt_tree.proofs.Removes.{count_around, first_same, last_same, means_of}
 use Rattle.bt_tree.proofs.Unlinkings.{limits_moved}
+
+remnant_less : (h : TreeHead) (pages : PageMap) (q : Page) → IsRemnant h pages q → IsLessPage pages q
+remnant_less h pages (leaf_page l) left = tt
+remnant_less h pages (node_page n) left = left.2
 
 -- nothing is taken where nothing is held
 pub takes_none : {S V : Type 0} (s : Ghosts S) (own : ℕ → Type 0) (M : V → S → List Pair → Type 0) (key : List ℕ) (f : List Pair → List Pair) (v w : V) (a b : S) → ((ps : List Pair) → M v a ps → false ≡ has_pair key ps) → Reads s M v w a b
@@ -71,6 +75,9 @@ same_root s R o t u a b looks stays ps h = (h.1.is.tree.pages, means_looked s R 
   where
     clash : (l : Leaf) → ◌≡◌ {A = Option Page} None (Some (leaf_page l)) → ⊥
     clash l e = cc
+
+pub same_pages : {S V O : Type 0} (s : Ghosts S) (R : Stores V S) (o : Orders O) (f : List Pair → List Pair) (t u : Tree V O) (a b : S) → LooksAt s R t u a b → StaysTree t u → WritesPages s R o f t u a b
+same_pages s R o f t u a b looks stays ps h = (h.1.is.tree.pages, means_looked s R o t u a b looks stays ps h, λ id given none. none, fills_none t.head u.head h.1.is.tree.pages (ap (λ (y : TreeHead). y.leaf_ids) stays.head) (ap (λ (y : TreeHead). y.node_ids) stays.head), λ id p is. inl is)
 
 -- t at the start, v once the values went from the leaf's items
 module _ {S V O : Type 0} (s : Ghosts S) (R : Stores V S) (o : Orders O) (total : IsTotalOrder o.cmp) (order : IsOrder (before_by o.cmp)) (all : Bool) (key : List ℕ)
@@ -123,6 +130,9 @@ module _ {S V O : Type 0} (s : Ghosts S) (R : Stores V S) (o : Orders O) (total 
     leaf_left : x.leaf ≡ (with_items (given ps h).found.leaf x.leaf.items).leaf
     leaf_left = λ i. record { prev = (given ps h).prev i; next = (given ps h).next i; items = x.leaf.items }
 
+  uncounted : (w u : Tree V O) → u ≡ record w { head = record w.head { pairs = w.head.pairs - x.count } } → SameIds w.head u.head
+  uncounted w u noted = subst (λ (k : TreeHead). SameIds w.head k) (sym (ap (λ (y : Tree V O). y.head) noted)) (record { order = refl; leaf_limit = refl; node_limit = refl; leaf_ids = refl; node_ids = refl })
+
   pub leaf_ready : IsOpen s R o t a → IsShown s R v b
   leaf_ready ready = record { sound = looks.reads.sound; held = λ told. let h = ready.held told in (h.1.1.is.tree.pages, shown h.0 h.1) }
 
@@ -132,7 +142,7 @@ module _ {S V O : Type 0} (s : Ghosts S) (R : Stores V S) (o : Orders O) (total 
   pub leaf_full : (d : S) → LacksPage s R (λ q. q ≡ leaf_page x.leaf) v.store b d → LacksRoom s R (IsLeftPage s R o all key t a) t.store a d
   leaf_full d l =
       inl (lacks_after s R (λ q. q ≡ leaf_page x.leaf) (IsLeftPage s R o all key t a) t.store v.store a b d looks.keeps looks.made
-      (λ q is ps h. subst (λ (y : Page). IsPutPage o.cmp t.head h.1.is.tree.pages ps (removed cmp all key ps) y) (sym is) ((left_within ps h, inr (items_are ps h)), tt)) l)
+      (λ q is ps h. subst (λ (y : Page). IsPutPage o.cmp t.head h.1.is.tree.pages ps (removed cmp all key ps) y × IsLessPage h.1.is.tree.pages y) (sym is) (((left_within ps h, inr (items_are ps h)), tt), tt)) l)
 
   -- w once the leaf is written, u in the end
   pub leaf_less : ((0 < length x.leaf.items) ⊎ (x.id ≡ v.head.root)) → (w u : Tree V O) (d : S) → PutsAt s R x.id (leaf_page x.leaf) v w b d → w.head ≡ v.head → w.height ≡ v.height
@@ -196,6 +206,20 @@ module _ {S V O : Type 0} (s : Ghosts S) (R : Stores V S) (o : Orders O) (total 
       clash : (l : Leaf) → ◌≡◌ {A = Option Page} None (Some (leaf_page l)) → ⊥
       clash l e = cc
 
+  -- and no page came
+  pub less_pages : (w u : Tree V O) (d : S) → PutsAt s R x.id (leaf_page x.leaf) v w b d → w.head ≡ v.head → u ≡ record w { head = record w.head { pairs = w.head.pairs - x.count } } → WritesPages s R o (removed cmp all key) t u a d
+  less_pages w u d put whead noted ps h =
+      let new : PageMap = put_at x.id (leaf_page x.leaf) h.1.is.tree.pages in (
+        new,
+        same_shows s R w u d (ap (λ (y : Tree V O). y.store) noted) (ap (λ (y : Tree V O). y.cache.pages) noted) (ap (λ (y : Tree V O). y.column) noted) (uncounted w u noted) new (put.means h.1.is.tree.pages (shown ps h)),
+        anew_over t.head h.1.is.tree.pages x.id (leaf_page x.leaf) (leaf_page (f ps h).leaf.leaf) (page_there ps h),
+        fills_none t.head u.head new (ap (λ (y : Tree V O). y.head.leaf_ids) noted ∙ ap (λ (y : TreeHead). y.leaf_ids) (whead ∙ stays.head)) (ap (λ (y : Tree V O). y.head.node_ids) noted ∙ ap (λ (y : TreeHead). y.node_ids) (whead ∙ stays.head)),
+        λ id p is. ⊎_elim
+            (λ (own : p ≡ leaf_page x.leaf). inr (subst (λ (q : Page). IsPutPage o.cmp t.head h.1.is.tree.pages ps (removed cmp all key ps) q) (sym own) ((left_within ps h, inr (items_are ps h)), tt)))
+            (λ (old : h.1.is.tree.pages id ≡ Some p). inl old)
+            (put_either h.1.is.tree.pages x.id id (leaf_page x.leaf) p is),
+      )
+
   -- ---- the leaf has no items any more
 
   abbrev at_last : (ps : List Pair) (h : M t a ps) → AtLast (before_by cmp) t.head t.height v.path x.id x.leaf.prev x.leaf.next h.1.is.tree.pages
@@ -223,8 +247,8 @@ module _ {S V O : Type 0} (s : Ghosts S) (R : Stores V S) (o : Orders O) (total 
   pub vacate_ready : IsOpen s R o t a → HasLast s R o x.id x.leaf.prev x.leaf.next v b
   vacate_ready ready = record { sound = looks.reads.sound; held = λ told. let h = ready.held told in (h.1.1.is.tree.pages, last_shown h.0 h.1) }
 
-  remnant_is : (q : Page) → ((pages : PageMap) → ShowsLast s R (before_by cmp) x.id x.leaf.prev x.leaf.next v b pages → IsRemnant v.head pages q) → IsLeftPage s R o all key t a q
-  remnant_is q fine ps h = go q (fine h.1.is.tree.pages (last_shown ps h))
+  remnant_put : (ps : List Pair) (h : M t a ps) (q : Page) → IsRemnant v.head h.1.is.tree.pages q → IsPutPage o.cmp t.head h.1.is.tree.pages ps (removed cmp all key ps) q
+  remnant_put ps h q left = go q left
     where
       go : (q : Page) → IsRemnant v.head h.1.is.tree.pages q → IsPutPage o.cmp t.head h.1.is.tree.pages ps (removed cmp all key ps) q
       go (node_page n) w = (
@@ -240,6 +264,9 @@ module _ {S V O : Type 0} (s : Ghosts S) (R : Stores V S) (o : Orders O) (total 
           let there : AreItemsOf cmp r.was.items ps = page_items cmp order t.head t.height t.column h.1.records ps h.1.is r.id r.was r.there in
           ((record { keys = w.keys; bytes = w.bytes }, inl (subst (λ (xs : List Item). AreItemsOf cmp xs ps) (sym r.same) there)), tt)
 
+  remnant_is : (q : Page) → ((pages : PageMap) → ShowsLast s R (before_by cmp) x.id x.leaf.prev x.leaf.next v b pages → IsRemnant v.head pages q) → IsLeftPage s R o all key t a q
+  remnant_is q fine ps h = let left = fine h.1.is.tree.pages (last_shown ps h) in (remnant_put ps h q left, remnant_less v.head h.1.is.tree.pages q left)
+
   pub vacate_full : (d : S) → LacksLast s R o x.id x.leaf.prev x.leaf.next v b d → LacksRoom s R (IsLeftPage s R o all key t a) t.store a d
   vacate_full d l = room_after s R _ _ t.store v.store a b d looks.keeps looks.made remnant_is l
 
@@ -247,12 +274,23 @@ module _ {S V O : Type 0} (s : Ghosts S) (R : Stores V S) (o : Orders O) (total 
   pub gone_root : (w u : Tree V O) (d : S) → TurnsVacated s R o x.id x.leaf.prev x.leaf.next v w b d → u ≡ record w { head = record w.head { pairs = w.head.pairs - x.count } } → LowersRoot s R o t u a d
   gone_root w u d gone noted ps h =
       let k = gone.means h.1.is.tree.pages (last_shown ps h) in
-      let z = k.2 (at_last_moved ps h) in
+      let z = k.2.0 (at_last_moved ps h) in
       let ids : SameIds w.head u.head =
       subst (λ (y : TreeHead). SameIds w.head y) (sym (ap (λ (y : Tree V O). y.head) noted)) (record { order = refl; leaf_limit = refl; node_limit = refl; leaf_ids = refl; node_ids = refl }) in (
         k.0,
         same_shows s R w u d (ap (λ (y : Tree V O). y.store) noted) (ap (λ (y : Tree V O). y.cache.pages) noted) (ap (λ (y : Tree V O). y.column) noted) ids k.0 k.1,
         λ lost. subst (λ (r : ℕ). IsLone k.0 r → ⊥) (sym (ap (λ (y : Tree V O). y.head.root) noted)) z.wide,
+      )
+
+  pub gone_pages : (w u : Tree V O) (d : S) → TurnsVacated s R o x.id x.leaf.prev x.leaf.next v w b d → Narrows s R v w b d → u ≡ record w { head = record w.head { pairs = w.head.pairs - x.count } } → WritesPages s R o (removed cmp all key) t u a d
+  gone_pages w u d gone narrows noted ps h =
+      let k = gone.means h.1.is.tree.pages (last_shown ps h) in (
+        k.0,
+        same_shows s R w u d (ap (λ (y : Tree V O). y.store) noted) (ap (λ (y : Tree V O). y.cache.pages) noted) (ap (λ (y : Tree V O). y.column) noted) (uncounted w u noted) k.0 k.1,
+        λ id given none. k.2.1 id none,
+        fills_none t.head u.head k.0 (ap (λ (y : Tree V O). y.head.leaf_ids) noted ∙ ap (λ (y : TreeHead). y.leaf_ids) narrows.head ∙ ap (λ (y : TreeHead). y.leaf_ids) stays.head)
+            (ap (λ (y : Tree V O). y.head.node_ids) noted ∙ ap (λ (y : TreeHead). y.node_ids) narrows.head ∙ ap (λ (y : TreeHead). y.node_ids) stays.head),
+        λ id p is. ⊎_elim (λ (old : h.1.is.tree.pages id ≡ Some p). inl old) (λ (left : IsRemnant v.head h.1.is.tree.pages p). inr (remnant_put ps h p left)) (k.2.2 id p is),
       )
 
   pub leaf_gone : x.leaf.items ≡ [] → (w u : Tree V O) (d : S) → TurnsVacated s R o x.id x.leaf.prev x.leaf.next v w b d → Narrows s R v w b d
@@ -279,7 +317,7 @@ module _ {S V O : Type 0} (s : Ghosts S) (R : Stores V S) (o : Orders O) (total 
           → (l : AtLast (before_by cmp) t.head t.height v.path x.id x.leaf.prev x.leaf.next h.1.is.tree.pages) → Vacated (before_by cmp) w.head w.height l.found.front l.found.leaf l.found.back new
       from_start ps h new vac =
           subst (λ (k : TreeHead). (l : AtLast (before_by cmp) k t.height v.path x.id x.leaf.prev x.leaf.next h.1.is.tree.pages) → Vacated (before_by cmp) w.head w.height l.found.front l.found.leaf l.found.back new) stays.head
-          (subst (λ (n : ℕ). (l : AtLast (before_by cmp) v.head n v.path x.id x.leaf.prev x.leaf.next h.1.is.tree.pages) → Vacated (before_by cmp) w.head w.height l.found.front l.found.leaf l.found.back new) stays.height vac)
+          (subst (λ (n : ℕ). (l : AtLast (before_by cmp) v.head n v.path x.id x.leaf.prev x.leaf.next h.1.is.tree.pages) → Vacated (before_by cmp) w.head w.height l.found.front l.found.leaf l.found.back new) stays.height vac.0)
 
       means : (ps : List Pair) → M t a ps → M u d (removed cmp all key ps)
       means ps h =

@@ -3,7 +3,7 @@ use Rattle.std.proofs.Common.{◌≡◌, ◌≢◌, ◌⊎◌, ℕ, ◌+◌, ◌
 use Rattle.std.specs.Prelude.{◌==◌, is_some}
 use Rattle.std.specs.FinMap.{get, insert}
 use Rattle.std.specs.List.{AllByRecursion}
-use Rattle.std.proofs.lemmas.Bool.{cases_eq}
+use Rattle.std.proofs.lemmas.Bool.{cases_eq, cases_lt}
 use Rattle.std.proofs.lemmas.Bool.Decides.{nat_tests}
 use Rattle.std.proofs.lemmas.Slice.Eq.{bytes_eq-Decides}
 use Rattle.tc_base.specs.Maps.{Map}
@@ -30,7 +30,7 @@ use Rattle.bt_cache.specs.Shared.{IsSomeLeaf, IsSomeNode}
 use Rattle.bt_cache.proofs.Kept.{insert_here, insert_other}
 use Rattle.bt_ways.specs.Writes.{put_at, put_leaves}
 use Rattle.bt_tree.specs.declared.tree.Tree.{Tree}
-use Rattle.bt_tree.specs.Paging.{ComesAnew, Shows, HasLeafAt, HasNodeAt, IsLeafId, IsNodeId, IsPageOf, IsShown, LacksPage, Peeks, PutsAt, page_bytes}
+use Rattle.bt_tree.specs.Paging.{ComesAnew, ComesFrom, FillsIds, Shows, HasLeafAt, HasNodeAt, IsLeafId, IsNodeId, IsPageOf, IsShown, LacksPage, Peeks, PutsAt, page_bytes}
 use Rattle.bt_tree.specs.Trees.{HasKeys}
 use Rattle.bt_tree.proofs.Pages.{has_page}
 
@@ -85,6 +85,33 @@ anew_put h pages id page away j given none = ⊎_elim
 
 pub anew_over : (h : TreeHead) (pages : PageMap) (id : ℕ) (page was : Page) → pages id ≡ Some was → ComesAnew h pages (put_at id page pages)
 anew_over h pages id page was is = anew_put h pages id page (λ given none. none_some was (sym none ∙ is))
+
+-- ---- ids that are given
+
+-- none is
+pub fills_none : (h k : TreeHead) (pages : PageMap) → k.leaf_ids ≡ h.leaf_ids → k.node_ids ≡ h.node_ids → FillsIds h k pages
+fills_none h k pages leaves nodes id (inl g) not none = not (inl (g.0, omega (arith, g.1, leaves)))
+fills_none h k pages leaves nodes id (inr g) not none = not (inr (g.0, omega (arith, g.1, nodes)))
+
+-- the next one of a node, which gets a page
+pub fills_node : (h k : TreeHead) (pages : PageMap) (id : ℕ) (page : Page) → k.leaf_ids ≡ h.leaf_ids → k.node_ids ≡ h.node_ids + 1 → id ≡ node_offset + (h.node_ids + 1) → FillsIds h k (put_at id page pages)
+fills_node h k pages id page leaves nodes is j (inl g) not none = not (inl (g.0, omega (arith, g.1, leaves)))
+fills_node h k pages id page leaves nodes is j (inr g) not none = ⊎_elim
+    (λ (old : j < id). not (inr (g.0, omega (arith, old, is))))
+    (λ (new : id ≤ j). let same : j ≡ id = omega (arith, g.1, nodes, is, new) in none_some page (sym none ∙ ap (put_at id page pages) same ∙ put_here pages id page))
+    (cases_lt j id)
+
+-- pages that are there stay there
+pub fills_on : (h k : TreeHead) (old new : PageMap) → ComesFrom old new → FillsIds h k old → FillsIds h k new
+fills_on h k old new was fills j given not none = fills j given not (was j none)
+
+pub fills_then : (h k m : TreeHead) (pages : PageMap) → FillsIds h k pages → FillsIds k m pages → FillsIds h m pages
+fills_then h k m pages first second j given not none = ⊎_elim (λ (g : IsGiven k j). first j g not none) (λ (away : IsGiven k j → ⊥). second j given away none) (decided k j)
+
+-- the ids are the same
+pub fills_same : (h k m : TreeHead) (pages : PageMap) → m.leaf_ids ≡ k.leaf_ids → m.node_ids ≡ k.node_ids → FillsIds h k pages → FillsIds h m pages
+fills_same h k m pages leaves nodes fills j (inl g) not none = fills j (inl (g.0, omega (arith, g.1, leaves))) not none
+fills_same h k m pages leaves nodes fills j (inr g) not none = fills j (inr (g.0, omega (arith, g.1, nodes))) not none
 
 -- ---- a page comes under an id that was given
 
@@ -283,8 +310,8 @@ module _ {S V O : Type 0} (s : Ghosts S) (R : Stores V S) where
 -- ---- no room for a page
 
 module _ {S V O : Type 0} (s : Ghosts S) (R : Stores V S) where
-  pub lacks_now : (t : Tree V O) (a b : S) (id : ℕ) (page : Page) → IsShown s R t a → Keeps s a b → LacksKey s R id (page_bytes page) t.store a b → LacksPage s R (λ p. p ≡ page) t.store a b
-  lacks_now t a b id page ready keeps full = record {
+  pub lacks_now : (t : Tree V O) (a b : S) (id : ℕ) (page : Page) → IsPage id (page_bytes page) page → IsShown s R t a → Keeps s a b → LacksKey s R id (page_bytes page) t.store a b → LacksPage s R (λ p. p ≡ page) t.store a b
+  lacks_now t a b id page spelled ready keeps full = record {
     store = t.store;
     moment = a;
     id = id;
@@ -294,6 +321,7 @@ module _ {S V O : Type 0} (s : Ghosts S) (R : Stores V S) where
     until = keeps;
     held = λ told. let h = ready.held told in (h.1.1.records, (told, h.1.1.store));
     fine = refl;
+    spelled = spelled;
     by = full;
   }
 
@@ -310,6 +338,7 @@ module _ {S V : Type 0} (s : Ghosts S) (R : Stores V S) where
     until = l.until;
     held = l.held;
     fine = wider l.page l.fine;
+    spelled = l.spelled;
     by = l.by;
   }
 

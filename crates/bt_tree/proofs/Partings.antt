@@ -33,13 +33,13 @@ use Rattle.bt_ways.proofs.Within.{parts_join}
 use Rattle.bt_tree.specs.declared.parting.Laid.{Laid}
 use Rattle.bt_tree.specs.declared.parting.Parted.{Parted}
 use Rattle.bt_tree.specs.declared.tree.Tree.{Tree}
-use Rattle.bt_tree.specs.Climbing.{CanClimb, Grows, HasWay, IsAmong, IsWayNode, ShowsWay, StoodIn, TurnsClimbed, entry_key}
+use Rattle.bt_tree.specs.Climbing.{CanClimb, FillsWay, Grows, HasWay, IsAmong, IsFullWay, IsKnownNode, IsWayNode, ShowsWay, StoodIn, TurnsClimbed, entry_key}
 use Rattle.bt_tree.specs.Meaning.{file_in}
 use Rattle.bt_tree.specs.Numbers.{with_last, with_leaf_ids}
-use Rattle.bt_tree.specs.Paging.{ComesAnew, HasLeafAt, IsLeafId, IsShown, LacksPage, Peeks, PutsAt, Rewrites, Shows, StaysStill}
-use Rattle.bt_tree.specs.Parting.{AddsAll, AddsBehind, ArePartsOf, HasLeaf, IsLaid, IsLeafPiece, IsPiece, TurnsParted, IsStretch, item_key, ShowsLeaf, Widens, laid_at, laid_parts, last_part, parts_from, put_laid}
-use Rattle.bt_tree.proofs.Climbings.{among_back, put_was}
-use Rattle.bt_tree.proofs.Pagings.{Gives, anew_put, anew_refl, anew_then, lacks_after, looked_shows, more_shows, leaf_fresh, leaf_given, leaf_node, others_at, put_here, put_other, same_store_at}
+use Rattle.bt_tree.specs.Paging.{ComesAnew, ComesFrom, FillsIds, HasLeafAt, IsLeafId, IsShown, LacksPage, Peeks, PutsAt, Rewrites, Shows, StaysStill}
+use Rattle.bt_tree.specs.Parting.{AddsAll, AddsBehind, ArePartsOf, FillsLeafWay, HasLeaf, IsLaid, IsLeafPiece, IsPiece, TurnsParted, IsStretch, item_key, ShowsLeaf, Widens, laid_at, laid_parts, last_part, parts_from, put_laid}
+use Rattle.bt_tree.proofs.Climbings.{among_back, nodes_stay, put_either, put_was}
+use Rattle.bt_tree.proofs.Pagings.{Gives, anew_put, anew_refl, anew_then, fills_on, fills_then, lacks_after, looked_shows, more_shows, leaf_fresh, leaf_given, leaf_node, others_at, put_here, put_other, same_store_at}
 
 -- ---- leaves that are written
 
@@ -280,6 +280,55 @@ part_keys key items [] haves k = absurd k
 part_keys key items (p ∷ ps) haves (inl e) = among_back item_key key items (all_items p.items ps) (subst (λ (z : List ℕ). IsAmong item_key z (all_items p.items ps)) e (first_among p.items ps haves.0))
 part_keys key items (p ∷ ps) haves (inr k) = among_back item_key key items (all_items p.items ps) (part_keys key p.items ps haves.1 k)
 
+-- where no page is none was before, and no leaf is there
+laid_none : (leaves : List Laid) (pages : PageMap) → ComesFrom pages (put_laid leaves pages)
+laid_none [] pages j none = none
+laid_none (l ∷ ls) pages j none = put_was pages l.id j (leaf_page l.leaf) (laid_none ls (put_at l.id (leaf_page l.leaf) pages) j none)
+
+laid_away : (leaves : List Laid) (pages : PageMap) (j : ℕ) → put_laid leaves pages j ≡ None → AllByRecursion (λ l. l.id ≡ j → ⊥) leaves
+laid_away [] pages j none = tt
+laid_away (l ∷ ls) pages j none = (
+  λ same. absurd (clash (sym (put_here pages l.id (leaf_page l.leaf)) ∙ ap (put_at l.id (leaf_page l.leaf) pages) same ∙ laid_none ls (put_at l.id (leaf_page l.leaf) pages) j none)),
+  laid_away ls (put_at l.id (leaf_page l.leaf) pages) j none,
+)
+  where
+    clash : Some (leaf_page l.leaf) ≡ None → ⊥
+    clash e = cc
+
+first_away : (id prev next : ℕ) (items : List Item) (parts : List Part) (j : ℕ) → AllByRecursion (λ l. l.id ≡ j → ⊥) (laid_parts id prev next items parts) → id ≡ j → ⊥
+first_away id prev next items [] j away = away.0
+first_away id prev next items (p ∷ ps) j away = away.0
+
+parts_away : (id prev next : ℕ) (items : List Item) (parts : List Part) (j : ℕ) → AllByRecursion (λ l. l.id ≡ j → ⊥) (laid_parts id prev next items parts) → AllByRecursion (λ p. p.id ≡ j → ⊥) parts
+parts_away id prev next items [] j away = tt
+parts_away id prev next items (p ∷ ps) j away = (first_away p.id id next p.items ps j away.1, parts_away p.id id next p.items ps j away.1)
+
+behind_away : (next prev : ℕ) (pages : PageMap) (old new : List Laid) (j : ℕ) → AddsBehind next prev pages old new → ((next ≡ 0 → ⊥) → (l : Leaf) × (pages next ≡ Some (leaf_page l))) → AllByRecursion (λ l. l.id ≡ j → ⊥) new → AllByRecursion (λ l. l.id ≡ j → ⊥) old
+behind_away next prev pages old new j adds there away = ⊎_elim
+    (λ (z : next ≡ 0). subst (λ (t : List Laid). AllByRecursion (λ l. l.id ≡ j → ⊥) t) (adds.none z) away)
+    (λ (some : next ≡ 0 → ⊥).
+    let k = there some in
+    (all_part (λ (l : Laid). l.id ≡ j → ⊥) old (laid_at next prev k.0.next k.0.items ∷ []) (subst (λ (t : List Laid). AllByRecursion (λ l. l.id ≡ j → ⊥) t) (adds.some k.0 some k.1) away)).0)
+    (cases_eq next 0)
+
+-- the ids of the parts are all that are given
+parts_hit : (given : ℕ) (second third : List Item) (j : ℕ) → AllByRecursion (λ p. p.id ≡ j → ⊥) (parts_from given second third) → given < j → j ≤ given + length (parts_from given second third) → ⊥
+parts_hit given second [] j away more most = away.0 (omega (arith, more, most))
+parts_hit given second (x ∷ third) j away more most = ⊎_elim (λ (one : j ≡ given + 1). away.0 (sym one)) (λ (other : j ≡ given + 1 → ⊥). away.1.0 (omega (arith, more, most, other))) (cases_eq j (given + 1))
+
+-- a way that is full once leaves were laid was so before
+way_before : (limit limit' : ℕ) (leaves : List Laid) (pages : PageMap) (path : List (ℕ × ℕ)) (more : ℕ) → limit' ≡ limit → more ≤ 2 → IsFullWay limit' (put_laid leaves pages) path more → IsFullWay limit pages path 2
+way_before limit limit' leaves pages [] more same few full = tt
+way_before limit limit' leaves pages (step ∷ path) more same few full = (full.0, laid_was leaves pages step.0 full.0 full.1, omega (arith, full.2, same, few))
+
+-- a page once leaves were laid
+laid_either : (leaves : List Laid) (pages : PageMap) (j : ℕ) (p : Page) → put_laid leaves pages j ≡ Some p → (pages j ≡ Some p) ⊎ IsLaid leaves p
+laid_either [] pages j p is = inl is
+laid_either (l ∷ ls) pages j p is = ⊎_elim
+    (λ (was : put_at l.id (leaf_page l.leaf) pages j ≡ Some p). ⊎_elim (λ (here : p ≡ leaf_page l.leaf). inr (inl here)) (λ (old : pages j ≡ Some p). inl old) (put_either pages l.id j (leaf_page l.leaf) p was))
+    (λ (own : IsLaid ls p). inr (inr own))
+    (laid_either ls (put_at l.id (leaf_page l.leaf) pages) j p is)
+
 -- ---- written one by one
 
 pub record LaysOn {S V O : Type 0} (s : Ghosts S) (R : Stores V S) (leaves rest : List Laid) (t u : Tree V O) (old new : S) : Type 0 where
@@ -465,6 +514,16 @@ module _ {S V O : Type 0} (s : Ghosts S) (R : Stores V S) (t u v w : Tree V O) (
   parts_have : (i j : ℕ) → second ≡ take (j - i) (drop i leaf.items) → IsCut t.head.leaf_limit leaf.items i j → AllByRecursion HasItems parts
   parts_have i j two c = from_all t.head.leaf_ids second third HasItems (subst (λ (z : List Item). 0 < length z) (sym two) (cut_middle i j t.head.leaf_limit leaf.items c)) (λ lt. lt)
 
+  laid_piece : (i j : ℕ) → items ≡ take i leaf.items → second ≡ take (j - i) (drop i leaf.items) → third ≡ drop j leaf.items → IsCut t.head.leaf_limit leaf.items i j → (pages : PageMap) → ShowsLeaf s R id leaf.next t a pages → (q : Page) → IsLaid leaves q
+      → IsPiece t.head leaf.items leaf.next pages q
+  laid_piece i j one two three c pages h q is =
+      let stretches = cut_stretches i j t.head.leaf_limit leaf.items c in
+      let k = adds_pages (λ z. ItemsWithin t.head.leaf_limit z × IsStretch z leaf.items) id leaf.prev leaf.next items parts pages leaves q (laid pages h.0) h.1.behind
+      (subst (λ (z : List Item). ItemsWithin t.head.leaf_limit z × IsStretch z leaf.items) (sym one) (c.first, stretches.0))
+      (from_all t.head.leaf_ids second third (λ z. ItemsWithin t.head.leaf_limit z.items × IsStretch z.items leaf.items) (subst (λ (z : List Item). ItemsWithin t.head.leaf_limit z × IsStretch z leaf.items) (sym two) (c.second, stretches.1))
+      (λ lt. subst (λ (z : List Item). ItemsWithin t.head.leaf_limit z × IsStretch z leaf.items) (sym three) (c.third, stretches.2))) is in
+      subst (λ (z : Page). IsPiece t.head leaf.items leaf.next pages z) (sym k.1) k.2
+
   module _ (x : Tree V O) (d : S) (lays : Rewrites s R (put_laid leaves) w x b d) (still_x : StaysStill s R w x b d) where
     xhead : x.head ≡ w.head
     xhead = still_x.head
@@ -492,15 +551,34 @@ module _ {S V O : Type 0} (s : Ghosts S) (R : Stores V S) (t u v w : Tree V O) (
         (λ (stood : StoodIn (put_laid leaves pages) key). inr (record { id = stood.id; node = stood.node; is = laid_was leaves pages stood.id stood.node stood.is; among = stood.among }))
         k
 
+    -- each new leaf has its page
+    laid_filled : (pages : PageMap) → ShowsLeaf s R id leaf.next t a pages → FillsIds t.head x.head (put_laid leaves pages)
+    laid_filled pages h j (inl g) not none = ⊎_elim
+        (λ (more : t.head.leaf_ids < j).
+        parts_hit t.head.leaf_ids second third j
+        (parts_away id leaf.prev leaf.next items parts j (behind_away leaf.next (last_part id parts) pages (laid_parts id leaf.prev leaf.next items parts) leaves j (laid pages h.0) h.1.behind (laid_away leaves pages j none)))
+        more (omega (arith, g.1, ap (λ (h : TreeHead). h.leaf_ids) xhead, wids)))
+        (λ (le : j ≤ t.head.leaf_ids). not (inl (g.0, le)))
+        (cases_lt t.head.leaf_ids j)
+    laid_filled pages h j (inr g) not none = not (inr (g.0, omega (arith, g.1, ap (λ (h : TreeHead). h.node_ids) (xhead ∙ whead))))
+
+    pub climb_full : FillsWay s R p.added x d → FillsLeafWay s R id leaf t a
+    climb_full full pages h =
+        subst (λ (q : List (ℕ × ℕ)). IsFullWay t.head.node_limit pages q 2) (still_x.path ∙ wpath)
+        (way_before t.head.node_limit x.head.node_limit leaves pages x.path (length p.added) (ap (λ (y : TreeHead). y.node_limit) xhead ∙ wlimit) added_few (full (put_laid leaves pages) (way_on pages h)))
+
+    climb_piece : (i j : ℕ) → items ≡ take i leaf.items → second ≡ take (j - i) (drop i leaf.items) → third ≡ drop j leaf.items → IsCut t.head.leaf_limit leaf.items i j → (pages : PageMap) (q : Page) → IsKnownNode x.head.node_limit p.added (put_laid leaves pages) q
+        → IsPiece t.head leaf.items leaf.next pages q
+    climb_piece i j one two three c pages q n =
+        let limit : x.head.node_limit ≡ t.head.node_limit = ap (λ (y : TreeHead). y.node_limit) xhead ∙ wlimit in
+        subst (λ (z : Page). IsPiece t.head leaf.items leaf.next pages z) (sym n.1)
+        (omega (arith, n.2, limit), all_map (λ (y : NodeEntry). IsAmong entry_key y.key p.added ⊎ StoodIn (put_laid leaves pages) y.key) (λ (y : NodeEntry). IsAmong item_key y.key leaf.items ⊎ StoodIn pages y.key) n.0.entries (λ y k. piece_key i j one two three c pages y.key k) n.3)
+
     pub lacks_climb : (i j : ℕ) (e : S) → items ≡ take i leaf.items → second ≡ take (j - i) (drop i leaf.items) → third ≡ drop j leaf.items → (s.tells → IsCut t.head.leaf_limit leaf.items i j)
         → LacksPage s R (IsWayNode s R p.added x d) x.store d e → LacksPage s R (IsLeafPiece s R id leaf t a) t.store a e
     lacks_climb i j e one two three cut l =
         lacks_after s R (IsWayNode s R p.added x d) (IsLeafPiece s R id leaf t a) t.store x.store a d e (keeps_then s a b d peeks.still.keeps still_x.keeps) (same_store_then R t.store w.store x.store wmade still_x.made)
-        (λ q fine pages h.
-        let n = fine (put_laid leaves pages) (way_on pages h) in
-        let limit : x.head.node_limit ≡ t.head.node_limit = ap (λ (y : TreeHead). y.node_limit) xhead ∙ wlimit in
-        subst (λ (z : Page). IsPiece t.head leaf.items leaf.next pages z) (sym n.1)
-        (omega (arith, n.2, limit), all_map (λ (y : NodeEntry). IsAmong entry_key y.key p.added ⊎ StoodIn (put_laid leaves pages) y.key) (λ (y : NodeEntry). IsAmong item_key y.key leaf.items ⊎ StoodIn pages y.key) n.0.entries (λ y k. piece_key i j one two three (cut h.0.0) pages y.key k) n.3)) l
+        (λ q fine pages h. climb_piece i j one two three (cut h.0.0) pages q (fine (put_laid leaves pages) (way_on pages h))) l
 
     module _ (i j : ℕ) (one : items ≡ take i leaf.items) (two : second ≡ take (j - i) (drop i leaf.items)) (three : third ≡ drop j leaf.items) (cut : s.tells → IsCut t.head.leaf_limit leaf.items i j)
         (y : Tree V O) (e : S) (climb : TurnsClimbed s R p.added x y d e) (yhead : y.head ≡ record x.head { root = y.head.root; node_ids = y.head.node_ids }) where
@@ -534,6 +612,11 @@ module _ {S V O : Type 0} (s : Ghosts S) (R : Stores V S) (t u v w : Tree V O) (
                 have = parts_have i j two c;
                 within = subst (λ (z : List Item). ItemsWithin t.head.leaf_limit z) (sym one) c.first;
                 are_within = from_all t.head.leaf_ids second third (λ q. ItemsWithin t.head.leaf_limit q.items) (subst (λ (z : List Item). ItemsWithin t.head.leaf_limit z) (sym two) c.second) (λ lt. subst (λ (z : List Item). ItemsWithin t.head.leaf_limit z) (sym three) c.third);
+                written = λ z q is. ⊎_elim
+                    (λ (was : put_laid leaves pages z ≡ Some q). ⊎_elim (λ (old : pages z ≡ Some q). inl old) (λ (own : IsLaid leaves q). inr (laid_piece i j one two three c pages h q own)) (laid_either leaves pages z q was))
+                    (λ known. inr (climb_piece i j one two three c pages q known))
+                    (k.2.2 z q is);
+                filled = fills_then t.head x.head y.head k.0 (fills_on t.head x.head (put_laid leaves pages) k.0 (nodes_stay x.head.node_limit (put_laid leaves pages) k.0 k.2.0.limits) (laid_filled pages h)) k.2.3;
                 anew = anew_then t.head x.head pages (put_laid leaves pages) k.0 given_on (laid_anew t.head leaves pages (laid_ids pages h)) k.2.1;
                 fresh = from_fresh t.head.leaf_ids second third pages (leaf_fresh t.head h.0.1.records pages (t.head.leaf_ids + 1) h.0.1.held (omega arith) (omega (arith, given, small, (from_some t.head.leaf_ids second third).0)))
                     (λ lt. leaf_fresh t.head h.0.1.records pages (t.head.leaf_ids + 1 + 1) h.0.1.held (omega arith) (omega (arith, given, small, from_two t.head.leaf_ids second third lt)));
@@ -551,14 +634,7 @@ module _ {S V O : Type 0} (s : Ghosts S) (R : Stores V S) (t u v w : Tree V O) (
   module _ where
     pub lacks_laid : (i j : ℕ) (d : S) → items ≡ take i leaf.items → second ≡ take (j - i) (drop i leaf.items) → third ≡ drop j leaf.items → (s.tells → IsCut t.head.leaf_limit leaf.items i j)
         → LacksPage s R (IsLaid leaves) w.store b d → LacksPage s R (IsLeafPiece s R id leaf t a) t.store a d
-    lacks_laid i j d one two three cut l = lacks_after s R (IsLaid leaves) (IsLeafPiece s R id leaf t a) t.store w.store a b d peeks.still.keeps wmade (λ q is pages h.
-        let c : IsCut t.head.leaf_limit leaf.items i j = cut h.0.0 in
-        let stretches = cut_stretches i j t.head.leaf_limit leaf.items c in
-        let k = adds_pages (λ z. ItemsWithin t.head.leaf_limit z × IsStretch z leaf.items) id leaf.prev leaf.next items parts pages leaves q (laid pages h.0) h.1.behind
-        (subst (λ (z : List Item). ItemsWithin t.head.leaf_limit z × IsStretch z leaf.items) (sym one) (c.first, stretches.0))
-        (from_all t.head.leaf_ids second third (λ z. ItemsWithin t.head.leaf_limit z.items × IsStretch z.items leaf.items) (subst (λ (z : List Item). ItemsWithin t.head.leaf_limit z × IsStretch z leaf.items) (sym two) (c.second, stretches.1))
-        (λ lt. subst (λ (z : List Item). ItemsWithin t.head.leaf_limit z × IsStretch z leaf.items) (sym three) (c.third, stretches.2))) is in
-        subst (λ (z : Page). IsPiece t.head leaf.items leaf.next pages z) (sym k.1) k.2) l
+    lacks_laid i j d one two three cut l = lacks_after s R (IsLaid leaves) (IsLeafPiece s R id leaf t a) t.store w.store a b d peeks.still.keeps wmade (λ q is pages h. laid_piece i j one two three (cut h.0.0) pages h q is) l
 
   -- whatever is answered
   module _ (least : t.head.leaf_ids ≤ u.head.leaf_ids) (most : u.head.leaf_ids ≤ t.head.leaf_ids + 2) (x : Tree V O) (d : S) (still_x : StaysStill s R w x b d) where

@@ -31,7 +31,7 @@ use Rattle.bt_tree.specs.declared.tree.Tree.{Tree}
 use Rattle.bt_tree.specs.Climbing.{CanClimb, HasWay, IsAmong, NodesWithin, ShowsWay, StoodIn, entry_key}
 use Rattle.bt_tree.specs.Paging.{HasNodeAt, IsNodeId, IsPageOf, IsShown, LacksPage, Peeks, PutsAt, Rewrites, Shows, StaysStill}
 use Rattle.bt_tree.specs.Removing.{HasRows, InRows, IsHeir, IsLone, IsLowered, IsRemnant, LacksCut, Narrows, ShowsHeir, ShowsRows, Sinks, StaysNumbered, TurnsCut, TurnsSunk}
-use Rattle.bt_tree.proofs.Climbings.{keys_in}
+use Rattle.bt_tree.proofs.Climbings.{keys_in, put_either}
 use Rattle.bt_tree.proofs.Droppings.{SameIds, all_same, narrows_same, node_id_shown, room_after, same_shows}
 use Rattle.bt_tree.proofs.Pagings.{IsMoved, lacks_after, looked_shows, moved_column, moved_head, moved_height, moved_pages, moved_store, others_at, same_store_at}
 
@@ -43,7 +43,7 @@ pub some_long : {X : Type 0} (xs : List X) (n : ℕ) → n ≡ length xs → (n 
 some_long [] n e ne = absurd (ne e)
 some_long (x ∷ xs) n e ne = omega arith
 
-node_some : (p : Page) → None ≡ Some p → ⊥
+pub node_some : (p : Page) → None ≡ Some p → ⊥
 node_some p e = cc
 
 -- ---- one page less
@@ -61,6 +61,7 @@ remnant_dropped h k pages id (node_page n) e known = (
   omega (arith, known.0, e),
   all_map (λ (x : NodeEntry). StoodIn (drop_at id pages) x.key) (λ (x : NodeEntry). StoodIn pages x.key) n.entries
       (λ x stood. record { id = stood.id; node = stood.node; is = dropped_was pages id stood.id (node_page stood.node) stood.is; among = stood.among }) known.1,
+  record { id = known.2.id; place = known.2.place; was = known.2.was; there = dropped_was pages id known.2.id (node_page known.2.was) known.2.there; is = known.2.is },
 )
 
 less_within : (limit place : ℕ) (n : Node) → 0 < length n.entries → place ≤ length n.entries → NodeWithin limit n → NodeWithin limit (without_place place n)
@@ -83,6 +84,7 @@ pub less_remnant : (h : TreeHead) (pages : PageMap) (id place : ℕ) (n : Node) 
 less_remnant h pages id place n is some le within = (
   less_within h.node_limit place n some le within,
   all_map (λ (e : NodeEntry). IsAmong entry_key e.key n.entries) (λ (e : NodeEntry). StoodIn pages e.key) (without_place place n).entries (λ e among. record { id = id; node = n; is = is; among = among }) (less_keys place n),
+  record { id = id; place = place; was = n; there = is; is = refl },
 )
 
 -- ---- along the way
@@ -105,7 +107,7 @@ module _ {S V O : Type 0} (s : Ghosts S) (R : Stores V S) where
     means = λ pages h. (
       pages,
       same_shows s R t u a store cache column (all_same t.head u.head head) pages h.0,
-      subst (λ (p : List (ℕ × ℕ)). CutsFrom t.head.node_limit pages pages t.head.root p) (sym none) (root_is_alone t.head.node_limit pages t.head.root),
+      (subst (λ (p : List (ℕ × ℕ)). CutsFrom t.head.node_limit pages pages t.head.root p) (sym none) (root_is_alone t.head.node_limit pages t.head.root), λ j p is. inl is),
     );
     others = record { same = λ told g other. refl };
   }
@@ -161,8 +163,14 @@ module _ {S V O : Type 0} (s : Ghosts S) (R : Stores V S) where
         means = λ pages h. (
           put_at id (node_page (without_place place read)) pages,
           writes.means pages (now pages h.0),
-          subst (λ (p : List (ℕ × ℕ)). CutsFrom t.head.node_limit pages (put_at id (node_page (without_place place read)) pages) t.head.root p) (sym e)
-              (node_loses t.head.node_limit pages t.head.root id place rest read (here pages h) some (less_within t.head.node_limit place read some le (h.1.within id read (here pages h)))),
+          (
+            subst (λ (p : List (ℕ × ℕ)). CutsFrom t.head.node_limit pages (put_at id (node_page (without_place place read)) pages) t.head.root p) (sym e)
+                (node_loses t.head.node_limit pages t.head.root id place rest read (here pages h) some (less_within t.head.node_limit place read some le (h.1.within id read (here pages h)))),
+            λ j p is. ⊎_elim
+                (λ (own : p ≡ node_page (without_place place read)). inr (subst (λ (q : Page). IsRemnant t.head pages q) (sym own) (less_remnant t.head pages id place read (here pages h) some le (h.1.within id read (here pages h)))))
+                (λ (old : pages j ≡ Some p). inl old)
+                (put_either pages id j (node_page (without_place place read)) p is),
+          ),
         );
         others = record { same = λ told g other. (others_at s _ _ b d same_made.file writes.others).same told g other ∙ peeks.looks.reads.now told g };
       }
@@ -202,10 +210,16 @@ module _ {S V O : Type 0} (s : Ghosts S) (R : Stores V S) where
         means = λ pages h.
             let k = rest_cut.means (drop_at id pages) (shows_above pages h) in
             let cut : CutsFrom t.head.node_limit (drop_at id pages) k.0 t.head.root rest =
-            subst (λ (p : List (ℕ × ℕ)). CutsFrom t.head.node_limit (drop_at id pages) k.0 t.head.root p) rest_on (subst (λ (x : TreeHead). CutsFrom x.node_limit (drop_at id pages) k.0 x.root w.path) head_on k.2) in (
+            subst (λ (p : List (ℕ × ℕ)). CutsFrom t.head.node_limit (drop_at id pages) k.0 t.head.root p) rest_on (subst (λ (x : TreeHead). CutsFrom x.node_limit (drop_at id pages) k.0 x.root w.path) head_on k.2.0) in (
               k.0,
               k.1,
-              subst (λ (p : List (ℕ × ℕ)). CutsFrom t.head.node_limit pages k.0 t.head.root p) (sym e) (node_goes t.head.node_limit pages k.0 t.head.root id place rest read (here pages h) (none_long read.entries none) cut),
+              (
+                subst (λ (p : List (ℕ × ℕ)). CutsFrom t.head.node_limit pages k.0 t.head.root p) (sym e) (node_goes t.head.node_limit pages k.0 t.head.root id place rest read (here pages h) (none_long read.entries none) cut),
+                λ j p is. ⊎_elim
+                    (λ (old : drop_at id pages j ≡ Some p). inl (dropped_was pages id j p old))
+                    (λ (left : IsRemnant w.head (drop_at id pages) p). inr (remnant_dropped t.head w.head pages id p (ap (λ (x : TreeHead). x.node_limit) head_on) left))
+                    (k.2.1 j p is),
+              ),
             );
         others = record {
           same = λ told g other.

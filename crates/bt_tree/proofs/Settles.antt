@@ -17,15 +17,19 @@ use Rattle.bt_rows.specs.declared.head.TreeHead.{TreeHead}
 use Rattle.bt_rows.specs.declared.page.LeafAt.{LeafAt}
 use Rattle.bt_rows.specs.Heads.{head_of}
 use Rattle.bt_rows.specs.Orders.{Before, before_by}
-use Rattle.bt_rows.specs.Rules.{B6, B7, B8, pairs_of}
+use Rattle.bt_rows.specs.Pages.{AreHeld}
+use Rattle.bt_rows.specs.Rules.{B1, B6, B7, B8, pairs_of}
 use Rattle.bt_rows.specs.Standing.{PagesStand, TreeStands, tree_pairs}
 use Rattle.bt_rows.proofs.Standing.{rows_rules}
+use Rattle.bt_check.specs.Walks.{IsHigh}
 use Rattle.bt_cache.specs.Held.{AreSame, Holds, Pages}
 use Rattle.bt_tree.specs.declared.tree.Tree.{Tree}
+use Rattle.bt_tree.specs.Inserting.{AddsAnew}
 use Rattle.bt_tree.specs.Meaning.{Changes, IsOpen, Means}
 use Rattle.bt_tree.specs.Settling.{BringsPacked, BringsPairs}
-use Rattle.bt_tree.specs.Trees.{HoldsPairs}
+use Rattle.bt_tree.specs.Trees.{HasKeys, HoldsPairs}
 use Rattle.bt_tree.specs.Visits.{StaysTree}
+use Rattle.bt_tree.proofs.Heights.{high_of}
 
 -- ---- the region
 
@@ -56,11 +60,12 @@ head_written h a1 a2 a3 a4 a5 a6 a7 a8 e1 e2 e3 e4 e5 e6 e7 e8 a b c d e f g k =
 
 -- ---- the rules
 
-record Stood (before : Before) (h : TreeHead) (index : Bool) (m : Map) (ps : List Pair) : Type 0 where
+record Stood (before : Before) (h : TreeHead) (height : ℕ) (index : Bool) (m : Map) (ps : List Pair) : Type 0 where
   tree : TreeStands before h index (get m)
+  high : IsHigh tree.stand.pages h.root height
   are : ps ≡ tree_pairs tree
 
-stood : (before : Before) (h : TreeHead) (height : ℕ) (column : Option (List ℕ)) (m : Map) (ps : List Pair) → HoldsPairs before h height column (get m) ps → Stood before h (is_some column) m ps
+stood : (before : Before) (h : TreeHead) (height : ℕ) (column : Option (List ℕ)) (m : Map) (ps : List Pair) → HoldsPairs before h height column (get m) ps → Stood before h height (is_some column) m ps
 stood before h height column m ps p =
     let rules = rows_rules before p.tree.pages h.root p.tree.leaves p.tree.levels p.tree.stands in
     let pages : PagesStand h (is_some column) (get m) = record {
@@ -80,6 +85,7 @@ stood before h height column m ps p =
         links = subst (λ (t : List LeafAt). B7 h t) (sym rules.2) p.links;
         count = subst (λ (t : List LeafAt). B8 h t) (sym rules.2) p.count;
       };
+      high = subst (λ (n : ℕ). IsHigh p.tree.pages h.root n) (sym p.tree.high) (high_of before p.tree.pages h.root p.tree.leaves p.tree.levels p.tree.stands);
       are = p.are ∙ ap pairs_of (sym rules.2);
     }
 
@@ -116,24 +122,47 @@ module _ {S V O : Type 0} (s : Ghosts S) (R : Stores V S) (o : Orders O) (t u : 
     others = record { same = λ told g other. writes.others.same told g (λ is. absurd (other (is ∙ set_file))) };
   }
 
+  -- and the pages are the same
+  pub settle_anew : WritesIn s R.file_of R.holds same v w old new → AddsAnew s R o t u old new
+  settle_anew writes ps means =
+      let m : Map = means.1.records in
+      let i = writes.means m (at_store m (means.0, means.1.store)) in
+      let p : HoldsPairs (before_by o.cmp) t.head t.height t.column (get m) ps = means.1.is in (
+        p.tree.pages,
+        (
+          i.0,
+          record {
+            records = m;
+            store = subst (λ (x : V). R.holds x (s.now new (R.file_of x)) m) (sym ends) i.1;
+            same = subst (λ (c : Pages). AreSame m c.entries) (sym pages) means.1.same;
+            head = subst (λ (h : TreeHead). B1 h) (sym stays.head) p.tree.head;
+            keys = subst (λ (h : TreeHead). HasKeys h u.column (get m)) (sym stays.head) (subst (λ (c : Option (List ℕ)). HasKeys t.head c (get m)) (sym stays.column) p.keys);
+            held = subst (λ (h : TreeHead). AreHeld h (get m) p.tree.pages) (sym stays.head) p.tree.held;
+          },
+        ),
+        λ id given none. none,
+      )
+
   pub settle_refused : Refuses s (Holds s R) v w old new → Refuses s (Means s R o) t u old new
   settle_refused r = ⊎_elim (λ spoiled. inl spoiled) (λ (reads : Reads s (Holds s R) v w old new). inr (record { now = reads.now; touched = reads.touched; sound = reads.sound; means = means_on reads.means })) r
 
 module _ {S V O : Type 0} (s : Ghosts S) (R : Stores V S) (o : Orders O) (t : Tree V O) (v : V) (old new : S)
     (set_means : (bytes : List ℕ) (m : Map) → R.holds t.store bytes m → R.holds v bytes m) (set_file : R.file_of v ≡ R.file_of t.store) where
-  pub settle_stands : (opaque : List ℕ) → head_of opaque ≡ t.head → R.region v ≡ opaque → R.sort v ≡ R.sort t.store
-      → ((m : Map) → Holds s R v old m → R.stands (R.sort v) (s.now new (R.file_of v)) m (R.region v)) → BringsPairs s R o t old new
-  settle_stands opaque is in_region sort stood_for ps means =
+  pub settle_stands : (opaque : List ℕ) → head_of opaque ≡ t.head → R.region v ≡ opaque → R.sort v ≡ R.sort t.store → R.numbers v ≡ R.numbers t.store
+      → ((m : Map) → Holds s R v old m → R.stands (R.sort v) (R.numbers v) (s.now new (R.file_of v)) m (R.region v)) → BringsPairs s R o t old new
+  settle_stands opaque is in_region sort fixed stood_for ps means =
       let m : Map = means.1.records in
-      let all : Stood (before_by o.cmp) t.head (is_some t.column) m ps = stood (before_by o.cmp) t.head t.height t.column m ps means.1.is in
+      let all : Stood (before_by o.cmp) t.head t.height (is_some t.column) m ps = stood (before_by o.cmp) t.head t.height t.column m ps means.1.is in
       record {
         records = m;
         region = R.region v;
         numbers = ap head_of in_region ∙ is;
         order = means.1.order;
-        file = subst (λ (k : ℕ). R.stands k (s.now new (R.file_of t.store)) m (R.region v)) sort
-            (subst (λ (f : ℕ). R.stands (R.sort v) (s.now new f) m (R.region v)) set_file (stood_for m (at_store s R o t t v t.store old new set_means set_file refl (record { head = refl; height = refl; column = refl }) refl m (means.0, means.1.store))));
+        file = subst (λ (k : ℕ). R.stands k (R.numbers t.store) (s.now new (R.file_of t.store)) m (R.region v)) sort
+            (subst (λ (ns : List ℕ). R.stands (R.sort v) ns (s.now new (R.file_of t.store)) m (R.region v)) fixed
+            (subst (λ (f : ℕ). R.stands (R.sort v) (R.numbers v) (s.now new f) m (R.region v)) set_file (stood_for m (at_store s R o t t v t.store old new set_means set_file refl (record { head = refl; height = refl; column = refl }) refl m (means.0, means.1.store)))));
         tree = all.tree;
+        high = all.high;
         has = means.1.is.keys.has;
         are = all.are;
       }

@@ -22,7 +22,7 @@ use Rattle.bt_rows.specs.Rows.{root_slot, held}
 use Rattle.bt_rows.specs.Rules.{B5, IsWithin, LeafLimits, pairs_of}
 use Rattle.bt_cache.specs.Effects.{same_store_refl}
 use Rattle.bt_ways.specs.Climbs.{IsHeldWay}
-use Rattle.bt_ways.specs.Removals.{CutsFrom, LeavesAfter, no_items, page_next, page_prev, with_items, with_next, with_prev, without_leaf, without_way}
+use Rattle.bt_ways.specs.Removals.{CutsFrom, LeavesAfter, OnlyFewer, no_items, page_next, page_prev, with_items, with_next, with_prev, without_leaf, without_way}
 use Rattle.bt_ways.specs.Ways.{Crumb, path_of, rows_of}
 use Rattle.bt_ways.specs.Writes.{drop_at, put_at}
 use Rattle.bt_ways.proofs.Climbing.{held_in_row}
@@ -31,15 +31,44 @@ use Rattle.bt_ways.proofs.HeldWays.{before_there, behind_there, found_page, foun
 use Rattle.bt_ways.proofs.Keys.{all_map}
 use Rattle.bt_ways.proofs.RemovingLeaves.{leaf_goes}
 use Rattle.bt_ways.proofs.RemovingLimits.{fewer_within, without_within}
-use Rattle.bt_ways.proofs.RemovingLinks.{none_front, none_back}
+use Rattle.bt_ways.proofs.RemovingLinks.{next_zero, none_front, none_back}
 use Rattle.bt_ways.proofs.RemovingRoots.{only_leaf_empties}
 use Rattle.bt_tree.specs.declared.tree.Tree.{Tree}
 use Rattle.bt_tree.specs.Climbing.{CanClimb, HasWay, NodesWithin, ShowsWay, StoodIn}
-use Rattle.bt_tree.specs.Paging.{HasLeafAt, IsLeafId, IsPageOf, IsShown, LacksPage, Peeks, PutsAt, Rewrites, Shows}
-use Rattle.bt_tree.specs.Removing.{AtLast, Cuts, HasLast, HasLink, HasLinks, HasRows, InRows, IsRemnant, LacksCut, LacksLast, LacksLink, LacksLinks, Narrows, ShowsLast, ShowsLink, ShowsLinks, SinksTo, StaysBeside, StaysNumbered, TurnsCut, TurnsLinked, TurnsSunk, TurnsUnlinked, TurnsVacated, Vacated, first_after, last_after, without_linked}
+use Rattle.bt_tree.specs.Paging.{ComesNone, HasLeafAt, IsLeafId, IsPageOf, IsShown, LacksPage, Peeks, PutsAt, Rewrites, Shows}
+use Rattle.bt_tree.specs.Removing.{AtLast, Cuts, HasLast, HasLink, HasLinks, HasRows, InRows, IsRemnant, LacksCut, LacksLast, LacksLink, LacksLinks, Narrows, ShowsLast, ShowsLink, ShowsLinks, SinksTo, StaysBeside, StaysNumbered, TurnsCut, TurnsLinked, TurnsSunk, TurnsUnlinked, TurnsVacated, Vacated, WritesRemnants, first_after, last_after, without_linked}
+use Rattle.bt_tree.proofs.Climbings.{put_either}
 use Rattle.bt_tree.proofs.Droppings.{SameIds, given_same, leaf_id_shown, narrow_ids, node_id_shown, none_at_zero, room_after, same_shows}
 use Rattle.bt_tree.proofs.Pagings.{lacks_after, looked_shows, others_at}
-use Rattle.bt_tree.proofs.Prunings.{dropped_was}
+use Rattle.bt_tree.proofs.Prunings.{dropped_was, node_some}
+
+-- ---- no page comes
+
+either_none : (b : Bool) (p q : Option Page) → p ≡ None → q ≡ None → (if b then p else q) ≡ None
+either_none true p q x y = x
+either_none false p q x y = y
+
+none_unlinked : (id prev next : ℕ) (pages : PageMap) → ComesNone pages (without_linked id prev next pages)
+none_unlinked id prev next pages j none =
+    let first : with_next prev next pages j ≡ None = next_zero prev next j pages none in
+    let second : with_prev next prev (with_next prev next pages) j ≡ None = either_none (j == next) (page_prev prev (with_next prev next pages j)) (with_next prev next pages j) (ap (page_prev prev) first) first in
+    either_none (j == id) None (with_prev next prev (with_next prev next pages) j) refl second
+
+none_fewer : (limit : ℕ) (old new : PageMap) → OnlyFewer limit old new → ComesNone old new
+none_fewer limit old new fewer j none = ⊎_elim
+    (λ (same : new j ≡ old j). same ∙ none)
+    (λ other. ⊎_elim (λ (gone : new j ≡ None). gone) (λ node. absurd (clash node.0 (sym none ∙ node.2))) other)
+    (fewer j)
+  where
+    clash : (n : Node) → ◌≡◌ {A = Option Page} None (Some (node_page n)) → ⊥
+    clash n e = cc
+
+none_sunk : (old new : PageMap) → ((id : ℕ) → (new id ≡ old id) ⊎ (new id ≡ None)) → ComesNone old new
+none_sunk old new fewer j none = ⊎_elim (λ (same : new j ≡ old j). same ∙ none) (λ (gone : new j ≡ None). gone) (fewer j)
+
+none_way : (path : List (ℕ × ℕ)) (pages : PageMap) → ComesNone pages (without_way path pages)
+none_way [] pages j none = none
+none_way (step ∷ path) pages j none = none_way path (drop_at step.0 pages) j (either_none (j == step.0) None (pages j) refl none)
 
 -- ---- pages of which one is linked otherwise
 
@@ -123,6 +152,7 @@ seen_before f pages leaf_was node_was h k (leaf_page l) e (inr x) = let y = leaf
 seen_before f pages leaf_was node_was h k (node_page n) e known = (
   omega (arith, known.0, e),
   all_map (λ (x : NodeEntry). StoodIn (f pages) x.key) (λ (x : NodeEntry). StoodIn pages x.key) n.entries (λ x stood. record { id = stood.id; node = stood.node; is = node_was stood.id stood.node stood.is; among = stood.among }) known.1,
+  record { id = known.2.id; place = known.2.place; was = known.2.was; there = node_was known.2.id known.2.was known.2.there; is = known.2.is },
 )
 
 remnant_relinked : (f : PageMap → PageMap) → IsRelink f → (h k : TreeHead) (pages : PageMap) (p : Page) → k.node_limit ≡ h.node_limit → IsRemnant k (f pages) p → IsRemnant h pages p
@@ -251,6 +281,16 @@ module _ (id prev next : ℕ) (pages : PageMap) where
   remnant_unlinked : (h k : TreeHead) (p : Page) → k.node_limit ≡ h.node_limit → IsRemnant k (without_linked id prev next pages) p → IsRemnant h pages p
   remnant_unlinked h k p e known = seen_before (without_linked id prev next) pages unlinked_leaf unlinked_was h k p e known
 
+  -- each page is an old one, or a leaf with the items of one
+  linked_written : (h : TreeHead) → WritesRemnants h pages (without_linked id prev next pages)
+  linked_written h j (leaf_page k) is = let u = unlinked_leaf j k is in inr (inr (record { id = j; was = u.0; there = u.1; same = u.2 }))
+  linked_written h j (node_page n) is = inl (unlinked_was j n is)
+
+-- what is left of the pages without a way stood there
+way_was : (path : List (ℕ × ℕ)) (pages : PageMap) (j : ℕ) (p : Page) → without_way path pages j ≡ Some p → pages j ≡ Some p
+way_was [] pages j p is = is
+way_was (step ∷ path) pages j p is = dropped_was pages step.0 j p (way_was path (drop_at step.0 pages) j p is)
+
 within_of : (h : TreeHead) (pages : PageMap) → B5 h pages → NodesWithin h.node_limit pages
 within_of h pages b j n is = subst (λ (p : Option Page). IsWithin h j p) is (b j)
 
@@ -354,7 +394,7 @@ module _ {S V O : Type 0} (s : Ghosts S) (R : Stores V S) (o : Orders O) (id pre
       cuts pages new c l =
           subst (λ (p : PageMap). CutsFrom t.head.node_limit p new t.head.root t.path) (ap (λ (x : ℕ). without_linked id x next pages) l.prev_is ∙ ap (λ (x : ℕ). without_linked id l.found.leaf.leaf.prev x pages) l.next_is)
           (subst (λ (n : ℕ). CutsFrom n (without_linked id prev next pages) new t.head.root t.path) vids.node_limit
-          (subst (λ (r : ℕ). CutsFrom v.head.node_limit (without_linked id prev next pages) new r t.path) vroot (subst (λ (p : List (ℕ × ℕ)). CutsFrom v.head.node_limit (without_linked id prev next pages) new v.head.root p) vpath c)))
+          (subst (λ (r : ℕ). CutsFrom v.head.node_limit (without_linked id prev next pages) new r t.path) vroot (subst (λ (p : List (ℕ × ℕ)). CutsFrom v.head.node_limit (without_linked id prev next pages) new v.head.root p) vpath c.0)))
 
       goes : (pages new : PageMap) → Cuts v (without_linked id prev next pages) new → pages 0 ≡ None → (l : AtLast (before_by o.cmp) t.head t.height t.path id prev next pages)
           → (after : List LeafAt) × (rows : List (List NodeAt)) × Stands (before_by o.cmp) new t.head.root after rows × (length rows ≡ length l.levels) × LeavesAfter l.leaves l.found.front l.found.leaf l.found.back after
@@ -422,14 +462,27 @@ module _ {S V O : Type 0} (s : Ghosts S) (R : Stores V S) (o : Orders O) (id pre
               pairs = g.4.pairs;
             }
 
+        written : (pages mid new : PageMap) → Cuts v (without_linked id prev next pages) mid → ((j : ℕ) → (new j ≡ mid j) ⊎ (new j ≡ None)) → WritesRemnants t.head pages new
+        written pages mid new c fewer j q is = ⊎_elim
+            (λ (old : without_linked id prev next pages j ≡ Some q). linked_written id prev next pages t.head j q old)
+            (λ (left : IsRemnant v.head (without_linked id prev next pages) q). inr (remnant_unlinked id prev next pages t.head v.head q vids.node_limit left))
+            (c.1 j q (⊎_elim (λ (same : new j ≡ mid j). sym same ∙ is) (λ (gone : new j ≡ None). absurd (node_some q (sym gone ∙ is))) (fewer j)))
+
         pub leaf_cut : TurnsVacated s R o id prev next t u a e
         leaf_cut = record {
           sound = sunk.sound;
           means = λ pages h.
               let none : pages 0 ≡ None = none_at_zero s R t a pages h.0 in
               let p = pruned.means (without_linked id prev next pages) (gone_way pages h) in
-              let k = sunk.means p.0 (p.1, in_rows pages p.0 p.2 none h.1) in
-              (k.0, k.1, λ l. ends pages p.0 k.0 p.2 k.2 none l);
+              let k = sunk.means p.0 (p.1, in_rows pages p.0 p.2 none h.1) in (
+                k.0,
+                k.1,
+                (
+                  λ l. ends pages p.0 k.0 p.2 k.2 none l,
+                  λ j not. none_sunk p.0 k.0 k.2.fewer j (none_fewer v.head.node_limit (without_linked id prev next pages) p.0 p.2.0.limits j (none_unlinked id prev next pages j not)),
+                  λ j q is. written pages p.0 k.0 p.2 k.2.fewer j q is,
+                ),
+              );
           others = record {
             same = λ told g other.
                 (others_at s _ _ d e (more.made.file ∙ narrows.made.file) sunk.others).same told g other ∙ (others_at s _ _ b d narrows.made.file pruned.others).same told g other ∙ cut.others.same told g other;
@@ -437,6 +490,9 @@ module _ {S V O : Type 0} (s : Ghosts S) (R : Stores V S) (o : Orders O) (id pre
         }
 
 -- ---- the only leaf is emptied
+
+no_leaf : (l : Leaf) → ◌≡◌ {A = Option Page} None (Some (leaf_page l)) → ⊥
+no_leaf l e = cc
 
 not_node : (n : Node) → ◌≡◌ {A = Option Page} (Some (leaf_page no_items)) (Some (node_page n)) → ⊥
 not_node n e = cc
@@ -508,7 +564,17 @@ module _ {S V O : Type 0} (s : Ghosts S) (R : Stores V S) (o : Orders O) (id : �
         means = λ pages h. (
           put_at id (leaf_page no_items) (without_way t.path pages),
           same_shows s R w u d store cache column ids (put_at id (leaf_page no_items) (without_way t.path pages)) (put.means (without_way t.path pages) (out.means pages h.0)),
-          λ l. emptied pages (none_at_zero s R t a pages h.0) l,
+          (
+            λ l. emptied pages (none_at_zero s R t a pages h.0) l,
+            λ j not. ⊎_elim
+                (λ (same : j ≡ id). absurd (no_leaf (h.1.found.leaf.leaf) (sym not ∙ ap pages same ∙ there s R o id 0 0 t pages h.1)))
+                (λ (other : j ≡ id → ⊥). (puts id (leaf_page no_items) (without_way t.path pages)).others j other ∙ none_way t.path pages j not)
+                (cases_eq j id),
+            λ j q is. ⊎_elim
+                (λ (own : q ≡ leaf_page no_items). inr (subst (λ (y : Page). IsRemnant t.head pages y) (sym own) (inl refl)))
+                (λ (old : without_way t.path pages j ≡ Some q). inl (way_was t.path pages j q old))
+                (put_either (without_way t.path pages) id j (leaf_page no_items) q is),
+          ),
         );
         others = record { same = λ told g other. (others_at s _ _ b d narrows.made.file put.others).same told g other ∙ out.others.same told g other };
       }

@@ -1,5 +1,5 @@
 -- Entries that climb along the way that a tree has noted.
-use Rattle.std.specs.Prelude.{◌⊎◌, ◌≡◌, ℕ, ◌+◌, ◌≤◌, ◌/◌, List, [], ◌∷◌, ◌++◌, Some, None, length}
+use Rattle.std.specs.Prelude.{◌⊎◌, ◌≡◌, ⊤, ℕ, ◌+◌, ◌<◌, ◌≤◌, ◌/◌, List, [], ◌∷◌, ◌++◌, Some, None, length}
 use Rattle.std.specs.List.{AllByRecursion}
 use Rattle.tc_space.specs.Frames.{Keeps}
 use Rattle.tc_space.specs.Stores.{IsReady, Only}
@@ -18,7 +18,7 @@ use Rattle.bt_ways.specs.Ways.{Crumb, path_of}
 use Rattle.bt_ways.specs.Writes.{put_at}
 use Rattle.bt_tree.specs.declared.tree.Tree.{Tree}
 use Rattle.bt_tree.specs.Meaning.{file_in}
-use Rattle.bt_tree.specs.Paging.{ComesAnew, IsUsedUp, LacksPage, Shows, Turns}
+use Rattle.bt_tree.specs.Paging.{ComesAnew, FillsIds, LacksPage, NodesUsedUp, Shows, Turns}
 
 abbrev pub NodesWithin : ℕ → PageMap → Type 0
 NodesWithin limit pages = (id : ℕ) (n : Node) → pages id ≡ Some (node_page n) → NodeWithin limit n
@@ -80,13 +80,22 @@ IsNodeOf most entries p = (n : Node) × (p ≡ node_page n) × (length n.entries
 abbrev pub IsKnownNode : ℕ → List NodeEntry → PageMap → Page → Type 0
 IsKnownNode limit added pages p = (n : Node) × (p ≡ node_page n) × NodeWithin limit n × AllByRecursion (λ e. IsAmong entry_key e.key added ⊎ StoodIn pages e.key) n.entries
 
+-- each page is an old one, or such a node
+abbrev pub WritesKnown : ℕ → List NodeEntry → PageMap → PageMap → Type 0
+WritesKnown limit added old new = (id : ℕ) (p : Page) → new id ≡ Some p → (old id ≡ Some p) ⊎ IsKnownNode limit added old p
+
+-- the lowest node of a way has no room for so many entries more, or there is none
+abbrev pub IsFullWay : ℕ → PageMap → List (ℕ × ℕ) → ℕ → Type 0
+IsFullWay limit pages [] more = ⊤
+IsFullWay limit pages (step ∷ path) more = (n : Node) × (pages step.0 ≡ Some (node_page n)) × (limit < length n.entries + more)
+
 -- the entries climbed
 abbrev pub Climbs : {V O : Type 0} → Tree V O → Tree V O → List NodeEntry → PageMap → PageMap → Type 0
-Climbs t u added old new = ClimbsWith t.head.node_limit old new t.height u.height t.head.root u.head.root t.path added × ComesAnew t.head old new
+Climbs t u added old new = ClimbsWith t.head.node_limit old new t.height u.height t.head.root u.head.root t.path added × ComesAnew t.head old new × WritesKnown t.head.node_limit added old new × FillsIds t.head u.head new
 
 -- a node is written as two; where it stood, the second alone comes
-abbrev pub Divides : {V O : Type 0} → Tree V O → ℕ → Node → List NodeEntry → PageMap → PageMap → Type 0
-Divides t id node above old new = Divided id node above old new × ((old id ≡ None → ⊥) → ComesAnew t.head old new)
+abbrev pub Divides : {V O : Type 0} → Tree V O → Tree V O → ℕ → Node → List NodeEntry → PageMap → PageMap → Type 0
+Divides t u id node above old new = Divided id node above old new × ((old id ≡ None → ⊥) → ComesAnew t.head old new) × FillsIds t.head u.head new
 
 module _ {S V O : Type 0} (s : Ghosts S) (R : Stores V S) where
   -- the noted way may be climbed
@@ -94,18 +103,22 @@ module _ {S V O : Type 0} (s : Ghosts S) (R : Stores V S) where
   HasWay t space = IsReady s (ShowsWay s R) t space
 
   abbrev pub TurnsDivided : ℕ → Node → List NodeEntry → Tree V O → Tree V O → S → S → Type 0
-  TurnsDivided id node above t u old new = Turns s (Only (file_in R t)) (Shows s R) (Shows s R) (Divides t id node above) t u old new
+  TurnsDivided id node above t u old new = Turns s (Only (file_in R t)) (Shows s R) (Shows s R) (Divides t u id node above) t u old new
 
   abbrev pub TurnsClimbed : List NodeEntry → Tree V O → Tree V O → S → S → Type 0
   TurnsClimbed added t u old new = Turns s (Only (file_in R t)) (ShowsWay s R) (Shows s R) (Climbs t u added) t u old new
 
   -- ids are used up, or the store has no room for a node of so many of these entries at most
   abbrev pub LacksNodeOf : ℕ → List NodeEntry → Tree V O → Tree V O → S → S → Type 0
-  LacksNodeOf most entries t u old new = IsUsedUp u.head ⊎ LacksPage s R (IsNodeOf most entries) t.store old new
+  LacksNodeOf most entries t u old new = NodesUsedUp u.head ⊎ LacksPage s R (IsNodeOf most entries) t.store old new
+
+  -- the lowest node of the noted way has no room for these entries, or there is none
+  abbrev pub FillsWay : List NodeEntry → Tree V O → S → Type 0
+  FillsWay added t old = (pages : PageMap) → ShowsWay s R t old pages → IsFullWay t.head.node_limit pages t.path (length added)
 
   -- or for a node of these and of those that stood along the way
   abbrev pub IsWayNode : List NodeEntry → Tree V O → S → Page → Type 0
   IsWayNode added t old p = (pages : PageMap) → ShowsWay s R t old pages → IsKnownNode t.head.node_limit added pages p
 
   abbrev pub LacksWayNode : List NodeEntry → Tree V O → Tree V O → S → S → Type 0
-  LacksWayNode added t u old new = IsUsedUp u.head ⊎ LacksPage s R (IsWayNode added t old) t.store old new
+  LacksWayNode added t u old new = (NodesUsedUp u.head × FillsWay added t old) ⊎ LacksPage s R (IsWayNode added t old) t.store old new

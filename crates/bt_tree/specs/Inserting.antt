@@ -18,10 +18,10 @@ use Rattle.bt_ways.specs.Changes.{AreItems, IsChanged, ItemsWithin, inserted, it
 use Rattle.bt_ways.specs.Ways.{Found}
 use Rattle.bt_tree.specs.declared.inserting.Changed.{Changed}
 use Rattle.bt_tree.specs.declared.tree.Tree.{Tree}
-use Rattle.bt_tree.specs.Climbing.{IsAmong, StoodIn}
+use Rattle.bt_tree.specs.Climbing.{IsAmong, IsFullWay, StoodIn}
 use Rattle.bt_tree.specs.Meaning.{Changes, Means}
 use Rattle.bt_tree.specs.Parting.{IsStretch}
-use Rattle.bt_tree.specs.Paging.{AtRefusal, ComesAnew, IsUsedUp, LacksPage, Shows}
+use Rattle.bt_tree.specs.Paging.{ComesAnew, FillsIds, LacksPage, LeavesUsedUp, NodesUsedUp, Shows}
 use Rattle.bt_tree.specs.Trees.{IsTree}
 
 -- in the leaf where a key belongs a pair came in; the leaf isn't written yet
@@ -59,6 +59,10 @@ pub record IsCrowded (cmp : List ℕ → List ℕ → Ordering) (last : Bool) (k
   pub pairs : items_pairs items ≡ inserted cmp last key value (items_pairs found.leaf.leaf.items)
   pub over : ItemsWithin h.leaf_limit items → ⊥
 
+-- and the lowest node of that way has no room for two entries more, or there is none
+abbrev pub HasFullWay : (cmp : List ℕ → List ℕ → Ordering) → Bool → List ℕ → List ℕ → {h : TreeHead} {height : ℕ} {m : List ℕ → Option (List ℕ)} → IsTree (before_by cmp) h height m → Type 0
+HasFullWay cmp last key value {h} tree = (c : IsCrowded cmp last key value tree) × IsFullWay h.node_limit tree.pages c.path 2
+
 -- some of the items of these pairs, one behind the other
 pub record AreItemsOf (cmp : List ℕ → List ℕ → Ordering) (items : List Item) (ps : List Pair) : Type 0 where
   pub all : List Item
@@ -87,6 +91,11 @@ IsPutPage cmp h pages ps qs p = IsTreePage cmp h ps qs p × HasKnownKeys pages q
 abbrev pub AddsAnew : {S V O : Type 0} → Ghosts S → Stores V S → Orders O → Tree V O → Tree V O → S → S → Type 0
 AddsAnew s R o t u old new = (ps : List Pair) (h : Means s R o t old ps) → (pages : PageMap) × Shows s R u new pages × ComesAnew t.head h.1.is.tree.pages pages
 
+-- besides, each id that was given has a page, and each page that isn't as it was is one that a change of the pairs to these may write
+abbrev pub WritesPages : {S V O : Type 0} → Ghosts S → Stores V S → Orders O → (List Pair → List Pair) → Tree V O → Tree V O → S → S → Type 0
+WritesPages s R o f t u old new = (ps : List Pair) (h : Means s R o t old ps) → (pages : PageMap) × Shows s R u new pages × ComesAnew t.head h.1.is.tree.pages pages × FillsIds t.head u.head pages
+    × ((id : ℕ) (p : Page) → pages id ≡ Some p → (h.1.is.tree.pages id ≡ Some p) ⊎ IsPutPage o.cmp t.head h.1.is.tree.pages ps (f ps) p)
+
 module _ {S V O : Type 0} (s : Ghosts S) (R : Stores V S) (o : Orders O) (last : Bool) (key value : List ℕ) where
   -- in the leaf that was read of a tree a pair came in
   abbrev pub TakesInLeaf : Tree V O → S → List (ℕ × ℕ) → Changed → Type 0
@@ -107,6 +116,14 @@ module _ {S V O : Type 0} (s : Ghosts S) (R : Stores V S) (o : Orders O) (last :
   abbrev pub IsWritten : Tree V O → S → Page → Type 0
   IsWritten t old p = (ps : List Pair) (h : Means s R o t old ps) → IsPutPage o.cmp t.head h.1.is.tree.pages ps (inserted o.cmp last key value ps) p
 
+  -- nor has the lowest node of the way to it room for two entries more, or there is none
+  abbrev pub CrowdsWay : Tree V O → S → Type 0
+  CrowdsWay t old = (ps : List Pair) (h : Means s R o t old ps) → HasFullWay o.cmp last key value h.1.is.tree
+
+  -- ids of leaves are used up, or ids of nodes where one more comes
+  abbrev pub UsesUp : Tree V O → Tree V O → S → Type 0
+  UsesUp t u old = LeavesUsedUp u.head ⊎ (NodesUsedUp u.head × CrowdsWay t old)
+
   -- the leaf is parted and ids are used up, or the store has no room for a page of the tree before or after
   abbrev pub IsFull : Tree V O → Tree V O → S → S → Type 0
-  IsFull t u old new = (IsUsedUp u.head × PartsLeaf t u old) ⊎ AtRefusal s (LacksPage s R (IsWritten t old) t.store old) new
+  IsFull t u old new = (UsesUp t u old × PartsLeaf t u old) ⊎ LacksPage s R (IsWritten t old) t.store old new

@@ -1,3 +1,4 @@
+pub mod Clearing
 pub mod Climbing
 pub mod Costs
 pub mod Finding

@@ -16,6 +16,7 @@ use Rattle.bt_cache.specs.Held.{Holds}
 use Rattle.bt_check.specs.Looks.{Looks}
 use Rattle.bt_tree.specs.declared.tree.Tree.{Tree}
 use Rattle.bt_tree.specs.Meaning.{Means}
+use Rattle.bt_tree.specs.Numbers.{lone_head}
 
 -- what a new tree may have
 pub record MayBe (leaf_limit node_limit code : ℕ) : Type 0 where
@@ -42,16 +43,14 @@ pub record LacksFirst {S V : Type 0} (s : Ghosts S) (R : Stores V S) (v : V) (ol
   pub looks : Looks s R v store old moment
   pub by : LacksKey s R 1 (leaf_bytes lone_leaf) store moment new
 
--- it holds no pairs, has these numbers, is in a store's file, and tells the record `column` that the store had
+-- it holds no pairs, in one leaf of id 1 under the numbers of such a tree, is in a store's file, and tells the record `column` that the store had
 pub record IsNew {S V O : Type 0} (s : Ghosts S) (R : Stores V S) (o : Orders O) (v : V) (leaf_limit node_limit : ℕ) (t : Tree V O) (old new : S) : Type 0 where
   pub sound : s.sound new
   pub means : s.tells → Means s R o t new []
   pub column_is : (m : Map) → Holds s R v old m → t.column ≡ get m column_key
   pub others : Others s (Only (R.file_of v)) old new
   pub made : SameStore R v t.store
-  pub leaf_is : t.head.leaf_limit ≡ leaf_limit
-  pub node_is : t.head.node_limit ≡ node_limit
-  pub order_is : t.head.order ≡ o.CODE
+  pub head : t.head ≡ lone_head o.CODE leaf_limit node_limit
   pub height : t.height ≡ 1
 
 -- the space may not be used any more, or nothing is written

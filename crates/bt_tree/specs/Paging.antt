@@ -1,8 +1,9 @@
 -- What a tree shows as pages, with none of the rules of rows, and what calls on single pages leave.
-use Rattle.std.specs.Prelude.{◌≡◌, ◌⊎◌, ℕ, ◌+◌, ◌<◌, ◌≤◌, List, Some, None, Result, false}
+use Rattle.std.specs.Prelude.{◌≡◌, ◌⊎◌, ℕ, ◌+◌, ◌<◌, ◌≤◌, List, Some, None, Result}
 use Rattle.std.specs.FinMap.{get}
 use Rattle.tc_base.specs.Maps.{Map}
-use Rattle.tc_space.specs.Frames.{In, Keeps, Others, Writes}
+use Rattle.std.proofs.Common.{inl, inr, ⊎_elim}
+use Rattle.tc_space.specs.Frames.{GivenUp, In, Keeps, Others, Writes, keeps_then}
 use Rattle.tc_space.specs.Stores.{IsReady, Only}
 use Rattle.tc_space.specs.declared.records.Records.{Ghosts as Stores}
 use Rattle.tc_space.specs.declared.space.Space.{Ghosts}
@@ -13,7 +14,7 @@ use Rattle.bt_page.specs.declared.page.Node.{Node}
 use Rattle.bt_rows.specs.declared.head.TreeHead.{TreeHead}
 use Rattle.bt_rows.specs.declared.page.Page.{Page}
 use Rattle.bt_rows.specs.declared.page.Page.TheVariants.{Leaf as leaf_page, Node as node_page}
-use Rattle.bt_rows.specs.Pages.{PageMap, AreHeld, IsGiven}
+use Rattle.bt_rows.specs.Pages.{PageMap, AreHeld, IsGiven, IsPage}
 use Rattle.bt_rows.specs.Rules.{B1}
 use Rattle.bt_cache.specs.Effects.{LacksKey, Looks, RefusesBeside, SameStore}
 use Rattle.bt_cache.specs.Held.{AreSame, Holds}
@@ -45,9 +46,24 @@ IsNodeId h id = (node_offset < id) × (id ≤ node_offset + h.node_ids)
 abbrev pub ComesAnew : TreeHead → PageMap → PageMap → Type 0
 ComesAnew h old new = (id : ℕ) → IsGiven h id → old id ≡ None → new id ≡ None
 
--- ids of leaves or of nodes are used up
-abbrev pub IsUsedUp : TreeHead → Type 0
-IsUsedUp h = (node_offset ≤ h.leaf_ids + 1) ⊎ (node_offset ≤ h.node_ids + 1)
+-- each id that was given since has a page
+abbrev pub FillsIds : TreeHead → TreeHead → PageMap → Type 0
+FillsIds h k pages = (id : ℕ) → IsGiven k id → (IsGiven h id → ⊥) → pages id ≡ None → ⊥
+
+-- no page goes
+abbrev pub ComesFrom : PageMap → PageMap → Type 0
+ComesFrom old new = (id : ℕ) → new id ≡ None → old id ≡ None
+
+-- no page comes
+abbrev pub ComesNone : PageMap → PageMap → Type 0
+ComesNone old new = (id : ℕ) → old id ≡ None → new id ≡ None
+
+-- ids of leaves are used up, and ids of nodes
+abbrev pub LeavesUsedUp : TreeHead → Type 0
+LeavesUsedUp h = node_offset ≤ h.leaf_ids + 1
+
+abbrev pub NodesUsedUp : TreeHead → Type 0
+NodesUsedUp h = node_offset ≤ h.node_ids + 1
 
 -- the tree's numbers and way stay, and its store's file, type and region; what is kept stays
 pub record StaysStill {S V O : Type 0} (s : Ghosts S) (R : Stores V S) (t u : Tree V O) (old new : S) : Type 0 where
@@ -103,7 +119,7 @@ abbrev pub page_bytes : Page → List ℕ
 page_bytes (leaf_page l) = leaf_bytes l
 page_bytes (node_page n) = node_bytes n
 
--- the store, as it was at some moment since, had no room for a record that is such a page, as the space stands
+-- the store, as it was at some moment since, had no room for a record that is such a page, of the sort of its id, as the space stands
 pub record LacksPage {S V : Type 0} (s : Ghosts S) (R : Stores V S) (Fine : Page → Type 0) (v : V) (old new : S) : Type 0 where
   pub store : V
   pub moment : S
@@ -114,16 +130,25 @@ pub record LacksPage {S V : Type 0} (s : Ghosts S) (R : Stores V S) (Fine : Page
   pub until : Keeps s moment new
   pub held : s.tells → (m : Map) × Holds s R store moment m
   pub fine : Fine page
+  pub spelled : IsPage id (page_bytes page) page
   pub by : LacksKey s R id (page_bytes page) store moment new
 
--- a space that was given up: it may not be used any more, and its files stay
-pub record GivenUp {S : Type 0} (s : Ghosts S) (old new : S) : Type 0 where
-  pub flag : s.flag new ≡ false
-  pub keeps : Keeps s old new
-  pub files : s.tells → (g : ℕ) → s.now new g ≡ s.now old g
-
--- so it is as the space stands, or as it stood before it was given up
-pub record AtRefusal {S : Type 0} (s : Ghosts S) (Why : S → Type 0) (new : S) : Type 0 where
-  pub refused : S
-  pub why : Why refused
-  pub left : (new ≡ refused) ⊎ GivenUp s refused new
+-- so it is in a space that was given up since
+module _ {S V : Type 0} (s : Ghosts S) (R : Stores V S) (still : (v : V) (a b c : S) (key value : List ℕ) → GivenUp s b c → R.lacks v a b key value → R.lacks v a c key value) where
+  pub lacks_given : (Fine : Page → Type 0) (v : V) (old mid new : S) → GivenUp s mid new → LacksPage s R Fine v old mid → LacksPage s R Fine v old new
+  lacks_given Fine v old mid new given l = record {
+    store = l.store;
+    moment = l.moment;
+    id = l.id;
+    page = l.page;
+    made = l.made;
+    since = l.since;
+    until = keeps_then s l.moment mid new l.until given.keeps;
+    held = l.held;
+    fine = l.fine;
+    spelled = l.spelled;
+    by = record {
+      free = l.by.free;
+      by = λ m h. ⊎_elim (λ log. inl (given.log log)) (λ lacks. inr (still l.store l.moment mid new _ _ given lacks)) (l.by.by m h);
+    };
+  }

@@ -24,9 +24,9 @@ use Rattle.bt_ways.specs.Writes.{put_at}
 use Rattle.bt_tree.specs.declared.tree.Tree.{Tree}
 use Rattle.bt_tree.specs.declared.parting.Laid.{Laid}
 use Rattle.bt_tree.specs.declared.parting.Parted.{Parted}
-use Rattle.bt_tree.specs.Climbing.{CanClimb, IsAmong, StoodIn}
+use Rattle.bt_tree.specs.Climbing.{CanClimb, IsAmong, IsFullWay, StoodIn}
 use Rattle.bt_tree.specs.Meaning.{file_in}
-use Rattle.bt_tree.specs.Paging.{ComesAnew, IsUsedUp, LacksPage, Shows, Turns}
+use Rattle.bt_tree.specs.Paging.{ComesAnew, FillsIds, LacksPage, LeavesUsedUp, NodesUsedUp, Shows, Turns}
 
 -- with these leaves at their ids, the last one last
 abbrev pub put_laid : List Laid → PageMap → PageMap
@@ -94,23 +94,6 @@ pub record AtLeaf (limit root : ℕ) (path : List (ℕ × ℕ)) (id next : ℕ) 
 abbrev pub ShowsLeaf : {S V O : Type 0} → Ghosts S → Stores V S → ℕ → ℕ → Tree V O → S → PageMap → Type 0
 ShowsLeaf s R id next t space pages = Shows s R t space pages × AtLeaf t.head.node_limit t.head.root t.path id next pages
 
--- the leaf became several within the limits, whose entries have climbed
-pub record IsParted {V O : Type 0} (t u : Tree V O) (id : ℕ) (leaf : Leaf) (old new : PageMap) : Type 0 where
-  pub items : List Item
-  pub parts : List Part
-  pub whole : leaf.items ≡ all_items items parts
-  pub some : 0 < length items
-  pub have : AllByRecursion HasItems parts
-  pub within : ItemsWithin t.head.leaf_limit items
-  pub are_within : AllByRecursion (λ p. ItemsWithin t.head.leaf_limit p.items) parts
-  pub fresh : AreFresh old parts
-  pub anew : ComesAnew t.head old new
-  pub given : AllByRecursion (λ p. 1 ≤ p.id) parts
-  pub last : u.head.last ≡ (if leaf.next == 0 then last_part id parts else t.head.last)
-  pub climbs : (s : Slot) (back : List LeafAt) → s.id ≡ id → LeavesHeld old back → leaf.next ≡ first_id back → (leaf.next ≡ 0 → back ≡ [])
-      → ClimbsWith t.head.node_limit (with_parts old (parted s leaf.prev leaf.next items parts) (relinked (last_id 0 (parted s leaf.prev leaf.next items parts)) back)) new
-      t.height u.height t.head.root u.head.root t.path (map part_entry parts)
-
 -- some of these, one behind the other
 abbrev pub IsStretch : {X : Type 0} → List X → List X → Type 0
 IsStretch {X} xs ys = (a : List X) × (b : List X) × (ys ≡ a ++ (xs ++ b))
@@ -122,6 +105,25 @@ item_key x = x.key
 abbrev pub IsPiece : TreeHead → List Item → ℕ → PageMap → Page → Type 0
 IsPiece h items next pages (leaf_page l) = (ItemsWithin h.leaf_limit l.items × IsStretch l.items items) ⊎ ((k : Leaf) × (pages next ≡ Some (leaf_page k)) × (l.items ≡ k.items))
 IsPiece h items next pages (node_page n) = NodeWithin h.node_limit n × AllByRecursion (λ e. IsAmong item_key e.key items ⊎ StoodIn pages e.key) n.entries
+
+-- the leaf became several within the limits, whose entries have climbed
+pub record IsParted {V O : Type 0} (t u : Tree V O) (id : ℕ) (leaf : Leaf) (old new : PageMap) : Type 0 where
+  pub items : List Item
+  pub parts : List Part
+  pub whole : leaf.items ≡ all_items items parts
+  pub some : 0 < length items
+  pub have : AllByRecursion HasItems parts
+  pub within : ItemsWithin t.head.leaf_limit items
+  pub are_within : AllByRecursion (λ p. ItemsWithin t.head.leaf_limit p.items) parts
+  pub fresh : AreFresh old parts
+  pub anew : ComesAnew t.head old new
+  pub filled : FillsIds t.head u.head new
+  pub written : (j : ℕ) (p : Page) → new j ≡ Some p → (old j ≡ Some p) ⊎ IsPiece t.head leaf.items leaf.next old p
+  pub given : AllByRecursion (λ p. 1 ≤ p.id) parts
+  pub last : u.head.last ≡ (if leaf.next == 0 then last_part id parts else t.head.last)
+  pub climbs : (s : Slot) (back : List LeafAt) → s.id ≡ id → LeavesHeld old back → leaf.next ≡ first_id back → (leaf.next ≡ 0 → back ≡ [])
+      → ClimbsWith t.head.node_limit (with_parts old (parted s leaf.prev leaf.next items parts) (relinked (last_id 0 (parted s leaf.prev leaf.next items parts)) back)) new
+      t.height u.height t.head.root u.head.root t.path (map part_entry parts)
 
 -- whatever it answers: so many ids of nodes are given at most, two of leaves and one row, under another root and another last leaf; all else that is told of the tree stays
 pub record Widens {S V O : Type 0} (s : Ghosts S) (R : Stores V S) (nodes : ℕ) (t u : Tree V O) (old new : S) : Type 0 where
@@ -148,9 +150,17 @@ module _ {S V O : Type 0} (s : Ghosts S) (R : Stores V S) where
   abbrev pub TurnsParted : ℕ → Leaf → Tree V O → Tree V O → S → S → Type 0
   TurnsParted id leaf t u old new = Turns s (Only (file_in R t)) (ShowsLeaf s R id leaf.next) (Shows s R) (IsParted t u id leaf) t u old new
 
-  -- ids are used up, or the store has no room for a page of the leaf's items, of the leaf behind, or of a node along the way
+  -- the lowest node of the noted way has no room for two entries more, or there is none
+  abbrev pub FillsLeafWay : ℕ → Leaf → Tree V O → S → Type 0
+  FillsLeafWay id leaf t old = (pages : PageMap) → ShowsLeaf s R id leaf.next t old pages → IsFullWay t.head.node_limit pages t.path 2
+
+  -- ids of leaves are used up, or ids of nodes where one more comes
+  abbrev pub LacksId : ℕ → Leaf → Tree V O → Tree V O → S → Type 0
+  LacksId id leaf t u old = LeavesUsedUp u.head ⊎ (NodesUsedUp u.head × FillsLeafWay id leaf t old)
+
+  -- or the store has no room for a page of the leaf's items, of the leaf behind, or of a node along the way
   abbrev pub IsLeafPiece : ℕ → Leaf → Tree V O → S → Page → Type 0
   IsLeafPiece id leaf t old p = (pages : PageMap) → ShowsLeaf s R id leaf.next t old pages → IsPiece t.head leaf.items leaf.next pages p
 
   abbrev pub LacksPiece : ℕ → Leaf → Tree V O → Tree V O → S → S → Type 0
-  LacksPiece id leaf t u old new = IsUsedUp u.head ⊎ LacksPage s R (IsLeafPiece id leaf t old) t.store old new
+  LacksPiece id leaf t u old new = LacksId id leaf t u old ⊎ LacksPage s R (IsLeafPiece id leaf t old) t.store old new

@@ -1,11 +1,12 @@
 -- Pairs, leaves and nodes that go from a tree.
-use Rattle.std.specs.Prelude.{◌≡◌, ◌⊎◌, ℕ, suc, ◌-◌, ◌≤◌, ◌<◌, List, [], ◌∷◌, ◌++◌, Bool, Option, Some, None, is_some, length, MatchOption, ◌==◌, if◌then◌else◌}
+use Rattle.std.specs.Prelude.{◌≡◌, ◌⊎◌, ⊤, ℕ, suc, ◌-◌, ◌≤◌, ◌<◌, List, [], ◌∷◌, ◌++◌, Bool, Option, Some, None, is_some, length, MatchOption, ◌==◌, if◌then◌else◌}
 use Rattle.std.specs.List.{AllByRecursion}
 use Rattle.std.specs.declared.cmp.Ordering.{Ordering}
 use Rattle.tc_base.specs.declared.order.Order.{Ghosts as Orders}
 use Rattle.tc_base.specs.declared.seq.Pair.{Pair}
 use Rattle.tc_space.specs.Changes.{has_pair}
-use Rattle.tc_space.specs.Frames.{Keeps}
+use Rattle.std.proofs.Common.{inl, inr, ⊎_elim}
+use Rattle.tc_space.specs.Frames.{GivenUp, Keeps}
 use Rattle.tc_space.specs.Stores.{IsReady, Only, TakesOut}
 use Rattle.tc_space.specs.declared.records.Records.{Ghosts as Stores}
 use Rattle.tc_space.specs.declared.space.Space.{Ghosts}
@@ -23,7 +24,7 @@ use Rattle.bt_rows.specs.Rules.{B5, B7, pairs_of}
 use Rattle.bt_cache.specs.Effects.{SameStore}
 use Rattle.bt_ways.specs.Changes.{IsTaken, removed}
 use Rattle.bt_ways.specs.Items.{IsLeafFor}
-use Rattle.bt_ways.specs.Removals.{CutsFrom, with_items, with_next, with_prev}
+use Rattle.bt_ways.specs.Removals.{CutsFrom, with_items, with_next, with_prev, without_place}
 use Rattle.bt_ways.specs.Ways.{Found}
 use Rattle.bt_ways.specs.Writes.{drop_at}
 use Rattle.bt_tree.specs.declared.removing.Lessened.{Lessened}
@@ -31,7 +32,7 @@ use Rattle.bt_tree.specs.declared.tree.Tree.{Tree}
 use Rattle.bt_tree.specs.Climbing.{ShowsWay, StoodIn}
 use Rattle.bt_tree.specs.Inserting.{IsPutPage}
 use Rattle.bt_tree.specs.Meaning.{Means, file_in}
-use Rattle.bt_tree.specs.Paging.{AtRefusal, LacksPage, Shows, Turns}
+use Rattle.bt_tree.specs.Paging.{ComesNone, LacksPage, Shows, Turns, lacks_given}
 use Rattle.bt_tree.specs.Trees.{IsTree}
 
 -- ---- what stays, whatever a call answers
@@ -56,6 +57,10 @@ pub record Narrows {S V O : Type 0} (s : Ghosts S) (R : Stores V S) (t u : Tree 
 abbrev pub LacksRoom : {S V : Type 0} → Ghosts S → Stores V S → (Page → Type 0) → V → S → S → Type 0
 LacksRoom s R Fine v old new = LacksPage s R Fine v old new ⊎ (s.tells → s.log_full new)
 
+-- so it is in a space that was given up since
+pub room_given : {S V : Type 0} (s : Ghosts S) (R : Stores V S) (still : (v : V) (a b c : S) (key value : List ℕ) → GivenUp s b c → R.lacks v a b key value → R.lacks v a c key value) (Fine : Page → Type 0) (v : V) (old mid new : S) → GivenUp s mid new → LacksRoom s R Fine v old mid → LacksRoom s R Fine v old new
+room_given s R still Fine v old mid new given room = ⊎_elim (λ l. inl (lacks_given s R still Fine v old mid new given l)) (λ log. inr (λ t. given.log (log t))) room
+
 -- ---- a leaf that goes
 
 -- the items of a leaf that is held
@@ -65,10 +70,26 @@ pub record SharesItems (pages : PageMap) (l : Leaf) : Type 0 where
   pub there : pages id ≡ Some (leaf_page was)
   pub same : l.items ≡ was.items
 
--- a page that is written where a leaf goes: a leaf with no items or with those of another, or a node within the limit whose keys stood in a node
+-- a node that stood, without one of its places
+pub record IsLess (pages : PageMap) (n : Node) : Type 0 where
+  pub id : ℕ
+  pub place : ℕ
+  pub was : Node
+  pub there : pages id ≡ Some (node_page was)
+  pub is : n ≡ without_place place was
+
+abbrev pub IsLessPage : PageMap → Page → Type 0
+IsLessPage pages (leaf_page l) = ⊤
+IsLessPage pages (node_page n) = IsLess pages n
+
+-- a page that is written where a leaf goes: a leaf with no items or with those of another, or a node within the limit that stood, without one of its places
 abbrev pub IsRemnant : TreeHead → PageMap → Page → Type 0
 IsRemnant h pages (leaf_page l) = (l.items ≡ []) ⊎ SharesItems pages l
-IsRemnant h pages (node_page n) = NodeWithin h.node_limit n × AllByRecursion (λ e. StoodIn pages e.key) n.entries
+IsRemnant h pages (node_page n) = NodeWithin h.node_limit n × AllByRecursion (λ e. StoodIn pages e.key) n.entries × IsLess pages n
+
+-- each page is an old one, or such a page
+abbrev pub WritesRemnants : TreeHead → PageMap → PageMap → Type 0
+WritesRemnants h old new = (id : ℕ) (p : Page) → new id ≡ Some p → (old id ≡ Some p) ⊎ IsRemnant h old p
 
 -- where an id is named, a leaf has it
 abbrev pub IsLeafOrNone : PageMap → ℕ → Type 0
@@ -89,7 +110,7 @@ without_linked id prev next pages = drop_at id (with_prev next prev (with_next p
 
 -- the place that the noted way leads to has gone from the rows above
 abbrev pub Cuts : {V O : Type 0} → Tree V O → PageMap → PageMap → Type 0
-Cuts t old new = CutsFrom t.head.node_limit old new t.head.root t.path
+Cuts t old new = CutsFrom t.head.node_limit old new t.head.root t.path × WritesRemnants t.head old new
 
 -- ---- a root that gives way
 
@@ -161,9 +182,9 @@ pub record Vacated (before : Before) (h : TreeHead) (height : ℕ) (front : List
   pub links : B7 h after
   pub pairs : pairs_of after ≡ pairs_of (front ++ with_items leaf [] ∷ back)
 
--- the leaf went, or is the root, with no items
+-- the leaf went, or is the root, with no items, no page came, and each is an old one or what is left where a leaf goes
 abbrev pub Vacates : {V O : Type 0} → Before → ℕ → ℕ → ℕ → Tree V O → Tree V O → PageMap → PageMap → Type 0
-Vacates before id prev next t u old new = (l : AtLast before t.head t.height t.path id prev next old) → Vacated before u.head u.height l.found.front l.found.leaf l.found.back new
+Vacates before id prev next t u old new = ((l : AtLast before t.head t.height t.path id prev next old) → Vacated before u.head u.height l.found.front l.found.leaf l.found.back new) × ComesNone old new × WritesRemnants t.head old new
 
 -- ---- pairs that go
 
@@ -264,10 +285,10 @@ module _ {S V O : Type 0} (s : Ghosts S) (R : Stores V S) (o : Orders O) where
     abbrev pub Removes : Bool → Tree V O → Tree V O → S → S → Type 0
     Removes taken t u old new = TakesOut s (Only (file_in R t)) (Means s R o) (has_pair key) (removed o.cmp all key) taken t u old new
 
-    -- a page of the tree before or after
+    -- a page of the tree before or after; a node stood, and is without one of its places
     abbrev pub IsLeftPage : Tree V O → S → Page → Type 0
-    IsLeftPage t old p = (ps : List Pair) (h : Means s R o t old ps) → IsPutPage o.cmp t.head h.1.is.tree.pages ps (removed o.cmp all key ps) p
+    IsLeftPage t old p = (ps : List Pair) (h : Means s R o t old ps) → IsPutPage o.cmp t.head h.1.is.tree.pages ps (removed o.cmp all key ps) p × IsLessPage h.1.is.tree.pages p
 
     -- the store has no room for a page of the tree before or after, or the undo log is full
     abbrev pub IsRefusedRoom : Tree V O → S → S → Type 0
-    IsRefusedRoom t old new = AtRefusal s (LacksRoom s R (IsLeftPage t old) t.store old) new
+    IsRefusedRoom t old new = LacksRoom s R (IsLeftPage t old) t.store old new

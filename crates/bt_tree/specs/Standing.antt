@@ -10,15 +10,17 @@ use Rattle.bt_rows.specs.Heads.{head_of}
 use Rattle.bt_rows.specs.Orders.{before_by}
 use Rattle.bt_rows.specs.Rules.{column as column_key}
 use Rattle.bt_rows.specs.Standing.{TreeStands, tree_pairs}
+use Rattle.bt_check.specs.Walks.{IsHigh}
 
--- its bytes are a store's file of this type, whose region tells these numbers, this order's byte among them, and whose records keep all rules of a tree under them,
--- beside the record `column`, if there is one, with these bytes
-pub record FileStands {S V O : Type 0} (R : Stores V S) (o : Orders O) (sort : ℕ) (h : TreeHead) (column : Option (List ℕ)) (bytes : List ℕ) (ps : List Pair) : Type 0 where
+-- its bytes are a store's file of this type, whose head fixes these numbers and whose region tells those of the tree, this order's byte among them, and whose records keep all rules of a tree under them,
+-- in so many rows, beside the record `column`, if there is one, with these bytes
+pub record FileStands {S V O : Type 0} (R : Stores V S) (o : Orders O) (sort : ℕ) (fixed : List ℕ) (h : TreeHead) (height : ℕ) (column : Option (List ℕ)) (bytes : List ℕ) (ps : List Pair) : Type 0 where
   pub records : Map
   pub region : List ℕ
   pub numbers : head_of region ≡ h
   pub order : h.order ≡ o.CODE
-  pub file : R.stands sort bytes records region
+  pub file : R.stands sort fixed bytes records region
   pub tree : TreeStands (before_by o.cmp) h (is_some column) (get records)
+  pub high : IsHigh tree.stand.pages h.root height
   pub has : get records column_key ≡ column
   pub are : ps ≡ tree_pairs tree

@@ -2,6 +2,7 @@
 #![tactic(auto, using(tc_space::specs::Frames::keeps_refl, tc_space::specs::Frames::only_reads_refl))]
 
 mod changing;
+mod clearing;
 mod climbing;
 mod column;
 mod cutting;

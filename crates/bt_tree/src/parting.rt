@@ -7,7 +7,7 @@ ghost use Rattle.bt_cache.specs.Effects.{OnFull};
 ghost use Rattle.bt_ways.specs.Changes.{IsOver};
 ghost use Rattle.bt_ways.specs.Parts.{first_key};
 ghost use Rattle.bt_tree.specs.Numbers.{with_last, with_leaf_ids};
-ghost use Rattle.bt_tree.specs.Paging.{HasLeafAt, IsLeafId, IsShown, IsUsedUp, LacksPage, Peeks, Rewrites, StaysStill};
+ghost use Rattle.bt_tree.specs.Paging.{HasLeafAt, IsLeafId, IsShown, LacksPage, LeavesUsedUp, Peeks, Rewrites, StaysStill};
 ghost use Rattle.bt_tree.specs.Parting.{AddsAll, AreHalves, AreThirds, HasLeaf, IsLaid, IsThird, LacksPiece, TurnsParted, Widens, put_laid, third_ids};
 
 use crate::cutting::cut_places;
@@ -111,7 +111,7 @@ impl<R: Records, O: Order> Tree<R, O> {
         ensures noted { self.new ≡ with_leaf_ids self.new.head.leaf_ids self.old }
         ensures least { self.old.head.leaf_ids ≤ self.new.head.leaf_ids }
         ensures most { self.new.head.leaf_ids ≤ self.old.head.leaf_ids + 2 }
-        ensures full { OnFull result (IsUsedUp self.new.head) }
+        ensures full { OnFull result (LeavesUsedUp self.new.head) }
         ensures cause { IsErrOf result RecErr.Fault → ⊥ }
     {
         let second_id = self.leaf_id()?;

@@ -6,7 +6,8 @@ ghost use Rattle.tc_space.specs.Refusals.{Blames, OnFault};
 ghost use Rattle.bt_rows.specs.Orders.{before_by};
 ghost use Rattle.bt_cache.specs.Effects.{OnFull};
 ghost use Rattle.bt_tree.specs.Finding.{AnswersAt};
-ghost use Rattle.bt_tree.specs.Inserting.{StaysMade};
+ghost use Rattle.bt_ways.specs.Changes.{removed};
+ghost use Rattle.bt_tree.specs.Inserting.{StaysMade, WritesPages};
 ghost use Rattle.bt_tree.specs.Meaning.{AnswersPairs, IsOpen, RefusesPairs};
 ghost use Rattle.bt_tree.specs.Paging.{HasLeafAt, IsShown, Peeks};
 ghost use Rattle.bt_tree.specs.Removing.{AddsNone, GivesInLeaf, HitsIn, IsRefusedRoom, LowersRoot, Removes, TellsHeld};
@@ -116,6 +117,7 @@ impl<R: Records, O: Order> Tree<R, O> {
         requires { IsOpen R.S.Space R.Records O.Order self.old space.old }
         ensures out { IfOk result (λ taken. Removes R.S.Space R.Records O.Order all key.now taken self.old self.new space.old space.new) }
         ensures ids { AddsNone self.old self.new }
+        ensures pages { OnOk result (WritesPages R.S.Space R.Records O.Order (removed O.cmp all key.now) self.old self.new space.old space.new) }
         ensures root { OnOk result (LowersRoot R.S.Space R.Records O.Order self.old self.new space.old space.new) }
         ensures refused { RefusesPairs R.S.Space R.Records O.Order result self.old self.new space.old space.new }
         ensures full { OnFull result (IsRefusedRoom R.S.Space R.Records O.Order all key.now self.old space.old space.new) }

@@ -8,8 +8,9 @@ ghost use Rattle.tc_space.specs.Refusals.{OnFault, OnlyLogIsFull};
 ghost use Rattle.tc_space.specs.Stores.{FullPack, KeepsTight};
 ghost use Rattle.bt_rows.specs.Heads.{head_of};
 ghost use Rattle.bt_cache.specs.Effects.{OnFull};
+ghost use Rattle.bt_tree.specs.Inserting.{AddsAnew};
 ghost use Rattle.bt_tree.specs.Meaning.{Changes, IsOpen, RefusesPairs};
-ghost use Rattle.bt_tree.specs.Settling.{StaysSettled, BringsPacked, BringsPairs};
+ghost use Rattle.bt_tree.specs.Settling.{BringsPacked, BringsPairs, StaysFormed, StaysSettled};
 
 use crate::tree::Tree;
 use bt_rows::TreeHead;
@@ -57,6 +58,7 @@ impl<R: Records, O: Order> Tree<R, O> {
     pub fn settle(&mut self, space: &mut R::S) -> Result<(), RecErr>
         requires { IsOpen R.S.Space R.Records O.Order self.old space.old }
         ensures settled { OnOk result (Changes R.S.Space R.Records O.Order same self.old self.new space.old space.new) }
+        ensures anew { OnOk result (AddsAnew R.S.Space R.Records O.Order self.old self.new space.old space.new) }
         ensures stands { OnOk result (BringsPairs R.S.Space R.Records O.Order self.old space.old space.new) }
         ensures packs { OnOk result (BringsPacked R.S.Space R.Records O.Order self.old space.old space.new) }
         ensures refused { RefusesPairs R.S.Space R.Records O.Order result self.old self.new space.old space.new }
@@ -76,11 +78,12 @@ impl<R: Records, O: Order> Tree<R, O> {
     pub fn pack(&mut self, space: &mut R::S, form: Form) -> Result<(), RecErr>
         requires { IsOpen R.S.Space R.Records O.Order self.old space.old }
         ensures packed { OnOk result (Changes R.S.Space R.Records O.Order same self.old self.new space.old space.new) }
+        ensures anew { OnOk result (AddsAnew R.S.Space R.Records O.Order self.old self.new space.old space.new) }
         ensures tight { OnOk result (R.tight self.new.store form) }
         ensures refused { RefusesPairs R.S.Space R.Records O.Order result self.old self.new space.old space.new }
         ensures full { OnFull result (FullPack R.S.Space R.lacks_large form self.old.store space.old space.new) }
         ensures keeps { Keeps R.S.Space space.old space.new }
-        ensures stays { StaysSettled R.Records self.old self.new }
+        ensures stays { StaysFormed R.S.Space R.Records form result self.old self.new space.new }
         ensures cause { OnFault R.S.Space result space.old space.new }
     {
         self.store.pack(space, form)

@@ -88,7 +88,7 @@ module _ {S V O : Type 0} (s : Ghosts S) (R : Stores V S) (o : Orders O) where
   pub looked_stays : (b c : Btree V O) (old new : S) → Looked s R o b c old new → StaysList (file_list R) (made_of R) b c
   looked_stays b c old new looked = record {
     file = looked.looks.made.file;
-    made_same = λ i. record { sort = looked.looks.made.sort i; code = (looked.stays.head i).order; leaf = (looked.stays.head i).leaf_limit; node = (looked.stays.head i).node_limit; column = looked.stays.column i };
+    made_same = λ i. record { sort = looked.looks.made.sort i; numbers = looked.looks.made.numbers i; code = (looked.stays.head i).order; leaf = (looked.stays.head i).leaf_limit; node = (looked.stays.head i).node_limit; column = looked.stays.column i };
   }
 
   -- ---- what is told of it

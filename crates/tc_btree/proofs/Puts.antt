@@ -1,15 +1,17 @@
 -- What calls on a tree make of the list that it is.
-use Rattle.std.proofs.Common.{◌≡◌, ℕ, List, [], ◌∷◌, Bool, false, Option, None, Ok, Err, ap, subst, ◌∙◌, refl, ⊎_elim, inl, inr}
+use Rattle.std.proofs.Common.{◌≡◌, ◌⊎◌, ℕ, List, [], ◌∷◌, Bool, false, Option, None, Ok, Err, ap, subst, ◌∙◌, refl, ⊎_elim, inl, inr}
 use Rattle.std.specs.Prelude.{Result, IfOk, OnErr, OnOk, unwrap_or}
+use Rattle.std.proofs.lemmas.Result.{on_err_weaker, on_ok_weaker}
 use Rattle.tc_base.specs.Lists.{first, with_first}
+use Rattle.tc_base.specs.declared.kind.Form.{Form}
 use Rattle.tc_base.specs.declared.kind.Mode.{Mode}
 use Rattle.tc_base.specs.declared.kind.Mode.TheVariants.{Keep}
 use Rattle.tc_base.specs.declared.order.Order.{Ghosts as Orders}
 use Rattle.tc_base.specs.declared.seq.Pair.{Pair}
 use Rattle.tc_space.specs.Changes.{first_in, put_first}
 use Rattle.tc_space.specs.Frames.{In, Reads, Refuses, Writes, reads_then}
-use Rattle.tc_space.specs.Lists.{StaysList, StaysPacked}
-use Rattle.tc_space.specs.Stores.{KeepsTight, Only, Puts, TakesOut}
+use Rattle.tc_space.specs.Lists.{PacksList, StaysList, StaysPacked, made_in}
+use Rattle.tc_space.specs.Stores.{KeepsTight, Only, Puts, TakesOut, in_form}
 use Rattle.tc_space.specs.declared.records.Records.{Ghosts as Stores}
 use Rattle.tc_space.specs.declared.space.Space.{Ghosts}
 use Rattle.bt_cache.specs.Effects.{SameStore}
@@ -17,7 +19,7 @@ use Rattle.bt_ways.specs.Changes.{inserted}
 use Rattle.bt_ways.specs.Items.{item_of}
 use Rattle.bt_tree.specs.Inserting.{StaysMade}
 use Rattle.bt_tree.specs.Meaning.{Means, file_in}
-use Rattle.bt_tree.specs.Settling.{BringsPairs, StaysSettled}
+use Rattle.bt_tree.specs.Settling.{BringsPairs, StaysFormed, StaysSettled}
 use Rattle.bt_tree.specs.Standing.{FileStands}
 use Rattle.bt_tree.specs.Visits.{StaysTree}
 use Rattle.bt_tree.specs.declared.tree.Tree.{Tree}
@@ -35,23 +37,31 @@ module _ {S V O : Type 0} (R : Stores V S) (b c : Btree V O) where
   pub list_stays : StaysMade R b.tree c.tree → StaysList (file_list R) (made_of R) b c
   list_stays m = record {
     file = m.made.file;
-    made_same = λ i. record { sort = m.made.sort i; code = m.order i; leaf = m.leaf_limit i; node = m.node_limit i; column = m.column i };
+    made_same = λ i. record { sort = m.made.sort i; numbers = m.made.numbers i; code = m.order i; leaf = m.leaf_limit i; node = m.node_limit i; column = m.column i };
   }
 
-  made_same : R.sort c.tree.store ≡ R.sort b.tree.store → StaysTree b.tree c.tree → made_of R c ≡ made_of R b
-  made_same sort stays = λ i. record { sort = sort i; code = (stays.head i).order; leaf = (stays.head i).leaf_limit; node = (stays.head i).node_limit; column = stays.column i }
+  made_same : R.sort c.tree.store ≡ R.sort b.tree.store → R.numbers c.tree.store ≡ R.numbers b.tree.store → StaysTree b.tree c.tree → made_of R c ≡ made_of R b
+  made_same sort numbers stays = λ i. record { sort = sort i; numbers = numbers i; code = (stays.head i).order; leaf = (stays.head i).leaf_limit; node = (stays.head i).node_limit; column = stays.column i }
 
   pub list_packed : SameStore R b.tree.store c.tree.store → StaysTree b.tree c.tree → KeepsTight R.tight b.tree.store c.tree.store → StaysPacked (file_list R) (made_of R) (λ d. R.tight d.tree.store) b c
-  list_packed same stays tight = record { file = same.file; made_same = made_same same.sort stays; stays_tight = tight }
+  list_packed same stays tight = record { file = same.file; made_same = made_same same.sort same.numbers stays; stays_tight = tight }
 
-  pub list_settled : StaysSettled R b.tree c.tree → StaysList (file_list R) (made_of R) b c
-  list_settled st = record { file = st.file; made_same = made_same st.sort st.stays }
+  -- in the form of a packing
+  made_formed : (form : Form) → R.sort c.tree.store ≡ R.sort b.tree.store → R.numbers c.tree.store ≡ in_form form (R.numbers b.tree.store) → StaysTree b.tree c.tree → made_of R c ≡ made_in form (made_of R b)
+  made_formed form sort numbers stays = λ i. record { sort = sort i; numbers = numbers i; code = (stays.head i).order; leaf = (stays.head i).leaf_limit; node = (stays.head i).node_limit; column = stays.column i }
+
+  pub list_formed : {T E : Type 0} (s : Ghosts S) (form : Form) (r : Result T E) (new : S) → StaysFormed s R form r b.tree c.tree new → PacksList s.flag (file_list R) (made_of R) form r b c new
+  list_formed s form r new st = record {
+    file = st.store.file;
+    formed = on_ok_weaker r (λ (numbers : R.numbers c.tree.store ≡ in_form form (R.numbers b.tree.store)). made_formed form st.store.sort_same numbers st.stays) st.store.formed;
+    left = on_err_weaker r (λ (was : (s.flag new ≡ false) ⊎ (R.numbers c.tree.store ≡ R.numbers b.tree.store)). ⊎_elim (λ spoiled. inl spoiled) (λ numbers. inr (made_same st.store.sort_same numbers st.stays)) was) st.store.left;
+  }
 
   pub list_settled_packed : StaysSettled R b.tree c.tree → KeepsTight R.tight b.tree.store c.tree.store → StaysPacked (file_list R) (made_of R) (λ d. R.tight d.tree.store) b c
-  list_settled_packed st tight = record { file = st.file; made_same = made_same st.sort st.stays; stays_tight = tight }
+  list_settled_packed st tight = record { file = st.file; made_same = made_same st.sort st.fixed st.stays; stays_tight = tight }
 
-pub list_stands : {S V O : Type 0} (R : Stores V S) (o : Orders O) (b : Btree V O) (bytes : List ℕ) (ps : List Pair) → FileStands R o (R.sort b.tree.store) b.tree.head b.tree.column bytes ps → ListStands R o (made_of R b) bytes ps
-list_stands R o b bytes ps file = record { head = b.tree.head; code_is = refl; leaf_is = refl; node_is = refl; file = file }
+pub list_stands : {S V O : Type 0} (R : Stores V S) (o : Orders O) (b : Btree V O) (bytes : List ℕ) (ps : List Pair) → FileStands R o (R.sort b.tree.store) (R.numbers b.tree.store) b.tree.head b.tree.height b.tree.column bytes ps → ListStands R o (made_of R b) bytes ps
+list_stands R o b bytes ps file = record { head = b.tree.head; code_is = refl; leaf_is = refl; node_is = refl; height = b.tree.height; file = file }
 
 -- ---- its pairs
 

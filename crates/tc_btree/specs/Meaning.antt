@@ -21,9 +21,9 @@ file_list R b = file_in R b.tree
 abbrev pub holds_list : {S V O : Type 0} → Stores V S → Orders O → Btree V O → List ℕ → List Pair → Type 0
 holds_list R o b bytes ps = HoldsIn R o b.tree bytes ps
 
--- the type of the store's file, the numbers that the tree tells, and the record `column`
+-- the type of the store's file and the numbers that its head fixes, those that the tree tells, and the record `column`
 abbrev pub made_of : {S V O : Type 0} → Stores V S → Btree V O → Made
-made_of R b = record { sort = R.sort b.tree.store; code = b.tree.head.order; leaf = b.tree.head.leaf_limit; node = b.tree.head.node_limit; column = b.tree.column }
+made_of R b = record { sort = R.sort b.tree.store; numbers = R.numbers b.tree.store; code = b.tree.head.order; leaf = b.tree.head.leaf_limit; node = b.tree.head.node_limit; column = b.tree.column }
 
 -- a file of these bytes is that of a tree which was made so
 pub record ListStands {S V O : Type 0} (R : Stores V S) (o : Orders O) (made : Made) (bytes : List ℕ) (ps : List Pair) : Type 0 where
@@ -31,7 +31,8 @@ pub record ListStands {S V O : Type 0} (R : Stores V S) (o : Orders O) (made : M
   pub code_is : head.order ≡ made.code
   pub leaf_is : head.leaf_limit ≡ made.leaf
   pub node_is : head.node_limit ≡ made.node
-  pub file : FileStands R o made.sort head made.column bytes ps
+  pub height : ℕ
+  pub file : FileStands R o made.sort made.numbers head height made.column bytes ps
 
 -- the values of an item, none where there is no item
 abbrev pub item_values : Option Item → List (List ℕ)

@@ -110,6 +110,10 @@ impl<R: Records, O: Order> Multi for Btree<R, O> {
         self.tree.settle(space)
     }
 
+    fn clear(&mut self, space: &mut R::S) -> Result<(), RecErr> {
+        self.tree.clear_all(space)
+    }
+
     fn pack(&mut self, space: &mut R::S, form: Form) -> Result<(), RecErr> {
         self.tree.pack(space, form)
     }

@@ -4,7 +4,7 @@ use Rattle.bt_page.specs.declared.page.Node.{Node}
 use Rattle.bt_page.proofs.Runs.{err_handed}
 use Rattle.bt_rows.specs.declared.head.TreeHead.{TreeHead}
 use Rattle.bt_tree.specs.Climbing.{HasWay}
-use Rattle.bt_tree.proofs.Climbings.{climbed_on, climbs_end, end_ready, lacks_above, lacks_end, lacks_half, lacks_whole, node_at, on_ready, read_ready, step_given, took, took_same, way_ready}
+use Rattle.bt_tree.proofs.Climbings.{climbed_on, climbs_end, end_ready, full_end, full_step, lacks_above, lacks_end, lacks_half, lacks_whole, node_at, on_ready, read_ready, step_given, took, took_same, way_ready}
 use Rattle.bt_tree.proofs.tree.Tree.+climb.Goals as goal
 
 pub grow-requires-clause-ready : goal.grow-requires-clause-ready
@@ -16,7 +16,7 @@ returns-in_default-clause-climbed g t c =
 
 pub returns-in_default-clause-full : goal.returns-in_default-clause-full
 returns-in_default-clause-full g t c = λ is.
-    ⊎_elim (λ used. inl used) (λ lacks. inr (lacks_end g.R.S.Space g.R.Records c.args.self.now c.args.space.now c.grow.new.space c.args.added lacks)) (c.grow.ensures.full is)
+    ⊎_elim (λ used. inl (used, λ pages h. full_end c.args.self.now.head.node_limit pages c.args.self.now.path (length c.args.added) c.in_default.ensures.0)) (λ lacks. inr (lacks_end g.R.S.Space g.R.Records c.args.self.now c.args.space.now c.grow.new.space c.args.added lacks)) (c.grow.ensures.full is)
 
 pub own_node-requires-clause-ready : goal.own_node-requires-clause-ready
 own_node-requires-clause-ready g t c = way_ready g.R.S.Space g.R.Records c.args.self.now _ c.args.space.now c.pop.new.self (record { all = refl; way = refl }) c.requires.ready
@@ -56,7 +56,8 @@ divide-requires-clause-id g t c =
 
 pub returns-in_err-above-clause-full : goal.returns-in_err-above-clause-full
 returns-in_err-above-clause-full g t c = λ is.
-    ⊎_elim (λ used. inl used)
+    let limit : c.own_node.new.self.head.node_limit ≡ c.args.self.now.head.node_limit = ap (λ (x : TreeHead). x.node_limit) c.own_node.ensures.peeks.still.head in
+    ⊎_elim (λ used. inl (used, full_step g.R.S.Space g.R.Records c.args.self.now _ c.own_node.new.self c.args.space.now c.own_node.new.space c.in-Some.id c.in-Some.place c.pop.new.self (record { all = refl; way = refl }) c.in-Some.ensures c.own_node.ensures.peeks c.in_ok-node.node c.in_ok-node.ensures.node c.args.added c.requires.few (omega (arith, c.if-len-self.false, c.len.ensures, ap (λ (n : Node). length n.entries) (took_same c.in_ok-node.node c.in_ok-node-2.node c.in-Some.place c.as_slice.result.now c.args.added c.in_ok-node-2.ensures c.as_slice.ensures), limit))))
     (λ lacks. inr (lacks_half g.R.S.Space g.R.Records c.args.self.now _ c.own_node.new.self c.args.space.now c.own_node.new.space c.in-Some.id c.in-Some.place c.pop.new.self (record { all = refl; way = refl }) c.in-Some.ensures c.own_node.ensures.peeks c.in_ok-node.node c.in_ok-node.ensures.node c.args.added c.requires.few c.divide.new.space lacks))
     ((rw (took_same c.in_ok-node.node c.in_ok-node-2.node c.in-Some.place c.as_slice.result.now c.args.added c.in_ok-node-2.ensures c.as_slice.ensures) at c.in_err-above.ensures.full) (err_handed c.from_residual-in_err-above.result _ _ c.from_residual-in_err-above.ensures.1 is))
 
@@ -79,7 +80,8 @@ returns-clause-climbed g t c =
 
 pub returns-clause-full : goal.returns-clause-full
 returns-clause-full g t c = λ is.
-    ⊎_elim (λ used. inl used)
+    let limit : c.own_node.new.self.head.node_limit ≡ c.args.self.now.head.node_limit = ap (λ (x : TreeHead). x.node_limit) c.own_node.ensures.peeks.still.head in
+    ⊎_elim (λ used. inl (used.0, full_step g.R.S.Space g.R.Records c.args.self.now _ c.own_node.new.self c.args.space.now c.own_node.new.space c.in-Some.id c.in-Some.place c.pop.new.self (record { all = refl; way = refl }) c.in-Some.ensures c.own_node.ensures.peeks c.in_ok-node.node c.in_ok-node.ensures.node c.args.added c.requires.few (omega (arith, c.if-len-self.false, c.len.ensures, ap (λ (n : Node). length n.entries) (took_same c.in_ok-node.node c.in_ok-node-2.node c.in-Some.place c.as_slice.result.now c.args.added c.in_ok-node-2.ensures c.as_slice.ensures), limit))))
     (λ lacks. inr (lacks_above g.R.S.Space g.R.Records c.args.self.now _ c.own_node.new.self c.args.space.now c.own_node.new.space c.in-Some.id c.in-Some.place c.pop.new.self (record { all = refl; way = refl }) c.in-Some.ensures c.own_node.ensures.peeks c.in_ok-node.node c.in_ok-node.ensures.node c.args.added c.requires.few
     c.divide.new.self c.divide.new.space c.in_ok-above.above (rw (took_same c.in_ok-node.node c.in_ok-node-2.node c.in-Some.place c.as_slice.result.now c.args.added c.in_ok-node-2.ensures c.as_slice.ensures) at c.in_ok-above.ensures.divided) c.divide.ensures.grows c.divide.ensures.way c.climb.new.space lacks))
     (c.climb.ensures.full is)

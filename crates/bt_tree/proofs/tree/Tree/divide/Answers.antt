@@ -24,7 +24,7 @@ returns-clause-divided g c =
     let high : c.in_ok-lower.upper ≡ record { heir = c.in_ok-lower.up.child; entries = c.in_ok-lower.upper.entries } = λ i. record { heir = c.in_ok-lower.ensures.child i; entries = c.in_ok-lower.upper.entries } in
     divided g.R.S.Space g.R.Records c.args.self.now c.node_id.new.self c.put_node.new.self c.put_node-2.new.self c.args.space.now c.put_node.new.space c.put_node-2.new.space c.args.id c.in_ok-second.second c.args.node.heir
     c.args.node.entries c.in_ok-lower.lower.entries c.in_ok-lower.upper.entries c.in_ok-lower.up c.in_ok-above.above c.in_ok-second.ensures.small c.in_ok-second.ensures.noted c.in_ok-second.ensures.given c.in_ok-lower.ensures.cut c.in_ok-lower.ensures.half c.in_ok-above.ensures
-    (rw high at c.in_ok-put_node.ensures.put) (rw low at c.in_ok-put_node-2.ensures.put) c.put_node.ensures.still.made.file
+    (rw high at c.in_ok-put_node.ensures.put) (rw low at c.in_ok-put_node-2.ensures.put) c.put_node.ensures.still.made.file c.put_node.ensures.still.head c.put_node-2.ensures.still.head
 
 pub returns-in_err-put_node-2-clause-full : goal.returns-in_err-put_node-2-clause-full
 returns-in_err-put_node-2-clause-full g c = λ is.

@@ -13,7 +13,7 @@ pub returns-clause-climbed : goal.returns-clause-climbed
 returns-clause-climbed g c =
     grown g.R.S.Space g.R.Records c.args.self.now c.node_id.new.self c.put_node.new.self _ c.args.space.now c.put_node.new.space c.in_ok-id.id c.node_id.new.self.head.root c.args.added c.requires.root c.requires.few
     c.in_ok-id.ensures.small c.in_ok-id.ensures.noted c.in_ok-id.ensures.given (noted_root c.args.self.now c.node_id.new.self c.in_ok-id.ensures.noted) (rw c.in_ok-node.ensures at c.in_ok-put_node.ensures.put) refl refl refl refl
-    (grown_height c.args.self.now c.node_id.new.self c.in_ok-id.ensures.noted c.put_node.ensures.still.height)
+    (grown_height c.args.self.now c.node_id.new.self c.in_ok-id.ensures.noted c.put_node.ensures.still.height) c.put_node.ensures.still.head
 
 pub returns-in_err-put_node-clause-full : goal.returns-in_err-put_node-clause-full
 returns-in_err-put_node-clause-full g c = λ is.

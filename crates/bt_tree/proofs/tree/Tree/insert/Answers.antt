@@ -1,10 +1,17 @@
 use Rattle.std.proofs.Common.{refl, inl, inr, ⊎_elim}
 use Rattle.bt_rows.proofs.Ordered.{orders_are_strict}
 use Rattle.bt_page.proofs.Runs.{err_handed, on_err_any}
+use Rattle.bt_tree.specs.Paging.{lacks_given}
 use Rattle.bt_tree.proofs.Descents.{err_on}
 use Rattle.bt_tree.proofs.Finds.{tree_reads}
-use Rattle.bt_tree.proofs.Inserts.{gains_kept, gains_spread, given_up, id_given, inserted_kept, inserted_spread, is_crowded, kept_anew, lacks_leaf, lacks_piece, leaf_ready, means_ready, none_more, not_both, over_there, put_refused, spread_anew}
+use Rattle.bt_tree.proofs.Inserts.{crowds_way, gains_kept, gains_looked, gains_spread, gains_within, given_up, id_given, inserted_kept, inserted_spread, is_crowded, kept_pages, lacks_leaf, lacks_piece, leaf_ready, means_ready, none_more, not_both, over_there, put_refused, spread_pages}
 use Rattle.bt_tree.proofs.tree.Tree.insert.Goals as goal
+
+pub returns-then-self-clause-gains : goal.returns-then-self-clause-gains
+returns-then-self-clause-gains g c = gains_looked c.args.self.now c.args.self.now (record { head = refl; height = refl; column = refl })
+
+pub returns-in_err-changed-clause-gains : goal.returns-in_err-changed-clause-gains
+returns-in_err-changed-clause-gains g c = gains_looked c.args.self.now c.take_pair.new.self c.take_pair.ensures.stays
 
 pub returns-in_err-changed-clause-refused : goal.returns-in_err-changed-clause-refused
 returns-in_err-changed-clause-refused g c = on_err_any _ (inr (tree_reads g.R.S.Space g.R.Records g.O.Order c.args.self.now c.take_pair.new.self c.args.space.now c.take_pair.new.space c.take_pair.ensures.looks.reads c.take_pair.ensures.stays))
@@ -17,6 +24,10 @@ put_leaf-requires-clause-id g c =
     id_given g.R.S.Space g.R.Records g.O.Order g.met.O.Order.total (orders_are_strict g.O.Order.cmp g.met.O.Order.total g.met.O.Order.exact) c.args.last c.args.key.now c.args.value.now c.args.self.now c.take_pair.new.self c.args.space.now c.take_pair.new.space c.in_ok-changed.changed
     c.take_pair.ensures.looks c.take_pair.ensures.stays c.in_ok-changed.ensures.taken c.requires
 
+pub returns-in_err-put_leaf-clause-gains : goal.returns-in_err-put_leaf-clause-gains
+returns-in_err-put_leaf-clause-gains g c =
+    gains_within c.args.self.now c.put_leaf.new.self (gains_kept c.args.self.now c.take_pair.new.self c.put_leaf.new.self c.put_leaf.new.self 0 c.take_pair.ensures.stays (none_more c.put_leaf.new.self) g.R.S.Space g.R.Records _ _ c.put_leaf.ensures.still)
+
 pub returns-in_err-put_leaf-clause-refused : goal.returns-in_err-put_leaf-clause-refused
 returns-in_err-put_leaf-clause-refused g c =
     on_err_any _
@@ -25,13 +36,9 @@ returns-in_err-put_leaf-clause-refused g c =
 
 pub returns-in_err-put_leaf-clause-full : goal.returns-in_err-put_leaf-clause-full
 returns-in_err-put_leaf-clause-full g c = λ is.
-    inr (record {
-      refused = c.put_leaf.new.space;
-      why = lacks_leaf g.R.S.Space g.R.Records g.O.Order g.met.O.Order.total (orders_are_strict g.O.Order.cmp g.met.O.Order.total g.met.O.Order.exact) c.args.last c.args.key.now c.args.value.now c.args.self.now c.take_pair.new.self c.args.space.now c.take_pair.new.space c.in_ok-changed.changed
-          c.take_pair.ensures.looks c.take_pair.ensures.stays c.in_ok-changed.ensures.taken
-          c.put_leaf.new.space (c.leaf_fits.ensures.0 c.if-leaf_fits.true) (c.in_err-put_leaf.ensures.full (err_handed c.from_residual-in_err-put_leaf.result c.in_err-put_leaf.field-0.0 _ c.from_residual-in_err-put_leaf.ensures.1 is));
-      left = inl refl;
-    })
+    inr (lacks_leaf g.R.S.Space g.R.Records g.O.Order g.met.O.Order.total (orders_are_strict g.O.Order.cmp g.met.O.Order.total g.met.O.Order.exact) c.args.last c.args.key.now c.args.value.now c.args.self.now c.take_pair.new.self c.args.space.now c.take_pair.new.space c.in_ok-changed.changed
+    c.take_pair.ensures.looks c.take_pair.ensures.stays c.in_ok-changed.ensures.taken
+    c.put_leaf.new.space (c.leaf_fits.ensures.0 c.if-leaf_fits.true) (c.in_err-put_leaf.ensures.full (err_handed c.from_residual-in_err-put_leaf.result c.in_err-put_leaf.field-0.0 _ c.from_residual-in_err-put_leaf.ensures.1 is)))
 
 pub returns-then-leaf_fits-clause-inserted : goal.returns-then-leaf_fits-clause-inserted
 returns-then-leaf_fits-clause-inserted g c =
@@ -39,14 +46,18 @@ returns-then-leaf_fits-clause-inserted g c =
     c.take_pair.ensures.looks c.take_pair.ensures.stays c.in_ok-changed.ensures.taken
     c.put_leaf.new.self c.count_pair.new.self c.put_leaf.new.space c.count_pair.ensures (c.leaf_fits.ensures.0 c.if-leaf_fits.true) c.in_ok-put_leaf.ensures.put c.put_leaf.ensures.still
 
+pub returns-then-leaf_fits-clause-gains : goal.returns-then-leaf_fits-clause-gains
+returns-then-leaf_fits-clause-gains g c =
+    gains_within c.args.self.now c.count_pair.new.self (gains_kept c.args.self.now c.take_pair.new.self c.put_leaf.new.self c.count_pair.new.self _ c.take_pair.ensures.stays c.count_pair.ensures g.R.S.Space g.R.Records _ _ c.put_leaf.ensures.still)
+
 pub returns-then-leaf_fits-clause-adds : goal.returns-then-leaf_fits-clause-adds
 returns-then-leaf_fits-clause-adds g c = inl (gains_kept c.args.self.now c.take_pair.new.self c.put_leaf.new.self c.count_pair.new.self _ c.take_pair.ensures.stays c.count_pair.ensures g.R.S.Space g.R.Records _ _ c.put_leaf.ensures.still)
 
-pub returns-then-leaf_fits-clause-anew : goal.returns-then-leaf_fits-clause-anew
-returns-then-leaf_fits-clause-anew g c =
-    kept_anew g.R.S.Space g.R.Records g.O.Order g.met.O.Order.total (orders_are_strict g.O.Order.cmp g.met.O.Order.total g.met.O.Order.exact) c.args.last c.args.key.now c.args.value.now c.args.self.now c.take_pair.new.self c.args.space.now c.take_pair.new.space c.in_ok-changed.changed
+pub returns-then-leaf_fits-clause-pages : goal.returns-then-leaf_fits-clause-pages
+returns-then-leaf_fits-clause-pages g c =
+    kept_pages g.R.S.Space g.R.Records g.O.Order g.met.O.Order.total (orders_are_strict g.O.Order.cmp g.met.O.Order.total g.met.O.Order.exact) c.args.last c.args.key.now c.args.value.now c.args.self.now c.take_pair.new.self c.args.space.now c.take_pair.new.space c.in_ok-changed.changed
     c.take_pair.ensures.looks c.take_pair.ensures.stays c.in_ok-changed.ensures.taken
-    c.put_leaf.new.self c.count_pair.new.self c.put_leaf.new.space c.count_pair.ensures c.in_ok-put_leaf.ensures.put
+    c.put_leaf.new.self c.count_pair.new.self c.put_leaf.new.space c.count_pair.ensures (c.leaf_fits.ensures.0 c.if-leaf_fits.true) c.in_ok-put_leaf.ensures.put c.put_leaf.ensures.still
 
 pub part-requires-clause-ready : goal.part-requires-clause-ready
 part-requires-clause-ready g c =
@@ -65,11 +76,14 @@ returns-clause-inserted g c =
     c.take_pair.ensures.looks c.take_pair.ensures.stays c.in_ok-changed.ensures.taken
     c.part.new.self c.count_pair-2.new.self c.part.new.space c.count_pair-2.ensures c.part.ensures.widens.column c.part.ensures.widens.head c.in_default.ensures.parted
 
-pub returns-clause-anew : goal.returns-clause-anew
-returns-clause-anew g c =
-    spread_anew g.R.S.Space g.R.Records g.O.Order g.met.O.Order.total (orders_are_strict g.O.Order.cmp g.met.O.Order.total g.met.O.Order.exact) c.args.last c.args.key.now c.args.value.now c.args.self.now c.take_pair.new.self c.args.space.now c.take_pair.new.space c.in_ok-changed.changed
+pub returns-clause-pages : goal.returns-clause-pages
+returns-clause-pages g c =
+    spread_pages g.R.S.Space g.R.Records g.O.Order g.met.O.Order.total (orders_are_strict g.O.Order.cmp g.met.O.Order.total g.met.O.Order.exact) c.args.last c.args.key.now c.args.value.now c.args.self.now c.take_pair.new.self c.args.space.now c.take_pair.new.space c.in_ok-changed.changed
     c.take_pair.ensures.looks c.take_pair.ensures.stays c.in_ok-changed.ensures.taken
     c.part.new.self c.count_pair-2.new.self c.part.new.space c.count_pair-2.ensures c.in_default.ensures.parted
+
+pub returns-clause-gains : goal.returns-clause-gains
+returns-clause-gains g c = gains_spread c.args.self.now c.take_pair.new.self c.part.new.self c.count_pair-2.new.self _ c.take_pair.ensures.stays c.count_pair-2.ensures g.R.S.Space g.R.Records _ _ c.in_ok-changed.ensures.deep c.part.ensures.widens
 
 pub returns-clause-adds : goal.returns-clause-adds
 returns-clause-adds g c =
@@ -80,11 +94,18 @@ returns-clause-adds g c =
           (λ w. not_both _ (c.leaf_fits.ensures.1 w) c.if-leaf_fits.false),
     )
 
+pub returns-in-Err-clause-gains : goal.returns-in-Err-clause-gains
+returns-in-Err-clause-gains g c = gains_spread c.args.self.now c.take_pair.new.self c.part.new.self c.part.new.self 0 c.take_pair.ensures.stays (none_more c.part.new.self) g.R.S.Space g.R.Records _ _ c.in_ok-changed.ensures.deep c.part.ensures.widens
+
 pub returns-in-Err-clause-full : goal.returns-in-Err-clause-full
 returns-in-Err-clause-full g c = λ is.
     ⊎_elim
     (λ used. inl (
-      used,
+      ⊎_elim (λ leaves. inl leaves) (λ nodes. inr (
+        nodes.0,
+        crowds_way g.R.S.Space g.R.Records g.O.Order g.met.O.Order.total (orders_are_strict g.O.Order.cmp g.met.O.Order.total g.met.O.Order.exact) c.args.last c.args.key.now c.args.value.now c.args.self.now c.take_pair.new.self c.args.space.now c.take_pair.new.space c.in_ok-changed.changed
+            c.take_pair.ensures.looks c.take_pair.ensures.stays c.in_ok-changed.ensures.taken (λ w. not_both _ (c.leaf_fits.ensures.1 w) c.if-leaf_fits.false) nodes.1,
+      )) used,
       (
         gains_spread c.args.self.now c.take_pair.new.self c.part.new.self c.part.new.self 0 c.take_pair.ensures.stays (none_more c.part.new.self) g.R.S.Space g.R.Records _ _ c.in_ok-changed.ensures.deep c.part.ensures.widens,
         is_crowded g.R.S.Space g.R.Records g.O.Order g.met.O.Order.total (orders_are_strict g.O.Order.cmp g.met.O.Order.total g.met.O.Order.exact) c.args.last c.args.key.now c.args.value.now c.args.self.now c.take_pair.new.self c.args.space.now c.take_pair.new.space c.in_ok-changed.changed
@@ -92,11 +113,9 @@ returns-in-Err-clause-full g c = λ is.
             (λ w. not_both _ (c.leaf_fits.ensures.1 w) c.if-leaf_fits.false),
       ),
     ))
-    (λ lacks. inr (record {
-      refused = c.part.new.space;
-      why = lacks_piece g.R.S.Space g.R.Records g.O.Order g.met.O.Order.total (orders_are_strict g.O.Order.cmp g.met.O.Order.total g.met.O.Order.exact) c.args.last c.args.key.now c.args.value.now c.args.self.now c.take_pair.new.self c.args.space.now c.take_pair.new.space c.in_ok-changed.changed
-          c.take_pair.ensures.looks c.take_pair.ensures.stays c.in_ok-changed.ensures.taken
-          c.part.new.space lacks;
-      left = inr (given_up g.R.S.Space c.part.new.space c.spoil.new.self c.spoil.ensures.spoiled c.spoil.ensures.stays c.spoil.ensures.now);
-    }))
+    (λ lacks. inr (lacks_given g.R.S.Space g.R.Records g.met.R.Records.lacks_still _ c.args.self.now.store c.args.space.now c.part.new.space c.spoil.new.self
+    (given_up g.R.S.Space c.part.new.space c.spoil.new.self c.spoil.ensures.spoiled c.spoil.ensures.stays c.spoil.ensures.now c.spoil.ensures.log)
+    (lacks_piece g.R.S.Space g.R.Records g.O.Order g.met.O.Order.total (orders_are_strict g.O.Order.cmp g.met.O.Order.total g.met.O.Order.exact) c.args.last c.args.key.now c.args.value.now c.args.self.now c.take_pair.new.self c.args.space.now c.take_pair.new.space c.in_ok-changed.changed
+    c.take_pair.ensures.looks c.take_pair.ensures.stays c.in_ok-changed.ensures.taken
+    c.part.new.space lacks)))
     (c.in-Err.ensures.full (err_on _ _ is))

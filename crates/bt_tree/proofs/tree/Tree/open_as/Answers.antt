@@ -9,5 +9,5 @@ find_column-requires g c = ready_reads g.R.S.Space _ c.args.store c.measure_tree
 
 pub returns-clause-opened : goal.returns-clause-opened
 returns-clause-opened g c =
-    opened g.R.S.Space g.R.Records c.args.store c.measure_tree.new.store c.find_column.new.store c.args.space.now c.measure_tree.new.space c.find_column.new.space c.measure_tree.ensures.looks c.find_column.ensures.looks
+    opened g.R.S.Space g.R.Records c.args.store c.measure_tree.new.store c.find_column.new.store c.args.space.now c.measure_tree.new.space c.find_column.new.space c.measure_tree.ensures.looks c.find_column.ensures.looks c.measure_tree.ensures.asks c.find_column.ensures.asks
     g.O.Order c.in_ok-height.height c.args.index _ c.requires.order c.in_ok-height.ensures.stands c.in_ok-column.ensures.value refl c.in_ok-cache.ensures.none (c.read-head.ensures ∙ ap head_of c.opaque.ensures) refl

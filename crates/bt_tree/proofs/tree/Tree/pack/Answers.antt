@@ -1,6 +1,6 @@
 use Rattle.std.proofs.Common.{refl}
 use Rattle.std.proofs.lemmas.Result.{on_ok_weaker, on_err_weaker}
-use Rattle.bt_tree.proofs.Settles.{store_ready, settles, settle_refused}
+use Rattle.bt_tree.proofs.Settles.{settle_anew, store_ready, settles, settle_refused}
 use Rattle.bt_tree.proofs.tree.Tree.pack.Goals as goal
 
 pub pack-requires : goal.pack-requires
@@ -10,8 +10,11 @@ pack-requires g c =
 pub returns-clause-packed : goal.returns-clause-packed
 returns-clause-packed g c = on_ok_weaker c.pack.result (λ writes. settles g.R.S.Space g.R.Records g.O.Order c.args.self.now _ c.args.self.now.store _ c.args.space.now c.pack.new.space (λ bytes m is. is) refl refl (record { head = refl; height = refl; column = refl }) refl writes) c.pack.ensures.packed
 
+pub returns-clause-anew : goal.returns-clause-anew
+returns-clause-anew g c = on_ok_weaker c.pack.result (λ writes. settle_anew g.R.S.Space g.R.Records g.O.Order c.args.self.now _ c.args.self.now.store _ c.args.space.now c.pack.new.space (λ bytes m is. is) refl refl (record { head = refl; height = refl; column = refl }) refl writes) c.pack.ensures.packed
+
 pub returns-clause-refused : goal.returns-clause-refused
 returns-clause-refused g c = on_err_weaker c.pack.result (λ refused. settle_refused g.R.S.Space g.R.Records g.O.Order c.args.self.now _ c.args.self.now.store _ c.args.space.now c.pack.new.space (λ bytes m is. is) refl refl (record { head = refl; height = refl; column = refl }) refl refused) c.pack.ensures.refused
 
 pub returns-clause-stays : goal.returns-clause-stays
-returns-clause-stays g c = record { file = c.pack.ensures.stays.file; sort = c.pack.ensures.stays.sort_same; stays = record { head = refl; height = refl; column = refl } }
+returns-clause-stays g c = record { store = c.pack.ensures.stays; stays = record { head = refl; height = refl; column = refl } }

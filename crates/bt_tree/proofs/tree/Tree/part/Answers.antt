@@ -1,7 +1,7 @@
 use Rattle.std.proofs.Common.{◌-◌, drop, inl, inr, refl, take, ⊎_elim}
 use Rattle.std.proofs.lemmas.Result.{on_ok_weaker}
 use Rattle.bt_page.proofs.Runs.{err_handed}
-use Rattle.bt_tree.proofs.Partings.{added_few, behind_there, climb_ready, climb_rows, given_ready, ids_given, lacks_climb, lacks_laid, lay_ready, parts_turn, widens_climb, widens_lay}
+use Rattle.bt_tree.proofs.Partings.{added_few, behind_there, climb_full, climb_ready, climb_rows, given_ready, ids_given, lacks_climb, lacks_laid, lay_ready, parts_turn, widens_climb, widens_lay}
 use Rattle.bt_tree.proofs.tree.Tree.part.Goals as goal
 
 pub behind-requires-clause-ready : goal.behind-requires-clause-ready
@@ -19,6 +19,9 @@ pub lay-requires-clause-ids : goal.lay-requires-clause-ids
 lay-requires-clause-ids g c =
     ids_given g.R.S.Space g.R.Records c.args.self.now c.parts.new.self c.behind.new.self c.follow.new.self c.args.space.now c.behind.new.space c.args.id c.args.leaf (take c.cut_places-i.result.0 c.args.leaf.items) (take (c.cut_places-i.result.1 - c.cut_places-i.result.0) (drop c.cut_places-i.result.0 c.args.leaf.items)) (drop c.cut_places-i.result.1 c.args.leaf.items) c.in_ok-parted.parted c.in_ok-leaves.leaves
     c.requires.ready c.parts.ensures.noted c.in_ok-parted.ensures.given c.in_ok-parted.ensures.small c.in_ok-parted.ensures.parts (rw c.next-next.ensures at c.in_ok-leaves.ensures.added) c.behind.ensures.peeks (rw c.next-next.ensures at c.follow.ensures)
+
+pub returns-in_err-parted-clause-full : goal.returns-in_err-parted-clause-full
+returns-in_err-parted-clause-full g c = λ is. inl (inl (c.in_err-parted.ensures.full (err_handed c.from_residual.result _ _ c.from_residual.ensures.1 is)))
 
 pub returns-in_err-lay-clause-full : goal.returns-in_err-lay-clause-full
 returns-in_err-lay-clause-full g c = λ is.
@@ -66,7 +69,12 @@ returns-clause-widens g c =
 
 pub returns-clause-full : goal.returns-clause-full
 returns-clause-full g c = λ is.
-    ⊎_elim (λ used. inl used)
+    ⊎_elim (λ used. inl (inr (
+      used.0,
+      climb_full g.R.S.Space g.R.Records c.args.self.now c.parts.new.self c.behind.new.self c.follow.new.self c.args.space.now c.behind.new.space c.args.id c.args.leaf (take c.cut_places-i.result.0 c.args.leaf.items) (take (c.cut_places-i.result.1 - c.cut_places-i.result.0) (drop c.cut_places-i.result.0 c.args.leaf.items)) (drop c.cut_places-i.result.1 c.args.leaf.items) c.in_ok-parted.parted c.in_ok-leaves.leaves
+          c.requires.ready c.parts.ensures.noted c.in_ok-parted.ensures.given c.in_ok-parted.ensures.small c.in_ok-parted.ensures.parts (rw c.next-next.ensures at c.in_ok-leaves.ensures.added) c.behind.ensures.peeks (rw c.next-next.ensures at c.follow.ensures)
+          c.lay.new.self c.lay.new.space c.in_ok-lay.ensures.laid c.lay.ensures.still used.1,
+    )))
     (λ lacks. inr (lacks_climb g.R.S.Space g.R.Records c.args.self.now c.parts.new.self c.behind.new.self c.follow.new.self c.args.space.now c.behind.new.space c.args.id c.args.leaf (take c.cut_places-i.result.0 c.args.leaf.items) (take (c.cut_places-i.result.1 - c.cut_places-i.result.0) (drop c.cut_places-i.result.0 c.args.leaf.items)) (drop c.cut_places-i.result.1 c.args.leaf.items) c.in_ok-parted.parted c.in_ok-leaves.leaves
     c.requires.ready c.parts.ensures.noted c.in_ok-parted.ensures.given c.in_ok-parted.ensures.small c.in_ok-parted.ensures.parts (rw c.next-next.ensures at c.in_ok-leaves.ensures.added) c.behind.ensures.peeks (rw c.next-next.ensures at c.follow.ensures)
     c.lay.new.self c.lay.new.space c.in_ok-lay.ensures.laid c.lay.ensures.still c.cut_places-i.result.0 c.cut_places-i.result.1 c.climb.new.space

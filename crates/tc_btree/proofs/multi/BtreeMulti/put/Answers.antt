@@ -4,7 +4,7 @@ use Rattle.tc_space.specs.Stores.{ready_reads}
 use Rattle.bt_page.proofs.Runs.{on_err_any}
 use Rattle.bt_tree.specs.Meaning.{Means}
 use Rattle.bt_ways.specs.Changes.{inserted}
-use Rattle.tc_btree.proofs.Fulls.{insert_full}
+use Rattle.tc_btree.proofs.Fulls.{put_full}
 use Rattle.tc_btree.proofs.Looking.{full_told}
 use Rattle.tc_btree.proofs.Puts.{list_puts, list_refuses, put_given}
 use Rattle.tc_btree.proofs.multi.BtreeMulti.put.Goals as goal
@@ -25,6 +25,6 @@ returns-in_err-insert-clause-refused g c = on_err_any _ (list_refuses g.R.S.Spac
 
 pub returns-in_err-insert-clause-full : goal.returns-in_err-insert-clause-full
 returns-in_err-insert-clause-full g c = λ full.
-    insert_full g.R.S.Space g.R.Records g.O.Order false c.args.key.now c.chosen-given.result.now (put_first g.O.Order.cmp c.args.mode c.args.key.now c.args.value.now) c.args.self.now c.look.new.self c.insert.new.self c.args.space.now c.look.new.space c.insert.new.space
-    c.look.ensures.looks (λ ps h. put_given g.R.S.Space g.R.Records g.O.Order c.args.mode c.args.key.now c.args.value.now c.chosen-given.result.now _ ps c.chosen-given.ensures (c.in_ok-joined.ensures.tells.0 ps h))
+    put_full g.R.S.Space g.R.Records g.O.Order c.args.mode c.args.key.now c.args.value.now c.chosen-given.result.now c.args.self.now c.look.new.self c.insert.new.self c.args.space.now c.look.new.space c.insert.new.space
+    c.look.ensures.looks (λ ps h. put_given g.R.S.Space g.R.Records g.O.Order c.args.mode c.args.key.now c.args.value.now c.chosen-given.result.now _ ps c.chosen-given.ensures (c.in_ok-joined.ensures.tells.0 ps h)) (λ keep ps h. (c.in_ok-joined.ensures.tells.0 ps h).absent keep)
     (c.in_err-insert.ensures.full (full_told c.from_residual-in_err-insert.result c.in_err-insert.field-0.0 c.from_residual-in_err-insert.ensures.1 full))
