@@ -3,5 +3,6 @@ pub mod Idle
 pub mod MapLaws
 pub mod RowLaws
 pub mod Updating
+pub mod Walked
 pub mod WellKept
 pub mod WellStores

@@ -1,5 +1,5 @@
 //! The walk over the keys.
-ghost use Rattle.std.specs.Prelude.{◌≡◌, None, Some, drop, option_map};
+ghost use Rattle.std.specs.Prelude.{◌≡◌, ◌≤◌, None, Some, drop, length, option_map};
 ghost use Rattle.tc_model.specs.Walks.{HasKeys};
 
 use std::marker::Model;
@@ -22,6 +22,20 @@ impl Model for Walk {
     ghost view = { λ w. option_map (drop w.passed) w.keys };
 
     ghost invariant = { λ w. HasKeys w.passed w.keys };
+}
+
+// The keys behind the first `n`, in no more room than they need where there is memory to move them.
+#[tactic(auto, using(crate::proofs::Walked::behind_front))]
+fn behind(keys: Keys, n: usize) -> Keys
+    requires { n ≤ length keys }
+    ensures { result ≡ drop n keys }
+{
+    let mut keys = keys.into_vec();
+    let left = keys.len() - n;
+    keys.rotate_left(n);
+    keys.truncate(left);
+    keys.shrink_to_fit();
+    Keys::from_vec(keys)
 }
 
 impl Walk {
@@ -53,7 +67,7 @@ impl Walk {
         }
     }
 
-    /// Drops the first `n` keys.
+    /// Drops the first `n` keys. Those that were dropped take memory until they are as many as those left.
     pub fn leave(&mut self, n: usize)
         requires { HasKeys n self.old }
         ensures { self.new ≡ option_map (drop n) self.old }
@@ -61,6 +75,23 @@ impl Walk {
         if let Some(keys) = &self.keys {
             let most = keys.len();
             self.passed = most.min(self.passed.saturating_add(n));
+        }
+        self.let_go();
+    }
+
+    // Keys left behind are let go once they are as many as those left.
+    fn let_go(&mut self)
+        ensures { self.new ≡ self.old }
+    {
+        let Some(keys) = &self.keys else {
+            return;
+        };
+        if self.passed < keys.len() - self.passed {
+            return;
+        }
+        if let Some(keys) = self.keys.take() {
+            self.keys = Some(behind(keys, self.passed));
+            self.passed = 0;
         }
     }
 }
