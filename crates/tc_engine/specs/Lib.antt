@@ -2,3 +2,4 @@ pub mod Changes
 pub mod Effects
 pub mod Lines
 pub mod Rows
+pub mod Tables

@@ -70,6 +70,11 @@ pub record IsItem (value : Option (List ℕ)) (found : Bool) (old new : Rows) : 
   pub there : found ≡ true → (text : List ℕ) × (value ≡ Some text) × Adds old new (item_row text ∷ [])
   pub none : found ≡ false → (value ≡ None) × Adds old new []
 
+-- the rows of texts where there are any, and whether there are
+pub record AreItems (texts : Option (List (List ℕ))) (found : Bool) (old new : Rows) : Type 0 where
+  pub there : found ≡ true → (items : List (List ℕ)) × (texts ≡ Some items) × Adds old new (map item_row items)
+  pub none : found ≡ false → (texts ≡ None) × Adds old new []
+
 -- ---- one call behind another
 
 pub adds_nothing : (a : Rows) → Adds a a []

@@ -1,15 +1,16 @@
 //! The trait of engines.
-ghost use Rattle.std.specs.Prelude.{◌≡◌, false, not, map, length, option_map};
+ghost use Rattle.std.specs.Prelude.{◌≡◌, true, false, not, map, length, option_map, IsErrOf};
 ghost use Rattle.tc_base.specs.Files.{Files};
 ghost use Rattle.tc_space.specs.Frames.{Keeps};
 ghost use Rattle.tc_space.specs.Refusals.{Blames, OnFault};
-ghost use Rattle.tc_model.specs.Contents.{Contents, is_narrow, is_table};
-ghost use Rattle.tc_model.specs.Meaning.{ranged};
+ghost use Rattle.tc_model.specs.Contents.{Contents, is_narrow};
+ghost use Rattle.tc_model.specs.Meaning.{ranged, row_held};
 ghost use Rattle.tc_model.specs.Apply.{keys_from};
+ghost use Rattle.tc_model.specs.Rows.{texts_of};
 ghost use Rattle.tc_model.specs.Stores.{all_keys, all_pairs, count, first_pair, held, size_of};
-ghost use Rattle.ty_base.specs.Holding.{FindsHeld, IsReady, ReadsHeld, RefusesHeld};
-ghost use Rattle.tc_engine.specs.Changes.{all_cleared, all_gone, all_pushed, all_stored, first_of, pushed, stored, taken};
-ghost use Rattle.tc_engine.specs.Effects.{AddsItem, AddsOf, FullFor, MadeBy};
+ghost use Rattle.ty_base.specs.Holding.{FindsHeld, IsReady, KeepsFills, ReadsHeld, RefusesHeld};
+ghost use Rattle.tc_engine.specs.Changes.{all_cleared, all_gone, all_pushed, all_stored, first_of, found_by, index_set, pushed, row_stored, search_of, stored, taken, takes_out};
+ghost use Rattle.tc_engine.specs.Effects.{AddsItem, AddsOf, AddsTexts, FullFor, MadeBy};
 ghost use Rattle.tc_engine.specs.Rows.{Extends, item_row, pair_rows, text_rows};
 
 use crate::rows::Rows;
@@ -22,7 +23,7 @@ use ty_base::Storage;
 ///
 /// A call that only reads changes nothing, whatever it answers.
 pub trait Engine: Storage {
-    /// Whether a value of four bytes has room, as `addint` wants it.
+    /// Whether a value of four bytes has room, as `addint` wants it: in no table.
     fn takes_numbers(&self) -> bool
         ensures { (files : Files) (c : Contents) → Self.holds self.now files c → result ≡ not (is_narrow c) };
 
@@ -46,11 +47,12 @@ pub trait Engine: Storage {
         ensures keeps { Keeps Self.S.Space space.old space.new }
         ensures cause { Blames Self.S.Space result space.old space.new };
 
-    /// The value of a key, of a tree its first.
+    /// The value of a key, of a tree its first. A limit that is met behind it is one by what was there before it.
     fn value(&mut self, space: &mut Self::S, key: &Key) -> Result<Option<Blob>, RecErr>
         requires { IsReady Self.S.Space Self.holds self.old space.old }
         ensures value { FindsHeld Self.S.Space Self.holds result (λ c. held c key.now) self.old space.old }
         ensures reads { ReadsHeld Self.S.Space Self.holds self.old self.new space.old space.new }
+        ensures fills { KeepsFills Self.S.Space Self.fills self.old self.new space.old space.new }
         ensures keeps { Keeps Self.S.Space space.old space.new }
         ensures cause { Blames Self.S.Space result space.old space.new };
 
@@ -190,6 +192,56 @@ pub trait Engine: Storage {
         ensures keeps { Keeps Self.S.Space space.old space.new }
         ensures cause { OnFault Self.S.Space result space.old space.new };
 
-    /// It has no rows of a table.
-    ghost no_table: { (e : Self) (files : Files) (c : Contents) → Self.holds e files c → is_table c ≡ false };
+    /// Gives a key of a table a row of these columns, of which none may come twice. It answers whether it did; another database has no rows.
+    fn store_row(
+        &mut self,
+        space: &mut Self::S,
+        mode: Mode,
+        key: Key,
+        columns: Pairs,
+    ) -> Result<bool, RecErr>
+        requires { IsReady Self.S.Space Self.holds self.old space.old }
+        ensures makes { MadeBy Self.S.Space Self.holds Self.own result (row_stored mode key columns) self.old self.new space.old space.new }
+        ensures refused { RefusesHeld Self.S.Space Self.holds result self.old self.new space.old space.new }
+        ensures full { FullFor Self.S.Space Self.holds Self.fills result (row_stored mode key columns) self.old space.old space.new }
+        ensures keeps { Keeps Self.S.Space space.old space.new }
+        ensures cause { OnFault Self.S.Space result space.old space.new };
+
+    /// Adds the names and values of the row of a key as rows, and answers whether there is one; where there isn't nothing is added.
+    fn row(&mut self, space: &mut Self::S, key: &Key, into: &mut Rows) -> Result<bool, RecErr>
+        requires { IsReady Self.S.Space Self.holds self.old space.old }
+        ensures value { AddsTexts Self.S.Space Self.holds result (λ c. option_map texts_of (row_held c key.now)) self.old space.old into.old into.new }
+        ensures front { Extends into.old into.new }
+        ensures reads { ReadsHeld Self.S.Space Self.holds self.old self.new space.old space.new }
+        ensures keeps { Keeps Self.S.Space space.old space.new }
+        ensures cause { Blames Self.S.Space result space.old space.new };
+
+    /// Sets the index of a column of a table to the type of a code, or takes it away. It answers whether it did.
+    fn set_index(&mut self, space: &mut Self::S, column: Blob, code: &Blob) -> Result<bool, RecErr>
+        requires { IsReady Self.S.Space Self.holds self.old space.old }
+        ensures makes { MadeBy Self.S.Space Self.holds Self.own result (index_set column code.now) self.old self.new space.old space.new }
+        ensures refused { RefusesHeld Self.S.Space Self.holds result self.old self.new space.old space.new }
+        ensures full { FullFor Self.S.Space Self.holds Self.fills result (index_set column code.now) self.old space.old space.new }
+        ensures keeps { Keeps Self.S.Space space.old space.new }
+        ensures cause { OnFault Self.S.Space result space.old space.new };
+
+    /// Does with the rows of a table what a search by conditions says, and adds what it has to say as rows. It answers whether they are a search
+    /// and this is a table; where not nothing is added. Without `out` among them it only reads, and with it there is nothing to say.
+    fn search(
+        &mut self,
+        space: &mut Self::S,
+        conditions: &Blobs,
+        into: &mut Rows,
+    ) -> Result<bool, RecErr>
+        requires { IsReady Self.S.Space Self.holds self.old space.old }
+        ensures makes { MadeBy Self.S.Space Self.holds Self.own result (found_by conditions.now) self.old self.new space.old space.new }
+        ensures says { AddsTexts Self.S.Space Self.holds result (λ c. option_map (λ o. o.1) (search_of conditions.now c)) self.old space.old into.old into.new }
+        ensures quiet { takes_out conditions.now ≡ true → into.new ≡ into.old }
+        ensures front { Extends into.old into.new }
+        ensures reads { takes_out conditions.now ≡ false → ReadsHeld Self.S.Space Self.holds self.old self.new space.old space.new }
+        ensures writes { IsErrOf result RecErr.Full → takes_out conditions.now ≡ true }
+        ensures refused { RefusesHeld Self.S.Space Self.holds result self.old self.new space.old space.new }
+        ensures full { FullFor Self.S.Space Self.holds Self.fills result (found_by conditions.now) self.old space.old space.new }
+        ensures keeps { Keeps Self.S.Space space.old space.new }
+        ensures cause { OnFault Self.S.Space result space.old space.new };
 }

@@ -55,7 +55,7 @@ module _ {S : Type 0} (s : Ghosts S) where
   pub stores : (e e' : FixedEngine S) (a b : S) (mode : Mode) (key text value : List ℕ) (id : ℕ) (done : Bool) → text ≡ key → Names e.fixed text (Some id) → Takes s (stored_at mode (width_of e.fixed) id value) done e.fixed e'.fixed a b → Makes s (Only 0) HoldsIds (stored mode key value) done e e' a b
   stores e e' a b mode key text value id done same names takes = made_up s (stored mode key value) (stored_at mode (width_of e.fixed) id value) done e e' a b takes (λ m means. stored_step e.fixed mode m key value id (named_now e a m key text (Some id) same names means))
 
-  pub store_full : (e : FixedEngine S) (a b : S) (mode : Mode) (key text value : List ℕ) (id : ℕ) → text ≡ key → Names e.fixed text (Some id) → LacksRoomFor s (stored_at mode (width_of e.fixed) id value) e.fixed a b → IsFull s HoldsIds (Fills s) (stored mode key value) e a b
+  pub store_full : (e : FixedEngine S) (a b : S) (mode : Mode) (key text value : List ℕ) (id : ℕ) → text ≡ key → Names e.fixed text (Some id) → LacksRoomFor s (stored_at mode (width_of e.fixed) id value) e.fixed a b → IsFull s HoldsIds (λ x y. Fills s) (stored mode key value) e a b
   store_full e a b mode key text value id same names lacks = full_up s (stored mode key value) (stored_at mode (width_of e.fixed) id value) e a b lacks (λ m means. stored_step e.fixed mode m key value id (named_now e a m key text (Some id) same names means))
 
   pub takes_out : (e e' : FixedEngine S) (a b : S) (key text : List ℕ) (id : ℕ) (done : Bool) → text ≡ key → Names e.fixed text (Some id) → Takes s (λ m. without m id) done e.fixed e'.fixed a b → Makes s (Only 0) HoldsIds (taken key) done e e' a b

@@ -1,5 +1,6 @@
 mod Asked
 mod Beginning
+mod Cut
 mod Ends
 mod Fronts
 mod Joining

@@ -76,6 +76,6 @@ module _ {S : Type 0} (s : Ghosts S) where
   stores_all e e' a b pairs texts others t same again names is writes shape = made_up s (all_stored pairs) (λ m. Some (all_set (width_of e.fixed) (max_id_of e.fixed) others m)) true e e' a b (takes_writes s (all_set (width_of e.fixed) (max_id_of e.fixed) others) e.fixed e'.fixed a b writes shape)
       (λ m means. record { is = each_is e a pairs texts t same names m means ∙ ap (λ x. cond x (Some (as_contents e.fixed (all_set (width_of e.fixed) (max_id_of e.fixed) pairs m))) None) is ∙ ap (λ ps. Some (as_contents e.fixed (all_set (width_of e.fixed) (max_id_of e.fixed) ps m))) (sym again) })
 
-  pub store_all_full : (e : FixedEngine S) (a b : S) (pairs texts others : List Pair) (t : Bool) → texts ≡ pairs → others ≡ pairs → AllNamed e.fixed texts t → t ≡ true → ((m : Array) → Means s e.fixed a m → HasNoRoom (s.limit b 0) (s.log_full b) (end_of (width_of e.fixed) (greatest (all_set (width_of e.fixed) (max_id_of e.fixed) others m)))) → IsFull s HoldsIds (Fills s) (all_stored pairs) e a b
+  pub store_all_full : (e : FixedEngine S) (a b : S) (pairs texts others : List Pair) (t : Bool) → texts ≡ pairs → others ≡ pairs → AllNamed e.fixed texts t → t ≡ true → ((m : Array) → Means s e.fixed a m → HasNoRoom (s.limit b 0) (s.log_full b) (end_of (width_of e.fixed) (greatest (all_set (width_of e.fixed) (max_id_of e.fixed) others m)))) → IsFull s HoldsIds (λ x y. Fills s) (all_stored pairs) e a b
   store_all_full e a b pairs texts others t same again names is full = full_up s (all_stored pairs) (λ m. Some (all_set (width_of e.fixed) (max_id_of e.fixed) others m)) e a b (record { by = λ m means. (all_set (width_of e.fixed) (max_id_of e.fixed) others m, refl, full m means) })
       (λ m means. record { is = each_is e a pairs texts t same names m means ∙ ap (λ x. cond x (Some (as_contents e.fixed (all_set (width_of e.fixed) (max_id_of e.fixed) pairs m))) None) is ∙ ap (λ ps. Some (as_contents e.fixed (all_set (width_of e.fixed) (max_id_of e.fixed) ps m))) (sym again) })

@@ -64,7 +64,7 @@ module _ {S : Type 0} (s : Ghosts S) where
     same = λ not. reads_up e e' a b (takes.same not) takes.shape;
   }
 
-  pub full_up : (change : Change) (step : Step) (e : FixedEngine S) (a b : S) → LacksRoomFor s step e.fixed a b → ((m : Array) → Means s e.fixed a m → IsStep e.fixed change step m) → IsFull s HoldsIds (Fills s) change e a b
+  pub full_up : (change : Change) (step : Step) (e : FixedEngine S) (a b : S) → LacksRoomFor s step e.fixed a b → ((m : Array) → Means s e.fixed a m → IsStep e.fixed change step m) → IsFull s HoldsIds (λ x y. Fills s) change e a b
   full_up change step e a b lacks is_step = record {
     by = λ c h.
         let less = lacks.by h.1.ids (means_of e a c h) in

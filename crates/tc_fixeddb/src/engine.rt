@@ -5,7 +5,7 @@ ghost use Rattle.std.proofs.Common.{inr};
 ghost use Rattle.tc_space.specs.Stores.{Only};
 ghost use Rattle.ty_base.specs.Holding.{main_no_log};
 ghost use Rattle.tc_fixeddb.specs.Holding.{Fills, HoldsIds, Lines, Reopens};
-ghost use Rattle.tc_fixeddb.specs.Laws.{moved_apart, never_table};
+ghost use Rattle.tc_fixeddb.specs.Laws.{moved_apart};
 
 use crate::holding::FixedEngine;
 use crate::informing::{add_lines, read_head};
@@ -26,9 +26,11 @@ impl<S: Space> Storage for FixedEngine<S> {
 
     ghost own = { λ file. Only 0 file };
 
-    ghost fills = { λ space c d. Fills S.Space space c d };
+    ghost fills = { λ e a b c d. Fills S.Space b c d };
 
-    ghost lacks_large = { λ space c. ⊥ };
+    ghost fills_since = { λ a b c d. Fills S.Space b c d };
+
+    ghost lacks_large = { λ a b c. ⊥ };
 
     ghost lines = { λ files text. Lines files text };
 
@@ -40,7 +42,11 @@ impl<S: Space> Storage for FixedEngine<S> {
 
     ghost apart = { λ e f g c same. moved_apart e f g c same };
 
-    ghost log_fills = { λ space c d full. inr full };
+    ghost log_fills = { λ e a b c d full. inr full };
+
+    ghost fills_then = { λ e a b c d full. full };
+
+    ghost since_more = { λ a b new le. record { fills = λ c d full. full; large = λ c full. full } };
 
     fn kind(&self) -> Kind {
         Kind::Fixed
@@ -65,8 +71,6 @@ impl<S: Space> Storage for FixedEngine<S> {
 }
 
 impl<S: Space> Engine for FixedEngine<S> {
-    ghost no_table = { λ e files c holds. never_table e files c holds };
-
     fn takes_numbers(&self) -> bool {
         self.fixed.width() >= 4
     }
@@ -83,7 +87,7 @@ impl<S: Space> Engine for FixedEngine<S> {
         let Some(id) = self.id_of(key.as_slice()) else {
             return Ok(None);
         };
-        self.fixed.value_len(space, id)
+        Ok(self.fixed.value_len(space, id)?)
     }
 
     fn value(&mut self, space: &mut S, key: &Key) -> Result<Option<Blob>, RecErr> {
@@ -148,7 +152,7 @@ impl<S: Space> Engine for FixedEngine<S> {
         let Some(id) = self.id_of(key.as_slice()) else {
             return Ok(false);
         };
-        store_at(&mut self.fixed, space, mode, id, value)
+        store_at(self.alloc, &mut self.fixed, space, mode, id, value)
     }
 
     fn push(&mut self, _space: &mut S, _key: Key, _value: Blob) -> Result<bool, RecErr> {
@@ -184,5 +188,32 @@ impl<S: Space> Engine for FixedEngine<S> {
 
     fn clear(&mut self, space: &mut S) -> Result<bool, RecErr> {
         clear(&mut self.fixed, space)
+    }
+
+    fn store_row(
+        &mut self,
+        _space: &mut S,
+        _mode: Mode,
+        _key: Key,
+        _columns: Pairs,
+    ) -> Result<bool, RecErr> {
+        Ok(false)
+    }
+
+    fn row(&mut self, _space: &mut S, _key: &Key, _into: &mut Rows) -> Result<bool, RecErr> {
+        Ok(false)
+    }
+
+    fn set_index(&mut self, _space: &mut S, _column: Blob, _code: &Blob) -> Result<bool, RecErr> {
+        Ok(false)
+    }
+
+    fn search(
+        &mut self,
+        _space: &mut S,
+        _conditions: &Blobs,
+        _into: &mut Rows,
+    ) -> Result<bool, RecErr> {
+        Ok(false)
     }
 }

@@ -2,13 +2,17 @@
 #![tactic(auto, using(tc_space::specs::Frames::keeps_refl, tc_space::specs::Frames::reads_refl, crate::specs::Lifting::ready_down, crate::specs::Lifting::reads_up))]
 
 ghost use Rattle.std.specs.Prelude.{◌≡◌, map, IfOk, OnOk};
-ghost use Rattle.tc_space.specs.Frames.{Keeps};
+ghost use Rattle.std.specs.FinMap.{get};
+ghost use Rattle.tc_space.specs.Frames.{Keeps, Reads};
 ghost use Rattle.tc_space.specs.Refusals.{Blames};
 ghost use Rattle.tc_model.specs.Apply.{keys_from};
+ghost use Rattle.tc_model.specs.Arrays.{Array};
 ghost use Rattle.tc_model.specs.Stores.{all_keys};
 ghost use Rattle.ty_base.specs.Holding.{FindsHeld, IsReady, ReadsHeld, OfHeld};
 ghost use Rattle.tc_engine.specs.Changes.{first_of};
 ghost use Rattle.tc_engine.specs.Rows.{Adds, Extends, item_row};
+ghost use Rattle.tc_fixed.specs.Holding.{Means, SameShape};
+ghost use Rattle.tc_fixeddb.specs.Changing.{ReadyIds};
 ghost use Rattle.tc_fixeddb.specs.Holding.{HoldsIds, IsFound, decimals};
 
 use crate::holding::FixedEngine;
@@ -18,6 +22,7 @@ use crate::texts::{add_id, id_key};
 use std::alloc::{AllocError, Global};
 use tc_base::{Blob, Keys};
 use tc_engine::Rows;
+use tc_fixed::Fixed;
 use tc_space::{RecErr, Space};
 
 // Ids as keys.
@@ -42,6 +47,29 @@ pub(crate) fn add_ids(ids: &[u64], rows: &mut Rows) -> Result<(), AllocError>
     Ok(())
 }
 
+/// The value of an id.
+pub(crate) fn value_at<S: Space>(
+    alloc: Global,
+    fixed: &mut Fixed<S>,
+    space: &mut S,
+    id: u64,
+) -> Result<Option<Blob>, RecErr>
+    requires { ReadyIds S.Space fixed.old space.old }
+    ensures value { IfOk result (λ found. (m : Array) → Means S.Space fixed.old space.old m → found ≡ get m id) }
+    ensures reads { Reads S.Space (Means S.Space) fixed.old fixed.new space.old space.new }
+    ensures keeps { Keeps S.Space space.old space.new }
+    ensures shape { SameShape fixed.old fixed.new }
+    ensures cause { Blames S.Space result space.old space.new }
+{
+    let mut bytes = Vec::new(alloc);
+    bytes.resize(fixed.width() as usize, 0)?;
+    let Some(long) = fixed.get(space, id, &mut bytes)? else {
+        return Ok(None);
+    };
+    bytes.truncate(long);
+    Ok(Some(Blob::from_vec(bytes)))
+}
+
 impl<S: Space> FixedEngine<S> {
     /// The id that a key names and its value, where it is held.
     pub(crate) fn find(&mut self, space: &mut S, key: &[u8]) -> Result<Option<(u64, Blob)>, RecErr>
@@ -54,7 +82,7 @@ impl<S: Space> FixedEngine<S> {
         let Some(id) = self.id_of(key) else {
             return Ok(None);
         };
-        let Some(value) = self.fixed.get(space, id)? else {
+        let Some(value) = value_at(self.alloc, &mut self.fixed, space, id)? else {
             return Ok(None);
         };
         Ok(Some((id, value)))

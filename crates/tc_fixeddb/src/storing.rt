@@ -10,7 +10,8 @@ ghost use Rattle.tc_fixed.specs.Cells.{end_of};
 ghost use Rattle.tc_fixed.specs.Holding.{SameShape, max_id_of, width_of};
 ghost use Rattle.tc_fixeddb.specs.Changing.{LacksFor, LacksWith, ReadyIds, RefusesIds, SpoiledByLog, TakesBy, WritesIds, stored_for};
 
-use std::alloc::AllocError;
+use crate::reading::value_at;
+use std::alloc::{AllocError, Global};
 use tc_base::{Blob, Mode};
 use tc_fixed::Fixed;
 use tc_space::{RecErr, Space};
@@ -91,6 +92,7 @@ fn joined(old: Option<Blob>, more: Blob) -> Result<Blob, AllocError>
 
 /// Joins bytes behind the value of an id.
 fn store_behind<S: Space>(
+    alloc: Global,
     fixed: &mut Fixed<S>,
     space: &mut S,
     id: u64,
@@ -105,7 +107,7 @@ fn store_behind<S: Space>(
     ensures shape { SameShape fixed.old fixed.new }
     ensures cause { OnFault S.Space result space.old space.new }
 {
-    let old = fixed.get(space, id)?;
+    let old = value_at(alloc, fixed, space, id)?;
     let value = joined(old, value)?;
     put_cut(fixed, space, id, value.as_slice())?;
     Ok(true)
@@ -113,6 +115,7 @@ fn store_behind<S: Space>(
 
 /// Gives an id a value as a mode says, and answers whether it did.
 pub(crate) fn store_at<S: Space>(
+    alloc: Global,
     fixed: &mut Fixed<S>,
     space: &mut S,
     mode: Mode,
@@ -131,7 +134,7 @@ pub(crate) fn store_at<S: Space>(
     match mode {
         Mode::Over => store_over(fixed, space, id, value.as_slice()),
         Mode::Keep => store_new(fixed, space, id, value.as_slice()),
-        Mode::Cat => store_behind(fixed, space, id, value),
+        Mode::Cat => store_behind(alloc, fixed, space, id, value),
     }
 }
 

@@ -1,5 +1,5 @@
 -- A limit of the hash file is one of the database.
-use Rattle.std.proofs.Common.{◌≡◌, ℕ, List, length, refl, sym, subst, inl, inr, ⊎_elim}
+use Rattle.std.proofs.Common.{◌≡◌, ℕ, List, length, refl, sym, subst, inl, inr, ⊎_elim, arith}
 use Rattle.std.specs.FinMap.{get}
 use Rattle.tc_base.specs.Files.{Files}
 use Rattle.tc_base.specs.Maps.{Map}
@@ -32,17 +32,18 @@ module _ {S : Type 0} (s : Ghosts S) where
   }
 
   -- no block was to be had for the record of a key that was put
-  pub key_fills : (mode : Mode) (key value : List ℕ) (h : Hash S) (a b : S) (m : Map) → h.body.file ≡ 0 → In s file_of holds h a m → IsPast s a b → LacksBlock s mode key value h a b → FillsKey s b m key (put_value mode (get m key) value)
+  pub key_fills : (mode : Mode) (key value : List ℕ) (h : Hash S) (a b : S) (m : Map) → h.body.file ≡ 0 → In s file_of holds h a m → IsPast s a b → LacksBlock s mode key value h a b → FillsKey s a b m key (put_value mode (get m key) value)
   key_fills mode key value h a b m file held past lacks =
       let v : List ℕ = put_value mode (get m key) value in
-      let wants_at : WantsIts s h key m a b (size_for h key v) → WantsAt (s.limit b 0) (length (s.now b 0)) (s.files_at b) (s.moment b) m key v = λ wants. record {
+      let wants_at : WantsIts s h key m a b (size_for h key v) → WantsAt (s.limit b 0) (length (s.now b 0)) (s.files_at b) (s.moment a) (s.moment b) m key v = λ wants. record {
         at = s.moment a;
+        since = omega arith;
         within = past.later;
         wants = subst (λ (files : Files). WantsBlock (s.limit b 0) (length (s.now b 0)) (files 0) m key v) (sym past.files) (wants_block h a b m key v file held wants);
       } in
       ⊎_elim (λ log. inl log) (λ wants. inr (wants_at wants)) (lacks.wants m held)
 
-  pub fills_up : (mode : Mode) (key value : List ℕ) (h : Hash S) (a b : S) (m : Map) → h.body.file ≡ 0 → In s file_of holds h a m → IsPast s a b → LacksBlock s mode key value h a b → FillsMap s b m (put_in mode key value m)
+  pub fills_up : (mode : Mode) (key value : List ℕ) (h : Hash S) (a b : S) (m : Map) → h.body.file ≡ 0 → In s file_of holds h a m → IsPast s a b → LacksBlock s mode key value h a b → FillsMap s a b m (put_in mode key value m)
   fills_up mode key value h a b m file held past lacks =
       let v : List ℕ = put_value mode (get m key) value in
       ⊎_elim (λ log. inl log)

@@ -1,5 +1,5 @@
 -- A packing keeps what is held, and a limit that it meets is one of the database.
-use Rattle.std.proofs.Common.{◌≡◌, ◌⊎◌, ◌+◌, ◌<◌, ℕ, List, length, sym, ap, subst, inl, inr, ⊎_elim}
+use Rattle.std.proofs.Common.{◌≡◌, ◌⊎◌, ◌+◌, ◌<◌, ℕ, List, length, sym, ap, subst, inl, inr, ⊎_elim, arith}
 use Rattle.std.specs.FinMap.{keys}
 use Rattle.tc_base.specs.Files.{Files}
 use Rattle.tc_base.specs.Maps.{Map}
@@ -77,13 +77,14 @@ module _ {S : Type 0} (s : Ghosts S) where
       })
       lacks
 
-  pub pack_full : (form : Form) (e : HashEngine S) (a b : S) → (s.tells → IsPast s a b) → (s.tells → LacksPacking form s e.hash a b) → (c : Contents) → Held s HoldsKeys e a c → s.log_full b ⊎ ((form ≡ forms.Large) × LacksLarge s b c)
+  pub pack_full : (form : Form) (e : HashEngine S) (a b : S) → (s.tells → IsPast s a b) → (s.tells → LacksPacking form s e.hash a b) → (c : Contents) → Held s HoldsKeys e a c → s.log_full b ⊎ ((form ≡ forms.Large) × LacksLarge s a b c)
   pack_full form e a b past full c h =
       let m : Map = h.1.map in
       let p = past h.0 in
-      let of : LacksIts s e.hash a b → LacksLargeOf (s.limit b 0) (length (s.now b 0)) (s.files_at b) (s.moment b) m = λ lacks. record {
+      let of : LacksIts s e.hash a b → LacksLargeOf (s.limit b 0) (length (s.now b 0)) (s.files_at b) (s.moment a) (s.moment b) m = λ lacks. record {
         at = s.moment a;
+        since = omega arith;
         within = p.later;
         lacks = subst (λ (files : Files). LacksLargeAt (s.limit b 0) (length (s.now b 0)) (files 0) m) (sym p.files) (large_up e a b m h.1.holds_map.file (means_of s e a c h) lacks);
       } in
-      ⊎_elim (λ log. inl log) (λ large. inr (large.0, subst (λ d. LacksLarge s b d) (sym h.1.is) (of large.1))) (full h.0)
+      ⊎_elim (λ log. inl log) (λ large. inr (large.0, subst (λ d. LacksLarge s a b d) (sym h.1.is) (of large.1))) (full h.0)

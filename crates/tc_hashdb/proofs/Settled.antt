@@ -1,5 +1,5 @@
 -- The file stands for the contents once they are settled.
-use Rattle.std.proofs.Common.{◌≡◌, ◌∙◌, inr, sym, ap, subst}
+use Rattle.std.proofs.Common.{◌≡◌, ◌∙◌, inr, length, sym, ap, subst}
 use Rattle.std.specs.FinMap.{get}
 use Rattle.tc_base.specs.Maps.{Map}
 use Rattle.tc_base.specs.declared.kind.Form.{Form}
@@ -35,11 +35,11 @@ module _ {S : Type 0} (s : Ghosts S) where
   -- a packed file that is settled
   pub settle_packs : (e : HashEngine S) (h : Hash S) (a b : S) → h.body.head ≡ e.hash.body.head → Trimmed (frees e.hash.body.pool) (frees h.body.pool) e.hash.body.pool.size h.body.pool.size
       → (s.tells → (m : Map) → holds e.hash (s.now a e.hash.body.file) m → Brought h.body.head h.body.pool.size (frees h.body.pool) h.records h.region m (s.now b e.hash.body.file))
-      → (form : Form) (c : Contents) → IsTight form e.hash → Held s HoldsKeys e a c → IsPacked form (s.now b 0)
-  settle_packs e h a b head trimmed brought form c tight held =
+      → (s.tells → length (s.now b e.hash.body.file) ≡ h.body.pool.size) → (form : Form) (c : Contents) → IsTight form e.hash → Held s HoldsKeys e a c → IsPacked form (s.now b 0)
+  settle_packs e h a b head trimmed brought long form c tight held =
       let m : Map = held.1.map in
       let means : Means s e a m = means_of s e a c held in
-      subst (λ f. IsPacked form (s.now b f)) means.1.file (packed_of form h.body.head h.body.pool.size (frees h.body.pool) h.records h.region m (s.now b e.hash.body.file) (brought held.0 m (in_of s e a m means).1)
+      subst (λ f. IsPacked form (s.now b f)) means.1.file (packed_of form h.body.head h.body.pool.size (frees h.body.pool) h.records h.region m (s.now b e.hash.body.file) (brought held.0 m (in_of s e a m means).1) (long held.0)
       (still_none (frees e.hash.body.pool) (frees h.body.pool) e.hash.body.pool.size h.body.pool.size trimmed tight.nothing)
       (λ is. ap (λ x. x.options) head ∙ tight.large is))
 

@@ -160,9 +160,9 @@ pub set_next : (es : List Entry) (e : Entry) (m : Map) → set_entries m (es ++ 
 set_next es e m = fold-append (λ (n : Map) (e : Entry). set_one n e.0 e.1) m es (e ∷ [])
 
 -- those that were set, the next one, and those behind it
-pub fills_on : (limit long : ℕ) (log : Type 0) (past : ℕ → Files) (moment : ℕ) (all es fs : List Entry) (e : Entry) (m : Map) → IsStrictlySortedBy order (keys_of all) → all ≡ es ++ e ∷ fs → log ⊎ WantsAt limit long past moment (set_entries m es) e.0 e.1 → FillsBy limit long log past moment m (set_entries m all)
-fills_on limit long log past moment all es fs e m rising is (inl full) = inl full
-fills_on limit long log past moment all es fs e m rising is (inr wants) =
+pub fills_on : (limit long : ℕ) (log : Type 0) (past : ℕ → Files) (from moment : ℕ) (all es fs : List Entry) (e : Entry) (m : Map) → IsStrictlySortedBy order (keys_of all) → all ≡ es ++ e ∷ fs → log ⊎ WantsAt limit long past from moment (set_entries m es) e.0 e.1 → FillsBy limit long log past from moment m (set_entries m all)
+fills_on limit long log past from moment all es fs e m rising is (inl full) = inl full
+fills_on limit long log past from moment all es fs e m rising is (inr wants) =
     let once : Once (es ++ e ∷ fs) = subst Once is (rising_once all rising) in
     inr (record {
       held = set_entries m es;

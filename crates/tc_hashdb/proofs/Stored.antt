@@ -8,12 +8,12 @@ use Rattle.tc_base.specs.declared.kind.Mode.{Mode}
 use Rattle.tc_base.specs.declared.kind.Mode.TheVariants.{Over, Keep, Cat}
 use Rattle.tc_space.specs.Changes.{is_in, out_of, put_in, put_value}
 use Rattle.tc_space.specs.Frames.{In, Reads, Writes}
-use Rattle.tc_space.specs.Stores.{IsReady, Only, StaysMap}
+use Rattle.tc_space.specs.Stores.{IsReady, Only}
 use Rattle.tc_space.specs.declared.space.Space.{Ghosts}
 use Rattle.tc_hash.specs.declared.hash.Hash.{Hash}
 use Rattle.tc_hash.specs.declared.put.Put.{Put}
 use Rattle.tc_hash.specs.declared.put.Put.TheVariants as put
-use Rattle.tc_hash.specs.Keeping.{SameShape, StaysOpen, file_of, gets_of, holds, region_of, sort_of}
+use Rattle.tc_hash.specs.Keeping.{SameMap, SameShape, StaysOpen, file_of, holds}
 use Rattle.tc_hash.specs.Putting.{Answers, LacksWithin, StoresWithin, TakesLen}
 use Rattle.tc_model.specs.Maps.{with_value, without}
 use Rattle.tc_hashdb.specs.declared.holding.HashEngine.{HashEngine}
@@ -109,7 +109,7 @@ module _ {S : Type 0} (s : Ghosts S) where
   lacks_put mode key value v a b past lacks = record {
     by = λ m means.
         let held = in_of s v a m means in
-        subst (λ n. FillsMap s b m n) (sym (ap (λ o. unwrap_or o m) (stored_put mode m key value (λ keep. lacks.lacks.free keep m held) (lacks.fits m held))))
+        subst (λ n. FillsMap s a b m n) (sym (ap (λ o. unwrap_or o m) (stored_put mode m key value (λ keep. lacks.lacks.free keep m held) (lacks.fits m held))))
         (fills_up s mode key value v.hash a b m means.1.file held (past means.0) lacks.lacks.block);
   }
 
@@ -123,7 +123,7 @@ module _ {S : Type 0} (s : Ghosts S) where
   pub takes_none : (key : List ℕ) (v w : HashEngine S) (a b : S) → TakesLen s key None v.hash w.hash a b → StaysOpen v.hash w.hash → w.total ≡ v.total → Takes s (λ m. without m key) false v w a b
   takes_none key v w a b takes stays total = takes_nothing (λ m. without m key) v w a b (reads_again s v w a b (takes.out.none refl) stays.map.file stays.head total) (λ m means. held_false key m false (takes.out.held m (in_of s v a m means)) refl)
 
-  pub takes_cleared : (v w : HashEngine S) (a b : S) → IsReady s (Means s) v a → Writes s (Only (file_of v.hash)) (In s file_of holds) (λ m. empty) v.hash w.hash a b → StaysMap file_of sort_of region_of gets_of v.hash w.hash → SameShape v.hash w.hash → w.total ≡ Some 0 → Takes s (λ m. Some empty) true v w a b
+  pub takes_cleared : (v w : HashEngine S) (a b : S) → IsReady s (Means s) v a → Writes s (Only (file_of v.hash)) (In s file_of holds) (λ m. empty) v.hash w.hash a b → SameMap v.hash w.hash → SameShape v.hash w.hash → w.total ≡ Some 0 → Takes s (λ m. Some empty) true v w a b
   takes_cleared v w a b ready writes stays shape total = takes_of (λ m. Some empty) (λ m. empty) v w a b
       (writes_again s (λ m. empty) v w a b ready writes stays.file shape.kind (λ m means. subst (λ o. Counts o empty) (sym total) (sym size-empty)))
       (λ m means. refl)

@@ -1,8 +1,8 @@
 -- What an inspection reads, and what it tells.
-use Rattle.std.proofs.Common.{◌≡◌, ◌∙◌, inr, ℕ, List, ◌++◌, length, sym, ap, subst, append_assoc, ⊎_elim, arith}
+use Rattle.std.proofs.Common.{◌≡◌, ◌∙◌, ℕ, List, ◌++◌, length, sym, ap, subst, append_assoc, ⊎_elim, arith}
 use Rattle.std.specs.Prelude.{Option, Some, unwrap_or, codes, Bool, Result, Ok, Err, OnOk}
 use Rattle.tc_base.specs.Files.{Files}
-use Rattle.tc_space.specs.Frames.{OnlyReads, Reads, Refuses}
+use Rattle.tc_space.specs.Frames.{OnlyReads, Reads}
 use Rattle.tc_space.specs.declared.space.Space.{Ghosts}
 use Rattle.hf_head.specs.declared.head.Head.{Head}
 use Rattle.hf_head.specs.Heads.{head_in, is_large, unit}
@@ -24,9 +24,6 @@ module _ {S : Type 0} (s : Ghosts S) where
     sound = reads.is_sound;
     means = λ c h. (h.0, record { map = h.1.map; is = h.1.is; holds_map = subst (λ bytes. HoldsCounted e bytes h.1.map) (sym (reads.files h.0 0)) h.1.holds_map });
   }
-
-  pub only_refuses_up : (e : HashEngine S) (a b : S) → OnlyReads s a b → Refuses s (Held s HoldsKeys) e e a b
-  only_refuses_up e a b reads = inr (only_reads_up e a b reads)
 
 -- the file of what is held has a head, where it stands for it
 pub head_there : {S : Type 0} (e : HashEngine S) (files : Files) (c : Contents) → HoldsKeys e files c → Reopens files c → (h : Head) × HasHead 0 (files 0) h

@@ -4,10 +4,10 @@
 ghost use Rattle.std.proofs.Common.{inl};
 ghost use Rattle.tc_space.specs.Stores.{Only};
 ghost use Rattle.ty_base.specs.Holding.{main_no_log};
-ghost use Rattle.tc_hashdb.specs.Filling.{Fills, LacksLarge};
+ghost use Rattle.tc_hashdb.specs.Filling.{Fills, LacksLarge, fills_more, large_more};
 ghost use Rattle.tc_hashdb.specs.Holding.{HoldsKeys, Reopens};
 ghost use Rattle.tc_hashdb.specs.Informing.{Lines};
-ghost use Rattle.tc_hashdb.specs.Laws.{moved_apart, never_table};
+ghost use Rattle.tc_hashdb.specs.Laws.{moved_apart};
 ghost use Rattle.tc_hash.specs.Packing.{IsPacked, IsTight};
 
 use crate::holding::HashEngine;
@@ -28,9 +28,11 @@ impl<S: Space> Storage for HashEngine<S> {
 
     ghost own = { Only 0 };
 
-    ghost fills = { λ space c d. Fills S.Space space c d };
+    ghost fills = { λ e a b c d. Fills S.Space a b c d };
 
-    ghost lacks_large = { λ space c. LacksLarge S.Space space c };
+    ghost fills_since = { λ a b c d. Fills S.Space a b c d };
+
+    ghost lacks_large = { λ a b c. LacksLarge S.Space a b c };
 
     ghost lines = { λ files text. Lines files text };
 
@@ -42,7 +44,11 @@ impl<S: Space> Storage for HashEngine<S> {
 
     ghost apart = { λ e f g c same. moved_apart e f g c same };
 
-    ghost log_fills = { λ space c d full. inl full };
+    ghost log_fills = { λ e a b c d full. inl full };
+
+    ghost fills_then = { λ e a b c d full. full };
+
+    ghost since_more = { λ a b new le. record { fills = λ c d full. fills_more _ _ _ _ _ _ _ c d le full; large = λ c lacks. large_more _ _ _ _ _ _ c le lacks } };
 
     fn kind(&self) -> Kind {
         Kind::Hash
@@ -67,8 +73,6 @@ impl<S: Space> Storage for HashEngine<S> {
 }
 
 impl<S: Space> Engine for HashEngine<S> {
-    ghost no_table = { λ e files c holds. never_table e files c holds };
-
     fn takes_numbers(&self) -> bool {
         true
     }
@@ -180,5 +184,32 @@ impl<S: Space> Engine for HashEngine<S> {
 
     fn clear(&mut self, space: &mut S) -> Result<bool, RecErr> {
         self.clear_all_keys(space)
+    }
+
+    fn store_row(
+        &mut self,
+        _space: &mut S,
+        _mode: Mode,
+        _key: Key,
+        _columns: Pairs,
+    ) -> Result<bool, RecErr> {
+        Ok(false)
+    }
+
+    fn row(&mut self, _space: &mut S, _key: &Key, _into: &mut Rows) -> Result<bool, RecErr> {
+        Ok(false)
+    }
+
+    fn set_index(&mut self, _space: &mut S, _column: Blob, _code: &Blob) -> Result<bool, RecErr> {
+        Ok(false)
+    }
+
+    fn search(
+        &mut self,
+        _space: &mut S,
+        _conditions: &Blobs,
+        _into: &mut Rows,
+    ) -> Result<bool, RecErr> {
+        Ok(false)
     }
 }

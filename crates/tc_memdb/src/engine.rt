@@ -5,7 +5,7 @@ ghost use Rattle.std.specs.Prelude.{◌≡◌, []};
 ghost use Rattle.tc_base.specs.declared.kind.Kind.TheVariants as kind;
 ghost use Rattle.std.specs.Prelude.{false};
 ghost use Rattle.tc_model.specs.Contents.{no_data};
-ghost use Rattle.tc_memdb.specs.Holding.{contents_of, never_table};
+ghost use Rattle.tc_memdb.specs.Holding.{contents_of};
 
 use crate::data::Data;
 use crate::many::are_short;
@@ -55,9 +55,11 @@ impl Storage for MemEngine {
 
     ghost own = { λ file. ⊥ };
 
-    ghost fills = { λ s c d. ⊥ };
+    ghost fills = { λ e a b c d. ⊥ };
 
-    ghost lacks_large = { λ s c. ⊥ };
+    ghost fills_since = { λ a b c d. ⊥ };
+
+    ghost lacks_large = { λ a b c. ⊥ };
 
     ghost lines = { λ files text. text ≡ [] };
 
@@ -69,7 +71,11 @@ impl Storage for MemEngine {
 
     ghost apart = { λ e f g c same. ((λ h. h), (λ h. h)) };
 
-    ghost log_fills = { λ s c d full. full };
+    ghost log_fills = { λ e a b c d full. full };
+
+    ghost fills_then = { λ e a b c d full. full };
+
+    ghost since_more = { λ a b new le. record { fills = λ c d full. full; large = λ c full. full } };
 
     fn kind(&self) -> Kind {
         self.held.kind()
@@ -89,8 +95,6 @@ impl Storage for MemEngine {
 }
 
 impl Engine for MemEngine {
-    ghost no_table = { λ e files c holds. never_table e.held c holds };
-
     fn takes_numbers(&self) -> bool {
         true
     }
@@ -206,5 +210,37 @@ impl Engine for MemEngine {
     fn clear(&mut self, _space: &mut NoSpace) -> Result<bool, RecErr> {
         self.held.clear();
         Ok(true)
+    }
+
+    fn store_row(
+        &mut self,
+        _space: &mut NoSpace,
+        _mode: Mode,
+        _key: Key,
+        _columns: Pairs,
+    ) -> Result<bool, RecErr> {
+        Ok(false)
+    }
+
+    fn row(&mut self, _space: &mut NoSpace, _key: &Key, _into: &mut Rows) -> Result<bool, RecErr> {
+        Ok(false)
+    }
+
+    fn set_index(
+        &mut self,
+        _space: &mut NoSpace,
+        _column: Blob,
+        _code: &Blob,
+    ) -> Result<bool, RecErr> {
+        Ok(false)
+    }
+
+    fn search(
+        &mut self,
+        _space: &mut NoSpace,
+        _conditions: &Blobs,
+        _into: &mut Rows,
+    ) -> Result<bool, RecErr> {
+        Ok(false)
     }
 }

@@ -42,5 +42,5 @@ module _ {S E : Type 0} (s : Ghosts S) (own : ℕ → Type 0) (holds : E → Fil
   }
 
 module _ {S E : Type 0} (s : Ghosts S) (holds : E → Files → Contents → Type 0) where
-  pub full_applies : (fills : S → Contents → Contents → Type 0) (r : Request) (w : Walk) (e : E) (x y : S) → IsFullStep s holds fills r w e x y → FillsBy s holds (fills y) r e x (λ c. (apply false r c w).contents)
-  full_applies fills r w e x y full = record { writes = full.writes; packs = full.packs; by = λ c h. subst (λ step. fills y c step.contents) (sym (applied_here r c w)) (full.by c h) }
+  pub full_applies : (fills : E → S → S → Contents → Contents → Type 0) (r : Request) (w : Walk) (e : E) (x y : S) → IsFullStep s holds fills r w e x y → FillsBy s holds (fills e x y) r e x (λ c. (apply false r c w).contents)
+  full_applies fills r w e x y full = record { writes = full.writes; packs = full.packs; by = λ c h. subst (λ step. fills e x y c step.contents) (sym (applied_here r c w)) (full.by c h) }

@@ -62,5 +62,5 @@ module _ {S E : Type 0} (s : Ghosts S) (own : ℕ → Type 0) (holds : E → Fil
   }
 
 module _ {S E : Type 0} (s : Ghosts S) (holds : E → Files → Contents → Type 0) where
-  pub shown_full : (fills : S → Contents → Contents → Type 0) (effect other : Request) (e : E) (a b : S) → ((c : Contents) → Held s holds e a c → other c ≡ effect c) → IsFullBy s holds fills other e a b → IsFullBy s holds fills effect e a b
-  shown_full fills effect other e a b same full = record { by = λ c h. subst (λ y. fills b c (contents_of y c)) (same c h) (full.by c h) }
+  pub shown_full : (fills : E → S → S → Contents → Contents → Type 0) (effect other : Request) (e : E) (a b : S) → ((c : Contents) → Held s holds e a c → other c ≡ effect c) → IsFullBy s holds fills other e a b → IsFullBy s holds fills effect e a b
+  shown_full fills effect other e a b same full = record { by = λ c h. subst (λ y. fills e a b c (contents_of y c)) (same c h) (full.by c h) }

@@ -71,7 +71,7 @@ cond_contents : (b : Bool) (p q : Step) → (cond b p q).contents ≡ cond b p.c
 cond_contents true p q = refl
 cond_contents false p q = refl
 
-took_contents : (r : Request) (e : Effect) (c : Contents) (w : Walk) → contents_of e c ≡ (took r e c w).contents
+pub took_contents : (r : Request) (e : Effect) (c : Contents) (w : Walk) → contents_of e c ≡ (took r e c w).contents
 took_contents r None c w = refl
 took_contents r (Some x) c w = sym (cond_contents (fits x.1) (record { contents = x.0; walk = w; reply = x.1; ok = true }) (refused r c w))
 
@@ -95,12 +95,12 @@ module _ {S E : Type 0} (s : Ghosts S) (own : ℕ → Type 0) (holds : E → Fil
   })
 
 module _ {S E : Type 0} (s : Ghosts S) (holds : E → Files → Contents → Type 0) where
-  pub full_arm : (fills : S → Contents → Contents → Type 0) (r shape : Request) (shown : answers.Request) (e : E) (a b : S) (w : Walk) → r ≡ shape → is_plain shape ≡ true → may_write shape ≡ true → is_optimize shape ≡ false → ((c : Contents) → shown c ≡ effect shape c) → IsFullBy s holds fills shown e a b → IsFullStep s holds fills r w e a b
+  pub full_arm : (fills : E → S → S → Contents → Contents → Type 0) (r shape : Request) (shown : answers.Request) (e : E) (a b : S) (w : Walk) → r ≡ shape → is_plain shape ≡ true → may_write shape ≡ true → is_optimize shape ≡ false → ((c : Contents) → shown c ≡ effect shape c) → IsFullBy s holds fills shown e a b → IsFullStep s holds fills r w e a b
   full_arm fills r shape shown e a b w is plain may changes same full = subst (λ q. IsFullStep s holds fills q w e a b) (sym is) (record {
     writes = may;
     packs = λ packs. absurd (let never : true ≡ false = sym packs ∙ changes in cc);
-    by = λ c h. subst (λ d. fills b c d) (ap (λ q. contents_of q c) (same c) ∙ (took_contents shape (effect shape c) c w ∙ ap (λ q. q.contents) (sym (plain_applied shape c w plain)))) (full.by c h);
+    by = λ c h. subst (λ d. fills e a b c d) (ap (λ q. contents_of q c) (same c) ∙ (took_contents shape (effect shape c) c w ∙ ap (λ q. q.contents) (sym (plain_applied shape c w plain)))) (full.by c h);
   })
 
-  pub full_packing : (fills : S → Contents → Contents → Type 0) (r : Request) (text : List ℕ) (e : E) (a b : S) (w : Walk) → r ≡ Optimize text → (s.tells → FillsAll (fills b)) → IsFullStep s holds fills r w e a b
+  pub full_packing : (fills : E → S → S → Contents → Contents → Type 0) (r : Request) (text : List ℕ) (e : E) (a b : S) (w : Walk) → r ≡ Optimize text → (s.tells → FillsAll (fills e a b)) → IsFullStep s holds fills r w e a b
   full_packing fills r text e a b w is full = subst (λ q. IsFullStep s holds fills q w e a b) (sym is) (record { writes = refl; packs = λ packs t. full t; by = λ c h. full h.0 c (applied (Optimize text) c w).contents })

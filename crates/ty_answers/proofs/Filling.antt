@@ -1,13 +1,14 @@
 -- Rows that are added key by key.
-use Rattle.std.proofs.Common.{◌≡◌, ◌∙◌, ◌+◌, ◌<◌, ◌≤◌, ℕ, List, [], ◌∷◌, ◌++◌, length, take, get_or, add-one, sym, ap, subst}
+use Rattle.std.proofs.Common.{◌≡◌, ◌∙◌, ◌+◌, ◌<◌, ◌≤◌, ℕ, true, List, [], ◌∷◌, ◌++◌, length, take, get_or, add-one, arith, length-append, refl, sym, ap, subst}
 use Rattle.std.specs.Prelude.{flat_map, map}
 use Rattle.std.proofs.lemmas.Grind.{flat_map-append}
 use Rattle.std.proofs.lemmas.List.{append-nil, map-append, take_all}
 use Rattle.std.proofs.Math.Seq.{take-suc}
 use Rattle.tc_base.specs.declared.seq.Pair.{Pair}
 use Rattle.tc_model.specs.Rows.{texts_of}
-use Rattle.tc_engine.specs.Rows.{Adds, adds_then, item_row, pair_row, pair_rows}
+use Rattle.tc_engine.specs.Rows.{Adds, adds_then, is_long, item_row, joined, pair_row, pair_rows}
 use Rattle.tc_engine.specs.declared.rows.Rows.{Rows}
+use Rattle.tc_engine.proofs.Gathering.{joined_append}
 
 abbrev pub text_rows : List Pair → List (List ℕ)
 text_rows ps = map item_row (texts_of ps)
@@ -40,3 +41,16 @@ next_pairs f a b e keys i x d lt is first second =
 
 pub all_taken : (f : List ℕ → List Pair) (a b : Rows) (keys : List (List ℕ)) (i : ℕ) → length keys ≤ i → Adds a b (pair_rows (flat_map f (take i keys))) → Adds a b (pair_rows (flat_map f keys))
 all_taken f a b keys i end adds = subst (λ (xs : List (List ℕ)). Adds a b (pair_rows (flat_map f xs))) (take_all i keys end) adds
+
+-- rows that are long stay so with any behind them
+pub long_stays : (a : Rows) (rows : List (List ℕ)) → is_long a ≡ true → Adds a a rows
+long_stays a rows long = record {
+  most = refl;
+  gathered = λ front before g. record {
+    bytes = λ short. absurd (let h = long in cc);
+    count = λ short. absurd (let h = long in cc);
+    room = λ short. absurd (let h = long in cc);
+    long = λ is. let less = g.long is in omega (arith, less, ap length (joined_append before rows), length-append (joined before) (joined rows));
+    behind = g.behind;
+  };
+}

@@ -6,5 +6,6 @@ pub mod Making
 pub mod Naming
 pub mod NextKeys
 pub mod RowReplies
+pub mod Searches
 pub mod Sums
 pub mod Telling

@@ -9,7 +9,7 @@ use Rattle.ty_wire.specs.Prefixes.{IsPrefix}
 use Rattle.ty_wire.specs.Spelling.{reply_bytes}
 use Rattle.tc_model.specs.Contents.{Contents}
 use Rattle.tc_model.specs.Apply.{fits}
-use Rattle.ty_base.specs.Holding.{Held, IsReady}
+use Rattle.ty_base.specs.Holding.{Held, IsReady, KeepsFills}
 use Rattle.tc_engine.specs.Changes.{Change}
 use Rattle.tc_engine.specs.Effects.{IsFull, Makes}
 use Rattle.ty_answers.specs.Answers.{Answered, Answers, IsFullBy, Request, changed_by, contents_of, done_reply}
@@ -102,8 +102,8 @@ module _ {S E : Type 0} (s : Ghosts S) (own : ℕ → Type 0) (holds : E → Fil
   fails_by effect refusal updating e a old new (Err x) ready none said = tt
 
 module _ {S E : Type 0} (s : Ghosts S) (holds : E → Files → Contents → Type 0) where
-  pub full_by : (fills : S → Contents → Contents → Type 0) (answer : Reply) (f : Change) (e : E) (a b : S) → fits answer ≡ true → IsFull s holds fills f e a b → IsFullBy s holds fills (changed_by answer f) e a b
-  full_by fills answer f e a b fit full = record { by = λ c h. subst (λ d. fills b c d) (same_wanted answer c (f c) fit) (full.by c h) }
+  pub full_by : (fills : E → S → S → Contents → Contents → Type 0) (answer : Reply) (f : Change) (e : E) (a b : S) → fits answer ≡ true → IsFull s holds fills f e a b → IsFullBy s holds fills (changed_by answer f) e a b
+  full_by fills answer f e a b fit full = record { by = λ c h. subst (λ d. fills e a b c d) (same_wanted answer c (f c) fit) (full.by c h) }
 
-  pub full_after : (fills : S → Contents → Contents → Type 0) (effect shown : Request) (e f : E) (a b d : S) → Reads s (Held s holds) e f a b → ((c : Contents) → Held s holds e a c → shown c ≡ effect c) → IsFullBy s holds fills shown f b d → IsFullBy s holds fills effect e a d
-  full_after fills effect shown e f a b d reads same full = record { by = λ c h. subst (λ y. fills d c (contents_of y c)) (same c h) (full.by c (reads.means c h)) }
+  pub full_after : (fills : E → S → S → Contents → Contents → Type 0) (effect shown : Request) (e f : E) (a b d : S) → Reads s (Held s holds) e f a b → KeepsFills s fills e f a b → ((c : Contents) → Held s holds e a c → shown c ≡ effect c) → IsFullBy s holds fills shown f b d → IsFullBy s holds fills effect e a d
+  full_after fills effect shown e f a b d reads keeps same full = record { by = λ c h. subst (λ y. fills e a d c (contents_of y c)) (same c h) (keeps h.0 d c _ (full.by c (reads.means c h))) }

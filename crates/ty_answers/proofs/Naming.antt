@@ -89,11 +89,11 @@ table_named = (
         (
           (λ args m is. read_one (Named (codes "out") args) (λ key. misc.Out key) args m is (λ x u. refl)),
           (
-            (λ args m is. read_keyed (Named (codes "put") args) (λ key columns. misc.PutRow Over key columns) args m is (λ x y u. absurd cc)),
+            (λ args m is. read_keyed (Named (codes "put") args) (λ key columns. misc.PutRow Over key columns) args m is (λ x y u. refl)),
             (
-              (λ args m is. read_keyed (Named (codes "putkeep") args) (λ key columns. misc.PutRow Keep key columns) args m is (λ x y u. absurd cc)),
+              (λ args m is. read_keyed (Named (codes "putkeep") args) (λ key columns. misc.PutRow Keep key columns) args m is (λ x y u. refl)),
               (
-                (λ args m is. read_keyed (Named (codes "putcat") args) (λ key columns. misc.PutRow Cat key columns) args m is (λ x y u. absurd cc)),
+                (λ args m is. read_keyed (Named (codes "putcat") args) (λ key columns. misc.PutRow Cat key columns) args m is (λ x y u. refl)),
                 (
                   (λ args m is. read_one (Named (codes "get") args) (λ key. misc.GetRow key) args m is (λ x u. absurd cc)),
                   (
@@ -111,9 +111,9 @@ table_named = (
                               (
                                 (λ args m is. read_none (Named (codes "vanish") args) misc.Vanish args m is (λ u. refl)),
                                 (
-                                  (λ args m is. read_two (Named (codes "setindex") args) (λ column code. misc.SetIndex column code) args m is (λ x y u. absurd cc)),
+                                  (λ args m is. read_two (Named (codes "setindex") args) (λ column code. misc.SetIndex column code) args m is (λ x y u. refl)),
                                   (
-                                    (λ args m is. read_any (Named (codes "search") args) (λ conditions. misc.Search conditions) args m is (λ x u. absurd cc)),
+                                    (λ args m is. subst (Named (codes "search") args) (inner (misc.Search args) m is) (λ u. u)),
                                     tt,
                                   ),
                                 ),

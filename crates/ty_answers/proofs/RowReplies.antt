@@ -15,7 +15,7 @@ use Rattle.ty_wire.specs.Prefixes.{IsPrefix}
 use Rattle.ty_wire.specs.Spelling.{pairs_bytes, reply_bytes, size}
 use Rattle.tc_model.specs.Contents.{Contents}
 use Rattle.tc_model.specs.Apply.{fits}
-use Rattle.tc_engine.specs.Rows.{Adds, Extends, Gathered, IsItem, bytes_of, is_long, item_row, joined, pair_row, pair_rows}
+use Rattle.tc_engine.specs.Rows.{Adds, AreItems, Extends, Gathered, IsItem, bytes_of, is_long, item_row, joined, pair_row, pair_rows}
 use Rattle.tc_engine.specs.declared.rows.Rows.{Rows}
 use Rattle.ty_answers.specs.Answers.{Answered, fail_reply}
 use Rattle.ty_answers.specs.Lists.{Gives, Opens, counted, list_bytes, no_rows, room}
@@ -208,6 +208,12 @@ item_listed value r0 r1 found item = record {
 
 pub items_listed : (xs : List (List ℕ)) (r0 r1 : Rows) (found : Bool) → found ≡ true → Adds r0 r1 (map item_row xs) → IsListed (Some (reply.List xs)) found r0 r1
 items_listed xs r0 r1 found is adds = record { there = λ f. (reply.List xs, map item_row xs, refl, list_of_items xs, adds); none = λ f. absurd cc }
+
+pub texts_listed : (texts : Option (List (List ℕ))) (r0 r1 : Rows) (found : Bool) → AreItems texts found r0 r1 → IsListed (option_map (λ items. reply.List items) texts) found r0 r1
+texts_listed texts r0 r1 found are = record {
+  there = λ f. let l = are.there f in (reply.List l.0, map item_row l.0, ap (option_map (λ items. reply.List items)) l.1, list_of_items l.0, l.2);
+  none = λ f. ap (option_map (λ items. reply.List items)) (are.none f).0;
+}
 
 pub pairs_listed : (ps : List Pair) (r0 r1 : Rows) (found : Bool) → found ≡ true → Adds r0 r1 (pair_rows ps) → IsListed (Some (reply.Pairs ps)) found r0 r1
 pairs_listed ps r0 r1 found is adds = record { there = λ f. (reply.Pairs ps, pair_rows ps, refl, list_of_pairs ps, adds); none = λ f. absurd cc }

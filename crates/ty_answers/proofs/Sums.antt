@@ -5,7 +5,8 @@ use Rattle.tc_base.specs.declared.kind.Mode.TheVariants.{Over}
 use Rattle.tc_base.specs.declared.request.Reply.TheVariants.{Done, Four}
 use Rattle.std.specs.FinMap.{empty}
 use Rattle.tc_model.specs.Apply.{Effect}
-use Rattle.tc_model.specs.Contents.{Contents, hash, tree, fixed, table, is_narrow, is_table}
+use Rattle.tc_model.specs.Contents.{Contents, hash, tree, fixed, table, is_narrow, is_table, kind_of}
+use Rattle.tc_model.specs.Misc.{tables}
 use Rattle.tc_model.specs.Stores.{add, held, put, shift, store, with_sum}
 use Rattle.tc_model.specs.Values.{last, spelled, sum_of}
 use Rattle.tc_engine.specs.Changes.{stored}
@@ -21,6 +22,21 @@ shift_is (hash memory m) key value width t = refl
 shift_is (tree memory decimal ps) key value width t = refl
 shift_is (fixed w most ids) key value width t = refl
 shift_is (table rows indexes) key value width t = absurd cc
+
+-- a table's kind is its own
+pub tables_are : (c : Contents) → is_table c ≡ tables (kind_of c)
+tables_are (hash true m) = refl
+tables_are (hash false m) = refl
+tables_are (tree true decimal ps) = refl
+tables_are (tree false decimal ps) = refl
+tables_are (fixed w most ids) = refl
+tables_are (table rows indexes) = refl
+
+pub table_shifts_none : (c : Contents) (key value : List ℕ) (width : ℕ) → is_table c ≡ true → shifted key value width c ≡ None
+table_shifts_none (hash memory m) key value width t = absurd cc
+table_shifts_none (tree memory decimal ps) key value width t = absurd cc
+table_shifts_none (fixed w most ids) key value width t = absurd cc
+table_shifts_none (table rows indexes) key value width t = refl
 
 pub shows_shift : (c : Contents) (key value : List ℕ) (width : ℕ) (found : Option (List ℕ)) (after : List ℕ) → is_table c ≡ false → found ≡ held c key → after ≡ last width (unwrap_or found [] ++ value) → changed_by Done (stored Over key after) c ≡ shifted key value width c
 shows_shift c key value width found after t is made = ap (λ v. changed_by Done (stored Over key v) c) (made ∙ ap (λ o. last width (unwrap_or o [] ++ value)) is) ∙ ap (λ o. changed_by Done (λ _. o) c) (sym (shift_is c key value width t))

@@ -15,13 +15,13 @@ use Rattle.tc_model.specs.Meaning.{ranged}
 use Rattle.tc_model.specs.Rows.{texts_of}
 use Rattle.tc_model.specs.Texts.{maximum_of}
 use Rattle.ty_answers.specs.Calls.{meant}
-use Rattle.tc_engine.specs.Rows.{Adds, Extends, IsItem, bytes_of, item_row, pair_rows}
+use Rattle.tc_engine.specs.Rows.{Adds, AreItems, Extends, IsItem, bytes_of, item_row, pair_rows}
 use Rattle.tc_engine.specs.declared.rows.Rows.{Rows}
 use Rattle.ty_base.specs.Holding.{Held}
 use Rattle.ty_answers.specs.Answers.{Answered, Answers, Request, fail_reply, told_by}
 use Rattle.ty_answers.specs.Lists.{Gives, Opens, counted, no_rows, room}
 use Rattle.ty_answers.specs.declared.voice.Voice.{Voice}
-use Rattle.ty_answers.proofs.RowReplies.{IsListed, answered, item_listed, items_listed, list_told, pairs_listed, value_told}
+use Rattle.ty_answers.proofs.RowReplies.{IsListed, answered, item_listed, items_listed, list_told, pairs_listed, texts_listed, value_told}
 
 -- what was gathered stands wherever it could be gathered
 pub and_found : (filled : Result (Unit {0}) RecErr) (found : Bool) → result_and filled (Ok true) ≡ Ok found → found ≡ true
@@ -40,6 +40,11 @@ pub element_meant : (c : Contents) (o : Option (List ℕ))
     → option_map {U = Contents × Reply} (λ answer. (c, answer)) (option_map (λ v. reply.List (v ∷ [])) o) ≡ option_map {U = Contents × Reply} (λ x. (x.0, reply.List x.1)) (option_map {U = Contents × List (List ℕ)} (λ items. (c, items)) (option_map (λ v. v ∷ []) o))
 element_meant c None = refl
 element_meant c (Some v) = refl
+
+pub texts_meant : (c : Contents) (o : Option (List (List ℕ)))
+    → option_map {U = Contents × Reply} (λ answer. (c, answer)) (option_map (λ items. reply.List items) o) ≡ option_map {U = Contents × Reply} (λ x. (x.0, reply.List x.1)) (option_map {U = Contents × List (List ℕ)} (λ items. (c, items)) o)
+texts_meant c None = refl
+texts_meant c (Some items) = refl
 
 -- a range, by what its maximum spells
 abbrev pub range_meant : Contents → List ℕ → Option (List ℕ) → Option (Option ℕ) → Option (Contents × Reply)
@@ -116,3 +121,12 @@ module _ {S E : Type 0} (s : Ghosts S) (own : ℕ → Type 0) (holds : E → Fil
   element_read f voice updating result made r0 r1 begin e e' a b old new at opens ext item reads keeps gives =
       list_read (λ c. option_map (λ v. reply.List (v ∷ [])) (f c)) voice updating result made r0 r1 begin e e' a b old new at opens ext gives
       (λ found m c h. item_listed (f c) r0 r1 found (subst (λ (x : Result Bool RecErr). IfOk x (λ found. (c : Contents) → Held s holds e a c → IsItem (f c) found r0 r1)) m item c h)) reads keeps
+
+  -- texts where there are any
+  pub texts_read : (f : Contents → Option (List (List ℕ))) (voice : Voice) (updating : Bool) (result made : Result Bool RecErr) (r0 r1 : Rows) (begin : ℕ) (e e' : E) (a b : S) (old new : List ℕ)
+      → begin ≡ length old → Opens r0 (old ++ no_rows) room → Extends r0 r1 → IfOk made (λ found. (c : Contents) → Held s holds e a c → AreItems (f c) found r0 r1)
+      → Reads s (Held s holds) e e' a b → Keeps s a b → IfOk result (λ whole. Gives made r1 begin voice whole (counted r1 begin) new)
+      → IfOk result (λ done. Answers s own holds (told_by (λ c. option_map (λ items. reply.List items) (f c))) (fail_reply voice) updating done e e' a b old new)
+  texts_read f voice updating result made r0 r1 begin e e' a b old new at opens ext items reads keeps gives =
+      list_read (λ c. option_map (λ items. reply.List items) (f c)) voice updating result made r0 r1 begin e e' a b old new at opens ext gives
+      (λ found m c h. texts_listed (f c) r0 r1 found (subst (λ (x : Result Bool RecErr). IfOk x (λ found. (c : Contents) → Held s holds e a c → AreItems (f c) found r0 r1)) m items c h)) reads keeps

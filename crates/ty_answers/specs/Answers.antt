@@ -66,8 +66,8 @@ pub record Answers {S E : Type 0} (s : Ghosts S) (own : ℕ → Type 0) (holds :
   pub idle : (done && updating) ≡ false → OnlyReads s a b
 
 -- a limit is reached, as the space stands, between the contents and those that the request was to leave
-pub record IsFullBy {S E : Type 0} (s : Ghosts S) (holds : E → Files → Contents → Type 0) (fills : S → Contents → Contents → Type 0) (effect : Request) (e : E) (a b : S) : Type 0 where
-  pub by : (c : Contents) → Held s holds e a c → fills b c (contents_of (effect c) c)
+pub record IsFullBy {S E : Type 0} (s : Ghosts S) (holds : E → Files → Contents → Type 0) (fills : E → S → S → Contents → Contents → Type 0) (effect : Request) (e : E) (a b : S) : Type 0 where
+  pub by : (c : Contents) → Held s holds e a c → fills e a b c (contents_of (effect c) c)
 
 -- ---- by the result of a call
 
@@ -88,7 +88,7 @@ module _ {S E : Type 0} (s : Ghosts S) (own : ℕ → Type 0) (holds : E → Fil
   abbrev pub AnswersChange : Result Bool RecErr → Voice → Change → E → E → S → S → List ℕ → List ℕ → Type 0
   AnswersChange result voice f e e' a b old new = IfOk result (λ done. Answers s own holds (changed_by (done_reply voice) f) (fail_reply voice) true done e e' a b old new)
 
-module _ {S E : Type 0} (s : Ghosts S) (holds : E → Files → Contents → Type 0) (fills : S → Contents → Contents → Type 0) (result : Result Bool RecErr) where
+module _ {S E : Type 0} (s : Ghosts S) (holds : E → Files → Contents → Type 0) (fills : E → S → S → Contents → Contents → Type 0) (result : Result Bool RecErr) where
   abbrev pub FullAnswer : Request → E → S → S → Type 0
   FullAnswer effect e a b = IsErrOf result rec.Full → IsFullBy s holds fills effect e a b
 

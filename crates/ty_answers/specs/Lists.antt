@@ -1,5 +1,5 @@
 -- Replies that are made of rows: a zero, the count where it is a list, and the rows.
-use Rattle.std.specs.Prelude.{◌≡◌, ◌+◌, ◌++◌, ◌∷◌, ◌&&◌, ℕ, Bool, not, List, [], length, take, Result, Ok, if◌then◌else◌}
+use Rattle.std.specs.Prelude.{◌≡◌, ◌+◌, ◌++◌, ◌∷◌, ◌&&◌, ℕ, Bool, not, List, [], length, take, false, OnErr, Result, Ok, if◌then◌else◌}
 use Rattle.std.specs.Int.{w32, to_be_bytes}
 use Rattle.tc_base.specs.Files.{wrote}
 use Rattle.tc_base.specs.declared.request.Reply.{Reply}
@@ -34,6 +34,10 @@ pub record Gives (made : Result Bool RecErr) (rows : Rows) (begin : ℕ) (voice 
   pub made_is : made ≡ Ok found
   pub whole_is : whole ≡ (found && not (is_long rows))
   pub bytes : new ≡ (if whole then given else take begin (bytes_of rows) ++ reply_bytes (fail_reply voice))
+
+-- an error comes only of what was made, or where it doesn't stand
+abbrev pub Undone : Result Bool RecErr → Rows → Result Bool RecErr → Type 0
+Undone made rows result = OnErr result ((found : Bool) → made ≡ Ok found → (found && not (is_long rows)) ≡ false)
 
 -- the bytes of rows, with the count of them behind the zero at a place
 abbrev pub counted : Rows → ℕ → List ℕ

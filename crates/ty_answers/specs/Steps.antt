@@ -28,13 +28,13 @@ pub record Steps {S E : Type 0} (s : Ghosts S) (own : ℕ → Type 0) (holds : E
 
 -- a limit is reached, as the space stands, where a request may write, between the contents and those that the request was to leave; where it packs the
 -- files, that of the undo log
-pub record IsFullStep {S E : Type 0} (s : Ghosts S) (holds : E → Files → Contents → Type 0) (fills : S → Contents → Contents → Type 0) (r : Request) (w : Walk) (e : E) (a b : S) : Type 0 where
+pub record IsFullStep {S E : Type 0} (s : Ghosts S) (holds : E → Files → Contents → Type 0) (fills : E → S → S → Contents → Contents → Type 0) (r : Request) (w : Walk) (e : E) (a b : S) : Type 0 where
   pub writes : may_write r ≡ true
-  pub packs : is_optimize r ≡ true → s.tells → FillsAll (fills b)
-  pub by : (c : Contents) → Held s holds e a c → fills b c (applied r c w).contents
+  pub packs : is_optimize r ≡ true → s.tells → FillsAll (fills e a b)
+  pub by : (c : Contents) → Held s holds e a c → fills e a b c (applied r c w).contents
 
 abbrev pub StepsBy : {S E : Type 0} → Ghosts S → (ℕ → Type 0) → (E → Files → Contents → Type 0) → Result Bool RecErr → Request → E → E → S → S → Walk → Walk → List ℕ → List ℕ → Type 0
 StepsBy s own holds result r e e' a b w w' old new = IfOk result (λ done. Steps s own holds r done e e' a b w w' old new)
 
-abbrev pub FullStep : {S E : Type 0} → Ghosts S → (E → Files → Contents → Type 0) → Result Bool RecErr → (S → Contents → Contents → Type 0) → Request → Walk → E → S → S → Type 0
+abbrev pub FullStep : {S E : Type 0} → Ghosts S → (E → Files → Contents → Type 0) → Result Bool RecErr → (E → S → S → Contents → Contents → Type 0) → Request → Walk → E → S → S → Type 0
 FullStep s holds result fills r w e a b = IsErrOf result Full → IsFullStep s holds fills r w e a b

@@ -4,7 +4,7 @@ ghost use Rattle.tc_space.specs.Frames.{Keeps};
 ghost use Rattle.tc_space.specs.Refusals.{OnFault, OnlyLogIsFull};
 ghost use Rattle.ty_base.specs.Holding.{IsReady, RefusesHeld};
 ghost use Rattle.ty_wire.specs.Prefixes.{IsPrefix};
-ghost use Rattle.tc_engine.specs.Changes.{all_cleared, all_gone, all_pushed, all_stored, pushed, stored, taken};
+ghost use Rattle.tc_engine.specs.Changes.{all_cleared, all_gone, all_pushed, all_stored, index_set, pushed, row_stored, stored, taken};
 ghost use Rattle.tc_base.specs.declared.kind.Form.TheVariants.{Keep};
 ghost use Rattle.tc_base.specs.declared.request.Reply.TheVariants as answer;
 ghost use Rattle.ty_answers.specs.Answers.{AnswersBy, AnswersChange, FullChange, told_by};
@@ -129,6 +129,55 @@ pub fn push_all<E: Engine>(
     let begin = reply.len();
     voice.say(reply)?;
     let done = engine.push_all(space, pairs)?;
+    voice.close(begin, done, reply)?;
+    Ok(done)
+}
+
+/// Gives a key of a table a row.
+pub fn store_row<E: Engine>(
+    engine: &mut E,
+    space: &mut E::S,
+    voice: Voice,
+    mode: Mode,
+    key: Key,
+    columns: Pairs,
+    reply: &mut Blob,
+) -> Result<bool, RecErr>
+    requires { IsReady E.S.Space E.holds engine.old space.old }
+    ensures answers { AnswersChange E.S.Space E.own E.holds result voice (row_stored mode key columns) engine.old engine.new space.old space.new reply.old reply.new }
+    ensures refused { RefusesHeld E.S.Space E.holds result engine.old engine.new space.old space.new }
+    ensures front { IsPrefix reply.old reply.new }
+    ensures full { FullChange E.S.Space E.holds E.fills result voice (row_stored mode key columns) engine.old space.old space.new }
+    ensures keeps { Keeps E.S.Space space.old space.new }
+    ensures cause { OnFault E.S.Space result space.old space.new }
+{
+    let begin = reply.len();
+    voice.say(reply)?;
+    let done = engine.store_row(space, mode, key, columns)?;
+    voice.close(begin, done, reply)?;
+    Ok(done)
+}
+
+/// Sets the index of a column of a table, or takes it away.
+pub fn set_index<E: Engine>(
+    engine: &mut E,
+    space: &mut E::S,
+    voice: Voice,
+    column: Blob,
+    code: &Blob,
+    reply: &mut Blob,
+) -> Result<bool, RecErr>
+    requires { IsReady E.S.Space E.holds engine.old space.old }
+    ensures answers { AnswersChange E.S.Space E.own E.holds result voice (index_set column code.now) engine.old engine.new space.old space.new reply.old reply.new }
+    ensures refused { RefusesHeld E.S.Space E.holds result engine.old engine.new space.old space.new }
+    ensures front { IsPrefix reply.old reply.new }
+    ensures full { FullChange E.S.Space E.holds E.fills result voice (index_set column code.now) engine.old space.old space.new }
+    ensures keeps { Keeps E.S.Space space.old space.new }
+    ensures cause { OnFault E.S.Space result space.old space.new }
+{
+    let begin = reply.len();
+    voice.say(reply)?;
+    let done = engine.set_index(space, column, code)?;
     voice.close(begin, done, reply)?;
     Ok(done)
 }

@@ -116,7 +116,9 @@ impl<E: Storage> Storage for Database<E> {
 
     ghost own = { E.own };
 
-    ghost fills = { E.fills };
+    ghost fills = { λ b. E.fills (engine_of b) };
+
+    ghost fills_since = { E.fills_since };
 
     ghost lacks_large = { E.lacks_large };
 
@@ -130,7 +132,11 @@ impl<E: Storage> Storage for Database<E> {
 
     ghost apart = { λ b. E.apart (engine_of b) };
 
-    ghost log_fills = { E.log_fills };
+    ghost log_fills = { λ b. E.log_fills (engine_of b) };
+
+    ghost fills_then = { λ b. E.fills_then (engine_of b) };
+
+    ghost since_more = { E.since_more };
 
     fn kind(&self) -> Kind {
         self.engine.kind()

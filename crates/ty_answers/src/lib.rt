@@ -8,6 +8,7 @@ mod listing;
 mod misc;
 mod numbers;
 mod reads;
+mod searching;
 mod voice;
 mod walks;
 

@@ -4,7 +4,7 @@ ghost use Rattle.std.specs.Int.{w32, to_be_bytes};
 ghost use Rattle.tc_base.specs.Files.{wrote};
 ghost use Rattle.ty_wire.specs.Prefixes.{IsPrefix};
 ghost use Rattle.tc_engine.specs.Rows.{bytes_of};
-ghost use Rattle.ty_answers.specs.Lists.{Gives, Opens, counted, no_rows, room};
+ghost use Rattle.ty_answers.specs.Lists.{Gives, Opens, Undone, counted, no_rows, room};
 
 use crate::voice::Voice;
 use std::alloc::{AllocError, Global};
@@ -41,6 +41,7 @@ pub fn give_back(
 ) -> Result<bool, RecErr>
     ensures ok { IfOk result (λ whole. Gives made rows begin voice whole (bytes_of rows) reply.new) }
     ensures front { (front : List ℕ) → length front ≡ begin → IsPrefix front (bytes_of rows) → IsPrefix front reply.new }
+    ensures undone { Undone made rows result }
     ensures fault { IsErrOf result RecErr.Fault → IsErrOf made RecErr.Fault }
     ensures full { IsErrOf result RecErr.Full → IsErrOf made RecErr.Full }
 {
@@ -85,6 +86,7 @@ pub fn end_list(
     requires { begin + 5 ≤ length (bytes_of rows) }
     ensures ok { IfOk result (λ whole. Gives made rows begin voice whole (counted rows begin) reply.new) }
     ensures front { (front : List ℕ) → length front ≡ begin → IsPrefix front (bytes_of rows) → IsPrefix front reply.new }
+    ensures undone { Undone made rows result }
     ensures fault { IsErrOf result RecErr.Fault → IsErrOf made RecErr.Fault }
     ensures full { IsErrOf result RecErr.Full → IsErrOf made RecErr.Full }
 {

@@ -10,9 +10,12 @@ ghost use Rattle.tc_model.specs.Misc.{updates_call};
 ghost use Rattle.ty_answers.specs.Calls.{meant, misc_updates};
 ghost use Rattle.ty_answers.specs.Answers.{AnswersBy, FullAnswer};
 
-use crate::changes::{clear, clear_all, out, push, push_all, store, store_all};
+use crate::changes::{
+    clear, clear_all, out, push, push_all, set_index, store, store_all, store_row,
+};
 use crate::failing::fail;
-use crate::reads::{misc_get, misc_getlist, misc_range};
+use crate::reads::{misc_get, misc_getlist, misc_range, misc_row};
+use crate::searching::search;
 use crate::voice::Voice;
 use std::alloc::Global;
 use tc_base::{Blob, Blobs, Key};
@@ -20,7 +23,7 @@ use tc_engine::Engine;
 use tc_model::{Misc, has_short_keys, read_misc};
 use tc_space::RecErr;
 
-// Does what a misc request means. Rows, indexes and searches are a table's.
+// Does what a misc request means.
 fn perform<E: Engine>(
     alloc: Global,
     engine: &mut E,
@@ -53,8 +56,12 @@ fn perform<E: Engine>(
             misc_range(alloc, engine, space, from, &maximum, to, reply)
         }
         Misc::Vanish => clear(engine, space, voice, reply),
-        Misc::PutRow { .. } | Misc::GetRow { .. } | Misc::SetIndex { .. } | Misc::Search { .. } =>
-            fail(voice, reply),
+        Misc::PutRow { mode, key, columns } => {
+            store_row(engine, space, voice, mode, Key::new(key), columns, reply)
+        }
+        Misc::GetRow { key } => misc_row(alloc, engine, space, &Key::new(key), reply),
+        Misc::SetIndex { column, code } => set_index(engine, space, voice, column, &code, reply),
+        Misc::Search { conditions } => search(alloc, engine, space, &conditions, reply),
     }
 }
 

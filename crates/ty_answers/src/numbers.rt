@@ -1,5 +1,6 @@
 //! Requests that make a new value of the one that is held.
 ghost use Rattle.std.specs.Prelude.{◌≡◌, ◌++◌, true, [], IfOk, unwrap_or};
+ghost use Rattle.tc_model.specs.Misc.{tables};
 ghost use Rattle.tc_model.specs.Values.{last};
 ghost use Rattle.tc_base.specs.declared.request.Reply.TheVariants.{Fail};
 ghost use Rattle.tc_space.specs.Frames.{Keeps};
@@ -13,7 +14,7 @@ use crate::changes::store;
 use crate::failing::fail;
 use crate::voice::Voice;
 use std::alloc::{AllocError, Global};
-use tc_base::{Blob, Key, Mode, Reply};
+use tc_base::{Blob, Key, Kind, Mode, Reply};
 use tc_engine::Engine;
 use tc_model::{last_of, spelled, sum_of};
 use tc_space::RecErr;
@@ -34,7 +35,14 @@ fn shifted(alloc: Global, held: Option<Blob>, more: &Blob, width: u32) -> Result
     Blob::from_slice(alloc, last_of(joined.as_slice(), width as usize))
 }
 
-/// Joins a value behind that of a key, and keeps the last bytes.
+// Whether it is that of tables.
+fn is_table(kind: Kind) -> bool
+    ensures { result ≡ tables kind }
+{
+    matches!(kind, Kind::Table)
+}
+
+/// Joins a value behind that of a key, and keeps the last bytes. A table has rows and no values to join.
 pub fn shift<E: Engine>(
     alloc: Global,
     engine: &mut E,
@@ -52,6 +60,9 @@ pub fn shift<E: Engine>(
     ensures keeps { Keeps E.S.Space space.old space.new }
     ensures cause { OnFault E.S.Space result space.old space.new }
 {
+    if is_table(engine.kind()) {
+        return fail(Voice::Plain, reply);
+    }
     let held = engine.value(space, &key)?;
     let after = shifted(alloc, held, value, width)?;
     store(engine, space, Voice::Plain, Mode::Over, key, after, reply)

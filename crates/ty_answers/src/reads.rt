@@ -133,6 +133,26 @@ pub fn vsiz<E: Engine>(
     four(len, reply)
 }
 
+// Adds a row for a key and its value, of a tree its first, where the key is held. Rows that are long already stay, and nothing is read.
+fn fill_pair<E: Engine>(
+    engine: &mut E,
+    space: &mut E::S,
+    key: &Key,
+    into: &mut Rows,
+) -> Result<(), RecErr>
+    requires { IsReady E.S.Space E.holds engine.old space.old }
+    ensures rows { AddsOf E.S.Space E.holds result (λ c. pair_rows (first_pair c key.now)) engine.old space.old into.old into.new }
+    ensures front { Extends into.old into.new }
+    ensures reads { ReadsHeld E.S.Space E.holds engine.old engine.new space.old space.new }
+    ensures keeps { Keeps E.S.Space space.old space.new }
+    ensures cause { Blames E.S.Space result space.old space.new }
+{
+    if into.is_long() {
+        return Ok(());
+    }
+    engine.pair(space, key, into)
+}
+
 // Adds a row each for a key and its value, of a tree its first, where the key is held.
 fn fill_pairs<E: Engine>(
     engine: &mut E,
@@ -148,7 +168,7 @@ fn fill_pairs<E: Engine>(
     ensures cause { Blames E.S.Space result space.old space.new }
 {
     for key in keys {
-        engine.pair(space, key, into)?;
+        fill_pair(engine, space, key, into)?;
     }
     Ok(())
 }
@@ -285,6 +305,48 @@ pub fn misc_get<E: Engine>(
     end_list(alloc, found, rows, begin, Voice::Misc, reply)
 }
 
+/// Answers the names and values of the row of a key of a table as a list.
+pub fn misc_row<E: Engine>(
+    alloc: Global,
+    engine: &mut E,
+    space: &mut E::S,
+    key: &Key,
+    reply: &mut Blob,
+) -> Result<bool, RecErr>
+    requires { IsReady E.S.Space E.holds engine.old space.old }
+    ensures answers { TellsBy E.S.Space E.own E.holds result (meant (misc.GetRow key.now)) answer.FailMisc engine.old engine.new space.old space.new reply.old reply.new }
+    ensures reads { ReadsHeld E.S.Space E.holds engine.old engine.new space.old space.new }
+    ensures front { IsPrefix reply.old reply.new }
+    ensures keeps { Keeps E.S.Space space.old space.new }
+    ensures cause { Blames E.S.Space result space.old space.new }
+{
+    let begin = reply.len();
+    let mut rows = open_list(alloc, reply)?;
+    let found = engine.row(space, key, &mut rows);
+    end_list(alloc, found, rows, begin, Voice::Misc, reply)
+}
+
+// Adds a row each for a key and its value, again for each further value that a tree has of it. Rows that are long already stay, and nothing
+// is read.
+fn fill_each<E: Engine>(
+    engine: &mut E,
+    space: &mut E::S,
+    key: &Key,
+    into: &mut Rows,
+) -> Result<(), RecErr>
+    requires { IsReady E.S.Space E.holds engine.old space.old }
+    ensures rows { AddsOf E.S.Space E.holds result (λ c. text_rows (all_pairs c key.now)) engine.old space.old into.old into.new }
+    ensures front { Extends into.old into.new }
+    ensures reads { ReadsHeld E.S.Space E.holds engine.old engine.new space.old space.new }
+    ensures keeps { Keeps E.S.Space space.old space.new }
+    ensures cause { Blames E.S.Space result space.old space.new }
+{
+    if into.is_long() {
+        return Ok(());
+    }
+    engine.pairs(space, key, into)
+}
+
 // Adds a row each for a key and its value, again for each further value that a tree has of it.
 fn fill_all<E: Engine>(
     engine: &mut E,
@@ -301,7 +363,7 @@ fn fill_all<E: Engine>(
 {
     for key in keys.into_vec() {
         let key = Key::new(key);
-        engine.pairs(space, &key, into)?;
+        fill_each(engine, space, &key, into)?;
     }
     Ok(())
 }

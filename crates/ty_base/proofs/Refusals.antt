@@ -1,6 +1,6 @@
 -- Refusals, and the causes that they name.
-use Rattle.std.proofs.Common.{rules, ◌≡◌, ◌∙◌, ℕ, List, [], ◌∷◌, length, refl, sym, ap, arith}
-use Rattle.std.specs.Prelude.{Result, Ok, Err, OnOk, OnErr, IsErrOf}
+use Rattle.std.proofs.Common.{rules, ◌≡◌, ◌∙◌, ℕ, List, [], ◌∷◌, length, refl, sym, ap, subst, arith}
+use Rattle.std.specs.Prelude.{Result, Ok, Err, IfErr, OnOk, OnErr, IsErrOf}
 use Rattle.std.specs.Result.{IsErrAnd}
 use Rattle.std.proofs.lemmas.Result.{err_from_is_err_and}
 use Rattle.tc_base.specs.declared.kind.Rule.{Rule}
@@ -53,3 +53,25 @@ breaks_none (any.Broken file rule) told P none = λ t. absurd (none t)
 breaks_none any.Full told P none = tt
 breaks_none any.Fault told P none = tt
 breaks_none any.Memory told P none = tt
+
+-- whatever rule is named
+pub breaks_all : (e : AnyErr) (P : Type 0) → P → Breaks e (λ file rule. P)
+breaks_all (any.Broken file rule) P p = p
+breaks_all any.Full P p = tt
+breaks_all any.Fault P p = tt
+breaks_all any.Memory P p = tt
+
+pub if_err_of : {T E : Type 0} {P : E → Type 0} (r : Result T E) → ((e : E) → P e) → IfErr r P
+if_err_of (Ok x) p = tt
+if_err_of (Err e) p = p e
+
+names_none : (e : RecErr) (P : ℕ → Rule → Type 0) → Breaks (any_of e) P
+names_none rec.Full P = tt
+names_none rec.Fault P = tt
+names_none rec.Memory P = tt
+
+-- a refusal of records names no rule, at the exit of a `?`
+pub none_broken : {T : Type 0} (r : Result T AnyErr) (e : RecErr) (P : ℕ → Rule → Type 0) → IsErrAnd r (λ a. a ≡ any_of e) → IfErr r (λ a. Breaks a P)
+none_broken {T} r e P is =
+    let p = err_from_is_err_and r is in
+    subst (λ (q : Result T AnyErr). IfErr q (λ a. Breaks a P)) (sym p.1) (subst (λ (a : AnyErr). Breaks a P) (sym p.2) (names_none e P))

@@ -53,8 +53,8 @@ module _ {S B : Type 0} (s : Ghosts S) (holds : B → Files → Contents → Typ
   PacksHeld tight packed base old new = (form : Form) (c : Contents) → tight base form → Held s holds base old c → packed form (s.now new)
 
   -- a packing had no room: the undo log is full, or what is held had none in the large form
-  abbrev pub FullPack : (S → Contents → Type 0) → Form → B → S → S → Type 0
-  FullPack lacks_large form base old new = OfHeld base old (λ c. s.log_full new ⊎ ((form ≡ Large) × lacks_large new c))
+  abbrev pub FullPack : (S → S → Contents → Type 0) → Form → B → S → S → Type 0
+  FullPack lacks_large form base old new = OfHeld base old (λ c. s.log_full new ⊎ ((form ≡ Large) × lacks_large old new c))
 
 -- these lines are told of the files
 abbrev pub TellsLines : {S : Type 0} → Ghosts S → (Files → List ℕ → Type 0) → S → List ℕ → List ℕ → Type 0
@@ -81,6 +81,15 @@ is_idle r a = (a.updated ≡ false) × (is_optimize r ≡ false)
 -- a request that may write files: one that may change contents, or pack the files
 abbrev pub may_write : Request → Bool
 may_write r = updates r || is_optimize r
+
+-- a limit that is met behind a call is one by what was there before it
+abbrev pub KeepsFills : {S B : Type 0} → Ghosts S → (B → S → S → Contents → Contents → Type 0) → B → B → S → S → Type 0
+KeepsFills {S} s fills base base' old mid = s.tells → (new : S) (c d : Contents) → fills base' mid new c d → fills base old new c d
+
+-- a limit that was met in some call since a space stood so was met since it stood as earlier
+pub record IsEarlier {S : Type 0} (fills_since : S → S → Contents → Contents → Type 0) (lacks_large : S → S → Contents → Type 0) (a b new : S) : Type 0 where
+  pub fills : (c d : Contents) → fills_since b new c d → fills_since a new c d
+  pub large : (c : Contents) → lacks_large b new c → lacks_large a new c
 
 -- a limit is reached between whatever contents: that of the undo log
 abbrev pub FillsAll : (Contents → Contents → Type 0) → Type 0

@@ -1,5 +1,5 @@
 -- A database opened or made anew, and why it wasn't.
-use Rattle.std.specs.Prelude.{◌≡◌, ◌⊎◌, ℕ, false, [], Result, IfOk, IfErr, OnErr, IsErrOf}
+use Rattle.std.specs.Prelude.{◌≡◌, ◌⊎◌, ℕ, false, [], Result, IfErr, OnErr, IsErrOf}
 use Rattle.std.proofs.Common.{refl}
 use Rattle.tc_base.specs.Files.{Files}
 use Rattle.tc_base.specs.declared.kind.Kind.{Kind}
@@ -92,9 +92,10 @@ module _ {S T : Type 0} (s : Ghosts S) (result : Result T AnyErr) where
   abbrev pub NamesNew : (Files → ℕ → Rule → Type 0) → S → Type 0
   NamesNew breaks space = IfErr result (λ e. Breaks e (λ file rule. s.tells → breaks (s.now space) file rule))
 
-  -- after a refusal the space may not be used any more, or nothing was written; a fault comes only where a call of the volume failed
+  -- after a refusal the space may not be used any more, or nothing was written, as where a rule is named; a fault comes only where a call of the volume failed
   pub record RefusesToOpen (old new : S) : Type 0 where
     pub left : OnErr result ((s.flag new ≡ false) ⊎ OnlyReads s old new)
+    pub sound : IfErr result (λ e. Breaks e (λ file rule. OnlyReads s old new))
     pub cause : IsErrOf result any.Fault → Rose (s.faults old) (s.faults new)
 
 -- what was made anew opens again as it is

@@ -30,7 +30,7 @@ pub trait Base: Storage {
         ensures leaves { IfOk result (λ a. Leaves Self.S.Space Self.own (is_idle request a) space.old space.new) }
         ensures refused { OnErr result (Declines Self.S.Space Self.holds self.old self.new space.old space.new walk.old walk.new) }
         ensures reply_front { IsPrefix reply.old reply.new }
-        ensures full { IsErrOf result RecErr.Full → FillsBy Self.S.Space Self.holds (Self.fills space.new) request self.old space.old (contents_after false request walk.old) }
+        ensures full { IsErrOf result RecErr.Full → FillsBy Self.S.Space Self.holds (Self.fills self.old space.old space.new) request self.old space.old (contents_after false request walk.old) }
         ensures keeps { Keeps Self.S.Space space.old space.new }
         ensures cause { OnFault Self.S.Space result space.old space.new };
 }

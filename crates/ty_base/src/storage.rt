@@ -1,12 +1,12 @@
 //! What keeps contents in the files of a space.
-ghost use Rattle.std.specs.Prelude.{◌≡◌, ℕ, List, OnOk, IsErrOf};
+ghost use Rattle.std.specs.Prelude.{◌≡◌, ◌≤◌, ℕ, List, OnOk, IsErrOf};
 ghost use Rattle.tc_base.specs.Files.{Files};
 ghost use Rattle.tc_base.specs.declared.kind.Form.{Form};
 ghost use Rattle.tc_space.specs.Frames.{Keeps, Others};
 ghost use Rattle.tc_space.specs.Refusals.{OnFault, OnlyLogIsFull};
 ghost use Rattle.ty_wire.specs.Prefixes.{IsPrefix};
 ghost use Rattle.tc_model.specs.Contents.{Contents, kind_of};
-ghost use Rattle.ty_base.specs.Holding.{AreApart, FilesStand, FullPack, IsReady, NoLogs, PacksHeld, ReadsHeld, RefusesHeld, Remains, SettlesHeld, TellsLines};
+ghost use Rattle.ty_base.specs.Holding.{AreApart, FilesStand, FullPack, IsEarlier, IsReady, NoLogs, PacksHeld, ReadsHeld, RefusesHeld, Remains, SettlesHeld, TellsLines};
 
 use tc_base::{Blob, Form, Kind};
 use tc_space::{RecErr, Space};
@@ -26,11 +26,14 @@ pub trait Storage {
     /// Its files.
     ghost own: { ℕ → Type 0 };
 
-    /// A limit is reached, as the space stands, between contents before a change and after it; never in memory.
-    ghost fills: { Self.S → Contents → Contents → Type 0 };
+    /// By what it is and by its space before a call, as the space stands at its end: a limit is reached between contents before a change and after it; never in memory.
+    ghost fills: { Self → Self.S → Self.S → Contents → Contents → Type 0 };
 
-    /// So it is where files are written anew in the large form with these contents.
-    ghost lacks_large: { Self.S → Contents → Type 0 };
+    /// The same, with what it was forgotten: so it was in some call since the space stood so.
+    ghost fills_since: { Self.S → Self.S → Contents → Contents → Type 0 };
+
+    /// So it was where files were written anew in the large form with these contents.
+    ghost lacks_large: { Self.S → Self.S → Contents → Type 0 };
 
     /// What an inspection tells of files behind what it tells of contents; nothing in memory.
     ghost lines: { Files → List ℕ → Type 0 };
@@ -69,14 +72,13 @@ pub trait Storage {
         ensures keeps { Keeps Self.S.Space space.old space.new }
         ensures cause { OnFault Self.S.Space result space.old space.new };
 
-    /// Adds what an inspection tells of the files, which must stand for the contents. On an `Err` some more bytes stand behind the old ones.
+    /// Adds what an inspection tells of the files, which must stand for the contents. It changes nothing, whatever it answers; on an `Err` some more bytes stand behind the old ones.
     fn inform(&mut self, space: &mut Self::S, into: &mut Blob) -> Result<(), RecErr>
         requires sound { Self.S.sound space.old }
         requires settled { FilesStand Self.S.Space holds reopens self.old space.old }
         ensures told { OnOk result (TellsLines Self.S.Space lines space.old into.old into.new) }
         ensures front { IsPrefix into.old into.new }
-        ensures reads { OnOk result (ReadsHeld Self.S.Space holds self.old self.new space.old space.new) }
-        ensures refused { RefusesHeld Self.S.Space holds result self.old self.new space.old space.new }
+        ensures reads { ReadsHeld Self.S.Space holds self.old self.new space.old space.new }
         ensures not_full { IsErrOf result RecErr.Full → ⊥ }
         ensures keeps { Keeps Self.S.Space space.old space.new }
         ensures cause { OnFault Self.S.Space result space.old space.new };
@@ -88,5 +90,11 @@ pub trait Storage {
     ghost apart: { (b : Self) (f g : Files) (c : Contents) → AreApart own f g → (holds b f c → holds b g c) × (reopens f c → reopens g c) };
 
     /// Where the undo log is full a limit is reached, whatever was to be made.
-    ghost log_fills: { (space : Self.S) (c d : Contents) → Self.S.log_full space → fills space c d };
+    ghost log_fills: { (b : Self) (old new : Self.S) (c d : Contents) → Self.S.log_full new → fills b old new c d };
+
+    /// What it was may be forgotten.
+    ghost fills_then: { (b : Self) (old new : Self.S) (c d : Contents) → fills b old new c d → fills_since old new c d };
+
+    /// And the moment from which on it was so may be an earlier one.
+    ghost since_more: { (a b new : Self.S) → Self.S.moment a ≤ Self.S.moment b → IsEarlier fills_since lacks_large a b new };
 }

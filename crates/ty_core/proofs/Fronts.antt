@@ -21,7 +21,7 @@ use Rattle.ty_base.specs.Holding as holding
 use Rattle.ty_base.specs.Holding.{ServedBy}
 use Rattle.ty_core.specs.declared.serving.Served.{Served}
 use Rattle.ty_core.specs.declared.taking.Taken.{Taken}
-use Rattle.ty_core.specs.Serving.{IsTaken, IsWhole, Serves, ServesFront, TakesOff, feed_of, update_of}
+use Rattle.ty_core.specs.Serving.{IsTaken, IsWhole, Notes, Serves, ServesFront, TakesOff, feed_of, update_of}
 
 pub refused_applies : (replica : Bool) (r : Request) (c : Contents) (w : Walk) (old new : List ℕ) → (replica && updates r) ≡ true → new ≡ old ++ reply_bytes (refusal_of r)
     → Applies (apply replica r c w) r (record { ok = false; updated = false }) c w old new
@@ -102,6 +102,29 @@ serves replica logs r a d packs c c' w w' waiting waiting' own is p u o applied 
   update = u ∙ copied_update logs r (apply replica r c w) a.updated own applied.updated o;
 }
 
+-- whatever is told
+pub notes_of : (logs : Bool) (r : Request) (d : Served) (updated packs : Bool) → d.commits ≡ (updated || packs) → d.update ≡ (if updated then (if logs && updates r then Some (spelling r) else None) else None) → Notes logs r d
+notes_of logs r d updated packs commits update = record {
+  asked = λ none. update ∙ unasked logs updated (updates r) none;
+  idle = λ none. update ∙ unchanged updated packs (if logs && updates r then Some (spelling r) else None) (sym commits ∙ none);
+  own = λ bytes is. own_of updated logs (updates r) (spelling r) bytes (sym update ∙ is);
+}
+  where
+    unasked : (l o u : Bool) → l ≡ false → (if o then (if l && u then Some (spelling r) else None) else None) ≡ None
+    unasked false true u e = refl
+    unasked false false u e = refl
+    unasked true o u e = absurd cc
+
+    unchanged : (o p : Bool) (x : Option (List ℕ)) → (o || p) ≡ false → (if o then x else None) ≡ None
+    unchanged false p x e = refl
+    unchanged true p x e = absurd cc
+
+    own_of : (o l u : Bool) (own bytes : List ℕ) → (if o then (if l && u then Some own else None) else None) ≡ Some bytes → (bytes ≡ own) × (u ≡ true)
+    own_of true true true own bytes e = (cc, refl)
+    own_of true true false own bytes e = absurd cc
+    own_of true false u own bytes e = absurd cc
+    own_of false l u own bytes e = absurd cc
+
 -- ---- a session's fields
 
 pub still_inside : (old new : List ℕ) (taken : ℕ) → IsPrefix old new → taken ≤ length old → taken ≤ length new
@@ -122,6 +145,7 @@ pub front_behind : {S B : Type 0} (s : Ghosts S) (holds : B → Files → Conten
 front_behind s holds replica logs d b b' a a' w w' u v u' v' waiting old new taken same left is le f = record {
   request = f.request;
   takes = subst (λ (l : List ℕ). TakesOff f.request d l u') same (subst (λ (l : List ℕ). TakesOff f.request d v l) left f.takes);
+  notes = f.notes;
   few = let more = f.few in omega (arith, more, le, length-drop taken new, length-drop taken old, ap length is);
   serves = λ c h. let x = f.serves c h in (x.0, x.1, serves_behind replica logs f.request d c x.0 w w' waiting old new taken is le x.2);
 }

@@ -1,5 +1,5 @@
 -- What serving the request at the front of the unread bytes does.
-use Rattle.std.specs.Prelude.{◌≡◌, ◌≤◌, ◌+◌, ℕ, Bool, List, ◌++◌, ◌||◌, ◌&&◌, length, drop, Ok, Option, Some, None, if◌then◌else◌}
+use Rattle.std.specs.Prelude.{◌≡◌, ◌≤◌, ◌+◌, ℕ, Bool, true, false, List, ◌++◌, ◌||◌, ◌&&◌, length, drop, Ok, Option, Some, None, if◌then◌else◌}
 use Rattle.tc_base.specs.Files.{Files}
 use Rattle.tc_base.specs.declared.request.Request.{Request}
 use Rattle.tc_base.specs.declared.request.Request.TheVariants.{Repl}
@@ -53,6 +53,12 @@ pub record TakesOff (r : Request) (d : Served) (unread unread' : List ℕ) : Typ
   pub spelled : unread ≡ spelling r ++ unread'
   pub feeds : d.feeds ≡ feed_of r
 
+-- whatever is told: bytes are given back only where they were asked for and there is something to commit, and they are those of the request, which may update
+pub record Notes (logs : Bool) (r : Request) (d : Served) : Type 0 where
+  pub asked : logs ≡ false → d.update ≡ None
+  pub idle : d.commits ≡ false → d.update ≡ None
+  pub own : (bytes : List ℕ) → d.update ≡ Some bytes → (bytes ≡ spelling r) × (updates r ≡ true)
+
 -- what it makes of the database is what the abstract one does; an optimize is to be committed, though it updates nothing
 pub record Serves (replica logs : Bool) (r : Request) (d : Served) (c c' : Contents) (w w' : Walk) (waiting waiting' : List ℕ) : Type 0 where
   pub contents : c' ≡ (apply replica r c w).contents
@@ -65,6 +71,7 @@ pub record Serves (replica logs : Bool) (r : Request) (d : Served) (c c' : Conte
 pub record ServesFront {S B : Type 0} (s : Ghosts S) (holds : B → Files → Contents → Type 0) (replica logs : Bool) (d : Served) (base base' : B) (old new : S) (w w' : Walk) (unread unread' waiting waiting' : List ℕ) : Type 0 where
   pub request : Request
   pub takes : TakesOff request d unread unread'
+  pub notes : Notes logs request d
   pub few : length waiting' ≤ length waiting + reply_most d.feeds
   pub serves : (c : Contents) → Held s holds base old c → (e : Contents) × Held s holds base' new e × Serves replica logs request d c e w w' waiting waiting'
 

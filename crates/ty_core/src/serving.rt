@@ -95,7 +95,7 @@ pub fn answer<B: Base>(
     ensures leaves { IfOk result (λ a. Leaves B.S.Space B.own (is_idle request a) space.old space.new) }
     ensures refused { OnErr result (Declines B.S.Space B.holds base.old base.new space.old space.new walk.old walk.new) }
     ensures reply_front { IsPrefix reply.old reply.new }
-    ensures full { IsErrOf result RecErr.Full → FillsBy B.S.Space B.holds (B.fills space.new) request base.old space.old (contents_after replica request walk.old) }
+    ensures full { IsErrOf result RecErr.Full → FillsBy B.S.Space B.holds (B.fills base.old space.old space.new) request base.old space.old (contents_after replica request walk.old) }
     ensures keeps { Keeps B.S.Space space.old space.new }
     ensures cause { OnFault B.S.Space result space.old space.new }
 {
@@ -125,7 +125,7 @@ pub fn serve_taken<B: Base>(
     ensures leaves { IfOk result (λ d. Leaves B.S.Space B.own (d.commits ≡ false) space.old space.new) }
     ensures refused { OnErr result (Declines B.S.Space B.holds base.old base.new space.old space.new walk.old walk.new) }
     ensures waiting_front { IsPrefix waiting.old waiting.new }
-    ensures full { IsErrOf result RecErr.Full → FillsTaken B.S.Space B.holds (B.fills space.new) taken replica base.old space.old walk.old }
+    ensures full { IsErrOf result RecErr.Full → FillsTaken B.S.Space B.holds (B.fills base.old space.old space.new) taken replica base.old space.old walk.old }
     ensures keeps { Keeps B.S.Space space.old space.new }
     ensures cause { OnFault B.S.Space result space.old space.new }
 {

@@ -9,6 +9,7 @@ ghost use Rattle.ty_core.specs.Queues.{queue};
 ghost use Rattle.ty_core.specs.Serving.{FillsFront, ServesQueue};
 
 use crate::serving::{Served, serve_taken};
+use crate::taking::ROOM_KEPT;
 use crate::unread::Unread;
 use std::alloc::{AllocError, Global};
 use std::marker::Model;
@@ -17,9 +18,6 @@ use tc_model::Walk;
 use tc_space::{RecErr, Space};
 use ty_base::Base;
 use ty_wire::Front;
-
-// The room of at most so many bytes is used again.
-const ROOM_KEPT: usize = 65_536;
 
 /// The bytes of a connection that no request took yet, and those that wait to be sent to it. Both queues are seen as lists.
 #[derive(Drop)]
@@ -127,7 +125,7 @@ impl Session {
         ensures served { IfOk result (λ d. ServesQueue B.S.Space B.holds replica logs d base.old base.new space.old space.new walk.old walk.new self.old self.new) }
         ensures leaves { IfOk result (λ d. Leaves B.S.Space B.own (d.commits ≡ false) space.old space.new) }
         ensures refused { OnErr result (Declines B.S.Space B.holds base.old base.new space.old space.new walk.old walk.new) }
-        ensures full { IsErrOf result RecErr.Full → FillsFront B.S.Space B.holds (B.fills space.new) replica base.old space.old walk.old self.old.unread }
+        ensures full { IsErrOf result RecErr.Full → FillsFront B.S.Space B.holds (B.fills base.old space.old space.new) replica base.old space.old walk.old self.old.unread }
         ensures keeps { Keeps B.S.Space space.old space.new }
         ensures cause { OnFault B.S.Space result space.old space.new }
     {

@@ -1,5 +1,5 @@
 //! The request at the front of bytes, taken off them.
-ghost use Rattle.std.specs.Prelude.{◌≡◌, ◌≤◌, ◌&&◌, List, ℕ, IfOk, length, drop, if◌then◌else◌, Some, None};
+ghost use Rattle.std.specs.Prelude.{◌≡◌, ◌≤◌, ◌&&◌, List, [], ℕ, IfOk, length, drop, if◌then◌else◌, Some, None};
 ghost use Rattle.tc_model.specs.Apply.{updates};
 ghost use Rattle.ty_core.specs.Gathering.{BeginsPut, MayGather, all_of};
 ghost use Rattle.ty_core.specs.Serving.{IsTaken, IsWhole};
@@ -9,6 +9,9 @@ use bytes::BytesMut;
 use std::alloc::{AllocError, Global};
 use tc_base::{Blob, Request};
 use ty_wire::{is_updating, read_request};
+
+/// The room of at most so many bytes is used again.
+pub const ROOM_KEPT: usize = 65_536;
 
 /// A request, and its bytes where they were asked for and it may update.
 #[derive(Debug, Drop)]
@@ -45,15 +48,25 @@ fn read_small(alloc: Global, unread: &[u8], whole: usize, logs: bool) -> Result<
     Ok(Taken { request, copied })
 }
 
-// Takes bytes off the front. Where none are left, their room is used again from its front.
+/// Drops all bytes. The room of many is given back, that of few is used again from its front.
+pub fn empty(alloc: Global, bytes: &mut BytesMut)
+    ensures { bytes.new.items ≡ [] }
+{
+    bytes.clear();
+    if bytes.capacity() > ROOM_KEPT {
+        *bytes = BytesMut::new(alloc);
+    }
+}
+
+// Takes bytes off the front.
 #[tactic(auto, using(crate::proofs::Fronts::none_left))]
-fn pass(bytes: &mut BytesMut, n: usize)
+fn pass(alloc: Global, bytes: &mut BytesMut, n: usize)
     requires { n ≤ length bytes.old.items }
     ensures { bytes.new.items ≡ drop n bytes.old.items }
 {
     bytes.advance(n);
     if bytes.is_empty() {
-        bytes.clear();
+        empty(alloc, bytes);
     }
 }
 
@@ -68,7 +81,7 @@ fn take_small(
     ensures { IfOk result (λ t. IsTaken t logs bytes.old.items bytes.new.items) }
 {
     let taken = read_small(alloc, bytes.as_slice(), whole, logs)?;
-    pass(bytes, whole);
+    pass(alloc, bytes, whole);
     Ok(taken)
 }
 

@@ -7,7 +7,7 @@ ghost use Rattle.ty_core.specs.Gathering.{IsSighted, MayGather, all_of};
 ghost use Rattle.ty_core.specs.Serving.{IsTaken};
 
 use crate::large::Large;
-use crate::taking::{Taken, take_front};
+use crate::taking::{Taken, empty, take_front};
 use bytes::BytesMut;
 use std::alloc::{AllocError, Global};
 use std::marker::Model;
@@ -69,7 +69,7 @@ fn sight(alloc: Global, large: &mut Option<Large>, behind: &mut BytesMut, seen: 
     if front == Front::Part {
         if let Some(begun) = Large::begin(alloc, behind.as_slice(), seen.least()) {
             *large = Some(begun);
-            behind.clear();
+            empty(alloc, behind);
         }
     }
     front

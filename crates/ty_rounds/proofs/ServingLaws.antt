@@ -82,6 +82,9 @@ sent_is p k h = go p.session.waiting (h.owed)
     go [] e = eq-eqb _ _ (omega (arith, ap length e, length-append k.out []))
     go (x ∷ waiting) e = ne_eqb _ _ (λ f. absurd (omega (arith, f, ap length e, length-append k.out (x ∷ waiting)))) ∙ sym (ne_eqb _ _ (λ f. absurd (omega (arith, f))))
 
+pub ready_held : (p : Peer) (k : Client) → p.gone ≡ false → all_taken p ≡ true → Holds p k → is_ready k ≡ true
+ready_held p k here none h = and_both k.gone (all_sent k) (h.gone ∙ here) (sent_is p k h ∙ none)
+
 pub gone_idle : (h : Contents → Type 0) (c : Contents) (w : Walk) (p : Peer) → h c → p.gone ≡ true → ServesOne false c h w w p p
 gone_idle h c w p hc e = record { each = λ k held. round_err h c w k p Part hc (front_idle k (and_not k.gone (all_sent k) (held.gone ∙ e))) held }
 
@@ -101,7 +104,7 @@ one_served hold c c' w w' p p' q r d here none t s o hc = record { each = λ k h
     st = apply false r c w
 
     front : (k : Client) → Holds p k → front_of k ≡ Ok (r, q.unread)
-    front k h = front_ready k (and_both k.gone (all_sent k) (h.gone ∙ here) (sent_is p k h ∙ none)) ∙ ap request_at h.unread ∙ t.front
+    front k h = front_ready k (ready_held p k here none h) ∙ ap request_at h.unread ∙ t.front
 
     go : (k : Client) → Holds p k → front_of k ≡ Ok (r, q.unread) → RoundsOne d.commits c hold w w' p' k
     go k h e = record {
@@ -121,7 +124,7 @@ one_served hold c c' w w' p p' q r d here none t s o hc = record { each = λ k h
 -- what it makes of the contents
 pub one_contents : (c : Contents) (w : Walk) (p : Peer) (k : Client) (r : Request) (rest : List ℕ) → p.gone ≡ false → all_taken p ≡ true → request_at p.session.unread ≡ Ok (r, rest) → Holds p k → (round_one c w k).contents ≡ (apply false r c w).contents
 unfolding round_one
-one_contents c w p k r rest here none front h = ap (λ (f : Front Request). (served c w k f).contents) (front_ready k (and_both k.gone (all_sent k) (h.gone ∙ here) (sent_is p k h ∙ none)) ∙ ap request_at h.unread ∙ front)
+one_contents c w p k r rest here none front h = ap (λ (f : Front Request). (served c w k f).contents) (front_ready k (ready_held p k here none h) ∙ ap request_at h.unread ∙ front)
 
 -- ---- all
 

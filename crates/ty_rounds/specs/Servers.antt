@@ -19,5 +19,5 @@ module _ {S B W : Type 0} (s : space.Ghosts S) (g : wire.Ghosts W) (holds : B �
     abbrev pub TurnsAs : Result Outcome TurnErr → Server B → Server B → S → S → W → W → Type 0
     TurnsAs result a b old new x y = Turns s g holds reopens result a.base b.base old new x y a.walk b.walk a.peers.items b.peers.items
 
-    abbrev pub FullTurnAs : (S → Contents → Contents → Type 0) → Server B → S → S → W → W → Type 0
-    FullTurnAs fills a old new x y = FullTurn (fills new) (HoldsMark s holds reopens a.base old) (g.given x) a.walk a.peers.items (g.transcript x) (g.transcript y)
+    abbrev pub FullTurnAs : (S → S → Contents → Contents → Type 0) → Server B → S → S → W → W → Type 0
+    FullTurnAs fills a old new x y = FullTurn (fills old new) (HoldsMark s holds reopens a.base old) (g.given x) a.walk a.peers.items (g.transcript x) (g.transcript y)

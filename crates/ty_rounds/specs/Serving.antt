@@ -2,7 +2,7 @@
 use Rattle.std.specs.Prelude.{◌≡◌, ℕ, Bool, true, false, List, [], ◌∷◌, ◌++◌, length, map}
 use Rattle.tc_io.specs.declared.wire.Ev.{Ev}
 use Rattle.tc_model.specs.Contents.{Contents, Walk}
-use Rattle.ty_world.specs.World.{Client, World, round_one, round_all, heard, unstopped}
+use Rattle.ty_world.specs.World.{Client, World, is_ready, round_one, round_all, heard, unstopped}
 use Rattle.tc_base.specs.Files.{Files}
 use Rattle.tc_base.specs.declared.request.Request.{Request}
 use Rattle.tc_space.specs.declared.space.Space as space
@@ -25,10 +25,11 @@ pub record RoundsOne (u : Bool) (c : Contents) (known : Contents → Type 0) (w 
 pub record ServesOne (u : Bool) (c : Contents) (known : Contents → Type 0) (w w' : Walk) (p p' : Peer) : Type 0 where
   pub each : (k : Client) → Holds p k → RoundsOne u c known w w' p' k
 
--- a limit is reached in the request at the front of a client's bytes, which may write: between the contents before it and those behind it; where it packs
+-- a limit is reached in the request that a client is served next, which may write: between the contents before it and those behind it; where it packs
 -- the files, that of the undo log
 pub record FillsOne (fills : Contents → Contents → Type 0) (c : Contents) (w : Walk) (k : Client) : Type 0 where
   pub request : Request
+  pub ready : is_ready k ≡ true
   pub begins : Begins request k.unread
   pub writes : may_write request ≡ true
   pub packs : is_optimize request ≡ true → FillsAll fills
@@ -50,13 +51,13 @@ pub record FillsAt (fills : Contents → Contents → Type 0) (c : Contents) (w 
 abbrev pub FillsIn : (Contents → Contents → Type 0) → World → Ev → List ℕ → Type 0
 FillsIn fills w ev bytes = FillsAt fills w.contents w.walk (heard (map unstopped w.there) ev bytes)
 
--- of whatever contents and clients, a limit is reached in the round
-abbrev pub FullRound : {S B : Type 0} → space.Ghosts S → (B → Files → Contents → Type 0) → (S → Contents → Contents → Type 0) → B → S → S → Walk → List Peer → Type 0
-FullRound s holds fills base old new w ps = OfHeld s holds base old (λ c. (ks : List Client) → AllHold ps ks → FillsAt (fills new) c w ks)
+-- of whatever contents and clients, a limit is reached in the round, since the space stood as before it
+abbrev pub FullRound : {S B : Type 0} → space.Ghosts S → (B → Files → Contents → Type 0) → (S → S → Contents → Contents → Type 0) → B → S → S → Walk → List Peer → Type 0
+FullRound s holds fills base old new w ps = OfHeld s holds base old (λ c. (ks : List Client) → AllHold ps ks → FillsAt (fills old new) c w ks)
 
 -- and in the request of one of them
-abbrev pub FullOne : {S B : Type 0} → space.Ghosts S → (B → Files → Contents → Type 0) → (S → Contents → Contents → Type 0) → B → S → S → Walk → Peer → Type 0
-FullOne s holds fills base old new w p = OfHeld s holds base old (λ c. (k : Client) → Holds p k → FillsOne (fills new) c w k)
+abbrev pub FullOne : {S B : Type 0} → space.Ghosts S → (B → Files → Contents → Type 0) → (S → S → Contents → Contents → Type 0) → B → S → S → Walk → Peer → Type 0
+FullOne s holds fills base old new w p = OfHeld s holds base old (λ c. (k : Client) → Holds p k → FillsOne (fills old new) c w k)
 
 -- the round was made: its numbers stay, no connection holds more but for one reply, and the space may be used; nothing is written where it has nothing to commit
 pub record Rounds {S B : Type 0} (s : space.Ghosts S) (own : ℕ → Type 0) (holds : B → Files → Contents → Type 0) (commits : Bool) (base base' : B) (old new : S) (w w' : Walk) (ps ps' : List Peer) : Type 0 where
@@ -92,3 +93,16 @@ pub record Halfway (u : Bool) (c : Contents) (known : Contents → Type 0) (w w'
   pub walk : w' ≡ (round_all c w served).walk
   pub done : AllHold front (round_all c w served).clients
   pub left : AllHold back rest
+
+-- ---- a limit of one kind that is one of another
+
+module _ (f g : Contents → Contents → Type 0) (wider : (d e : Contents) → f d e → g d e) where
+  pub fills_less : (c : Contents) (w : Walk) (k : Client) → FillsOne f c w k → FillsOne g c w k
+  fills_less c w k x = record { request = x.request; ready = x.ready; begins = x.begins; writes = x.writes; packs = λ packs d e. wider d e (x.packs packs d e); full = wider c (round_one c w k).contents x.full }
+
+  next_less : (c : Contents) (w : Walk) (front back : List Client) → FillsNext f c w front back → FillsNext g c w front back
+  next_less c w front [] x = (x.0, λ d e. wider d e (x.1 d e))
+  next_less c w front (k ∷ ks) x = fills_less (round_all c w front).contents (round_all c w front).walk k x
+
+  pub at_less : (c : Contents) (w : Walk) (ks : List Client) → FillsAt f c w ks → FillsAt g c w ks
+  at_less c w ks x = record { front = x.front; back = x.back; parts = x.parts; next = next_less c w x.front x.back x.next }

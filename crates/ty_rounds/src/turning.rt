@@ -62,7 +62,7 @@ pub fn turn<B: Base, W: Wire, K: Clock>(
     ensures ready { OnOk result (IsReadyAs B.S.Space W.Wire B.holds server.new space.new wire.new) }
     ensures opened { W.opened wire.new ≡ true }
     ensures told { TurnsAs B.S.Space W.Wire B.holds B.reopens result server.old server.new space.old space.new wire.old wire.new }
-    ensures full { IsErrOf result TurnErr.Full → FullTurnAs B.S.Space W.Wire B.holds B.reopens B.fills server.old space.old space.new wire.old wire.new }
+    ensures full { IsErrOf result TurnErr.Full → FullTurnAs B.S.Space W.Wire B.holds B.reopens B.fills_since server.old space.old space.new wire.old wire.new }
     ensures follows { Follows B.S.Space space.old space.new }
     ensures later_wire { W.faults wire.old ≤ W.faults wire.new }
     ensures cause_wire { IsErrOf result TurnErr.Wire → Rose (W.faults wire.old) (W.faults wire.new) }

@@ -21,7 +21,7 @@ pub returns-in-Optimize-clause-steps : goal.returns-in-Optimize-clause-steps
 returns-in-Optimize-clause-steps g c = if_ok _ (λ done n. packing_arm g.E.S.Space g.E.Storage.own g.E.Storage.holds c.args.request _ done _ _ _ _ _ _ _ c.in-Optimize.is n) c.optimize.ensures.answers
 
 pub returns-in-Optimize-clause-full : goal.returns-in-Optimize-clause-full
-returns-in-Optimize-clause-full g c = λ full. full_packing g.E.S.Space g.E.Storage.holds g.E.Storage.fills c.args.request _ c.args.engine.now _ _ c.args.walk.now c.in-Optimize.is (λ t d e. g.met.E.Storage.log_fills c.optimize.new.space d e (c.optimize.ensures.full full t))
+returns-in-Optimize-clause-full g c = λ full. full_packing g.E.S.Space g.E.Storage.holds g.E.Storage.fills c.args.request _ c.args.engine.now _ _ c.args.walk.now c.in-Optimize.is (λ t d e. g.met.E.Storage.log_fills c.args.engine.now c.args.space.now c.optimize.new.space d e (c.optimize.ensures.full full t))
 
 pub returns-in-Misc-clause-full : goal.returns-in-Misc-clause-full
 returns-in-Misc-clause-full g c = λ full. full_arm g.E.S.Space g.E.Storage.holds g.E.Storage.fills c.args.request (Misc c.in-Misc.name c.in-Misc.options c.in-Misc.args) (called c.in-Misc.name c.in-Misc.options c.in-Misc.args) c.args.engine.now _ _ c.args.walk.now c.in-Misc.is refl

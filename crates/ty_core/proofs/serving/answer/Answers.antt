@@ -27,7 +27,7 @@ pub returns-clause-full : goal.returns-clause-full
 returns-clause-full g c = λ is. let full = c.apply.ensures.full is in record {
   writes = full.writes;
   packs = full.packs;
-  by = λ d h. subst (λ (s : Step). g.B.Storage.fills c.apply.new.space d s.contents) (sym (apply_same c.args.replica c.args.request d c.args.walk.now (sym c.if_updating.ensures ∙ c.if-if_updating.false))) (full.by d h);
+  by = λ d h. subst (λ (s : Step). g.B.Storage.fills c.args.base.now c.args.space.now c.apply.new.space d s.contents) (sym (apply_same c.args.replica c.args.request d c.args.walk.now (sym c.if_updating.ensures ∙ c.if-if_updating.false))) (full.by d h);
 }
 
 pub returns-in_err-write_reply-clause-reply_front : goal.returns-in_err-write_reply-clause-reply_front

@@ -2,13 +2,15 @@ use Rattle.std.proofs.Common.{refl, rules, ap, ◌∙◌, List, ℕ}
 use Rattle.std.specs.Prelude.{Option, None, if◌then◌else◌}
 use Rattle.ty_wire.specs.Spelling.{spelling}
 use Rattle.ty_wire.proofs.Answered.{whole}
-use Rattle.ty_core.proofs.Fronts.{serves, taken_off}
+use Rattle.ty_core.proofs.Fronts.{notes_of, serves, taken_off}
 use Rattle.ty_core.proofs.serving.serve_taken.Goals as goal
 
 pub returns-clause-served : goal.returns-clause-served
 returns-clause-served g c = λ logs unread rest k. record {
   request = c.args.taken.request;
   takes = taken_off c.args.taken logs unread rest _ k c.asked_feed-feeds.ensures;
+  notes = notes_of logs c.args.taken.request _ c.in_ok-applied.applied.updated c.is_packing-packs.result refl
+      (c.kept-update.ensures ∙ ap (λ (o : Option (List ℕ)). if c.in_ok-applied.applied.updated then o else None) k.copied);
   few = search rules;
   serves = λ d h. let x = c.in_ok-applied.ensures.applied d h in (
     x.contents,

@@ -3,6 +3,7 @@ use Rattle.std.specs.Prelude.{◌||◌}
 use Rattle.tc_space.specs.Frames.{keeps_then, keeps_refl}
 use Rattle.ty_base.specs.Holding.{leaves_nothing}
 use Rattle.ty_rounds.specs.Ready.{FewUnread, FewWaiting, IsCalm}
+use Rattle.ty_rounds.specs.Serving.{fills_less}
 use Rattle.ty_rounds.proofs.Few.{each_at, each_set}
 use Rattle.ty_rounds.proofs.ServingLaws.{begin, fills_at, more_is, finish, numbers_kept, leaves_then}
 use Rattle.ty_rounds.proofs.Spans.{round_steps, skip_back, skip_front, span_inside}
@@ -49,7 +50,10 @@ returns-clause-rounds g c = let i = c.loop-i.invariant in record {
 
 pub returns-in_err-one-clause-full : goal.returns-in_err-one-clause-full
 returns-in_err-one-clause-full g c = λ is d h ks a.
-    fills_at (g.B.Storage.fills c.serve_one.new.space) _ d _ _ c.loop-i.walk _ _ ks _ c.index_mut-p.result.now (c.loop-i.invariant.round d h ks a) (search rules) (search rules) (c.in_err-one.ensures.full (search (rules, is)))
+    let earlier = g.met.B.Storage.since_more c.args.space.now c.loop-i.space c.serve_one.new.space (c.loop-i.invariant.keeps.steady h.0).past.later in
+    let one = c.in_err-one.ensures.full (search (rules, is)) in
+    fills_at (g.B.Storage.fills_since c.args.space.now c.serve_one.new.space) _ d _ _ c.loop-i.walk _ _ ks _ c.index_mut-p.result.now (c.loop-i.invariant.round d h ks a) (search rules) (search rules)
+    (λ e he k held. fills_less (g.B.Storage.fills_since c.loop-i.space c.serve_one.new.space) _ earlier.fills e c.loop-i.walk k (one e he k held))
 
 pub serve_one-requires-clause-calm : goal.serve_one-requires-clause-calm
 serve_one-requires-clause-calm g c = each_at IsCalm _ c.loop-i.i c.index_mut-p.result.now (search rules) (search rules) c.loop-i.invariant.calm.calm

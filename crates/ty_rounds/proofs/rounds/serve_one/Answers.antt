@@ -3,7 +3,7 @@ use Rattle.tc_model.specs.Contents.{Contents}
 use Rattle.ty_base.specs.Holding.{leaves_nothing}
 use Rattle.ty_core.specs.Serving.{Begins}
 use Rattle.ty_rounds.proofs.Few.{calm_stirs, quiet_none}
-use Rattle.ty_rounds.proofs.ServingLaws.{one_contents, gone_idle, waits_idle, none_idle, one_served, still_ready, fewer_unread, few_waiting}
+use Rattle.ty_rounds.proofs.ServingLaws.{one_contents, gone_idle, waits_idle, none_idle, one_served, ready_held, still_ready, fewer_unread, few_waiting}
 use Rattle.ty_rounds.proofs.rounds.serve_one.Goals as goal
 
 pub returns-then-not-p-clause-served : goal.returns-then-not-p-clause-served
@@ -65,8 +65,9 @@ pub returns-in_err-served-clause-full : goal.returns-in_err-served-clause-full
 returns-in_err-served-clause-full g c = λ is d h k held.
     let x = c.in_err-served.ensures.full (search (rules, is)) in record {
       request = x.request;
+      ready = ready_held c.args.p.now k (search rules) (search rules) held;
       begins = subst (λ (bytes : List ℕ). Begins x.request bytes) (sym held.unread) x.begins;
       writes = x.full.writes;
-      packs = λ packs. x.full.packs packs h.0;
-      full = subst (λ (e : Contents). g.B.Storage.fills c.serve.new.space d e) (sym (one_contents d c.args.walk.now c.args.p.now k x.request x.begins.rest (search rules) (search rules) x.begins.front held)) (x.full.by d h);
+      packs = λ packs a e. g.met.B.Storage.fills_then c.args.base.now c.args.space.now c.serve.new.space a e (x.full.packs packs h.0 a e);
+      full = subst (λ (e : Contents). g.B.Storage.fills_since c.args.space.now c.serve.new.space d e) (sym (one_contents d c.args.walk.now c.args.p.now k x.request x.begins.rest (search rules) (search rules) x.begins.front held)) (g.met.B.Storage.fills_then c.args.base.now c.args.space.now c.serve.new.space d _ (x.full.by d h));
     }

@@ -87,7 +87,7 @@ returns-clause-ready g c = ready_again g.B.S.Space g.W.Wire g.B.Storage.holds g.
     }) c.finish.ensures.opened c.in_ok-finish.ensures.wired
 
 pub returns-in_err-commits-clause-full : goal.returns-in_err-commits-clause-full
-returns-in_err-commits-clause-full g c = λ is. full_round g.B.S.Space g.W.Wire g.B.Storage.holds g.B.Storage.reopens (g.B.Storage.fills c.round_of_all.new.space) _ c.args.space.now _ _ _ _ c.listen.new.peers.items c.in_ok-ev.ev c.in_ok-ev.ensures.ok (c.in_err-commits.ensures.full (search (rules, is)))
+returns-in_err-commits-clause-full g c = λ is. full_round g.B.S.Space g.W.Wire g.B.Storage.holds g.B.Storage.reopens (g.B.Storage.fills_since c.args.space.now c.round_of_all.new.space) _ c.args.space.now _ _ _ _ c.listen.new.peers.items c.in_ok-ev.ev c.in_ok-ev.ensures.ok (c.in_err-commits.ensures.full (search (rules, is)))
 
 pub returns-in_err-keep-clause-full : goal.returns-in_err-keep-clause-full
-returns-in_err-keep-clause-full g c = λ is. full_keep g.B.S.Space g.W.Wire g.B.Storage.holds g.B.Storage.reopens g.B.Storage.own (g.B.Storage.fills c.keep.new.space) _ c.round_of_all.new.base c.args.space.now c.round_of_all.new.space _ _ _ c.round_of_all.new.walk _ c.listen.new.peers.items c.round_of_all.new.peers.items c.in_ok-ev.ev c.in_ok-commits.commits c.in_ok-ev.ensures.ok c.in_ok-commits.ensures.rounds (let full = c.in_err-keep.ensures.full (search (rules, is)) in (full.0, λ t d e. g.met.B.Storage.log_fills c.keep.new.space d e (full.1 t)))
+returns-in_err-keep-clause-full g c = λ is. full_keep g.B.S.Space g.W.Wire g.B.Storage.holds g.B.Storage.reopens g.B.Storage.own (g.B.Storage.fills_since c.args.space.now c.keep.new.space) _ c.round_of_all.new.base c.args.space.now c.round_of_all.new.space _ _ _ c.round_of_all.new.walk _ c.listen.new.peers.items c.round_of_all.new.peers.items c.in_ok-ev.ev c.in_ok-commits.commits c.in_ok-ev.ensures.ok c.in_ok-commits.ensures.rounds (let full = c.in_err-keep.ensures.full (search (rules, is)) in (full.0, λ t d e. g.met.B.Storage.fills_then c.args.server.now.base c.args.space.now c.keep.new.space d e (g.met.B.Storage.log_fills c.args.server.now.base c.args.space.now c.keep.new.space d e (full.1 t))))

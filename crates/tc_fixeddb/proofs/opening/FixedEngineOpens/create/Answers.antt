@@ -1,4 +1,5 @@
-use Rattle.ty_base.proofs.Refusals.{full_from}
+use Rattle.std.proofs.Common.{rules}
+use Rattle.ty_base.proofs.Refusals.{full_from, none_broken}
 use Rattle.tc_fixeddb.proofs.Made.{created_as}
 use Rattle.tc_fixeddb.proofs.opening.FixedEngineOpens.create.Goals as goal
 
@@ -7,3 +8,6 @@ returns-clause-created g c = λ t. created_as g.S.Space _ c.args.shape.now c.cre
 
 pub returns-in_err-fixed-clause-full : goal.returns-in_err-fixed-clause-full
 returns-in_err-fixed-clause-full g c = λ full t. c.in_err-fixed.ensures.full (full_from c.from_residual.result c.in_err-fixed.field-0.0 c.from_residual.ensures.1 full) t
+
+pub returns-in_err-fixed-clause-refused : goal.returns-in_err-fixed-clause-refused
+returns-in_err-fixed-clause-refused g c = record { left = search rules; cause = search rules; sound = none_broken c.from_residual.result c.in_err-fixed.field-0.0 _ c.from_residual.ensures.1 }

@@ -1,7 +1,7 @@
 use Rattle.std.proofs.Common.{rules, ◌≡◌, ◌∙◌, ap, inr, length, sym, arith}
 use Rattle.std.proofs.lemmas.Result.{IfErr-weaker, IfOk-weaker}
 use Rattle.tc_base.specs.declared.kind.Kind.TheVariants as kinds
-use Rattle.ty_base.proofs.Refusals.{breaks_none, no_bytes, on_err_of, on_ok_of}
+use Rattle.ty_base.proofs.Refusals.{breaks_all, breaks_none, if_err_of, no_bytes, on_err_of, on_ok_of}
 use Rattle.tc_fixeddb.specs.Holding.{BreaksAs}
 use Rattle.tc_fixeddb.specs.Shapes.{anew, usual}
 use Rattle.tc_fixeddb.proofs.Made.{made_opens, made_usual, opens_made, main_opened, main_opens}
@@ -43,7 +43,7 @@ pub returns-clause-opened : goal.returns-clause-opened
 returns-clause-opened g c = λ t. main_opened g.S.Space _ c.args.kind c.args.space.now c.open.new.space (λ zero. omega (arith, c.if-len-eq0.false, c.len.ensures t, zero)) (c.open.ensures.reads.files t 0) (c.in_ok-fixed.ensures.holds t)
 
 pub returns-in_err-fixed-clause-refused : goal.returns-in_err-fixed-clause-refused
-returns-in_err-fixed-clause-refused g c = record { left = on_err_of _ (inr c.open.ensures.reads); cause = search rules }
+returns-in_err-fixed-clause-refused g c = record { left = on_err_of _ (inr c.open.ensures.reads); cause = search rules; sound = if_err_of _ (λ e. breaks_all e _ c.open.ensures.reads) }
 
 pub returns-clause-usable : goal.returns-clause-usable
 returns-clause-usable g c = record {

@@ -1,16 +1,15 @@
 use Rattle.std.proofs.Common.{take}
-use Rattle.tc_reach.proofs.Handed.{on_err_any}
-use Rattle.tc_hashdb.proofs.Told.{only_reads_up, only_refuses_up, told_is}
+use Rattle.tc_hashdb.proofs.Told.{only_reads_up, told_is}
 use Rattle.tc_hashdb.proofs.engine.HashEngineStorage.inform.Goals as goal
 
 pub add_lines-requires : goal.add_lines-requires
 add_lines-requires g c = (c.in_ok-read.ensures.valid c.in-Some.head c.in-Some.is).powers.1
 
-pub returns-in_err-read-clause-refused : goal.returns-in_err-read-clause-refused
-returns-in_err-read-clause-refused g c = on_err_any _ (only_refuses_up g.S.Space _ _ _ c.read_head.ensures.reads)
+pub returns-in_err-read-clause-reads : goal.returns-in_err-read-clause-reads
+returns-in_err-read-clause-reads g c = only_reads_up g.S.Space _ _ _ c.read_head.ensures.reads
 
-pub returns-in_err-add_lines-clause-refused : goal.returns-in_err-add_lines-clause-refused
-returns-in_err-add_lines-clause-refused g c = on_err_any _ (only_refuses_up g.S.Space _ _ _ c.read_head.ensures.reads)
+pub returns-in_err-add_lines-clause-reads : goal.returns-in_err-add_lines-clause-reads
+returns-in_err-add_lines-clause-reads g c = only_reads_up g.S.Space _ _ _ c.read_head.ensures.reads
 
 pub returns-clause-told : goal.returns-clause-told
 returns-clause-told g c = λ t. told_is (take 256 (g.S.Space.now c.args.space.now 0)) c.args.into.now c.add_lines.new.into c.in-Some.head c.in_ok-read.read c.in-Some.is (c.in_ok-read.ensures.head t) c.in_ok-add_lines.ensures.added

@@ -3,7 +3,7 @@ use Rattle.std.proofs.lemmas.Result.{IfErr-weaker}
 use Rattle.std.specs.FinMap.{empty}
 use Rattle.tc_base.specs.declared.kind.Kind.TheVariants as kinds
 use Rattle.tc_model.specs.Contents.{hash}
-use Rattle.ty_base.proofs.Refusals.{breaks_none, no_bytes, on_err_of}
+use Rattle.ty_base.proofs.Refusals.{breaks_all, breaks_none, if_err_of, no_bytes, on_err_of}
 use Rattle.tc_hashdb.specs.Holding.{BreaksAs}
 use Rattle.tc_hashdb.proofs.Made.{all_opened, made_usual, all_stand, made_opens, main_opened, main_opens}
 use Rattle.tc_hashdb.proofs.opening.HashEngineOpens.open.Goals as goal
@@ -46,4 +46,4 @@ pub returns-then-len-eq0-clause-broken : goal.returns-then-len-eq0-clause-broken
 returns-then-len-eq0-clause-broken g c = IfErr-weaker _ _ _ (λ e none. breaks_none e g.S.Space.tells (BreaksAs c.args.kind (g.S.Space.now c.args.space.now)) none) c.create.ensures.broken
 
 pub returns-in_err-hash-clause-refused : goal.returns-in_err-hash-clause-refused
-returns-in_err-hash-clause-refused g c = record { left = on_err_of _ (inr c.open.ensures.reads); cause = search rules }
+returns-in_err-hash-clause-refused g c = record { left = on_err_of _ (inr c.open.ensures.reads); cause = search rules; sound = if_err_of _ (λ e. breaks_all e _ c.open.ensures.reads) }

@@ -16,5 +16,5 @@ returns-clause-served g c = IfOk-weaker _ _ _ (λ served serves.
 
 pub returns-clause-full : goal.returns-clause-full
 returns-clause-full g c = λ is.
-    subst (λ (l : List ℕ). FillsFront g.B.S.Space g.B.Storage.holds (g.B.Storage.fills c.serve_taken.new.space) c.args.replica c.args.base.now c.args.space.now c.args.walk.now l) (ap (λ (q : Queue). q.unread) c.self.view_is)
+    subst (λ (l : List ℕ). FillsFront g.B.S.Space g.B.Storage.holds (g.B.Storage.fills c.args.base.now c.args.space.now c.serve_taken.new.space) c.args.replica c.args.base.now c.args.space.now c.args.walk.now l) (ap (λ (q : Queue). q.unread) c.self.view_is)
     (c.serve_taken.ensures.full is c.args.logs _ _ c.in_ok-taken.ensures)
