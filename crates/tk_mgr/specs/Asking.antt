@@ -1,8 +1,8 @@
 -- What the requests of a task leave of a database and its space.
-use Rattle.std.specs.Prelude.{◌≡◌, ℕ, Bool, false, List, Option, None, Result, Ok, IsErrOf}
+use Rattle.std.specs.Prelude.{◌≡◌, ◌≤◌, ℕ, Bool, false, List, Option, None, Result, Ok, IsErrOf}
 use Rattle.tc_base.specs.Files.{Files}
 use Rattle.tc_base.specs.declared.request.Request.{Request}
-use Rattle.tc_space.specs.Frames.{Keeps, keeps_refl, keeps_then}
+use Rattle.tc_space.specs.Frames.{Follows, Keeps, keeps_refl, keeps_then}
 use Rattle.tc_io.specs.Causes.{Rose}
 use Rattle.tc_space.specs.declared.space.Space as space
 use Rattle.tc_model.specs.Contents.{Contents}
@@ -15,7 +15,7 @@ use Rattle.ty_world.specs.World.{Mark}
 use Rattle.ty_rounds.specs.Kept.{HoldsMark, LeavesTwo, Reopens}
 use Rattle.std.proofs.Common.{refl, ◌∙◌}
 use Rattle.tk_mgr.specs.declared.errors.MgrErr.{MgrErr}
-use Rattle.tk_mgr.specs.declared.errors.MgrErr.TheVariants.{Fault, Full}
+use Rattle.tk_mgr.specs.declared.errors.MgrErr.TheVariants.{Fault, Full, Sink}
 use Rattle.tk_mgr.specs.Tasks.{asked, answered}
 use Rattle.tk_mgr.specs.Managing.{IsThrough, last_mark, with_contents}
 use Rattle.tk_mgr.specs.declared.task.Task.{Task}
@@ -34,6 +34,13 @@ AnswersOf s holds r a base base' old new reply = OfHeld s holds base old (λ c. 
 -- a fault comes only where a call of the volume failed
 abbrev pub OnMgrFault : {S T : Type 0} → space.Ghosts S → Result T MgrErr → S → S → Type 0
 OnMgrFault s result old new = IsErrOf result Fault → Rose (s.faults old) (s.faults new)
+
+-- whatever it answers: the space follows the one that it was, no count of faults falls, and a fault is one of the space or of the sink
+pub record Accounts {S O T : Type 0} (s : space.Ghosts S) (faults : O → ℕ) (result : Result T MgrErr) (old new : S) (p q : O) : Type 0 where
+  pub follows : Follows s old new
+  pub later : faults p ≤ faults q
+  pub cause : OnMgrFault s result old new
+  pub cause_sink : IsErrOf result Sink → Rose (faults p) (faults q)
 
 -- it neither updates contents nor packs files
 pub record IsIdle (r : Request) : Type 0 where
@@ -78,8 +85,8 @@ OfMark s holds reopens base space P = (m : Mark) → HoldsMark s holds reopens b
 abbrev pub CarriesOf : {S B : Type 0} → space.Ghosts S → (B → Files → Contents → Type 0) → (Files → Contents → Type 0) → Option Request → Result Bool MgrErr → B → S → S → Type 0
 CarriesOf s holds reopens r result base old new = OfMark s holds reopens base old (λ m. Carries s reopens r result old new m)
 
-abbrev pub FillsRequest : {S B T : Type 0} → space.Ghosts S → (B → Files → Contents → Type 0) → (S → Contents → Contents → Type 0) → Option Request → Result T MgrErr → B → S → S → Type 0
-FillsRequest s holds fills r result base old new = IsErrOf result Full → OfHeld s holds base old (λ c. fills new c (asked r c))
+abbrev pub FillsRequest : {S B T : Type 0} → space.Ghosts S → (B → Files → Contents → Type 0) → (S → S → Contents → Contents → Type 0) → Option Request → Result T MgrErr → B → S → S → Type 0
+FillsRequest s holds fills r result base old new = IsErrOf result Full → OfHeld s holds base old (λ c. fills old new c (asked r c))
 
 -- a stop at the exit leaves files that stand for the last mark of a task
 abbrev pub LeavesLast : {S B : Type 0} → space.Ghosts S → (B → Files → Contents → Type 0) → (Files → Contents → Type 0) → Task → B → S → S → Type 0

@@ -61,14 +61,14 @@ pub record LeavesHundreds {S : Type 0} (s : space.Ghosts S) (reopens : Files →
 -- ---- whichever the seed was, and whatever was held at first
 
 module _ {S B : Type 0} (s : space.Ghosts S) (holds : B → Files → Contents → Type 0) where
-  module _ {T : Type 0} (fills : S → Contents → Contents → Type 0) (lacks_large : S → Contents → Type 0) (result : Result T MgrErr) where
+  module _ {T : Type 0} (fills : S → S → Contents → Contents → Type 0) (lacks_large : S → S → Contents → Type 0) (result : Result T MgrErr) where
     -- a limit is reached within so many requests more
     abbrev pub FillsMore : ℕ → Run → B → S → S → Type 0
-    FillsMore more run base old new = IsErrOf result Full → (seed : ℕ) (m : Mark) → Holds s holds seed run base old m → FillsTask (s.log_full new) (fills new) (lacks_large new) (Drill seed (run.made + more)) m.contents
+    FillsMore more run base old new = IsErrOf result Full → (seed : ℕ) (m : Mark) → Holds s holds seed run base old m → FillsTask (s.log_full new) (fills old new) (lacks_large old new) (Drill seed (run.made + more)) m.contents
 
     -- within so many in all, where the files stood for what was held
     abbrev pub FillsUpTo : (Files → Contents → Type 0) → ℕ → Run → B → S → S → Type 0
-    FillsUpTo reopens count run base old new = IsErrOf result Full → (seed : ℕ) (m : Mark) → Stands s holds reopens seed run base old m → FillsTask (s.log_full new) (fills new) (lacks_large new) (Drill seed count) m.contents
+    FillsUpTo reopens count run base old new = IsErrOf result Full → (seed : ℕ) (m : Mark) → Stands s holds reopens seed run base old m → FillsTask (s.log_full new) (fills old new) (lacks_large old new) (Drill seed count) m.contents
 
   module _ (reopens : Files → Contents → Type 0) where
     -- the files stand for what was held, or for what so many requests more make of it

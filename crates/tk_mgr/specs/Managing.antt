@@ -1,5 +1,6 @@
 -- What a task leaves of a database, of its space and of what it prints to.
 use Rattle.std.specs.Prelude.{◌≡◌, ◌≢◌, ◌⊎◌, ◌≤◌, ◌<◌, ◌+◌, ℕ, Bool, true, false, List, [], map, Option, None, Some, Result, Ok, Err, IsErrOf}
+use Rattle.std.proofs.Common.{inl, inr, ⊎_elim}
 use Rattle.tc_base.specs.Files.{Files}
 use Rattle.tc_base.specs.declared.kind.Form.{Form}
 use Rattle.tc_base.specs.declared.kind.Form.TheVariants as form
@@ -109,14 +110,25 @@ pub record FillsTask (log_is_full : Type 0) (fills : Contents → Contents → T
   pub within : step ≤ steps_of task
   pub by : ((step < steps_of task) × fills (at_step task c step) (at_step task c (step + 1))) ⊎ LacksKeeping log_is_full lacks_large task (at_step task c step)
 
--- the same as a space stands
-abbrev pub FillsTaskIn : {S : Type 0} → space.Ghosts S → (S → Contents → Contents → Type 0) → (S → Contents → Type 0) → S → Task → Contents → Type 0
-FillsTaskIn s fills lacks_large space task c = FillsTask (s.log_full space) (fills space) (lacks_large space) task c
+-- the same as a space stands, since it stood as before
+abbrev pub FillsTaskIn : {S : Type 0} → space.Ghosts S → (S → S → Contents → Contents → Type 0) → (S → S → Contents → Type 0) → S → S → Task → Contents → Type 0
+FillsTaskIn s fills lacks_large old new task c = FillsTask (s.log_full new) (fills old new) (lacks_large old new) task c
+
+-- so it is of wider kinds
+pub task_less : (log_is_full : Type 0) (f g : Contents → Contents → Type 0) (p q : Contents → Type 0) (task : Task) (c : Contents) → ((d e : Contents) → f d e → g d e) → ((d : Contents) → p d → q d) → FillsTask log_is_full f p task c → FillsTask log_is_full g q task c
+task_less log_is_full f g p q task c wider large x = record {
+  step = x.step;
+  within = x.within;
+  by = ⊎_elim
+      (λ y. inl (y.0, wider (at_step task c x.step) (at_step task c (x.step + 1)) y.1))
+      (λ y. inr (⊎_elim (λ log. inl log) (λ lacks. inr (lacks.0, large (at_step task c x.step) lacks.1)) y))
+      x.by;
+}
 
 -- whatever the files stood for
-module _ {S B : Type 0} (s : space.Ghosts S) (holds : B → Files → Contents → Type 0) (reopens : Files → Contents → Type 0) (fills : S → Contents → Contents → Type 0) (lacks_large : S → Contents → Type 0) where
+module _ {S B : Type 0} (s : space.Ghosts S) (holds : B → Files → Contents → Type 0) (reopens : Files → Contents → Type 0) (fills : S → S → Contents → Contents → Type 0) (lacks_large : S → S → Contents → Type 0) where
   abbrev pub FillsTaskOf : {T : Type 0} → Task → Result T MgrErr → B → S → S → Type 0
-  FillsTaskOf task result base old new = IsErrOf result err.Full → (m : Mark) → HoldsMark s holds reopens base old m → FillsTaskIn s fills lacks_large new task m.contents
+  FillsTaskOf task result base old new = IsErrOf result err.Full → (m : Mark) → HoldsMark s holds reopens base old m → FillsTaskIn s fills lacks_large old new task m.contents
 
 abbrev pub PacksTaskOf : {S B : Type 0} → space.Ghosts S → (B → Files → Contents → Type 0) → (Files → Contents → Type 0) → (Form → Files → Type 0) → Task → Result Bool MgrErr → B → S → S → Type 0
 PacksTaskOf s holds reopens packed task result base old new = (m : Mark) → HoldsMark s holds reopens base old m → PacksTask s packed task result new

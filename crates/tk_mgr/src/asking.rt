@@ -27,7 +27,7 @@ pub fn ask<B: Base>(
     requires ready { IsReady B.S.Space B.holds base.old space.old }
     ensures answers { IfOk result (λ a. AnswersOf B.S.Space B.holds request a base.old base.new space.old space.new reply.new) }
     ensures leaves { IfOk result (λ a. Leaves B.S.Space B.own (is_idle request a) space.old space.new) }
-    ensures full { IsErrOf result MgrErr.Full → FillsBy B.S.Space B.holds (B.fills space.new) request base.old space.old (asked (Some request)) }
+    ensures full { IsErrOf result MgrErr.Full → FillsBy B.S.Space B.holds (B.fills base.old space.old space.new) request base.old space.old (asked (Some request)) }
     ensures not_sink { IsErrOf result MgrErr.Sink → ⊥ }
     ensures keeps { Keeps B.S.Space space.old space.new }
     ensures cause { OnMgrFault B.S.Space result space.old space.new }
@@ -88,7 +88,7 @@ pub fn change<B: Base>(
     requires may { MayManage B.S.Space B.holds B.reopens base.old space.old }
     requires packs_none { is_optimize request ≡ false }
     ensures carries { CarriesOf B.S.Space B.holds B.reopens (Some request) result base.old space.old space.new }
-    ensures full { FillsRequest B.S.Space B.holds B.fills (Some request) result base.old space.old space.new }
+    ensures full { FillsRequest B.S.Space B.holds B.fills_since (Some request) result base.old space.old space.new }
     ensures not_sink { IsErrOf result MgrErr.Sink → ⊥ }
     ensures follows { Follows B.S.Space space.old space.new }
     ensures cause { OnMgrFault B.S.Space result space.old space.new }

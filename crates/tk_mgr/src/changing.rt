@@ -63,7 +63,7 @@ pub fn put<B: Base>(
 ) -> Result<bool, MgrErr>
     requires may { MayManage B.S.Space B.holds B.reopens base.old space.old }
     ensures carries { CarriesOf B.S.Space B.holds B.reopens (Some (put_request word key value)) result base.old space.old space.new }
-    ensures full { FillsRequest B.S.Space B.holds B.fills (Some (put_request word key value)) result base.old space.old space.new }
+    ensures full { FillsRequest B.S.Space B.holds B.fills_since (Some (put_request word key value)) result base.old space.old space.new }
     ensures not_sink { IsErrOf result MgrErr.Sink → ⊥ }
     ensures follows { Follows B.S.Space space.old space.new }
     ensures cause { OnMgrFault B.S.Space result space.old space.new }
@@ -82,7 +82,7 @@ pub fn take_out<B: Base>(
 ) -> Result<bool, MgrErr>
     requires may { MayManage B.S.Space B.holds B.reopens base.old space.old }
     ensures carries { CarriesOf B.S.Space B.holds B.reopens (Some (request.Out key)) result base.old space.old space.new }
-    ensures full { FillsRequest B.S.Space B.holds B.fills (Some (request.Out key)) result base.old space.old space.new }
+    ensures full { FillsRequest B.S.Space B.holds B.fills_since (Some (request.Out key)) result base.old space.old space.new }
     ensures not_sink { IsErrOf result MgrErr.Sink → ⊥ }
     ensures follows { Follows B.S.Space space.old space.new }
     ensures cause { OnMgrFault B.S.Space result space.old space.new }

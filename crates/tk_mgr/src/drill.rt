@@ -29,7 +29,7 @@ fn make<B: Base>(
     ensures text { IfOk result (λ text. OfMark B.S.Space B.holds B.reopens base.old space.old (λ m. text ≡ text_of (Drill seed count) m.contents)) }
     ensures moments { OfMark B.S.Space B.holds B.reopens base.old space.old (λ m. LeavesMarks B.S.Space B.reopens space.old space.new (marks_of (Drill seed count) m)) }
     ensures last { OnOk result (LeavesLast B.S.Space B.holds B.reopens (Drill seed count) base.old space.old space.new) }
-    ensures full { FillsTaskOf B.S.Space B.holds B.reopens B.fills B.lacks_large (Drill seed count) result base.old space.old space.new }
+    ensures full { FillsTaskOf B.S.Space B.holds B.reopens B.fills_since B.lacks_large (Drill seed count) result base.old space.old space.new }
     ensures not_sink { IsErrOf result MgrErr.Sink → ⊥ }
     ensures follows { Follows B.S.Space space.old space.new }
     ensures cause { OnMgrFault B.S.Space result space.old space.new }
@@ -53,7 +53,7 @@ pub fn drill<B: Base, O: Sink>(
 ) -> Result<bool, MgrErr>
     requires may { MayManage B.S.Space B.holds B.reopens base.old space.old }
     ensures managed { Manages B.S.Space O.Sink B.holds B.reopens B.lines (Drill seed count) result base.old space.old space.new out.old out.new }
-    ensures full { FillsTaskOf B.S.Space B.holds B.reopens B.fills B.lacks_large (Drill seed count) result base.old space.old space.new }
+    ensures full { FillsTaskOf B.S.Space B.holds B.reopens B.fills_since B.lacks_large (Drill seed count) result base.old space.old space.new }
     ensures follows { Follows B.S.Space space.old space.new }
     ensures later { O.faults out.old ≤ O.faults out.new }
     ensures cause { OnMgrFault B.S.Space result space.old space.new }

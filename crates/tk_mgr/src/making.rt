@@ -20,7 +20,7 @@ fn make_one<B: Base>(run: &mut Run, base: &mut B, space: &mut B::S) -> Result<()
     requires ready { IsReady B.S.Space B.holds base.old space.old }
     requires room { run.old.made < u32.MAX }
     ensures makes { OnOk result (Makes B.S.Space B.holds 1 run.old run.new base.old base.new space.old space.new) }
-    ensures full { FillsMore B.S.Space B.holds B.fills B.lacks_large result 1 run.old base.old space.old space.new }
+    ensures full { FillsMore B.S.Space B.holds B.fills_since B.lacks_large result 1 run.old base.old space.old space.new }
     ensures not_sink { IsErrOf result MgrErr.Sink → ⊥ }
     ensures keeps { Keeps B.S.Space space.old space.new }
     ensures cause { OnMgrFault B.S.Space result space.old space.new }
@@ -43,7 +43,7 @@ fn make_some<B: Base>(
     requires ready { IsReady B.S.Space B.holds base.old space.old }
     requires room { run.old.made + more ≤ u32.MAX }
     ensures makes { OnOk result (Makes B.S.Space B.holds more run.old run.new base.old base.new space.old space.new) }
-    ensures full { FillsMore B.S.Space B.holds B.fills B.lacks_large result more run.old base.old space.old space.new }
+    ensures full { FillsMore B.S.Space B.holds B.fills_since B.lacks_large result more run.old base.old space.old space.new }
     ensures not_sink { IsErrOf result MgrErr.Sink → ⊥ }
     ensures keeps { Keeps B.S.Space space.old space.new }
     ensures cause { OnMgrFault B.S.Space result space.old space.new }
@@ -65,7 +65,7 @@ fn keep_some<B: Base>(
     requires room { run.old.made + more ≤ u32.MAX }
     ensures secures { OnOk result (Secures B.S.Space B.holds B.reopens more run.old run.new base.old base.new space.old space.new) }
     ensures moments { MovesBy B.S.Space B.holds B.reopens more run.old base.old space.old space.new }
-    ensures full { FillsUpTo B.S.Space B.holds B.fills B.lacks_large result B.reopens (run.old.made + more) run.old base.old space.old space.new }
+    ensures full { FillsUpTo B.S.Space B.holds B.fills_since B.lacks_large result B.reopens (run.old.made + more) run.old base.old space.old space.new }
     ensures not_sink { IsErrOf result MgrErr.Sink → ⊥ }
     ensures follows { Follows B.S.Space space.old space.new }
     ensures cause { OnMgrFault B.S.Space result space.old space.new }
@@ -89,7 +89,7 @@ pub fn keep_hundreds<B: Base>(
     requires room { 100 * most ≤ u32.MAX }
     ensures secures { OnOk result (Secures B.S.Space B.holds B.reopens (100 * most) run.old run.new base.old base.new space.old space.new) }
     ensures moments { LeavesBy B.S.Space B.holds B.reopens most run.old base.old space.old space.new }
-    ensures full { FillsUpTo B.S.Space B.holds B.fills B.lacks_large result B.reopens (100 * most) run.old base.old space.old space.new }
+    ensures full { FillsUpTo B.S.Space B.holds B.fills_since B.lacks_large result B.reopens (100 * most) run.old base.old space.old space.new }
     ensures not_sink { IsErrOf result MgrErr.Sink → ⊥ }
     ensures follows { Follows B.S.Space space.old space.new }
     ensures cause { OnMgrFault B.S.Space result space.old space.new }
@@ -111,7 +111,7 @@ fn tell_some<B: Base>(
     requires room { run.old.made + more ≤ u32.MAX }
     ensures text { IfOk result (λ text. Tells B.S.Space B.holds run.old (run.old.made + more) base.old space.old text) }
     ensures makes { OnOk result (Makes B.S.Space B.holds more run.old run.new base.old base.new space.old space.new) }
-    ensures full { FillsMore B.S.Space B.holds B.fills B.lacks_large result more run.old base.old space.old space.new }
+    ensures full { FillsMore B.S.Space B.holds B.fills_since B.lacks_large result more run.old base.old space.old space.new }
     ensures not_sink { IsErrOf result MgrErr.Sink → ⊥ }
     ensures keeps { Keeps B.S.Space space.old space.new }
     ensures cause { OnMgrFault B.S.Space result space.old space.new }
@@ -134,7 +134,7 @@ pub fn keep_rest<B: Base>(
     ensures text { IfOk result (λ text. Tells B.S.Space B.holds run.old (run.old.made + more) base.old space.old text) }
     ensures secures { OnOk result (Secures B.S.Space B.holds B.reopens more run.old run.new base.old base.new space.old space.new) }
     ensures moments { MovesBy B.S.Space B.holds B.reopens more run.old base.old space.old space.new }
-    ensures full { FillsUpTo B.S.Space B.holds B.fills B.lacks_large result B.reopens (run.old.made + more) run.old base.old space.old space.new }
+    ensures full { FillsUpTo B.S.Space B.holds B.fills_since B.lacks_large result B.reopens (run.old.made + more) run.old base.old space.old space.new }
     ensures not_sink { IsErrOf result MgrErr.Sink → ⊥ }
     ensures follows { Follows B.S.Space space.old space.new }
     ensures cause { OnMgrFault B.S.Space result space.old space.new }

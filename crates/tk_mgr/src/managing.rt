@@ -1,9 +1,8 @@
 //! A task carried out on a database.
-ghost use Rattle.std.specs.Prelude.{◌≡◌, ◌≤◌, false, true, IsErrOf};
-ghost use Rattle.tc_io.specs.Causes.{Rose};
+ghost use Rattle.std.specs.Prelude.{◌≡◌, false, true, IsErrOf};
 ghost use Rattle.tk_mgr.specs.Managing.{FillsTaskOf, Manages, MayManage, PacksTaskOf, writes_files};
-ghost use Rattle.tc_space.specs.Frames.{Follows, Keeps};
-ghost use Rattle.tk_mgr.specs.Asking.{OnMgrFault};
+ghost use Rattle.tc_space.specs.Frames.{Keeps};
+ghost use Rattle.tk_mgr.specs.Asking.{Accounts};
 
 use crate::changing::{optimize, put, take_out};
 use crate::drill::drill;
@@ -22,6 +21,7 @@ use ty_base::Base;
 ///
 /// On an `Err` a stop leaves what was kept at one of its commits; the space is to be opened again. `Memory` also comes where a list would print a value
 /// that is too long for a reply.
+#[tactic(auto, using(crate::proofs::Ends::keeps_follows))]
 pub fn manage<B: Base, O: Sink>(
     alloc: Global,
     task: Task,
@@ -34,11 +34,8 @@ pub fn manage<B: Base, O: Sink>(
     ensures packs { PacksTaskOf B.S.Space B.holds B.reopens B.packed task result base.old space.old space.new }
     ensures writes { IsErrOf result MgrErr.Full → writes_files task ≡ true }
     ensures reads { writes_files task ≡ false → Keeps B.S.Space space.old space.new }
-    ensures full { FillsTaskOf B.S.Space B.holds B.reopens B.fills B.lacks_large task result base.old space.old space.new }
-    ensures follows { Follows B.S.Space space.old space.new }
-    ensures later { O.faults out.old ≤ O.faults out.new }
-    ensures cause { OnMgrFault B.S.Space result space.old space.new }
-    ensures cause_sink { IsErrOf result MgrErr.Sink → Rose (O.faults out.old) (O.faults out.new) }
+    ensures full { FillsTaskOf B.S.Space B.holds B.reopens B.fills_since B.lacks_large task result base.old space.old space.new }
+    ensures accounts { Accounts B.S.Space O.faults result space.old space.new out.old out.new }
 {
     match task {
         Task::Put { word, key, value } => put(alloc, word, key, value, base, space),

@@ -36,9 +36,7 @@ module _ {V W O : Type 0} (v : volume.Ghosts V) (g : wire.Ghosts W) (o : sink.Gh
     names = (ends_unnamed v name vol).names;
     told = files_unopened g (kind_in stored) (reopens_of stored) NoMemory turns at x (ends_unnamed v name vol);
     judged = tt;
-    begun = inl refl;
-    spared = spares_unnamed (ends_unnamed v name vol) (IsDamaged (Opens stored));
-    within = λ out. absurd (⊎_elim (λ is. cc) (λ is. cc) out);
+    guards = record { begun = inl refl; spared = spares_unnamed (ends_unnamed v name vol) (IsDamaged (Opens stored)); within = λ out. absurd (⊎_elim (λ is. cc) (λ is. cc) out) };
     full = λ e. absurd cc;
     caused = tt;
   }
@@ -52,9 +50,7 @@ module _ {V W O : Type 0} (v : volume.Ghosts V) (g : wire.Ghosts W) (o : sink.Gh
     names = (ends_unnamed v name vol).names;
     told = managed_unopened o (reopens_of stored) (lines_in stored) (packed_in stored) task (kind_in stored) NoMemory p (ends_unnamed v name vol);
     judged = tt;
-    begun = inl refl;
-    spared = spares_unnamed (ends_unnamed v name vol) (IsDamaged (Opens stored));
-    misplaced = left_alone_unnamed (ends_unnamed v name vol) (IsMisplaced task);
+    guards = record { begun = inl refl; spared = spares_unnamed (ends_unnamed v name vol) (IsDamaged (Opens stored)); misplaced = left_alone_unnamed (ends_unnamed v name vol) (IsMisplaced task) };
     full = λ e. absurd cc;
     caused = tt;
   }

@@ -16,6 +16,7 @@ use Rattle.ty_base.specs.declared.errors.AnyErr.TheVariants as any
 use Rattle.ty_base.specs.Holding.{Stays}
 use Rattle.ty_base.specs.Opening.{Breaks, IsOpened}
 use Rattle.ty_rounds.specs.Kept.{HoldsMark, StandFor, Reopens, MovesTo, LeavesMarks, IsIn}
+use Rattle.ty_rounds.specs.Serving.{at_less}
 use Rattle.ty_rounds.specs.Turns.{Told}
 use Rattle.ty_rounds.proofs.Telling.{Adds-none}
 use Rattle.tk_top.specs.declared.ends.End.{End}
@@ -170,8 +171,8 @@ module _ {S W : Type 0} (s : space.Ghosts S) (g : wire.Ghosts W) (reopens opens 
     plays = λ first h acts given p. run.plays first (begins first h) acts given p;
   }
 
-pub full_opened : (fills : Contents → Contents → Type 0) (start begun : Mark → Type 0) (a b : Told) → ((m : Mark) → start m → begun m) → FullRun fills begun [] a b → FullRun fills start [] a b
-full_opened fills start begun a b begins x = record { earlier = x.earlier; paused = x.paused; busy = x.busy; ev = x.ev; bytes = x.bytes; told = x.told; some = λ first h. x.some first (begins first h) }
+pub full_opened : (fills wide : Contents → Contents → Type 0) (start begun : Mark → Type 0) (a b : Told) → ((m : Mark) → start m → begun m) → ((m : Mark) → start m → (d e : Contents) → fills d e → wide d e) → FullRun fills begun [] a b → FullRun wide start [] a b
+full_opened fills wide start begun a b begins wider x = record { earlier = x.earlier; paused = x.paused; busy = x.busy; ev = x.ev; bytes = x.bytes; told = x.told; some = λ first h. at_less fills wide (wider first h) _ _ _ (x.some first (begins first h)) }
 
 -- ---- ends
 

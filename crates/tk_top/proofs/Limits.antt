@@ -16,18 +16,22 @@ use Rattle.tk_top.specs.declared.words.Stored.{Stored}
 
 module _ {S V : Type 0} (v : volume.Ghosts V) {s : space.Ghosts S} {under : S → V} where
   module _ (stored : Stored) {vol w : V} where
-    pub is_full : (a b : Told) {most : ℕ} → FilesFull s under v.tells (λ x. LacksUsual v stored (s.limit x) (under x)) (λ x. FillsAt v stored (s.limit x) (under x)) (Opens stored) most (v.calls vol) w a b → IsFull v stored most vol w a b
+    pub is_full : (a b : Told) {most : ℕ} → FilesFull s under v.tells (λ x. LacksUsual v stored (s.limit x) (under x)) (λ z x. FillsAt v stored (s.limit x) (s.moment z) (under x)) (Opens stored) most (v.calls vol) w a b → IsFull v stored most vol w a b
     is_full a b {most} x = record {
       limits = s.limit x.space;
       limits_are = x.limits;
-      full = subst (λ (z : V). FullFiles v.tells (MainIsBare (recovered (now (v.calls vol)))) (LacksUsual v stored (s.limit x.space) z) (FillsAt v stored (s.limit x.space) z) (BeginsAt v.tells (Opens stored) (v.calls vol)) a b) x.vol_is x.full;
+      from = s.moment x.begin;
+      since = x.since;
+      full = subst (λ (z : V). FullFiles v.tells (MainIsBare (recovered (now (v.calls vol)))) (LacksUsual v stored (s.limit x.space) z) (FillsAt v stored (s.limit x.space) (s.moment x.begin) z) (BeginsAt v.tells (Opens stored) (v.calls vol)) a b) x.vol_is x.full;
     }
 
-    pub is_full_task : (task : Task) → FilesFullTask s under v.tells (λ x. LacksUsual v stored (s.limit x) (under x)) (λ x. FillsTaskAt v stored (s.limit x) (under x)) (Opens stored) task (2 ^ 40) (v.calls vol) w → IsFullTask v stored task vol w
+    pub is_full_task : (task : Task) → FilesFullTask s under v.tells (λ x. LacksUsual v stored (s.limit x) (under x)) (λ z x. FillsTaskAt v stored (s.limit x) (s.moment z) (under x)) (Opens stored) task (2 ^ 40) (v.calls vol) w → IsFullTask v stored task vol w
     is_full_task task x = record {
       limits = s.limit x.space;
       limits_are = x.limits;
-      full = subst (λ (z : V). FullTask v.tells (MainIsBare (recovered (now (v.calls vol)))) (LacksUsual v stored (s.limit x.space) z) (FillsTaskAt v stored (s.limit x.space) z) (BeginsAt v.tells (Opens stored) (v.calls vol)) task) x.vol_is x.full;
+      from = s.moment x.begin;
+      since = x.since;
+      full = subst (λ (z : V). FullTask v.tells (MainIsBare (recovered (now (v.calls vol)))) (LacksUsual v stored (s.limit x.space) z) (FillsTaskAt v stored (s.limit x.space) (s.moment x.begin) z) (BeginsAt v.tells (Opens stored) (v.calls vol)) task) x.vol_is x.full;
     }
 
   pub is_lacking : (shape : Shape) {vol w : V} → FilesLack s under v.tells (λ x. lacks_of shape (s.limit x 0) (LogIsFull v (under x))) (2 ^ 40) (v.calls vol) w → IsLacking v shape vol w

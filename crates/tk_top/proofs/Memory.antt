@@ -69,8 +69,8 @@ serving_caused WireFault v v' w w' is rose = rose refl
 serving_caused TurnsSpent v v' w w' is rose = tt
 
 module _ {W : Type 0} (g : wire.Ghosts W) where
-  pub memory_run : {S : Type 0} (s : space.Ghosts S) (reopens : Files → Contents → Type 0) {made : Files → Type 0} (end : End) (memory : Memory) (at : At) (turns : ℕ) (old new : S) (x y : W) (start : Mark → Type 0) → RunsOver s g reopens made end turns at old new x y start → IsServing end → start (no_keys memory) → MemoryRun g end memory at turns x y
-  memory_run s reopens {made} end memory at turns old new x y start run is h = let r = run.ends (no_keys memory) h in record { ends = is; entries = run.entries; told = run.told; asks = r.asked; serves = r.serves; played = run.played; plays = run.plays (no_keys memory) h }
+  pub memory_run : {S : Type 0} (s : space.Ghosts S) (reopens : Files → Contents → Type 0) {made : Files → Type 0} (end : End) (memory : Memory) (at : At) (turns : ℕ) (old new : S) (x y : W) (start : Mark → Type 0) → RunsOver s g reopens made end turns at old new x y start → IsServing end → start (no_keys memory) → (n n' : ℕ) → Caused end n n' (g.faults x) (g.faults y) → MemoryRun g end memory at turns x y
+  memory_run s reopens {made} end memory at turns old new x y start run is h n n' caused = let r = run.ends (no_keys memory) h in record { ends = is; entries = run.entries; told = run.told; asks = r.asked; serves = r.serves; played = run.played; plays = run.plays (no_keys memory) h; caused = λ count count'. serving_caused end count count' _ _ is (wire_fault end n n' _ _ caused) }
 
   -- there was no memory before any call
   pub memory_none : (memory : Memory) (at : At) (turns : ℕ) (x : W) → MemoryRun g NoMemory memory at turns x x
@@ -82,6 +82,7 @@ module _ {W : Type 0} (g : wire.Ghosts W) where
     serves = unserved NoMemory turns at [] (no_keys memory) [] refl (inr refl) (λ e. absurd cc) (λ e. absurd cc);
     played = λ e. absurd (⊎_elim (λ i. cc) (λ i. cc) e);
     plays = λ acts given p. not_played turns (g.plays x) NoMemory acts given (λ e. absurd cc) (λ e. absurd cc);
+    caused = λ count count'. tt;
   }
 
 -- a sink that was never refused took what was put

@@ -1,5 +1,5 @@
 -- A run, turn by turn.
-use Rattle.std.proofs.Common.{◌≡◌, ◌⊎◌, ◌<◌, ◌+◌, ◌≢◌, inl, inr, ⊎_elim, ℕ, true, false, List, [], ◌∷◌, ◌++◌, map, refl, sym, ap, subst, ◌∙◌, arith}
+use Rattle.std.proofs.Common.{◌≡◌, ◌⊎◌, ◌<◌, ◌≤◌, ◌+◌, ◌≢◌, inl, inr, ⊎_elim, ℕ, true, false, List, [], ◌∷◌, ◌++◌, map, refl, sym, ap, subst, ◌∙◌, arith}
 use Rattle.std.specs.Prelude.{Option, Some, None, Result, Ok, Err}
 use Rattle.std.proofs.lemmas.List.{append-nil}
 use Rattle.tc_base.specs.Files.{Files}
@@ -17,6 +17,7 @@ use Rattle.ty_world.proofs.Complete.{turns_bound}
 use Rattle.ty_rounds.specs.Kept.{HoldsMark, Reopens, LeavesTwo, LeavesMarks, IsIn}
 use Rattle.ty_rounds.specs.Holding.{AllHold, Wired}
 use Rattle.ty_rounds.specs.Peers.{numbers}
+use Rattle.ty_rounds.specs.Serving.{at_less}
 use Rattle.ty_rounds.specs.Turns.{Idles, MarksMore, FullTurn, Turns, TurnEnds, IsTurn}
 use Rattle.ty_rounds.specs.declared.peer.Peer.{Peer}
 use Rattle.ty_rounds.specs.declared.outcome.Outcome.{Outcome}
@@ -233,15 +234,16 @@ module _ {S B W : Type 0} (s : space.Ghosts S) (g : wire.Ghosts W) (holds : B �
         omega (arith, bound, events, all, enough);
   }
 
-  pub run_fills : (fills : Contents → Contents → Type 0) (b base : B) (s0 a : S) (x y z : W) (k : Walk) (ps : List Peer) (n : ℕ) (opens : List At) → RunsTo s g holds reopens b base s0 a x y k ps n → FullTurn fills (Known base a) (g.given y) k ps (g.transcript y) (g.transcript z) → FullRun fills (Known b s0) opens (g.transcript x) (g.transcript z)
-  run_fills fills b base s0 a x y z k ps n opens run full = record {
+  pub run_fills : (fills wide : Contents → Contents → Type 0) (b base : B) (s0 a : S) (x y z : W) (k : Walk) (ps : List Peer) (n : ℕ) (opens : List At) → (s.moment s0 ≤ s.moment a → (d e : Contents) → fills d e → wide d e) → RunsTo s g holds reopens b base s0 a x y k ps n
+      → FullTurn fills (Known base a) (g.given y) k ps (g.transcript y) (g.transcript z) → FullRun wide (Known b s0) opens (g.transcript x) (g.transcript z)
+  run_fills fills wide b base s0 a x y z k ps n opens wider run full = record {
     earlier = run.entries;
     paused = full.paused;
     busy = full.busy;
     ev = full.ev;
     bytes = full.bytes;
     told = Adds-then (g.transcript x) (g.transcript y) (g.transcript z) run.entries (Event full.paused full.busy full.ev full.bytes ∷ []) run.told full.told;
-    some = λ first h. full.some (world_after run.entries (started opens first)) (run.at first h opens).stands;
+    some = λ first h. let at = run.at first h opens in at_less fills wide (wider at.moments.leaves.later) _ _ _ (full.some (world_after run.entries (started opens first)) at.stands);
   }
 
   -- a turn by what it answered

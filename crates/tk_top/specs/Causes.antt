@@ -1,6 +1,8 @@
 -- Why a run ended as it did.
-use Rattle.std.specs.Prelude.{ℕ}
+use Rattle.std.specs.Prelude.{◌≤◌, ℕ}
 use Rattle.tc_io.specs.Causes.{Rose}
+use Rattle.tc_space.specs.Frames.{Follows}
+use Rattle.tc_space.specs.declared.space.Space as space
 use Rattle.tk_top.specs.declared.ends.End.{End}
 use Rattle.tk_top.specs.declared.ends.End.TheVariants.{Done, Words, Refused, VolumeFault, Broken, NoMemory, Full, WireFault, TurnsSpent}
 
@@ -27,3 +29,9 @@ CausedByVolume faults end old new = (count count' : ℕ) → Caused end (faults 
 -- of a wire or a sink alone
 abbrev pub CausedByWire : {W : Type 0} → (W → ℕ) → End → W → W → Type 0
 CausedByWire faults end x y = (count count' : ℕ) → Caused end count count' (faults x) (faults y)
+
+-- of a run over a space, with a wire or a sink: the space follows the one that it was, no count of faults falls, and a fault has its cause
+pub record IsAccounted {S W : Type 0} (s : space.Ghosts S) (faults : W → ℕ) (end : End) (old new : S) (x y : W) : Type 0 where
+  pub follows : Follows s old new
+  pub later : faults x ≤ faults y
+  pub caused : CausedIn s.faults faults end old new x y

@@ -31,13 +31,14 @@ use Rattle.tk_top.specs.Runs.{AtExit, FullRun, NoneKept}
 use Rattle.tk_top.specs.Serving.{Begins, ServesAt, PlaysAll}
 use Rattle.tk_top.specs.Events.{HadEvents, events_of}
 use Rattle.tk_top.specs.Staying.{AsOpening, BreaksLog, BreaksOver, FilesStay, IsStill, LeavesBroken}
+use Rattle.tk_top.specs.Stops.{IsEarly}
 
 -- a run over a volume whose files, as they read, recovered to these and reopened to this mark. The files as they read are one of the images
 pub record VolumeRun (reopens : Files → Contents → Type 0) (made : Files → Type 0) (files : Files) (end : End) (turns : ℕ) (at : At) (old new : Calls) (first : Mark) (es : List Entry) (v : World) : Type 0 where
   pub asked : AllAsked (started [] first) es
   pub serves : ServesAt end turns at first es v
   -- at the exit; where the run ended before the log was brought to the disk, as an opening image
-  pub exit : (ims : Files) → Images new ims → AtExit reopens end (mark_of (world_after serves.last.earlier (started [] first))) v (recovered ims) ⊎ ((es ≡ []) × IsLostSync old new 1 × AsOpening old (recovered ims))
+  pub exit : (ims : Files) → Images new ims → AtExit reopens end (mark_of (world_after serves.last.earlier (started [] first))) v (recovered ims) ⊎ ((IsEarly end × (es ≡ [])) × IsLostSync old new 1 × AsOpening old (recovered ims))
   -- at any moment: a mark, or as an opening image
   pub moments : (ims : Files) → ImagesSince new (length old) ims → AtMark reopens (recovered ims) v.marks ⊎ AsOpening old (recovered ims)
   -- once the wire was called, where no round had anything to commit: the files as they were, or, where the main file was empty, ones in which it was made
@@ -97,10 +98,14 @@ pub record IsOver (tells told : Type 0) (calls : Calls) (moment : ℕ) (left : �
   pub faults_are : faults ≡ count
 
 -- a database was opened and is kept: it may be used, nothing is left to commit, and it holds and stands for what its files stood for
-pub record OpensAs {S B : Type 0} (s : space.Ghosts S) (holds : B → Files → Contents → Type 0) (reopens opens : Files → Contents → Type 0) (b : B) (old new : S) : Type 0 where
+pub record OpensAs {S B : Type 0} (s : space.Ghosts S) (holds : B → Files → Contents → Type 0) (reopens opens : Files → Contents → Type 0) (made : Files → Type 0) (b : B) (old new : S) : Type 0 where
   pub ready : IsReady s holds b new
   pub untouched : s.touched new ≡ false
   pub marks : (m : Mark) → Begins s opens old m → HoldsMark s holds reopens b new m
+  -- they stood for some contents
+  pub stands : s.tells → (c : Contents) × opens (s.now old) c
+  -- an empty main file was made, and others stay
+  pub still : s.tells → IsStill made (s.now old) (Some (s.now new))
 
 -- the end of a run that came to the end of its turns, or of the wire
 abbrev pub IsOut : End → Type 0
@@ -123,11 +128,14 @@ Judged WireFault stand breaks = stand
 Judged TurnsSpent stand breaks = stand
 
 -- a space of this volume that has reached a limit; each of its data files may have so many bytes, or as many as it had where that is more
-pub record FilesFull {S V : Type 0} (s : space.Ghosts S) (under : S → V) (tells : Type 0) (lacks : S → Type 0) (fills : S → Contents → Contents → Type 0) (opens : Files → Contents → Type 0) (most : ℕ) (old : Calls) (vol : V) (a b : Told) : Type 0 where
+pub record FilesFull {S V : Type 0} (s : space.Ghosts S) (under : S → V) (tells : Type 0) (lacks : S → Type 0) (fills : S → S → Contents → Contents → Type 0) (opens : Files → Contents → Type 0) (most : ℕ) (old : Calls) (vol : V) (a b : Told) : Type 0 where
+  -- as it was opened, and as it ended
+  pub begin : S
+  pub since : tells → IsSettled old → length old ≤ s.moment begin
   pub space : S
   pub vol_is : under space ≡ vol
   pub limits : tells → (files : Files) → recovered (now old) ≡ Some files → (f : ℕ) → is_data f ≡ true → s.limit space f ≡ max most (length (files f))
-  pub full : FullFiles tells (MainIsBare (recovered (now old))) (lacks space) (fills space) (BeginsAt tells opens old) a b
+  pub full : FullFiles tells (MainIsBare (recovered (now old))) (lacks space) (fills begin space) (BeginsAt tells opens old) a b
 
 -- ---- of a space
 
@@ -135,8 +143,8 @@ module _ {S : Type 0} (s : space.Ghosts S) where
   abbrev pub JudgedOver : (Files → Contents → Type 0) → (Kind → Files → ℕ → Rule → Type 0) → Kind → End → S → S → Type 0
   JudgedOver reopens breaks kind end old new = Judged end (CanOpen s reopens kind old) (BreaksOver s (breaks kind) old new)
 
-  abbrev pub FullOver : {W : Type 0} → wire.Ghosts W → (S → Type 0) → (S → Contents → Contents → Type 0) → (Files → Contents → Type 0) → S → S → W → W → Type 0
-  FullOver g lacks fills opens old new x y = FullFiles s.tells (s.now old 0 ≡ []) (lacks new) (fills new) (Begins s opens old) (g.transcript x) (g.transcript y)
+  abbrev pub FullOver : {W : Type 0} → wire.Ghosts W → (S → Type 0) → (S → S → Contents → Contents → Type 0) → (Files → Contents → Type 0) → S → S → W → W → Type 0
+  FullOver g lacks fills opens old new x y = FullFiles s.tells (s.now old 0 ≡ []) (lacks new) (fills old new) (Begins s opens old) (g.transcript x) (g.transcript y)
 
 -- ---- of a volume
 
@@ -153,5 +161,5 @@ module _ {V : Type 0} (v : volume.Ghosts V) where
   abbrev pub RunsOn : {W : Type 0} → wire.Ghosts W → (Files → Contents → Type 0) → (Files → Type 0) → Kind → End → ℕ → At → V → V → W → W → Type 0
   RunsOn g reopens made kind end turns at old new x y = FilesRun v.tells g (OpensTo kind reopens) reopens made end turns at (v.calls old) (v.calls new) x y
 
-  abbrev pub FullOn : {S W : Type 0} → space.Ghosts S → wire.Ghosts W → (S → V) → (S → Type 0) → (S → Contents → Contents → Type 0) → (Files → Contents → Type 0) → ℕ → V → V → W → W → Type 0
+  abbrev pub FullOn : {S W : Type 0} → space.Ghosts S → wire.Ghosts W → (S → V) → (S → Type 0) → (S → S → Contents → Contents → Type 0) → (Files → Contents → Type 0) → ℕ → V → V → W → W → Type 0
   FullOn s g under lacks fills opens most old new x y = FilesFull s under v.tells lacks fills opens most (v.calls old) new (g.transcript x) (g.transcript y)

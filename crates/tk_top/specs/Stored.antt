@@ -43,16 +43,16 @@ abbrev pub packed_in : Stored → Form → Files → Type 0
 packed_in Hash form files = IsPacked form (files 0)
 packed_in Fixed form files = Unit {0}
 
--- a limit is reached between contents and those that a request makes of them: of the length of files, which have these now and which were these at the moments up
--- to this one, or of the undo log
-abbrev pub fills_of : Stored → (ℕ → ℕ) → (ℕ → ℕ) → Type 0 → (ℕ → Files) → ℕ → Contents → Contents → Type 0
-fills_of Hash limits lengths log_is_full past moment before after = FillsWith (limits 0) (lengths 0) log_is_full past moment before after
-fills_of Fixed limits lengths log_is_full past moment before after = HasNoRoom (limits 0) log_is_full (fixed.length_with after)
+-- a limit is reached between contents and those that a request makes of them: of the length of files, which have these now and which were these at the moments from
+-- one on up to another, or of the undo log
+abbrev pub fills_of : Stored → (ℕ → ℕ) → (ℕ → ℕ) → Type 0 → (ℕ → Files) → ℕ → ℕ → Contents → Contents → Type 0
+fills_of Hash limits lengths log_is_full past from moment before after = FillsWith (limits 0) (lengths 0) log_is_full past from moment before after
+fills_of Fixed limits lengths log_is_full past from moment before after = HasNoRoom (limits 0) log_is_full (fixed.length_with after)
 
 -- so it is where files are written anew in the large form; a fixed-length file has none
-abbrev pub lacks_large_of : Stored → (ℕ → ℕ) → (ℕ → ℕ) → (ℕ → Files) → ℕ → Contents → Type 0
-lacks_large_of Hash limits lengths past moment c = LacksLargeWith (limits 0) (lengths 0) past moment c
-lacks_large_of Fixed limits lengths past moment c = ⊥
+abbrev pub lacks_large_of : Stored → (ℕ → ℕ) → (ℕ → ℕ) → (ℕ → Files) → ℕ → ℕ → Contents → Type 0
+lacks_large_of Hash limits lengths past from moment c = LacksLargeWith (limits 0) (lengths 0) past from moment c
+lacks_large_of Fixed limits lengths past from moment c = ⊥
 
 -- ---- files made anew
 

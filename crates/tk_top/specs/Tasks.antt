@@ -1,5 +1,5 @@
 -- What a command on files leaves of them, and of what it prints to.
-use Rattle.std.specs.Prelude.{◌≡◌, ◌≢◌, ◌⊎◌, ◌^◌, ℕ, max, Bool, true, false, List, [], length, Option, Some, Result, Ok, Err}
+use Rattle.std.specs.Prelude.{◌≡◌, ◌≢◌, ◌⊎◌, ◌^◌, ◌≤◌, ℕ, max, Bool, true, false, List, [], length, Option, Some, Result, Ok, Err}
 use Rattle.tc_base.specs.Files.{Files}
 use Rattle.tc_base.specs.declared.kind.Form.{Form}
 use Rattle.tc_base.specs.declared.kind.Kind.{Kind}
@@ -140,11 +140,14 @@ pub record FullTask (tells empty lacks : Type 0) (fills : Task → Contents → 
   pub which : (tells → empty × lacks) ⊎ ((first : Mark) → start first → fills task first.contents)
 
 -- a space of this volume that has reached a limit; each of its data files may have so many bytes, or as many as it had where that is more
-pub record FilesFullTask {S V : Type 0} (s : space.Ghosts S) (under : S → V) (tells : Type 0) (lacks : S → Type 0) (fills : S → Task → Contents → Type 0) (opens : Files → Contents → Type 0) (task : Task) (most : ℕ) (old : Calls) (vol : V) : Type 0 where
+pub record FilesFullTask {S V : Type 0} (s : space.Ghosts S) (under : S → V) (tells : Type 0) (lacks : S → Type 0) (fills : S → S → Task → Contents → Type 0) (opens : Files → Contents → Type 0) (task : Task) (most : ℕ) (old : Calls) (vol : V) : Type 0 where
+  -- as it was opened, and as it ended
+  pub begin : S
+  pub since : tells → IsSettled old → length old ≤ s.moment begin
   pub space : S
   pub vol_is : under space ≡ vol
   pub limits : tells → (files : Files) → recovered (now old) ≡ Some files → (f : ℕ) → is_data f ≡ true → s.limit space f ≡ max most (length (files f))
-  pub full : FullTask tells (MainIsBare (recovered (now old))) (lacks space) (fills space) (BeginsAt tells opens old) task
+  pub full : FullTask tells (MainIsBare (recovered (now old))) (lacks space) (fills begin space) (BeginsAt tells opens old) task
 
 -- ---- of a space
 
@@ -156,8 +159,8 @@ module _ {S : Type 0} (s : space.Ghosts S) (reopens : Files → Contents → Typ
   abbrev pub JudgedTaskOver : (Kind → Files → ℕ → Rule → Type 0) → Kind → Task → End → S → S → Type 0
   JudgedTaskOver breaks kind task end old new = JudgedTask end (CanOpen s reopens kind old) (BreaksOver s (breaks kind) old new) (ReasonOver s (OpensTo kind reopens) task old)
 
-  abbrev pub FullTaskOver : (S → Type 0) → (S → Task → Contents → Type 0) → Kind → Task → S → S → Type 0
-  FullTaskOver lacks fills kind task old new = FullTask s.tells (s.now old 0 ≡ []) (lacks new) (fills new) (Begins s (OpensTo kind reopens) old) task
+  abbrev pub FullTaskOver : (S → Type 0) → (S → S → Task → Contents → Type 0) → Kind → Task → S → S → Type 0
+  FullTaskOver lacks fills kind task old new = FullTask s.tells (s.now old 0 ≡ []) (lacks new) (fills old new) (Begins s (OpensTo kind reopens) old) task
 
 -- ---- of a volume
 
@@ -169,5 +172,5 @@ module _ {V : Type 0} (v : volume.Ghosts V) where
   JudgedTaskOn opens breaks task end old new = JudgedTask end (CanStand v opens old) (BreaksOn v breaks old new) (v.tells → RefusedAt opens task (v.calls old))
 
   -- of files that may have so many bytes as any may
-  abbrev pub FullTaskOn : {S : Type 0} → space.Ghosts S → (S → V) → (S → Type 0) → (S → Task → Contents → Type 0) → (Files → Contents → Type 0) → Task → V → V → Type 0
+  abbrev pub FullTaskOn : {S : Type 0} → space.Ghosts S → (S → V) → (S → Type 0) → (S → S → Task → Contents → Type 0) → (Files → Contents → Type 0) → Task → V → V → Type 0
   FullTaskOn s under lacks fills opens task old new = FilesFullTask s under v.tells lacks fills opens task (2 ^ 40) (v.calls old) new

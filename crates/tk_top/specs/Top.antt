@@ -14,6 +14,7 @@ use Rattle.tc_io.specs.declared.wire.At.{At}
 use Rattle.tc_io.specs.declared.wire.Entry.{Entry}
 use Rattle.ud_log.specs.Undo.{data_of, is_data, recovered}
 use Rattle.ud_state.specs.Since.{calls_at}
+use Rattle.ud_state.specs.State.{IsSettled}
 use Rattle.tc_model.specs.Contents.{Contents, no_data}
 use Rattle.ty_world.specs.World.{Mark, World, started, world_after, AllAsked}
 use Rattle.ty_world.specs.Playing.{unplayed}
@@ -29,14 +30,14 @@ use Rattle.tk_top.specs.declared.ends.End.{End}
 use Rattle.tk_top.specs.declared.ends.End.TheVariants.{Done, Words, Refused, VolumeFault, Broken, NoMemory, Full, WireFault, TurnsSpent}
 use Rattle.tk_top.specs.Ends.{line_of}
 use Rattle.tk_top.specs.Causes.{CausedIn, CausedByVolume, CausedByWire}
+use Rattle.tk_top.specs.Guarding.{GuardsOn, GuardsTaskOn}
 use Rattle.tk_top.specs.Making.{IsThere, JudgedMakingOn, MakesOn}
 use Rattle.tk_top.specs.Naming.{NamesOnce}
-use Rattle.tk_top.specs.Over.{BeginsAt, CanStand, FullFiles, IsOut, JudgedOn, MainIsBare, RunsOn, StaysWithin}
+use Rattle.tk_top.specs.Over.{BeginsAt, FullFiles, JudgedOn, MainIsBare, RunsOn}
 use Rattle.tk_top.specs.Serving.{ServesAt, PlaysAll}
 use Rattle.tk_top.specs.Stored.{anew_of, breaks_new_of, breaks_of, fills_of, kind_in, lacks_large_of, lacks_of, lines_in, numbers_of, packed_in, reopens_of, stored_as, usual_of}
-use Rattle.tk_top.specs.Staying.{IsDamaged}
-use Rattle.tk_top.specs.Stops.{LeavesAlone, Spares}
-use Rattle.tk_top.specs.Tasks.{FullTask, IsMisplaced, JudgedTaskOn, ManagesOn}
+use Rattle.tk_top.specs.Stops.{LeavesAlone}
+use Rattle.tk_top.specs.Tasks.{FullTask, JudgedTaskOn, ManagesOn}
 use Rattle.tk_top.specs.Words.{asked_of}
 use Rattle.tk_top.specs.declared.words.Asked.{Asked}
 use Rattle.tk_top.specs.declared.words.Asked.TheVariants as asked
@@ -80,6 +81,8 @@ pub record MemoryRun {W : Type 0} (g : wire.Ghosts W) (end : End) (memory : Memo
   -- where a script is played, each event and answer is as the script has it, and all bytes offered were taken
   pub played : (end ≡ Done) ⊎ (end ≡ TurnsSpent) → Plays (g.plays x) (g.plays y) entries
   pub plays : (acts : List Act) (given : ℕ) → g.plays x ≡ Some (unplayed acts given) → PlaysAll turns (g.plays y) end acts given
+  -- a fault is one of the wire
+  pub caused : CausedByWire g.faults end x y
 
 -- files, read with an empty undo log, stand for contents of their kind
 abbrev pub Opens : Stored → Files → Contents → Type 0
@@ -93,28 +96,35 @@ past_of v w t = data_of (now (calls_at t (v.calls w)))
 abbrev pub LogIsFull : {V : Type 0} → volume.Ghosts V → V → Type 0
 LogIsFull v w = v.tells → 2 ^ 61 ≤ length (now (v.calls w) 1)
 
--- a limit is reached between contents, of files as they are in this volume and were at the moments up to now
-abbrev pub FillsAt : {V : Type 0} → volume.Ghosts V → Stored → (ℕ → ℕ) → V → Contents → Contents → Type 0
-FillsAt v stored limits w = fills_of stored limits (λ f. length (now (v.calls w) f)) (LogIsFull v w) (past_of v w) (length (v.calls w))
+-- a limit is reached between contents, of files as they are in this volume and were at the moments from one on up to now
+abbrev pub FillsAt : {V : Type 0} → volume.Ghosts V → Stored → (ℕ → ℕ) → ℕ → V → Contents → Contents → Type 0
+FillsAt v stored limits from w = fills_of stored limits (λ f. length (now (v.calls w) f)) (LogIsFull v w) (past_of v w) from (length (v.calls w))
 
 -- so it is where they are written anew in the large form
-abbrev pub LacksLargeAt : {V : Type 0} → volume.Ghosts V → Stored → (ℕ → ℕ) → V → Contents → Type 0
-LacksLargeAt v stored limits w = lacks_large_of stored limits (λ f. length (now (v.calls w) f)) (past_of v w) (length (v.calls w))
+abbrev pub LacksLargeAt : {V : Type 0} → volume.Ghosts V → Stored → (ℕ → ℕ) → ℕ → V → Contents → Type 0
+LacksLargeAt v stored limits from w = lacks_large_of stored limits (λ f. length (now (v.calls w) f)) (past_of v w) from (length (v.calls w))
 
 -- there is no room for a file that an opening makes
 abbrev pub LacksUsual : {V : Type 0} → volume.Ghosts V → Stored → (ℕ → ℕ) → V → Type 0
 LacksUsual v stored limits w = lacks_of (usual_of stored) (limits 0) (LogIsFull v w)
 
 -- and along a task
-abbrev pub FillsTaskAt : {V : Type 0} → volume.Ghosts V → Stored → (ℕ → ℕ) → V → Task → Contents → Type 0
-FillsTaskAt v stored limits w task c = FillsTask (LogIsFull v w) (FillsAt v stored limits w) (LacksLargeAt v stored limits w) task c
+abbrev pub FillsTaskAt : {V : Type 0} → volume.Ghosts V → Stored → (ℕ → ℕ) → ℕ → V → Task → Contents → Type 0
+FillsTaskAt v stored limits from w task c = FillsTask (LogIsFull v w) (FillsAt v stored limits from w) (LacksLargeAt v stored limits from w) task c
+
+-- a moment of the run over a volume that was settled
+abbrev pub IsInRun : {V : Type 0} → volume.Ghosts V → V → ℕ → Type 0
+IsInRun v vol from = v.tells → IsSettled (v.calls vol) → length (v.calls vol) ≤ from
 
 -- a limit was reached where the files were opened, or in the round of the last event: each data file may have so many bytes, or as many as it
 -- had where that is more, and has as many as the volume that is handed back; of the undo log it is said where it has half of what it may have
 pub record IsFull {V : Type 0} (v : volume.Ghosts V) (stored : Stored) (most : ℕ) (vol vol' : V) (a b : Told) : Type 0 where
   pub limits : ℕ → ℕ
   pub limits_are : v.tells → (files : Files) → recovered (now (v.calls vol)) ≡ Some files → (f : ℕ) → is_data f ≡ true → limits f ≡ max most (length (files f))
-  pub full : FullFiles v.tells (MainIsBare (recovered (now (v.calls vol)))) (LacksUsual v stored limits vol') (FillsAt v stored limits vol') (BeginsAt v.tells (Opens stored) (v.calls vol)) a b
+  -- the bytes that it speaks of were the file's at a moment of the run
+  pub from : ℕ
+  pub since : IsInRun v vol from
+  pub full : FullFiles v.tells (MainIsBare (recovered (now (v.calls vol)))) (LacksUsual v stored limits vol') (FillsAt v stored limits from vol') (BeginsAt v.tells (Opens stored) (v.calls vol)) a b
 
 -- a run that serves the database that the files of a name keep, at an address
 pub record FileRun {V W : Type 0} (v : volume.Ghosts V) (g : wire.Ghosts W) (end : End) (name : List ℕ) (stored : Stored) (limit : ℕ) (at : At) (turns : ℕ) (vol vol' : V) (x y : W) : Type 0 where
@@ -123,12 +133,8 @@ pub record FileRun {V W : Type 0} (v : volume.Ghosts V) (g : wire.Ghosts W) (end
   pub told : RunsOn v g (reopens_of stored) (numbers_of (usual_of stored)) (kind_in stored) end turns at vol vol' x y
   -- where it was served, the files stood for contents; and where a rule is named, it is the first that is broken
   pub judged : JudgedOn v (Opens stored) (breaks_of stored) end vol vol'
-  -- however it ended, the wire was used only where they did
-  pub begun : (y ≡ x) ⊎ CanStand v (Opens stored) vol
-  -- files that break a rule are looked at, and no more, however the run ends
-  pub spared : v.tells → Spares (IsDamaged (Opens stored)) end (v.calls vol) (v.calls vol')
-  -- at the end of the turns, or of the wire, no file has passed its limit
-  pub within : IsOut end → v.tells → StaysWithin limit (v.calls vol) (v.calls vol')
+  -- the wire, files that break a rule and the limits of files
+  pub guards : GuardsOn v (Opens stored) limit end vol vol' x y
   pub full : end ≡ Full → IsFull v stored limit vol vol' (g.transcript x) (g.transcript y)
   pub caused : CausedIn v.faults g.faults end vol vol' x y
 
@@ -144,7 +150,9 @@ SourceRun v g end (source.File name stored limit) at turns vol vol' x y = FileRu
 pub record IsFullTask {V : Type 0} (v : volume.Ghosts V) (stored : Stored) (task : Task) (vol vol' : V) : Type 0 where
   pub limits : ℕ → ℕ
   pub limits_are : v.tells → (files : Files) → recovered (now (v.calls vol)) ≡ Some files → (f : ℕ) → is_data f ≡ true → limits f ≡ max (2 ^ 40) (length (files f))
-  pub full : FullTask v.tells (MainIsBare (recovered (now (v.calls vol)))) (LacksUsual v stored limits vol') (FillsTaskAt v stored limits vol') (BeginsAt v.tells (Opens stored) (v.calls vol)) task
+  pub from : ℕ
+  pub since : IsInRun v vol from
+  pub full : FullTask v.tells (MainIsBare (recovered (now (v.calls vol)))) (LacksUsual v stored limits vol') (FillsTaskAt v stored limits from vol') (BeginsAt v.tells (Opens stored) (v.calls vol)) task
 
 -- a run that carries out a task on the files of a name
 pub record TaskOnFiles {V O : Type 0} (v : volume.Ghosts V) (o : sink.Ghosts O) (end : End) (name : List ℕ) (stored : Stored) (task : Task) (vol vol' : V) (p q : O) : Type 0 where
@@ -153,12 +161,8 @@ pub record TaskOnFiles {V O : Type 0} (v : volume.Ghosts V) (o : sink.Ghosts O) 
   pub told : ManagesOn v o (reopens_of stored) (lines_in stored) (packed_in stored) (kind_in stored) task end vol vol' p q
   -- where it was carried out, the files stood for contents; where it was refused, for a reason; and where a rule is named, it is the first that is broken
   pub judged : JudgedTaskOn v (Opens stored) (breaks_of stored) task end vol vol'
-  -- however it ended, something was printed only where they did
-  pub begun : (q ≡ p) ⊎ CanStand v (Opens stored) vol
-  -- files that break a rule are looked at, and no more, however the run ends
-  pub spared : v.tells → Spares (IsDamaged (Opens stored)) end (v.calls vol) (v.calls vol')
-  -- a main file that isn't as the task wants it is looked at, and no more
-  pub misplaced : v.tells → LeavesAlone (IsMisplaced task) end (v.calls vol) (v.calls vol')
+  -- what is printed to, files that break a rule and a main file that isn't as the task wants it
+  pub guards : GuardsTaskOn v (Opens stored) task end vol vol' p q
   pub full : end ≡ Full → IsFullTask v stored task vol vol'
   pub caused : CausedIn v.faults o.faults end vol vol' p q
 

@@ -1,11 +1,10 @@
 //! A database that was opened, served.
-ghost use Rattle.std.specs.Prelude.{◌≡◌, ◌≤◌, false, []};
-ghost use Rattle.tc_space.specs.Frames.{Follows};
+ghost use Rattle.std.specs.Prelude.{◌≡◌, false, []};
 ghost use Rattle.ty_base.specs.Holding.{IsReady};
 ghost use Rattle.tk_top.specs.declared.ends.End.TheVariants.{Full};
 ghost use Rattle.tk_top.specs.Ends.{IsEnd};
 ghost use Rattle.tk_top.specs.Over.{IsOut};
-ghost use Rattle.tk_top.specs.Causes.{CausedIn};
+ghost use Rattle.tk_top.specs.Causes.{IsAccounted};
 ghost use Rattle.tk_top.specs.Serving.{RunsHeld};
 ghost use Rattle.tk_top.specs.Runs.{FullRunOf};
 
@@ -33,10 +32,8 @@ pub fn serve_base<B: Base + Drop, W: Wire, K: Clock>(
     requires ready { IsReady B.S.Space B.holds base space.old }
     requires untouched { B.S.touched space.old ≡ false }
     ensures told { RunsHeld B.S.Space W.Wire B.reopens B.holds base result turns at.now space.old space.new wire.old wire.new }
-    ensures full { result ≡ Full → FullRunOf B.S.Space W.Wire B.holds B.reopens B.fills [] base space.old space.new wire.old wire.new }
-    ensures follows { Follows B.S.Space space.old space.new }
-    ensures later_wire { W.faults wire.old ≤ W.faults wire.new }
-    ensures caused { CausedIn B.S.faults W.faults result space.old space.new wire.old wire.new }
+    ensures full { result ≡ Full → FullRunOf B.S.Space W.Wire B.holds B.reopens B.fills_since [] base space.old space.new wire.old wire.new }
+    ensures accounted { IsAccounted B.S.Space W.faults result space.old space.new wire.old wire.new }
     ensures ends { IsEnd result }
     ensures sound { IsOut result → B.S.sound space.new }
 {

@@ -1,17 +1,16 @@
 //! A database in files: opened, served, and its volume handed back.
-ghost use Rattle.std.specs.Prelude.{◌≡◌, ◌⊎◌, ◌≤◌, ◌^◌, false, Some, OnOk, IfOk, IfErr, IsErrOf};
-ghost use Rattle.tc_io.specs.Images.{now};
+ghost use Rattle.std.specs.Prelude.{◌≡◌, ◌≤◌, ◌^◌, false, IfOk, IfErr, IsErrOf};
 ghost use Rattle.tc_space.specs.Frames.{Follows, OnlyReads};
 ghost use Rattle.tc_space.specs.Refusals.{Blamed};
-ghost use Rattle.ty_base.specs.Opening.{Breaks, CanOpen, LacksNew, OpensTo};
+ghost use Rattle.ty_base.specs.Opening.{Breaks, LacksNew, OpensTo};
 ghost use Rattle.ty_world.specs.World.{Mark};
 ghost use Rattle.ty_rounds.specs.Kept.{MovesTo};
 ghost use Rattle.tk_top.specs.declared.ends.End.TheVariants.{Full};
-ghost use Rattle.tk_top.specs.Over.{CanStand, FullOn, FullOver, IsOut, JudgedOn, JudgedOver, OpensAs, RunsOn, StaysWithin};
-ghost use Rattle.tk_top.specs.Staying.{BreaksOver, IsDamaged, IsStill};
-ghost use Rattle.tk_top.specs.Stops.{Spares};
+ghost use Rattle.tk_top.specs.Guarding.{GuardsOn, GuardsOver};
+ghost use Rattle.tk_top.specs.Over.{FullOn, FullOver, JudgedOn, JudgedOver, OpensAs, RunsOn};
+ghost use Rattle.tk_top.specs.Staying.{BreaksOver, IsDamaged};
 ghost use Rattle.tk_top.specs.Serving.{Begins, RunsOpened};
-ghost use Rattle.tk_top.specs.Causes.{CausedIn};
+ghost use Rattle.tk_top.specs.Causes.{CausedIn, IsAccounted};
 ghost use Rattle.tk_top.specs.Naming.{NamesOnce};
 
 use crate::base::serve_base;
@@ -27,9 +26,7 @@ use ty_base::{AnyErr, Base, Opens};
 /// Opens a database, and commits what that wrote: nothing, where the main file isn't empty.
 pub fn open_kept<B: Opens + Drop>(alloc: Global, kind: Kind, space: &mut B::S) -> Result<B, AnyErr>
     requires sound { B.S.sound space.old }
-    ensures opened { IfOk result (λ b. OpensAs B.S.Space B.holds B.reopens (OpensTo kind B.reopens) b space.old space.new) }
-    ensures stands { OnOk result (CanOpen B.S.Space B.reopens kind space.old) }
-    ensures still { OnOk result (B.S.tells → IsStill (B.shaped B.usual) (B.S.now space.old) (Some (B.S.now space.new))) }
+    ensures opened { IfOk result (λ b. OpensAs B.S.Space B.holds B.reopens (OpensTo kind B.reopens) (B.shaped B.usual) b space.old space.new) }
     // Files that break a rule are looked at, and no more.
     ensures spared { B.S.tells → IsDamaged (OpensTo kind B.reopens) (B.S.now space.old) → OnlyReads B.S.Space space.old space.new }
     ensures broken { IfErr result (λ e. Breaks e (BreaksOver B.S.Space (B.breaks kind) space.old space.new)) }
@@ -60,13 +57,9 @@ pub fn serve_files<B: Base + Opens + Drop, W: Wire, K: Clock>(
     requires untouched { B.S.touched space.old ≡ false }
     ensures told { RunsOpened B.S.Space W.Wire B.reopens (B.shaped B.usual) kind result turns at.now space.old space.new wire.old wire.new }
     ensures judged { JudgedOver B.S.Space B.reopens B.breaks kind result space.old space.new }
-    ensures begun { (wire.new ≡ wire.old) ⊎ CanOpen B.S.Space B.reopens kind space.old }
-    ensures spared { B.S.tells → IsDamaged (OpensTo kind B.reopens) (B.S.now space.old) → OnlyReads B.S.Space space.old space.new }
-    ensures sound { IsOut result → B.S.sound space.new }
-    ensures full { result ≡ Full → FullOver B.S.Space W.Wire (λ x. B.lacks x B.usual) B.fills (OpensTo kind B.reopens) space.old space.new wire.old wire.new }
-    ensures follows { Follows B.S.Space space.old space.new }
-    ensures later_wire { W.faults wire.old ≤ W.faults wire.new }
-    ensures caused { CausedIn B.S.faults W.faults result space.old space.new wire.old wire.new }
+    ensures guards { GuardsOver B.S.Space B.reopens kind result space.old space.new wire.old wire.new }
+    ensures full { result ≡ Full → FullOver B.S.Space W.Wire (λ x. B.lacks x B.usual) B.fills_since (OpensTo kind B.reopens) space.old space.new wire.old wire.new }
+    ensures accounted { IsAccounted B.S.Space W.faults result space.old space.new wire.old wire.new }
 {
     let base: B = match open_kept(alloc, kind, space) {
         Ok(base) => base,
@@ -94,11 +87,9 @@ pub fn run_files<S: OnVolume, B: Base + Opens<S = S> + Drop, W: Wire, K: Clock>(
     ensures told { RunsOn S.V.Volume W.Wire B.reopens (B.shaped B.usual) kind result.end turns at.now vol result.vol wire.old wire.new }
     // Where it was served, the files stood for contents; and where a rule is named, it is broken.
     ensures judged { JudgedOn S.V.Volume (OpensTo kind B.reopens) (B.breaks kind) result.end vol result.vol }
-    // However it ended, the wire was used only where they did.
-    ensures begun { (wire.new ≡ wire.old) ⊎ CanStand S.V.Volume (OpensTo kind B.reopens) vol }
-    ensures spared { S.V.tells → Spares (IsDamaged (OpensTo kind B.reopens)) result.end (S.V.calls vol) (S.V.calls result.vol) }
-    ensures within { IsOut result.end → S.V.tells → StaysWithin limit (S.V.calls vol) (S.V.calls result.vol) }
-    ensures full { result.end ≡ Full → FullOn S.V.Volume S.Space W.Wire S.under (λ x. B.lacks x B.usual) B.fills (OpensTo kind B.reopens) limit vol result.vol wire.old wire.new }
+    // However it ended, the wire was used only where they did, and nothing was written where they don't; and no file has passed its limit.
+    ensures guards { GuardsOn S.V.Volume (OpensTo kind B.reopens) limit result.end vol result.vol wire.old wire.new }
+    ensures full { result.end ≡ Full → FullOn S.V.Volume S.Space W.Wire S.under (λ x. B.lacks x B.usual) B.fills_since (OpensTo kind B.reopens) limit vol result.vol wire.old wire.new }
     ensures caused { CausedIn S.V.faults W.faults result.end vol result.vol wire.old wire.new }
 {
     let mut space = match open_named::<S>(name, vol, limit) {

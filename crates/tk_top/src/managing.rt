@@ -1,15 +1,11 @@
 //! A task on a database in files.
-ghost use Rattle.std.specs.Prelude.{◌≡◌, ◌⊎◌, ◌≤◌, ℕ, List, length, false, IsTrue, IsFalse};
-ghost use Rattle.tc_io.specs.Images.{now};
-ghost use Rattle.tc_space.specs.Frames.{Follows, OnlyReads};
-ghost use Rattle.ty_base.specs.Opening.{CanOpen, OpensTo};
+ghost use Rattle.std.specs.Prelude.{◌≡◌, ℕ, List, length, false, IsTrue, IsFalse};
+ghost use Rattle.ty_base.specs.Opening.{OpensTo};
 ghost use Rattle.tk_mgr.specs.Managing.{FillsTaskIn};
-ghost use Rattle.tk_top.specs.declared.ends.End.TheVariants.{Full, Refused};
-ghost use Rattle.tk_top.specs.Tasks.{FullTaskOn, FullTaskOver, IsMisplaced, JudgedTaskOn, JudgedTaskOver, ManagesAs, ManagesOn, end_of_task, is_refused_by, wants_empty};
-ghost use Rattle.tk_top.specs.Causes.{CausedIn};
-ghost use Rattle.tk_top.specs.Over.{CanStand};
-ghost use Rattle.tk_top.specs.Staying.{IsDamaged};
-ghost use Rattle.tk_top.specs.Stops.{LeavesAlone, Spares};
+ghost use Rattle.tk_top.specs.declared.ends.End.TheVariants.{Full};
+ghost use Rattle.tk_top.specs.Guarding.{GuardsTaskOn, GuardsTaskOver};
+ghost use Rattle.tk_top.specs.Tasks.{FullTaskOn, FullTaskOver, JudgedTaskOn, JudgedTaskOver, ManagesAs, ManagesOn, end_of_task, is_refused_by, wants_empty};
+ghost use Rattle.tk_top.specs.Causes.{CausedIn, IsAccounted};
 ghost use Rattle.tk_top.specs.Naming.{NamesOnce};
 
 use crate::ends::{End, Stopped};
@@ -73,15 +69,9 @@ pub fn manage_opened<B: Base + Opens + Drop, O: Sink>(
     requires untouched { B.S.touched space.old ≡ false }
     ensures told { ManagesAs B.S.Space B.reopens O.Sink B.lines B.packed kind task result space.old space.new out.old out.new }
     ensures judged { JudgedTaskOver B.S.Space B.reopens B.breaks kind task result space.old space.new }
-    ensures begun { (out.new ≡ out.old) ⊎ CanOpen B.S.Space B.reopens kind space.old }
-    // A main file that isn't as the task wants it is looked at, and no more.
-    ensures misplaced { B.S.tells → IsMisplaced task (B.S.now space.old) → (result ≡ Refused) × (space.new ≡ space.old) }
-    // Nor are files that break a rule more than looked at.
-    ensures spared { B.S.tells → IsDamaged (OpensTo kind B.reopens) (B.S.now space.old) → OnlyReads B.S.Space space.old space.new }
-    ensures full { result ≡ Full → FullTaskOver B.S.Space B.reopens (λ x. B.lacks x B.usual) (FillsTaskIn B.S.Space B.fills B.lacks_large) kind task space.old space.new }
-    ensures follows { Follows B.S.Space space.old space.new }
-    ensures later_sink { O.faults out.old ≤ O.faults out.new }
-    ensures caused { CausedIn B.S.faults O.faults result space.old space.new out.old out.new }
+    ensures guards { GuardsTaskOver B.S.Space B.reopens kind task result space.old space.new out.old out.new }
+    ensures full { result ≡ Full → FullTaskOver B.S.Space B.reopens (λ x. B.lacks x B.usual) (FillsTaskIn B.S.Space B.fills_since B.lacks_large) kind task space.old space.new }
+    ensures accounted { IsAccounted B.S.Space O.faults result space.old space.new out.old out.new }
 {
     if !is_placed(wants_empty(&task), space.len(0)) {
         return End::Refused;
@@ -109,11 +99,9 @@ pub fn manage_files<S: OnVolume, B: Base + Opens<S = S> + Drop, O: Sink>(
     ensures told { ManagesOn S.V.Volume O.Sink B.reopens B.lines B.packed kind task result.end vol result.vol out.old out.new }
     // Where it was carried out, the files stood for contents; where it was refused, for a reason; and where a rule is named, it is broken.
     ensures judged { JudgedTaskOn S.V.Volume (OpensTo kind B.reopens) (B.breaks kind) task result.end vol result.vol }
-    // However it ended, something was printed only where they did.
-    ensures begun { (out.new ≡ out.old) ⊎ CanStand S.V.Volume (OpensTo kind B.reopens) vol }
-    ensures misplaced { S.V.tells → LeavesAlone (IsMisplaced task) result.end (S.V.calls vol) (S.V.calls result.vol) }
-    ensures spared { S.V.tells → Spares (IsDamaged (OpensTo kind B.reopens)) result.end (S.V.calls vol) (S.V.calls result.vol) }
-    ensures full { result.end ≡ Full → FullTaskOn S.V.Volume S.Space S.under (λ x. B.lacks x B.usual) (FillsTaskIn S.Space B.fills B.lacks_large) (OpensTo kind B.reopens) task vol result.vol }
+    // However it ended, something was printed only where they did, and nothing was written where they don't, or the main file isn't as the task wants it.
+    ensures guards { GuardsTaskOn S.V.Volume (OpensTo kind B.reopens) task result.end vol result.vol out.old out.new }
+    ensures full { result.end ≡ Full → FullTaskOn S.V.Volume S.Space S.under (λ x. B.lacks x B.usual) (FillsTaskIn S.Space B.fills_since B.lacks_large) (OpensTo kind B.reopens) task vol result.vol }
     ensures caused { CausedIn S.V.faults O.faults result.end vol result.vol out.old out.new }
 {
     let mut space = match open_named::<S>(name, vol, FILE_MOST) {

@@ -1,13 +1,12 @@
 //! The loop of turns.
-ghost use Rattle.std.specs.Prelude.{◌≡◌, ◌≤◌, [], List, None};
+ghost use Rattle.std.specs.Prelude.{◌≡◌, [], List, None};
 ghost use Rattle.tc_io.specs.declared.wire.At.{At};
-ghost use Rattle.tc_space.specs.Frames.{Follows};
 ghost use Rattle.ty_rounds.specs.Servers.{IsReadyAs};
 ghost use Rattle.tk_top.specs.declared.ends.End.TheVariants.{Full};
 ghost use Rattle.tk_top.specs.Ends.{IsEnd};
 ghost use Rattle.tk_top.specs.Over.{IsOut};
 ghost use Rattle.tk_top.specs.Runs.{Ends, FullRunOf};
-ghost use Rattle.tk_top.specs.Causes.{CausedIn};
+ghost use Rattle.tk_top.specs.Causes.{IsAccounted};
 
 use crate::ends::End;
 use tc_io::{Clock, Wire};
@@ -27,10 +26,8 @@ pub fn serve<B: Base, W: Wire, K: Clock>(
     requires peers { server.old.peers.items ≡ [] }
     requires walk { server.old.walk ≡ None }
     ensures told { Ends B.S.Space W.Wire B.holds B.reopens result turns server.old.base space.old space.new wire.old wire.new }
-    ensures full { result ≡ Full → (opens : List At) → FullRunOf B.S.Space W.Wire B.holds B.reopens B.fills opens server.old.base space.old space.new wire.old wire.new }
-    ensures follows { Follows B.S.Space space.old space.new }
-    ensures later_wire { W.faults wire.old ≤ W.faults wire.new }
-    ensures caused { CausedIn B.S.faults W.faults result space.old space.new wire.old wire.new }
+    ensures full { result ≡ Full → (opens : List At) → FullRunOf B.S.Space W.Wire B.holds B.reopens B.fills_since opens server.old.base space.old space.new wire.old wire.new }
+    ensures accounted { IsAccounted B.S.Space W.faults result space.old space.new wire.old wire.new }
     ensures ends { IsEnd result }
     ensures sound { IsOut result → B.S.sound space.new }
 {

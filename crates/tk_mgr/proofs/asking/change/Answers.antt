@@ -34,7 +34,7 @@ returns-in_err-save-clause-carries g c = λ m h.
     h)
 
 pub returns-in_err-save-clause-full : goal.returns-in_err-save-clause-full
-returns-in_err-save-clause-full g c = λ is d h. g.met.B.Storage.log_fills c.save.new.space d (asked (Some c.args.request) d) (c.in_err-save.ensures.full (search (rules, is)) h.0)
+returns-in_err-save-clause-full g c = λ is d h. let e = asked (Some c.args.request) d in g.met.B.Storage.fills_then c.args.base.now c.args.space.now c.save.new.space d e (g.met.B.Storage.log_fills c.args.base.now c.args.space.now c.save.new.space d e (c.in_err-save.ensures.full (search (rules, is)) h.0))
 
 pub returns-in_err-applied-clause-full : goal.returns-in_err-applied-clause-full
-returns-in_err-applied-clause-full g c = λ is d h. (c.in_err-applied.ensures.full (search (rules, is))).by d h
+returns-in_err-applied-clause-full g c = λ is d h. g.met.B.Storage.fills_then c.args.base.now c.args.space.now c.ask.new.space d (asked (Some c.args.request) d) ((c.in_err-applied.ensures.full (search (rules, is))).by d h)

@@ -5,6 +5,7 @@ use Rattle.tk_mgr.specs.Tasks.{text_of}
 use Rattle.tk_mgr.specs.declared.task.Task.TheVariants.{Drill}
 use Rattle.tk_mgr.proofs.DrillEnds.{all_told, begun, last_left}
 use Rattle.tk_mgr.proofs.Hundreds.{all_are_marks, hundreds_are_marks}
+use Rattle.tk_mgr.specs.Managing.{task_less}
 use Rattle.tk_mgr.proofs.Steps.{fills_within}
 use Rattle.tk_mgr.proofs.drill.make.Goals as goal
 
@@ -36,9 +37,11 @@ returns-in_err-keep_hundreds-clause-moments g c = λ m h.
 pub returns-in_err-keep_hundreds-clause-full : goal.returns-in_err-keep_hundreds-clause-full
 returns-in_err-keep_hundreds-clause-full g c = λ is m h.
     let st = begun g.B.S.Space g.B.Storage.holds g.B.Storage.reopens c.args.seed c.new-run.result _ _ m c.new-run.ensures.drawn c.new-run.ensures.made c.new-run.ensures.accepted h in
-    fills_within (g.B.S.Space.log_full c.keep_hundreds.new.space) (g.B.Storage.fills c.keep_hundreds.new.space) (g.B.Storage.lacks_large c.keep_hundreds.new.space) c.args.seed (100 * (c.args.count / 100)) _ _ (omega arith) (c.in_err-keep_hundreds.ensures.full (search (rules, is)) c.args.seed m st)
+    fills_within (g.B.S.Space.log_full c.keep_hundreds.new.space) (g.B.Storage.fills_since c.args.space.now c.keep_hundreds.new.space) (g.B.Storage.lacks_large c.args.space.now c.keep_hundreds.new.space) c.args.seed (100 * (c.args.count / 100)) _ _ (omega arith) (c.in_err-keep_hundreds.ensures.full (search (rules, is)) c.args.seed m st)
 
 pub returns-clause-full : goal.returns-clause-full
 returns-clause-full g c = λ is m h.
     let st = begun g.B.S.Space g.B.Storage.holds g.B.Storage.reopens c.args.seed c.new-run.result _ _ m c.new-run.ensures.drawn c.new-run.ensures.made c.new-run.ensures.accepted h in
-    fills_within (g.B.S.Space.log_full c.keep_rest.new.space) (g.B.Storage.fills c.keep_rest.new.space) (g.B.Storage.lacks_large c.keep_rest.new.space) c.args.seed (c.keep_hundreds.new.run.made + c.args.count % 100) _ _ (omega (arith, c.in_ok-keep_hundreds.ensures.secures.made)) (c.keep_rest.ensures.full is c.args.seed m (c.in_ok-keep_hundreds.ensures.secures.each c.args.seed m st))
+    let e = g.met.B.Storage.since_more c.args.space.now c.keep_hundreds.new.space c.keep_rest.new.space (c.keep_hundreds.ensures.moments c.args.seed m st).leaves.later in
+    fills_within (g.B.S.Space.log_full c.keep_rest.new.space) (g.B.Storage.fills_since c.args.space.now c.keep_rest.new.space) (g.B.Storage.lacks_large c.args.space.now c.keep_rest.new.space) c.args.seed (c.keep_hundreds.new.run.made + c.args.count % 100) _ _ (omega (arith, c.in_ok-keep_hundreds.ensures.secures.made))
+    (task_less (g.B.S.Space.log_full c.keep_rest.new.space) (g.B.Storage.fills_since c.keep_hundreds.new.space c.keep_rest.new.space) (g.B.Storage.fills_since c.args.space.now c.keep_rest.new.space) (g.B.Storage.lacks_large c.keep_hundreds.new.space c.keep_rest.new.space) (g.B.Storage.lacks_large c.args.space.now c.keep_rest.new.space) (Drill c.args.seed (c.keep_hundreds.new.run.made + c.args.count % 100)) m.contents e.fills e.large (c.keep_rest.ensures.full is c.args.seed m (c.in_ok-keep_hundreds.ensures.secures.each c.args.seed m st)))

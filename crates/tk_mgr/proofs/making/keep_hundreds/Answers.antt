@@ -2,6 +2,8 @@ use Rattle.std.proofs.Common.{◌+◌, ◌*◌, rules, arith}
 use Rattle.tc_space.specs.Frames.{follows_refl, follows_then}
 use Rattle.tk_mgr.proofs.Hundreds.{hundred_more, hundreds_none, hundreds_within}
 use Rattle.tk_mgr.proofs.Secured.{secures_as, secures_none, secures_then}
+use Rattle.tk_mgr.specs.Managing.{task_less}
+use Rattle.tk_mgr.specs.declared.task.Task.TheVariants.{Drill}
 use Rattle.tk_mgr.proofs.Steps.{fills_within}
 use Rattle.tk_mgr.proofs.making.keep_hundreds.Goals as goal
 
@@ -32,4 +34,7 @@ returns-in_err-keep_some-clause-moments g c = λ seed m st. let i = c.loop-done.
     (hundred_more g.B.S.Space g.B.Storage.reopens g.B.Storage.holds seed c.loop-done._done c.loop-done.run c.loop-done.base c.args.space.now c.loop-done.space c.keep_some.new.space m (omega arith) (λ t. g.met.B.S.Space.clean c.loop-done.space t i.secures.may.sound i.secures.may.untouched) there (i.moments seed m st) (c.keep_some.ensures.moments seed m there))
 
 pub returns-in_err-keep_some-clause-full : goal.returns-in_err-keep_some-clause-full
-returns-in_err-keep_some-clause-full g c = λ is seed m st. let i = c.loop-done.invariant in fills_within (g.B.S.Space.log_full c.keep_some.new.space) (g.B.Storage.fills c.keep_some.new.space) (g.B.Storage.lacks_large c.keep_some.new.space) seed (c.loop-done.run.made + 100) _ _ (omega arith) (c.in_err-keep_some.ensures.full (search (rules, is)) seed m (i.secures.each seed m st))
+returns-in_err-keep_some-clause-full g c = λ is seed m st. let i = c.loop-done.invariant in
+    let e = g.met.B.Storage.since_more c.args.space.now c.loop-done.space c.keep_some.new.space (i.moments seed m st).leaves.later in
+    fills_within (g.B.S.Space.log_full c.keep_some.new.space) (g.B.Storage.fills_since c.args.space.now c.keep_some.new.space) (g.B.Storage.lacks_large c.args.space.now c.keep_some.new.space) seed (c.loop-done.run.made + 100) _ _ (omega arith)
+    (task_less (g.B.S.Space.log_full c.keep_some.new.space) (g.B.Storage.fills_since c.loop-done.space c.keep_some.new.space) (g.B.Storage.fills_since c.args.space.now c.keep_some.new.space) (g.B.Storage.lacks_large c.loop-done.space c.keep_some.new.space) (g.B.Storage.lacks_large c.args.space.now c.keep_some.new.space) (Drill seed (c.loop-done.run.made + 100)) m.contents e.fills e.large (c.in_err-keep_some.ensures.full (search (rules, is)) seed m (i.secures.each seed m st)))

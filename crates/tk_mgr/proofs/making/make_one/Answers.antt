@@ -12,5 +12,5 @@ returns-clause-makes g c = record {
 }
 
 pub returns-in_err-applied-clause-full : goal.returns-in_err-applied-clause-full
-returns-in_err-applied-clause-full g c = λ is seed m h. one_fills g.B.S.Space g.B.Storage.holds _ _ _ seed m _ c.has_rows-rows.result c.draw-x.result c.in_ok-request.request _ _
-    (λ e held. (c.draw-x.ensures, c.in_ok-request.ensures, c.has_rows-rows.ensures e (c.kind.ensures _ e held.1))) (c.in_err-applied.ensures.full (search (rules, is))).by h
+returns-in_err-applied-clause-full g c = λ is seed m h. one_fills g.B.S.Space g.B.Storage.holds (g.B.S.Space.log_full c.ask.new.space) (g.B.Storage.fills_since c.args.space.now c.ask.new.space) (g.B.Storage.lacks_large c.args.space.now c.ask.new.space) seed m _ c.has_rows-rows.result c.draw-x.result c.in_ok-request.request _ _
+    (λ e held. (c.draw-x.ensures, c.in_ok-request.ensures, c.has_rows-rows.ensures e (c.kind.ensures _ e held.1))) (λ e held. g.met.B.Storage.fills_then c.args.base.now c.args.space.now c.ask.new.space e _ ((c.in_err-applied.ensures.full (search (rules, is))).by e held)) h

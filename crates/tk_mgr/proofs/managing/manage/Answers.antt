@@ -4,7 +4,7 @@ use Rattle.tc_base.specs.declared.request.Request.TheVariants as request
 use Rattle.tk_mgr.specs.declared.task.Task.TheVariants as task
 use Rattle.tk_mgr.specs.Managing.{writes_files}
 use Rattle.tk_mgr.specs.Tasks.{maximum_of, put_request}
-use Rattle.tk_mgr.proofs.Ends.{carries_manages, shows_manages, manages_as, idle_stays, keeps_follows, fills_as, fills_asked, fills_before, not_both, packs_as, packs_large}
+use Rattle.tk_mgr.proofs.Ends.{carries_manages, shows_manages, manages_as, idle_stays, fills_as, fills_asked, fills_before, not_both, packs_as, packs_large}
 use Rattle.tk_mgr.proofs.managing.manage.Goals as goal
 
 pub returns-in-Put-clause-managed : goal.returns-in-Put-clause-managed
@@ -115,16 +115,16 @@ returns-in-Drill-clause-reads g c = λ reads. absurd (not_both (ap writes_files 
 -- ---- limits
 
 pub returns-in-Put-clause-full : goal.returns-in-Put-clause-full
-returns-in-Put-clause-full g c = λ is m h. fills_as _ (g.B.Storage.fills c.put.new.space) _ _ (task.Put c.in-Put.word c.in-Put.key c.in-Put.value) m.contents c.in-Put.is
-    (fills_asked _ (g.B.Storage.fills c.put.new.space) _ (task.Put c.in-Put.word c.in-Put.key c.in-Put.value) (Some (put_request c.in-Put.word c.in-Put.key c.in-Put.value)) m.contents refl refl refl (c.put.ensures.full is m.contents h.has.held))
+returns-in-Put-clause-full g c = λ is m h. fills_as _ (g.B.Storage.fills_since c.args.space.now c.put.new.space) _ _ (task.Put c.in-Put.word c.in-Put.key c.in-Put.value) m.contents c.in-Put.is
+    (fills_asked _ (g.B.Storage.fills_since c.args.space.now c.put.new.space) _ (task.Put c.in-Put.word c.in-Put.key c.in-Put.value) (Some (put_request c.in-Put.word c.in-Put.key c.in-Put.value)) m.contents refl refl refl (c.put.ensures.full is m.contents h.has.held))
 
 pub returns-in-Out-clause-full : goal.returns-in-Out-clause-full
-returns-in-Out-clause-full g c = λ is m h. fills_as _ (g.B.Storage.fills c.take_out.new.space) _ _ (task.Out c.in-Out.key) m.contents c.in-Out.is
-    (fills_asked _ (g.B.Storage.fills c.take_out.new.space) _ (task.Out c.in-Out.key) (Some (request.Out c.in-Out.key)) m.contents refl refl refl (c.take_out.ensures.full is m.contents h.has.held))
+returns-in-Out-clause-full g c = λ is m h. fills_as _ (g.B.Storage.fills_since c.args.space.now c.take_out.new.space) _ _ (task.Out c.in-Out.key) m.contents c.in-Out.is
+    (fills_asked _ (g.B.Storage.fills_since c.args.space.now c.take_out.new.space) _ (task.Out c.in-Out.key) (Some (request.Out c.in-Out.key)) m.contents refl refl refl (c.take_out.ensures.full is m.contents h.has.held))
 
 pub returns-in-Optimize-clause-full : goal.returns-in-Optimize-clause-full
-returns-in-Optimize-clause-full g c = λ is m h. fills_as _ (g.B.Storage.fills c.optimize.new.space) _ _ (task.Optimize c.in-Optimize.large) m.contents c.in-Optimize.is
-    (fills_before _ (g.B.Storage.fills c.optimize.new.space) _ (task.Optimize c.in-Optimize.large) m.contents refl (packs_large _ (g.B.Storage.lacks_large c.optimize.new.space) c.in-Optimize.large m.contents (c.optimize.ensures.full is m.contents h.has.held)))
+returns-in-Optimize-clause-full g c = λ is m h. fills_as _ (g.B.Storage.fills_since c.args.space.now c.optimize.new.space) _ _ (task.Optimize c.in-Optimize.large) m.contents c.in-Optimize.is
+    (fills_before _ (g.B.Storage.fills_since c.args.space.now c.optimize.new.space) _ (task.Optimize c.in-Optimize.large) m.contents refl (packs_large _ (g.B.Storage.lacks_large c.args.space.now c.optimize.new.space) c.in-Optimize.large m.contents (c.optimize.ensures.full is m.contents h.has.held)))
 
 pub returns-in-Get-clause-full : goal.returns-in-Get-clause-full
 returns-in-Get-clause-full g c = λ is m h. absurd (c.get.ensures.not_full is)
@@ -134,14 +134,3 @@ returns-in-List-clause-full g c = λ is m h. absurd (c.list.ensures.not_full is)
 
 pub returns-in-Inform-clause-full : goal.returns-in-Inform-clause-full
 returns-in-Inform-clause-full g c = λ is m h. absurd (c.inform.ensures.not_full is)
-
--- ---- the space
-
-pub returns-in-Get-clause-follows : goal.returns-in-Get-clause-follows
-returns-in-Get-clause-follows g c = keeps_follows g.B.S.Space _ _ c.get.ensures.keeps
-
-pub returns-in-List-clause-follows : goal.returns-in-List-clause-follows
-returns-in-List-clause-follows g c = keeps_follows g.B.S.Space _ _ c.list.ensures.keeps
-
-pub returns-in-Inform-clause-follows : goal.returns-in-Inform-clause-follows
-returns-in-Inform-clause-follows g c = keeps_follows g.B.S.Space _ _ c.inform.ensures.keeps

@@ -32,11 +32,12 @@ returns-clause-told g c = let s = g.B.S.Space in let w = g.W.Wire in
 pub returns-clause-full : goal.returns-clause-full
 returns-clause-full g c = λ is. let s = g.B.S.Space in let w = g.W.Wire in
     let told : Adds (w.transcript c.args.wire.now) (w.transcript c.open.new.self) (Open c.args.at.now ∷ []) = search rules in
-    full_open (g.B.Storage.fills c.serve-end.new.space) (HoldsMark s g.B.Storage.holds g.B.Storage.reopens c.args.base c.args.space.now) c.args.at.now _ _ _ told
-    (subst (λ b. FullRun (g.B.Storage.fills c.serve-end.new.space) (HoldsMark s g.B.Storage.holds g.B.Storage.reopens b c.args.space.now) (c.args.at.now ∷ []) (w.transcript c.open.new.self) (w.transcript c.serve-end.new.wire)) c.new-server.ensures.base (c.serve-end.ensures.full is (c.args.at.now ∷ [])))
-
-pub returns-clause-caused : goal.returns-clause-caused
-returns-clause-caused g c = caused_later c.serve-end.result _ _ _ _ _ _ (omega arith) (omega (arith, c.open.ensures.cause.later)) c.serve-end.ensures.caused
+    full_open (g.B.Storage.fills_since c.args.space.now c.serve-end.new.space) (HoldsMark s g.B.Storage.holds g.B.Storage.reopens c.args.base c.args.space.now) c.args.at.now _ _ _ told
+    (subst (λ b. FullRun (g.B.Storage.fills_since c.args.space.now c.serve-end.new.space) (HoldsMark s g.B.Storage.holds g.B.Storage.reopens b c.args.space.now) (c.args.at.now ∷ []) (w.transcript c.open.new.self) (w.transcript c.serve-end.new.wire)) c.new-server.ensures.base (c.serve-end.ensures.full is (c.args.at.now ∷ [])))
 
 pub returns-in-Err-clause-sound : goal.returns-in-Err-clause-sound
 returns-in-Err-clause-sound g c = λ out. absurd (⊎_elim (λ is. cc) (λ is. cc) out)
+
+pub returns-clause-accounted : goal.returns-clause-accounted
+returns-clause-accounted g c = let a = c.serve-end.ensures.accounted in let later = c.open.ensures.cause.later in
+    record { follows = a.follows; later = omega (arith, later, a.later); caused = caused_later c.serve-end.result _ _ _ _ _ _ (omega arith) later a.caused }

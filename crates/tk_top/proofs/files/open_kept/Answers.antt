@@ -14,6 +14,10 @@ returns-in-Ok-clause-opened g c = let s = g.B.S.Space in let b = g.B.Storage in 
     held = λ t. let x = c.in_ok-base.ensures.stands t in (x.0, subst (λ (f : Files). b.holds c.in_ok-base.base f x.0) (λ i f. sym (c.in-Ok.ensures.now t f) i) (c.in_ok-base.ensures.opened t x.0 x.1).holds);
   };
   untouched = c.in-Ok.ensures.touched;
+  stands = c.in_ok-base.ensures.stands;
+  still = λ t. still_opened (g.B.Opens.shaped g.B.Opens.usual) (s.now c.args.space.now) (s.now c.commit.new.self)
+      (λ some f. c.in-Ok.ensures.now t f ∙ (c.open.ensures.reads t some).files t f)
+      (λ empty. subst (g.B.Opens.shaped g.B.Opens.usual) (λ i f. sym (c.in-Ok.ensures.now t f) i) (c.in_ok-base.ensures.usable.made t empty));
   marks = λ m h. opened_holds s b.holds b.reopens (OpensTo c.args.kind b.reopens) c.in_ok-base.base c.args.space.now c.open.new.space c.commit.new.self m h (log_stays s g.B.Storage.own _ _ g.met.B.Storage.no_logs.1 c.in_ok-base.ensures.usable.others) (c.in_ok-base.ensures.opened h.0 m.contents h.1.contents) (c.in-Ok.ensures.now h.0);
 }
 
@@ -33,12 +37,6 @@ returns-in-Err-clause-moments g c = λ m h. let s = g.B.S.Space in
 
 pub returns-in_err-base-clause-moments : goal.returns-in_err-base-clause-moments
 returns-in_err-base-clause-moments g c = λ m h. steady_moves g.B.S.Space g.B.Storage.reopens c.args.space.now c.open.new.space m (c.open.ensures.keeps.steady h.0)
-
-pub returns-in-Ok-clause-still : goal.returns-in-Ok-clause-still
-returns-in-Ok-clause-still g c = λ t. let s = g.B.S.Space in
-    still_opened (g.B.Opens.shaped g.B.Opens.usual) (s.now c.args.space.now) (s.now c.commit.new.self)
-    (λ some f. c.in-Ok.ensures.now t f ∙ (c.open.ensures.reads t some).files t f)
-    (λ empty. subst (g.B.Opens.shaped g.B.Opens.usual) (λ i f. sym (c.in-Ok.ensures.now t f) i) (c.in_ok-base.ensures.usable.made t empty))
 
 pub returns-in_err-base-clause-spared : goal.returns-in_err-base-clause-spared
 returns-in_err-base-clause-spared g c = λ t damaged. c.open.ensures.reads t damaged.some

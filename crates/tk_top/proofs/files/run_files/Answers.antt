@@ -11,7 +11,7 @@ use Rattle.tk_top.proofs.files.run_files.Goals as goal
 
 pub returns-clause-names : goal.returns-clause-names
 returns-clause-names g c = let end = c.serve_files-end.new.space in
-    names_so c.in-Ok.ensures.opened end _ (ap g.S.V.Volume.names c.close_over.ensures ∙ sym (g.met.S.OnVolume.is_over end).names_are) c.serve_files-end.ensures.follows.same_names
+    names_so c.in-Ok.ensures.opened end _ (ap g.S.V.Volume.names c.close_over.ensures ∙ sym (g.met.S.OnVolume.is_over end).names_are) c.serve_files-end.ensures.accounted.follows.same_names
 
 pub returns-in-Err-clause-told : goal.returns-in-Err-clause-told
 returns-in-Err-clause-told g c = files_unopened g.W.Wire c.args.kind g.B.Storage.reopens _ c.args.turns c.args.at.now c.args.wire.now c.in-Err.ensures.unopened
@@ -28,31 +28,28 @@ returns-clause-judged g c = let o = c.in-Ok.ensures.opened in let end = c.serve_
 pub returns-in-Err-clause-judged : goal.returns-in-Err-clause-judged
 returns-in-Err-clause-judged g c = judged_unnamed c.in-Err.ensures.unopened (g.B.Opens.breaks c.args.kind) _
 
-pub returns-in-Err-clause-begun : goal.returns-in-Err-clause-begun
-returns-in-Err-clause-begun g c = inl refl
-
-pub returns-clause-begun : goal.returns-clause-begun
-returns-clause-begun g c = ⊎_elim (λ same. inl same) (λ can. inr (stands_so c.in-Ok.ensures.opened (OpensTo c.args.kind g.B.Storage.reopens) can)) c.serve_files-end.ensures.begun
-
 pub returns-clause-full : goal.returns-clause-full
 returns-clause-full g c = λ is. let o = c.in-Ok.ensures.opened in let end = c.serve_files-end.new.space in record {
+  begin = c.in-Ok.space;
+  since = λ t settled. (o.over t).later settled;
   space = end;
   vol_is = sym c.close_over.ensures;
-  limits = limits_so o (g.S.Space.limit end) c.serve_files-end.ensures.follows.same_limit;
-  full = full_so o (OpensTo c.args.kind g.B.Storage.reopens) (g.B.Storage.fills end) (g.W.Wire.transcript c.args.wire.now) (g.W.Wire.transcript c.serve_files-end.new.wire) (c.serve_files-end.ensures.full is);
+  limits = limits_so o (g.S.Space.limit end) c.serve_files-end.ensures.accounted.follows.same_limit;
+  full = full_so o (OpensTo c.args.kind g.B.Storage.reopens) (g.B.Storage.fills_since c.in-Ok.space end) (g.W.Wire.transcript c.args.wire.now) (g.W.Wire.transcript c.serve_files-end.new.wire) (c.serve_files-end.ensures.full is);
 }
 
-pub returns-in-Err-clause-spared : goal.returns-in-Err-clause-spared
-returns-in-Err-clause-spared g c = spares_unnamed c.in-Err.ensures.unopened (IsDamaged (OpensTo c.args.kind g.B.Storage.reopens))
+pub returns-in-Err-clause-guards : goal.returns-in-Err-clause-guards
+returns-in-Err-clause-guards g c = let u = c.in-Err.ensures.unopened in record {
+  begun = inl refl;
+  spared = spares_unnamed u (IsDamaged (OpensTo c.args.kind g.B.Storage.reopens));
+  within = λ out. let other = not_ended u in absurd (⊎_elim other.0 other.1 out);
+}
 
-pub returns-clause-spared : goal.returns-clause-spared
-returns-clause-spared g c = let end = c.serve_files-end.new.space in
-    spares_so c.in-Ok.ensures.opened (closes g.S.Space g.S.V.Volume g.S.OnVolume.under end _ c.close_over.ensures (g.met.S.OnVolume.is_over end)) (λ x. fresh g.S.Space x g.met.S.Space.only_kept g.met.S.Space.clean) (g.met.S.V.Volume.now_is_image c.args.vol) (IsDamaged (OpensTo c.args.kind g.B.Storage.reopens)) c.serve_files-end.result c.serve_files-end.ensures.spared
-
-pub returns-in-Err-clause-within : goal.returns-in-Err-clause-within
-returns-in-Err-clause-within g c = λ out. let other = not_ended c.in-Err.ensures.unopened in absurd (⊎_elim other.0 other.1 out)
-
-pub returns-clause-within : goal.returns-clause-within
-returns-clause-within g c = λ out t. let end = c.serve_files-end.new.space in let over = g.met.S.OnVolume.is_over end in
-    within_so c.in-Ok.ensures.opened end (g.S.Space.limit end) c.serve_files-end.ensures.follows.same_limit t (ap g.S.V.Volume.calls c.close_over.ensures) over.now_is
-    (λ f is. g.met.S.Space.within end f (over.from t) (c.serve_files-end.ensures.sound out) is)
+pub returns-clause-guards : goal.returns-clause-guards
+returns-clause-guards g c = let o = c.in-Ok.ensures.opened in let end = c.serve_files-end.new.space in let over = g.met.S.OnVolume.is_over end in let opens = OpensTo c.args.kind g.B.Storage.reopens in
+    let guards = c.serve_files-end.ensures.guards in record {
+      begun = ⊎_elim (λ same. inl same) (λ can. inr (stands_so o opens can)) guards.begun;
+      spared = spares_so o (closes g.S.Space g.S.V.Volume g.S.OnVolume.under end _ c.close_over.ensures over) (λ x. fresh g.S.Space x g.met.S.Space.only_kept g.met.S.Space.clean) (g.met.S.V.Volume.now_is_image c.args.vol) (IsDamaged opens) c.serve_files-end.result guards.spared;
+      within = λ out t. within_so o end (g.S.Space.limit end) c.serve_files-end.ensures.accounted.follows.same_limit t (ap g.S.V.Volume.calls c.close_over.ensures) over.now_is
+          (λ f is. g.met.S.Space.within end f (over.from t) (guards.sound out) is);
+    }

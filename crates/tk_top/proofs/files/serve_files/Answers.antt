@@ -25,12 +25,6 @@ returns-in-Err-clause-judged g c = let s = g.B.S.Space in let opens = OpensTo c.
     subst (λ (end : End). Judged end (s.tells → (d : Contents) × opens (s.now c.args.space.now) d) breaks) (sym c.from.ensures)
     (judged_err c.in-Err.e (s.tells → (d : Contents) × opens (s.now c.args.space.now) d) breaks c.in-Err.ensures.broken full)
 
-pub returns-in-Err-clause-begun : goal.returns-in-Err-clause-begun
-returns-in-Err-clause-begun g c = inl refl
-
-pub returns-clause-begun : goal.returns-clause-begun
-returns-clause-begun g c = inr c.in-Ok.ensures.stands
-
 pub returns-in-Err-clause-full : goal.returns-in-Err-clause-full
 returns-in-Err-clause-full g c = λ is. let e : c.in-Err.e ≡ any.Full = full_err c.in-Err.e (sym c.from.ensures ∙ is) in record { which = inl (λ t. let new = c.in-Err.ensures.full (search rules) t in (new.empty, new.full)) }
 
@@ -39,18 +33,26 @@ returns-clause-told g c = let s = g.B.S.Space in let b = g.B.Storage in let w = 
     over_opened s w b.reopens (OpensTo c.args.kind b.reopens) (g.B.Opens.shaped g.B.Opens.usual) (λ files d h. h.stand) (HoldsMark s b.holds b.reopens c.in-Ok.base c.open_kept.new.space) c.serve_base.result c.args.turns c.args.at.now c.args.space.now c.open_kept.new.space c.serve_base.new.space c.args.wire.now c.serve_base.new.wire
     (fresh g.B.S.Space c.args.space.now g.met.B.S.Space.only_kept g.met.B.S.Space.clean c.requires.sound c.requires.untouched)
     c.open_kept.ensures.moments c.in-Ok.ensures.opened.marks
-    c.in-Ok.ensures.still
+    c.in-Ok.ensures.opened.still
     c.serve_base.ensures.told
 
 pub returns-clause-full : goal.returns-clause-full
 returns-clause-full g c = λ is. let s = g.B.S.Space in let b = g.B.Storage in
-    record { which = inr (full_opened (b.fills c.serve_base.new.space) (Begins s (OpensTo c.args.kind b.reopens) c.args.space.now) (HoldsMark s b.holds b.reopens c.in-Ok.base c.open_kept.new.space) (g.W.Wire.transcript c.args.wire.now) (g.W.Wire.transcript c.serve_base.new.wire) c.in-Ok.ensures.opened.marks (c.serve_base.ensures.full is)) }
+    record {
+      which = inr (full_opened (b.fills_since c.open_kept.new.space c.serve_base.new.space) (b.fills_since c.args.space.now c.serve_base.new.space) (Begins s (OpensTo c.args.kind b.reopens) c.args.space.now) (HoldsMark s b.holds b.reopens c.in-Ok.base c.open_kept.new.space) (g.W.Wire.transcript c.args.wire.now) (g.W.Wire.transcript c.serve_base.new.wire) c.in-Ok.ensures.opened.marks
+          (λ m h. (g.met.B.Storage.since_more c.args.space.now c.open_kept.new.space c.serve_base.new.space (c.open_kept.ensures.moments m h).leaves.later).fills) (c.serve_base.ensures.full is));
+    }
 
-pub returns-in-Err-clause-spared : goal.returns-in-Err-clause-spared
-returns-in-Err-clause-spared g c = c.open_kept.ensures.spared
+pub returns-in-Err-clause-guards : goal.returns-in-Err-clause-guards
+returns-in-Err-clause-guards g c = let other = ended_not c.in-Err.e in record {
+  begun = inl refl;
+  spared = c.open_kept.ensures.spared;
+  sound = λ out. absurd (⊎_elim (λ is. other.0 (sym c.from.ensures ∙ is)) (λ is. other.1 (sym c.from.ensures ∙ is)) out);
+}
 
-pub returns-clause-spared : goal.returns-clause-spared
-returns-clause-spared g c = λ t damaged. let x = c.in-Ok.ensures.stands t in absurd (damaged.none x.0 x.1)
-
-pub returns-in-Err-clause-sound : goal.returns-in-Err-clause-sound
-returns-in-Err-clause-sound g c = λ out. let other = ended_not c.in-Err.e in absurd (⊎_elim (λ is. other.0 (sym c.from.ensures ∙ is)) (λ is. other.1 (sym c.from.ensures ∙ is)) out)
+pub returns-clause-guards : goal.returns-clause-guards
+returns-clause-guards g c = let stands = c.in-Ok.ensures.opened.stands in record {
+  begun = inr stands;
+  spared = λ t damaged. let x = stands t in absurd (damaged.none x.0 x.1);
+  sound = c.serve_base.ensures.sound;
+}

@@ -12,7 +12,7 @@ use Rattle.tk_top.proofs.managing.manage_files.Goals as goal
 
 pub returns-clause-names : goal.returns-clause-names
 returns-clause-names g c = let end = c.manage_opened-end.new.space in
-    names_so c.in-Ok.ensures.opened end _ (ap g.S.V.Volume.names c.close_over.ensures ∙ sym (g.met.S.OnVolume.is_over end).names_are) c.manage_opened-end.ensures.follows.same_names
+    names_so c.in-Ok.ensures.opened end _ (ap g.S.V.Volume.names c.close_over.ensures ∙ sym (g.met.S.OnVolume.is_over end).names_are) c.manage_opened-end.ensures.accounted.follows.same_names
 
 pub returns-in-Err-clause-told : goal.returns-in-Err-clause-told
 returns-in-Err-clause-told g c = let b = g.B.Storage in managed_unopened g.O.Sink b.reopens b.lines b.packed c.args.task c.args.kind _ c.args.out.now c.in-Err.ensures.unopened
@@ -30,30 +30,28 @@ returns-clause-judged g c = let o = c.in-Ok.ensures.opened in let opens = OpensT
 pub returns-in-Err-clause-judged : goal.returns-in-Err-clause-judged
 returns-in-Err-clause-judged g c = task_unnamed c.in-Err.ensures.unopened (g.B.Opens.breaks c.args.kind) _ _
 
-pub returns-in-Err-clause-begun : goal.returns-in-Err-clause-begun
-returns-in-Err-clause-begun g c = inl refl
-
-pub returns-clause-begun : goal.returns-clause-begun
-returns-clause-begun g c = ⊎_elim (λ same. inl same) (λ can. inr (stands_so c.in-Ok.ensures.opened (OpensTo c.args.kind g.B.Storage.reopens) can)) c.manage_opened-end.ensures.begun
-
-pub returns-in-Err-clause-misplaced : goal.returns-in-Err-clause-misplaced
-returns-in-Err-clause-misplaced g c = left_alone_unnamed c.in-Err.ensures.unopened (IsMisplaced c.args.task)
-
-pub returns-clause-misplaced : goal.returns-clause-misplaced
-returns-clause-misplaced g c = let end = c.manage_opened-end.new.space in
-    left_alone_so c.in-Ok.ensures.opened (closes g.S.Space g.S.V.Volume g.S.OnVolume.under end _ c.close_over.ensures (g.met.S.OnVolume.is_over end)) (λ x. fresh g.S.Space x g.met.S.Space.only_kept g.met.S.Space.clean) (IsMisplaced c.args.task) c.manage_opened-end.result c.manage_opened-end.ensures.misplaced
-
 pub returns-clause-full : goal.returns-clause-full
 returns-clause-full g c = λ is. let o = c.in-Ok.ensures.opened in let end = c.manage_opened-end.new.space in record {
+  begin = c.in-Ok.space;
+  since = λ t settled. (o.over t).later settled;
   space = end;
   vol_is = sym c.close_over.ensures;
-  limits = limits_so o (g.S.Space.limit end) c.manage_opened-end.ensures.follows.same_limit;
-  full = full_task_so o (OpensTo c.args.kind g.B.Storage.reopens) c.args.task (FillsTaskIn g.S.Space g.B.Storage.fills g.B.Storage.lacks_large end) (c.manage_opened-end.ensures.full is);
+  limits = limits_so o (g.S.Space.limit end) c.manage_opened-end.ensures.accounted.follows.same_limit;
+  full = full_task_so o (OpensTo c.args.kind g.B.Storage.reopens) c.args.task (FillsTaskIn g.S.Space g.B.Storage.fills_since g.B.Storage.lacks_large c.in-Ok.space end) (c.manage_opened-end.ensures.full is);
 }
 
-pub returns-in-Err-clause-spared : goal.returns-in-Err-clause-spared
-returns-in-Err-clause-spared g c = spares_unnamed c.in-Err.ensures.unopened (IsDamaged (OpensTo c.args.kind g.B.Storage.reopens))
+pub returns-in-Err-clause-guards : goal.returns-in-Err-clause-guards
+returns-in-Err-clause-guards g c = let u = c.in-Err.ensures.unopened in record {
+  begun = inl refl;
+  spared = spares_unnamed u (IsDamaged (OpensTo c.args.kind g.B.Storage.reopens));
+  misplaced = left_alone_unnamed u (IsMisplaced c.args.task);
+}
 
-pub returns-clause-spared : goal.returns-clause-spared
-returns-clause-spared g c = let end = c.manage_opened-end.new.space in
-    spares_so c.in-Ok.ensures.opened (closes g.S.Space g.S.V.Volume g.S.OnVolume.under end _ c.close_over.ensures (g.met.S.OnVolume.is_over end)) (λ x. fresh g.S.Space x g.met.S.Space.only_kept g.met.S.Space.clean) (g.met.S.V.Volume.now_is_image c.args.vol) (IsDamaged (OpensTo c.args.kind g.B.Storage.reopens)) c.manage_opened-end.result c.manage_opened-end.ensures.spared
+pub returns-clause-guards : goal.returns-clause-guards
+returns-clause-guards g c = let o = c.in-Ok.ensures.opened in let end = c.manage_opened-end.new.space in let opens = OpensTo c.args.kind g.B.Storage.reopens in
+    let closed = closes g.S.Space g.S.V.Volume g.S.OnVolume.under end _ c.close_over.ensures (g.met.S.OnVolume.is_over end) in
+    let guards = c.manage_opened-end.ensures.guards in record {
+      begun = ⊎_elim (λ same. inl same) (λ can. inr (stands_so o opens can)) guards.begun;
+      spared = spares_so o closed (λ x. fresh g.S.Space x g.met.S.Space.only_kept g.met.S.Space.clean) (g.met.S.V.Volume.now_is_image c.args.vol) (IsDamaged opens) c.manage_opened-end.result guards.spared;
+      misplaced = left_alone_so o closed (λ x. fresh g.S.Space x g.met.S.Space.only_kept g.met.S.Space.clean) (IsMisplaced c.args.task) c.manage_opened-end.result guards.misplaced;
+    }

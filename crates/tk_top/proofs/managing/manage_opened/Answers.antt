@@ -2,6 +2,7 @@ use Rattle.std.proofs.Common.{◌≡◌, inl, inr, sym, subst, refl, rules, ◌�
 use Rattle.tc_model.specs.Contents.{Contents}
 use Rattle.ty_base.specs.Opening.{OpensTo}
 use Rattle.ty_world.specs.World.{Mark}
+use Rattle.tk_mgr.specs.Managing.{task_less}
 use Rattle.tk_top.specs.Staying.{BreaksOver}
 use Rattle.tk_top.specs.Tasks.{IsMisplaced, JudgedTask, ManagesOver, ReasonOver, is_refused_by}
 use Rattle.tk_top.specs.declared.ends.End.{End}
@@ -31,7 +32,7 @@ manage-requires g c = let s = g.B.S.Space in record {
     sound = c.in-Ok.ensures.opened.ready.sound;
     untouched = c.in-Ok.ensures.opened.untouched;
     stands = λ t.
-        let x = c.in-Ok.ensures.stands t in
+        let x = c.in-Ok.ensures.opened.stands t in
         let hm = c.in-Ok.ensures.opened.marks (record { contents = x.0; log = s.now c.args.space.now 2 }) (t, record { contents = x.1; log = refl }) in
         (x.0, hm.has.held.1, hm.stand);
   };
@@ -45,46 +46,28 @@ returns-clause-told g c = let s = g.B.S.Space in let b = g.B.Storage in let old 
     (fresh g.B.S.Space old g.met.B.S.Space.only_kept g.met.B.S.Space.clean c.requires.sound c.requires.untouched)
     (fresh g.B.S.Space mid g.met.B.S.Space.only_kept g.met.B.S.Space.clean c.in-Ok.ensures.opened.ready.sound c.in-Ok.ensures.opened.untouched)
     (g.met.B.S.Space.earlier c.manage.new.space) c.open_kept.ensures.moments c.in-Ok.ensures.opened.marks
-    (λ t w. still_same (g.B.Opens.shaped g.B.Opens.usual) (s.now old) (s.now mid) (c.in-Ok.ensures.still t) (subst (λ (e : Bool). is_refused_by e (s.now old 0) → ⊥) w (placed t)))
+    (λ t w. still_same (g.B.Opens.shaped g.B.Opens.usual) (s.now old) (s.now mid) (c.in-Ok.ensures.opened.still t) (subst (λ (e : Bool). is_refused_by e (s.now old 0) → ⊥) w (placed t)))
     placed c.manage.ensures.reads c.manage.ensures.managed c.manage.ensures.packs)
 
 pub returns-clause-judged : goal.returns-clause-judged
 returns-clause-judged g c = let s = g.B.S.Space in let opens = OpensTo c.args.kind g.B.Storage.reopens in let old = c.args.space.now in
     let breaks = BreaksOver s (g.B.Opens.breaks c.args.kind) old c.manage.new.space in
     subst (λ (end : End). JudgedTask end (s.tells → (d : Contents) × opens (s.now old) d) breaks (ReasonOver s opens c.args.task old)) (sym c.end_of-end.ensures)
-    (judged_begun c.manage.result (s.tells → (d : Contents) × opens (s.now old) d) (ReasonOver s opens c.args.task old) breaks c.in-Ok.ensures.stands
+    (judged_begun c.manage.result (s.tells → (d : Contents) × opens (s.now old) d) (ReasonOver s opens c.args.task old) breaks c.in-Ok.ensures.opened.stands
     (λ bad. record {
       which = λ t.
-          let x = c.in-Ok.ensures.stands t in
+          let x = c.in-Ok.ensures.opened.stands t in
           let m : Mark = record { contents = x.0; log = s.now old 2 } in
           let hm = c.in-Ok.ensures.opened.marks m (t, record { contents = x.1; log = refl }) in
           inr (x.0, x.1, sym ((c.manage.ensures.managed.by m hm).ok false bad));
     }))
 
-pub returns-then-not-is_placed-clause-begun : goal.returns-then-not-is_placed-clause-begun
-returns-then-not-is_placed-clause-begun g c = inl refl
-
-pub returns-in-Err-clause-begun : goal.returns-in-Err-clause-begun
-returns-in-Err-clause-begun g c = inl refl
-
-pub returns-clause-begun : goal.returns-clause-begun
-returns-clause-begun g c = inr c.in-Ok.ensures.stands
-
-pub returns-then-not-is_placed-clause-misplaced : goal.returns-then-not-is_placed-clause-misplaced
-returns-then-not-is_placed-clause-misplaced g c = λ t not. (refl, refl)
-
-pub returns-in-Err-clause-misplaced : goal.returns-in-Err-clause-misplaced
-returns-in-Err-clause-misplaced g c = let s = g.B.S.Space in let old = c.args.space.now in
-    λ t not. absurd (c.if-not-is_placed.ensures.yes (search rules) (s.now old 0) (c.len.ensures t) (subst (λ (e : Bool). is_refused_by e (s.now old 0)) (sym c.wants_empty.ensures) not))
-
-pub returns-clause-misplaced : goal.returns-clause-misplaced
-returns-clause-misplaced g c = let s = g.B.S.Space in let old = c.args.space.now in
-    λ t not. absurd (c.if-not-is_placed.ensures.yes (search rules) (s.now old 0) (c.len.ensures t) (subst (λ (e : Bool). is_refused_by e (s.now old 0)) (sym c.wants_empty.ensures) not))
-
 pub returns-clause-full : goal.returns-clause-full
 returns-clause-full g c = λ is. let full = full_is c.manage.result (sym c.end_of-end.ensures ∙ is) in record {
   writes = λ t. c.manage.ensures.writes full;
-  which = inr (λ first h. c.manage.ensures.full full first (c.in-Ok.ensures.opened.marks first h));
+  which = inr (λ first h.
+      let e = g.met.B.Storage.since_more c.args.space.now c.open_kept.new.space c.manage.new.space (c.open_kept.ensures.moments first h).leaves.later in
+      task_less (g.B.S.Space.log_full c.manage.new.space) (g.B.Storage.fills_since c.open_kept.new.space c.manage.new.space) (g.B.Storage.fills_since c.args.space.now c.manage.new.space) (g.B.Storage.lacks_large c.open_kept.new.space c.manage.new.space) (g.B.Storage.lacks_large c.args.space.now c.manage.new.space) c.args.task first.contents e.fills e.large (c.manage.ensures.full full first (c.in-Ok.ensures.opened.marks first h)));
 }
 
 pub returns-in-Err-clause-full : goal.returns-in-Err-clause-full
@@ -94,11 +77,19 @@ returns-in-Err-clause-full g c = λ is. let s = g.B.S.Space in let old = c.args.
       which = inl (λ t. let new = c.in-Err.ensures.full (search rules) t in (new.empty, new.full));
     }
 
-pub returns-then-not-is_placed-clause-spared : goal.returns-then-not-is_placed-clause-spared
-returns-then-not-is_placed-clause-spared g c = λ t damaged. only_reads_refl g.B.S.Space c.args.space.now c.requires.sound
+pub returns-then-not-is_placed-clause-guards : goal.returns-then-not-is_placed-clause-guards
+returns-then-not-is_placed-clause-guards g c = record { begun = inl refl; spared = λ t damaged. only_reads_refl g.B.S.Space c.args.space.now c.requires.sound; misplaced = λ t not. (refl, refl) }
 
-pub returns-in-Err-clause-spared : goal.returns-in-Err-clause-spared
-returns-in-Err-clause-spared g c = c.open_kept.ensures.spared
+pub returns-in-Err-clause-guards : goal.returns-in-Err-clause-guards
+returns-in-Err-clause-guards g c = let main = g.B.S.Space.now c.args.space.now 0 in record {
+  begun = inl refl;
+  spared = c.open_kept.ensures.spared;
+  misplaced = λ t not. absurd (c.if-not-is_placed.ensures.yes (search rules) main (c.len.ensures t) (subst (λ (e : Bool). is_refused_by e main) (sym c.wants_empty.ensures) not));
+}
 
-pub returns-clause-spared : goal.returns-clause-spared
-returns-clause-spared g c = λ t damaged. let x = c.in-Ok.ensures.stands t in absurd (damaged.none x.0 x.1)
+pub returns-clause-guards : goal.returns-clause-guards
+returns-clause-guards g c = let main = g.B.S.Space.now c.args.space.now 0 in let stands = c.in-Ok.ensures.opened.stands in record {
+  begun = inr stands;
+  spared = λ t damaged. let x = stands t in absurd (damaged.none x.0 x.1);
+  misplaced = λ t not. absurd (c.if-not-is_placed.ensures.yes (search rules) main (c.len.ensures t) (subst (λ (e : Bool). is_refused_by e main) (sym c.wants_empty.ensures) not));
+}

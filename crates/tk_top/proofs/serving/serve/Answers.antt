@@ -41,12 +41,8 @@ returns-in-Err-clause-told g c = let s = g.B.S.Space in let w = g.W.Wire in
 pub returns-in-Err-clause-full : goal.returns-in-Err-clause-full
 returns-in-Err-clause-full g c = λ is opens. let s = g.B.S.Space in let w = g.W.Wire in
     let e : c.in-Err.e ≡ turn.Full = full_turn c.in-Err.e (sym c.from.ensures ∙ is) in
-    run_fills s w g.B.Storage.holds g.B.Storage.reopens (g.B.Storage.fills c.turn.new.space) _ _ _ _ _ _ _ _ _ _ opens c.loop-done.invariant.told (c.in-Err.ensures.full (search (rules)))
-
-pub returns-in-Err-clause-caused : goal.returns-in-Err-clause-caused
-returns-in-Err-clause-caused g c = let s = g.B.S.Space in let w = g.W.Wire in
-    subst (λ end. Caused end (s.faults c.args.space.now) (s.faults c.turn.new.space) (w.faults c.args.wire.now) (w.faults c.turn.new.wire)) (sym c.from.ensures)
-    (caused_turn c.in-Err.e _ _ _ _ _ _ c.loop-done.invariant.follows.later c.loop-done.invariant.later_wire (λ is. c.in-Err.ensures.cause_space (search rules)) (λ is. c.in-Err.ensures.cause_wire (search rules)))
+    run_fills s w g.B.Storage.holds g.B.Storage.reopens (g.B.Storage.fills_since c.loop-done.space c.turn.new.space) (g.B.Storage.fills_since c.args.space.now c.turn.new.space) _ _ _ _ _ _ _ _ _ _ opens
+    (λ le. (g.met.B.Storage.since_more c.args.space.now c.loop-done.space c.turn.new.space le).fills) c.loop-done.invariant.told (c.in-Err.ensures.full (search (rules)))
 
 pub returns-in-Err-clause-ends : goal.returns-in-Err-clause-ends
 returns-in-Err-clause-ends g c = subst IsEnd (sym c.from.ensures) (is_end_turn c.in-Err.e)
@@ -66,3 +62,11 @@ returns-in-Err-clause-sound g c = λ out. absurd (not_out c.in-Err.e (subst IsOu
 
 pub returns-clause-sound : goal.returns-clause-sound
 returns-clause-sound g c = λ out. c.loop-done.invariant.ready.base_is.sound
+
+pub returns-in-Err-clause-accounted : goal.returns-in-Err-clause-accounted
+returns-in-Err-clause-accounted g c = let s = g.B.S.Space in let w = g.W.Wire in let i = c.loop-done.invariant in record {
+  follows = follows_then s c.args.space.now c.loop-done.space c.turn.new.space i.follows c.turn.ensures.follows;
+  later = omega (arith, i.later_wire, c.turn.ensures.later_wire);
+  caused = subst (λ end. Caused end (s.faults c.args.space.now) (s.faults c.turn.new.space) (w.faults c.args.wire.now) (w.faults c.turn.new.wire)) (sym c.from.ensures)
+      (caused_turn c.in-Err.e _ _ _ _ _ _ i.follows.later i.later_wire (λ is. c.in-Err.ensures.cause_space (search rules)) (λ is. c.in-Err.ensures.cause_wire (search rules)));
+}

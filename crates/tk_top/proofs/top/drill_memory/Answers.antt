@@ -14,6 +14,6 @@ pub returns : goal.returns
 returns g c = subst (λ (end : End). DrillsMemory g.O.Sink end c.args.memory c.args.seed c.args.count c.args.out.now c.manage.new.out) (sym c.end_of-end.ensures)
     (drilled_memory _ g.O.Sink _ _ _ c.manage.result _ _ _ c.args.out.now c.manage.new.out c.args.memory c.args.seed c.args.count
     (record { has = record { held = (tt, c.database-base.ensures); log = refl }; stand = tt })
-    (λ is. let r : Rose 0 0 = c.manage.ensures.cause is in omega (arith, r))
+    (λ is. let r : Rose 0 0 = c.manage.ensures.accounts.cause is in omega (arith, r))
     (λ is. ⊎_elim (λ x. x.1) (λ x. ⊎_elim (λ log. log) (λ large. large.1) x) (c.manage.ensures.full is (no_keys c.args.memory) (record { has = record { held = (tt, c.database-base.ensures); log = refl }; stand = tt })).by)
-    c.manage.ensures.cause_sink c.manage.ensures.managed)
+    c.manage.ensures.accounts.cause_sink c.manage.ensures.managed)
