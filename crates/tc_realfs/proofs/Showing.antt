@@ -62,10 +62,10 @@ put_short skip bytes old new (inr put) short fits =
     let le : length (wrote skip bytes old) ≤ 4096 = length_wrote skip 4096 bytes old put.1 short fits in
     omega arith
 
-same_slot : (t u s r : ℕ) → s < 16384 → r < 16384 → t * 16384 + s ≡ u * 16384 + r → s ≡ r
+same_slot : (t u s r : ℕ) → s < 24576 → r < 24576 → t * 24576 + s ≡ u * 24576 + r → s ≡ r
 same_slot t u s r low high e = omega arith
 
-same_turn : (t u s : ℕ) → t * 16384 + s ≡ u * 16384 + s → t ≡ u
+same_turn : (t u s : ℕ) → t * 24576 + s ≡ u * 24576 + s → t ≡ u
 same_turn t u s e = omega arith
 
 beside : (m n at l : ℕ) → n * 4096 ≤ at → at + l ≤ n * 4096 + 4096 → (m ≡ n → ⊥) → (m * 4096 + 4096 ≤ at) ⊎ (at + l ≤ m * 4096)
@@ -105,7 +105,7 @@ page_written spot at bytes file page new is fits put inside s = elim (cases_eq p
       let turn : number spot.slot page ≡ number spot.slot new = omega (arith, put.turn_is) in
       let e : new.bytes.items ≡ page.bytes.items = put.elsewhere other in
       let kept : ShowsIn spot.slot new file = record { same = e ∙ s.same ∙ (λ i. take (length (sym e i)) (drop (turn i * 4096) file)) } in
-      other_shown spot.slot new (spot.turn * 16384 + spot.slot) at bytes file (omega (arith, is.at_is)) (omega (arith, is.at_is)) (λ e. other (same_turn page.turn spot.turn spot.slot (turn ∙ e))) inside kept
+      other_shown spot.slot new (spot.turn * 24576 + spot.slot) at bytes file (omega (arith, is.at_is)) (omega (arith, is.at_is)) (λ e. other (same_turn page.turn spot.turn spot.slot (turn ∙ e))) inside kept
 ]
 
 -- a write where its slot isn't there
@@ -115,8 +115,8 @@ put_absent spot at bytes file old now is fits far same inside s = record {
       let low : slot < length old.slots.items = omega (arith, i.low, ap length same) in
       let there : page ≡ get_or old.slots.items slot page = i.is ∙ ap (λ (l : List Page). get_or l slot page) same in
       let skip : at % 4096 ≡ spot.skip = omega (arith, is.at_is, is.skip) in
-      let few : slot < 16384 = omega (arith, low, old.few) in
-      other_shown slot page (spot.turn * 16384 + spot.slot) at bytes file (omega (arith, is.at_is)) (omega (arith, is.at_is, skip, fits))
+      let few : slot < 24576 = omega (arith, low, old.few) in
+      other_shown slot page (spot.turn * 24576 + spot.slot) at bytes file (omega (arith, is.at_is)) (omega (arith, is.at_is, skip, fits))
       (λ e. let same_one : slot ≡ spot.slot = same_slot page.turn spot.turn slot spot.slot few is.slot e in omega (arith, same_one, low, far))
       inside (s.each slot page (record { low = low; is = there }));
 }
@@ -144,8 +144,8 @@ put_there spot at bytes file old now page new is fits there set put inside s =
             let written : ShowsIn spot.slot new (wrote at bytes file) = page_written spot at bytes file page new is (omega (arith, skip, fits)) put inside (s.each spot.slot page there) in
             subst (λ (q : ℕ × Page). ShowsIn q.0 q.1 (wrote at bytes file)) (λ k. (sym here.0 k, sym here.1 k)) written
         | inr other ↦
-            let few : slot < 16384 = omega (arith, other.1.low, old.few) in
-            other_shown slot p (spot.turn * 16384 + spot.slot) at bytes file (omega (arith, is.at_is)) (omega (arith, is.at_is, skip, fits))
+            let few : slot < 24576 = omega (arith, other.1.low, old.few) in
+            other_shown slot p (spot.turn * 24576 + spot.slot) at bytes file (omega (arith, is.at_is)) (omega (arith, is.at_is, skip, fits))
             (λ e. other.0 (same_slot p.turn spot.turn slot spot.slot few is.slot e)) inside (s.each slot p other.1)
       ];
     }

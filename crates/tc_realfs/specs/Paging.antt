@@ -8,7 +8,7 @@ use Rattle.tc_realfs.specs.declared.pages.Spot.{Spot}
 
 -- the number of the page in a slot
 abbrev pub number : ℕ → Page → ℕ
-number slot page = page.turn * 16384 + slot
+number slot page = page.turn * 24576 + slot
 
 -- this page is there
 pub record IsIn (slot : ℕ) (page : Page) (pages : Pages) : Type 0 where
@@ -61,9 +61,9 @@ pub record Lacks (n : ℕ) (pages : Pages) : Type 0 where
 
 -- where a place of the file lies
 pub record IsSpot (spot : Spot) (at : ℕ) : Type 0 where
-  pub slot : spot.slot < 16384
+  pub slot : spot.slot < 24576
   pub skip : spot.skip < 4096
-  pub at_is : at ≡ (spot.turn * 16384 + spot.slot) * 4096 + spot.skip
+  pub at_is : at ≡ (spot.turn * 24576 + spot.slot) * 4096 + spot.skip
 
 -- a page as it was, or without its bytes
 pub record IsLeft (old new : Page) : Type 0 where

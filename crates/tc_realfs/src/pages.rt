@@ -10,7 +10,7 @@ use std::mem::replace;
 pub const PAGE: u64 = 4096;
 
 // A page stands in the slot of its number modulo this.
-const SLOTS: u64 = 16_384;
+const SLOTS: u64 = 24_576;
 
 // The bytes of a page, all of them zero.
 const ZEROS: [u8; PAGE as usize] = [0; PAGE as usize];
@@ -138,12 +138,12 @@ impl Page {
     }
 }
 
-/// Pages of a file that were read, at most 64 MiB of them. Each takes memory once it is read.
+/// Pages of a file that were read, at most 96 MiB of them. Each takes memory once it is read.
 #[derive(Drop)]
 pub struct Pages {
     alloc: Global,
     slots: Vec<Page>,
-    ghost few: { length slots.items ≤ 16384 },
+    ghost few: { length slots.items ≤ 24576 },
 }
 
 impl Pages {
@@ -176,7 +176,7 @@ impl Pages {
 
     // Makes a slot where it isn't there.
     fn make_slot(&mut self, slot: usize) -> Result<(), AllocError>
-        requires { slot < 16384 }
+        requires { slot < 24576 }
         ensures { StillShows self.old self.new }
     {
         while self.slots.len() <= slot {
