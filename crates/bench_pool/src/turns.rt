@@ -24,7 +24,7 @@ fn take(pool: &mut Pool, space: &mut OneFile, size: u64) -> Result<u64, RecErr>
     if size == 0 || size % pool.unit() != 0 || pool.size() > u64::MAX - size {
         return Err(RecErr::Full);
     }
-    pool.take(space, 0, size)
+    pool.take(space, 0, size, u64::MAX)
 }
 
 // Gives a block back, if it is one.

@@ -1,12 +1,14 @@
 //! What text commands ask of the database, and what is replied.
 ghost use Rattle.std.specs.Prelude.{◌≡◌, ℕ, List, Ok};
+ghost use Rattle.ty_wire.specs.Spelling.{Fits};
+ghost use Rattle.ty_memc.specs.Answers.{IsAsked};
 ghost use Rattle.ty_memc.specs.Reading.{text_at};
 
-use crate::behind::{begun, is_behind};
+use crate::behind::{begun, is_bare};
 use crate::texts::command_at;
 use play_text::{Line, Pattern, Wrong};
 use std::alloc::{AllocError, Global};
-use tc_base::Blob;
+use tc_base::{Blob, Key, Request};
 use ty_memc::{Text, Then, answer, asked_key, spell_update, write_error, write_value};
 
 // What a text command asks of the database, as bytes, and what is replied.
@@ -14,6 +16,16 @@ use ty_memc::{Text, Then, answer, asked_key, spell_update, write_error, write_va
 struct Asked {
     request: Option<Blob>,
     reply: Blob,
+}
+
+// A request as bytes.
+fn spelling_of(alloc: Global, request: Request) -> Result<Blob, AllocError>
+    requires asked { IsAsked request }
+    requires fits { Fits request }
+{
+    let spelled = spell_update(alloc, &request);
+    drop(request);
+    spelled
 }
 
 // What a text command that was read asks, where its key has this value.
@@ -26,7 +38,7 @@ fn asked_of(alloc: Global, text: Text, held: Option<&[u8]>) -> Result<Asked, All
             reply,
         }),
         Then::Do { request, reply } => Ok(Asked {
-            request: Some(spell_update(alloc, &request)?),
+            request: Some(spelling_of(alloc, request)?),
             reply,
         }),
     }
@@ -57,48 +69,63 @@ fn blob_slice(bytes: &Option<Blob>) -> Option<&[u8]> {
     }
 }
 
+// What the command that bytes are asks.
+fn asked_at(alloc: Global, bytes: &[u8], held: Option<&[u8]>) -> Result<Asked, Wrong> {
+    let text = command_at(alloc, bytes)?;
+    Ok(asked_of(alloc, text, held)?)
+}
+
 /// `then BYTES : HELD => REQUEST : REPLY`: what a text command asks of the database and what is replied, where its key has this value: `-` where it has none, and where nothing
 /// is asked.
 pub fn is_then(alloc: Global, line: &mut Line<'_>) -> Result<(), Wrong> {
     let bytes = line.bytes_up_to(" :")?;
     let held = some_up_to(line, "=>")?;
+    let asked = asked_at(alloc, bytes.as_slice(), slice_of(&held))?;
     let request = some_up_to(line, " :")?;
-    let reply = line.bytes()?;
-    let text = command_at(alloc, bytes.as_slice())?;
-    let asked = asked_of(alloc, text, slice_of(&held))?;
     line.told_if(request.as_ref(), blob_slice(&asked.request))?;
-    line.told(&reply, asked.reply.as_slice())
+    line.is_bytes(asked.reply.as_slice())
+}
+
+// The key that the command that bytes are asks for.
+fn key_at(alloc: Global, bytes: &[u8]) -> Result<Option<Key>, Wrong> {
+    let text = command_at(alloc, bytes)?;
+    let key = asked_key(alloc, &text);
+    drop(text);
+    Ok(key?)
 }
 
 /// `asks BYTES => KEY`: the key whose value a text command asks for first, `-` where it asks for none.
 pub fn asks(alloc: Global, line: &mut Line<'_>) -> Result<(), Wrong> {
     let bytes = line.given()?;
-    let text = command_at(alloc, bytes.as_slice())?;
-    match asked_key(alloc, &text)? {
+    match key_at(alloc, bytes.as_slice())? {
         Some(key) => line.is_bytes(key.as_slice()),
         None => line.is_text(String::from_str(alloc, "-")?),
     }
 }
 
+// What a get replies of a key and its value, behind other bytes.
+fn value_behind(alloc: Global, key: &[u8], value: &[u8]) -> Result<Blob, AllocError> {
+    let mut all = begun(alloc)?;
+    write_value(key, value, &mut all)?;
+    Ok(all)
+}
+
 /// `value KEY = VALUE => BYTES`: what a get replies of a key and its value, as it is written behind other bytes.
-pub fn is_value(alloc: Global, line: &mut Line<'_>) -> Result<(), Wrong> {
+pub fn value(alloc: Global, line: &mut Line<'_>) -> Result<Blob, Wrong> {
     let key = line.bytes_up_to(" = ")?;
     let value = line.given()?;
-    let wanted = line.bytes()?;
-    let mut all = begun(alloc)?;
-    write_value(key.as_slice(), value.as_slice(), &mut all)?;
-    is_behind(line, &wanted, &all)
+    Ok(value_behind(alloc, key.as_slice(), value.as_slice())?)
 }
 
 /// `error quiet|loud => BYTES`: the reply where a request fails, as it is written behind other bytes.
-pub fn is_error(alloc: Global, line: &mut Line<'_>) -> Result<(), Wrong> {
+pub fn error(alloc: Global, line: &mut Line<'_>) -> Result<Blob, Wrong> {
     let quiet = match line.word() {
         "quiet" => true,
         "loud" => false,
         _ => return Err(Wrong::Unread),
     };
-    let wanted = line.wanted()?;
+    is_bare(line)?;
     let mut all = begun(alloc)?;
     write_error(quiet, &mut all)?;
-    is_behind(line, &wanted, &all)
+    Ok(all)
 }

@@ -1,16 +1,15 @@
 //! Blocks of hash files.
 ghost use Rattle.std.specs.Prelude.{◌≤◌, ◌^◌, IfOk};
 
-use crate::behind::{begun, is_behind};
+use crate::behind::{begun, has_len};
 use hf_block::{read_block, rec_len, write_rec};
 use play_text::{Line, Wrong};
 use std::alloc::{AllocError, Global};
 use tc_base::Blob;
 
 /// `block BYTES => READ`: the head of a block.
-pub fn is_block(alloc: Global, line: &mut Line<'_>, large: bool) -> Result<(), Wrong> {
-    let bytes = line.given()?;
-    line.is_text(format!(in alloc; "{:?}", read_block(bytes.as_slice(), large))?)
+pub fn block_text(alloc: Global, bytes: &[u8], large: bool) -> Result<String, AllocError> {
+    format!(in alloc; "{:?}", read_block(bytes, large))
 }
 
 // What the head of a record says, and the unit of its file.
@@ -57,23 +56,29 @@ fn written(
 }
 
 // How long the block of a record is.
-fn block_len(key: usize, value: usize, unit: u64, large: bool) -> u64
+fn block_len(key: &[u8], value: &[u8], unit: u64, large: bool) -> u64
     requires { (1 ≤ unit) × (unit ≤ 2 ^ 16) }
 {
-    let (key, value) = (key.min(1 << 40) as u64, value.min(1 << 40) as u64);
+    let (key, value) = (
+        key.len().min(1 << 40) as u64,
+        value.len().min(1 << 40) as u64,
+    );
     rec_len(key, value, unit, large)
 }
 
+// So it is written, with the length that its block has.
+fn block(alloc: Global, links: Links, key: &[u8], value: &[u8], large: bool) -> Result<Blob, Wrong>
+    requires { (1 ≤ links.unit) × (links.unit ≤ 2 ^ 16) }
+{
+    let into = written(alloc, links, key, value, large)?;
+    has_len(&into, block_len(key, value, links.unit, large))?;
+    Ok(into)
+}
+
 /// `record HASH LEFT RIGHT UNIT KEY = VALUE => BYTES`: a record as it is written behind other bytes, and how long it is.
-pub fn is_record(alloc: Global, line: &mut Line<'_>, large: bool) -> Result<(), Wrong> {
+pub fn record(alloc: Global, line: &mut Line<'_>, large: bool) -> Result<Blob, Wrong> {
     let links = links_of(line)?;
     let key = line.bytes_up_to(" = ")?;
     let value = line.given()?;
-    let wanted = line.bytes()?;
-    let into = written(alloc, links, key.as_slice(), value.as_slice(), large)?;
-    is_behind(line, &wanted, &into)?;
-    if block_len(key.len(), value.len(), links.unit, large) == wanted.len() as u64 {
-        return Ok(());
-    }
-    Err(Wrong::Not("another length"))
+    block(alloc, links, key.as_slice(), value.as_slice(), large)
 }

@@ -2,31 +2,26 @@
 
 use crate::told::Told;
 use bt_rows::TreeHead;
-use hf_head::{FixedHead, Head, HeadErr};
-use play_text::{Line, Pattern, Wrong};
+use hf_head::{FixedHead, Head};
 use std::alloc::{AllocError, Global};
+use tc_base::Blob;
 
-// The 256 bytes of a head.
-fn bytes_of(line: &mut Line<'_>) -> Result<([u8; 256], Pattern), Wrong> {
-    let given = line.given()?;
-    let all = given.as_slice();
+// The 256 bytes of a head, if they are so many.
+fn head_bytes(all: &[u8]) -> Option<[u8; 256]> {
     let mut bytes = [0; 256];
     if all.len() != 256 {
-        return Err(Wrong::Unread);
+        return None;
     }
     bytes.copy_from_slice(all);
-    Ok((bytes, given))
+    Some(bytes)
 }
 
-// A head that was read, as text.
-fn text_of(alloc: Global, read: &Result<Head, HeadErr>) -> Result<String, AllocError> {
-    match read {
-        Ok(head) => head_text(alloc, head),
-        Err(e) => format!(in alloc; "{e:?}"),
-    }
+// What is told of other bytes.
+fn other_length(alloc: Global) -> Result<String, AllocError> {
+    String::from_str(alloc, "another length")
 }
 
-fn head_text(alloc: Global, head: &Head) -> Result<String, AllocError> {
+fn text_of(alloc: Global, head: &Head) -> Result<String, AllocError> {
     let mut told = Told::new(alloc);
     told.named("kind", u64::from(head.kind));
     told.named("apow", u64::from(head.apow));
@@ -39,19 +34,29 @@ fn head_text(alloc: Global, head: &Head) -> Result<String, AllocError> {
     told.end()
 }
 
-/// `head BYTES => READ`: a head as it is read, and written again; `head_read` where it isn't written so.
-pub fn is_head(alloc: Global, line: &mut Line<'_>, again: bool) -> Result<(), Wrong> {
-    let (bytes, given) = bytes_of(line)?;
-    let read = Head::read(&bytes);
-    line.is_text(text_of(alloc, &read)?)?;
-    match read {
-        Ok(head) if again => line.told(&given, &head.write()),
-        _ => Ok(()),
+/// `head_read BYTES => READ`: a head as it is read.
+pub fn head_text(alloc: Global, bytes: &[u8]) -> Result<String, AllocError> {
+    match head_bytes(bytes) {
+        Some(bytes) => match Head::read(&bytes) {
+            Ok(head) => text_of(alloc, &head),
+            Err(e) => format!(in alloc; "{e:?}"),
+        },
+        None => other_length(alloc),
     }
 }
 
+/// A head as it is read and written again; what isn't one stays.
+pub fn head_again(alloc: Global, bytes: &[u8]) -> Result<Blob, AllocError> {
+    if let Some(all) = head_bytes(bytes) {
+        if let Ok(head) = Head::read(&all) {
+            return Blob::from_slice(alloc, &head.write());
+        }
+    }
+    Blob::from_slice(alloc, bytes)
+}
+
 // A head of a fixed-length file as text, with the bytes of a cell and the greatest id that may be.
-fn fixed_text(alloc: Global, h: &FixedHead) -> Result<String, AllocError> {
+fn fixed_of(alloc: Global, h: &FixedHead) -> Result<String, AllocError> {
     let ids = if h.limit < 256 { 0 } else { h.max_id() };
     let mut told = Told::new(alloc);
     told.named("records", h.records);
@@ -65,27 +70,33 @@ fn fixed_text(alloc: Global, h: &FixedHead) -> Result<String, AllocError> {
     told.end()
 }
 
-/// `fixed BYTES => READ`: a head of a fixed-length file as it is read, and written again. It is told with the bytes of a cell and the greatest id that may be.
-pub fn is_fixed(alloc: Global, line: &mut Line<'_>) -> Result<(), Wrong> {
-    let (bytes, given) = bytes_of(line)?;
-    match FixedHead::read(&bytes) {
-        Ok(head) => {
-            let text = fixed_text(alloc, &head)?;
-            line.is_text(text)?;
-            line.told(&given, &head.write())
-        }
-        Err(e) => line.is_text(format!(in alloc; "{e:?}")?),
+/// `fixed BYTES => READ`: a head of a fixed-length file as it is read. It is told with the bytes of a cell and the greatest id that may be.
+pub fn fixed_text(alloc: Global, bytes: &[u8]) -> Result<String, AllocError> {
+    match head_bytes(bytes) {
+        Some(bytes) => match FixedHead::read(&bytes) {
+            Ok(head) => fixed_of(alloc, &head),
+            Err(e) => format!(in alloc; "{e:?}"),
+        },
+        None => other_length(alloc),
     }
 }
 
+/// The same written again; what isn't one stays.
+pub fn fixed_again(alloc: Global, bytes: &[u8]) -> Result<Blob, AllocError> {
+    if let Some(all) = head_bytes(bytes) {
+        if let Ok(head) = FixedHead::read(&all) {
+            return Blob::from_slice(alloc, &head.write());
+        }
+    }
+    Blob::from_slice(alloc, bytes)
+}
+
 /// `tree_head BYTES => READ`: the numbers of a tree in the 128 bytes of its owner.
-pub fn is_tree(alloc: Global, line: &mut Line<'_>) -> Result<(), Wrong> {
-    let given = line.given()?;
-    let all = given.as_slice();
+pub fn tree_text(alloc: Global, all: &[u8]) -> Result<String, AllocError> {
     let mut bytes = [0; 128];
     if all.len() != 128 {
-        return Err(Wrong::Unread);
+        return other_length(alloc);
     }
     bytes.copy_from_slice(all);
-    line.is_text(format!(in alloc; "{:?}", TreeHead::read(&bytes))?)
+    format!(in alloc; "{:?}", TreeHead::read(&bytes))
 }

@@ -24,19 +24,37 @@ fn items_of(alloc: Global, leaf: &Leaf) -> Result<Blob, AllocError> {
     Ok(text)
 }
 
-/// `leaf BYTES => PREV NEXT ITEMS`: a leaf as it is read, and written again; its items are `key:value:value `, one behind the other.
-pub fn is_leaf(alloc: Global, line: &mut Line<'_>) -> Result<(), Wrong> {
-    let bytes = line.given()?;
-    let Ok(leaf) = read_leaf(alloc, bytes.as_slice()) else {
-        return Err(Wrong::Not("no leaf"));
+// A leaf, as it is read.
+fn leaf_of(alloc: Global, bytes: &[u8]) -> Result<Leaf, Wrong> {
+    match read_leaf(alloc, bytes) {
+        Ok(leaf) => Ok(leaf),
+        Err(_) => Err(Wrong::Not("no leaf")),
+    }
+}
+
+/// A leaf as it is read and written again; what isn't one stays.
+pub fn leaf_again(alloc: Global, bytes: &[u8]) -> Result<Blob, AllocError> {
+    let Ok(leaf) = read_leaf(alloc, bytes) else {
+        return Blob::from_slice(alloc, bytes);
     };
     let mut into = Blob::new(alloc);
     write_leaf(&leaf, &mut into)?;
-    line.told(&bytes, into.as_slice())?;
+    Ok(into)
+}
+
+// The links and the items of a leaf.
+fn is_leaf_of(alloc: Global, line: &mut Line<'_>, leaf: &Leaf) -> Result<(), Wrong> {
     if line.number()? != leaf.prev || line.number()? != leaf.next {
         return Err(Wrong::Not("other links"));
     }
-    line.is_bytes(items_of(alloc, &leaf)?.as_slice())
+    line.is_bytes(items_of(alloc, leaf)?.as_slice())
+}
+
+/// `leaf BYTES => PREV NEXT ITEMS`: a leaf as it is read, and written again; its items are `key:value:value `, one behind the other.
+pub fn is_leaf(alloc: Global, line: &mut Line<'_>) -> Result<(), Wrong> {
+    let bytes = line.given()?;
+    line.told(&bytes, leaf_again(alloc, bytes.as_slice())?.as_slice())?;
+    is_leaf_of(alloc, line, &leaf_of(alloc, bytes.as_slice())?)
 }
 
 // The heir and the entries of a node as text.
@@ -49,41 +67,56 @@ fn entries_of(alloc: Global, node: &Node) -> Result<String, AllocError> {
     Ok(text)
 }
 
-/// `node BYTES => HEIR CHILD:KEY CHILD:KEY ..`: a node as it is read, and written again; keys are in digits of sixteen.
-pub fn is_node(alloc: Global, line: &mut Line<'_>) -> Result<(), Wrong> {
-    let bytes = line.given()?;
-    let Ok(node) = read_node(alloc, bytes.as_slice()) else {
-        return Err(Wrong::Not("no node"));
+/// `node BYTES => HEIR CHILD:KEY CHILD:KEY ..`: a node as it is read; keys are in digits of sixteen.
+pub fn node_text(alloc: Global, bytes: &[u8]) -> Result<String, AllocError> {
+    match read_node(alloc, bytes) {
+        Ok(node) => entries_of(alloc, &node),
+        Err(e) => format!(in alloc; "{e:?}"),
+    }
+}
+
+/// The same written again; what isn't one stays.
+pub fn node_again(alloc: Global, bytes: &[u8]) -> Result<Blob, AllocError> {
+    let Ok(node) = read_node(alloc, bytes) else {
+        return Blob::from_slice(alloc, bytes);
     };
     let mut into = Blob::new(alloc);
     write_node(&node, &mut into)?;
-    line.told(&bytes, into.as_slice())?;
-    line.is_text(entries_of(alloc, &node)?)
+    Ok(into)
+}
+
+// Why bytes are no such page.
+fn refusal(alloc: Global, page: &str, bytes: &[u8]) -> Result<String, Wrong> {
+    let read = match page {
+        "leaf" => read_leaf(alloc, bytes).err(),
+        "node" => read_node(alloc, bytes).err(),
+        _ => return Err(Wrong::Unread),
+    };
+    Ok(format!(in alloc; "{read:?}")?)
 }
 
 /// `no_page leaf|node BYTES`: bytes that are no such page.
 pub fn is_page(alloc: Global, line: &mut Line<'_>) -> Result<(), Wrong> {
     let page = line.word();
     let bytes = line.bytes()?;
-    let read = match page {
-        "leaf" => read_leaf(alloc, bytes.as_slice()).err(),
-        "node" => read_node(alloc, bytes.as_slice()).err(),
-        _ => return Err(Wrong::Unread),
-    };
-    line.is_same("Some(Bad)", format!(in alloc; "{read:?}")?)
+    line.is_same("Some(Bad)", refusal(alloc, page, bytes.as_slice())?)
+}
+
+// The key of a page's record.
+fn key_of(alloc: Global, id: u64) -> Result<Blob, AllocError> {
+    let mut into = Blob::new(alloc);
+    page_key(id, &mut into)?;
+    Ok(into)
 }
 
 /// `page_key ID => BYTES`: the key of a page's record.
 pub fn is_key(alloc: Global, line: &mut Line<'_>) -> Result<(), Wrong> {
     let id = line.number()?;
-    let mut into = Blob::new(alloc);
-    page_key(id, &mut into)?;
     let wanted = line.wanted()?;
-    line.told(&wanted, into.as_slice())
+    line.told(&wanted, key_of(alloc, id)?.as_slice())
 }
 
 /// `page_id BYTES => ID`: the page that a key names.
-pub fn is_id(alloc: Global, line: &mut Line<'_>) -> Result<(), Wrong> {
-    let key = line.given()?;
-    line.is_text(format!(in alloc; "{:?}", page_id(key.as_slice()))?)
+pub fn id_text(alloc: Global, key: &[u8]) -> Result<String, AllocError> {
+    format!(in alloc; "{:?}", page_id(key))
 }

@@ -16,48 +16,79 @@ pub struct SlotsOf {
     is_changed: bool,
 }
 
+// The leaf, taken out.
+fn taken(held: &mut Option<SlottedLeaf>) -> Result<SlottedLeaf, Wrong> {
+    match held.take() {
+        Some(leaf) => Ok(leaf),
+        None => Err(Wrong::Unread),
+    }
+}
+
 // A leaf with an item more at a place.
-fn with_item(alloc: Global, leaf: SlottedLeaf, line: &mut Line<'_>) -> Result<SlottedLeaf, Wrong> {
-    let place = line.small()? as usize;
-    let key = line.bytes_up_to(" = ")?;
-    let value = line.bytes()?;
+fn item_added(
+    alloc: Global,
+    leaf: SlottedLeaf,
+    place: usize,
+    key: &[u8],
+    value: &[u8],
+) -> Result<SlottedLeaf, Wrong> {
     if place > leaf.len() {
         return Err(Wrong::Unread);
     }
-    Ok(leaf.with_item(alloc, place, key.as_slice(), value.as_slice())?)
+    Ok(leaf.with_item(alloc, place, key, value)?)
+}
+
+fn with_item(
+    alloc: Global,
+    held: &mut Option<SlottedLeaf>,
+    line: &mut Line<'_>,
+) -> Result<SlottedLeaf, Wrong> {
+    let place = line.small()? as usize;
+    let key = line.bytes_up_to(" = ")?;
+    let value = line.bytes()?;
+    item_added(alloc, taken(held)?, place, key.as_slice(), value.as_slice())
 }
 
 // A leaf with another first value of an item, or with one more behind the others.
-fn with_value(
+fn value_added(
     alloc: Global,
     leaf: SlottedLeaf,
+    place: usize,
+    value: &[u8],
+    first: bool,
+) -> Result<SlottedLeaf, Wrong> {
+    if place >= leaf.len() {
+        return Err(Wrong::Unread);
+    }
+    if first {
+        return Ok(leaf.with_first(alloc, place, value)?);
+    }
+    Ok(leaf.with_value(alloc, place, value)?)
+}
+
+fn with_value(
+    alloc: Global,
+    held: &mut Option<SlottedLeaf>,
     first: bool,
     line: &mut Line<'_>,
 ) -> Result<SlottedLeaf, Wrong> {
     let place = line.small()? as usize;
     let value = line.bytes()?;
-    if place >= leaf.len() {
-        return Err(Wrong::Unread);
-    }
-    if first {
-        return Ok(leaf.with_first(alloc, place, value.as_slice())?);
-    }
-    Ok(leaf.with_value(alloc, place, value.as_slice())?)
+    value_added(alloc, taken(held)?, place, value.as_slice(), first)
 }
 
-// A leaf without an item, or without the first value of one that has more.
-fn without(
-    alloc: Global,
-    leaf: SlottedLeaf,
-    item: bool,
-    line: &mut Line<'_>,
-) -> Result<SlottedLeaf, Wrong> {
-    let place = line.small()? as usize;
+// A leaf without an item.
+fn item_cut(alloc: Global, leaf: SlottedLeaf, place: usize) -> Result<SlottedLeaf, Wrong> {
     if place >= leaf.len() {
         return Err(Wrong::Unread);
     }
-    if item {
-        return Ok(leaf.without_item(alloc, place)?);
+    Ok(leaf.without_item(alloc, place)?)
+}
+
+// A leaf without the first value of an item that has more.
+fn value_cut(alloc: Global, leaf: SlottedLeaf, place: usize) -> Result<SlottedLeaf, Wrong> {
+    if place >= leaf.len() {
+        return Err(Wrong::Unread);
     }
     if leaf.count(place) < 2 {
         return Err(Wrong::Unread);
@@ -65,28 +96,63 @@ fn without(
     Ok(leaf.without_first(alloc, place)?)
 }
 
+fn without(
+    alloc: Global,
+    held: &mut Option<SlottedLeaf>,
+    item: bool,
+    line: &mut Line<'_>,
+) -> Result<SlottedLeaf, Wrong> {
+    let place = line.small()? as usize;
+    let leaf = taken(held)?;
+    if item {
+        return item_cut(alloc, leaf, place);
+    }
+    value_cut(alloc, leaf, place)
+}
+
 // The items of a leaf from one place to another, linked anew.
 fn section(alloc: Global, leaf: &SlottedLeaf, line: &mut Line<'_>) -> Result<SlottedLeaf, Wrong> {
     let from = line.small()? as usize;
     let to = line.small()? as usize;
+    let prev = line.number()?;
+    let next = line.number()?;
     if from > to || to > leaf.len() {
         return Err(Wrong::Unread);
     }
-    Ok(leaf.section(alloc, from, to, line.number()?, line.number()?)?)
+    Ok(leaf.section(alloc, from, to, prev, next)?)
 }
 
-// A leaf changed as a line says.
-fn changed(alloc: Global, leaf: SlottedLeaf, line: &mut Line<'_>) -> Result<SlottedLeaf, Wrong> {
-    match line.word() {
-        "with_item" => with_item(alloc, leaf, line),
-        "with_first" => with_value(alloc, leaf, true, line),
-        "with_value" => with_value(alloc, leaf, false, line),
-        "without_item" => without(alloc, leaf, true, line),
-        "without_first" => without(alloc, leaf, false, line),
-        "section" => section(alloc, &leaf, line),
+// A leaf linked anew, or the items of a part of it.
+fn linked(
+    alloc: Global,
+    leaf: &SlottedLeaf,
+    what: &str,
+    line: &mut Line<'_>,
+) -> Result<SlottedLeaf, Wrong> {
+    match what {
+        "section" => section(alloc, leaf, line),
         "with_prev" => Ok(leaf.with_prev(alloc, line.number()?)?),
         "with_next" => Ok(leaf.with_next(alloc, line.number()?)?),
         _ => Err(Wrong::Unread),
+    }
+}
+
+// The leaf changed as a line says.
+fn changed(
+    alloc: Global,
+    held: &mut Option<SlottedLeaf>,
+    line: &mut Line<'_>,
+) -> Result<SlottedLeaf, Wrong> {
+    match line.word() {
+        "with_item" => with_item(alloc, held, line),
+        "with_first" => with_value(alloc, held, true, line),
+        "with_value" => with_value(alloc, held, false, line),
+        "without_item" => without(alloc, held, true, line),
+        "without_first" => without(alloc, held, false, line),
+        what => match held {
+            Some(leaf) => linked(alloc, leaf, what, line),
+            None => Err(Wrong::Unread),
+        },
     }
 }
 
@@ -109,16 +175,28 @@ fn is_none(line: &mut Line<'_>, read: Result<SlottedLeaf, PageErr>) -> Result<()
     }
 }
 
+// The links of a leaf, how many items it has, and how many bytes they take.
+fn links_of(alloc: Global, leaf: &SlottedLeaf) -> Result<String, AllocError> {
+    format!(in alloc;
+        "{} {} {} {}",
+        leaf.prev(),
+        leaf.next(),
+        leaf.len(),
+        leaf.items_len()
+    )
+}
+
 // Looks at the item at a place: `item PLACE COUNT KEY = FIRST`.
 fn is_item(leaf: &SlottedLeaf, line: &mut Line<'_>) -> Result<(), Wrong> {
     let place = line.small()? as usize;
+    let count = line.number()?;
+    let key = line.bytes_up_to(" = ")?;
     if place >= leaf.len() {
         return Err(Wrong::Unread);
     }
-    if leaf.count(place) != line.number()? {
+    if leaf.count(place) != count {
         return Err(Wrong::Not("another count"));
     }
-    let key = line.bytes_up_to(" = ")?;
     line.told(&key, leaf.key(place))?;
     line.is_bytes(leaf.first_value(place))
 }
@@ -167,10 +245,8 @@ impl SlotsOf {
 
     // Changes the leaf.
     fn change(&mut self, line: &mut Line<'_>) -> Result<(), Wrong> {
-        let Some(leaf) = self.leaf.take() else {
-            return Err(Wrong::Unread);
-        };
-        self.leaf = Some(changed(self.alloc, leaf, line)?);
+        let leaf = changed(self.alloc, &mut self.leaf, line)?;
+        self.leaf = Some(leaf);
         self.is_changed = true;
         Ok(())
     }
@@ -182,16 +258,7 @@ impl SlotsOf {
         };
         match what {
             "now" => line.is_bytes(leaf.as_slice()),
-            "links" => {
-                let text = format!(in self.alloc;
-                    "{} {} {} {}",
-                    leaf.prev(),
-                    leaf.next(),
-                    leaf.len(),
-                    leaf.items_len()
-                )?;
-                line.is_text(text)
-            }
+            "links" => line.is_text(links_of(self.alloc, leaf)?),
             _ => is_item(leaf, line),
         }
     }
@@ -221,14 +288,24 @@ fn text_of(alloc: Global, node: &SlottedNode) -> Result<String, AllocError> {
 }
 
 /// `slotted_node BYTES => HEIR CHILD:KEY ..`: a node as it is read from its bytes, or `Bad`.
-pub fn is_slotted_node(alloc: Global, line: &mut Line<'_>) -> Result<(), Wrong> {
-    let bytes = line.given()?;
-    match SlottedNode::read(alloc, Blob::from_slice(alloc, bytes.as_slice())?) {
-        Ok(node) => {
-            let again = SlottedNode::of(alloc, &node.to_node(alloc)?)?;
-            line.told(&bytes, again.as_slice())?;
-            line.is_text(text_of(alloc, &node)?)
-        }
-        Err(e) => line.is_text(format!(in alloc; "{e:?}")?),
+pub fn slotted_text(alloc: Global, bytes: &[u8]) -> Result<String, AllocError> {
+    match SlottedNode::read(alloc, Blob::from_slice(alloc, bytes)?) {
+        Ok(node) => text_of(alloc, &node),
+        Err(e) => format!(in alloc; "{e:?}"),
+    }
+}
+
+// The bytes of a node that is read into entries.
+fn again(alloc: Global, node: &SlottedNode) -> Result<Blob, AllocError> {
+    let entries = node.to_node(alloc)?;
+    let again = SlottedNode::of(alloc, &entries)?;
+    Blob::from_slice(alloc, again.as_slice())
+}
+
+/// The same once it was read into entries; what isn't one stays.
+pub fn slotted_again(alloc: Global, bytes: &[u8]) -> Result<Blob, AllocError> {
+    match SlottedNode::read(alloc, Blob::from_slice(alloc, bytes)?) {
+        Ok(node) => again(alloc, &node),
+        Err(_) => Blob::from_slice(alloc, bytes),
     }
 }

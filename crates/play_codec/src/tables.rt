@@ -1,18 +1,19 @@
 //! Lines of tables.
 
-use crate::answers::{asks, is_error, is_then, is_value};
-use crate::blocks::{is_block, is_record};
-use crate::heads::{is_fixed, is_head, is_tree};
-use crate::numbers::{is_decimal, is_field, is_hash, is_number, is_set, is_spelled, is_vnum};
-use crate::pages::{is_id, is_key, is_leaf, is_node, is_page};
-use crate::slots::{SlotsOf, is_slotted_node};
+use crate::answers::{asks, error, is_then, value};
+use crate::behind::{is, is_behind};
+use crate::blocks::{block_text, record};
+use crate::heads::{fixed_again, fixed_text, head_again, head_text, tree_text};
+use crate::numbers::{decimal, is_field, is_hash, is_number, is_set, spelled, vnum};
+use crate::pages::{id_text, is_key, is_leaf, is_page, node_again, node_text};
+use crate::slots::{SlotsOf, slotted_again, slotted_text};
 use crate::telling::asked;
-use crate::texts::{awaits, is_part, is_piece, is_said, is_the_end};
-use crate::wire::{
-    agrees_in_pieces, has_limit, is_bad, is_reply, is_request, is_text, is_whole, wants,
-};
+use crate::texts::{awaited, is_part, is_the_end, piece, said};
+use crate::wire::{agrees_in_pieces, has_limit, is_text, is_whole, reply, request_text, wants};
 use play_text::{Line, Player, Script, Wrong, words_of};
-use std::alloc::Global;
+use std::alloc::{AllocError, Global};
+use tc_base::Blob;
+use ty_wire::{Front, take};
 
 /// What plays tables.
 #[derive(Drop)]
@@ -26,91 +27,149 @@ impl Tables {
     }
 }
 
+// What a page or bytes of the wire are read as.
+fn other_text(alloc: Global, what: &str, bytes: &[u8]) -> Result<String, AllocError> {
+    match what {
+        "node" => node_text(alloc, bytes),
+        "slotted_node" => slotted_text(alloc, bytes),
+        "page_id" => id_text(alloc, bytes),
+        "awaits" => awaited(alloc, bytes),
+        _ => request_text(alloc, bytes),
+    }
+}
+
+// What bytes are read as.
+fn text_of(alloc: Global, what: &str, bytes: &[u8]) -> Result<String, AllocError> {
+    match what {
+        "vnum" => vnum(alloc, bytes),
+        "decimal" => decimal(alloc, bytes),
+        "head" | "head_read" => head_text(alloc, bytes),
+        "fixed" => fixed_text(alloc, bytes),
+        "tree_head" => tree_text(alloc, bytes),
+        "block" => block_text(alloc, bytes, false),
+        "large_block" => block_text(alloc, bytes, true),
+        _ => other_text(alloc, what, bytes),
+    }
+}
+
+// Bytes as they are read and written again.
+fn again_of(alloc: Global, what: &str, bytes: &[u8]) -> Result<Blob, AllocError> {
+    match what {
+        "head" => head_again(alloc, bytes),
+        "fixed" => fixed_again(alloc, bytes),
+        "node" => node_again(alloc, bytes),
+        _ => slotted_again(alloc, bytes),
+    }
+}
+
+// Looks at what bytes are read as: `BYTES => TEXT`.
+fn text_line(alloc: Global, what: &str, line: &mut Line<'_>) -> Result<(), Wrong> {
+    let bytes = line.given()?;
+    line.is_text(text_of(alloc, what, bytes.as_slice())?)
+}
+
+// The same of what is written again.
+fn again_line(alloc: Global, what: &str, line: &mut Line<'_>) -> Result<(), Wrong> {
+    let bytes = line.given()?;
+    line.told(&bytes, again_of(alloc, what, bytes.as_slice())?.as_slice())?;
+    line.is_text(text_of(alloc, what, bytes.as_slice())?)
+}
+
+// What is said of bytes as bytes: `BYTES => TEXT`.
+fn said_line(alloc: Global, what: &str, line: &mut Line<'_>) -> Result<(), Wrong> {
+    let bytes = line.given()?;
+    let found = match what {
+        "said" => said(alloc, bytes.as_slice()),
+        _ => piece(alloc, bytes.as_slice()),
+    };
+    line.is_bytes(found?.as_slice())
+}
+
+// What is written behind other bytes.
+fn behind_of(alloc: Global, what: &str, line: &mut Line<'_>) -> Result<Blob, Wrong> {
+    match what {
+        "spelled" => spelled(alloc, line),
+        "record" => record(alloc, line, false),
+        "large_record" => record(alloc, line, true),
+        "reply" => reply(alloc, line),
+        "value" => value(alloc, line),
+        _ => error(alloc, line),
+    }
+}
+
+// Looks at it: `.. => BYTES`.
+fn behind_line(alloc: Global, what: &str, line: &mut Line<'_>) -> Result<(), Wrong> {
+    let all = behind_of(alloc, what, line)?;
+    is_behind(line, &all)
+}
+
+// Whether something is so of bytes; `bad`: no request begins with them.
+fn holds(alloc: Global, what: &str, bytes: &[u8]) -> Result<bool, AllocError> {
+    match what {
+        "bad" => Ok(take(bytes) == Front::Bad),
+        "in_pieces" => Ok(agrees_in_pieces(bytes)),
+        "whole" => Ok(is_whole(bytes)),
+        "part" => Ok(is_part(bytes)),
+        _ => is_the_end(alloc, bytes),
+    }
+}
+
+// Looks at bytes of which something is so; of no bytes that says nothing.
+fn test_line(alloc: Global, what: &str, line: &mut Line<'_>) -> Result<(), Wrong> {
+    let bytes = line.bytes()?;
+    if bytes.is_empty() {
+        return Err(Wrong::Not("says nothing"));
+    }
+    is(line, holds(alloc, what, bytes.as_slice())?)
+}
+
 // Looks at words and what they ask for.
 fn is_order(alloc: Global, line: &mut Line<'_>) -> Result<(), Wrong> {
     let words = words_of(alloc, line.up_to(" => ")?)?;
     line.is_text(asked(alloc, &words)?)
 }
 
-// Looks at a line of numbers.
-fn number_line(alloc: Global, what: &str, line: &mut Line<'_>) -> Result<(), Wrong> {
+// Looks at a line on the wire, or on words.
+fn wire_line(alloc: Global, what: &str, line: &mut Line<'_>) -> Result<(), Wrong> {
     match what {
-        "spelled" => is_spelled(alloc, line),
-        "vnum" => is_vnum(alloc, line),
+        "limit" => has_limit(alloc, line),
+        "wants" => wants(line),
+        "text" => is_text(alloc, line),
+        "asks" => asks(alloc, line),
+        "then" => is_then(alloc, line),
+        "words" => is_order(alloc, line),
+        _ => Err(Wrong::Unread),
+    }
+}
+
+// Looks at a line of a form of its own.
+fn other_line(alloc: Global, what: &str, line: &mut Line<'_>) -> Result<(), Wrong> {
+    match what {
         "number" => is_number(alloc, line),
         "field" => is_field(alloc, line),
         "set" => is_set(alloc, line),
         "hash" => is_hash(alloc, line),
-        "decimal" => is_decimal(alloc, line),
-        _ => head_line(alloc, what, line),
-    }
-}
-
-// Looks at a line of heads and blocks.
-fn head_line(alloc: Global, what: &str, line: &mut Line<'_>) -> Result<(), Wrong> {
-    match what {
-        "head" => is_head(alloc, line, true),
-        "head_read" => is_head(alloc, line, false),
-        "fixed" => is_fixed(alloc, line),
-        "tree_head" => is_tree(alloc, line),
-        "block" => is_block(alloc, line, false),
-        "large_block" => is_block(alloc, line, true),
-        "record" => is_record(alloc, line, false),
-        "large_record" => is_record(alloc, line, true),
-        _ => page_line(alloc, what, line),
-    }
-}
-
-// Looks at a line of pages.
-fn page_line(alloc: Global, what: &str, line: &mut Line<'_>) -> Result<(), Wrong> {
-    match what {
         "leaf" => is_leaf(alloc, line),
-        "node" => is_node(alloc, line),
         "no_page" => is_page(alloc, line),
         "page_key" => is_key(alloc, line),
-        "page_id" => is_id(alloc, line),
-        "slotted_node" => is_slotted_node(alloc, line),
         _ => wire_line(alloc, what, line),
     }
 }
 
-// Looks at a line of requests and replies.
-fn wire_line(alloc: Global, what: &str, line: &mut Line<'_>) -> Result<(), Wrong> {
-    match what {
-        "request" => is_request(alloc, line),
-        "bad" => is_bad(alloc, line),
-        "limit" => has_limit(alloc, line),
-        "wants" => wants(alloc, line),
-        "in_pieces" => agrees_in_pieces(alloc, line),
-        "whole" => is_whole(line),
-        "text" => is_text(alloc, line),
-        "reply" => is_reply(alloc, line),
-        _ => text_line(alloc, what, line),
-    }
-}
-
-// Looks at a line of text commands and of pieces.
-fn text_line(alloc: Global, what: &str, line: &mut Line<'_>) -> Result<(), Wrong> {
-    match what {
-        "said" => is_said(alloc, line),
-        "part" => is_part(alloc, line),
-        "ends" => is_the_end(alloc, line),
-        "awaits" => awaits(alloc, line),
-        "piece" => is_piece(alloc, line),
-        _ => answer_line(alloc, what, line),
-    }
-}
-
-// Looks at a line of what a text command asks and is answered, or of words.
-fn answer_line(alloc: Global, what: &str, line: &mut Line<'_>) -> Result<(), Wrong> {
-    match what {
-        "asks" => asks(alloc, line),
-        "then" => is_then(alloc, line),
-        "value" => is_value(alloc, line),
-        "error" => is_error(alloc, line),
-        "words" => is_order(alloc, line),
-        _ => Err(Wrong::Unread),
-    }
+// Whether bytes are read, and the text of what they are stands behind them.
+fn is_read(what: &str) -> bool {
+    matches!(
+        what,
+        "vnum"
+            | "decimal"
+            | "head_read"
+            | "tree_head"
+            | "block"
+            | "large_block"
+            | "page_id"
+            | "awaits"
+            | "request"
+    )
 }
 
 // Looks at a line; what is said of a leaf is said of the one of its case.
@@ -120,9 +179,18 @@ fn line_of(
     what: &str,
     line: &mut Line<'_>,
 ) -> Result<(), Wrong> {
+    if is_read(what) {
+        return text_line(alloc, what, line);
+    }
     match what {
         "slots" | "change" | "now" | "links" | "item" => slots.play(what, line),
-        _ => number_line(alloc, what, line),
+        "head" | "fixed" | "node" | "slotted_node" => again_line(alloc, what, line),
+        "said" | "piece" => said_line(alloc, what, line),
+        "spelled" | "record" | "large_record" | "reply" | "value" | "error" => behind_line(
+            alloc, what, line,
+        ),
+        "bad" | "in_pieces" | "whole" | "part" | "ends" => test_line(alloc, what, line),
+        _ => other_line(alloc, what, line),
     }
 }
 

@@ -201,10 +201,12 @@ fn tell(order: &CommandLine, told: &mut Told) {
 
 /// What words ask for, `-` where they are refused.
 pub fn asked(alloc: Global, words: &Vec<String>) -> Result<String, AllocError> {
+    let order = parse(alloc, words)?;
     let mut told = Told::new(alloc);
-    match parse(alloc, words)? {
-        Some(order) => tell(&order, &mut told),
+    match &order {
+        Some(order) => tell(order, &mut told),
         None => told.word("-"),
     }
+    drop(order);
     told.end()
 }

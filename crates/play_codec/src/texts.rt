@@ -4,7 +4,7 @@ ghost use Rattle.ty_memc.specs.Fronts.{IsPieceRead};
 ghost use Rattle.ty_memc.specs.Reading.{text_at};
 
 use crate::commands::text_of;
-use play_text::{Line, Pattern, Wrong};
+use play_text::Wrong;
 use std::alloc::{AllocError, Global};
 use tc_base::Blob;
 use ty_memc::{
@@ -39,19 +39,17 @@ fn comes_in_parts(bytes: &[u8]) -> bool {
     agrees(bytes, 1) && agrees(bytes, 7)
 }
 
-// Bytes are this with their last byte, and still with bytes behind them.
-fn becomes(alloc: Global, bytes: &[u8], wanted: Front) -> Result<(), Wrong> {
+// Bytes, and three more.
+fn longer(alloc: Global, bytes: &[u8]) -> Result<Vec<u8>, AllocError> {
     let mut longer = Vec::from_slice(alloc, bytes)?;
     longer.extend_from_slice(b"\n\xC8\x30")?;
-    let found = (take_text(bytes), take_text(&longer));
-    if found.0 != wanted || found.1 != wanted {
-        return Err(Wrong::Differs(format!(in alloc; "{:?} {:?}", found.0, found.1)?));
-    }
-    if comes_in_parts(bytes) {
-        Ok(())
-    } else {
-        Err(Wrong::Not("a front is no part"))
-    }
+    Ok(longer)
+}
+
+// Whether bytes are this with their last byte, and still with bytes behind them.
+fn becomes(alloc: Global, bytes: &[u8], wanted: Front) -> Result<bool, AllocError> {
+    let longer = longer(alloc, bytes)?;
+    Ok(take_text(bytes) == wanted && take_text(&longer) == wanted && comes_in_parts(bytes))
 }
 
 /// The command that bytes are.
@@ -70,39 +68,24 @@ pub fn command_at(alloc: Global, bytes: &[u8]) -> Result<Text, Wrong>
 }
 
 /// `said BYTES => TEXT`: a text command, whole with its last byte, and what it says.
-pub fn is_said(alloc: Global, line: &mut Line<'_>) -> Result<(), Wrong> {
-    let bytes = line.given()?;
-    let bytes = bytes.as_slice();
-    becomes(alloc, bytes, Front::Whole(bytes.len()))?;
+pub fn said(alloc: Global, bytes: &[u8]) -> Result<Blob, Wrong> {
+    if !becomes(alloc, bytes, Front::Whole(bytes.len()))? {
+        return Err(Wrong::Not("not whole with its last byte"));
+    }
     let text = command_at(alloc, bytes)?;
-    line.is_bytes(text_of(alloc, &text)?.as_slice())
+    let told = text_of(alloc, &text);
+    drop(text);
+    Ok(told?)
 }
 
 /// `ends BYTES`: what ends the connection with its last byte.
-pub fn is_the_end(alloc: Global, line: &mut Line<'_>) -> Result<(), Wrong> {
-    let bytes = line.bytes()?;
-    line.compares();
-    becomes(alloc, bytes.as_slice(), Front::Bad)
-}
-
-// The bytes that are left, of which there is one at least.
-fn some_bytes(line: &mut Line<'_>) -> Result<Pattern, Wrong> {
-    let bytes = line.bytes()?;
-    if bytes.is_empty() {
-        return Err(Wrong::Not("says nothing"));
-    }
-    Ok(bytes)
+pub fn is_the_end(alloc: Global, bytes: &[u8]) -> Result<bool, AllocError> {
+    becomes(alloc, bytes, Front::Bad)
 }
 
 /// `part BYTES`: bytes that are a part of a text command, as each front of them is.
-pub fn is_part(alloc: Global, line: &mut Line<'_>) -> Result<(), Wrong> {
-    let bytes = some_bytes(line)?;
-    let found = take_text(bytes.as_slice());
-    line.is_same("Part", format!(in alloc; "{found:?}")?)?;
-    if comes_in_parts(bytes.as_slice()) {
-        return Ok(());
-    }
-    Err(Wrong::Not("a front is no part"))
+pub fn is_part(bytes: &[u8]) -> bool {
+    take_text(bytes) == Front::Part && comes_in_parts(bytes)
 }
 
 // What a look at bytes finds, and the value that a storing line awaits.
@@ -114,13 +97,12 @@ fn looked(bytes: &[u8]) -> (Front, Option<Value>)
     (front, seen.value())
 }
 
-/// `awaits BYTES => PLACE SIZE`: where the value of a storing line begins that isn't whole, and how many bytes it has.
-pub fn awaits(alloc: Global, line: &mut Line<'_>) -> Result<(), Wrong> {
-    let bytes = line.given()?;
-    let (Front::Part, Some(value)) = looked(bytes.as_slice()) else {
-        return Err(Wrong::Not("no value is awaited"));
-    };
-    line.is_text(format!(in alloc; "{} {}", value.at, value.size)?)
+/// `awaits BYTES => PLACE SIZE`: where the value of a storing line begins that isn't whole, and how many bytes it has; `nothing` where none is awaited.
+pub fn awaited(alloc: Global, bytes: &[u8]) -> Result<String, AllocError> {
+    match looked(bytes) {
+        (Front::Part, Some(value)) => format!(in alloc; "{} {}", value.at, value.size),
+        _ => String::from_str(alloc, "nothing"),
+    }
 }
 
 // Whether `look_piece` at bytes that come one by one finds a part at each step, and a whole piece with the last.
@@ -156,18 +138,13 @@ fn piece_text(alloc: Global, piece: &Piece) -> Result<Blob, AllocError> {
     }
 }
 
-// The piece at the front as text.
-fn said_at(alloc: Global, bytes: &[u8]) -> Result<Blob, Wrong> {
-    let piece = piece_at(alloc, bytes)?;
-    Ok(piece_text(alloc, &piece)?)
-}
-
 /// `piece BYTES => TEXT`: a request, which `'updates'` or `'reads'`, or a text command; it is whole with its last byte.
-pub fn is_piece(alloc: Global, line: &mut Line<'_>) -> Result<(), Wrong> {
-    let bytes = line.given()?;
-    if !is_whole_at_last(bytes.as_slice()) {
+pub fn piece(alloc: Global, bytes: &[u8]) -> Result<Blob, Wrong> {
+    if !is_whole_at_last(bytes) {
         return Err(Wrong::Not("not whole with its last byte"));
     }
-    let said = said_at(alloc, bytes.as_slice())?;
-    line.is_bytes(said.as_slice())
+    let piece = piece_at(alloc, bytes)?;
+    let told = piece_text(alloc, &piece);
+    drop(piece);
+    Ok(told?)
 }

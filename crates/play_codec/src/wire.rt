@@ -2,43 +2,56 @@
 ghost use Rattle.std.specs.Prelude.{◌≡◌, ◌<◌, IfOk};
 ghost use Rattle.ty_wire.specs.Spelling.{HasSpelling};
 
-use crate::behind::{begun, is_behind};
+use crate::behind::{begun, is, is_bare};
 use play_text::{Line, Wrong};
 use std::alloc::{AllocError, Global};
 use tc_base::{Blob, Blobs, Pair, Pairs, Reply, Request};
 use ty_look::{Seen, look};
 use ty_wire::{Front, is_updating, read_request, take, write_reply};
 
-// Whether a request is whole in its own length, also with bytes behind it, and each front of it is a part.
-fn is_read_in_any_cut(alloc: Global, bytes: &[u8]) -> Result<bool, AllocError> {
+// Bytes, and two more that begin a request.
+fn longer(alloc: Global, bytes: &[u8]) -> Result<Vec<u8>, AllocError> {
     let mut longer = Vec::from_slice(alloc, bytes)?;
     longer.extend_from_slice(b"\xC8\x30")?;
-    let whole = Front::Whole(bytes.len());
-    let mut fine = take(bytes) == whole && take(&longer) == whole;
+    Ok(longer)
+}
+
+// Whether each front of a request is a part.
+fn has_parts(bytes: &[u8]) -> bool {
     for cut in 0..bytes.len() {
-        fine = fine && take(&bytes[..cut]) == Front::Part;
+        if take(&bytes[..cut]) != Front::Part {
+            return false;
+        }
     }
-    Ok(fine)
+    true
+}
+
+// Whether a request is whole in its own length, also with bytes behind it, and each front of it is a part.
+fn is_read_in_any_cut(alloc: Global, bytes: &[u8]) -> Result<bool, AllocError> {
+    let longer = longer(alloc, bytes)?;
+    let whole = Front::Whole(bytes.len());
+    Ok(take(bytes) == whole && take(&longer) == whole && has_parts(bytes))
+}
+
+// What a request does.
+fn deed(alloc: Global, bytes: &[u8]) -> Result<&'static str, AllocError> {
+    match take(bytes) {
+        Front::Whole(_) => {
+            let request = read_request(alloc, bytes)?;
+            let updates = is_updating(&request);
+            drop(request);
+            Ok(if updates { "updates" } else { "reads" })
+        }
+        Front::Part | Front::Bad => Ok("not whole"),
+    }
 }
 
 /// `request BYTES => updates|reads`: a request, whole in its own length and no shorter, and whether it changes contents.
-pub fn is_request(alloc: Global, line: &mut Line<'_>) -> Result<(), Wrong> {
-    let bytes = line.given()?;
-    let bytes = bytes.as_slice();
-    if !is_read_in_any_cut(alloc, bytes)? {
-        return Err(Wrong::Not("not whole"));
+pub fn request_text(alloc: Global, bytes: &[u8]) -> Result<String, AllocError> {
+    if is_read_in_any_cut(alloc, bytes)? {
+        return String::from_str(alloc, deed(alloc, bytes)?);
     }
-    let updates = match take(bytes) {
-        Front::Whole(_) => is_updating(&read_request(alloc, bytes)?),
-        Front::Part | Front::Bad => false,
-    };
-    line.is_text(String::from_str(alloc, if updates { "updates" } else { "reads" })?)
-}
-
-/// `bad BYTES`: no request begins so.
-pub fn is_bad(alloc: Global, line: &mut Line<'_>) -> Result<(), Wrong> {
-    let bytes = line.bytes()?;
-    line.is_same("Bad", format!(in alloc; "{:?}", take(bytes.as_slice()))?)
+    String::from_str(alloc, "not whole")
 }
 
 // What stands at the front where a number follows.
@@ -48,17 +61,19 @@ fn taken_with(alloc: Global, front: &[u8], number: u32) -> Result<Front, AllocEr
     Ok(take(&bytes))
 }
 
+// Whether a number may stand behind bytes, and neither the next one nor the greatest.
+fn is_most(alloc: Global, front: &[u8], most: u32) -> Result<bool, AllocError> {
+    let within = taken_with(alloc, front, most)?;
+    let past = taken_with(alloc, front, most.saturating_add(1))?;
+    let far = taken_with(alloc, front, u32::MAX)?;
+    Ok(within == Front::Part && past == Front::Bad && far == Front::Bad)
+}
+
 /// `limit NUMBER BYTES`: the most that a size or a count behind these bytes may be.
 pub fn has_limit(alloc: Global, line: &mut Line<'_>) -> Result<(), Wrong> {
     let most = line.small()?;
     let bytes = line.bytes()?;
-    let within = taken_with(alloc, bytes.as_slice(), most)?;
-    let past = taken_with(alloc, bytes.as_slice(), most.saturating_add(1))?;
-    let far = taken_with(alloc, bytes.as_slice(), u32::MAX)?;
-    line.is_same(
-        "Part Bad Bad",
-        format!(in alloc; "{within:?} {past:?} {far:?}")?,
-    )
+    is(line, is_most(alloc, bytes.as_slice(), most)?)
 }
 
 // What a look at bytes finds, and how many it needs at least.
@@ -69,12 +84,11 @@ fn looked(bytes: &[u8]) -> (Front, usize) {
 }
 
 /// `wants NUMBER BYTES`: how many bytes a part needs at least.
-pub fn wants(alloc: Global, line: &mut Line<'_>) -> Result<(), Wrong> {
+pub fn wants(line: &mut Line<'_>) -> Result<(), Wrong> {
     let wanted = line.number()?;
     let bytes = line.bytes()?;
     let (found, least) = looked(bytes.as_slice());
-    let wanted = format!(in alloc; "Part {wanted}")?;
-    line.is_same(wanted.as_str(), format!(in alloc; "{found:?} {least}")?)
+    is(line, found == Front::Part && least as u64 == wanted)
 }
 
 // Whether `look` at bytes that come in such pieces answers at each step what `take` answers.
@@ -93,19 +107,9 @@ fn agrees(bytes: &[u8], piece: usize) -> bool
     true
 }
 
-/// `in_pieces BYTES`: looks at bytes that come in pieces agree with one look at them. Of no bytes that says nothing.
-pub fn agrees_in_pieces(alloc: Global, line: &mut Line<'_>) -> Result<(), Wrong> {
-    let bytes = line.bytes()?;
-    if bytes.is_empty() {
-        return Err(Wrong::Not("says nothing"));
-    }
-    line.compares();
-    for piece in [1, 7, 100, 4096] {
-        if !agrees(bytes.as_slice(), piece) {
-            return Err(Wrong::Differs(format!(in alloc; "by {piece}")?));
-        }
-    }
-    Ok(())
+/// `in_pieces BYTES`: looks at bytes that come in pieces agree with one look at them.
+pub fn agrees_in_pieces(bytes: &[u8]) -> bool {
+    agrees(bytes, 1) && agrees(bytes, 7) && agrees(bytes, 100) && agrees(bytes, 4096)
 }
 
 // How many bytes that come in such pieces are there when `look` first finds more than a part.
@@ -124,15 +128,9 @@ fn ready_at(bytes: &[u8], piece: usize) -> usize
 }
 
 /// `whole BYTES`: a request that is whole with its last byte, in whatever pieces it comes.
-pub fn is_whole(line: &mut Line<'_>) -> Result<(), Wrong> {
-    let bytes = line.bytes()?;
-    let bytes = bytes.as_slice();
-    line.compares();
+pub fn is_whole(bytes: &[u8]) -> bool {
     let n = bytes.len();
-    if take(bytes) == Front::Whole(n) && ready_at(bytes, 4096) == n && ready_at(bytes, 1) == n {
-        return Ok(());
-    }
-    Err(Wrong::Not("not whole with its last byte"))
+    take(bytes) == Front::Whole(n) && ready_at(bytes, 4096) == n && ready_at(bytes, 1) == n
 }
 
 // How many texts a request has, and the last of them.
@@ -181,21 +179,27 @@ fn has_texts(request: &Request, line: &mut Line<'_>) -> Result<(), Wrong> {
     line.is_bytes(texts.last)
 }
 
-/// `text BYTES => COUNT TEXT`: how many keys or arguments a request has, and the last of them, which is nothing where there is none. Of a shift it is its value alone, of an
-/// extension its key.
-pub fn is_text(alloc: Global, line: &mut Line<'_>) -> Result<(), Wrong> {
-    let bytes = line.given()?;
-    let bytes = bytes.as_slice();
+// The request that bytes are.
+fn request_of(alloc: Global, bytes: &[u8]) -> Result<Request, Wrong> {
     match take(bytes) {
         Front::Whole(n) => {
             if n != bytes.len() {
                 return Err(Wrong::Not("bytes stand behind it"));
             }
-            let request = read_request(alloc, bytes)?;
-            has_texts(&request, line)
+            Ok(read_request(alloc, bytes)?)
         }
         Front::Part | Front::Bad => Err(Wrong::Not("not whole")),
     }
+}
+
+/// `text BYTES => COUNT TEXT`: how many keys or arguments a request has, and the last of them, which is nothing where there is none. Of a shift it is its value alone, of an
+/// extension its key.
+pub fn is_text(alloc: Global, line: &mut Line<'_>) -> Result<(), Wrong> {
+    let bytes = line.given()?;
+    let request = request_of(alloc, bytes.as_slice())?;
+    let answer = has_texts(&request, line);
+    drop(request);
+    answer
 }
 
 fn blob(alloc: Global, bytes: &[u8]) -> Result<Blob, AllocError>
@@ -264,10 +268,10 @@ fn plain_reply(name: &str) -> Result<Reply, Wrong>
 }
 
 /// `reply NAME => BYTES`: a reply as it is written behind other bytes.
-pub fn is_reply(alloc: Global, line: &mut Line<'_>) -> Result<(), Wrong> {
+pub fn reply(alloc: Global, line: &mut Line<'_>) -> Result<Blob, Wrong> {
     let reply = reply_of(alloc, line)?;
-    let wanted = line.wanted()?;
+    is_bare(line)?;
     let mut all = begun(alloc)?;
     write_reply(&reply, &mut all)?;
-    is_behind(line, &wanted, &all)
+    Ok(all)
 }

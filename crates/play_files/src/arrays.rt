@@ -24,15 +24,26 @@ fn put(
 }
 
 // A value.
-fn value(fixed: &mut Fixed<OneFile>, space: &mut OneFile, id: u64) -> Result<Option<Blob>, RecErr> {
+fn value(
+    alloc: Global,
+    fixed: &mut Fixed<OneFile>,
+    space: &mut OneFile,
+    id: u64,
+) -> Result<Option<Blob>, RecErr> {
     usable(space)?;
-    fixed.get(space, id)
+    let mut bytes = Vec::new(alloc);
+    bytes.resize(fixed.width() as usize, 0)?;
+    let Some(long) = fixed.get(space, id, &mut bytes)? else {
+        return Ok(None);
+    };
+    bytes.truncate(long);
+    Ok(Some(Blob::from_vec(bytes)))
 }
 
 // How long a value is.
 fn long(fixed: &mut Fixed<OneFile>, space: &mut OneFile, id: u64) -> Result<Option<u64>, RecErr> {
     usable(space)?;
-    fixed.value_len(space, id)
+    Ok(fixed.value_len(space, id)?)
 }
 
 // An id taken out; false where it isn't held.
@@ -55,6 +66,7 @@ fn settle(fixed: &mut Fixed<OneFile>, space: &mut OneFile) -> Result<(), RecErr>
 
 // A line that asks for an id: `get ID = VALUE`, `none ID`, `length ID N`.
 fn get_line(
+    alloc: Global,
     fixed: &mut Fixed<OneFile>,
     space: &mut OneFile,
     what: &str,
@@ -66,7 +78,7 @@ fn get_line(
         let wanted = line.number()?;
         return is_so(line, found == Some(wanted));
     }
-    let found = value(fixed, space, id)?;
+    let found = value(alloc, fixed, space, id)?;
     if what == "none" {
         let length = long(fixed, space, id)?;
         is_so(line, length.is_none())?;
@@ -157,7 +169,7 @@ fn play_line(
     line: &mut Line<'_>,
 ) -> Result<(), Failure> {
     match what {
-        "get" | "none" | "length" => get_line(fixed, space, what, line),
+        "get" | "none" | "length" => get_line(alloc, fixed, space, what, line),
         "put" | "out" | "no_out" | "clear" | "settle" => change_line(fixed, space, what, line),
         "ids" => ids_line(alloc, fixed, space, line),
         _ => look(alloc, fixed, space.bytes(), what, line),

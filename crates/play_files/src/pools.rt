@@ -75,13 +75,13 @@ pub fn are_blocks(alloc: Global, line: &mut Line<'_>) -> Result<(), Failure> {
     Ok(line.is_text(text)?)
 }
 
-// A block of a size, where the sum still fits.
-fn take(pool: &mut Pool, space: &mut OneFile, size: u64) -> Result<u64, RecErr> {
+// A block of a size that begins below a place, or one at the end, where the sum still fits.
+fn take(pool: &mut Pool, space: &mut OneFile, size: u64, most: u64) -> Result<u64, RecErr> {
     usable(space)?;
     if size == 0 || size % pool.unit() != 0 || pool.size() > u64::MAX - size {
         return Err(RecErr::Full);
     }
-    pool.take(space, 0, size)
+    pool.take(space, 0, size, most)
 }
 
 // A block given back, where it meets no free one.
@@ -107,19 +107,20 @@ fn take_line(
     alloc: Global,
     pool: &mut Pool,
     space: &mut OneFile,
+    most: u64,
     line: &mut Line<'_>,
 ) -> Result<(), Failure> {
     let size = line.number()?;
     let wanted = line.number()?;
     line.compares();
-    let place = take(pool, space, size)?;
+    let place = take(pool, space, size, most)?;
     if place != wanted {
         return Err(Failure::Line(Wrong::Differs(format!(in alloc; "{place}")?)));
     }
     write(space, place, line.bytes()?.as_slice())
 }
 
-// A line that changes the pool: `take SIZE PLACE RECORD`, `give PLACE SIZE`, `trim`; or `written`, that the file has its section.
+// A line that changes the pool: `take SIZE PLACE RECORD`, `below PLACE SIZE PLACE RECORD`, `give PLACE SIZE`, `trim`; or `written`, that the file has its section.
 fn change(
     alloc: Global,
     pool: &mut Pool,
@@ -128,7 +129,11 @@ fn change(
     line: &mut Line<'_>,
 ) -> Result<(), Failure> {
     match what {
-        "take" => take_line(alloc, pool, space, line),
+        "take" => take_line(alloc, pool, space, u64::MAX, line),
+        "below" => {
+            let most = line.number()?;
+            take_line(alloc, pool, space, most, line)
+        }
         "give" => {
             let at = line.number()?;
             Ok(give(pool, space, at, line.number()?)?)
