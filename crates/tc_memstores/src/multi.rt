@@ -133,6 +133,8 @@ impl<S: Space, O: Order> Multi for MemMulti<S, O> {
 
     ghost lacks_large = { λ r old new. ⊥ };
 
+    ghost lacks_bare = { λ r old new. ⊥ };
+
     ghost tight = { λ r form. Unit {0} };
 
     ghost packed = { λ form bytes. Unit {0} };

@@ -92,6 +92,10 @@ pub record FullPut {S V : Type 0} (s : Ghosts S) (Means : V → S → Map → Ty
 abbrev pub FullPack : {S V : Type 0} → Ghosts S → (V → S → S → Type 0) → Form → V → S → S → Type 0
 FullPack s lacks_large form v old new = s.tells → s.log_full new ⊎ ((form ≡ forms.Large) × lacks_large v old new)
 
+-- an emptying had no room: the undo log is full, or what stands in an empty file had none
+abbrev pub FullClear : {S V : Type 0} → Ghosts S → (V → S → S → Type 0) → V → S → S → Type 0
+FullClear s lacks_bare v old new = s.tells → s.log_full new ⊎ lacks_bare v old new
+
 -- what was packed in a form is so still
 abbrev pub KeepsTight : {V : Type 0} → (V → Form → Type 0) → V → V → Type 0
 KeepsTight tight old new = (form : Form) → tight old form → tight new form
@@ -128,6 +132,10 @@ module _ {S V M : Type 0} (s : Ghosts S) (file : V → ℕ) (holds : V → List 
 
   abbrev pub TakesIn : {E : Type 0} → Result Bool E → (M → Bool) → (M → M) → V → V → S → S → Type 0
   TakesIn result has f v v' old new = IfOk result (λ taken. TakesOut s (Only (file v)) (In s file holds) has f taken v v' old new)
+
+  -- the bytes that its file has then are this of whatever was held
+  abbrev pub BringsIn : (List ℕ → M → Type 0) → V → S → S → Type 0
+  BringsIn is v old new = (m : M) → In s file holds v old m → is (s.now new (file v)) m
 
   abbrev pub FullIn : (V → S → M → M → Type 0) → (M → M) → V → S → S → Type 0
   FullIn fills f v old new = FullBy (In s file holds) fills f v old new

@@ -7,7 +7,7 @@ ghost use Rattle.tc_space.specs.Changes.{all_out, first_in, first_out, has_pair,
 ghost use Rattle.tc_space.specs.Frames.{In, Keeps};
 ghost use Rattle.tc_space.specs.Lists.{FullFrom, FullPutFrom, Made, PacksList, StaysList, StaysPacked};
 ghost use Rattle.tc_space.specs.Refusals.{Blamed, Blames, OnFault, OnlyLogIsFull};
-ghost use Rattle.tc_space.specs.Stores.{AnswersIn, ExistsIn, FullPack, PutsIn, ReadsIn, ReadyIn, RefusesIn, TakesIn, Ticks, WritesIn};
+ghost use Rattle.tc_space.specs.Stores.{AnswersIn, BringsIn, ExistsIn, FullClear, FullPack, PutsIn, ReadsIn, ReadyIn, RefusesIn, TakesIn, Ticks, WritesIn};
 
 use crate::errors::{PutErr, RecErr};
 use crate::space::Space;
@@ -39,6 +39,9 @@ pub trait Multi {
 
     /// So it is of a file that was to be written anew in the large form, with the records that it has: its sections or one of these had no room.
     ghost lacks_large: { Self → Self.S → Self.S → Type 0 };
+
+    /// So it is of what its file has with no pairs: nothing but that stood in the file, and a record of that had no room.
+    ghost lacks_bare: { Self → Self.S → Self.S → Type 0 };
 
     /// It was packed in this form, and nothing was put or taken out since.
     ghost tight: { Self → Form → Type 0 };
@@ -149,7 +152,7 @@ pub trait Multi {
     fn settle(&mut self, space: &mut Self::S) -> Result<(), RecErr>
         requires { ReadyIn Self.S.Space file_of holds self.old space.old }
         ensures settled { OnOk result (WritesIn Self.S.Space file_of holds same self.old self.new space.old space.new) }
-        ensures stands { OnOk result ((ps : List Pair) → In Self.S.Space file_of holds self.old space.old ps → stands (made self.old) (Self.S.now space.new (file_of self.old)) ps) }
+        ensures stands { OnOk result (BringsIn Self.S.Space file_of holds (stands (made self.old)) self.old space.old space.new) }
         ensures packs { OnOk result ((form : Form) (ps : List Pair) → tight self.old form → In Self.S.Space file_of holds self.old space.old ps → packed form (Self.S.now space.new (file_of self.old))) }
         ensures refused { RefusesIn Self.S.Space file_of holds result self.old self.new space.old space.new }
         ensures full { OnlyLogIsFull Self.S.Space result space.new }
@@ -157,12 +160,12 @@ pub trait Multi {
         ensures stays { StaysPacked file_of made tight self.old self.new }
         ensures cause { OnFault Self.S.Space result space.old space.new };
 
-    /// Takes all pairs out. What the list was made with stays.
+    /// Takes all pairs out. What the list was made with stays. It is full only where the undo log is, or where the little that an empty list has in its file had no room.
     fn clear(&mut self, space: &mut Self::S) -> Result<(), RecErr>
         requires { ReadyIn Self.S.Space file_of holds self.old space.old }
         ensures cleared { OnOk result (WritesIn Self.S.Space file_of holds (λ ps. []) self.old self.new space.old space.new) }
         ensures refused { RefusesIn Self.S.Space file_of holds result self.old self.new space.old space.new }
-        ensures full { IsErrOf result RecErr.Full → FullFrom (In Self.S.Space file_of holds) fills (λ ps. []) self.old space.old space.new }
+        ensures full { IsErrOf result RecErr.Full → FullClear Self.S.Space lacks_bare self.old space.old space.new }
         ensures keeps { Keeps Self.S.Space space.old space.new }
         ensures stays { StaysList file_of made self.old self.new }
         ensures cause { OnFault Self.S.Space result space.old space.new };

@@ -6,7 +6,7 @@ ghost use Rattle.tc_base.specs.declared.kind.Form.{Form};
 ghost use Rattle.tc_space.specs.Changes.{is_in, out_of, put_in, same, value_in};
 ghost use Rattle.tc_space.specs.Frames.{GivenUp, In, Keeps};
 ghost use Rattle.tc_space.specs.Refusals.{Blamed, Blames, OnFault, OnlyLogIsFull};
-ghost use Rattle.tc_space.specs.Stores.{AnswersIn, CountsGet, ExistsIn, FullPack, FullPutIn, KeepsTight, PacksMap, PutsIn, ReadsIn, ReadyIn, RefusesIn, SetsRegion, StaysMap, TakesIn, WritesIn};
+ghost use Rattle.tc_space.specs.Stores.{AnswersIn, BringsIn, CountsGet, ExistsIn, FullPack, FullPutIn, KeepsTight, PacksMap, PutsIn, ReadsIn, ReadyIn, RefusesIn, SetsRegion, StaysMap, TakesIn, WritesIn};
 
 use crate::errors::{PutErr, RecErr};
 use crate::space::Space;
@@ -136,7 +136,7 @@ pub trait Records {
     fn settle(&mut self, space: &mut Self::S) -> Result<(), RecErr>
         requires { ReadyIn Self.S.Space file_of holds self.old space.old }
         ensures settled { OnOk result (WritesIn Self.S.Space file_of holds same self.old self.new space.old space.new) }
-        ensures stands { OnOk result ((m : Map) → In Self.S.Space file_of holds self.old space.old m → stands (sort self.old) (numbers self.old) (Self.S.now space.new (file_of self.old)) m (region self.old)) }
+        ensures stands { OnOk result (BringsIn Self.S.Space file_of holds (λ bytes m. stands (sort self.old) (numbers self.old) bytes m (region self.old)) self.old space.old space.new) }
         ensures packs { OnOk result ((form : Form) (m : Map) → tight self.old form → In Self.S.Space file_of holds self.old space.old m → packed form (Self.S.now space.new (file_of self.old))) }
         ensures tight { KeepsTight tight self.old self.new }
         ensures refused { RefusesIn Self.S.Space file_of holds result self.old self.new space.old space.new }

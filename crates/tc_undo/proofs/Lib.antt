@@ -5,5 +5,8 @@ pub mod Steadiness
 pub mod Marked
 pub mod Settling
 pub mod Changing
+pub mod Guarding
+pub mod Putting
+pub mod Batching
 pub mod Volumes
 pub mod LettingGo

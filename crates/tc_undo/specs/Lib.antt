@@ -1,7 +1,9 @@
 pub mod Changes
 pub mod Errors
 pub mod Found
+pub mod Guards
 pub mod Opening
+pub mod Pieces
 pub mod Room
 pub mod Usable
 pub mod Volumes

@@ -1,10 +1,12 @@
 //! A write or a cut in a transaction: the old bytes go behind the log and to the disk, then the file changes.
-ghost use Rattle.std.specs.Prelude.{◌≡◌, ◌+◌, ◌^◌, ◌≤◌, ℕ, true, length, OnOk, IfOk};
+ghost use Rattle.std.specs.Prelude.{◌≡◌, ◌+◌, ◌-◌, ◌^◌, ◌≤◌, ℕ, true, length, OnOk, IfOk};
 ghost use Rattle.tc_io.specs.Causes.{HasCause};
 ghost use Rattle.tc_io.specs.Images.{now};
 ghost use Rattle.ud_log.specs.Undo.{data_of};
 ghost use Rattle.ud_state.specs.State.{AreLens, Idle, Logging};
 ghost use Rattle.tc_undo.specs.Changes.{Logs, MakesEntry, MayLog};
+ghost use Rattle.tc_undo.specs.Guards.{Grows};
+ghost use Rattle.tc_undo.specs.Room.{needs};
 ghost use Rattle.tc_undo.specs.Volumes.{StaysQuiet};
 
 use tc_base::Fault;
@@ -41,6 +43,7 @@ fn log_old<V: Volume>(
     requires entry { MakesEntry V.tells (V.calls vol.old) recorded.now file at n }
     ensures quiet { StaysQuiet V.Volume vol.old vol.new }
     ensures logs { OnOk result (V.tells → Logs (V.calls vol.old) (V.calls vol.new) recorded.now file from (at + n) (end + 20 + n)) }
+    ensures grows { OnOk result (V.tells → Grows (V.calls vol.old) (V.calls vol.new) recorded.now file at (at + n)) }
     ensures cause { HasCause (V.faults vol.old) (V.faults vol.new) result }
 {
     let mut entry = [0u8; 4116];
@@ -66,7 +69,9 @@ pub fn log_range<V: Volume>(
     requires may { MayLog V.tells (V.calls vol.old) recorded.now end file at stop }
     ensures quiet { StaysQuiet V.Volume vol.old vol.new }
     ensures logs { IfOk result (λ size. V.tells → Logs (V.calls vol.old) (V.calls vol.new) recorded.now file at stop size) }
+    ensures grows { IfOk result (λ size. V.tells → Grows (V.calls vol.old) (V.calls vol.new) recorded.now file at stop) }
     ensures low { IfOk result (λ size. size ≤ 2 ^ 62) }
+    ensures spent { IfOk result (λ size. size ≤ end + needs (stop - at)) }
     ensures cause { HasCause (V.faults vol.old) (V.faults vol.new) result }
 {
     let mut place = at;

@@ -6,10 +6,13 @@
 //! unfinished transaction did.
 #![tactic(auto, using(crate::proofs::Volumes::stays_then, crate::proofs::Volumes::reads_then, crate::proofs::Volumes::stays_quiet_then))]
 
+mod batched;
 mod changes;
 mod copying;
 mod errors;
 mod finish;
+mod piece;
+mod pieces;
 mod put_back;
 mod recovery;
 mod refill;
@@ -20,6 +23,8 @@ mod syncs;
 mod through;
 mod undo;
 
+pub use batched::Batched;
 pub use errors::{RecoverErr, UndoErr, Unopened};
+pub use piece::Piece;
 pub use recovery::recover;
 pub use undo::Undo;

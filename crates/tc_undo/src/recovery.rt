@@ -12,6 +12,7 @@ ghost use Rattle.tc_undo.specs.Changes.{KnowsLens};
 ghost use Rattle.tc_undo.specs.Errors.{NotBroken};
 ghost use Rattle.tc_undo.specs.Found.{FindsUndo, IsFound, OnDisk, RefusesAs, undone};
 ghost use Rattle.tc_undo.specs.Volumes.{StaysBound, StaysQuiet, Blames, StaysCalm};
+ghost use Rattle.tc_undo.specs.Opening.{SparesBroken};
 
 use crate::errors::RecoverErr;
 use crate::put_back::put_back_all;
@@ -63,6 +64,7 @@ fn settle<V: Volume>(vol: &mut V, found: &Found) -> Result<(), RecoverErr>
     requires log { V.tells → Durable (V.calls vol.old) 1 }
     ensures quiet { StaysCalm V.Volume vol.old vol.new }
     ensures ready { OnOk result (V.tells → (files : Files) → undone (V.calls vol.old) ≡ Ok files → Ready (V.calls vol.new) files) }
+    ensures grows { OnOk result (V.tells → length (V.calls vol.old) ≤ length (V.calls vol.new)) }
     ensures same { OnOk result (V.tells → of 1 (V.calls vol.new) ≡ of 1 (V.calls vol.old)) }
     ensures whole { IfErr result (NotBroken V.tells) }
     ensures stays { StaysBound V.Volume vol.old vol.new }
@@ -81,8 +83,10 @@ pub fn restore<V: Volume>(vol: &mut V) -> Result<[u64; 18], RecoverErr>
     ensures recovers { V.tells → IsSettled (V.calls vol.old) → Recovers (V.calls vol.old) (V.calls vol.new) }
     ensures idle { OnOk result (V.tells → Idle (V.calls vol.new) (data_of (now (V.calls vol.new)))) }
     ensures undone { OnOk result (V.tells → undone (V.calls vol.old) ≡ Ok (data_of (now (V.calls vol.new)))) }
+    ensures grows { OnOk result (V.tells → length (V.calls vol.old) ≤ length (V.calls vol.new)) }
     ensures lens { IfOk result (λ lens. KnowsLens V.tells (now (V.calls vol.new)) lens) }
     ensures broken { IfErr result (RefusesAs V.tells (V.calls vol.old) (V.calls vol.new)) }
+    ensures spares { V.tells → SparesBroken (V.calls vol.old) (V.calls vol.new) }
     ensures stays { StaysBound V.Volume vol.old vol.new }
     ensures cause { Blames V.Volume result vol.old vol.new }
 {
@@ -106,6 +110,7 @@ pub fn recover<V: Volume>(vol: &mut V) -> Result<(), RecoverErr>
     ensures idle { OnOk result (V.tells → Idle (V.calls vol.new) (data_of (now (V.calls vol.new)))) }
     ensures undone { OnOk result (V.tells → undone (V.calls vol.old) ≡ Ok (data_of (now (V.calls vol.new)))) }
     ensures broken { IfErr result (RefusesAs V.tells (V.calls vol.old) (V.calls vol.new)) }
+    ensures spares { V.tells → SparesBroken (V.calls vol.old) (V.calls vol.new) }
     ensures bound { V.bound vol.new ≡ true }
     ensures names { V.names vol.new ≡ V.names vol.old }
     ensures later { V.faults vol.old ≤ V.faults vol.new }

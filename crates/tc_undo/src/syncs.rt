@@ -1,5 +1,5 @@
 //! Data files are brought to the disk.
-ghost use Rattle.std.specs.Prelude.{◌≡◌, true, false, OnOk};
+ghost use Rattle.std.specs.Prelude.{◌≡◌, ◌≤◌, true, false, length, OnOk};
 ghost use Rattle.tc_io.specs.Causes.{HasCause};
 ghost use Rattle.ud_log.specs.Undo.{is_data};
 ghost use Rattle.ud_state.specs.State.{Durable, SyncOnly};
@@ -16,6 +16,7 @@ fn sync_if<V: Volume>(vol: &mut V, file: u32, marked: bool) -> Result<(), Fault>
     requires is_data { is_data file ≡ true }
     ensures quiet { StaysCalm V.Volume vol.old vol.new }
     ensures synced { OnOk result (V.tells → SyncOnly (V.calls vol.old) (V.calls vol.new)) }
+    ensures grows { OnOk result (V.tells → length (V.calls vol.old) ≤ length (V.calls vol.new)) }
     ensures there { OnOk result (V.tells → (marked ≡ false → Durable (V.calls vol.old) file) → Durable (V.calls vol.new) file) }
     ensures stays { StaysBound V.Volume vol.old vol.new }
     ensures cause { HasCause (V.faults vol.old) (V.faults vol.new) result }
@@ -32,6 +33,7 @@ pub fn sync_marked<V: Volume>(vol: &mut V, marked: &[bool; 18]) -> Result<(), Fa
     requires { V.bound vol.old ≡ true }
     ensures quiet { StaysCalm V.Volume vol.old vol.new }
     ensures synced { OnOk result (V.tells → SyncOnly (V.calls vol.old) (V.calls vol.new)) }
+    ensures grows { OnOk result (V.tells → length (V.calls vol.old) ≤ length (V.calls vol.new)) }
     ensures there { OnOk result (V.tells → DurableThen marked.now (V.calls vol.old) (V.calls vol.new)) }
     ensures stays { StaysBound V.Volume vol.old vol.new }
     ensures cause { HasCause (V.faults vol.old) (V.faults vol.new) result }

@@ -8,9 +8,12 @@ ghost use Rattle.tc_undo.specs.Opening.{HandsBack, IsRefused, OpensKept};
 ghost use Rattle.tc_undo.specs.Room.{needs, log_end, stop_of};
 ghost use Rattle.tc_undo.specs.Usable.{IsUsable, usable_clean, usable_kept, usable_within};
 
+use crate::batched::Batched;
 use crate::copying::make_copy;
 use crate::errors::{RecoverErr, UndoErr, Unopened};
 use crate::finish::finish;
+use crate::piece::Piece;
+use crate::pieces::write_pieces;
 use crate::recovery::restore;
 use crate::room::{Log, limits_of, stop_at};
 use crate::through::{cut_through, write_through};
@@ -222,5 +225,49 @@ impl<V: Volume> Space for Undo<V> {
     /// It calls nothing of the volume.
     fn spoil(&mut self) {
         self.sound = false;
+    }
+}
+
+impl<V: Volume> Batched for Undo<V> {
+    ghost use Rattle.std.specs.Prelude.{◌≤◌, ◌^◌, ℕ};
+    ghost use Rattle.tc_undo.specs.Room.{log_end};
+    ghost use Rattle.tc_undo.specs.Usable.{usable_half, usable_low, usable_small, overfills_needs};
+
+    ghost logged = { λ s. log_end s.log.active s.log.end };
+
+    ghost low = { λ s sound. usable_low V.tells (V.calls s.vol) s.touched s.log s.lens s.limits sound.1 };
+
+    ghost small = { λ s file sound is. usable_small V.tells (V.calls s.vol) s.touched s.log s.lens s.limits sound.1 file };
+
+    ghost half = { λ s sound is t. usable_half V.tells (V.calls s.vol) s.touched s.log s.lens s.limits t sound.1 is };
+
+    ghost no_room = { λ s f at size is. overfills_needs s.log.active s.log.end s.log.recorded s.lens f at size is };
+
+    /// It calls nothing of the volume.
+    fn log_len(&self) -> u64 {
+        if self.log.active { self.log.end } else { 152 }
+    }
+
+    /// It calls nothing of the volume.
+    fn limit_of(&self, file: u32) -> u64 {
+        self.limits[place(file)]
+    }
+
+    /// One read of the volume.
+    fn look(&mut self, file: u32, at: u64, into: &mut [u8]) -> Result<(), Fault> {
+        self.read = self.read.saturating_add(into.len() as u64);
+        self.vol.read(file, at, into)
+    }
+
+    /// One sync.
+    fn write_all(&mut self, pieces: &[Piece], bytes: &[u8]) -> Result<(), Fault> {
+        self.touched = true;
+        match write_pieces(&mut self.vol, &mut self.log, &mut self.lens, pieces, bytes) {
+            Ok(()) => Ok(()),
+            Err(e) => {
+                self.sound = false;
+                Err(e)
+            }
+        }
     }
 }

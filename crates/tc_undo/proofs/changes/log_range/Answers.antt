@@ -1,6 +1,7 @@
 use Rattle.std.proofs.Common.{◌≡◌, ◌+◌, ◌-◌, ◌≤◌, arith, ap}
 use Rattle.ud_state.proofs.Runs.{log_only_refl, log_only_then}
 use Rattle.tc_undo.specs.Room.{needs}
+use Rattle.tc_undo.proofs.Guarding.{grows_less, grows_none, grows_then}
 use Rattle.tc_undo.proofs.Needs.{needs_step}
 use Rattle.tc_undo.proofs.Volumes.{stays_quiet_refl, stays_quiet_then}
 use Rattle.tc_undo.proofs.changes.log_range.Goals as goal
@@ -11,7 +12,9 @@ loop-place-init g c = record {
   high = omega arith;
   quiet = stays_quiet_refl g.V.Volume c.args.vol.now c.requires.bound;
   logs = λ t. record { logging = c.requires.logging t; end_is = c.requires.end t; only = log_only_refl _ };
+  grows = λ t. grows_none _ _ _ _ _ (omega arith);
   room = c.requires.may.room;
+  spent = omega arith;
 }
 
 pub loop-place-preserved : goal.loop-place-preserved
@@ -30,4 +33,12 @@ loop-place-preserved g c = record {
       let left : c.args.stop - (c.loop-place.place + c.min-n.result) ≡ c.args.stop - c.loop-place.place - c.min-n.result = omega arith in
       let step : 20 + c.min-n.result + needs (c.args.stop - c.loop-place.place - c.min-n.result) ≤ needs (c.args.stop - c.loop-place.place) = needs_step (c.args.stop - c.loop-place.place) c.min-n.result c.min-n.ensures (omega (arith, c.loop-place-test.true)) in
       omega (arith, c.loop-place.invariant.room, step, ap needs left);
+  grows = λ t. grows_then (g.V.Volume.calls c.args.vol.now) (g.V.Volume.calls c.loop-place.vol) (g.V.Volume.calls c.log_old.new.vol) _ _ c.args.at c.loop-place.place (c.loop-place.place + c.min-n.result) (c.loop-place.invariant.grows t) (c.in_ok-log_old.ensures.grows t);
+  spent =
+      let left : c.args.stop - (c.loop-place.place + c.min-n.result) ≡ c.args.stop - c.loop-place.place - c.min-n.result = omega arith in
+      let step : 20 + c.min-n.result + needs (c.args.stop - c.loop-place.place - c.min-n.result) ≤ needs (c.args.stop - c.loop-place.place) = needs_step (c.args.stop - c.loop-place.place) c.min-n.result c.min-n.ensures (omega (arith, c.loop-place-test.true)) in
+      omega (arith, c.loop-place.invariant.spent, step, ap needs left);
 }
+
+pub returns-clause-grows : goal.returns-clause-grows
+returns-clause-grows g c = λ t. grows_less _ (g.V.Volume.calls c.loop-place.vol) _ _ _ c.loop-place.place c.args.stop c.loop-place-test.false (c.loop-place.invariant.grows t)

@@ -1,5 +1,6 @@
 use Rattle.std.proofs.Common.{◌≤◌, ◌+◌, ◌-◌, ◌^◌, max}
 use Rattle.tc_undo.specs.Changes.{Logs}
+use Rattle.tc_undo.specs.Guards.{Grows}
 use Rattle.tc_undo.specs.Room.{needs}
 use Rattle.tc_undo.specs.Volumes.{StaysQuiet}
 use Rattle.tc_undo.proofs.changes.log_range.Given as goal
@@ -10,7 +11,9 @@ invariant-loop-place g l = record {
   high : l.place ≤ max l.at l.stop;
   quiet : StaysQuiet g.V.Volume l.initial.vol l.vol;
   logs : g.V.Volume.tells → Logs (g.V.Volume.calls l.initial.vol) (g.V.Volume.calls l.vol) l.recorded l.file l.at l.place l.size;
+  grows : g.V.Volume.tells → Grows (g.V.Volume.calls l.initial.vol) (g.V.Volume.calls l.vol) l.recorded l.file l.at l.place;
   room : l.size + needs (l.stop - l.place) ≤ 2 ^ 62;
+  spent : l.size + needs (l.stop - l.place) ≤ l.end + needs (l.stop - l.at);
 }
 
 abbrev pub decreases-loop-place : goal.decreases-loop-place

@@ -1,11 +1,11 @@
-use Rattle.std.proofs.Common.{◌≡◌, ◌∙◌, subst}
+use Rattle.std.proofs.Common.{◌≡◌, ◌∙◌, arith, subst}
 use Rattle.std.proofs.lemmas.Result.{on_ok_weaker}
 use Rattle.ud_state.specs.Recovery.{Ready}
 use Rattle.tc_base.specs.Files.{Files}
 use Rattle.tc_io.specs.Images.{now}
 use Rattle.ud_log.specs.Log.{entries}
 use Rattle.ud_log.specs.Undo.{undone_all}
-use Rattle.ud_state.specs.Since.{quiet_then}
+use Rattle.ud_state.specs.Since.{quiet_then, since_later}
 use Rattle.ud_state.proofs.Runs.{durable_of}
 use Rattle.tc_undo.proofs.Marked.{all_marked}
 use Rattle.tc_undo.proofs.Settling.{finds_as, undo_of, nothing_of, ready_undo, ready_none}
@@ -46,3 +46,9 @@ returns-clause-ready g c = on_ok_weaker c.redo.result (λ done t.
 
 pub returns-clause-same : goal.returns-clause-same
 returns-clause-same g c = on_ok_weaker c.redo.result (λ done t. done t ∙ (c.in_ok-sync_marked.ensures.synced t).log) c.redo.ensures.same
+
+pub returns-then-not-found-clause-grows : goal.returns-then-not-found-clause-grows
+returns-then-not-found-clause-grows g c = λ t. c.in_ok-sync_marked.ensures.grows t
+
+pub returns-clause-grows : goal.returns-clause-grows
+returns-clause-grows g c = on_ok_weaker c.redo.result (λ done t. let longer = since_later _ (g.V.Volume.calls c.sync_marked.new.vol) (g.V.Volume.calls c.redo.new.vol) (c.redo.ensures.quiet.quiet t).moments in omega (arith, longer, c.in_ok-sync_marked.ensures.grows t)) c.redo.ensures.ready

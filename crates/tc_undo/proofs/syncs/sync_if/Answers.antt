@@ -1,4 +1,4 @@
-use Rattle.std.proofs.Common.{sym, subst}
+use Rattle.std.proofs.Common.{ap, arith, length, sym, subst}
 use Rattle.tc_io.specs.Images.{Calls}
 use Rattle.ud_state.specs.State.{Durable}
 use Rattle.ud_state.specs.Since.{quiet_refl}
@@ -23,3 +23,9 @@ returns-clause-synced g c = λ t. sync_only_made (g.V.Volume.calls c.args.vol.no
 
 pub returns-clause-there : goal.returns-clause-there
 returns-clause-there g c = λ t old. subst (λ (d : Calls). Durable d c.args.file) (sym (c.in_ok-sync.ensures.made t)) (sync_durable (g.V.Volume.calls c.args.vol.now) c.args.file)
+
+pub returns-then-not-marked-clause-grows : goal.returns-then-not-marked-clause-grows
+returns-then-not-marked-clause-grows g c = λ t. omega arith
+
+pub returns-clause-grows : goal.returns-clause-grows
+returns-clause-grows g c = λ t. omega (arith, ap length (c.in_ok-sync.ensures.made t))

@@ -9,7 +9,7 @@ use Rattle.tc_undo.proofs.Volumes.{stays_refl, stays_then}
 use Rattle.tc_undo.proofs.syncs.sync_marked.Goals as goal
 
 pub loop-i-init : goal.loop-i-init
-loop-i-init g c = record { quiet = λ t calm. quiet_refl _; synced = λ t. sync_only_refl _; there = λ t f isd low. absurd (omega (arith, low)); stays = stays_refl g.V.Volume c.args.vol.now c.requires }
+loop-i-init g c = record { quiet = λ t calm. quiet_refl _; synced = λ t. sync_only_refl _; grows = λ t. omega arith; there = λ t f isd low. absurd (omega (arith, low)); stays = stays_refl g.V.Volume c.args.vol.now c.requires }
 
 pub returns-in_err-sync_if-clause-quiet : goal.returns-in_err-sync_if-clause-quiet
 returns-in_err-sync_if-clause-quiet g c = λ t calm.
@@ -24,6 +24,7 @@ loop-i-preserved g c =
           let so_far = c.loop-i.invariant.quiet t calm in
           quiet_then _ (g.V.Volume.calls c.loop-i.vol) (g.V.Volume.calls c.sync_if.new.vol) so_far (c.sync_if.ensures.quiet t (quiet_calm _ _ calm so_far));
       synced = λ t. sync_only_then _ (g.V.Volume.calls c.loop-i.vol) (g.V.Volume.calls c.sync_if.new.vol) (c.loop-i.invariant.synced t) (c.in_ok-sync_if.ensures.synced t);
+      grows = λ t. omega (arith, c.loop-i.invariant.grows t, c.in_ok-sync_if.ensures.grows t);
       there = λ t f isd low unmarked. ⊎_elim
           (λ before. (c.in_ok-sync_if.ensures.synced t).durable f isd (c.loop-i.invariant.there t f isd before unmarked))
           (λ here.
@@ -37,3 +38,6 @@ loop-i-preserved g c =
 
 pub returns-clause-there : goal.returns-clause-there
 returns-clause-there g c = λ t f isd unmarked. c.loop-i.invariant.there t f isd (omega (arith, place_low f isd)) unmarked
+
+pub returns-clause-grows : goal.returns-clause-grows
+returns-clause-grows g c = λ t. c.loop-i.invariant.grows t

@@ -1,0 +1,85 @@
+//! Commits writes to a file of a folder, each made at once or held until the commit: what `bench/waits` times.
+//! Its words are the database's name, `through` or `held`, how many commits, and how many writes of 64 bytes in each.
+#![tactic(auto)]
+
+ghost use Rattle.std.specs.Prelude.{◌<◌, OnOk};
+
+use anyhow::{Error, anyhow};
+use std::env;
+use tc_held::{Held, HeldSpace};
+use tc_io::Volume;
+use tc_realfs::FolderVolume;
+use tc_space::Space;
+use tc_undo::Undo;
+
+// How many places the file has. It is prime to what is added to one of them, so all come in turn.
+const PLACES: u64 = 16_384;
+
+// Writes at a place, in the file or at its end.
+fn put<S: Space>(space: &mut S, place: u64) -> Result<(), Error>
+    requires sound { S.sound space.old }
+    requires place { place < 16384 }
+    ensures { OnOk result (S.sound space.new) }
+{
+    let at = place * 64;
+    if at > space.len(0) {
+        return Err(anyhow!("the file is shorter"));
+    }
+    match space.write(0, at, &[7; 64]) {
+        Ok(()) => Ok(()),
+        Err(_) => Err(anyhow!("a write failed")),
+    }
+}
+
+// Makes so many writes, at places that lie apart, and commits them. Answers the place of the last.
+fn commit_one<S: Space>(space: &mut S, from: u64, step: u64, writes: u64) -> Result<u64, Error>
+    requires { S.sound space.old }
+    ensures { OnOk result (S.sound space.new) }
+{
+    let mut place = from;
+    for _ in 0..writes {
+        place = place.wrapping_add(step) % PLACES;
+        put(space, place)?;
+    }
+    match space.commit() {
+        Ok(()) => Ok(place),
+        Err(_) => Err(anyhow!("a commit failed")),
+    }
+}
+
+// Makes the file, and so many commits.
+fn commit_all<S: Space>(space: &mut S, commits: u64, writes: u64) -> Result<(), Error>
+    requires { S.sound space.old }
+{
+    let last = PLACES - 1;
+    let mut place = commit_one(space, last, 1, PLACES)?;
+    for _ in 0..commits {
+        place = commit_one(space, place, 5_001, writes)?;
+    }
+    Ok(())
+}
+
+fn main(rt: HostRuntime) -> Result<(), Error> {
+    let alloc = rt.alloc();
+    let words: Vec<String> = env::args(&rt)?.skip(1).collect(alloc)?;
+    let [name, how, commits, writes] = words.as_slice() else {
+        return Err(anyhow!("NAME through|held COMMITS WRITES"));
+    };
+    let (commits, writes) = (commits.parse()?, writes.parse()?);
+    let mut vol = FolderVolume::new(&rt, alloc);
+    let Ok(()) = vol.bind(name) else {
+        return Err(anyhow!("no file of this name"));
+    };
+    let Ok(space) = Undo::open(vol, 1 << 20) else {
+        return Err(anyhow!("the file can't be opened"));
+    };
+    let mut space = space;
+    if how.as_str() == "held" {
+        let mut held = HeldSpace::new(space, Held::new(alloc)?);
+        commit_all(&mut held, commits, writes)?;
+    } else {
+        commit_all(&mut space, commits, writes)?;
+    }
+    println!(rt; "kept")?;
+    Ok(())
+}

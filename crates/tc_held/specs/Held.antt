@@ -1,0 +1,70 @@
+-- What is held over a space, and when it may be brought there.
+use Rattle.std.specs.Prelude.{◌≡◌, ◌≢◌, ℕ, ◌+◌, ◌*◌, ◌^◌, ◌<◌, ◌≤◌, List, [], length, false, All}
+use Rattle.tc_base.specs.Files.{Files, wrote}
+use Rattle.tc_space.specs.declared.space.Space.{Ghosts}
+use Rattle.tc_undo.specs.Guards.{IsSmall}
+use Rattle.tc_undo.specs.Pieces.{LiesIn, laid, needs_all}
+use Rattle.tc_undo.specs.Room.{needs}
+use Rattle.tc_held.specs.Pieces.{Ascend, EndsBelow}
+use Rattle.tc_held.specs.Shown.{LaysAll}
+use Rattle.tc_undo.specs.declared.piece.Piece.{Piece}
+use Rattle.tc_held.specs.declared.held.Held.{Held}
+
+-- the files with pieces laid over them
+abbrev pub over_all : List ℕ → List Piece → Files → Files
+over_all bytes ps under = λ f. laid bytes ps f (under f)
+
+-- the files with what is held over them
+abbrev pub over : Held → Files → Files
+over held under = over_all held.bytes.items held.pieces.items under
+
+-- a piece lies inside its file
+abbrev pub EndsIn : Files → Piece → Type 0
+EndsIn under p = EndsBelow (λ f. length (under f)) p
+
+-- pieces of data files in order, apart, each with bytes of its own, for which the log never needs more than it keeps free
+pub record AreTidy (bytes : List ℕ) (ps : List Piece) : Type 0 where
+  pub small : All IsSmall ps
+  pub lie : All (LiesIn bytes) ps
+  pub ascend : Ascend ps
+  pub few : length bytes ≤ 2 ^ 23
+  pub spent : needs_all ps ≤ 21 * length bytes
+
+abbrev pub IsTidy : Held → Type 0
+IsTidy held = AreTidy held.bytes.items held.pieces.items
+
+-- one file has bytes at a place, and the others stay
+pub record Written (file at : ℕ) (bytes : List ℕ) (old new : Files) : Type 0 where
+  pub here : new file ≡ wrote at bytes (old file)
+  pub others : (g : ℕ) → g ≢ file → new g ≡ old g
+
+-- what was held has bytes at a place of a file written over it, inside the file below
+pub record TakesAll (file at : ℕ) (put bytes : List ℕ) (ps : List Piece) (bytes' : List ℕ) (ps' : List Piece) : Type 0 where
+  pub tidy : AreTidy bytes' ps'
+  pub below : (bound : ℕ → ℕ) → All (EndsBelow bound) ps → at + length put ≤ bound file → All (EndsBelow bound) ps'
+  pub written : (under : Files) → All (EndsIn under) ps → at + length put ≤ length (under file) → Written file at put (over_all bytes ps under) (over_all bytes' ps' under)
+
+abbrev pub Takes : ℕ → ℕ → List ℕ → Held → Held → Type 0
+Takes file at put old new = TakesAll file at put old.bytes.items old.pieces.items new.bytes.items new.pieces.items
+
+-- bytes that showed a file from a place on show it with what is held
+abbrev pub Lays : Held → ℕ → ℕ → List ℕ → List ℕ → Type 0
+Lays held f at into into' = LaysAll held.bytes.items held.pieces.items f at into into'
+
+-- what is held over a space may be brought there: it is within the limits and inside the files, and the log has room
+pub record IsHeld {S : Type 0} (s : Ghosts S) (logged : S → ℕ) (below : S) (held : Held) : Type 0 where
+  pub tidy : IsTidy held
+  pub limits : All (EndsBelow (s.limit below)) held.pieces.items
+  pub ends : s.tells → All (EndsIn (s.now below)) held.pieces.items
+  pub room : logged below + needs_all held.pieces.items ≤ 2 ^ 62
+
+-- nothing is held over a space in which nothing was written
+pub record IsBare {S : Type 0} (s : Ghosts S) (below : S) (held : Held) : Type 0 where
+  pub untouched : s.touched below ≡ false
+  pub none : held.pieces.items ≡ []
+
+-- a write or a cut found no room in the log for the old bytes, and the files stay
+pub record FindsFull {S : Type 0} (s : Ghosts S) (logged : S → ℕ) (size : ℕ) (below below' : S) (held held' : Held) : Type 0 where
+  pub by : s.tells → 2 ^ 62 < logged below + 2 ^ 29 + needs size
+  pub log : s.log_full below'
+  pub same : s.tells → (f : ℕ) → over held' (s.now below') f ≡ over held (s.now below) f

@@ -1,0 +1,459 @@
+//! A space that holds what is written until a commit, or until what holds it is full.
+ghost use Rattle.std.specs.Prelude.{◌≡◌, ◌+◌, ◌-◌, ◌^◌, ◌≤◌, ◌<◌, ◌⊎◌, [], ℕ, true, false, length, take, drop, Some, OnOk, OnErr, IsErrOf};
+ghost use Rattle.tc_io.specs.Causes.{Rose};
+ghost use Rattle.tc_space.specs.Effects.{Caused, Changes, Outcome};
+ghost use Rattle.tc_space.specs.Frames.{Follows, Keeps};
+ghost use Rattle.tc_space.specs.Moments.{LeavesOnly};
+ghost use Rattle.tc_space.specs.Ranges.{IsDataFile, Passes, Reaches};
+ghost use Rattle.tc_undo.specs.Room.{needs};
+ghost use Rattle.tc_held.specs.Held.{FindsFull, IsBare, IsHeld, Written, over};
+ghost use Rattle.tc_held.specs.History.{IsSound};
+
+use crate::held::{Held, behind};
+use crate::stood::Stood;
+use tc_base::Fault;
+use tc_space::{Space, SpaceErr};
+use tc_undo::{Batched, Piece};
+
+/// The most bytes of a log.
+const LOG_MOST: u64 = 1 << 62;
+
+/// What the log keeps free for the old bytes of all that is held, twice: it may be full of it once more before the next write.
+const RESERVE: u64 = 1 << 29;
+
+/// The most bytes of a data file.
+const MOST_LEN: u64 = 1 << 40;
+
+/// Files over a space. What is written inside them is held in memory, and brought to the space in one call by a commit, a cut, or a write for
+/// which there is no room; what makes a file longer goes to the space at once, under what is held.
+#[derive(Drop)]
+pub struct HeldSpace<S: Batched> {
+    below: S,
+    held: Held,
+    stood: Stood<S, Held>,
+    good: bool,
+    touched: bool,
+    read: u64,
+}
+
+/// What the log needs at most for so many old bytes.
+fn needs_of(size: u64) -> u64
+    requires { size ≤ 2 ^ 40 }
+    ensures { result ≡ needs size }
+{
+    size + 20 * ((size + 4095) / 4096)
+}
+
+impl<S: Batched> HeldSpace<S> {
+    /// Holds nothing yet over a space in which nothing was written since its last commit.
+    pub fn new(below: S, held: Held) -> HeldSpace<S>
+        requires sound { S.sound below }
+        requires untouched { S.touched below ≡ false }
+        ensures sound { IsSound S.Space S.logged result.good result.touched result.stood.items result.below result.held }
+        ensures begins { (result.touched ≡ false) × (result.read ≡ 0) × (result.below ≡ below) }
+        ensures empty { result.held.pieces.items ≡ [] }
+    {
+        let mut held = held;
+        held.clear();
+        HeldSpace {
+            below,
+            held,
+            stood: Stood::new(),
+            good: true,
+            touched: false,
+            read: 0,
+        }
+    }
+
+    /// The space, with what is held given up.
+    pub fn into_below(self) -> S
+        ensures { result ≡ self.below }
+    {
+        self.below
+    }
+
+    // The log has room for so many old bytes beside those of all that is held.
+    fn has_room(&self, size: u64) -> bool
+        requires small { size ≤ 2 ^ 40 }
+        requires held { IsHeld S.Space S.logged self.now.below self.now.held }
+        ensures room { result ≡ true → S.logged self.now.below + 2 ^ 29 + needs size ≤ 2 ^ 62 }
+        ensures none { result ≡ false → 2 ^ 62 < S.logged self.now.below + 2 ^ 29 + needs size }
+    {
+        self.below.log_len() + RESERVE + needs_of(size) <= LOG_MOST
+    }
+
+    // A write of so many bytes at a place passes neither the file's limit nor the log's.
+    fn fits(&self, file: u32, at: u64, size: u64) -> bool
+        requires sound { S.sound self.now.below }
+        requires held { IsHeld S.Space S.logged self.now.below self.now.held }
+        requires file { IsDataFile file }
+        ensures fits { result ≡ true → (at + size ≤ S.limit self.now.below file) × (S.logged self.now.below + 2 ^ 29 + needs size ≤ 2 ^ 62) }
+        ensures lacks { result ≡ false → Passes (S.limit self.now.below file) ((2 ^ 62 < S.logged self.now.below + 2 ^ 29 + needs size) × S.log_full self.now.below) at size }
+    {
+        let limit = self.below.limit_of(file);
+        if at > limit || size > limit - at {
+            return false;
+        }
+        self.has_room(size)
+    }
+
+    // Brings what is held to the space.
+    fn flush(&mut self) -> Result<(), Fault>
+        requires sound { S.sound self.old.below }
+        requires held { IsHeld S.Space S.logged self.old.below self.old.held }
+        ensures held { OnOk result (IsHeld S.Space S.logged self.new.below self.new.held) }
+        ensures empty { OnOk result (self.new.held.pieces.items ≡ []) }
+        ensures now { OnOk result (S.tells → (f : ℕ) → S.now self.new.below f ≡ over self.old.held (S.now self.old.below) f) }
+        ensures keeps { Keeps S.Space self.old.below self.new.below }
+        ensures outcome { Outcome S.sound S.flag result self.new.below }
+        ensures logged { OnOk result (S.logged self.new.below ≤ S.logged self.old.below + 2 ^ 28) }
+        ensures same { self.new ≡ record self.old { below = self.new.below; held = self.new.held } }
+        ensures cause { OnErr result (Rose (S.faults self.old.below) (S.faults self.new.below)) }
+    {
+        if self.held.is_empty() {
+            return Ok(());
+        }
+        self.below.write_all(self.held.pieces(), self.held.bytes())?;
+        self.held.clear();
+        Ok(())
+    }
+
+    // Reads bytes of the space, and lays what is held over them.
+    fn read_over(&mut self, file: u32, at: u64, into: &mut [u8]) -> Result<(), Fault>
+        requires sound { S.sound self.old.below }
+        requires held { IsHeld S.Space S.logged self.old.below self.old.held }
+        requires reaches { Reaches S.tells (over self.old.held (S.now self.old.below)) file (at + length into.old) }
+        ensures bytes { OnOk result (S.tells → into.new ≡ take (length into.old) (drop at (over self.old.held (S.now self.old.below) file))) }
+        ensures now { S.tells → (g : ℕ) → S.now self.new.below g ≡ S.now self.old.below g }
+        ensures keeps { Keeps S.Space self.old.below self.new.below }
+        ensures sound { S.sound self.new.below }
+        ensures held { IsHeld S.Space S.logged self.new.below self.new.held }
+        ensures touched { S.touched self.new.below ≡ S.touched self.old.below }
+        ensures same { self.new ≡ record self.old { below = self.new.below } }
+        ensures cause { OnErr result (Rose (S.faults self.old.below) (S.faults self.new.below)) }
+    {
+        self.below.look(file, at, into)?;
+        self.held.lay(file, at, into);
+        Ok(())
+    }
+
+    // Brings what is held to the space, and shortens a file there.
+    fn cut_below(&mut self, file: u32, len: u64) -> Result<(), SpaceErr>
+        requires sound { S.sound self.old.below }
+        requires held { IsHeld S.Space S.logged self.old.below self.old.held }
+        requires reaches { Reaches S.tells (over self.old.held (S.now self.old.below)) file len }
+        ensures held { OnOk result (IsHeld S.Space S.logged self.new.below self.new.held) }
+        ensures cut { OnOk result (S.tells → Changes (λ s. over s.held (S.now s.below)) file (take len (over self.old.held (S.now self.old.below) file)) self.old self.new) }
+        ensures keeps { Keeps S.Space self.old.below self.new.below }
+        ensures outcome { Outcome S.sound S.flag result self.new.below }
+        ensures full { IsErrOf result SpaceErr.Full → FindsFull S.Space S.logged (length (over self.old.held (S.now self.old.below) file) - len) self.old.below self.new.below self.old.held self.new.held }
+        ensures same { self.new ≡ record self.old { below = self.new.below; held = self.new.held } }
+        ensures cause { Caused S.faults result self.old.below self.new.below }
+    {
+        self.flush()?;
+        self.below.cut(file, len)?;
+        Ok(())
+    }
+
+    // Brings what is held to the space, and commits it.
+    fn commit_below(&mut self) -> Result<(), Fault>
+        requires sound { S.sound self.old.below }
+        requires held { IsHeld S.Space S.logged self.old.below self.old.held }
+        ensures held { OnOk result (IsHeld S.Space S.logged self.new.below self.new.held) }
+        ensures bare { OnOk result (IsBare S.Space self.new.below self.new.held) }
+        ensures now { OnOk result (S.tells → (f : ℕ) → over self.new.held (S.now self.new.below) f ≡ over self.old.held (S.now self.old.below) f) }
+        ensures kept { OnOk result (S.tells → S.kept self.new.below ≡ Some (over self.old.held (S.now self.old.below))) }
+        ensures moments { S.tells → LeavesOnly S.moment S.left self.old.below self.new.below (λ o. (o ≡ S.kept self.old.below) ⊎ (o ≡ Some (over self.old.held (S.now self.old.below)))) }
+        ensures follows { Follows S.Space self.old.below self.new.below }
+        ensures outcome { Outcome S.sound S.flag result self.new.below }
+        ensures same { self.new ≡ record self.old { below = self.new.below; held = self.new.held } }
+        ensures cause { OnErr result (Rose (S.faults self.old.below) (S.faults self.new.below)) }
+    {
+        self.flush()?;
+        self.below.commit()?;
+        Ok(())
+    }
+
+    // Brings what is held to the space, and then bytes for a file.
+    fn put_through(&mut self, file: u32, at: u64, bytes: &[u8]) -> Result<(), Fault>
+        requires sound { S.sound self.old.below }
+        requires held { IsHeld S.Space S.logged self.old.below self.old.held }
+        requires reaches { Reaches S.tells (over self.old.held (S.now self.old.below)) file at }
+        requires below { at + length bytes.now ≤ S.limit self.old.below file }
+        requires room { S.logged self.old.below + 2 ^ 28 + needs (length bytes.now) ≤ 2 ^ 62 }
+        ensures held { OnOk result (IsHeld S.Space S.logged self.new.below self.new.held) }
+        ensures wrote { OnOk result (S.tells → Written file at bytes.now (over self.old.held (S.now self.old.below)) (over self.new.held (S.now self.new.below))) }
+        ensures keeps { Keeps S.Space self.old.below self.new.below }
+        ensures outcome { Outcome S.sound S.flag result self.new.below }
+        ensures same { self.new ≡ record self.old { below = self.new.below; held = self.new.held } }
+        ensures cause { OnErr result (Rose (S.faults self.old.below) (S.faults self.new.below)) }
+    {
+        self.flush()?;
+        let piece = Piece {
+            file,
+            at,
+            from: 0,
+            size: bytes.len(),
+        };
+        self.below.write_all(&[piece], bytes)?;
+        Ok(())
+    }
+
+    // Brings bytes to the end of a file of the space, under what is held.
+    fn put_behind(&mut self, file: u32, at: u64, bytes: &[u8]) -> Result<(), Fault>
+        requires sound { S.sound self.old.below }
+        requires held { IsHeld S.Space S.logged self.old.below self.old.held }
+        requires file { IsDataFile file }
+        requires below { at + length bytes.now ≤ S.limit self.old.below file }
+        requires room { S.logged self.old.below + 2 ^ 28 + needs (length bytes.now) ≤ 2 ^ 62 }
+        requires end { S.tells → at ≡ length (S.now self.old.below file) }
+        ensures held { OnOk result (IsHeld S.Space S.logged self.new.below self.new.held) }
+        ensures wrote { OnOk result (S.tells → Written file at bytes.now (over self.old.held (S.now self.old.below)) (over self.new.held (S.now self.new.below))) }
+        ensures keeps { Keeps S.Space self.old.below self.new.below }
+        ensures outcome { Outcome S.sound S.flag result self.new.below }
+        ensures same { self.new ≡ record self.old { below = self.new.below; held = self.new.held } }
+        ensures cause { OnErr result (Rose (S.faults self.old.below) (S.faults self.new.below)) }
+    {
+        let piece = Piece {
+            file,
+            at,
+            from: 0,
+            size: bytes.len(),
+        };
+        self.below.write_all(&[piece], bytes)?;
+        Ok(())
+    }
+
+    // Holds those bytes that lie inside a file of the space, as far as there is room. Answers how many.
+    fn hold(&mut self, file: u32, at: u64, bytes: &[u8]) -> usize
+        requires sound { S.sound self.old.below }
+        requires held { IsHeld S.Space S.logged self.old.below self.old.held }
+        requires reaches { Reaches S.tells (over self.old.held (S.now self.old.below)) file at }
+        requires below { at + length bytes.now ≤ S.limit self.old.below file }
+        requires room { S.logged self.old.below + 2 ^ 28 ≤ 2 ^ 62 }
+        ensures most { result ≤ length bytes.now }
+        ensures held { IsHeld S.Space S.logged self.new.below self.new.held }
+        ensures wrote { S.tells → Written file at (take result bytes.now) (over self.old.held (S.now self.old.below)) (over self.new.held (S.now self.new.below)) }
+        ensures reaches { S.tells → at + result ≤ length (over self.new.held (S.now self.new.below) file) }
+        ensures sound { S.sound self.new.below }
+        ensures keeps { Keeps S.Space self.old.below self.new.below }
+        ensures logged { S.logged self.new.below ≡ S.logged self.old.below }
+        ensures same { self.new ≡ record self.old { held = self.new.held } }
+    {
+        let there = self.below.len(file);
+        let size = bytes.len() as u64;
+        let inside = size.min(there.saturating_sub(at)) as usize;
+        self.held.put(file, at, &bytes[..inside])
+    }
+
+    // Brings bytes to the space that aren't held: those behind a file's end under what is held, others behind it.
+    fn put_rest(&mut self, file: u32, at: u64, bytes: &[u8]) -> Result<(), Fault>
+        requires sound { S.sound self.old.below }
+        requires held { IsHeld S.Space S.logged self.old.below self.old.held }
+        requires reaches { Reaches S.tells (over self.old.held (S.now self.old.below)) file at }
+        requires below { at + length bytes.now ≤ S.limit self.old.below file }
+        requires room { S.logged self.old.below + 2 ^ 28 + needs (length bytes.now) ≤ 2 ^ 62 }
+        ensures held { OnOk result (IsHeld S.Space S.logged self.new.below self.new.held) }
+        ensures wrote { OnOk result (S.tells → Written file at bytes.now (over self.old.held (S.now self.old.below)) (over self.new.held (S.now self.new.below))) }
+        ensures keeps { Keeps S.Space self.old.below self.new.below }
+        ensures outcome { Outcome S.sound S.flag result self.new.below }
+        ensures same { self.new ≡ record self.old { below = self.new.below; held = self.new.held } }
+        ensures cause { OnErr result (Rose (S.faults self.old.below) (S.faults self.new.below)) }
+    {
+        if at == self.below.len(file) {
+            return self.put_behind(file, at, bytes);
+        }
+        self.put_through(file, at, bytes)
+    }
+
+    // Holds what lies inside a file of the space, and brings what is left there.
+    fn put_some(&mut self, file: u32, at: u64, bytes: &[u8]) -> Result<(), Fault>
+        requires sound { S.sound self.old.below }
+        requires held { IsHeld S.Space S.logged self.old.below self.old.held }
+        requires reaches { Reaches S.tells (over self.old.held (S.now self.old.below)) file at }
+        requires below { at + length bytes.now ≤ S.limit self.old.below file }
+        requires room { S.logged self.old.below + 2 ^ 28 + needs (length bytes.now) ≤ 2 ^ 62 }
+        ensures held { OnOk result (IsHeld S.Space S.logged self.new.below self.new.held) }
+        ensures wrote { OnOk result (S.tells → Written file at bytes.now (over self.old.held (S.now self.old.below)) (over self.new.held (S.now self.new.below))) }
+        ensures keeps { Keeps S.Space self.old.below self.new.below }
+        ensures outcome { Outcome S.sound S.flag result self.new.below }
+        ensures same { self.new ≡ record self.old { below = self.new.below; held = self.new.held } }
+        ensures cause { OnErr result (Rose (S.faults self.old.below) (S.faults self.new.below)) }
+    {
+        let done = self.hold(file, at, bytes);
+        if done == bytes.len() {
+            return Ok(());
+        }
+        self.put_rest(file, at + done as u64, behind(bytes, done))?;
+        Ok(())
+    }
+
+    // Brings what is held to the space where there is no room for so many bytes more.
+    fn make_room(&mut self, file: u32, at: u64, size: usize) -> Result<(), Fault>
+        requires sound { S.sound self.old.below }
+        requires held { IsHeld S.Space S.logged self.old.below self.old.held }
+        requires small { at + size ≤ 2 ^ 40 }
+        ensures held { OnOk result (IsHeld S.Space S.logged self.new.below self.new.held) }
+        ensures now { OnOk result (S.tells → (f : ℕ) → over self.new.held (S.now self.new.below) f ≡ over self.old.held (S.now self.old.below) f) }
+        ensures keeps { Keeps S.Space self.old.below self.new.below }
+        ensures outcome { Outcome S.sound S.flag result self.new.below }
+        ensures logged { OnOk result (S.logged self.new.below ≤ S.logged self.old.below + 2 ^ 28) }
+        ensures same { self.new ≡ record self.old { below = self.new.below; held = self.new.held } }
+        ensures cause { OnErr result (Rose (S.faults self.old.below) (S.faults self.new.below)) }
+    {
+        if self.held.has_room(file, at, size) {
+            return Ok(());
+        }
+        self.flush()?;
+        Ok(())
+    }
+
+    // Holds bytes for a file, or brings them to the space.
+    fn put(&mut self, file: u32, at: u64, bytes: &[u8]) -> Result<(), Fault>
+        requires sound { S.sound self.old.below }
+        requires held { IsHeld S.Space S.logged self.old.below self.old.held }
+        requires reaches { Reaches S.tells (over self.old.held (S.now self.old.below)) file at }
+        requires below { at + length bytes.now ≤ S.limit self.old.below file }
+        requires room { S.logged self.old.below + 2 ^ 29 + needs (length bytes.now) ≤ 2 ^ 62 }
+        ensures held { OnOk result (IsHeld S.Space S.logged self.new.below self.new.held) }
+        ensures wrote { OnOk result (S.tells → Written file at bytes.now (over self.old.held (S.now self.old.below)) (over self.new.held (S.now self.new.below))) }
+        ensures keeps { Keeps S.Space self.old.below self.new.below }
+        ensures outcome { Outcome S.sound S.flag result self.new.below }
+        ensures same { self.new ≡ record self.old { below = self.new.below; held = self.new.held } }
+        ensures cause { OnErr result (Rose (S.faults self.old.below) (S.faults self.new.below)) }
+    {
+        self.make_room(file, at, bytes.len())?;
+        self.put_some(file, at, bytes)?;
+        Ok(())
+    }
+}
+
+impl<S: Batched> Space for HeldSpace<S> {
+    ghost use Rattle.std.specs.Prelude.{◌<◌, ◌+◌, ◌^◌, ◌≡◌, true, length};
+    ghost use Rattle.tc_held.specs.Held.{over};
+    ghost use Rattle.tc_held.specs.History.{IsSound, LeftFrom, files_in, moment_in};
+    ghost use Rattle.tc_held.specs.Laws.{held_clean, held_earlier, held_left, held_present, held_within};
+    ghost use Rattle.tc_undo.specs.Room.{needs};
+
+    ghost tells = { S.tells };
+
+    ghost now = { λ s. over s.held (S.now s.below) };
+
+    ghost kept = { λ s. S.kept s.below };
+
+    ghost moment = { λ s. moment_in S.Space s.stood.items s.below };
+
+    ghost files_at = { λ s t. files_in S.Space s.stood.items s.below s.held t };
+
+    ghost left = { λ s. LeftFrom S.Space s.stood.items s.below s.held };
+
+    ghost sound = { λ s. IsSound S.Space S.logged s.good s.touched s.stood.items s.below s.held };
+
+    ghost flag = { λ s. s.good };
+
+    ghost touched = { λ s. s.touched };
+
+    ghost limit = { λ s. S.limit s.below };
+
+    ghost names = { λ s. S.names s.below };
+
+    ghost overfills = { λ s f at size. 2 ^ 62 < S.logged s.below + 2 ^ 29 + needs size };
+
+    ghost log_full = { λ s. S.log_full s.below };
+
+    ghost bytes_read = { λ s. s.read };
+
+    ghost faults = { λ s. S.faults s.below };
+
+    ghost only_kept = { λ s o t sound left. S.only_kept s.below o t sound.below_is (held_left o left) };
+
+    ghost keeps_files = { λ s t sound. S.keeps_files s.below t sound.below_is };
+
+    ghost clean = { λ s t sound is. held_clean s.below s.held (sound.bare is) (S.clean s.below t sound.below_is) };
+
+    ghost within = { λ s file t sound is. held_within s.below s.held sound.held_is t file (S.within s.below file t sound.below_is is) };
+
+    ghost earlier = { λ s t u o le left. held_earlier t u o le left };
+
+    ghost present = { λ s t. held_present S.now s.below s.held (S.moment s.below + length s.stood.items) _ };
+
+    ghost flagged = { λ s sound. sound.good_is };
+
+    /// It calls nothing of the space.
+    fn is_sound(&self) -> bool {
+        self.good
+    }
+
+    /// The length in the space: what is held makes no file longer.
+    fn len(&self, file: u32) -> u64 {
+        self.below.len(file)
+    }
+
+    /// One read of the space; what is held of these bytes, found by halves, is laid over them.
+    fn read(&mut self, file: u32, at: u64, into: &mut [u8]) -> Result<(), Fault> {
+        self.stood = self.stood.and(&self.below, &self.held);
+        self.read = self.read.saturating_add(into.len() as u64);
+        self.read_over(file, at, into)
+    }
+
+    /// It holds the bytes that lie inside the file, and writes those behind it. Where there is no room it brings all of it to the space.
+    fn write(&mut self, file: u32, at: u64, bytes: &[u8]) -> Result<(), SpaceErr> {
+        self.stood = self.stood.and(&self.below, &self.held);
+        self.touched = true;
+        if !self.fits(file, at, bytes.len() as u64) {
+            self.good = false;
+            return Err(SpaceErr::Full);
+        }
+        match self.put(file, at, bytes) {
+            Ok(()) => Ok(()),
+            Err(_) => {
+                self.good = false;
+                Err(SpaceErr::Fault)
+            }
+        }
+    }
+
+    /// It brings what is held to the space first.
+    fn cut(&mut self, file: u32, len: u64) -> Result<(), SpaceErr> {
+        self.stood = self.stood.and(&self.below, &self.held);
+        self.touched = true;
+        let size = self.below.len(file).saturating_sub(len).min(MOST_LEN);
+        if !self.has_room(size) {
+            self.good = false;
+            return Err(SpaceErr::Full);
+        }
+        match self.cut_below(file, len) {
+            Ok(()) => Ok(()),
+            Err(e) => {
+                self.good = false;
+                Err(e)
+            }
+        }
+    }
+
+    /// It brings what is held to the space, which commits.
+    fn commit(&mut self) -> Result<(), Fault> {
+        self.stood = self.stood.and(&self.below, &self.held);
+        match self.commit_below() {
+            Ok(()) => {
+                self.touched = false;
+                Ok(())
+            }
+            Err(e) => {
+                self.good = false;
+                Err(e)
+            }
+        }
+    }
+
+    /// Nothing is held where nothing was written.
+    fn copy(&mut self, label: &[u8]) -> Result<(), Fault> {
+        self.stood = self.stood.and(&self.below, &self.held);
+        self.below.copy(label)
+    }
+
+    /// It calls nothing of the space.
+    fn spoil(&mut self) {
+        self.good = false;
+    }
+}

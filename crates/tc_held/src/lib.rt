@@ -1,0 +1,11 @@
+//! Writes that are held in memory until a commit, so that a commit waits for the disk as often whatever it holds.
+#![tactic(auto, using(tc_space::specs::Frames::keeps_then, tc_space::specs::Frames::keeps_refl, crate::proofs::Moments::keeps_stays, crate::proofs::Moments::keeps_follows, crate::proofs::Moments::follows_keeps))]
+
+mod finding;
+mod held;
+mod held_space;
+mod overlay;
+mod stood;
+
+pub use held::Held;
+pub use held_space::HeldSpace;
