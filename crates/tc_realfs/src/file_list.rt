@@ -1,14 +1,23 @@
 //! The files of a database by number.
 
 use crate::names::path_of;
-use crate::real_file::RealFile;
+use crate::real_file::{RealFile, Use};
 use std::alloc::Global;
 use std::fs::File;
 use std::io;
 use std::io::ErrorKind;
 use std::rt::Files;
 
-/// Opens the files of a name that are there, the main file first.
+// What a file of a number is used for.
+fn use_of(file: u32) -> Use {
+    match file {
+        0 => Use::Main,
+        1 => Use::Log,
+        _ => Use::Other,
+    }
+}
+
+/// Opens the files of a name that are there, the main file first. The main file and the log are locked.
 pub fn open_all<R: Files<File = File>>(
     rt: &R,
     alloc: Global,
@@ -17,7 +26,7 @@ pub fn open_all<R: Files<File = File>>(
     let mut files = Vec::with_capacity(alloc, 19)?;
     for file in 0..19u32 {
         let path = path_of(alloc, name, file)?;
-        files.push(RealFile::open(rt, alloc, path, file <= 1)?)?;
+        files.push(RealFile::open(rt, alloc, path, use_of(file))?)?;
     }
     Ok(files)
 }
@@ -59,4 +68,11 @@ pub fn sync_of<R: Files<File = File>>(
     folder: &str,
 ) -> io::Result<()> {
     file_of(files, file)?.sync(rt, folder)
+}
+
+/// Lets go of what the log has on the disk where it is told as empty.
+pub fn clear_log(files: &mut [RealFile]) {
+    if let Some(log) = files.get_mut(1) {
+        log.clear();
+    }
 }

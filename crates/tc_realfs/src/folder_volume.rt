@@ -3,7 +3,7 @@ ghost use Rattle.std.specs.Prelude.{◌≡◌, None, false, IfOk, Ok};
 ghost use Rattle.tc_io.specs.Causes.{HasCause};
 
 use crate::bound_copy::BoundCopy;
-use crate::file_list::{cut_of, len_of, open_all, sync_of, write_of};
+use crate::file_list::{clear_log, cut_of, len_of, open_all, sync_of, write_of};
 use crate::names::folder_of;
 use crate::real_file::RealFile;
 use std::alloc::Global;
@@ -18,6 +18,9 @@ use tc_io::Volume;
 ///
 /// A `bind` opens those that are there, and makes none; a file is made at its first write. The main file and the undo log are locked against another process
 /// from when they are opened or made: of two processes one has a fault at its `bind` or at its first write. Each failed call of the system is a fault.
+///
+/// Where the undo log is cut to nothing its first byte stays on the disk, if that is `T`, and the log's length is told as 0; so it is where such a file is opened. The
+/// system then keeps the block of the log, and a commit needn't wait for one. `end` cuts it.
 ///
 /// The copy of `x.tch` under a label is `x.LABEL.tch`, with files of the same endings behind that name. They are open and locked from `bind_copy` to `end_copy`.
 /// A file of a copy that is absent costs no call of the system but the one that looks for it.
@@ -47,6 +50,13 @@ impl<'a, R: Files<File = File>> FolderVolume<'a, R> {
             copy: BoundCopy::none(alloc),
             faults: 0,
         }
+    }
+
+    /// Lets go of the byte that stays of an undo log that was cut to nothing. Where that fails it stays, and counts as no log.
+    pub fn end(&mut self)
+        ensures { self.new ≡ record self.old { files = self.new.files } }
+    {
+        clear_log(&mut self.files);
     }
 }
 

@@ -140,11 +140,11 @@ pub fn write(pages: &mut Pages, file: &File, at: u64, bytes: &[u8]) -> io::Resul
     }
 }
 
-/// Cuts what lies behind a place, up to where the file ends. After an error it may be there or not.
-pub fn cut(pages: &mut Pages, file: &File, at: u64, end: u64) -> io::Result<()>
+/// Cuts what lies behind a place, up to where the file ends; the system keeps so many bytes. After an error they may be there or not.
+pub fn cut(pages: &mut Pages, file: &File, at: u64, left: u64, end: u64) -> io::Result<()>
     ensures { ShowsOutside at end pages.old pages.new }
 {
-    let done = file.set_len(at);
+    let done = file.set_len(left);
     pages.forget(at, end);
     done
 }

@@ -7,7 +7,21 @@ use std::alloc::Global;
 use std::fs::{File, OpenOptions};
 use std::io;
 use std::io::ErrorKind;
+use std::os::unix::fs::FileExt;
 use std::rt::Files;
+
+/// The first byte of an undo log. A log of this byte alone undoes nothing.
+const MARK: u8 = b'T';
+
+/// What a file is used for.
+#[derive(Clone, Copy, PartialEq, Eq)]
+pub enum Use {
+    Main,
+    /// Where it is cut to nothing its first byte stays on the disk, if that is the one that a log begins with: the system then keeps the block that it lies in, and
+    /// needs no new one for the next log. A file of that byte alone is told as an empty one.
+    Log,
+    Other,
+}
 
 /// A file that this process alone changes: an absent one is empty, and is made at its first write, where nobody else has made it by then.
 ///
@@ -16,10 +30,12 @@ use std::rt::Files;
 #[derive(Drop)]
 pub struct RealFile {
     path: String,
-    // a lock on it is held as long as it is open
-    is_locked: bool,
+    // a lock on a main file and on a log is held as long as it is open
+    of: Use,
     handle: Option<File>,
     len: u64,
+    // whether it is a log whose first byte on the disk is the mark
+    is_marked: bool,
     // whether its folder was synced since it was opened or made
     is_placed: bool,
     is_lost: bool,
@@ -31,40 +47,59 @@ fn outside() -> io::Error {
 }
 
 // Takes the lock where one is wanted.
-fn lock(file: &File, is_locked: bool) -> io::Result<()> {
-    if is_locked {
+fn lock(file: &File, of: Use) -> io::Result<()> {
+    if of != Use::Other {
         file.try_lock()?;
     }
     Ok(())
 }
 
+// A log of so many bytes begins with the mark.
+fn begins_marked(file: &File, of: Use, len: u64) -> io::Result<bool> {
+    if of != Use::Log || len == 0 {
+        return Ok(false);
+    }
+    let mut first = [0u8; 1];
+    file.read_exact_at(&mut first, 0)?;
+    Ok(first[0] == MARK)
+}
+
+// The length that is told of a file of so many bytes.
+fn told(len: u64, is_marked: bool) -> u64 {
+    if is_marked && len == 1 { 0 } else { len }
+}
+
 impl RealFile {
-    /// Opens a file where it is there, with a lock on it where one is wanted.
+    /// Opens a file where it is there. Of a log that isn't empty the first byte is read.
     pub fn open<R: Files<File = File>>(
         rt: &R,
         alloc: Global,
         path: String,
-        is_locked: bool,
+        of: Use,
     ) -> io::Result<RealFile> {
         let opened = OpenOptions::new()
             .read(true)
             .write(true)
             .open(rt, path.as_str());
         let mut len = 0;
+        let mut is_marked = false;
         let handle = match opened {
             Err(e) if e.kind() == ErrorKind::NotFound => None,
             opened => {
                 let file = opened?;
-                lock(&file, is_locked)?;
-                len = file.metadata()?.len();
+                lock(&file, of)?;
+                let found = file.metadata()?.len();
+                is_marked = begins_marked(&file, of, found)?;
+                len = told(found, is_marked);
                 Some(file)
             }
         };
         Ok(RealFile {
             path,
-            is_locked,
+            of,
             handle,
             len,
+            is_marked,
             is_placed: false,
             is_lost: false,
             pages: Pages::new(alloc),
@@ -109,19 +144,20 @@ impl RealFile {
                 .write(true)
                 .create_new(true)
                 .open(rt, self.path.as_str())?;
-            lock(&file, self.is_locked)?;
+            lock(&file, self.of)?;
             self.handle = Some(file);
             self.is_placed = false;
         }
         Ok(())
     }
 
-    // The length that the system tells after a call that failed.
+    // The length that the system tells after a call that failed, and the first byte of a log.
     fn ask(&mut self) {
         if let Some(file) = &self.handle
             && let Ok(found) = file.metadata()
         {
-            self.len = found.len();
+            self.is_marked = matches!(begins_marked(file, self.of, found.len()), Ok(true));
+            self.len = told(found.len(), self.is_marked);
         }
     }
 
@@ -148,6 +184,9 @@ impl RealFile {
         match paged::write(&mut self.pages, file, at, bytes) {
             Ok(()) => {
                 self.len = self.len.max(end);
+                if at == 0 {
+                    self.is_marked = self.of == Use::Log && bytes[0] == MARK;
+                }
                 Ok(())
             }
             Err(e) => {
@@ -165,7 +204,8 @@ impl RealFile {
         let Some(file) = &self.handle else {
             return Ok(());
         };
-        match paged::cut(&mut self.pages, file, len, self.len) {
+        let left = if self.is_marked { len.max(1) } else { len };
+        match paged::cut(&mut self.pages, file, len, left, self.len) {
             Ok(()) => {
                 self.len = len;
                 Ok(())
@@ -174,6 +214,18 @@ impl RealFile {
                 self.ask();
                 Err(e)
             }
+        }
+    }
+
+    /// Lets go of the first byte of a log that is cut to nothing. Where that fails the byte stays.
+    pub fn clear(&mut self) {
+        if self.len > 0 || !self.is_marked {
+            return;
+        }
+        if let Some(file) = &self.handle
+            && file.set_len(0).is_ok()
+        {
+            self.is_marked = false;
         }
     }
 
