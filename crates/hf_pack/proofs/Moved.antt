@@ -11,7 +11,7 @@ use Rattle.hf_layout.specs.Frees.{with_block}
 use Rattle.hf_layout.proofs.Places.{here, later, long, long-append, long-cons, whole_parts}
 use Rattle.hf_layout.proofs.Shares.{with_at, with_off}
 use Rattle.hf_chain.specs.Heads.{capped}
-use Rattle.hf_pack.specs.Moving.{moved, new_place, rechained, renamed}
+use Rattle.hf_pack.specs.Moving.{moved, new_place, rechained, records_long, renamed}
 
 -- ---- sizes
 
@@ -23,6 +23,11 @@ module _ (f : ℕ → ℕ) where
   moved_less [] = omega arith
   moved_less (held r ∷ ps) = omega (arith, moved_less ps, long-cons (held r) ps, long-cons (held (rechained f r)) (moved f ps), size_same r)
   moved_less (free size tail ∷ ps) = omega (arith, moved_less ps, long-cons (free size tail) ps)
+
+  pub moved_long : (ps : List Piece) → long (moved f ps) ≡ records_long ps
+  moved_long [] = refl
+  moved_long (held r ∷ ps) = omega (arith, moved_long ps, long-cons (held (rechained f r)) (moved f ps), size_same r)
+  moved_long (free size tail ∷ ps) = moved_long ps
 
   pub moved-append : (ps qs : List Piece) → moved f (ps ++ qs) ≡ moved f ps ++ moved f qs
   moved-append [] qs = refl

@@ -25,7 +25,7 @@ use Rattle.hf_tree.proofs.Hanging.{hangs_at}
 use Rattle.hf_tree.proofs.Fields.{sections_first}
 use Rattle.hf_pack.specs.Moving.{AllFit, Repacked, entries_as, moved, new_place, rechained, renamed}
 use Rattle.hf_pack.specs.Streams.{Written}
-use Rattle.hf_pack.proofs.Moved.{Back, Forth, goes, moved_less, moved_whole, mul_more, placed_in, renamed_is, renamed_low, there_back, there_forth}
+use Rattle.hf_pack.proofs.Moved.{Back, Forth, goes, moved_less, moved_long, moved_whole, mul_more, placed_in, renamed_is, renamed_low, there_back, there_forth}
 
 -- ---- trees
 
@@ -208,6 +208,9 @@ module _ (h : Head) (ps : List Piece) (old new : List ℕ) (end : ℕ) (v : IsVa
   pub packed : (places : Key → Option ℕ) → AllHang (links_of h ps old) (record_at h.first ps) h.buckets places → ((b : ℕ) → b < h.buckets → entry (width h) b (array h new) ≡ f (entry (width h) b (array h old))) → between h.first end new ≡ spell_all qs → end ≡ h.first + long qs → length new ≡ length old → Repacked h end ps new
   packed places hang entries bytes end_is same = record {
     pieces = qs;
+    links = f;
+    are = refl;
+    ends = omega (arith, end_is, moved_long f ps);
     is = record {
       room = unit_room h v;
       on = omega (arith, end_is);

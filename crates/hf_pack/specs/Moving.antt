@@ -1,5 +1,5 @@
 -- Records moved to the front of the blocks, and what names them then.
-use Rattle.std.specs.Prelude.{ℕ, zero, suc, ◌+◌, ◌*◌, ◌/◌, ◌==◌, ◌^◌, ◌<◌, ◌≤◌, min, List, [], ◌∷◌, ◌++◌, Option, Some, None, unwrap_or, if◌then◌else◌}
+use Rattle.std.specs.Prelude.{◌≡◌, ℕ, zero, suc, ◌+◌, ◌*◌, ◌/◌, ◌==◌, ◌^◌, ◌<◌, ◌≤◌, min, List, [], ◌∷◌, ◌++◌, Option, Some, None, unwrap_or, if◌then◌else◌}
 use Rattle.std.specs.Ordering.{nat_cmp}
 use Rattle.std.specs.BTreeMap.{BTreeMap}
 use Rattle.std.specs.BTreeMap as tree
@@ -44,6 +44,12 @@ moved f [] = []
 moved f (held r ∷ ps) = held (rechained f r) ∷ moved f ps
 moved f (free size tail ∷ ps) = moved f ps
 
+-- the bytes of the blocks of the records among blocks
+abbrev pub records_long : List Piece → ℕ
+records_long [] = 0
+records_long (held r ∷ ps) = size_of (held r) + records_long ps
+records_long (free size tail ∷ ps) = records_long ps
+
 -- so many numbers of a width at the front of bytes, each as another
 abbrev pub entries_as : (ℕ → ℕ) → ℕ → ℕ → List ℕ → List ℕ
 entries_as f w zero bytes = []
@@ -53,9 +59,13 @@ entries_as f w (suc n) bytes = entries_as f w n bytes ++ le_bytes w (f (le_numbe
 abbrev pub AllFit : (ℕ → ℕ) → ℕ → ℕ → List ℕ → Type 0
 AllFit f w n bytes = (d : ℕ) → d < n → f (le_number (field (w * d) w bytes)) < 256 ^ w
 
--- the records of a file stand one after the other without free blocks, hang in the same trees, and are the same map
+-- the blocks of all records of a file stand one after the other from the first block's place on, as they are and in the order that they had, but for their
+-- chains; they hang in the same trees, and are the same map
 pub record Repacked (h : Head) (end : ℕ) (old : List Piece) (bytes : List ℕ) : Type 0 where
   pub pieces : List Piece
+  pub links : ℕ → ℕ
+  pub are : pieces ≡ moved links old
+  pub ends : end ≡ h.first + records_long old
   pub is : LaidOut (unit h) h.first end pieces none none bytes
   pub widths : HaveWidth (width h) h.first pieces
   pub places : Key → Option ℕ

@@ -1,5 +1,5 @@
 -- What a put and an out answer.
-use Rattle.std.proofs.Common.{◌≡◌, ◌∙◌, inl, inr, Bool, IsTrue, ◌↔◌, ℕ, ◌+◌, ◌^◌, ◌<◌, ◌≤◌, List, length, length-append, sym, ap, subst, arith, refl, Option, None, Some}
+use Rattle.std.proofs.Common.{◌≡◌, ◌∙◌, inl, inr, Bool, IsTrue, ◌↔◌, ℕ, ◌+◌, ◌^◌, ◌<◌, ◌≤◌, List, length, length-append, take, sym, ap, subst, arith, refl, Option, None, Some}
 use Rattle.std.specs.Prelude.{option_map, is_some, true, false}
 use Rattle.std.specs.FinMap.{get}
 use Rattle.std.proofs.lemmas.Bool.{cases_lt}
@@ -171,6 +171,7 @@ module _ {S : Type 0} (s : Ghosts S) (key : List ℕ) where
             edits = edits_after s v.body.file 21 a b c r t.edits;
             gives = t.gives;
             head = t.head;
+            front = λ tells. t.front tells ∙ ap (take 256) (r.files tells v.body.file);
             long = λ tells. t.long tells ∙ ap length (r.files tells v.body.file);
           };
         };

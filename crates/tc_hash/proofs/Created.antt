@@ -160,16 +160,20 @@ brought_same h h' p p' r r' o o' m bytes eh ep er eo b =
     (subst (λ (x : ℕ). Brought h p.size (frees_in p) x o' m bytes) (sym er)
     (subst (λ (x : List ℕ). Brought h p.size (frees_in p) r x m bytes) (sym eo) b)))
 
+-- the bytes of a file without blocks stand for the empty map, which is held
+pub stands_anew : (h : Head) (p : Pool) (bytes : List ℕ) → HasFields h → h.records ≡ 0 → h.size ≡ h.first → p.unit ≡ unit h → p.size ≡ h.size → ((q : ℕ) → frees_in p q ≡ None) → ((bs : List ℕ) → h.size ≤ length bs → LaidOut (unit h) h.first h.size [] (frees_in p) none bs)
+    → Spells h (spelled h) → length (spelled h) ≡ 256 → bytes ≡ new_bytes h → Brought h p.size (frees_in p) h.records h.opaque empty bytes
+stands_anew h p bytes f zero_records ends same sized nothing laid spells long e =
+    let behind = f.numbers.first_behind in
+    let all : h.size ≤ length (new_bytes h) = omega (arith, length-append (spelled h) (replicate (h.first - 256) 0), length-replicate {A = ℕ} (h.first - 256) 0, long, ends, behind) in
+    subst (λ (l : List ℕ). Brought h p.size (frees_in p) h.records h.opaque empty l) (sym e)
+    (subst (λ (n : ℕ). Brought h n (frees_in p) h.records h.opaque empty (new_bytes h)) (sym sized)
+    (new_stands h (unit h) (frees_in p) f zero_records ends refl (subst (λ (n : ℕ). AreMultiples n (frees_in p)) same p.multiples) nothing long spells (laid (new_bytes h) all)))
+
 -- the file that was made, from what the calls say
 pub create_brought : (kind apow fpow buckets : ℕ) (large : Bool) (h : Head) (p : Pool) (bytes : List ℕ) → MayBe kind apow fpow buckets → IsNew kind apow fpow buckets large h → h.size ≤ 2 ^ 40 → p.unit ≡ unit h → p.size ≡ h.size → ((q : ℕ) → frees_in p q ≡ None)
     → ((bs : List ℕ) → h.size ≤ length bs → LaidOut (unit h) h.first h.size [] (frees_in p) none bs) → Spells h (spelled h) → length (spelled h) ≡ 256 → bytes ≡ new_bytes h → Brought h p.size (frees_in p) h.records h.opaque empty bytes
-create_brought kind apow fpow buckets large h p bytes may is short same sized nothing laid spells long e =
-    let f = new_fields kind apow fpow buckets large h may is short in
-    let behind = f.numbers.first_behind in
-    let all : h.size ≤ length (new_bytes h) = omega (arith, length-append (spelled h) (replicate (h.first - 256) 0), length-replicate {A = ℕ} (h.first - 256) 0, long, is.size, behind) in
-    subst (λ (l : List ℕ). Brought h p.size (frees_in p) h.records h.opaque empty l) (sym e)
-    (subst (λ (n : ℕ). Brought h n (frees_in p) h.records h.opaque empty (new_bytes h)) (sym sized)
-    (new_stands h (unit h) (frees_in p) f is.records is.size refl (subst (λ (n : ℕ). AreMultiples n (frees_in p)) same p.multiples) nothing long spells (laid (new_bytes h) all)))
+create_brought kind apow fpow buckets large h p bytes may is short same sized nothing laid spells long e = stands_anew h p bytes (new_fields kind apow fpow buckets large h may is short) is.records is.size same sized nothing laid spells long e
 
 -- its head at the front
 pub create_head : (h now : Head) (bytes : List ℕ) → now ≡ h → Spells h (spelled h) → length (spelled h) ≡ 256 → bytes ≡ new_bytes h → head_in (take 256 bytes) ≡ now

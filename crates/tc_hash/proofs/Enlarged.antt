@@ -1,11 +1,12 @@
 -- A file written anew in the large form with the pairs that it had.
-use Rattle.std.proofs.Common.{◌≡◌, ◌∙◌, ◌⊎◌, inl, inr, ⊎_elim, ℕ, zero, suc, ◌+◌, ◌^◌, ◌≤◌, true, List, [], ◌∷◌, ◌++◌, length, take, drop, map, refl, sym, ap, subst, arith, Option, Some, None, Bool, add-one}
+use Rattle.std.proofs.Common.{◌≡◌, ◌∙◌, ◌⊎◌, inl, inr, ⊎_elim, ℕ, zero, suc, ◌+◌, ◌^◌, ◌≤◌, true, false, List, [], ◌∷◌, ◌++◌, length, take, drop, map, refl, sym, ap, subst, arith, Option, Some, None, Bool, add-one}
 use Rattle.std.specs.Prelude.{is_some, slice_get, ◌||◌}
 use Rattle.std.specs.FinMap.{empty, get, insert, keys, contains_key-keys, get-empty, same_map}
 use Rattle.std.specs.List.{list_any}
 use Rattle.std.specs.Ordering.{nat_cmp, eq_by_cmp}
 use Rattle.std.specs.Cmp.Lexicographic.{slice_cmp, nat_list_cmp_total}
 use Rattle.std.proofs.lemmas.Map.Lookups.{exact_bytes}
+use Rattle.std.proofs.lemmas.Bool.{cases_eq, ne_eqb}
 use Rattle.std.proofs.lemmas.List.{map-append}
 use Rattle.tc_base.specs.Maps.{Map}
 use Rattle.tc_base.specs.declared.seq.Pair.{Pair}
@@ -19,18 +20,18 @@ use Rattle.hf_tree.specs.Links.{width}
 use Rattle.hf_layout.specs.Frees.{none}
 use Rattle.hf_layout.specs.Layout.{LaidOut}
 use Rattle.hf_head.specs.declared.head.Head.{Head}
-use Rattle.hf_head.specs.Heads.{Spells, spelled, unit}
+use Rattle.hf_head.specs.Heads.{Spells, head_in, is_large, spelled, unit}
 use Rattle.hf_pool.specs.declared.pool.Pool.{Pool}
 use Rattle.hf_pool.specs.Pools.{Takes, frees as frees_in}
-use Rattle.tc_hash.specs.Creating.{IsNew, new_bytes}
+use Rattle.tc_hash.specs.Creating.{IsNew, new_bytes, with_region}
 use Rattle.hf_record.specs.Fields.{HasFields}
 use Rattle.tc_hash.specs.Holding.{Holds}
 use Rattle.tc_hash.specs.declared.hash.Hash.{Hash}
 use Rattle.tc_hash.specs.Keeping.{file_of, holds, size_for, GivesValue, StaysOpen}
 use Rattle.hf_record.specs.Moves.{IsRefusedFor, LacksRoom}
-use Rattle.tc_hash.specs.Packing.{AllIn, ArePairs, IsLargeOf, LacksEnd, LacksLarge, LacksOne, LacksRecord, blocks_long, with_pairs}
-use Rattle.tc_hash.proofs.Cleared.{may_be}
-use Rattle.tc_hash.proofs.Created.{create_brought, new_fields}
+use Rattle.tc_hash.specs.Packing.{AllIn, ArePairs, IsLargeOf, LacksEnd, LacksLarge, LacksOne, LacksRecord, MakesLarge, PutsPairs, WritesLarge, blocks_long, with_pairs}
+use Rattle.tc_hash.proofs.Cleared.{anew_holds, may_be}
+use Rattle.tc_hash.proofs.Created.{new_fields}
 use Rattle.hf_record.proofs.Maps.{insert_here, insert_other, other_test, same_or_not}
 
 abbrev same : List ℕ → List ℕ → Bool
@@ -132,14 +133,15 @@ pub large_fields : (h new : Head) → HasFields h → IsNew h.kind h.apow h.fpow
 large_fields h new f is short = new_fields h.kind h.apow h.fpow h.buckets true new (may_be h f) is short
 
 -- nothing is held in it
-pub large_holds : (h new : Head) (p : Pool) (bytes : List ℕ) → HasFields h → IsNew h.kind h.apow h.fpow h.buckets true new → new.size ≤ 2 ^ 40 → p.unit ≡ unit new → p.size ≡ new.size → ((q : ℕ) → frees_in p q ≡ None)
-    → ((bs : List ℕ) → new.size ≤ length bs → LaidOut (unit new) new.first new.size [] (frees_in p) none bs) → Spells new (spelled new) → length (spelled new) ≡ 256 → bytes ≡ new_bytes new → Holds new p.size (frees_in p) 0 empty bytes
-large_holds h new p bytes f is short same sized nothing laid spells long e =
-    let b = create_brought h.kind h.apow h.fpow h.buckets true new p bytes (may_be h f) is short same sized nothing laid spells long e in
-    subst (λ (n : ℕ). Holds new p.size (frees_in p) n empty bytes) is.records b.holds
+pub large_holds : (h new g : Head) (region : List ℕ) (p : Pool) (bytes : List ℕ) → HasFields h → IsNew h.kind h.apow h.fpow h.buckets true new → new.size ≤ 2 ^ 40 → g ≡ with_region new region → p.unit ≡ unit new → p.size ≡ new.size → ((q : ℕ) → frees_in p q ≡ None)
+    → ((bs : List ℕ) → new.size ≤ length bs → LaidOut (unit new) new.first new.size [] (frees_in p) none bs) → Spells g (spelled g) → length (spelled g) ≡ 256 → bytes ≡ new_bytes g → Holds new p.size (frees_in p) 0 empty bytes
+large_holds h new g region p bytes f is short written same sized nothing laid spells long e = anew_holds new g region p bytes (large_fields h new f is short) is.records is.size written same sized nothing laid spells long e
 
-pub form_one : (h : Head) → HasFields h → (h.options ≡ 1 → ⊥) → h.options ≡ 0
-form_one h f ne = omega (arith, f.options, ne)
+pub options_one : (h : Head) → is_large h ≡ true → h.options ≡ 1
+options_one h large = elim (cases_eq h.options 1) [
+  | inl is ↦ is
+  | inr ne ↦ absurd (let e : false ≡ true = sym (ne_eqb h.options 1 ne) ∙ large in cc)
+]
 
 -- ---- one put after the other
 
@@ -215,3 +217,24 @@ module _ {S : Type 0} (s : Ghosts S) where
       (λ sections. inl sections)
       (λ one. inr (record { head = one.head; is_new = one.is_new; pairs = one.pairs; are = λ m w. one.are m (w.0, subst (λ (l : List ℕ). holds v l m) (sym (now w.0 v.body.file)) w.1); one = one.one }))
       (subst (λ (h : Hash S). LacksLarge s h b c) e lacks)
+
+  -- so it was written anew with what was held before
+  pub writes_before : (v v' w : Hash S) (a b c : S) → v' ≡ v → (s.tells → (g : ℕ) → s.now b g ≡ s.now a g) → WritesLarge s v' w b c → WritesLarge s v w a c
+  writes_before v v' w a b c e now writes =
+      let x = subst (λ (h : Hash S). WritesLarge s h w b c) e writes in
+      record { packs = x.packs; is_new = x.is_new; fills = λ m h. x.fills m (h.0, subst (λ (l : List ℕ). holds v l m) (sym (now h.0 v.body.file)) h.1); region = x.region }
+
+  -- pairs that were put into a file that was made anew, which are all of a map
+  pub writes_pairs : (u v w : Hash S) (a b c : S) (ps : List Pair) → MakesLarge s u v a b → StaysOpen v w → PutsPairs s ps v w b c → ((m : Map) → In s file_of holds u a m → ArePairs m (keys m) ps) → WritesLarge s u w a c
+  writes_pairs u v w a b c ps made stays puts are = record {
+    packs = record { nothing = puts.nothing; options_is = ap (λ (h : Head). h.options) stays.head ∙ options_one v.body.head made.is_new.form };
+    is_new = subst (λ (h : Head). IsLargeOf u h) (sym stays.head) made.is_new;
+    fills = λ m h. record {
+      pairs = ps;
+      are = are m h;
+      ends = puts.ends ∙ (λ i. (made.ends i + blocks_long v.body.head ps)) ∙ ap (λ (h : Head). h.first + blocks_long h ps) (sym stays.head);
+    };
+    region = λ t.
+        subst (λ (f : ℕ). (head_in (take 256 (s.now c f))).opaque ≡ w.region) (sym stays.map.file)
+        (ap (λ (l : List ℕ). (head_in l).opaque) (puts.front t) ∙ made.region t ∙ sym stays.map.region_same);
+  }

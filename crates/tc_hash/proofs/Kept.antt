@@ -51,6 +51,25 @@ links_head h records size region ps bytes (Bucket n) = refl
 links_head h records size region ps bytes (Left p) = refl
 links_head h records size region ps bytes (Right p) = refl
 
+-- and holds the same
+pub holds_now : (h : Head) (records size : ℕ) (region : List ℕ) (end n : ℕ) (frees : Frees) (m : Map) (bytes : List ℕ) → Holds (head_now h records size region) end frees n m bytes → Holds h end frees n m bytes
+holds_now h records size region end n frees m bytes held =
+    let w = held.has in
+    record {
+      has = record {
+        pieces = w.pieces;
+        places = w.places;
+        is = record {
+          laid = w.is.laid;
+          widths = w.is.widths;
+          hang = subst (λ (links : Links). AllHang links (record_at h.first w.pieces) h.buckets w.places) (λ i c. links_head h records size region w.pieces bytes c i) w.is.hang;
+          map = w.is.map;
+        };
+        short = w.short;
+      };
+      count = held.count;
+    }
+
 pub held_again : (h : Head) (end end' : ℕ) (ps qs : List Piece) (frees frees' : Frees) (places : Key → Option ℕ) (m : Map) (a b : List ℕ) → IsHeld h end ps frees places m a → LaidOut (unit h) h.first end' qs frees' none b → ((q : ℕ) → record_at h.first qs q ≡ record_at h.first ps q) → array h b ≡ array h a → IsHeld h end' qs frees' places m b
 held_again h end end' ps qs frees frees' places m a b held laid records entries = record {
   laid = laid;

@@ -6,6 +6,7 @@ use Rattle.tc_base.specs.declared.kind.Form.{Form}
 use Rattle.tc_space.specs.Changes.{same}
 use Rattle.tc_space.specs.Frames.{In, OnlyReads, Writes}
 use Rattle.hf_block.specs.declared.block.BlockAt.{BlockAt}
+use Rattle.hf_pack.specs.Moving.{Repacked}
 use Rattle.hf_pack.specs.Packing.{Packs}
 use Rattle.hf_tree.specs.Listing.{AreListed}
 use Rattle.tc_hash.specs.Listed.{OfBlocks}
@@ -25,7 +26,7 @@ use Rattle.hf_tree.specs.Standing.{AllHang}
 use Rattle.tc_hash.specs.declared.hash.Hash.{Hash}
 use Rattle.tc_hash.specs.Holding.{Holds}
 use Rattle.tc_hash.specs.Keeping.{file_of, holds, numbers_of}
-use Rattle.tc_hash.specs.Packing.{IsPacked, IsRepacked, IsTight}
+use Rattle.tc_hash.specs.Packing.{FillsFront, IsPacked, IsRepacked, IsTight}
 use Rattle.tc_hash.specs.Settling.{Settles, head_now}
 use Rattle.tc_hash.specs.Standing.{StandsAs, numbers_in}
 use Rattle.tc_hash.proofs.Tight.{packed_of, still_none}
@@ -35,15 +36,20 @@ use Rattle.tc_hash.proofs.Kept.{links_head}
 abbrev Packing : Head → ℕ → List ℕ → List ℕ → Type 0
 Packing x end old new = (ps : List Piece) → HasBlocks x x.size ps old → IsRepacked x end ps old new
 
+-- what the blocks of a map that is held were packed to
+held_packed : (h now : Head) (p : Pool) (records : ℕ) (region : List ℕ) (m : Map) (old new : List ℕ) (end : ℕ) → now ≡ head_now h records p.size region → Packing now end old new → (w : Holds h p.size (frees_in p) records m old) → Repacked (head_now h records p.size region) end w.has.pieces new
+held_packed h now p records region m old new end is packing held =
+    let w = held.has in
+    let x : Head = head_now h records p.size region in
+    let same_links : ◌≡◌ {A = Links} (links_of x w.pieces old) (links_of h w.pieces old) = λ i c. links_head h records p.size region w.pieces old c i in
+    let repack : Packing x end old new = subst (λ (y : Head). Packing y end old new) is packing in
+    let blocks : HasBlocks x x.size w.pieces old = record { on = w.is.laid.on; within = w.is.laid.within; filled = w.is.laid.filled; widths = w.is.widths } in
+    repack w.pieces blocks w.places (subst (λ (l : Links). AllHang l (record_at h.first w.pieces) h.buckets w.places) (sym same_links) w.is.hang)
+
 pub packed_holds : (h now : Head) (p p' : Pool) (records : ℕ) (region : List ℕ) (m : Map) (old new : List ℕ) (end : ℕ) → now ≡ head_now h records p.size region → Packing now end old new → p'.size ≡ end → ((q : ℕ) → frees_in p' q ≡ None) → Holds h p.size (frees_in p) records m old → Holds h p'.size (frees_in p') records m new
 packed_holds h now p p' records region m old new end is packing sized nothing held =
     let w = held.has in
-    let x : Head = head_now h records p.size region in
-    let same_links : (ps : List Piece) (bytes : List ℕ) → ◌≡◌ {A = Links} (links_of x ps bytes) (links_of h ps bytes) = λ ps bytes i c. links_head h records p.size region ps bytes c i in
-    let repack : Packing x end old new = subst (λ (y : Head). Packing y end old new) is packing in
-    let blocks : HasBlocks x x.size w.pieces old = record { on = w.is.laid.on; within = w.is.laid.within; filled = w.is.laid.filled; widths = w.is.widths } in
-    let hang : AllHang (links_of x w.pieces old) (record_at x.first w.pieces) x.buckets w.places = subst (λ (l : Links). AllHang l (record_at h.first w.pieces) h.buckets w.places) (sym (same_links w.pieces old)) w.is.hang in
-    let r = repack w.pieces blocks w.places hang in
+    let r = held_packed h now p records region m old new end is packing held in
     record {
       has = record {
         pieces = r.pieces;
@@ -57,13 +63,20 @@ packed_holds h now p p' records region m old new end is packing sized nothing he
             shared = λ q. shared_as (frees_of h.first r.pieces q) (frees_of h.first r.pieces q) None (frees_in p' q) None None refl (nothing q) refl (r.is.shared q);
           };
           widths = r.widths;
-          hang = subst (λ (l : Links). AllHang l (record_at h.first r.pieces) h.buckets r.places) (same_links r.pieces new) r.hang;
+          hang = subst (λ (l : Links). AllHang l (record_at h.first r.pieces) h.buckets r.places) (λ i c. links_head h records p.size region r.pieces new c i) r.hang;
           map = r.map (get m) w.is.map;
         };
         short = omega (arith, r.short, w.short, sized);
       };
       count = held.count;
     }
+
+-- they fill its front
+pub packed_fills : (h now : Head) (p p' : Pool) (records : ℕ) (region : List ℕ) (m : Map) (old new : List ℕ) (end : ℕ) → now ≡ head_now h records p.size region → Packing now end old new → p'.size ≡ end → (w : Holds h p.size (frees_in p) records m old) → FillsFront h p'.size w.has.pieces new
+packed_fills h now p p' records region m old new end is packing sized held =
+    let r = held_packed h now p records region m old new end is packing held in
+    let blocks : HasBlocks h end r.pieces new = record { on = r.is.on; within = r.is.within; filled = r.is.filled; widths = r.widths } in
+    subst (λ (n : ℕ). FillsFront h n held.has.pieces new) (sym sized) (record { links = r.links; blocks = subst (λ (ps : List Piece). HasBlocks h end ps new) r.are blocks; ends = r.ends })
 
 module _ {S : Type 0} (s : Ghosts S) where
   -- what is held in memory was brought to the file

@@ -1,5 +1,5 @@
 -- Values given to keys, made of steps.
-use Rattle.std.proofs.Common.{◌≡◌, ◌∙◌, ◌⊎◌, inl, inr, ⊎_elim, ℕ, ◌+◌, ◌-◌, ◌^◌, ◌<◌, ◌≤◌, List, [], ◌++◌, length, max, refl, sym, ap, subst, arith, false, Option, None, Some}
+use Rattle.std.proofs.Common.{◌≡◌, ◌∙◌, ◌⊎◌, inl, inr, ⊎_elim, ℕ, ◌+◌, ◌-◌, ◌^◌, ◌<◌, ◌≤◌, List, [], ◌++◌, length, max, take, refl, sym, ap, subst, arith, false, Option, None, Some}
 use Rattle.std.specs.Prelude.{unwrap_or, Result, Ok, Err, IfOk, OnErr, OnOk}
 use Rattle.std.specs.Result.{IsErrAnd}
 use Rattle.std.proofs.lemmas.Result.{err_from_is_err_and}
@@ -81,6 +81,7 @@ module _ {S : Type 0} (s : Ghosts S) where
   pub gives_more : (mode : Mode) (key value : List ℕ) (most more : ℕ) (v v' : Hash S) (a b : S) → most ≤ more → GivesValue s mode key value most v v' a b → GivesValue s mode key value more v v' a b
   gives_more mode key value most more v v' a b le g = record {
     writes = g.writes;
+    front = g.front;
     edits = λ m w. (let n : ℕ = size_for v key (put_value mode (get m key) value) in edits_more s v.body.file (n + most) (n + more) a b (omega (arith, le)) (g.edits m w));
     placed = λ m w. (let p = g.placed m w in record { was = p.was; stood = p.stood; place = p.place; allocates = p.allocates; stands = p.stands; beside = beside_more p.place _ most more _ _ le p.beside; long = p.long });
   }
@@ -91,6 +92,7 @@ module _ {S : Type 0} (s : Ghosts S) where
       let reads = looks_again s v a b r in
       record {
         writes = turns_after s (put_in mode key value) v v' a b c r g.writes;
+        front = λ t. g.front t ∙ ap (take 256) (r.files t v.body.file);
         edits = λ m w. edits_after s v.body.file (size_for v key (put_value mode (get m key) value) + most) a b c r (g.edits m (reads.means m w));
         placed = λ m w.
             let p = g.placed m (reads.means m w) in
@@ -133,6 +135,7 @@ module _ {S : Type 0} (s : Ghosts S) where
       means = λ m w. subst (λ (y : List ℕ). Means s v' b (insert m key y)) (each m w) (g.writes.means m w);
       others = g.writes.others;
     };
+    front = g.front;
     edits = λ m w. subst (λ (y : List ℕ). Edits s v.body.file (size_for v key y + most) a b) (each m w) (g.edits m w);
     placed = λ m w. subst (λ (y : List ℕ). IsPlaced s key (size_for v key y) most m (insert m key y) v v' a b) (each m w) (g.placed m w);
   }
@@ -172,6 +175,7 @@ module _ {S : Type 0} (s : Ghosts S) where
   gives_new key value to v v' a b stays ef counted gap p = record {
     writes = turned s (put_in Over key value) (size_for v key value + 13) v v' a b stays ef p.puts.sound p.puts.spares (λ t m has. (p.puts.map t m has).holds.has)
         (λ m w. counted ∙ count_in v.body.head v.body.pool.size (frees v.body.pool) m (s.now a v.body.file) key valid w.1.map.has to value v.records (gap w.0) w.1.map.count);
+    front = λ t. (p.puts.spares.front t).head;
     edits = λ m w. p.puts.spares.edits;
     placed = λ m w. record {
       was = None;
@@ -193,6 +197,7 @@ module _ {S : Type 0} (s : Ghosts S) where
   gives_over key value place room v v' a b stays ef counted found block enough p shortens = record {
     writes = turned s (put_in Over key value) (size_for v key value + 5) v v' a b stays ef p.sound p.spares (λ t m has. (p.map t m has).holds.has)
         (λ m w. counted ∙ count_same v.body.head v.body.pool.size (frees v.body.pool) m (s.now a v.body.file) key valid w.1.map.has place.at place.from value v.records (found.here w.0) w.1.map.count);
+    front = λ t. (p.spares.front t).head;
     edits = λ m w. p.spares.edits;
     placed = λ m w. record {
       was = Some (place.at, room);
@@ -217,6 +222,7 @@ module _ {S : Type 0} (s : Ghosts S) where
     edits = maps.spares.edits;
     gives = gives;
     head = stays.head;
+    front = λ t. (maps.spares.front t).head;
     long = maps.long;
   }
 
@@ -241,6 +247,7 @@ module _ {S : Type 0} (s : Ghosts S) where
       means = λ m h. subst (λ (x : Map). Means s u c x) (insert_again m key value) (g.writes.means (remove m key) (t.writes.means m h));
       others = others_then s (Only v.body.file) a b c t.writes.others (subst (λ (f : ℕ). Others s (Only f) b c) same g.writes.others);
     };
+    front = λ x. subst (λ (f : ℕ). take 256 (s.now c f) ≡ take 256 (s.now b f)) same (g.front x) ∙ t.front x;
     edits = λ m h.
         let n : ℕ = size_for v key value in
         let e = subst (λ (k : ℕ). Edits s w.body.file (k + 13) b c) (sized_same key value v w t.head) (g.edits (remove m key) (t.writes.means m h)) in

@@ -1,17 +1,20 @@
 -- A packed file once it is settled.
-use Rattle.std.proofs.Common.{◌≡◌, ◌∙◌, ◌⊎◌, inl, inr, ℕ, ◌<◌, ◌≤◌, List, length, Option, None, refl, sym, ap, subst}
-use Rattle.std.proofs.lemmas.Bool.{cases_lt}
+use Rattle.std.proofs.Common.{◌≡◌, ◌∙◌, ◌⊎◌, inl, inr, ℕ, ◌<◌, ◌≤◌, true, false, List, length, Option, None, Some, refl, sym, ap, subst}
+use Rattle.std.proofs.lemmas.Bool.{cases_lt, eq-eqb}
 use Rattle.tc_base.specs.Maps.{Map}
 use Rattle.tc_base.specs.declared.kind.Form.{Form}
 use Rattle.tc_base.specs.declared.kind.Form.TheVariants as form
 use Rattle.hf_head.specs.declared.head.Head.{Head}
+use Rattle.hf_head.specs.Heads.{head_in, is_large}
 use Rattle.hf_layout.specs.Frees.{Frees}
 use Rattle.hf_layout.specs.Layout.{IsShared}
 use Rattle.hf_pool.specs.Pools.{frees}
 use Rattle.hf_pool.specs.Trims.{Trimmed}
 use Rattle.hf_record.specs.declared.body.Body.{Body}
 use Rattle.tc_hash.specs.declared.hash.Hash.{Hash}
-use Rattle.tc_hash.specs.Packing.{IsPacked, IsTight, Packs, options_for}
+use Rattle.tc_space.specs.declared.space.Space.{Ghosts}
+use Rattle.tc_hash.specs.Keeping.{SameMap, ShowsRegion}
+use Rattle.tc_hash.specs.Packing.{EndsInRecord, IsPacked, IsTight, MovesRecords, Packs, PacksAs, WritesLarge, options_for}
 use Rattle.tc_hash.specs.Settling.{Brought, head_now}
 
 -- the free blocks at the end were dropped, of none
@@ -56,3 +59,38 @@ tight_trimmed old new head trimmed f tight = record {
   nothing = still_none (frees old.body.pool) (frees new.body.pool) old.body.pool.size new.body.pool.size trimmed tight.nothing;
   large = λ is. ap (λ (h : Head). h.options) head ∙ tight.large is;
 }
+
+-- ---- how it was packed
+
+module _ {S : Type 0} (s : Ghosts S) (f : Form) (v v' : Hash S) (a b : S) where
+  -- in the form that it has
+  pub kept_as : options_for f v ≡ v.body.head.options → SameMap v v' → Packs v.body.head.options v' → MovesRecords s v v' a b → PacksAs f s v v' a b
+  kept_as same map packs moves = record {
+    packs = record { nothing = packs.nothing; options_is = packs.options_is ∙ sym same };
+    fills = inl moves;
+    region = λ t shows. subst (λ (n : ℕ). ShowsRegion v' (s.now b n)) (sym map.file) (ap (λ (l : List ℕ). (head_in l).opaque) (moves.front t) ∙ shows ∙ sym map.region_same);
+  }
+
+  -- or anew
+  pub enlarged_as : f ≡ form.Large → is_large v.body.head ≡ false → WritesLarge s v v' a b → PacksAs f s v v' a b
+  enlarged_as asked small writes = record {
+    packs = record { nothing = writes.packs.nothing; options_is = writes.packs.options_is ∙ sym (ap (λ (x : Form). options_for x v) asked) };
+    fills = inr (record { asked = asked; small = λ one. (let e : true ≡ false = sym (eq-eqb v.body.head.options 1 one) ∙ small in cc); writes = writes });
+    region = λ t shows. writes.region t;
+  }
+
+-- a settled file ends in the block of a record, where it has one
+pub ends_of : (h : Head) (end : ℕ) (old new : Frees) (old_end records : ℕ) (region : List ℕ) (m : Map) (bytes : List ℕ) → Brought h end new records region m bytes → length bytes ≡ end → Trimmed old new old_end end → EndsInRecord bytes
+ends_of h end old new old_end records region m bytes brought long trimmed =
+    let is = brought.holds.has.is in record {
+      head = head_now h records end region;
+      pieces = brought.holds.has.pieces;
+      in_front = brought.head;
+      long = long;
+      blocks = record { on = is.laid.on; within = is.laid.within; filled = is.laid.filled; widths = is.widths };
+      last = λ q t there at some. trimmed.last q t (pooled _ _ t (is.laid.shared q) there) at some;
+    }
+  where
+    pooled : (there pool : Option ℕ) (t : ℕ) → IsShared there pool None → there ≡ Some t → pool ≡ Some t
+    pooled there pool t (inl pools) e = pools.0 ∙ e
+    pooled there pool t (inr lents) e = absurd (let f : None ≡ Some t = lents.1 ∙ e in cc)

@@ -1,5 +1,5 @@
 -- A file made anew.
-use Rattle.std.specs.Prelude.{◌≡◌, ◌≢◌, ◌⊎◌, ℕ, ◌+◌, ◌-◌, ◌%◌, ◌^◌, ◌<◌, ◌≤◌, Bool, List, [], ◌++◌, replicate, take}
+use Rattle.std.specs.Prelude.{◌≡◌, ◌≢◌, ◌⊎◌, ℕ, ◌+◌, ◌-◌, ◌%◌, ◌^◌, ◌<◌, ◌≤◌, Bool, List, [], ◌++◌, replicate, take, None}
 use Rattle.std.specs.FinMap.{empty}
 use Rattle.tc_space.specs.Frames.{Others}
 use Rattle.tc_space.specs.Ranges.{IsDataFile}
@@ -8,7 +8,8 @@ use Rattle.tc_space.specs.declared.space.Space.{Ghosts}
 use Rattle.hf_head.specs.declared.head.Head.{Head}
 use Rattle.hf_head.specs.Heads.{head_in, is_large, sections, spelled, unit}
 use Rattle.tc_hash.specs.declared.hash.Hash.{Hash}
-use Rattle.tc_hash.specs.Keeping.{holds}
+use Rattle.hf_pool.specs.Pools.{frees}
+use Rattle.tc_hash.specs.Keeping.{ShowsRegion, holds}
 use Rattle.tc_hash.specs.Settling.{IsBrought}
 
 -- numbers that a new file may have
@@ -42,6 +43,10 @@ pub record IsEmptyIn {S : Type 0} (s : Ghosts S) (space : S) (file : ℕ) : Type
   pub data_file : IsDataFile file
   pub none : s.tells → s.now space file ≡ []
 
+-- a head with the region of an owner
+abbrev pub with_region : Head → List ℕ → Head
+with_region h region = record h { opaque = region }
+
 -- the bytes of a file without blocks: the head, and zeros behind it
 abbrev pub new_bytes : Head → List ℕ
 new_bytes h = spelled h ++ replicate (h.first - 256) 0
@@ -54,6 +59,15 @@ pub record Creates {S : Type 0} (s : Ghosts S) (file : ℕ) (h : Hash S) (old ne
   pub held : s.tells → holds h (s.now new file) empty
   pub head : s.tells → head_in (take 256 (s.now new file)) ≡ h.body.head
   pub made : s.tells → s.now new file ≡ new_bytes h.body.head
+
+-- a file was made anew with the numbers and in the form that it had, without records: its bytes are its head, with the region that is held, and zeros behind it;
+-- its blocks would begin where they end, and none is free
+pub record Clears {S : Type 0} (s : Ghosts S) (v v' : Hash S) (new : S) : Type 0 where
+  pub is_new : IsNew v.body.head.kind v.body.head.apow v.body.head.fpow v.body.head.buckets (is_large v.body.head) v'.body.head
+  pub made : s.tells → s.now new v.body.file ≡ new_bytes (with_region v'.body.head v.region)
+  pub region : s.tells → ShowsRegion v' (s.now new v.body.file)
+  pub nothing : (q : ℕ) → frees v'.body.pool q ≡ None
+  pub ends : v'.body.pool.size ≡ v'.body.head.first
 
 -- so many bytes pass the file's limit, or what a head can name, or the undo log is full
 abbrev pub HasNoRoom : ℕ → Type 0 → ℕ → Type 0

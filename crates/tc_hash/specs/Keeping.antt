@@ -1,5 +1,5 @@
 -- What a hash file that is held open keeps, and what calls on its records do.
-use Rattle.std.specs.Prelude.{◌≡◌, ◌⊎◌, ℕ, ◌+◌, ◌^◌, ◌<◌, ◌≤◌, false, List, length, max, Option}
+use Rattle.std.specs.Prelude.{◌≡◌, ◌⊎◌, ℕ, ◌+◌, ◌^◌, ◌<◌, ◌≤◌, false, List, length, max, take, Option}
 use Rattle.std.proofs.Common.{inl, inr, ⊎_elim, ap, subst, sym}
 use Rattle.std.specs.FinMap.{get}
 use Rattle.tc_base.specs.Maps.{Map}
@@ -9,6 +9,7 @@ use Rattle.tc_space.specs.Changes.{out_of, put_in, put_value}
 use Rattle.tc_space.specs.Frames.{GivenUp, In, Reads, Refuses, Writes}
 use Rattle.tc_space.specs.Stores.{CountsGet, IsReady, Only}
 use Rattle.tc_space.specs.declared.space.Space.{Ghosts}
+use Rattle.hf_head.specs.Heads.{head_in}
 use Rattle.hf_pool.specs.declared.pool.Pool.{Pool}
 use Rattle.hf_pool.specs.Pools.{Takes, frees}
 use Rattle.hf_record.specs.Allocating.{Allocates, HoldsAt, HoldsWritten, Stands, TakesFrom}
@@ -64,6 +65,10 @@ pub record SameShape {S : Type 0} (old new : Hash S) : Type 0 where
   pub buckets : new.body.head.buckets ≡ old.body.head.buckets
   pub options : new.body.head.options ≡ old.body.head.options
 
+-- the head that stands in front of the file has the region that is held. So it is once the file was opened, made or settled, and as long as no other region is set
+abbrev pub ShowsRegion : {S : Type 0} → Hash S → List ℕ → Type 0
+ShowsRegion h bytes = (head_in (take 256 bytes)).opaque ≡ region_of h
+
 -- with these bytes in its file it holds this map
 abbrev pub holds : {S : Type 0} → Hash S → List ℕ → Map → Type 0
 holds h bytes m = HoldsFile h bytes m
@@ -92,6 +97,10 @@ module _ {S : Type 0} (s : Ghosts S) where
   -- the space may not be used any more, or nothing has changed
   abbrev pub Refused : Hash S → Hash S → S → S → Type 0
   Refused v v' old new = Refuses s Means v v' old new
+
+  -- the head that stands in front of a file stays
+  abbrev pub KeepsHead : ℕ → S → S → Type 0
+  KeepsHead file old new = s.tells → take 256 (s.now new file) ≡ take 256 (s.now old file)
 
   -- what asking for a key costs
   abbrev pub AsksFor : List ℕ → (Map → ℕ) → Hash S → ℕ → ℕ → S → S → Type 0
@@ -127,6 +136,7 @@ pub record TakesRecord {S : Type 0} (s : Ghosts S) (key : List ℕ) (at size : �
   pub edits : Edits s v.body.file 21 old new
   pub gives : Gives at size v.body.pool v'.body.pool
   pub head : v'.body.head ≡ v.body.head
+  pub front : KeepsHead s v.body.file old new
   pub long : s.tells → length (s.now new v.body.file) ≡ length (s.now old v.body.file)
 
 -- so was that of a key of a map that is held, out of the block in which it stood
@@ -150,6 +160,7 @@ pub record IsPlaced {S : Type 0} (s : Ghosts S) (key : List ℕ) (size most : �
 -- a key was given a value, alone or behind the one that it had: its record stands in the least block that holds it, and besides that at most so many bytes differ
 pub record GivesValue {S : Type 0} (s : Ghosts S) (mode : Mode) (key value : List ℕ) (most : ℕ) (v v' : Hash S) (old new : S) : Type 0 where
   pub writes : Turns s (put_in mode key value) v v' old new
+  pub front : KeepsHead s v.body.file old new
   pub edits : (m : Map) → Means s v old m → Edits s v.body.file (size_for v key (put_value mode (get m key) value) + most) old new
   pub placed : (m : Map) → Means s v old m → IsPlaced s key (size_for v key (put_value mode (get m key) value)) most m (put_in mode key value m) v v' old new
 

@@ -12,14 +12,14 @@ use Rattle.hf_block.specs.Pieces.{Piece}
 use Rattle.hf_block.specs.Written.{block_len}
 use Rattle.hf_layout.specs.Frees.{Frees}
 use Rattle.hf_layout.specs.Layout.{frees_of, record_at}
-use Rattle.hf_pack.specs.Moving.{Repacked}
+use Rattle.hf_pack.specs.Moving.{Repacked, moved, records_long}
 use Rattle.hf_pool.specs.Pools.{frees}
 use Rattle.hf_tree.specs.Links.{HasBlocks, links_of, width}
 use Rattle.hf_tree.specs.Keys.{Key}
 use Rattle.hf_tree.specs.Standing.{AllHang}
 use Rattle.tc_hash.specs.declared.hash.Hash.{Hash}
 use Rattle.tc_hash.specs.Creating.{IsNew}
-use Rattle.tc_hash.specs.Keeping.{Means, SameMap, Turns}
+use Rattle.tc_hash.specs.Keeping.{KeepsHead, Means, SameMap, ShowsRegion, Turns}
 use Rattle.hf_record.specs.Moves.{IsRefusedFor}
 
 -- no free block is left, and this is the form of the file
@@ -42,6 +42,15 @@ pub record IsPacked (f : Form) (bytes : List ℕ) : Type 0 where
   pub none_free : (q : ℕ) → frees_of head.first pieces q ≡ None
   pub large : f ≡ form.Large → head.options ≡ 1
 
+-- a file that has just the size that its head says, at whose end no block is free
+pub record EndsInRecord (bytes : List ℕ) : Type 0 where
+  pub head : Head
+  pub pieces : List Piece
+  pub in_front : head_in (take 256 bytes) ≡ head
+  pub long : length bytes ≡ head.size
+  pub blocks : HasBlocks head head.size pieces bytes
+  pub last : (q t : ℕ) → frees_of head.first pieces q ≡ Some t → q + t ≡ head.size → 0 < t → ⊥
+
 -- the file, the region and the count of gets stay, and so do the numbers of the file
 pub record StaysNumbered {S : Type 0} (old new : Hash S) : Type 0 where
   pub map : SameMap old new
@@ -57,6 +66,18 @@ IsRepacked h end ps before after = (places : Key → Option ℕ) → AllHang (li
 abbrev pub options_for : {S : Type 0} → Form → Hash S → ℕ
 options_for form.Keep h = h.body.head.options
 options_for form.Large h = 1
+
+-- the blocks of the records among blocks stand in a file from the first block's place on up to an end, as they are and in the order that they had, but for their chains
+pub record FillsFront (h : Head) (end : ℕ) (ps : List Piece) (bytes : List ℕ) : Type 0 where
+  pub links : ℕ → ℕ
+  pub blocks : HasBlocks h end (moved links ps) bytes
+  pub ends : end ≡ h.first + records_long ps
+
+-- a file was packed in the form that it has: its head stays, and the blocks of all records were moved to the front
+pub record MovesRecords {S : Type 0} (s : Ghosts S) (v v' : Hash S) (old new : S) : Type 0 where
+  pub head : v'.body.head ≡ v.body.head
+  pub front : KeepsHead s v.body.file old new
+  pub blocks : (m : Map) (w : Means s v old m) → FillsFront v.body.head v'.body.pool.size w.1.map.has.pieces (s.now new v.body.file)
 
 -- ---- pairs
 
@@ -86,6 +107,19 @@ abbrev pub blocks_long : Head → List Pair → ℕ
 blocks_long h [] = 0
 blocks_long h (p ∷ ps) = block_len (width h) p.key p.value (unit h) + blocks_long h ps
 
+-- the blocks of the pairs of a map, each the least one that holds its pair, fill a file from the first block's place on up to an end
+pub record FillsLeast (h : Head) (end : ℕ) (m : Map) : Type 0 where
+  pub pairs : List Pair
+  pub are : ArePairs m (keys m) pairs
+  pub ends : end ≡ h.first + blocks_long h pairs
+
+-- pairs were put into a file that has no free blocks, one after the other: it has none, and ends behind their blocks
+pub record PutsPairs {S : Type 0} (s : Ghosts S) (pairs : List Pair) (v v' : Hash S) (old new : S) : Type 0 where
+  pub writes : Turns s (λ m. with_pairs m pairs) v v' old new
+  pub nothing : (q : ℕ) → frees v'.body.pool q ≡ None
+  pub ends : v'.body.pool.size ≡ v.body.pool.size + blocks_long v.body.head pairs
+  pub front : KeepsHead s v.body.file old new
+
 -- no block was to be had for a record in a file that has no free blocks and whose blocks end there
 pub record LacksEnd {S : Type 0} (s : Ghosts S) (h : Head) (file end : ℕ) (space : S) (key value : List ℕ) : Type 0 where
   pub free : Frees
@@ -110,6 +144,26 @@ pub record MakesLarge {S : Type 0} (s : Ghosts S) (v v' : Hash S) (old new : S) 
   pub is_new : IsLargeOf v v'.body.head
   pub nothing : (q : ℕ) → frees v'.body.pool q ≡ None
   pub ends : v'.body.pool.size ≡ v'.body.head.first
+  pub region : s.tells → ShowsRegion v' (s.now new v'.body.file)
+
+-- a file was written anew in the large form, with the records that it had in the least blocks
+pub record WritesLarge {S : Type 0} (s : Ghosts S) (v v' : Hash S) (old new : S) : Type 0 where
+  pub packs : Packs 1 v'
+  pub is_new : IsLargeOf v v'.body.head
+  pub fills : (m : Map) → Means s v old m → FillsLeast v'.body.head v'.body.pool.size m
+  pub region : s.tells → ShowsRegion v' (s.now new v'.body.file)
+
+-- so was a small one, as was asked for
+pub record Enlarges {S : Type 0} (f : Form) (s : Ghosts S) (v v' : Hash S) (old new : S) : Type 0 where
+  pub asked : f ≡ form.Large
+  pub small : v.body.head.options ≡ 1 → ⊥
+  pub writes : WritesLarge s v v' old new
+
+-- a file was packed, by moving its records or written anew: no free block is left, it has the form that is asked for, and its head shows the region as before
+pub record PacksAs {S : Type 0} (f : Form) (s : Ghosts S) (v v' : Hash S) (old new : S) : Type 0 where
+  pub packs : Packs (options_for f v) v'
+  pub fills : MovesRecords s v v' old new ⊎ Enlarges f s v v' old new
+  pub region : s.tells → ShowsRegion v (s.now old v.body.file) → ShowsRegion v' (s.now new v'.body.file)
 
 -- the sections of a file made anew in the large form pass the file's limit, or what a head can name
 pub record LacksSections {S : Type 0} (s : Ghosts S) (h : Hash S) (space : S) : Type 0 where

@@ -7,7 +7,7 @@ ghost use Rattle.tc_space.specs.Ranges.{IsDataFile};
 ghost use Rattle.tc_space.specs.Refusals.{OnFault, OnlyLogIsFull};
 ghost use Rattle.hf_head.specs.Heads.{Spells, is_large, spelled, unit};
 ghost use Rattle.tc_reach.specs.Limits.{AreZeros};
-ghost use Rattle.tc_hash.specs.Creating.{IsNew};
+ghost use Rattle.tc_hash.specs.Creating.{Clears, IsNew, with_region};
 ghost use Rattle.hf_record.specs.Fields.{HasFields};
 ghost use Rattle.tc_hash.specs.Keeping.{CanCall, Refused, SameMap, SameShape, Turns};
 
@@ -33,6 +33,23 @@ fn head_anew(head: &Head) -> Head
         head.buckets,
         head.is_large(),
     )
+}
+
+/// A head with a region.
+pub(crate) fn head_with(head: &Head, region: &[u8; 128]) -> Head
+    ensures { result ≡ with_region head.now region.now }
+{
+    Head {
+        kind: head.kind,
+        apow: head.apow,
+        fpow: head.fpow,
+        options: head.options,
+        buckets: head.buckets,
+        records: head.records,
+        size: head.size,
+        first: head.first,
+        opaque: *region,
+    }
 }
 
 /// Cuts a file, and writes a head and zeros behind it. After a refusal the space isn't sound.
@@ -75,7 +92,8 @@ impl<S: Space> Hash<S> {
         self.front = None;
     }
 
-    /// Takes all keys out: the file is cut and made anew with the numbers and in the form that it has. The region and the count of gets stay.
+    /// Takes all keys out: the file is cut and made anew with the numbers and in the form that it has. It ends where its first block would begin, and none is free.
+    /// The region, which is in the head that is written, and the count of gets stay.
     /// After a refusal the space isn't sound, or nothing has changed.
     pub fn clear(&mut self, space: &mut S) -> Result<(), RecErr>
         requires { CanCall S.Space self.old space.old }
@@ -85,12 +103,14 @@ impl<S: Space> Hash<S> {
         ensures keeps { Keeps S.Space space.old space.new }
         ensures stays { SameMap self.old self.new }
         ensures shape { SameShape self.old self.new }
+        ensures made { OnOk result (Clears S.Space self.old self.new space.new) }
         ensures cause { OnFault S.Space result space.old space.new }
     {
         let head = head_anew(&self.body.head);
+        let written = head_with(&head, &self.region);
         let zeros = vec![in self.body.alloc; 0; PIECE]?;
         let pool = new_pool(self.body.alloc, &head)?;
-        write_anew(space, self.body.file, &head, &zeros)?;
+        write_anew(space, self.body.file, &written, &zeros)?;
         self.empty(head, pool);
         Ok(())
     }

@@ -12,9 +12,9 @@ ghost use Rattle.hf_record.specs.Fields.{HasFields};
 ghost use Rattle.hf_record.specs.Holding.{Has};
 ghost use Rattle.tc_hash.specs.Creating.{IsNew};
 ghost use Rattle.tc_hash.specs.Keeping.{CanCall, Means, Refused, StaysOpen, Turns};
-ghost use Rattle.tc_hash.specs.Packing.{AddsPair, ArePairs, LacksLarge, LacksOne, LacksSections, LeavesHead, MakesLarge, Packs, StaysNumbered, with_pairs};
+ghost use Rattle.tc_hash.specs.Packing.{AddsPair, ArePairs, LacksLarge, LacksOne, LacksSections, LeavesHead, MakesLarge, PutsPairs, StaysNumbered, WritesLarge};
 
-use crate::clearing::write_anew;
+use crate::clearing::{head_with, write_anew};
 use crate::create::{PIECE, new_head, new_pool};
 use crate::hash::Hash;
 use hf_head::Head;
@@ -71,8 +71,7 @@ impl<S: Space> Hash<S> {
     fn put_pairs(&mut self, space: &mut S, pairs: &Pairs) -> Result<(), RecErr>
         requires ready { CanCall S.Space self.old space.old }
         requires nothing { (q : ℕ) → frees self.old.body.pool q ≡ None }
-        ensures put { OnOk result (Turns S.Space (λ m. with_pairs m pairs.now) self.old self.new space.old space.new) }
-        ensures nothing { OnOk result ((q : ℕ) → frees self.new.body.pool q ≡ None) }
+        ensures put { OnOk result (PutsPairs S.Space pairs.now self.old self.new space.old space.new) }
         ensures outcome { Outcome S.sound S.flag result space.new }
         ensures full { IsErrOf result RecErr.Full → S.tells → S.log_full space.new ⊎ LacksOne S.Space self.old.body.head self.old.body.file self.old.body.pool.size space.new pairs.now }
         ensures keeps { Keeps S.Space space.old space.new }
@@ -107,9 +106,10 @@ impl<S: Space> Hash<S> {
         if head.size > FILE_MOST {
             return Err(RecErr::Full);
         }
+        let written = head_with(&head, &self.region);
         let zeros = vec![in self.body.alloc; 0; PIECE]?;
         let pool = new_pool(self.body.alloc, &head)?;
-        write_anew(space, self.body.file, &head, &zeros)?;
+        write_anew(space, self.body.file, &written, &zeros)?;
         self.empty(head, pool);
         Ok(())
     }
@@ -124,7 +124,7 @@ impl<S: Space> Hash<S> {
         ensures keeps { Keeps S.Space space.old space.new }
         ensures stays { StaysNumbered self.old self.new }
         ensures left { OnErr result (LeavesHead S.Space self.old self.new space.new) }
-        ensures packs { OnOk result (Packs 1 self.new) }
+        ensures writes { OnOk result (WritesLarge S.Space self.old self.new space.old space.new) }
         ensures cause { OnFault S.Space result space.old space.new }
     {
         self.make_large(space)?;
@@ -142,7 +142,7 @@ impl<S: Space> Hash<S> {
         ensures keeps { Keeps S.Space space.old space.new }
         ensures stays { StaysNumbered self.old self.new }
         ensures left { OnErr result (LeavesHead S.Space self.old self.new space.new) }
-        ensures packs { OnOk result (Packs 1 self.new) }
+        ensures writes { OnOk result (WritesLarge S.Space self.old self.new space.old space.new) }
         ensures cause { OnFault S.Space result space.old space.new }
     {
         let mut steps: Steps<()> = Steps::new();

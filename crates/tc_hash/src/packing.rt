@@ -9,7 +9,7 @@ ghost use Rattle.hf_pool.specs.Pools.{frees};
 ghost use Rattle.hf_record.specs.Fields.{HasFields};
 ghost use Rattle.tc_hash.specs.Keeping.{CanCall, Refused, Turns};
 ghost use Rattle.tc_hash.specs.Listed.{CanList, OfBlocks};
-ghost use Rattle.tc_hash.specs.Packing.{IsRepacked, LacksPacking, LeavesHead, Packs, StaysNumbered, options_for};
+ghost use Rattle.tc_hash.specs.Packing.{IsRepacked, LacksPacking, LeavesHead, MovesRecords, Packs, PacksAs, StaysNumbered};
 
 use crate::hash::Hash;
 use crate::walking::list_blocks;
@@ -66,6 +66,7 @@ impl<S: Space> Hash<S> {
         ensures stays { StaysNumbered self.old self.new }
         ensures head { self.new.body.head ≡ self.old.body.head }
         ensures packs { OnOk result (Packs self.old.body.head.options self.new) }
+        ensures moves { OnOk result (MovesRecords S.Space self.old self.new space.old space.new) }
         ensures cause { OnFault S.Space result space.old space.new }
     {
         let head = self.head_now();
@@ -88,8 +89,9 @@ impl<S: Space> Hash<S> {
     }
 
     /// Packs the file: no free block is left. In the form that it has, the blocks of all records are moved to the front, in ascending place, and trees keep
-    /// their shape; it takes memory for each block, and none for keys and values. A small file is written anew in the large form, with its records in
-    /// ascending order of their keys, which are all held in memory for it; a large one stays large. `settle` brings the end of the blocks to the file. After
+    /// their shape; it takes memory for each block, and none for keys and values. So the blocks end behind the bytes that those of the records have. A small file is
+    /// written anew in the large form, with its records in the least blocks and in ascending order of their keys, which are all held in memory for it; a large one
+    /// stays large, and its blocks are moved. `settle` brings the end of the blocks to the file. After
     /// a refusal the space isn't sound, or nothing has changed.
     pub fn pack(&mut self, space: &mut S, form: Form) -> Result<(), RecErr>
         requires { CanCall S.Space self.old space.old }
@@ -99,7 +101,7 @@ impl<S: Space> Hash<S> {
         ensures keeps { Keeps S.Space space.old space.new }
         ensures stays { StaysNumbered self.old self.new }
         ensures left { OnErr result (LeavesHead S.Space self.old self.new space.new) }
-        ensures packs { OnOk result (Packs (options_for form self.old) self.new) }
+        ensures packs { OnOk result (PacksAs form S.Space self.old self.new space.old space.new) }
         ensures cause { OnFault S.Space result space.old space.new }
     {
         match form {

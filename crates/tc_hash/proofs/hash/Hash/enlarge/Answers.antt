@@ -1,5 +1,5 @@
 use Rattle.std.proofs.Common.{◌∙◌, inl, inr, ⊎_elim, ℕ, List, ap, subst}
-use Rattle.tc_hash.proofs.Enlarged.{in_before, large_before, packed_after}
+use Rattle.tc_hash.proofs.Enlarged.{in_before, large_before, packed_after, writes_before}
 use Rattle.tc_hash.proofs.Records.{can_change, looks_again, refuses_after, still_ready, turns_after}
 use Rattle.tc_hash.proofs.Stored.{from_done, from_refused}
 use Rattle.tc_hash.specs.Keeping.{Means}
@@ -52,3 +52,6 @@ returns-in_err-pairs-clause-left g c = on_err_any _ (inr (ap (λ (h : Hash _). h
 
 pub returns-clause-left : goal.returns-clause-left
 returns-clause-left g c = from_refused _ c.write_large.ensures.left (λ left. ⊎_elim (λ spoiled. inl spoiled) (λ same. inr (same ∙ ap (λ (h : Hash _). h.body.head) c.keys.ensures.same)) left)
+
+pub returns-clause-writes : goal.returns-clause-writes
+returns-clause-writes g c = from_done _ c.write_large.ensures.writes (λ writes. writes_before g.S.Space c.args.self.now c.keys.new.self c.write_large.new.self c.args.space.now c.pairs_of.new.space c.write_large.new.space c.keys.ensures.same (λ u f. c.pairs_of.ensures.reads.files u f ∙ c.keys.ensures.reads.now u f) writes)

@@ -3,8 +3,9 @@ use Rattle.hf_head.specs.declared.head.Head.{Head}
 use Rattle.hf_pool.specs.Pools.{frees}
 use Rattle.hf_pool.specs.declared.pool.Pool.{Pool}
 use Rattle.hf_record.proofs.Valid.{is_data}
-use Rattle.tc_hash.proofs.Cleared.{emptied, some_zeros}
+use Rattle.tc_hash.proofs.Cleared.{emptied, shows_with, some_zeros}
 use Rattle.tc_hash.proofs.Enlarged.{large_fields, large_holds}
+use Rattle.tc_hash.specs.Keeping.{ShowsRegion}
 use Rattle.tc_hash.specs.Packing.{IsLargeOf}
 use Rattle.tc_reach.proofs.Handed.{err_handed, on_err_any}
 use Rattle.tc_hash.proofs.hash.Hash.make_large.Goals as goal
@@ -28,11 +29,16 @@ returns-clause-made g c =
     let new = c.large_head-head.ensures.new in
     let done = c.in_ok-write_anew.ensures in
     record {
-      empties = emptied g.S.Space self c.empty.new.self c.large_head-head.result c.in_ok-pool.pool c.args.space.now c.write_anew.new.space e.body.0 e.body.1 e.body.2 e.numbers.0 e.numbers.1 c.in_ok-pool.ensures.noted done.outcome.ok done.spells.0 done.spells.1 done.wrote
-          (λ t. large_holds self.body.head c.large_head-head.result c.in_ok-pool.pool (g.S.Space.now c.write_anew.new.space self.body.file) self.body.valid new (omega (arith, c.if-head-gt-FILE_MOST.false)) c.in_ok-pool.ensures.unit c.in_ok-pool.ensures.size c.in_ok-pool.ensures.none c.in_ok-pool.ensures.laid done.spells.0 done.spells.1 (done.wrote t).here);
+      empties = emptied g.S.Space self c.empty.new.self c.large_head-head.result c.head_with-written.result self.region c.in_ok-pool.pool c.args.space.now c.write_anew.new.space e.body.0 e.body.1 e.body.2 e.numbers.0 e.numbers.1 c.in_ok-pool.ensures.noted done.outcome.ok
+          c.head_with-written.ensures done.spells.0 done.spells.1 done.wrote
+          (λ t. large_holds self.body.head c.large_head-head.result c.head_with-written.result self.region c.in_ok-pool.pool (g.S.Space.now c.write_anew.new.space self.body.file) self.body.valid new (omega (arith, c.if-head-gt-FILE_MOST.false)) c.head_with-written.ensures c.in_ok-pool.ensures.unit c.in_ok-pool.ensures.size c.in_ok-pool.ensures.none c.in_ok-pool.ensures.laid
+          done.spells.0 done.spells.1 (done.wrote t).here);
       is_new = subst (λ (h : Head). IsLargeOf self h) (sym e.body.1) new;
       nothing = λ q. ap (λ (p : Pool). frees p q) e.body.2 ∙ c.in_ok-pool.ensures.none q;
       ends = ap (λ (p : Pool). p.size) e.body.2 ∙ c.in_ok-pool.ensures.size ∙ new.size ∙ ap (λ (h : Head). h.first) (sym e.body.1);
+      region = λ t.
+          subst (λ (f : ℕ). ShowsRegion c.empty.new.self (g.S.Space.now c.write_anew.new.space f)) (sym e.body.0)
+          (shows_with c.empty.new.self c.large_head-head.result c.head_with-written.result self.region (g.S.Space.now c.write_anew.new.space self.body.file) e.stays.0 c.head_with-written.ensures done.spells.0 done.spells.1 (done.wrote t).here);
     }
 
 pub returns-clause-stays : goal.returns-clause-stays
@@ -51,7 +57,8 @@ returns-in_err-write_anew-clause-full g c = λ full t. ⊎_elim
     (λ past. inr (record {
       head = c.large_head-head.result;
       is_new = c.large_head-head.ensures.new;
-      lacks = inl (subst (λ (l : ℕ → ℕ). l c.args.self.now.body.file < c.large_head-head.result.first) (sym c.write_anew.ensures.keeps.same_limit) past);
+      lacks = inl (subst (λ (n : ℕ). g.S.Space.limit c.write_anew.new.space c.args.self.now.body.file < n) (ap (λ (h : Head). h.first) c.head_with-written.ensures)
+          (subst (λ (l : ℕ → ℕ). l c.args.self.now.body.file < c.head_with-written.result.first) (sym c.write_anew.ensures.keeps.same_limit) past));
     }))
     (λ log. inl log)
     (c.in_err-write_anew.ensures.full (err_handed c.from_residual-in_err-write_anew.result c.in_err-write_anew.field-0.0 _ c.from_residual-in_err-write_anew.ensures.1 full) t)

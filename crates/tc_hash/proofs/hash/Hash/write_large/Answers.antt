@@ -1,5 +1,5 @@
 use Rattle.std.proofs.Common.{inl, inr, ⊎_elim}
-use Rattle.tc_hash.proofs.Enlarged.{anew_packed, lacks_record, pairs_make}
+use Rattle.tc_hash.proofs.Enlarged.{anew_packed, lacks_record, pairs_make, writes_pairs}
 use Rattle.tc_hash.specs.Keeping.{Means, file_of}
 use Rattle.tc_reach.proofs.Handed.{err_handed, on_err_any}
 use Rattle.tc_space.specs.Stores.{Only, ready_writes}
@@ -12,7 +12,10 @@ pub put_pairs-requires-clause-nothing : goal.put_pairs-requires-clause-nothing
 put_pairs-requires-clause-nothing g c = c.in_ok-make_large.ensures.made.nothing
 
 pub returns-clause-packed : goal.returns-clause-packed
-returns-clause-packed g c = anew_packed g.S.Space c.args.self.now c.make_large.new.self c.put_pairs.new.self c.args.space.now c.make_large.new.space c.put_pairs.new.space c.args.pairs.now c.make_large.ensures.stays.map.file (λ m w. let are = c.requires.pairs m w in (are.each, pairs_make m c.args.pairs.now are)) c.in_ok-make_large.ensures.made.empties c.in_ok-put_pairs.ensures.put
+returns-clause-packed g c = anew_packed g.S.Space c.args.self.now c.make_large.new.self c.put_pairs.new.self c.args.space.now c.make_large.new.space c.put_pairs.new.space c.args.pairs.now c.make_large.ensures.stays.map.file (λ m w. let are = c.requires.pairs m w in (are.each, pairs_make m c.args.pairs.now are)) c.in_ok-make_large.ensures.made.empties c.in_ok-put_pairs.ensures.put.writes
+
+pub returns-clause-writes : goal.returns-clause-writes
+returns-clause-writes g c = writes_pairs g.S.Space c.args.self.now c.make_large.new.self c.put_pairs.new.self c.args.space.now c.make_large.new.space c.put_pairs.new.space c.args.pairs.now c.in_ok-make_large.ensures.made c.put_pairs.ensures.stays c.in_ok-put_pairs.ensures.put c.requires.pairs
 
 pub returns-in_err-put_pairs-clause-full : goal.returns-in_err-put_pairs-clause-full
 returns-in_err-put_pairs-clause-full g c = λ full t. ⊎_elim
