@@ -8,5 +8,6 @@ pub mod Places
 pub mod ReadBack
 pub mod Rows
 pub mod Scanned
+pub mod Spans
 pub mod Cuts
 pub mod Starts

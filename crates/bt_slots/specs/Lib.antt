@@ -1,3 +1,4 @@
 pub mod Changes
+pub mod Lying
 pub mod Reads
 pub mod Slots

@@ -69,7 +69,7 @@ impl SlottedLeaf {
     }
 
     // The leaf with the bytes of one whose item at a place is another.
-    fn changed(self, place: usize, bytes: Blob) -> SlottedLeaf
+    pub(crate) fn changed(self, place: usize, bytes: Blob) -> SlottedLeaf
         requires inside { place < length self.items }
         requires is { (y : the_item) × HasItemAt place self bytes y }
         ensures { (y : the_item) → HasItemAt place self bytes y → result ≡ with_items self (set self.items place y) }

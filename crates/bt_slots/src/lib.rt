@@ -6,6 +6,7 @@ mod changing;
 mod entries;
 mod fronts;
 mod leaf;
+mod lying;
 mod node;
 mod parts;
 mod scanning;
@@ -13,4 +14,5 @@ mod sections;
 mod shifting;
 
 pub use leaf::SlottedLeaf;
+pub use lying::{Lying, next_value};
 pub use node::SlottedNode;

@@ -1,6 +1,6 @@
 -- Entries put into the nodes above a place, page by page.
-use Rattle.std.proofs.Common.{◌≡◌, ℕ, suc, ◌+◌, ◌-◌, ◌<◌, ◌≤◌, ◌/◌, List, [], ◌∷◌, ◌++◌, Option, Some, None, length, take, drop, refl, sym, ap, ◌∙◌, subst, arith, append_assoc, length-append, ◌⊎◌, inl, inr, ⊎_elim}
-use Rattle.std.proofs.lemmas.List.{take-append-drop, take_all, drop_more, length-drop}
+use Rattle.std.proofs.Common.{◌≡◌, ℕ, zero, suc, ◌+◌, ◌-◌, ◌<◌, ◌≤◌, ◌/◌, List, [], ◌∷◌, ◌++◌, Option, Some, None, length, take, drop, refl, sym, ap, ◌∙◌, subst, arith, append_assoc, length-append, ◌⊎◌, inl, inr, ⊎_elim}
+use Rattle.std.proofs.lemmas.List.{append-nil, take-append-drop, take_all, drop_more, length-drop}
 use Rattle.std.specs.Prelude.{slice_get}
 use Rattle.std.proofs.lemmas.Bool.{cases_eq}
 use Rattle.std.specs.List.{AllByRecursion, slice_index_or}
@@ -23,12 +23,12 @@ use Rattle.bt_ways.specs.Laws.{spliced}
 use Rattle.bt_ways.specs.Writes.{put_at}
 use Rattle.bt_ways.proofs.Climbing.{node_parts, node_takes, root_grows}
 use Rattle.bt_ways.proofs.Keys.{all_map, all_part}
-use Rattle.bt_ways.proofs.HeldWays.{WayAbove, way_node, way_parted}
+use Rattle.bt_ways.proofs.HeldWays.{WayAbove, way_node, way_parted, way_same}
 use Rattle.bt_ways.proofs.Spots.{got_at}
 use Rattle.bt_tree.specs.declared.tree.Tree.{Tree}
-use Rattle.bt_tree.specs.Climbing.{CanClimb, Divided, FillsWay, Grows, HasWay, IsAmong, IsFullWay, IsKnownNode, IsNodeOf, IsWayNode, ShowsWay, StoodIn, TurnsClimbed, TurnsDivided, WritesKnown, entry_key}
+use Rattle.bt_tree.specs.Climbing.{CanClimb, Divided, FillsWay, Grows, HasWay, IsAmong, IsFullWay, IsKnownNode, IsNodeOf, IsSection, IsWayNode, IsWayOf, LacksNodeIds, LacksWayNode, ShowsWay, StoodIn, TurnsClimbed, TurnsDivided, WritesKnown, entry_key, last_below}
 use Rattle.bt_tree.specs.Meaning.{file_in}
-use Rattle.bt_tree.specs.Paging.{ComesAnew, ComesFrom, FillsIds, HasNodeAt, IsNodeId, IsPageOf, IsShown, LacksPage, Peeks, PutsAt, Shows, StaysStill}
+use Rattle.bt_tree.specs.Paging.{ComesAnew, ComesFrom, FillsIds, HasNodeAt, IsNodeId, IsPageOf, IsShown, LacksPage, NodesUsedUp, Peeks, PutsAt, Shows, StaysStill}
 use Rattle.bt_tree.proofs.Pagings.{Gives, IsMoved, anew_over, anew_put, anew_then, fills_node, fills_none, fills_on, fills_then, lacks_after, looked_shows, more_shows, moved_column, moved_head, moved_height, moved_pages, moved_store, node_fresh, node_given, others_at, put_all, put_here, put_other, same_store_at, some_node}
 
 -- a list is what is in front of a place, the one there and what is behind it
@@ -99,6 +99,37 @@ keys_cut entries front back up cut =
     let parts = all_part (λ (e : NodeEntry). IsAmong entry_key e.key entries) front (up ∷ back) all in
     (parts.0, parts.1)
 
+-- ---- sections of the places below a node
+
+pub section_whole : (heir : ℕ) (entries : List NodeEntry) → IsSection heir entries (record { heir = heir; entries = entries })
+section_whole heir entries = record { front = []; back = []; are = sym (append-nil entries); heir_is = refl }
+
+pub section_front : (heir : ℕ) (entries front back : List NodeEntry) (up : NodeEntry) → entries ≡ front ++ up ∷ back → IsSection heir entries (record { heir = heir; entries = front })
+section_front heir entries front back up cut = record { front = []; back = up ∷ back; are = cut; heir_is = refl }
+
+below_up : (heir : ℕ) (front : List NodeEntry) (up : NodeEntry) → last_below heir (front ++ up ∷ []) ≡ up.child
+below_up heir [] up = refl
+below_up heir (e ∷ es) up = below_up e.child es up
+
+pub section_back : (heir : ℕ) (entries front back : List NodeEntry) (up : NodeEntry) → entries ≡ front ++ up ∷ back → IsSection heir entries (record { heir = up.child; entries = back })
+section_back heir entries front back up cut = record {
+  front = front ++ up ∷ [];
+  back = [];
+  are = cut ∙ ap (λ (t : List NodeEntry). front ++ up ∷ t) (sym (append-nil back)) ∙ sym (append_assoc front (up ∷ []) (back ++ []));
+  heir_is = sym (below_up heir front up);
+}
+
+-- ---- pages that agree along a way
+
+pub way_back : (limit : ℕ) (old new : PageMap) (root : ℕ) (path : List (ℕ × ℕ)) (added : List NodeEntry) (n : Node) → AllByRecursion (λ (step : ℕ × ℕ). new step.0 ≡ old step.0) path → IsWayOf limit new root path added n → IsWayOf limit old root path added n
+way_back limit old new root [] added n same is = is
+way_back limit old new root (step ∷ path) added n same is = (is.0, sym same.0 ∙ is.1, ⊎_elim (λ own. inl own) (λ up. inr (up.0, up.1, up.2, way_back limit old new root path (up.0 ∷ []) n same.1 up.3)) is.2)
+
+pub full_back : (limit : ℕ) (old new : PageMap) (more n : ℕ) (path : List (ℕ × ℕ)) → AllByRecursion (λ (step : ℕ × ℕ). new step.0 ≡ old step.0) path → IsFullWay limit new more n path → IsFullWay limit old more n path
+full_back limit old new more zero path same full = tt
+full_back limit old new more (suc n) [] same full = full
+full_back limit old new more (suc n) (step ∷ path) same full = (full.0, sym same.0 ∙ full.1, full.2, full_back limit old new 1 n path same.1 full.3)
+
 -- ---- a node in two
 
 pub half_front : (entries front back : List NodeEntry) (up : NodeEntry) → entries ≡ front ++ up ∷ back → length front ≡ length entries / 2 → length front ≤ length entries / 2
@@ -142,9 +173,9 @@ put_either pages id j page p is = ⊎_elim
     one e = cc
 
 -- where one such node was written, each page is an old one or such a node
-pub one_known : (limit : ℕ) (added : List NodeEntry) (pages : PageMap) (id : ℕ) (n : Node) → IsKnownNode limit added pages (node_page n) → WritesKnown limit added pages (put_at id (node_page n) pages)
-one_known limit added pages id n known j p is = ⊎_elim
-    (λ (here : p ≡ node_page n). inr (subst (λ (q : Page). IsKnownNode limit added pages q) (sym here) known))
+pub one_known : (limit root : ℕ) (path : List (ℕ × ℕ)) (added : List NodeEntry) (pages : PageMap) (id : ℕ) (n : Node) → IsKnownNode limit root path added pages (node_page n) → WritesKnown limit root path added pages (put_at id (node_page n) pages)
+one_known limit root path added pages id n known j p is = ⊎_elim
+    (λ (here : p ≡ node_page n). inr (subst (λ (q : Page). IsKnownNode limit root path added pages q) (sym here) known))
     (λ (old : pages j ≡ Some p). inl old)
     (put_either pages id j (node_page n) p is)
 
@@ -193,25 +224,25 @@ module _ {S V O : Type 0} (s : Ghosts S) (R : Stores V S) where
   -- ---- no room for one of its nodes
 
   module _ where
-    pub lacks_upper : (t u : Tree V O) (a b : S) (entries front back : List NodeEntry) {heir : ℕ} (up : NodeEntry) {k : TreeHead} → u ≡ record t { head = k } → entries ≡ front ++ up ∷ back → length front ≡ length entries / 2
-        → LacksPage s R (λ p. p ≡ node_page (record { heir = heir; entries = back })) u.store a b → LacksPage s R (IsNodeOf (length entries / 2) entries) t.store a b
-    lacks_upper t u a b entries front back {heir} up noted cut half l =
-        lacks_after s R (λ p. p ≡ node_page (record { heir = heir; entries = back })) (IsNodeOf (length entries / 2) entries) t.store u.store a a b (keeps_refl s a) (same_store_at s R t.store u.store (ap (λ (x : Tree V O). x.store) noted))
-        (λ p e. (record { heir = heir; entries = back }, e, half_back entries front back up cut half, (keys_cut entries front back up cut).1.1)) l
+    pub lacks_upper : (t u : Tree V O) (a b : S) (below : ℕ) (entries front back : List NodeEntry) {heir : ℕ} (up : NodeEntry) {k : TreeHead} → u ≡ record t { head = k } → entries ≡ front ++ up ∷ back → length front ≡ length entries / 2 → heir ≡ up.child
+        → LacksPage s R (λ p. p ≡ node_page (record { heir = heir; entries = back })) u.store a b → LacksPage s R (IsNodeOf (length entries / 2) below entries) t.store a b
+    lacks_upper t u a b below entries front back {heir} up noted cut half under l =
+        lacks_after s R (λ p. p ≡ node_page (record { heir = heir; entries = back })) (IsNodeOf (length entries / 2) below entries) t.store u.store a a b (keeps_refl s a) (same_store_at s R t.store u.store (ap (λ (x : Tree V O). x.store) noted))
+        (λ p e. (record { heir = heir; entries = back }, e, half_back entries front back up cut half, (keys_cut entries front back up cut).1.1, subst (λ (n : ℕ). IsSection below entries (record { heir = n; entries = back })) (sym under) (section_back below entries front back up cut))) l
 
-    pub lacks_lower : (t u v : Tree V O) (a b d : S) (entries front back : List NodeEntry) {heir : ℕ} (up : NodeEntry) {k : TreeHead} → u ≡ record t { head = k } → entries ≡ front ++ up ∷ back → length front ≡ length entries / 2
-        → StaysStill s R u v a b → LacksPage s R (λ p. p ≡ node_page (record { heir = heir; entries = front })) v.store b d → LacksPage s R (IsNodeOf (length entries / 2) entries) t.store a d
-    lacks_lower t u v a b d entries front back {heir} up noted cut half still l =
-        lacks_after s R (λ p. p ≡ node_page (record { heir = heir; entries = front })) (IsNodeOf (length entries / 2) entries) t.store v.store a b d still.keeps
+    pub lacks_lower : (t u v : Tree V O) (a b d : S) (below : ℕ) (entries front back : List NodeEntry) {heir : ℕ} (up : NodeEntry) {k : TreeHead} → u ≡ record t { head = k } → entries ≡ front ++ up ∷ back → length front ≡ length entries / 2 → heir ≡ below
+        → StaysStill s R u v a b → LacksPage s R (λ p. p ≡ node_page (record { heir = heir; entries = front })) v.store b d → LacksPage s R (IsNodeOf (length entries / 2) below entries) t.store a d
+    lacks_lower t u v a b d below entries front back {heir} up noted cut half under still l =
+        lacks_after s R (λ p. p ≡ node_page (record { heir = heir; entries = front })) (IsNodeOf (length entries / 2) below entries) t.store v.store a b d still.keeps
         (same_store_then R t.store u.store v.store (same_store_at s R t.store u.store (ap (λ (x : Tree V O). x.store) noted)) still.made)
-        (λ p e. (record { heir = heir; entries = front }, e, half_front entries front back up cut half, (keys_cut entries front back up cut).0)) l
+        (λ p e. (record { heir = heir; entries = front }, e, half_front entries front back up cut half, (keys_cut entries front back up cut).0, subst (λ (n : ℕ). IsSection below entries (record { heir = n; entries = front })) (sym under) (section_front below entries front back up cut))) l
 
     -- nor for a new root
-    pub lacks_root : (t u : Tree V O) (a b : S) (heir : ℕ) (added : List NodeEntry) {k : TreeHead} → u ≡ record t { head = k } → length added ≤ 2
-        → LacksPage s R (λ p. p ≡ node_page (record { heir = heir; entries = added })) u.store a b → LacksPage s R (IsNodeOf 2 added) t.store a b
-    lacks_root t u a b heir added noted few l =
-        lacks_after s R (λ p. p ≡ node_page (record { heir = heir; entries = added })) (IsNodeOf 2 added) t.store u.store a a b (keeps_refl s a) (same_store_at s R t.store u.store (ap (λ (x : Tree V O). x.store) noted))
-        (λ p e. (record { heir = heir; entries = added }, e, few, keys_in [] added)) l
+    pub lacks_root : (t u : Tree V O) (a b : S) (heir : ℕ) (added : List NodeEntry) {k : TreeHead} → u ≡ record t { head = k } → length added ≤ 2 → heir ≡ t.head.root
+        → LacksPage s R (λ p. p ≡ node_page (record { heir = heir; entries = added })) u.store a b → LacksPage s R (IsNodeOf 2 t.head.root added) t.store a b
+    lacks_root t u a b heir added noted few old_root l =
+        lacks_after s R (λ p. p ≡ node_page (record { heir = heir; entries = added })) (IsNodeOf 2 t.head.root added) t.store u.store a a b (keeps_refl s a) (same_store_at s R t.store u.store (ap (λ (x : Tree V O). x.store) noted))
+        (λ p e. (record { heir = heir; entries = added }, e, few, keys_in [] added, subst (λ (n : ℕ). IsSection n added (record { heir = heir; entries = added })) old_root (section_whole heir added))) l
 
   -- ---- a new root
 
@@ -236,8 +267,13 @@ module _ {S V O : Type 0} (s : Ghosts S) (R : Stores V S) where
                 (subst (λ (n : ℕ). ClimbsWith t.head.node_limit pages (put_at id (node_page (record { heir = n; entries = added })) pages) t.height (suc t.height) t.head.root id [] added) (sym old_root)
                 (root_grows t.head.node_limit pages t.height t.head.root id added fresh within)))),
             anew_put t.head pages id (node_page (record { heir = heir; entries = added })) (λ g none. not_node t.head id h.0.1.head given g),
-            one_known t.head.node_limit added pages id (record { heir = heir; entries = added })
-                (record { heir = heir; entries = added }, refl, within, all_map (λ (x : NodeEntry). IsAmong entry_key x.key added) (λ (x : NodeEntry). IsAmong entry_key x.key added ⊎ StoodIn pages x.key) added (λ x k. inl k) (keys_in [] added)),
+            one_known t.head.node_limit t.head.root t.path added pages id (record { heir = heir; entries = added }) (
+              record { heir = heir; entries = added },
+              refl,
+              within,
+              all_map (λ (x : NodeEntry). IsAmong entry_key x.key added) (λ (x : NodeEntry). IsAmong entry_key x.key added ⊎ StoodIn pages x.key) added (λ x k. inl k) (keys_in [] added),
+              subst (λ (p : List (ℕ × ℕ)). IsWayOf t.head.node_limit pages t.head.root p added (record { heir = heir; entries = added })) (sym none) (subst (λ (n : ℕ). IsSection n added (record { heir = heir; entries = added })) old_root (section_whole heir added)),
+            ),
             fills_node t.head w.head pages id (node_page (record { heir = heir; entries = added })) (ap (λ (x : TreeHead). x.leaf_ids) from) (ap (λ (x : TreeHead). x.node_ids) from) given,
           ),
         );
@@ -259,9 +295,9 @@ at_step limit pages root id place path rest e k =
     let n = way_node pages root id place rest k.crumbs k.place (sym e ∙ k.along) k.way in
     record { node = n.0; is = n.1; within = k.within id n.0 n.1 }
 
--- past the root there is no node
-pub full_end : (limit : ℕ) (pages : PageMap) (path : List (ℕ × ℕ)) (more : ℕ) → path ≡ [] → IsFullWay limit pages path more
-full_end limit pages path more none = subst (λ (p : List (ℕ × ℕ)). IsFullWay limit pages p more) (sym none) tt
+-- past the root one comes
+pub full_end : (h : TreeHead) (pages : PageMap) (path : List (ℕ × ℕ)) (more : ℕ) → path ≡ [] → NodesUsedUp h → LacksNodeIds h pages path more
+full_end h pages path more none used = (suc zero, omega (arith, used), subst (λ (p : List (ℕ × ℕ)). IsFullWay h.node_limit pages more (suc zero) p) (sym none) refl)
 
 -- where it is a node, it is within its limit
 abbrev InLimit : ℕ → ℕ → Option Page → Type 0
@@ -292,6 +328,34 @@ step_on limit pages new root id place path rest node above e k d half =
     fits m le n e = subst (NodeWithin limit) (some_node m n e) le
 
 -- ---- the climb
+
+-- from t on nodes of the way were written as two: what puts these entries in along the way of v puts those in along that of t, and where the one lacks something the other does
+pub record IsClimbing {S V O : Type 0} (s : Ghosts S) (R : Stores V S) (t v : Tree V O) (a b : S) (added more : List NodeEntry) : Type 0 where
+  pub ready : HasWay s R v b
+  pub few : length more ≤ 2
+  pub rest : (u : Tree V O) (c : S) → TurnsClimbed s R more v u b c → TurnsClimbed s R added t u a c
+  pub full : (c : S) → LacksWayNode s R more v b c → LacksWayNode s R added t a c
+  pub grows : Grows s R (length t.path) 0 t v a b
+  pub given : v.head.node_ids + length v.path ≤ t.head.node_ids + length t.path
+
+pub climbs_begin : {S V O : Type 0} (s : Ghosts S) (R : Stores V S) (t : Tree V O) (a : S) (added : List NodeEntry) → HasWay s R t a → length added ≤ 2 → IsClimbing s R t t a a added added
+climbs_begin s R t a added ready few = record {
+  ready = ready;
+  few = few;
+  rest = λ u c climb. climb;
+  full = λ c l. l;
+  grows = record {
+    keeps = keeps_refl s a;
+    made = same_store_refl R t.store;
+    column = refl;
+    head = refl;
+    nodes_least = omega arith;
+    nodes_most = omega arith;
+    rows_least = omega arith;
+    rows_most = omega arith;
+  };
+  given = omega arith;
+}
 
 module _ {S V O : Type 0} (s : Ghosts S) (R : Stores V S) where
   -- the tree differs in nothing that is told but the way
@@ -338,7 +402,7 @@ module _ {S V O : Type 0} (s : Ghosts S) (R : Stores V S) where
                   (subst (λ (n : ℕ). ClimbsWith u.head.node_limit pages k.0 n w.height u.head.root w.head.root t.path added) (moved_height t u path moved)
                   (subst (λ (p : List (ℕ × ℕ)). ClimbsWith u.head.node_limit pages k.0 u.height w.height u.head.root w.head.root p added) path_same k.2.0)),
               subst (λ (x : TreeHead). ComesAnew x pages k.0) head_same k.2.1,
-              subst (λ (x : TreeHead). WritesKnown x.node_limit added pages k.0) head_same k.2.2,
+              subst (λ (x : TreeHead). WritesKnown x.node_limit x.root t.path added pages k.0) head_same (subst (λ (p : List (ℕ × ℕ)). WritesKnown u.head.node_limit u.head.root p added pages k.0) path_same k.2.2),
               subst (λ (x : TreeHead). FillsIds x w.head k.0) head_same k.2.3,
             ),
           );
@@ -392,28 +456,38 @@ module _ {S V O : Type 0} (s : Ghosts S) (R : Stores V S) where
         stood among = record { id = id; node = node; is = here pages h; among = among }
 
     -- it has no room for the entries
-    pub full_step : t.head.node_limit < length (spliced node.entries place added) → FillsWay s R added t a
-    full_step over pages h = subst (λ (p : List (ℕ × ℕ)). IsFullWay t.head.node_limit pages p (length added)) (sym e) (node, here pages h, omega (arith, over, spliced_long node.entries place added))
+    pub full_step : t.head.node_limit < length (spliced node.entries place added) → NodesUsedUp v.head → FillsWay s R added t a
+    full_step over used pages h = (
+      suc zero,
+      omega (arith, used, ap (λ (y : TreeHead). y.node_ids) vhead),
+      subst (λ (p : List (ℕ × ℕ)). IsFullWay t.head.node_limit pages (length added) (suc zero) p) (sym e) (node, here pages h, omega (arith, over, spliced_long node.entries place added), tt),
+    )
+
+    -- a section of it, with the entries put in
+    in_way : (pages : PageMap) → ShowsWay s R t a pages → (n : Node) → IsSection node.heir (spliced node.entries place added) n → IsWayOf t.head.node_limit pages t.head.root t.path added n
+    in_way pages h n section = subst (λ (p : List (ℕ × ℕ)). IsWayOf t.head.node_limit pages t.head.root p added n) (sym e) (node, here pages h, inl section)
 
     -- the node with the entries put in, and a half of it
-    whole_known : length (spliced node.entries place added) ≤ t.head.node_limit → (pages : PageMap) → ShowsWay s R t a pages → IsKnownNode t.head.node_limit added pages (node_page (record { heir = node.heir; entries = spliced node.entries place added }))
+    whole_known : length (spliced node.entries place added) ≤ t.head.node_limit → (pages : PageMap) → ShowsWay s R t a pages → IsKnownNode t.head.node_limit t.head.root t.path added pages (node_page (record { heir = node.heir; entries = spliced node.entries place added }))
     whole_known within pages h = (
       record { heir = node.heir; entries = spliced node.entries place added },
       refl,
       within,
       all_map (λ (x : NodeEntry). IsAmong entry_key x.key (spliced node.entries place added)) (λ (x : NodeEntry). IsAmong entry_key x.key added ⊎ StoodIn pages x.key) (spliced node.entries place added) (λ x k. spliced_known pages h x.key k) (keys_in [] (spliced node.entries place added)),
+      in_way pages h (record { heir = node.heir; entries = spliced node.entries place added }) (section_whole node.heir (spliced node.entries place added)),
     )
 
     few_more : (pages : PageMap) → ShowsWay s R t a pages → length (spliced node.entries place added) / 2 ≤ t.head.node_limit
     few_more pages h = omega (arith, spliced_long node.entries place added, long pages h, few, h.0.1.head.node_limit.0)
 
-    half_known : (n : Node) → length n.entries ≤ length (spliced node.entries place added) / 2 → AllByRecursion (λ x. IsAmong entry_key x.key (spliced node.entries place added)) n.entries → (pages : PageMap) → ShowsWay s R t a pages
-        → IsKnownNode t.head.node_limit added pages (node_page n)
-    half_known n half among pages h = (
+    half_known : (n : Node) → length n.entries ≤ length (spliced node.entries place added) / 2 → AllByRecursion (λ x. IsAmong entry_key x.key (spliced node.entries place added)) n.entries → IsSection node.heir (spliced node.entries place added) n
+        → (pages : PageMap) → ShowsWay s R t a pages → IsKnownNode t.head.node_limit t.head.root t.path added pages (node_page n)
+    half_known n half among section pages h = (
       n,
       refl,
       omega (arith, half, few_more pages h),
       all_map (λ (x : NodeEntry). IsAmong entry_key x.key (spliced node.entries place added)) (λ (x : NodeEntry). IsAmong entry_key x.key added ⊎ StoodIn pages x.key) n.entries (λ x k. spliced_known pages h x.key k) among,
+      in_way pages h n section,
     )
 
     abbrev Fine : Page → Type 0
@@ -427,6 +501,7 @@ module _ {S V O : Type 0} (s : Ghosts S) (R : Stores V S) where
           is,
           within,
           all_map (λ (x : NodeEntry). IsAmong entry_key x.key (spliced node.entries place added)) (λ (x : NodeEntry). IsAmong entry_key x.key added ⊎ StoodIn pages x.key) (spliced node.entries place added) (λ x k. spliced_known pages h x.key k) (keys_in [] (spliced node.entries place added)),
+          in_way pages h (record { heir = node.heir; entries = spliced node.entries place added }) (section_whole node.heir (spliced node.entries place added)),
         )) l
 
     pub took : (w : Tree V O) (d : S) → length (spliced node.entries place added) ≤ t.head.node_limit
@@ -442,24 +517,25 @@ module _ {S V O : Type 0} (s : Ghosts S) (R : Stores V S) where
               (subst (λ (n : ℕ). ClimbsWith t.head.node_limit pages (put_at id (node_page (record { heir = node.heir; entries = spliced node.entries place added })) pages) t.height t.height t.head.root n ((id, place) ∷ path) added) (sym (ap (λ (x : TreeHead). x.root) (still.head ∙ vhead)))
               (node_takes t.head.node_limit pages t.height t.head.root id place path node added (here pages h) within))),
           anew_over t.head pages id (node_page (record { heir = node.heir; entries = spliced node.entries place added })) (node_page node) (here pages h),
-          one_known t.head.node_limit added pages id (record { heir = node.heir; entries = spliced node.entries place added }) (whole_known within pages h),
+          one_known t.head.node_limit t.head.root t.path added pages id (record { heir = node.heir; entries = spliced node.entries place added }) (whole_known within pages h),
           fills_none t.head w.head (put_at id (node_page (record { heir = node.heir; entries = spliced node.entries place added })) pages) (ap (λ (x : TreeHead). x.leaf_ids) (still.head ∙ vhead)) (ap (λ (x : TreeHead). x.node_ids) (still.head ∙ vhead)),
         ),
       );
       others = others_then s (Only (file_in R t)) a b d (record { same = λ told g other. peeks.looks.reads.now told g }) (others_at s _ _ b d vmade.file put.others);
     }
 
-    pub lacks_half : (d : S) → LacksPage s R (IsNodeOf (length (spliced node.entries place added) / 2) (spliced node.entries place added)) v.store b d → LacksPage s R Fine t.store a d
-    lacks_half d l = lacks_after s R (IsNodeOf (length (spliced node.entries place added) / 2) (spliced node.entries place added)) Fine t.store v.store a b d peeks.looks.keeps vmade
+    pub lacks_half : (d : S) → LacksPage s R (IsNodeOf (length (spliced node.entries place added) / 2) node.heir (spliced node.entries place added)) v.store b d → LacksPage s R Fine t.store a d
+    lacks_half d l = lacks_after s R (IsNodeOf (length (spliced node.entries place added) / 2) node.heir (spliced node.entries place added)) Fine t.store v.store a b d peeks.looks.keeps vmade
         (λ p n pages h. (
           n.0,
           n.1,
           omega (arith, n.2, few_more pages h),
           all_map (λ (x : NodeEntry). IsAmong entry_key x.key (spliced node.entries place added)) (λ (x : NodeEntry). IsAmong entry_key x.key added ⊎ StoodIn pages x.key) n.0.entries (λ x k. spliced_known pages h x.key k) n.3,
+          in_way pages h n.0 n.4,
         )) l
 
     module _ (w : Tree V O) (d : S) (above : List NodeEntry) (turns : TurnsDivided s R id (record { heir = node.heir; entries = spliced node.entries place added }) above v w b d)
-        (grows : Grows s R 1 0 v w b d) (way : (w.path ≡ v.path) × (w.head.root ≡ v.head.root)) where
+        (grows : Grows s R 1 0 v w b d) (way : (w.path ≡ v.path) × (w.head.root ≡ v.head.root)) (over : t.head.node_limit < length (spliced node.entries place added)) where
       wpath : w.path ≡ v.path
       wpath = way.0
 
@@ -499,29 +575,64 @@ module _ {S V O : Type 0} (s : Ghosts S) (R : Stores V S) where
           up (inl e) = spliced_known pages h key (subst (λ (x : List ℕ). IsAmong entry_key x (spliced node.entries place added)) e (keys_cut (spliced node.entries place added) div.front div.back div.up div.cut).1.0)
           up (inr none) = absurd none
 
-      above_known : (pages mid : PageMap) → ShowsWay s R t a pages → Divided id (record { heir = node.heir; entries = spliced node.entries place added }) above pages mid → (p : Page) → IsKnownNode w.head.node_limit above mid p → IsKnownNode t.head.node_limit added pages p
-      above_known pages mid h div p n =
-          let limit : w.head.node_limit ≡ t.head.node_limit = wlimit ∙ ap (λ (y : TreeHead). y.node_limit) vhead in
-          (n.0, n.1, omega (arith, n.2, limit), all_map (λ (x : NodeEntry). IsAmong entry_key x.key above ⊎ StoodIn mid x.key) (λ (x : NodeEntry). IsAmong entry_key x.key added ⊎ StoodIn pages x.key) n.0.entries (λ x kn. mid_known pages mid h div x.key kn) n.3)
+      -- the nodes above are as they were
+      apart : (pages mid : PageMap) → ShowsWay s R t a pages → Divided id (record { heir = node.heir; entries = spliced node.entries place added }) above pages mid → AllByRecursion (λ (step : ℕ × ℕ). mid step.0 ≡ pages step.0) path
+      apart pages mid h div =
+          subst (λ (q : PageMap). AllByRecursion (λ (step : ℕ × ℕ). q step.0 ≡ pages step.0) path) (sym div.are)
+          (way_same pages t.head.root id place div.second path (record { heir = node.heir; entries = div.front }) (record { heir = div.up.child; entries = div.back }) h.1.crumbs h.1.place (sym e ∙ h.1.along) h.1.way div.fresh)
 
-      mid_written : (pages mid : PageMap) → ShowsWay s R t a pages → Divided id (record { heir = node.heir; entries = spliced node.entries place added }) above pages mid → WritesKnown t.head.node_limit added pages mid
+      above_way : (pages mid : PageMap) → ShowsWay s R t a pages → Divided id (record { heir = node.heir; entries = spliced node.entries place added }) above pages mid → (n : Node) → IsWayOf w.head.node_limit mid w.head.root w.path above n → IsWayOf t.head.node_limit pages t.head.root t.path added n
+      above_way pages mid h div n is =
+          let entry : NodeEntry = record { child = div.second; key = div.up.key } in
+          let limit : w.head.node_limit ≡ t.head.node_limit = wlimit ∙ ap (λ (y : TreeHead). y.node_limit) vhead in
+          let i1 : IsWayOf w.head.node_limit mid w.head.root w.path (entry ∷ []) n = subst (λ (es : List NodeEntry). IsWayOf w.head.node_limit mid w.head.root w.path es n) div.above_is is in
+          let i2 : IsWayOf w.head.node_limit mid w.head.root path (entry ∷ []) n = subst (λ (p : List (ℕ × ℕ)). IsWayOf w.head.node_limit mid w.head.root p (entry ∷ []) n) (wpath ∙ vpath) i1 in
+          let i3 : IsWayOf w.head.node_limit mid t.head.root path (entry ∷ []) n = subst (λ (r : ℕ). IsWayOf w.head.node_limit mid r path (entry ∷ []) n) (wroot ∙ ap (λ (y : TreeHead). y.root) vhead) i2 in
+          let i4 : IsWayOf t.head.node_limit mid t.head.root path (entry ∷ []) n = subst (λ (m : ℕ). IsWayOf m mid t.head.root path (entry ∷ []) n) limit i3 in
+          let i5 : IsWayOf t.head.node_limit pages t.head.root path (entry ∷ []) n = way_back t.head.node_limit pages mid t.head.root path (entry ∷ []) n (apart pages mid h div) i4 in
+          let among : IsAmong entry_key entry.key (spliced node.entries place added) = (keys_cut (spliced node.entries place added) div.front div.back div.up div.cut).1.0 in
+          subst (λ (p : List (ℕ × ℕ)). IsWayOf t.head.node_limit pages t.head.root p added n) (sym e) (node, here pages h, inr (entry, among, over, i5))
+
+      above_known : (pages mid : PageMap) → ShowsWay s R t a pages → Divided id (record { heir = node.heir; entries = spliced node.entries place added }) above pages mid → (p : Page) → IsKnownNode w.head.node_limit w.head.root w.path above mid p
+          → IsKnownNode t.head.node_limit t.head.root t.path added pages p
+      above_known pages mid h div p n =
+          let limit : w.head.node_limit ≡ t.head.node_limit = wlimit ∙ ap (λ (y : TreeHead). y.node_limit) vhead in (
+            n.0,
+            n.1,
+            omega (arith, n.2, limit),
+            all_map (λ (x : NodeEntry). IsAmong entry_key x.key above ⊎ StoodIn mid x.key) (λ (x : NodeEntry). IsAmong entry_key x.key added ⊎ StoodIn pages x.key) n.0.entries (λ x kn. mid_known pages mid h div x.key kn) n.3,
+            above_way pages mid h div n.0 n.4,
+          )
+
+      -- nor is there an id for what comes above
+      pub full_above : length above ≡ 1 → FillsWay s R above w d → FillsWay s R added t a
+      full_above one full pages h =
+          let k = turns.means pages (read_shows pages h.0) in
+          let n = full k.0 (k.1, on_way pages k.0 h k.2.0) in
+          let limit : w.head.node_limit ≡ t.head.node_limit = wlimit ∙ ap (λ (y : TreeHead). y.node_limit) vhead in
+          let f1 : IsFullWay w.head.node_limit k.0 1 n.0 w.path = subst (λ (m : ℕ). IsFullWay w.head.node_limit k.0 m n.0 w.path) one n.2 in
+          let f2 : IsFullWay w.head.node_limit k.0 1 n.0 path = subst (λ (p : List (ℕ × ℕ)). IsFullWay w.head.node_limit k.0 1 n.0 p) (wpath ∙ vpath) f1 in
+          let f3 : IsFullWay t.head.node_limit k.0 1 n.0 path = subst (λ (m : ℕ). IsFullWay m k.0 1 n.0 path) limit f2 in (
+            suc n.0,
+            omega (arith, n.1, grows.nodes_most, ap (λ (y : TreeHead). y.node_ids) vhead),
+            subst (λ (p : List (ℕ × ℕ)). IsFullWay t.head.node_limit pages (length added) (suc n.0) p) (sym e)
+                (node, here pages h, omega (arith, over, spliced_long node.entries place added), full_back t.head.node_limit pages k.0 1 n.0 path (apart pages k.0 h k.2.0) f3),
+          )
+
+      mid_written : (pages mid : PageMap) → ShowsWay s R t a pages → Divided id (record { heir = node.heir; entries = spliced node.entries place added }) above pages mid → WritesKnown t.head.node_limit t.head.root t.path added pages mid
       mid_written pages mid h div j p is =
           let left : Node = record { heir = node.heir; entries = div.front } in
           let right : Node = record { heir = div.up.child; entries = div.back } in
           let among = keys_cut (spliced node.entries place added) div.front div.back div.up div.cut in
           ⊎_elim
-          (λ (here_is : p ≡ node_page left). inr (subst (λ (q : Page). IsKnownNode t.head.node_limit added pages q) (sym here_is) (half_known left (half_front (spliced node.entries place added) div.front div.back div.up div.cut div.half) among.0 pages h)))
+          (λ (here_is : p ≡ node_page left). inr (subst (λ (q : Page). IsKnownNode t.head.node_limit t.head.root t.path added pages q) (sym here_is) (half_known left (half_front (spliced node.entries place added) div.front div.back div.up div.cut div.half) among.0 (section_front node.heir (spliced node.entries place added) div.front div.back div.up div.cut) pages h)))
           (λ (rest : put_at div.second (node_page right) pages j ≡ Some p).
-          one_known t.head.node_limit added pages div.second right (half_known right (half_back (spliced node.entries place added) div.front div.back div.up div.cut div.half) among.1.1 pages h) j p rest)
+          one_known t.head.node_limit t.head.root t.path added pages div.second right (half_known right (half_back (spliced node.entries place added) div.front div.back div.up div.cut div.half) among.1.1 (section_back node.heir (spliced node.entries place added) div.front div.back div.up div.cut) pages h) j p rest)
           (put_either (put_at div.second (node_page right) pages) id j (node_page left) p (ap (λ (x : PageMap). x j) (sym div.are) ∙ is))
 
       pub lacks_above : (f : S) → LacksPage s R (IsWayNode s R above w d) w.store d f → LacksPage s R Fine t.store a f
       lacks_above f l = lacks_after s R (IsWayNode s R above w d) Fine t.store w.store a d f (keeps_then s a b d peeks.looks.keeps grows.keeps) (same_store_then R t.store v.store w.store vmade grows.made)
-          (λ p fine pages h.
-          let k = turns.means pages (read_shows pages h.0) in
-          let n = fine k.0 (k.1, on_way pages k.0 h k.2.0) in
-          let limit : w.head.node_limit ≡ t.head.node_limit = wlimit ∙ ap (λ (y : TreeHead). y.node_limit) vhead in
-          (n.0, n.1, omega (arith, n.2, limit), all_map (λ (x : NodeEntry). IsAmong entry_key x.key above ⊎ StoodIn k.0 x.key) (λ (x : NodeEntry). IsAmong entry_key x.key added ⊎ StoodIn pages x.key) n.0.entries (λ x kn. mid_known pages k.0 h k.2.0 x.key kn) n.3)) l
+          (λ p fine pages h. let k = turns.means pages (read_shows pages h.0) in above_known pages k.0 h k.2.0 p (fine k.0 (k.1, on_way pages k.0 h k.2.0))) l
 
       pub climbed_on : (x : Tree V O) (f : S) → TurnsClimbed s R above w x d f → TurnsClimbed s R added t x a f
       climbed_on x f climb = record {
@@ -573,9 +684,37 @@ module _ {S V O : Type 0} (s : Ghosts S) (R : Stores V S) where
               (node_parts t.head.node_limit pages new t.height x.height t.head.root x.head.root id place div.second path node added div.front div.back div.up (here pages h) div.fresh div.cut
               (omega (arith, half_front (spliced node.entries place added) div.front div.back div.up div.cut div.half, half)) (omega (arith, half_back (spliced node.entries place added) div.front div.back div.up div.cut div.half, half)) c6)
 
+      -- and so the climb goes on from there
+      pub climbing_on : (q : Tree V O) (z : S) (first : List NodeEntry) → length above ≡ 1 → IsClimbing s R q t z a first added → IsClimbing s R q w z d first above
+      climbing_on q z first one g =
+          let less : w.head.node_ids + length w.path ≤ q.head.node_ids + length q.path = omega (arith, g.given, grows.nodes_most, ap (λ (y : TreeHead). y.node_ids) vhead, ap length (wpath ∙ vpath), ap length e) in
+          record {
+            ready = on_ready g.ready;
+            few = omega (arith, one);
+            rest = λ x f climb. g.rest x f (climbed_on x f climb);
+            full = λ f l. g.full f (⊎_elim (λ (used : FillsWay s R above w d). inl (full_above one used)) (λ (lacks : LacksPage s R (IsWayNode s R above w d) w.store d f). inr (lacks_above f lacks)) l);
+            grows = record {
+              keeps = keeps_then s z a d g.grows.keeps (keeps_then s a b d peeks.looks.keeps grows.keeps);
+              made = same_store_then R q.store t.store w.store g.grows.made (same_store_then R t.store v.store w.store vmade grows.made);
+              column = grows.column ∙ peeks.still.column ∙ moved_column t u path moved ∙ g.grows.column;
+              head = grows.head ∙ ap (λ (y : TreeHead). record y { root = w.head.root; node_ids = w.head.node_ids }) (vhead ∙ g.grows.head);
+              nodes_least = omega (arith, g.grows.nodes_least, ap (λ (y : TreeHead). y.node_ids) vhead, grows.nodes_least);
+              nodes_most = omega (arith, less);
+              rows_least = omega (arith, g.grows.rows_least, vheight, wheight);
+              rows_most = omega (arith, g.grows.rows_most, vheight, wheight);
+            };
+            given = less;
+          }
+
 -- ---- no room past the root
 
 module _ {S V O : Type 0} (s : Ghosts S) (R : Stores V S) where
-  pub lacks_end : (t : Tree V O) (a b : S) (added : List NodeEntry) → LacksPage s R (IsNodeOf 2 added) t.store a b → LacksPage s R (IsWayNode s R added t a) t.store a b
-  lacks_end t a b added l = lacks_after s R (IsNodeOf 2 added) (IsWayNode s R added t a) t.store t.store a a b (keeps_refl s a) (same_store_refl R t.store)
-      (λ p n pages h. (n.0, n.1, omega (arith, n.2, h.0.1.head.node_limit.0), all_map (λ (x : NodeEntry). IsAmong entry_key x.key added) (λ (x : NodeEntry). IsAmong entry_key x.key added ⊎ StoodIn pages x.key) n.0.entries (λ x k. inl k) n.3)) l
+  pub lacks_end : (t : Tree V O) (a b : S) (added : List NodeEntry) → t.path ≡ [] → LacksPage s R (IsNodeOf 2 t.head.root added) t.store a b → LacksPage s R (IsWayNode s R added t a) t.store a b
+  lacks_end t a b added none l = lacks_after s R (IsNodeOf 2 t.head.root added) (IsWayNode s R added t a) t.store t.store a a b (keeps_refl s a) (same_store_refl R t.store)
+      (λ p n pages h. (
+        n.0,
+        n.1,
+        omega (arith, n.2, h.0.1.head.node_limit.0),
+        all_map (λ (x : NodeEntry). IsAmong entry_key x.key added) (λ (x : NodeEntry). IsAmong entry_key x.key added ⊎ StoodIn pages x.key) n.0.entries (λ x k. inl k) n.3,
+        subst (λ (q : List (ℕ × ℕ)). IsWayOf t.head.node_limit pages t.head.root q added n.0) (sym none) n.4,
+      )) l

@@ -49,13 +49,13 @@ use Rattle.bt_page.specs.Pages.{HasValue}
 use Rattle.tc_base.specs.Lists.{pair}
 use Rattle.bt_page.specs.declared.page.NodeEntry.{NodeEntry}
 use Rattle.bt_tree.specs.declared.tree.Tree.{Tree}
-use Rattle.bt_tree.specs.Climbing.{NodesWithin, IsAmong, IsFullWay, StoodIn}
+use Rattle.bt_tree.specs.Climbing.{NodesWithin, IsAmong, StoodIn}
 use Rattle.bt_tree.specs.Finding.{LeadsTo}
-use Rattle.bt_tree.specs.Inserting.{AreItemsOf, CrowdsWay, Gains, Inserts, IsCrowded, IsPutPage, IsWritten, TakesInLeaf, TakesPair, WritesPages, pair_key}
+use Rattle.bt_tree.specs.Inserting.{AreItemsOf, Gains, Inserts, IsCrowded, IsMorePage, IsPutPage, IsWritten, TakesInLeaf, TakesPair, UsesUp, WritesPages, pair_key}
 use Rattle.bt_tree.specs.Meaning.{IsOpen, Means, file_in}
 use Rattle.bt_tree.specs.Numbers.{with_pairs}
 use Rattle.bt_tree.specs.Paging.{ComesAnew, FillsIds, HasLeafAt, IsLeafId, IsPageOf, IsShown, LacksPage, PutsAt, Shows, StaysStill}
-use Rattle.bt_tree.specs.Parting.{AtLeaf, FillsLeafWay, HasLeaf, IsLeafPiece, IsParted, IsPiece, IsStretch, ShowsLeaf, TurnsParted, Widens, last_part, item_key}
+use Rattle.bt_tree.specs.Parting.{AtLeaf, ClimbsIn, HasLeaf, IsLeafPiece, IsParted, IsPiece, IsStretch, LacksId, LacksIds, ShowsLeaf, TurnsParted, Widens, last_part, item_key}
 use Rattle.bt_tree.specs.Trees.{HasKeys, HoldsPairs}
 use Rattle.bt_tree.specs.Visits.{LooksAt, StaysTree}
 use Rattle.bt_tree.proofs.Climbings.{among_back, among_front, put_either}
@@ -556,7 +556,7 @@ module _ {S V O : Type 0} (s : Ghosts S) (R : Stores V S) (o : Orders O) (total 
       ⊎_elim (λ (own : IsAmong item_key k x.leaf.items). inl (subst (λ (y : List Pair). IsAmong pair_key k y) (sym n.2) (among_back pair_key k n.0 (items_pairs x.leaf.items ++ n.1) (among_front pair_key k (items_pairs x.leaf.items) n.1 (item_held k x.leaf.items tk.changed.items.some own)))))
       (λ (stood : StoodIn h.1.is.tree.pages k). inr stood) w
 
-  piece_put : (p : Page) (ps : List Pair) (h : Means s R o t a ps) → IsPiece u.head x.leaf.items x.leaf.next h.1.is.tree.pages p → IsPutPage o.cmp t.head h.1.is.tree.pages ps (inserted o.cmp last key value ps) p
+  piece_put : (p : Page) (ps : List Pair) (h : Means s R o t a ps) → IsPiece u.head u.path x.leaf.items x.leaf.next h.1.is.tree.pages p → IsPutPage o.cmp t.head h.1.is.tree.pages ps (inserted o.cmp last key value ps) p
   piece_put (leaf_page l) ps h (inl own) = (
     (
       record { keys = omega (arith, own.0.keys, limit_same); bytes = own.0.bytes },
@@ -614,22 +614,27 @@ module _ {S V O : Type 0} (s : Ghosts S) (R : Stores V S) (o : Orders O) (total 
         over = λ w. over (subst (λ (n : ℕ). ItemsWithin n x.leaf.items) (sym limit_same) w);
       }
 
-  pub crowds_way : (ItemsWithin u.head.leaf_limit x.leaf.items → ⊥) → FillsLeafWay s R x.id x.leaf u b → CrowdsWay s R o last key value t a
-  crowds_way over full ps h = (
+  pub runs_out : (ItemsWithin u.head.leaf_limit x.leaf.items → ⊥) → LacksId s R x.id x.leaf u b → UsesUp s R o last key value t a
+  runs_out over lacks ps h = (
     is_crowded over ps h,
-    subst (λ (n : ℕ). IsFullWay n h.1.is.tree.pages u.path 2) (ap (λ (y : TreeHead). y.node_limit) stays.head) (full h.1.is.tree.pages (leaf_shown ps h)),
+    subst (λ (y : TreeHead). LacksIds y h.1.is.tree.pages u.path x.leaf.items) stays.head (lacks h.1.is.tree.pages (leaf_shown ps h)),
   )
+
+  -- a node that comes where the leaf is parted
+  piece_more : (ItemsWithin u.head.leaf_limit x.leaf.items → ⊥) → (p : Page) (ps : List Pair) (h : Means s R o t a ps) → IsPiece u.head u.path x.leaf.items x.leaf.next h.1.is.tree.pages p → IsMorePage o.cmp last key value h.1.is.tree p
+  piece_more over (leaf_page l) ps h piece = tt
+  piece_more over (node_page n) ps h piece = (is_crowded over ps h, subst (λ (y : TreeHead). ClimbsIn y h.1.is.tree.pages u.path x.leaf.items n) stays.head piece.2)
 
   abbrev Fine : Page → Type 0
   Fine p = IsWritten s R o last key value t a p
 
   pub lacks_leaf : (d : S) → ItemsWithin u.head.leaf_limit x.leaf.items → LacksPage s R (λ p. p ≡ leaf_page x.leaf) u.store b d → LacksPage s R Fine t.store a d
-  lacks_leaf d fits l = lacks_after s R (λ p. p ≡ leaf_page x.leaf) Fine t.store u.store a b d looks.keeps looks.made (λ p e ps h. subst (λ (y : Page). IsPutPage o.cmp t.head h.1.is.tree.pages ps (inserted o.cmp last key value ps) y) (sym e)
-      ((record { keys = omega (arith, fits.keys, limit_same); bytes = fits.bytes }, inr (new_items o.cmp total order last key value t.head t.height t.column h.1.records ps h.1.is u.path x (taken ps h) x.leaf.items ([], [], sym (append-nil x.leaf.items)))), tt)) l
+  lacks_leaf d fits l = lacks_after s R (λ p. p ≡ leaf_page x.leaf) Fine t.store u.store a b d looks.keeps looks.made (λ p e ps h. subst (λ (y : Page). IsPutPage o.cmp t.head h.1.is.tree.pages ps (inserted o.cmp last key value ps) y × IsMorePage o.cmp last key value h.1.is.tree y) (sym e)
+      (((record { keys = omega (arith, fits.keys, limit_same); bytes = fits.bytes }, inr (new_items o.cmp total order last key value t.head t.height t.column h.1.records ps h.1.is u.path x (taken ps h) x.leaf.items ([], [], sym (append-nil x.leaf.items)))), tt), tt)) l
 
-  pub lacks_piece : (d : S) → LacksPage s R (IsLeafPiece s R x.id x.leaf u b) u.store b d → LacksPage s R Fine t.store a d
-  lacks_piece d l = lacks_after s R (IsLeafPiece s R x.id x.leaf u b) Fine t.store u.store a b d looks.keeps looks.made
-      (λ p piece ps h. piece_put p ps h (piece h.1.is.tree.pages (leaf_shown ps h))) l
+  pub lacks_piece : (d : S) → (ItemsWithin u.head.leaf_limit x.leaf.items → ⊥) → LacksPage s R (IsLeafPiece s R x.id x.leaf u b) u.store b d → LacksPage s R Fine t.store a d
+  lacks_piece d over l = lacks_after s R (IsLeafPiece s R x.id x.leaf u b) Fine t.store u.store a b d looks.keeps looks.made
+      (λ p piece ps h. let k = piece h.1.is.tree.pages (leaf_shown ps h) in (piece_put p ps h k, piece_more over p ps h k)) l
 
 -- ---- what a call leaves, whatever it answers
 

@@ -1,5 +1,5 @@
 -- A leaf that is written as several.
-use Rattle.std.proofs.Common.{◌≡◌, ◌⊎◌, ℕ, suc, ◌+◌, ◌-◌, ◌<◌, ◌≤◌, ◌^◌, List, [], ◌∷◌, ◌++◌, Option, Some, None, length, map, take, drop, refl, sym, ap, ◌∙◌, subst, inl, inr, ⊎_elim, arith, append_assoc, length-drop}
+use Rattle.std.proofs.Common.{◌≡◌, ◌⊎◌, ℕ, zero, suc, ◌+◌, ◌-◌, ◌<◌, ◌≤◌, ◌^◌, List, [], ◌∷◌, ◌++◌, Option, Some, None, length, map, take, drop, refl, sym, ap, ◌∙◌, subst, inl, inr, ⊎_elim, arith, append_assoc, length-drop}
 use Rattle.std.specs.Prelude.{if◌then◌else◌, ◌==◌, slice_get, slice_index_or}
 use Rattle.std.specs.List.{AllByRecursion, remove}
 use Rattle.std.proofs.lemmas.Bool.{cases_eq, cases_lt}
@@ -33,11 +33,11 @@ use Rattle.bt_ways.proofs.Within.{parts_join}
 use Rattle.bt_tree.specs.declared.parting.Laid.{Laid}
 use Rattle.bt_tree.specs.declared.parting.Parted.{Parted}
 use Rattle.bt_tree.specs.declared.tree.Tree.{Tree}
-use Rattle.bt_tree.specs.Climbing.{CanClimb, FillsWay, Grows, HasWay, IsAmong, IsFullWay, IsKnownNode, IsWayNode, ShowsWay, StoodIn, TurnsClimbed, entry_key}
+use Rattle.bt_tree.specs.Climbing.{CanClimb, FillsWay, Grows, HasWay, IsAmong, IsFullWay, IsKnownNode, IsWayNode, IsWayOf, ShowsWay, StoodIn, TurnsClimbed, entry_key}
 use Rattle.bt_tree.specs.Meaning.{file_in}
 use Rattle.bt_tree.specs.Numbers.{with_last, with_leaf_ids}
 use Rattle.bt_tree.specs.Paging.{ComesAnew, ComesFrom, FillsIds, HasLeafAt, IsLeafId, IsShown, LacksPage, Peeks, PutsAt, Rewrites, Shows, StaysStill}
-use Rattle.bt_tree.specs.Parting.{AddsAll, AddsBehind, ArePartsOf, FillsLeafWay, HasLeaf, IsLaid, IsLeafPiece, IsPiece, TurnsParted, IsStretch, item_key, ShowsLeaf, Widens, laid_at, laid_parts, last_part, parts_from, put_laid}
+use Rattle.bt_tree.specs.Parting.{AddsAll, AddsBehind, ArePartedIn, ArePartsOf, ClimbsIn, HasLeaf, IsLaid, IsLeafPiece, IsPiece, LacksId, TurnsParted, IsStretch, item_key, ShowsLeaf, Widens, laid_at, laid_parts, last_part, parts_from, put_laid}
 use Rattle.bt_tree.proofs.Climbings.{among_back, nodes_stay, put_either, put_was}
 use Rattle.bt_tree.proofs.Pagings.{Gives, anew_put, anew_refl, anew_then, fills_on, fills_then, lacks_after, looked_shows, more_shows, leaf_fresh, leaf_given, leaf_node, others_at, put_here, put_other, same_store_at}
 
@@ -260,6 +260,20 @@ cut_middle i j limit items cut =
     let rest : length (drop i items) ≡ length items - i = length-drop i items in
     omega (arith, length-take-le (j - i) (drop i items) (omega (arith, rest, cut.within)), cut.more)
 
+-- so the items are parted
+pub cut_parted : (given i j limit : ℕ) (items : List Item) → IsCut limit items i j → ArePartedIn limit items (length (parts_from given (take (j - i) (drop i items)) (drop j items)))
+cut_parted given i j limit items cut = record {
+  first = take i items;
+  parts = parts_from given (take (j - i) (drop i items)) (drop j items);
+  whole = cut_items given i j limit items cut;
+  some = cut_front i j limit items cut;
+  have = from_all given (take (j - i) (drop i items)) (drop j items) HasItems (cut_middle i j limit items cut) (λ lt. lt);
+  within = cut.first;
+  are_within = from_all given (take (j - i) (drop i items)) (drop j items) (λ p. ItemsWithin limit p.items) cut.second (λ lt. cut.third);
+  count = refl;
+  few = (from_some given (take (j - i) (drop i items)) (drop j items)).1;
+}
+
 -- each of them is a stretch of the items
 pub cut_stretches : (i j limit : ℕ) (items : List Item) → IsCut limit items i j → IsStretch (take i items) items × IsStretch (take (j - i) (drop i items)) items × IsStretch (drop j items) items
 cut_stretches i j limit items cut =
@@ -316,10 +330,15 @@ parts_hit : (given : ℕ) (second third : List Item) (j : ℕ) → AllByRecursio
 parts_hit given second [] j away more most = away.0 (omega (arith, more, most))
 parts_hit given second (x ∷ third) j away more most = ⊎_elim (λ (one : j ≡ given + 1). away.0 (sym one)) (λ (other : j ≡ given + 1 → ⊥). away.1.0 (omega (arith, more, most, other))) (cases_eq j (given + 1))
 
--- a way that is full once leaves were laid was so before
-way_before : (limit limit' : ℕ) (leaves : List Laid) (pages : PageMap) (path : List (ℕ × ℕ)) (more : ℕ) → limit' ≡ limit → more ≤ 2 → IsFullWay limit' (put_laid leaves pages) path more → IsFullWay limit pages path 2
-way_before limit limit' leaves pages [] more same few full = tt
-way_before limit limit' leaves pages (step ∷ path) more same few full = (full.0, laid_was leaves pages step.0 full.0 full.1, omega (arith, full.2, same, few))
+-- a way along which nodes come once leaves were laid was so before, and they are the same nodes
+full_laid : (limit : ℕ) (leaves : List Laid) (pages : PageMap) (more n : ℕ) (path : List (ℕ × ℕ)) → IsFullWay limit (put_laid leaves pages) more n path → IsFullWay limit pages more n path
+full_laid limit leaves pages more zero path full = tt
+full_laid limit leaves pages more (suc n) [] full = full
+full_laid limit leaves pages more (suc n) (step ∷ path) full = (full.0, laid_was leaves pages step.0 full.0 full.1, full.2, full_laid limit leaves pages 1 n path full.3)
+
+way_laid : (limit : ℕ) (leaves : List Laid) (pages : PageMap) (root : ℕ) (path : List (ℕ × ℕ)) (added : List NodeEntry) (n : Node) → IsWayOf limit (put_laid leaves pages) root path added n → IsWayOf limit pages root path added n
+way_laid limit leaves pages root [] added n is = is
+way_laid limit leaves pages root (step ∷ path) added n is = (is.0, laid_was leaves pages step.0 is.0 is.1, ⊎_elim (λ own. inl own) (λ up. inr (up.0, up.1, up.2, way_laid limit leaves pages root path (up.0 ∷ []) n up.3)) is.2)
 
 -- a page once leaves were laid
 laid_either : (leaves : List Laid) (pages : PageMap) (j : ℕ) (p : Page) → put_laid leaves pages j ≡ Some p → (pages j ≡ Some p) ⊎ IsLaid leaves p
@@ -515,14 +534,14 @@ module _ {S V O : Type 0} (s : Ghosts S) (R : Stores V S) (t u v w : Tree V O) (
   parts_have i j two c = from_all t.head.leaf_ids second third HasItems (subst (λ (z : List Item). 0 < length z) (sym two) (cut_middle i j t.head.leaf_limit leaf.items c)) (λ lt. lt)
 
   laid_piece : (i j : ℕ) → items ≡ take i leaf.items → second ≡ take (j - i) (drop i leaf.items) → third ≡ drop j leaf.items → IsCut t.head.leaf_limit leaf.items i j → (pages : PageMap) → ShowsLeaf s R id leaf.next t a pages → (q : Page) → IsLaid leaves q
-      → IsPiece t.head leaf.items leaf.next pages q
+      → IsPiece t.head t.path leaf.items leaf.next pages q
   laid_piece i j one two three c pages h q is =
       let stretches = cut_stretches i j t.head.leaf_limit leaf.items c in
       let k = adds_pages (λ z. ItemsWithin t.head.leaf_limit z × IsStretch z leaf.items) id leaf.prev leaf.next items parts pages leaves q (laid pages h.0) h.1.behind
       (subst (λ (z : List Item). ItemsWithin t.head.leaf_limit z × IsStretch z leaf.items) (sym one) (c.first, stretches.0))
       (from_all t.head.leaf_ids second third (λ z. ItemsWithin t.head.leaf_limit z.items × IsStretch z.items leaf.items) (subst (λ (z : List Item). ItemsWithin t.head.leaf_limit z × IsStretch z leaf.items) (sym two) (c.second, stretches.1))
       (λ lt. subst (λ (z : List Item). ItemsWithin t.head.leaf_limit z × IsStretch z leaf.items) (sym three) (c.third, stretches.2))) is in
-      subst (λ (z : Page). IsPiece t.head leaf.items leaf.next pages z) (sym k.1) k.2
+      subst (λ (z : Page). IsPiece t.head t.path leaf.items leaf.next pages z) (sym k.1) k.2
 
   module _ (x : Tree V O) (d : S) (lays : Rewrites s R (put_laid leaves) w x b d) (still_x : StaysStill s R w x b d) where
     xhead : x.head ≡ w.head
@@ -562,17 +581,48 @@ module _ {S V O : Type 0} (s : Ghosts S) (R : Stores V S) (t u v w : Tree V O) (
         (cases_lt t.head.leaf_ids j)
     laid_filled pages h j (inr g) not none = not (inr (g.0, omega (arith, g.1, ap (λ (h : TreeHead). h.node_ids) (xhead ∙ whead))))
 
-    pub climb_full : FillsWay s R p.added x d → FillsLeafWay s R id leaf t a
-    climb_full full pages h =
-        subst (λ (q : List (ℕ × ℕ)). IsFullWay t.head.node_limit pages q 2) (still_x.path ∙ wpath)
-        (way_before t.head.node_limit x.head.node_limit leaves pages x.path (length p.added) (ap (λ (y : TreeHead). y.node_limit) xhead ∙ wlimit) added_few (full (put_laid leaves pages) (way_on pages h)))
+    -- the items are in parts
+    abbrev parts_in : (i j : ℕ) → items ≡ take i leaf.items → second ≡ take (j - i) (drop i leaf.items) → third ≡ drop j leaf.items → IsCut t.head.leaf_limit leaf.items i j → ArePartedIn t.head.leaf_limit leaf.items (length parts)
+    parts_in i j one two three c = record {
+      first = items;
+      parts = parts;
+      whole = parts_joined i j one two three c;
+      some = subst (λ (z : List Item). 0 < length z) (sym one) (cut_front i j t.head.leaf_limit leaf.items c);
+      have = parts_have i j two c;
+      within = subst (λ (z : List Item). ItemsWithin t.head.leaf_limit z) (sym one) c.first;
+      are_within = from_all t.head.leaf_ids second third (λ q. ItemsWithin t.head.leaf_limit q.items) (subst (λ (z : List Item). ItemsWithin t.head.leaf_limit z) (sym two) c.second) (λ lt. subst (λ (z : List Item). ItemsWithin t.head.leaf_limit z) (sym three) c.third);
+      count = refl;
+      few = (from_some t.head.leaf_ids second third).1;
+    }
 
-    climb_piece : (i j : ℕ) → items ≡ take i leaf.items → second ≡ take (j - i) (drop i leaf.items) → third ≡ drop j leaf.items → IsCut t.head.leaf_limit leaf.items i j → (pages : PageMap) (q : Page) → IsKnownNode x.head.node_limit p.added (put_laid leaves pages) q
-        → IsPiece t.head leaf.items leaf.next pages q
+    pub climb_full : (i j : ℕ) → items ≡ take i leaf.items → second ≡ take (j - i) (drop i leaf.items) → third ≡ drop j leaf.items → (s.tells → IsCut t.head.leaf_limit leaf.items i j) → FillsWay s R p.added x d → LacksId s R id leaf t a
+    climb_full i j one two three cut full pages h =
+        let c : IsCut t.head.leaf_limit leaf.items i j = cut h.0.0 in
+        let k = full (put_laid leaves pages) (way_on pages h) in
+        let count : length p.added ≡ length parts = ap length made.added ∙ length-map parts part_entry in
+        let f1 : IsFullWay x.head.node_limit (put_laid leaves pages) (length parts) k.0 x.path = subst (λ (m : ℕ). IsFullWay x.head.node_limit (put_laid leaves pages) m k.0 x.path) count k.2 in
+        let f2 : IsFullWay x.head.node_limit (put_laid leaves pages) (length parts) k.0 t.path = subst (λ (q : List (ℕ × ℕ)). IsFullWay x.head.node_limit (put_laid leaves pages) (length parts) k.0 q) (still_x.path ∙ wpath) f1 in
+        let f3 : IsFullWay t.head.node_limit (put_laid leaves pages) (length parts) k.0 t.path = subst (λ (m : ℕ). IsFullWay m (put_laid leaves pages) (length parts) k.0 t.path) (ap (λ (y : TreeHead). y.node_limit) xhead ∙ wlimit) f2 in
+        record {
+          more = length parts;
+          parted_in = parts_in i j one two three c;
+          used = inr (k.0, omega (arith, k.1, ap (λ (y : TreeHead). y.node_ids) (xhead ∙ whead)), full_laid t.head.node_limit leaves pages (length parts) k.0 t.path f3);
+        }
+
+    climb_piece : (i j : ℕ) → items ≡ take i leaf.items → second ≡ take (j - i) (drop i leaf.items) → third ≡ drop j leaf.items → IsCut t.head.leaf_limit leaf.items i j → (pages : PageMap) (q : Page) → IsKnownNode x.head.node_limit x.head.root x.path p.added (put_laid leaves pages) q
+        → IsPiece t.head t.path leaf.items leaf.next pages q
     climb_piece i j one two three c pages q n =
         let limit : x.head.node_limit ≡ t.head.node_limit = ap (λ (y : TreeHead). y.node_limit) xhead ∙ wlimit in
-        subst (λ (z : Page). IsPiece t.head leaf.items leaf.next pages z) (sym n.1)
-        (omega (arith, n.2, limit), all_map (λ (y : NodeEntry). IsAmong entry_key y.key p.added ⊎ StoodIn (put_laid leaves pages) y.key) (λ (y : NodeEntry). IsAmong item_key y.key leaf.items ⊎ StoodIn pages y.key) n.0.entries (λ y k. piece_key i j one two three c pages y.key k) n.3)
+        let w1 : IsWayOf x.head.node_limit (put_laid leaves pages) x.head.root t.path p.added n.0 = subst (λ (z : List (ℕ × ℕ)). IsWayOf x.head.node_limit (put_laid leaves pages) x.head.root z p.added n.0) (still_x.path ∙ wpath) n.4 in
+        let w2 : IsWayOf x.head.node_limit (put_laid leaves pages) t.head.root t.path p.added n.0 = subst (λ (r : ℕ). IsWayOf x.head.node_limit (put_laid leaves pages) r t.path p.added n.0) (ap (λ (y : TreeHead). y.root) xhead ∙ wroot) w1 in
+        let w3 : IsWayOf t.head.node_limit (put_laid leaves pages) t.head.root t.path p.added n.0 = subst (λ (m : ℕ). IsWayOf m (put_laid leaves pages) t.head.root t.path p.added n.0) limit w2 in
+        let w4 : IsWayOf t.head.node_limit pages t.head.root t.path (map part_entry parts) n.0 = subst (λ (es : List NodeEntry). IsWayOf t.head.node_limit pages t.head.root t.path es n.0) made.added (way_laid t.head.node_limit leaves pages t.head.root t.path p.added n.0 w3) in
+        let climbs : ClimbsIn t.head pages t.path leaf.items n.0 = (length parts, parts_in i j one two three c, w4) in
+        subst (λ (z : Page). IsPiece t.head t.path leaf.items leaf.next pages z) (sym n.1) (
+          omega (arith, n.2, limit),
+          all_map (λ (y : NodeEntry). IsAmong entry_key y.key p.added ⊎ StoodIn (put_laid leaves pages) y.key) (λ (y : NodeEntry). IsAmong item_key y.key leaf.items ⊎ StoodIn pages y.key) n.0.entries (λ y k. piece_key i j one two three c pages y.key k) n.3,
+          climbs,
+        )
 
     pub lacks_climb : (i j : ℕ) (e : S) → items ≡ take i leaf.items → second ≡ take (j - i) (drop i leaf.items) → third ≡ drop j leaf.items → (s.tells → IsCut t.head.leaf_limit leaf.items i j)
         → LacksPage s R (IsWayNode s R p.added x d) x.store d e → LacksPage s R (IsLeafPiece s R id leaf t a) t.store a e

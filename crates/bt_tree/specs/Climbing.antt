@@ -1,19 +1,22 @@
 -- Entries that climb along the way that a tree has noted.
-use Rattle.std.specs.Prelude.{◌⊎◌, ◌≡◌, ⊤, ℕ, ◌+◌, ◌<◌, ◌≤◌, ◌/◌, List, [], ◌∷◌, ◌++◌, Some, None, length}
+use Rattle.std.specs.Prelude.{◌⊎◌, ◌≡◌, ⊤, ℕ, zero, suc, ◌+◌, ◌<◌, ◌≤◌, ◌/◌, List, [], ◌∷◌, ◌++◌, Some, None, length}
 use Rattle.std.specs.List.{AllByRecursion}
 use Rattle.tc_space.specs.Frames.{Keeps}
 use Rattle.tc_space.specs.Stores.{IsReady, Only}
 use Rattle.tc_space.specs.declared.records.Records.{Ghosts as Stores}
 use Rattle.tc_space.specs.declared.space.Space.{Ghosts}
+use Rattle.bt_page.specs.Keys.{node_offset}
 use Rattle.bt_page.specs.Limits.{NodeWithin}
 use Rattle.bt_page.specs.declared.page.NodeEntry.{NodeEntry}
 use Rattle.bt_page.specs.declared.page.Node.{Node}
+use Rattle.bt_rows.specs.declared.head.TreeHead.{TreeHead}
 use Rattle.bt_rows.specs.declared.page.Page.{Page}
 use Rattle.bt_rows.specs.declared.page.Page.TheVariants.{Node as node_page}
 use Rattle.bt_rows.specs.declared.page.Slot.{Slot}
 use Rattle.bt_rows.specs.Pages.{PageMap}
 use Rattle.bt_cache.specs.Effects.{SameStore}
 use Rattle.bt_ways.specs.Climbs.{ClimbsWith, IsHeldWay}
+use Rattle.bt_ways.specs.Laws.{spliced}
 use Rattle.bt_ways.specs.Ways.{Crumb, path_of}
 use Rattle.bt_ways.specs.Writes.{put_at}
 use Rattle.bt_tree.specs.declared.tree.Tree.{Tree}
@@ -72,26 +75,51 @@ pub record StoodIn (pages : PageMap) (key : List ℕ) : Type 0 where
   pub is : pages id ≡ Some (node_page node)
   pub among : IsAmong entry_key key node.entries
 
--- a node of so many entries at most, whose keys are those of these
-abbrev pub IsNodeOf : ℕ → List NodeEntry → Page → Type 0
-IsNodeOf most entries p = (n : Node) × (p ≡ node_page n) × (length n.entries ≤ most) × AllByRecursion (λ e. IsAmong entry_key e.key entries) n.entries
+-- the last of the pages below a node with this heir and these entries
+abbrev pub last_below : ℕ → List NodeEntry → ℕ
+last_below heir [] = heir
+last_below heir (e ∷ es) = last_below e.child es
 
--- a node within the limit, whose keys are those that are added or stood in a node
-abbrev pub IsKnownNode : ℕ → List NodeEntry → PageMap → Page → Type 0
-IsKnownNode limit added pages p = (n : Node) × (p ≡ node_page n) × NodeWithin limit n × AllByRecursion (λ e. IsAmong entry_key e.key added ⊎ StoodIn pages e.key) n.entries
+-- a node of some of the places below one with this heir and these entries, one behind the other
+pub record IsSection (heir : ℕ) (entries : List NodeEntry) (n : Node) : Type 0 where
+  pub front : List NodeEntry
+  pub back : List NodeEntry
+  pub are : entries ≡ front ++ (n.entries ++ back)
+  pub heir_is : n.heir ≡ last_below heir front
+
+-- where entries climb a way: past the root, a node of them over it; else a section of the lowest node with them put in at its place, or, where that is above the limit, such a node where one entry with a
+-- key of these climbs on
+abbrev pub IsWayOf : ℕ → PageMap → ℕ → List (ℕ × ℕ) → List NodeEntry → Node → Type 0
+IsWayOf limit pages root [] added n = IsSection root added n
+IsWayOf limit pages root (step ∷ path) added n =
+    (m : Node) × (pages step.0 ≡ Some (node_page m))
+    × (IsSection m.heir (spliced m.entries step.1 added) n ⊎ ((up : NodeEntry) × IsAmong entry_key up.key (spliced m.entries step.1 added) × (limit < length (spliced m.entries step.1 added)) × IsWayOf limit pages root path (up ∷ []) n))
+
+-- a section of so many entries at most, whose keys are those of these
+abbrev pub IsNodeOf : ℕ → ℕ → List NodeEntry → Page → Type 0
+IsNodeOf most heir entries p = (n : Node) × (p ≡ node_page n) × (length n.entries ≤ most) × AllByRecursion (λ e. IsAmong entry_key e.key entries) n.entries × IsSection heir entries n
+
+-- a node within the limit, whose keys are those that are added or stood in a node, where these entries climb this way
+abbrev pub IsKnownNode : ℕ → ℕ → List (ℕ × ℕ) → List NodeEntry → PageMap → Page → Type 0
+IsKnownNode limit root path added pages p = (n : Node) × (p ≡ node_page n) × NodeWithin limit n × AllByRecursion (λ e. IsAmong entry_key e.key added ⊎ StoodIn pages e.key) n.entries × IsWayOf limit pages root path added n
 
 -- each page is an old one, or such a node
-abbrev pub WritesKnown : ℕ → List NodeEntry → PageMap → PageMap → Type 0
-WritesKnown limit added old new = (id : ℕ) (p : Page) → new id ≡ Some p → (old id ≡ Some p) ⊎ IsKnownNode limit added old p
+abbrev pub WritesKnown : ℕ → ℕ → List (ℕ × ℕ) → List NodeEntry → PageMap → PageMap → Type 0
+WritesKnown limit root path added old new = (id : ℕ) (p : Page) → new id ≡ Some p → (old id ≡ Some p) ⊎ IsKnownNode limit root path added old p
 
--- the lowest node of a way has no room for so many entries more, or there is none
-abbrev pub IsFullWay : ℕ → PageMap → List (ℕ × ℕ) → ℕ → Type 0
-IsFullWay limit pages [] more = ⊤
-IsFullWay limit pages (step ∷ path) more = (n : Node) × (pages step.0 ≡ Some (node_page n)) × (limit < length n.entries + more)
+-- so many nodes come at least, where so many entries climb a way: the lowest of it have no room, or it ends and a root comes
+abbrev pub IsFullWay : ℕ → PageMap → ℕ → ℕ → List (ℕ × ℕ) → Type 0
+IsFullWay limit pages more zero path = ⊤
+IsFullWay limit pages more (suc n) [] = n ≡ 0
+IsFullWay limit pages more (suc n) (step ∷ path) = (m : Node) × (pages step.0 ≡ Some (node_page m)) × (limit < length m.entries + more) × IsFullWay limit pages 1 n path
+
+-- fewer ids of nodes are left than nodes come
+abbrev pub LacksNodeIds : TreeHead → PageMap → List (ℕ × ℕ) → ℕ → Type 0
+LacksNodeIds h pages path more = (n : ℕ) × (node_offset ≤ h.node_ids + n) × IsFullWay h.node_limit pages more n path
 
 -- the entries climbed
 abbrev pub Climbs : {V O : Type 0} → Tree V O → Tree V O → List NodeEntry → PageMap → PageMap → Type 0
-Climbs t u added old new = ClimbsWith t.head.node_limit old new t.height u.height t.head.root u.head.root t.path added × ComesAnew t.head old new × WritesKnown t.head.node_limit added old new × FillsIds t.head u.head new
+Climbs t u added old new = ClimbsWith t.head.node_limit old new t.height u.height t.head.root u.head.root t.path added × ComesAnew t.head old new × WritesKnown t.head.node_limit t.head.root t.path added old new × FillsIds t.head u.head new
 
 -- a node is written as two; where it stood, the second alone comes
 abbrev pub Divides : {V O : Type 0} → Tree V O → Tree V O → ℕ → Node → List NodeEntry → PageMap → PageMap → Type 0
@@ -108,17 +136,17 @@ module _ {S V O : Type 0} (s : Ghosts S) (R : Stores V S) where
   abbrev pub TurnsClimbed : List NodeEntry → Tree V O → Tree V O → S → S → Type 0
   TurnsClimbed added t u old new = Turns s (Only (file_in R t)) (ShowsWay s R) (Shows s R) (Climbs t u added) t u old new
 
-  -- ids are used up, or the store has no room for a node of so many of these entries at most
-  abbrev pub LacksNodeOf : ℕ → List NodeEntry → Tree V O → Tree V O → S → S → Type 0
-  LacksNodeOf most entries t u old new = NodesUsedUp u.head ⊎ LacksPage s R (IsNodeOf most entries) t.store old new
+  -- ids are used up, or the store has no room for a section of so many of these entries at most
+  abbrev pub LacksNodeOf : ℕ → ℕ → List NodeEntry → Tree V O → S → S → Type 0
+  LacksNodeOf most heir entries t old new = NodesUsedUp t.head ⊎ LacksPage s R (IsNodeOf most heir entries) t.store old new
 
-  -- the lowest node of the noted way has no room for these entries, or there is none
+  -- fewer ids of nodes are left than come where these entries climb the noted way
   abbrev pub FillsWay : List NodeEntry → Tree V O → S → Type 0
-  FillsWay added t old = (pages : PageMap) → ShowsWay s R t old pages → IsFullWay t.head.node_limit pages t.path (length added)
+  FillsWay added t old = (pages : PageMap) → ShowsWay s R t old pages → LacksNodeIds t.head pages t.path (length added)
 
-  -- or for a node of these and of those that stood along the way
+  -- or the store has no room for a node that they make
   abbrev pub IsWayNode : List NodeEntry → Tree V O → S → Page → Type 0
-  IsWayNode added t old p = (pages : PageMap) → ShowsWay s R t old pages → IsKnownNode t.head.node_limit added pages p
+  IsWayNode added t old p = (pages : PageMap) → ShowsWay s R t old pages → IsKnownNode t.head.node_limit t.head.root t.path added pages p
 
-  abbrev pub LacksWayNode : List NodeEntry → Tree V O → Tree V O → S → S → Type 0
-  LacksWayNode added t u old new = (NodesUsedUp u.head × FillsWay added t old) ⊎ LacksPage s R (IsWayNode added t old) t.store old new
+  abbrev pub LacksWayNode : List NodeEntry → Tree V O → S → S → Type 0
+  LacksWayNode added t old new = FillsWay added t old ⊎ LacksPage s R (IsWayNode added t old) t.store old new

@@ -1,5 +1,5 @@
 -- A pair that comes into a tree.
-use Rattle.std.specs.Prelude.{◌≡◌, ◌⊎◌, ⊤, ℕ, ◌+◌, ◌≤◌, List, Bool, Option, Some}
+use Rattle.std.specs.Prelude.{◌≡◌, ◌⊎◌, ⊤, ℕ, ◌+◌, ◌≤◌, List, Bool, false, Option, Some, Result, OnErr}
 use Rattle.std.specs.declared.cmp.Ordering.{Ordering}
 use Rattle.std.specs.List.{AllByRecursion}
 use Rattle.tc_base.specs.declared.order.Order.{Ghosts as Orders}
@@ -18,10 +18,10 @@ use Rattle.bt_ways.specs.Changes.{AreItems, IsChanged, ItemsWithin, inserted, it
 use Rattle.bt_ways.specs.Ways.{Found}
 use Rattle.bt_tree.specs.declared.inserting.Changed.{Changed}
 use Rattle.bt_tree.specs.declared.tree.Tree.{Tree}
-use Rattle.bt_tree.specs.Climbing.{IsAmong, IsFullWay, StoodIn}
+use Rattle.bt_tree.specs.Climbing.{IsAmong, StoodIn}
 use Rattle.bt_tree.specs.Meaning.{Changes, Means}
-use Rattle.bt_tree.specs.Parting.{IsStretch}
-use Rattle.bt_tree.specs.Paging.{ComesAnew, FillsIds, LacksPage, LeavesUsedUp, NodesUsedUp, Shows}
+use Rattle.bt_tree.specs.Parting.{ClimbsIn, IsStretch, LacksIds}
+use Rattle.bt_tree.specs.Paging.{ComesAnew, FillsIds, LacksPage, Shows}
 use Rattle.bt_tree.specs.Trees.{IsTree}
 
 -- in the leaf where a key belongs a pair came in; the leaf isn't written yet
@@ -48,6 +48,11 @@ pub record Gains {V O : Type 0} (leaves nodes rows : ℕ) (t u : Tree V O) : Typ
   pub rows_least : t.height ≤ u.height
   pub rows_most : u.height ≤ t.height + rows
 
+-- so it is whatever a call answers; and where it was refused the space may not be used any more, or no number and no row is another
+pub record GivesIds {S V O T E : Type 0} (s : Ghosts S) (leaves nodes rows : ℕ) (result : Result T E) (t u : Tree V O) (new : S) : Type 0 where
+  pub most : Gains leaves nodes rows t u
+  pub kept : OnErr result ((s.flag new ≡ false) ⊎ ((u.head ≡ t.head) × (u.height ≡ t.height)))
+
 -- the leaf where the key belongs, under the id where the way leads, has no room for the pair
 pub record IsCrowded (cmp : List ℕ → List ℕ → Ordering) (last : Bool) (key value : List ℕ) {h : TreeHead} {height : ℕ} {m : List ℕ → Option (List ℕ)} (tree : IsTree (before_by cmp) h height m) : Type 0 where
   pub path : List (ℕ × ℕ)
@@ -59,9 +64,14 @@ pub record IsCrowded (cmp : List ℕ → List ℕ → Ordering) (last : Bool) (k
   pub pairs : items_pairs items ≡ inserted cmp last key value (items_pairs found.leaf.leaf.items)
   pub over : ItemsWithin h.leaf_limit items → ⊥
 
--- and the lowest node of that way has no room for two entries more, or there is none
-abbrev pub HasFullWay : (cmp : List ℕ → List ℕ → Ordering) → Bool → List ℕ → List ℕ → {h : TreeHead} {height : ℕ} {m : List ℕ → Option (List ℕ)} → IsTree (before_by cmp) h height m → Type 0
-HasFullWay cmp last key value {h} tree = (c : IsCrowded cmp last key value tree) × IsFullWay h.node_limit tree.pages c.path 2
+-- and fewer ids are left than pages come where it is parted
+abbrev pub RunsOut : (cmp : List ℕ → List ℕ → Ordering) → Bool → List ℕ → List ℕ → {h : TreeHead} {height : ℕ} {m : List ℕ → Option (List ℕ)} → IsTree (before_by cmp) h height m → Type 0
+RunsOut cmp last key value {h} tree = (c : IsCrowded cmp last key value tree) × LacksIds h tree.pages c.path c.items
+
+-- a node is one that comes where that leaf is parted: a section of a node of the way, with entries put in
+abbrev pub IsMorePage : (cmp : List ℕ → List ℕ → Ordering) → Bool → List ℕ → List ℕ → {h : TreeHead} {height : ℕ} {m : List ℕ → Option (List ℕ)} → IsTree (before_by cmp) h height m → Page → Type 0
+IsMorePage cmp last key value {h} tree (leaf_page l) = ⊤
+IsMorePage cmp last key value {h} tree (node_page n) = (c : IsCrowded cmp last key value tree) × ClimbsIn h tree.pages c.path c.items n
 
 -- some of the items of these pairs, one behind the other
 pub record AreItemsOf (cmp : List ℕ → List ℕ → Ordering) (items : List Item) (ps : List Pair) : Type 0 where
@@ -112,18 +122,14 @@ module _ {S V O : Type 0} (s : Ghosts S) (R : Stores V S) (o : Orders O) (last :
   abbrev pub AddsPages : Tree V O → Tree V O → S → Type 0
   AddsPages t u old = Gains 0 0 0 t u ⊎ PartsLeaf t u old
 
-  -- a page that a put into this tree writes
+  -- a page that a put into this tree writes; a node comes along the way to a leaf that has no room
   abbrev pub IsWritten : Tree V O → S → Page → Type 0
-  IsWritten t old p = (ps : List Pair) (h : Means s R o t old ps) → IsPutPage o.cmp t.head h.1.is.tree.pages ps (inserted o.cmp last key value ps) p
+  IsWritten t old p = (ps : List Pair) (h : Means s R o t old ps) → IsPutPage o.cmp t.head h.1.is.tree.pages ps (inserted o.cmp last key value ps) p × IsMorePage o.cmp last key value h.1.is.tree p
 
-  -- nor has the lowest node of the way to it room for two entries more, or there is none
-  abbrev pub CrowdsWay : Tree V O → S → Type 0
-  CrowdsWay t old = (ps : List Pair) (h : Means s R o t old ps) → HasFullWay o.cmp last key value h.1.is.tree
+  -- the leaf is to be parted, and fewer ids are left than pages come
+  abbrev pub UsesUp : Tree V O → S → Type 0
+  UsesUp t old = (ps : List Pair) (h : Means s R o t old ps) → RunsOut o.cmp last key value h.1.is.tree
 
-  -- ids of leaves are used up, or ids of nodes where one more comes
-  abbrev pub UsesUp : Tree V O → Tree V O → S → Type 0
-  UsesUp t u old = LeavesUsedUp u.head ⊎ (NodesUsedUp u.head × CrowdsWay t old)
-
-  -- the leaf is parted and ids are used up, or the store has no room for a page of the tree before or after
-  abbrev pub IsFull : Tree V O → Tree V O → S → S → Type 0
-  IsFull t u old new = (UsesUp t u old × PartsLeaf t u old) ⊎ LacksPage s R (IsWritten t old) t.store old new
+  -- so it is, or the store has no room for a page of the tree before or after
+  abbrev pub IsFull : Tree V O → S → S → Type 0
+  IsFull t old new = UsesUp t old ⊎ LacksPage s R (IsWritten t old) t.store old new

@@ -58,10 +58,7 @@ ComesFrom old new = (id : ℕ) → new id ≡ None → old id ≡ None
 abbrev pub ComesNone : PageMap → PageMap → Type 0
 ComesNone old new = (id : ℕ) → old id ≡ None → new id ≡ None
 
--- ids of leaves are used up, and ids of nodes
-abbrev pub LeavesUsedUp : TreeHead → Type 0
-LeavesUsedUp h = node_offset ≤ h.leaf_ids + 1
-
+-- ids of nodes are used up
 abbrev pub NodesUsedUp : TreeHead → Type 0
 NodesUsedUp h = node_offset ≤ h.node_ids + 1
 

@@ -5,9 +5,11 @@ use Rattle.tc_space.specs.Frames.{Keeps}
 use Rattle.tc_space.specs.Stores.{IsReady, Only}
 use Rattle.tc_space.specs.declared.records.Records.{Ghosts as Stores}
 use Rattle.tc_space.specs.declared.space.Space.{Ghosts}
+use Rattle.bt_page.specs.Keys.{node_offset}
 use Rattle.bt_page.specs.Limits.{NodeWithin}
 use Rattle.bt_page.specs.declared.page.Item.{Item}
 use Rattle.bt_page.specs.declared.page.Leaf.{Leaf}
+use Rattle.bt_page.specs.declared.page.Node.{Node}
 use Rattle.bt_rows.specs.declared.head.TreeHead.{TreeHead}
 use Rattle.bt_rows.specs.declared.page.LeafAt.{LeafAt}
 use Rattle.bt_rows.specs.declared.page.Page.{Page}
@@ -24,9 +26,9 @@ use Rattle.bt_ways.specs.Writes.{put_at}
 use Rattle.bt_tree.specs.declared.tree.Tree.{Tree}
 use Rattle.bt_tree.specs.declared.parting.Laid.{Laid}
 use Rattle.bt_tree.specs.declared.parting.Parted.{Parted}
-use Rattle.bt_tree.specs.Climbing.{CanClimb, IsAmong, IsFullWay, StoodIn}
+use Rattle.bt_tree.specs.Climbing.{CanClimb, IsAmong, IsWayOf, LacksNodeIds, StoodIn}
 use Rattle.bt_tree.specs.Meaning.{file_in}
-use Rattle.bt_tree.specs.Paging.{ComesAnew, FillsIds, LacksPage, LeavesUsedUp, NodesUsedUp, Shows, Turns}
+use Rattle.bt_tree.specs.Paging.{ComesAnew, FillsIds, LacksPage, Shows, Turns}
 
 -- with these leaves at their ids, the last one last
 abbrev pub put_laid : List Laid → PageMap → PageMap
@@ -101,10 +103,32 @@ IsStretch {X} xs ys = (a : List X) × (b : List X) × (ys ≡ a ++ (xs ++ b))
 abbrev pub item_key : Item → List ℕ
 item_key x = x.key
 
--- a part of the items that is within the limit, the items of the leaf behind, or a node within the limit, whose keys are those of items or stood in a node
-abbrev pub IsPiece : TreeHead → List Item → ℕ → PageMap → Page → Type 0
-IsPiece h items next pages (leaf_page l) = (ItemsWithin h.leaf_limit l.items × IsStretch l.items items) ⊎ ((k : Leaf) × (pages next ≡ Some (leaf_page k)) × (l.items ≡ k.items))
-IsPiece h items next pages (node_page n) = NodeWithin h.node_limit n × AllByRecursion (λ e. IsAmong item_key e.key items ⊎ StoodIn pages e.key) n.entries
+-- items stand in so many parts beside the first, none of them empty, each within the limit
+pub record ArePartedIn (limit : ℕ) (items : List Item) (more : ℕ) : Type 0 where
+  pub first : List Item
+  pub parts : List Part
+  pub whole : items ≡ all_items first parts
+  pub some : 0 < length first
+  pub have : AllByRecursion HasItems parts
+  pub within : ItemsWithin limit first
+  pub are_within : AllByRecursion (λ p. ItemsWithin limit p.items) parts
+  pub count : more ≡ length parts
+  pub few : more ≤ 2
+
+-- a node that comes where items are parted and the entries of the further parts climb a way
+abbrev pub ClimbsIn : TreeHead → PageMap → List (ℕ × ℕ) → List Item → Node → Type 0
+ClimbsIn h pages path items n = (more : ℕ) × (parted_in : ArePartedIn h.leaf_limit items more) × IsWayOf h.node_limit pages h.root path (map part_entry parted_in.parts) n
+
+-- a part of the items that is within the limit, the items of the leaf behind, or a node within the limit, whose keys are those of items or stood in a node, along this way
+abbrev pub IsPiece : TreeHead → List (ℕ × ℕ) → List Item → ℕ → PageMap → Page → Type 0
+IsPiece h path items next pages (leaf_page l) = (ItemsWithin h.leaf_limit l.items × IsStretch l.items items) ⊎ ((k : Leaf) × (pages next ≡ Some (leaf_page k)) × (l.items ≡ k.items))
+IsPiece h path items next pages (node_page n) = NodeWithin h.node_limit n × AllByRecursion (λ e. IsAmong item_key e.key items ⊎ StoodIn pages e.key) n.entries × ClimbsIn h pages path items n
+
+-- items are parted, and fewer ids are left than pages come: of leaves than further parts, or of nodes where so many entries climb this way
+pub record LacksIds (h : TreeHead) (pages : PageMap) (path : List (ℕ × ℕ)) (items : List Item) : Type 0 where
+  pub more : ℕ
+  pub parted_in : ArePartedIn h.leaf_limit items more
+  pub used : (node_offset ≤ h.leaf_ids + more) ⊎ LacksNodeIds h pages path more
 
 -- the leaf became several within the limits, whose entries have climbed
 pub record IsParted {V O : Type 0} (t u : Tree V O) (id : ℕ) (leaf : Leaf) (old new : PageMap) : Type 0 where
@@ -118,7 +142,7 @@ pub record IsParted {V O : Type 0} (t u : Tree V O) (id : ℕ) (leaf : Leaf) (ol
   pub fresh : AreFresh old parts
   pub anew : ComesAnew t.head old new
   pub filled : FillsIds t.head u.head new
-  pub written : (j : ℕ) (p : Page) → new j ≡ Some p → (old j ≡ Some p) ⊎ IsPiece t.head leaf.items leaf.next old p
+  pub written : (j : ℕ) (p : Page) → new j ≡ Some p → (old j ≡ Some p) ⊎ IsPiece t.head t.path leaf.items leaf.next old p
   pub given : AllByRecursion (λ p. 1 ≤ p.id) parts
   pub last : u.head.last ≡ (if leaf.next == 0 then last_part id parts else t.head.last)
   pub climbs : (s : Slot) (back : List LeafAt) → s.id ≡ id → LeavesHeld old back → leaf.next ≡ first_id back → (leaf.next ≡ 0 → back ≡ [])
@@ -150,17 +174,13 @@ module _ {S V O : Type 0} (s : Ghosts S) (R : Stores V S) where
   abbrev pub TurnsParted : ℕ → Leaf → Tree V O → Tree V O → S → S → Type 0
   TurnsParted id leaf t u old new = Turns s (Only (file_in R t)) (ShowsLeaf s R id leaf.next) (Shows s R) (IsParted t u id leaf) t u old new
 
-  -- the lowest node of the noted way has no room for two entries more, or there is none
-  abbrev pub FillsLeafWay : ℕ → Leaf → Tree V O → S → Type 0
-  FillsLeafWay id leaf t old = (pages : PageMap) → ShowsLeaf s R id leaf.next t old pages → IsFullWay t.head.node_limit pages t.path 2
-
-  -- ids of leaves are used up, or ids of nodes where one more comes
-  abbrev pub LacksId : ℕ → Leaf → Tree V O → Tree V O → S → Type 0
-  LacksId id leaf t u old = LeavesUsedUp u.head ⊎ (NodesUsedUp u.head × FillsLeafWay id leaf t old)
+  -- fewer ids are left than pages come
+  abbrev pub LacksId : ℕ → Leaf → Tree V O → S → Type 0
+  LacksId id leaf t old = (pages : PageMap) → ShowsLeaf s R id leaf.next t old pages → LacksIds t.head pages t.path leaf.items
 
   -- or the store has no room for a page of the leaf's items, of the leaf behind, or of a node along the way
   abbrev pub IsLeafPiece : ℕ → Leaf → Tree V O → S → Page → Type 0
-  IsLeafPiece id leaf t old p = (pages : PageMap) → ShowsLeaf s R id leaf.next t old pages → IsPiece t.head leaf.items leaf.next pages p
+  IsLeafPiece id leaf t old p = (pages : PageMap) → ShowsLeaf s R id leaf.next t old pages → IsPiece t.head t.path leaf.items leaf.next pages p
 
-  abbrev pub LacksPiece : ℕ → Leaf → Tree V O → Tree V O → S → S → Type 0
-  LacksPiece id leaf t u old new = LacksId id leaf t u old ⊎ LacksPage s R (IsLeafPiece id leaf t old) t.store old new
+  abbrev pub LacksPiece : ℕ → Leaf → Tree V O → S → S → Type 0
+  LacksPiece id leaf t old new = LacksId id leaf t old ⊎ LacksPage s R (IsLeafPiece id leaf t old) t.store old new

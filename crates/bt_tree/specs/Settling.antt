@@ -3,7 +3,7 @@ use Rattle.std.specs.Prelude.{◌≡◌, List, Result}
 use Rattle.tc_base.specs.declared.kind.Form.{Form}
 use Rattle.tc_base.specs.declared.order.Order.{Ghosts as Orders}
 use Rattle.tc_base.specs.declared.seq.Pair.{Pair}
-use Rattle.tc_space.specs.Stores.{PacksMap}
+use Rattle.tc_space.specs.Stores.{KeepsTight, PacksMap}
 use Rattle.tc_space.specs.declared.records.Records.{Ghosts as Stores}
 use Rattle.tc_space.specs.declared.space.Space.{Ghosts}
 use Rattle.bt_tree.specs.declared.tree.Tree.{Tree}
@@ -11,11 +11,12 @@ use Rattle.bt_tree.specs.Meaning.{Means, file_in}
 use Rattle.bt_tree.specs.Standing.{FileStands}
 use Rattle.bt_tree.specs.Visits.{StaysTree}
 
--- whatever it answers, the numbers of the tree stay, and its store's file, type and numbers
+-- whatever it answers, the numbers of the tree stay, and its store's file, type and numbers; what was packed in a form is so still
 pub record StaysSettled {S V O : Type 0} (R : Stores V S) (t u : Tree V O) : Type 0 where
   pub file : R.file_of u.store ≡ R.file_of t.store
   pub sort : R.sort u.store ≡ R.sort t.store
   pub fixed : R.numbers u.store ≡ R.numbers t.store
+  pub tight : KeepsTight R.tight t.store u.store
   pub stays : StaysTree t u
 
 -- so it is of a packing, but for the form of the store's file

@@ -77,7 +77,7 @@ impl<R: Records, O: Order> Tree<R, O> {
         requires id { R.S.tells → IsNodeId self.old.head id }
         ensures divided { IfOk result (λ above. TurnsDivided R.S.Space R.Records id node above self.old self.new space.old space.new) }
         ensures one { IfOk result (λ above. length above ≡ 1) }
-        ensures full { OnFull result (LacksNodeOf R.S.Space R.Records (length node.entries / 2) node.entries self.old self.new space.old space.new) }
+        ensures full { OnFull result (LacksNodeOf R.S.Space R.Records (length node.entries / 2) node.heir node.entries self.old space.old space.new) }
         ensures grows { Grows R.S.Space R.Records 1 0 self.old self.new space.old space.new }
         ensures way { (self.new.path ≡ self.old.path) × (self.new.head.root ≡ self.old.head.root) }
         ensures cause { OnFault R.S.Space result space.old space.new }
@@ -97,7 +97,7 @@ impl<R: Records, O: Order> Tree<R, O> {
         requires few { length added ≤ 2 }
         requires rows { self.old.height < 2 ^ 64 - 1 }
         ensures climbed { OnOk result (TurnsClimbed R.S.Space R.Records added self.old self.new space.old space.new) }
-        ensures full { OnFull result (LacksNodeOf R.S.Space R.Records 2 added self.old self.new space.old space.new) }
+        ensures full { OnFull result (LacksNodeOf R.S.Space R.Records 2 self.old.head.root added self.old space.old space.new) }
         ensures grows { Grows R.S.Space R.Records 1 1 self.old self.new space.old space.new }
         ensures cause { OnFault R.S.Space result space.old space.new }
     {
@@ -125,22 +125,23 @@ impl<R: Records, O: Order> Tree<R, O> {
         requires few { length added ≤ 2 }
         requires rows { self.old.height < 2 ^ 64 - 1 }
         ensures climbed { OnOk result (TurnsClimbed R.S.Space R.Records added self.old self.new space.old space.new) }
-        ensures full { OnFull result (LacksWayNode R.S.Space R.Records added self.old self.new space.old space.new) }
+        ensures full { OnFull result (LacksWayNode R.S.Space R.Records added self.old space.old space.new) }
         ensures grows { Grows R.S.Space R.Records (suc (length self.old.path)) 1 self.old self.new space.old space.new }
         ensures cause { OnFault R.S.Space result space.old space.new }
     {
-        let Some((id, place)) = self.path.pop() else {
-            return self.grow(space, added);
-        };
-        let node = self.own_node(space, id, steps)?;
-        if place > node.len() {
-            return Err(RecErr::Memory);
+        let mut more = added;
+        while let Some((id, place)) = self.path.pop() {
+            let node = self.own_node(space, id, steps)?;
+            if place > node.len() {
+                return Err(RecErr::Memory);
+            }
+            let node = splice(self.alloc, node, place, more.as_slice())?;
+            if node.len() <= self.head.node_limit as usize {
+                return self.put_node(space, id, node);
+            }
+            let above = self.divide(space, id, node)?;
+            more = above;
         }
-        let node = splice(self.alloc, node, place, added.as_slice())?;
-        if node.len() <= self.head.node_limit as usize {
-            return self.put_node(space, id, node);
-        }
-        let above = self.divide(space, id, node)?;
-        self.climb(space, above, steps)
+        self.grow(space, more)
     }
 }

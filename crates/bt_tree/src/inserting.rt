@@ -4,7 +4,7 @@ ghost use Rattle.tc_space.specs.Frames.{Keeps};
 ghost use Rattle.tc_space.specs.Refusals.{Blames, OnFault};
 ghost use Rattle.bt_cache.specs.Effects.{OnFull};
 ghost use Rattle.bt_ways.specs.Changes.{inserted};
-ghost use Rattle.bt_tree.specs.Inserting.{AddsPages, Gains, Inserts, IsFull, StaysMade, TakesInLeaf, WritesPages};
+ghost use Rattle.bt_tree.specs.Inserting.{AddsPages, GivesIds, Inserts, IsFull, StaysMade, TakesInLeaf, WritesPages};
 ghost use Rattle.bt_tree.specs.Meaning.{IsOpen, RefusesPairs};
 ghost use Rattle.bt_tree.specs.Numbers.{with_pairs};
 ghost use Rattle.bt_tree.specs.Visits.{LooksAt, StaysTree};
@@ -66,8 +66,8 @@ impl<R: Records, O: Order> Tree<R, O> {
 
     /// Puts a pair: with `last` behind the values of its key, else in the place of the first of them; a key that isn't held comes in with it. At most the leaf where the
     /// key belongs is written, unless it grows beyond its limits: then it is parted, with at most two further leaves, one further node in each row and a new root.
-    /// No more ids than those are given, whatever it answers. After a refusal the space isn't sound, or nothing has changed. `Full` is the store's, or comes where a leaf
-    /// is to be parted and the ids of leaves are used up, or those of nodes where one more is to come.
+    /// No more ids than those are given, whatever it answers. After a refusal the space isn't sound, or nothing has changed, and no id is given. `Full` is the store's, or
+    /// comes where a leaf is to be parted and fewer ids are left than pages come.
     pub fn insert(
         &mut self,
         space: &mut R::S,
@@ -77,11 +77,11 @@ impl<R: Records, O: Order> Tree<R, O> {
     ) -> Result<(), RecErr>
         requires { IsOpen R.S.Space R.Records O.Order self.old space.old }
         ensures inserted { OnOk result (Inserts R.S.Space R.Records O.Order last key.now value.now self.old self.new space.old space.new) }
-        ensures gains { Gains 2 self.old.height 1 self.old self.new }
+        ensures gains { GivesIds R.S.Space 2 self.old.height 1 result self.old self.new space.new }
         ensures adds { OnOk result (AddsPages R.S.Space R.Records O.Order last key.now value.now self.old self.new space.old) }
         ensures pages { OnOk result (WritesPages R.S.Space R.Records O.Order (inserted O.cmp last key.now value.now) self.old self.new space.old space.new) }
         ensures refused { RefusesPairs R.S.Space R.Records O.Order result self.old self.new space.old space.new }
-        ensures full { OnFull result (IsFull R.S.Space R.Records O.Order last key.now value.now self.old self.new space.old space.new) }
+        ensures full { OnFull result (IsFull R.S.Space R.Records O.Order last key.now value.now self.old space.old space.new) }
         ensures keeps { Keeps R.S.Space space.old space.new }
         ensures stays { StaysMade R.Records self.old self.new }
         ensures cause { OnFault R.S.Space result space.old space.new }

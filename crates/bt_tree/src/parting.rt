@@ -7,7 +7,7 @@ ghost use Rattle.bt_cache.specs.Effects.{OnFull};
 ghost use Rattle.bt_ways.specs.Changes.{IsOver};
 ghost use Rattle.bt_ways.specs.Parts.{first_key};
 ghost use Rattle.bt_tree.specs.Numbers.{with_last, with_leaf_ids};
-ghost use Rattle.bt_tree.specs.Paging.{HasLeafAt, IsLeafId, IsShown, LacksPage, LeavesUsedUp, Peeks, Rewrites, StaysStill};
+ghost use Rattle.bt_tree.specs.Paging.{HasLeafAt, IsLeafId, IsShown, LacksPage, Peeks, Rewrites, StaysStill};
 ghost use Rattle.bt_tree.specs.Parting.{AddsAll, AreHalves, AreThirds, HasLeaf, IsLaid, IsThird, LacksPiece, TurnsParted, Widens, put_laid, third_ids};
 
 use crate::cutting::cut_places;
@@ -111,7 +111,7 @@ impl<R: Records, O: Order> Tree<R, O> {
         ensures noted { self.new ≡ with_leaf_ids self.new.head.leaf_ids self.old }
         ensures least { self.old.head.leaf_ids ≤ self.new.head.leaf_ids }
         ensures most { self.new.head.leaf_ids ≤ self.old.head.leaf_ids + 2 }
-        ensures full { OnFull result (LeavesUsedUp self.new.head) }
+        ensures full { OnFull result (node_offset ≤ third_ids self.old.head.leaf_ids leaf i j) }
         ensures cause { IsErrOf result RecErr.Fault → ⊥ }
     {
         let second_id = self.leaf_id()?;
@@ -189,7 +189,7 @@ impl<R: Records, O: Order> Tree<R, O> {
         requires over { R.S.tells → IsOver self.old.head.leaf_limit leaf.items place }
         requires rows { self.old.height < 2 ^ 64 - 1 }
         ensures parted { OnOk result (TurnsParted R.S.Space R.Records id leaf self.old self.new space.old space.new) }
-        ensures full { OnFull result (LacksPiece R.S.Space R.Records id leaf self.old self.new space.old space.new) }
+        ensures full { OnFull result (LacksPiece R.S.Space R.Records id leaf self.old space.old space.new) }
         ensures widens { Widens R.S.Space R.Records (suc (length self.old.path)) self.old self.new space.old space.new }
         ensures cause { OnFault R.S.Space result space.old space.new }
     {

@@ -5,7 +5,7 @@ ghost use Rattle.tc_base.specs.Files.{wrote};
 ghost use Rattle.tc_space.specs.Changes.{same};
 ghost use Rattle.tc_space.specs.Frames.{Keeps};
 ghost use Rattle.tc_space.specs.Refusals.{OnFault, OnlyLogIsFull};
-ghost use Rattle.tc_space.specs.Stores.{FullPack, KeepsTight};
+ghost use Rattle.tc_space.specs.Stores.{FullPack};
 ghost use Rattle.bt_rows.specs.Heads.{head_of};
 ghost use Rattle.bt_cache.specs.Effects.{OnFull};
 ghost use Rattle.bt_tree.specs.Inserting.{AddsAnew};
@@ -65,7 +65,6 @@ impl<R: Records, O: Order> Tree<R, O> {
         ensures full { OnlyLogIsFull R.S.Space result space.new }
         ensures keeps { Keeps R.S.Space space.old space.new }
         ensures stays { StaysSettled R.Records self.old self.new }
-        ensures tight { KeepsTight R.tight self.old.store self.new.store }
         ensures cause { OnFault R.S.Space result space.old space.new }
     {
         let opaque = region_of(&self.head);

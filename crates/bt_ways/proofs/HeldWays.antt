@@ -1,6 +1,7 @@
 -- Ways whose nodes are held, before and behind the writes along them, and what stands beside the leaf that they lead to.
 use Rattle.std.proofs.Common.{◌≡◌, ℕ, ◌+◌, ◌≤◌, List, [], ◌∷◌, ◌++◌, Some, None, length, map, refl, sym, ap, ◌∙◌, subst, arith, length-append}
 use Rattle.std.proofs.lemmas.List.{length-map}
+use Rattle.std.specs.List.{AllByRecursion}
 use Rattle.bt_page.specs.declared.page.Leaf.{Leaf}
 use Rattle.bt_page.specs.declared.page.Node.{Node}
 use Rattle.bt_rows.specs.declared.page.LeafAt.{LeafAt}
@@ -61,6 +62,22 @@ way_parted old root id place second path left right (c ∷ cs) s e w fresh =
         once = above_once old middle low (rows_of cs) c.left c.right c.node left right [] second w.nodes w.once fresh (puts second (node_page right) old) put;
       };
     }
+
+-- and its nodes are as they were
+rows_same : (old new : PageMap) (cs : List Crumb) → LevelsHeld old (rows_of cs) → LevelsHeld new (rows_of cs) → AllByRecursion (λ (step : ℕ × ℕ). new step.0 ≡ old step.0) (path_of cs)
+rows_same old new [] h k = tt
+rows_same old new (c ∷ cs) h k = (held_in_row new c (rows_of cs) k ∙ sym (held_in_row old c (rows_of cs) h), rows_same old new cs h.1 k.1)
+
+pub way_same : (old : PageMap) (root id place second : ℕ) (path : List (ℕ × ℕ)) (left right : Node) (cs : List Crumb) (s : Slot) → (id, place) ∷ path ≡ path_of cs → IsHeldWay old root cs s → old second ≡ None
+    → AllByRecursion (λ (step : ℕ × ℕ). put_at id (node_page left) (put_at second (node_page right) old) step.0 ≡ old step.0) path
+way_same old root id place second path left right [] s e w fresh = absurd (cc)
+way_same old root id place second path left right (c ∷ cs) s e w fresh =
+    let step : SameStep c cs id place path = same_step c cs id place path e in
+    let middle : PageMap = put_at second (node_page right) old in
+    let low : PageMap = put_at id (node_page left) middle in
+    let put : Puts middle low c.node.slot.id (node_page left) = subst (λ i. Puts middle low i (node_page left)) step.step_id (puts id (node_page left) middle) in
+    let above : LevelsHeld low (rows_of cs) = above_held old middle low (rows_of cs) c.left c.right c.node left right [] second w.nodes w.once fresh (puts second (node_page right) old) put in
+    subst (λ (p : List (ℕ × ℕ)). AllByRecursion (λ (step : ℕ × ℕ). low step.0 ≡ old step.0) p) (sym step.rest) (rows_same old low cs w.nodes.1 above)
 
 -- once it is dropped
 pub way_dropped : (old : PageMap) (root id place : ℕ) (path : List (ℕ × ℕ)) (cs : List Crumb) (s : Slot) → (id, place) ∷ path ≡ path_of cs → IsHeldWay old root cs s → WayAbove (drop_at id old) root path

@@ -1,5 +1,5 @@
 -- When a call on a tree is refused for want of room, a limit is reached between the list before and the one after.
-use Rattle.std.proofs.Common.{◌≡◌, ℕ, List, [], Bool, false, None, Option, ap, subst, sym, ◌∙◌, inl, inr, ⊎_elim, refl, arith}
+use Rattle.std.proofs.Common.{◌≡◌, ℕ, List, Bool, false, None, Option, ap, subst, sym, ◌∙◌, inl, inr, ⊎_elim, refl}
 use Rattle.std.specs.FinMap.{get}
 use Rattle.std.specs.declared.cmp.Ordering.{Ordering}
 use Rattle.tc_base.specs.Lists.{first}
@@ -10,6 +10,7 @@ use Rattle.tc_base.specs.declared.seq.Pair.{Pair}
 use Rattle.tc_space.specs.Frames.{In, Keeps, keeps_refl, keeps_then}
 use Rattle.tc_space.specs.Changes.{first_in, put_first}
 use Rattle.tc_space.specs.Lists.{FullFrom, FullPutFrom}
+use Rattle.tc_space.specs.Stores.{FullClear}
 use Rattle.tc_space.specs.declared.records.Records.{Ghosts as Stores}
 use Rattle.tc_space.specs.declared.space.Space.{Ghosts}
 use Rattle.bt_cache.specs.Effects.{SameStore, same_store_refl, same_store_then}
@@ -18,32 +19,23 @@ use Rattle.bt_rows.specs.Pages.{Map as Bytes, PageMap}
 use Rattle.bt_rows.specs.declared.head.TreeHead.{TreeHead}
 use Rattle.bt_rows.specs.declared.page.Page.{Page}
 use Rattle.bt_ways.specs.Changes.{inserted, removed}
-use Rattle.bt_tree.specs.Clearing.{LacksCleared}
-use Rattle.bt_tree.specs.Inserting.{Gains, HasFullWay, IsCrowded, IsFull, IsPutPage, IsWritten}
+use Rattle.bt_tree.specs.Clearing.{LacksBare, LacksCleared}
+use Rattle.bt_tree.specs.Inserting.{IsFull, IsMorePage, IsPutPage, IsWritten, RunsOut}
 use Rattle.bt_tree.specs.Meaning.{Means}
-use Rattle.bt_tree.specs.Paging.{LacksPage, LeavesUsedUp, NodesUsedUp}
+use Rattle.bt_tree.specs.Paging.{LacksPage}
 use Rattle.bt_tree.specs.Removing.{IsRefusedRoom}
 use Rattle.bt_tree.specs.Trees.{HoldsPairs, IsTree}
-use Rattle.bt_tree.specs.Visits.{StaysTree}
-use Rattle.bt_tree.specs.declared.tree.Tree.{Tree}
-use Rattle.tc_btree.specs.Filling.{IsListPage, LeavesNearlyUsedUp, NodesNearlyUsedUp, fills_list}
+use Rattle.tc_btree.specs.Filling.{IsListPage, fills_list}
 use Rattle.tc_btree.specs.Meaning.{file_list, holds_list}
 use Rattle.tc_btree.specs.Putting.{Looked}
 use Rattle.tc_btree.specs.declared.btree.Btree.{Btree}
-
--- no more ids were given than a parted leaf takes, and then none was left
-nearly_leaves : {V O : Type 0} (t u v : Tree V O) → StaysTree t u → Gains 2 u.height 1 u v → LeavesUsedUp v.head → LeavesNearlyUsedUp t
-nearly_leaves t u v stays gains leaves = omega (arith, leaves, gains.leaves_most, ap (λ (h : TreeHead). h.leaf_ids) stays.head)
-
-nearly_nodes : {V O : Type 0} (t u v : Tree V O) → StaysTree t u → Gains 2 u.height 1 u v → NodesUsedUp v.head → NodesNearlyUsedUp t
-nearly_nodes t u v stays gains nodes = omega (arith, nodes, gains.nodes_most, ap (λ (h : TreeHead). h.node_ids) stays.head, stays.height)
 
 -- ---- the same pages under numbers that stayed
 
 record SameTree (cmp : List ℕ → List ℕ → Ordering) {h h' : TreeHead} {n n' : ℕ} {m m' : Bytes} (x : IsTree (before_by cmp) h n m) (y : IsTree (before_by cmp) h' n' m') : Type 0 where
   pages : y.pages ≡ x.pages
-  crowded : (last : Bool) (key value : List ℕ) → IsCrowded cmp last key value y → IsCrowded cmp last key value x
-  full : (last : Bool) (key value : List ℕ) → HasFullWay cmp last key value y → HasFullWay cmp last key value x
+  out : (last : Bool) (key value : List ℕ) → RunsOut cmp last key value y → RunsOut cmp last key value x
+  more : (last : Bool) (key value : List ℕ) (p : Page) → IsMorePage cmp last key value y p → IsMorePage cmp last key value x p
 
 record Carried (cmp : List ℕ → List ℕ → Ordering) {h : TreeHead} {n : ℕ} {c : Option (List ℕ)} {m : Bytes} {ps : List Pair} (is : HoldsPairs (before_by cmp) h n c m ps) (h' : TreeHead) (n' : ℕ) (c' : Option (List ℕ)) : Type 0 where
   there : HoldsPairs (before_by cmp) h' n' c' m ps
@@ -54,7 +46,7 @@ carry cmp h h' n n' c c' m ps eh en ec is =
     subst (λ (x : TreeHead). Carried cmp is x n' c') eh
     (subst (λ (x : ℕ). Carried cmp is h x c') en
     (subst (λ (x : Option (List ℕ)). Carried cmp is h n x) ec
-    (record { there = is; same = record { pages = refl; crowded = λ last key value crowded. crowded; full = λ last key value full. full } })))
+    (record { there = is; same = record { pages = refl; out = λ last key value out. out; more = λ last key value p more. more } })))
 
 module _ {S V O : Type 0} (s : Ghosts S) (R : Stores V S) (o : Orders O) where
   abbrev InList : Btree V O → S → List Pair → Type 0
@@ -89,50 +81,52 @@ module _ {S V O : Type 0} (s : Ghosts S) (R : Stores V S) (o : Orders O) where
     by = l.by;
   }
 
-  insert_fills : (last : Bool) (key value : List ℕ) (b c : Btree V O) (v : Tree V O) (old mid new : S) (ps qs : List Pair) → Looked s R o b c old mid → inserted o.cmp last key value ps ≡ qs → Means s R o b.tree old ps
-      → IsFull s R o last key value c.tree v mid new → fills_list s R o b old new ps qs
-  insert_fills last key value b c v old mid new ps qs looked makes means full = ⊎_elim
-      (λ used. inl (record {
+  insert_fills : (last : Bool) (key value : List ℕ) (b c : Btree V O) (old mid new : S) (ps qs : List Pair) → Looked s R o b c old mid → inserted o.cmp last key value ps ≡ qs → Means s R o b.tree old ps
+      → IsFull s R o last key value c.tree mid new → fills_list s R o b old new ps qs
+  insert_fills last key value b c old mid new ps qs looked makes means full = ⊎_elim
+      (λ used. let a = again b c old mid looked ps means in inl (record {
+        means = means;
         last = last;
         key = key;
         value = value;
         makes = makes;
-        crowded = λ h. let a = again b c old mid looked ps h in a.same.crowded last key value (used.1.1 ps a.now);
-        used = ⊎_elim
-            (λ leaves. inl (nearly_leaves b.tree c.tree v looked.stays used.1.0 leaves))
-            (λ nodes. inr (nearly_nodes b.tree c.tree v looked.stays used.1.0 nodes.0, λ h. let a = again b c old mid looked ps h in a.same.full last key value (nodes.1 ps a.now)))
-            used.0;
+        used = a.same.out last key value (used ps a.now);
       }))
-      (λ lacks. inr (inl (inl (lacks_for (IsWritten s R o last key value c.tree mid) (IsListPage s R o b.tree old ps qs) b.tree.store c.tree.store old mid new looked.looks.made looked.looks.keeps
-      (λ p fine h.
-      let a = again b c old mid looked ps h in
-      subst (λ (x : TreeHead). IsPutPage o.cmp x h.1.is.tree.pages ps qs p) looked.stays.head
-      (subst (λ (pages : PageMap). IsPutPage o.cmp c.tree.head pages ps qs p) a.same.pages
-      (subst (λ (rs : List Pair). IsPutPage o.cmp c.tree.head a.now.1.is.tree.pages ps rs p) makes (fine ps a.now))))
-      lacks))))
+      (λ lacks. inr (inl (lacks_for (IsWritten s R o last key value c.tree mid) (IsListPage s R o b.tree old ps qs) b.tree.store c.tree.store old mid new looked.looks.made looked.looks.keeps
+      (λ p fine.
+      let a = again b c old mid looked ps means in
+      let k = fine ps a.now in (
+        means,
+        subst (λ (x : TreeHead). IsPutPage o.cmp x means.1.is.tree.pages ps qs p) looked.stays.head
+            (subst (λ (pages : PageMap). IsPutPage o.cmp c.tree.head pages ps qs p) a.same.pages
+            (subst (λ (rs : List Pair). IsPutPage o.cmp c.tree.head a.now.1.is.tree.pages ps rs p) makes k.0)),
+        inr (record { last = last; key = key; value = value; makes = makes; more = a.same.more last key value p k.1 }),
+      ))
+      lacks)))
       full
 
   -- an insertion into the tree as it was looked at, which makes of the pairs held what this does
-  pub insert_full : (last : Bool) (key value : List ℕ) (f : List Pair → List Pair) (b c : Btree V O) (v : Tree V O) (old mid new : S) → Looked s R o b c old mid
-      → ((ps : List Pair) → Means s R o b.tree old ps → inserted o.cmp last key value ps ≡ f ps) → IsFull s R o last key value c.tree v mid new → FullFrom InList (fills_list s R o) f b old new
-  insert_full last key value f b c v old mid new looked are full = record { by = λ ps h. insert_fills last key value b c v old mid new ps (f ps) looked (are ps h) h full }
+  pub insert_full : (last : Bool) (key value : List ℕ) (f : List Pair → List Pair) (b c : Btree V O) (old mid new : S) → Looked s R o b c old mid
+      → ((ps : List Pair) → Means s R o b.tree old ps → inserted o.cmp last key value ps ≡ f ps) → IsFull s R o last key value c.tree mid new → FullFrom InList (fills_list s R o) f b old new
+  insert_full last key value f b c old mid new looked are full = record { by = λ ps h. insert_fills last key value b c old mid new ps (f ps) looked (are ps h) h full }
 
   -- so it is of a put, where with Keep the key isn't held
-  pub put_full : (mode : Mode) (key value given : List ℕ) (b c : Btree V O) (v : Tree V O) (old mid new : S) → Looked s R o b c old mid
-      → ((ps : List Pair) → Means s R o b.tree old ps → inserted o.cmp false key given ps ≡ put_first o.cmp mode key value ps) → (mode ≡ Keep → (ps : List Pair) → Means s R o b.tree old ps → first ps key ≡ None) → IsFull s R o false key given c.tree v mid new
+  pub put_full : (mode : Mode) (key value given : List ℕ) (b c : Btree V O) (old mid new : S) → Looked s R o b c old mid
+      → ((ps : List Pair) → Means s R o b.tree old ps → inserted o.cmp false key given ps ≡ put_first o.cmp mode key value ps) → (mode ≡ Keep → (ps : List Pair) → Means s R o b.tree old ps → first ps key ≡ None) → IsFull s R o false key given c.tree mid new
       → FullPutFrom InList (fills_list s R o) mode (first_in key) (put_first o.cmp mode key value) b old new
-  put_full mode key value given b c v old mid new looked are absent full = record {
+  put_full mode key value given b c old mid new looked are absent full = record {
     free = λ keep ps h. absent keep ps h;
-    by = (insert_full false key given (put_first o.cmp mode key value) b c v old mid new looked are full).by;
+    by = (insert_full false key given (put_first o.cmp mode key value) b c old mid new looked are full).by;
   }
 
   pub remove_full : (all : Bool) (key : List ℕ) (b : Btree V O) (old new : S) → IsRefusedRoom s R o all key b.tree old new → FullFrom InList (fills_list s R o) (removed o.cmp all key) b old new
   remove_full all key b old new full = record {
-    by = λ ps h. inr (inl (⊎_elim
-        (λ l. inl (lacks_for _ (IsListPage s R o b.tree old ps (removed o.cmp all key ps)) b.tree.store b.tree.store old old new (same_store_refl R b.tree.store) (keeps_refl s old) (λ p fine held. (fine ps held).0) l))
+    by = λ ps h. inr (⊎_elim
+        (λ l. inl (lacks_for _ (IsListPage s R o b.tree old ps (removed o.cmp all key ps)) b.tree.store b.tree.store old old new (same_store_refl R b.tree.store) (keeps_refl s old) (λ p fine. let k = fine ps h in (h, k.0, inl k.1)) l))
         (λ log. inr log)
-        full));
+        full);
   }
 
-  pub clear_full : (b : Btree V O) (old new : S) → LacksCleared s R b.tree old new → FullFrom InList (fills_list s R o) (λ ps. []) b old new
-  clear_full b old new full = record { by = λ ps h. inr (⊎_elim (λ l. inr (refl, l)) (λ log. inl (inr log)) full) }
+  -- an emptying had no room for what an empty list has
+  pub clear_full : (b : Btree V O) (old new : S) → LacksCleared s R b.tree old new → FullClear s (λ x. LacksBare s R x.tree) b old new
+  clear_full b old new full = λ told. ⊎_elim (λ bare. inr bare) (λ log. inl (log told)) full

@@ -57,8 +57,8 @@ module _ {S V O : Type 0} (R : Stores V S) (b c : Btree V O) where
     left = on_err_weaker r (λ (was : (s.flag new ≡ false) ⊎ (R.numbers c.tree.store ≡ R.numbers b.tree.store)). ⊎_elim (λ spoiled. inl spoiled) (λ numbers. inr (made_same st.store.sort_same numbers st.stays)) was) st.store.left;
   }
 
-  pub list_settled_packed : StaysSettled R b.tree c.tree → KeepsTight R.tight b.tree.store c.tree.store → StaysPacked (file_list R) (made_of R) (λ d. R.tight d.tree.store) b c
-  list_settled_packed st tight = record { file = st.file; made_same = made_same st.sort st.fixed st.stays; stays_tight = tight }
+  pub list_settled_packed : StaysSettled R b.tree c.tree → StaysPacked (file_list R) (made_of R) (λ d. R.tight d.tree.store) b c
+  list_settled_packed st = record { file = st.file; made_same = made_same st.sort st.fixed st.stays; stays_tight = st.tight }
 
 pub list_stands : {S V O : Type 0} (R : Stores V S) (o : Orders O) (b : Btree V O) (bytes : List ℕ) (ps : List Pair) → FileStands R o (R.sort b.tree.store) (R.numbers b.tree.store) b.tree.head b.tree.height b.tree.column bytes ps → ListStands R o (made_of R b) bytes ps
 list_stands R o b bytes ps file = record { head = b.tree.head; code_is = refl; leaf_is = refl; node_is = refl; height = b.tree.height; file = file }

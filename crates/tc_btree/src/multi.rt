@@ -24,6 +24,7 @@ impl<R: Records, O: Order> Multi for Btree<R, O> {
 
     type O = O;
 
+    ghost use Rattle.bt_tree.specs.Clearing.{LacksBare};
     ghost use Rattle.tc_btree.specs.Filling.{fills_list};
     ghost use Rattle.tc_btree.specs.Meaning.{ListStands, file_list, holds_list, made_of};
     ghost use Rattle.tc_btree.specs.Rising.{pairs_rise};
@@ -39,6 +40,8 @@ impl<R: Records, O: Order> Multi for Btree<R, O> {
     ghost fills = { fills_list R.S.Space R.Records O.Order };
 
     ghost lacks_large = { λ b. R.lacks_large b.tree.store };
+
+    ghost lacks_bare = { λ b. LacksBare R.S.Space R.Records b.tree };
 
     ghost tight = { λ b. R.tight b.tree.store };
 

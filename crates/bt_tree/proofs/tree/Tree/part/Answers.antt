@@ -1,7 +1,8 @@
-use Rattle.std.proofs.Common.{◌-◌, drop, inl, inr, refl, take, ⊎_elim}
+use Rattle.std.proofs.Common.{◌-◌, drop, inl, inr, length, refl, take, ⊎_elim}
 use Rattle.std.proofs.lemmas.Result.{on_ok_weaker}
 use Rattle.bt_page.proofs.Runs.{err_handed}
-use Rattle.bt_tree.proofs.Partings.{added_few, behind_there, climb_full, climb_ready, climb_rows, given_ready, ids_given, lacks_climb, lacks_laid, lay_ready, parts_turn, widens_climb, widens_lay}
+use Rattle.bt_tree.proofs.Partings.{added_few, behind_there, climb_full, climb_ready, climb_rows, cut_parted, given_ready, ids_given, lacks_climb, lacks_laid, lay_ready, parts_turn, widens_climb, widens_lay}
+use Rattle.bt_tree.specs.Parting.{parts_from}
 use Rattle.bt_tree.proofs.tree.Tree.part.Goals as goal
 
 pub behind-requires-clause-ready : goal.behind-requires-clause-ready
@@ -21,7 +22,11 @@ lay-requires-clause-ids g c =
     c.requires.ready c.parts.ensures.noted c.in_ok-parted.ensures.given c.in_ok-parted.ensures.small c.in_ok-parted.ensures.parts (rw c.next-next.ensures at c.in_ok-leaves.ensures.added) c.behind.ensures.peeks (rw c.next-next.ensures at c.follow.ensures)
 
 pub returns-in_err-parted-clause-full : goal.returns-in_err-parted-clause-full
-returns-in_err-parted-clause-full g c = λ is. inl (inl (c.in_err-parted.ensures.full (err_handed c.from_residual.result _ _ c.from_residual.ensures.1 is)))
+returns-in_err-parted-clause-full g c = λ is. inl (λ pages h. record {
+  more = length (parts_from c.args.self.now.head.leaf_ids (take (c.cut_places-i.result.1 - c.cut_places-i.result.0) (drop c.cut_places-i.result.0 c.args.leaf.items)) (drop c.cut_places-i.result.1 c.args.leaf.items));
+  parted_in = cut_parted c.args.self.now.head.leaf_ids c.cut_places-i.result.0 c.cut_places-i.result.1 c.args.self.now.head.leaf_limit c.args.leaf.items (c.cut_places-i.ensures.cut (c.requires.over h.0.0));
+  used = inl (c.in_err-parted.ensures.full (err_handed c.from_residual.result _ _ c.from_residual.ensures.1 is));
+})
 
 pub returns-in_err-lay-clause-full : goal.returns-in_err-lay-clause-full
 returns-in_err-lay-clause-full g c = λ is.
@@ -69,12 +74,10 @@ returns-clause-widens g c =
 
 pub returns-clause-full : goal.returns-clause-full
 returns-clause-full g c = λ is.
-    ⊎_elim (λ used. inl (inr (
-      used.0,
-      climb_full g.R.S.Space g.R.Records c.args.self.now c.parts.new.self c.behind.new.self c.follow.new.self c.args.space.now c.behind.new.space c.args.id c.args.leaf (take c.cut_places-i.result.0 c.args.leaf.items) (take (c.cut_places-i.result.1 - c.cut_places-i.result.0) (drop c.cut_places-i.result.0 c.args.leaf.items)) (drop c.cut_places-i.result.1 c.args.leaf.items) c.in_ok-parted.parted c.in_ok-leaves.leaves
-          c.requires.ready c.parts.ensures.noted c.in_ok-parted.ensures.given c.in_ok-parted.ensures.small c.in_ok-parted.ensures.parts (rw c.next-next.ensures at c.in_ok-leaves.ensures.added) c.behind.ensures.peeks (rw c.next-next.ensures at c.follow.ensures)
-          c.lay.new.self c.lay.new.space c.in_ok-lay.ensures.laid c.lay.ensures.still used.1,
-    )))
+    ⊎_elim (λ used. inl (climb_full g.R.S.Space g.R.Records c.args.self.now c.parts.new.self c.behind.new.self c.follow.new.self c.args.space.now c.behind.new.space c.args.id c.args.leaf (take c.cut_places-i.result.0 c.args.leaf.items) (take (c.cut_places-i.result.1 - c.cut_places-i.result.0) (drop c.cut_places-i.result.0 c.args.leaf.items)) (drop c.cut_places-i.result.1 c.args.leaf.items) c.in_ok-parted.parted c.in_ok-leaves.leaves
+    c.requires.ready c.parts.ensures.noted c.in_ok-parted.ensures.given c.in_ok-parted.ensures.small c.in_ok-parted.ensures.parts (rw c.next-next.ensures at c.in_ok-leaves.ensures.added) c.behind.ensures.peeks (rw c.next-next.ensures at c.follow.ensures)
+    c.lay.new.self c.lay.new.space c.in_ok-lay.ensures.laid c.lay.ensures.still c.cut_places-i.result.0 c.cut_places-i.result.1
+    refl refl refl (λ told. c.cut_places-i.ensures.cut (c.requires.over told)) used))
     (λ lacks. inr (lacks_climb g.R.S.Space g.R.Records c.args.self.now c.parts.new.self c.behind.new.self c.follow.new.self c.args.space.now c.behind.new.space c.args.id c.args.leaf (take c.cut_places-i.result.0 c.args.leaf.items) (take (c.cut_places-i.result.1 - c.cut_places-i.result.0) (drop c.cut_places-i.result.0 c.args.leaf.items)) (drop c.cut_places-i.result.1 c.args.leaf.items) c.in_ok-parted.parted c.in_ok-leaves.leaves
     c.requires.ready c.parts.ensures.noted c.in_ok-parted.ensures.given c.in_ok-parted.ensures.small c.in_ok-parted.ensures.parts (rw c.next-next.ensures at c.in_ok-leaves.ensures.added) c.behind.ensures.peeks (rw c.next-next.ensures at c.follow.ensures)
     c.lay.new.self c.lay.new.space c.in_ok-lay.ensures.laid c.lay.ensures.still c.cut_places-i.result.0 c.cut_places-i.result.1 c.climb.new.space

@@ -30,8 +30,6 @@ returns-clause-stays g c = record {
   file = c.settle.ensures.stays.file ∙ c.set_opaque.ensures.sets.file;
   sort = c.settle.ensures.stays.sort_same ∙ c.set_opaque.ensures.sets.sort_same;
   fixed = c.settle.ensures.stays.numbers_same ∙ c.set_opaque.ensures.sets.numbers_same;
+  tight = λ form tight. c.settle.ensures.tight form (c.set_opaque.ensures.tight form tight);
   stays = record { head = refl; height = refl; column = refl };
 }
-
-pub returns-clause-tight : goal.returns-clause-tight
-returns-clause-tight g c = λ form tight. c.settle.ensures.tight form (c.set_opaque.ensures.tight form tight)

@@ -25,6 +25,6 @@ returns-in_err-insert-clause-refused g c = on_err_any _ (list_refuses g.R.S.Spac
 
 pub returns-in_err-insert-clause-full : goal.returns-in_err-insert-clause-full
 returns-in_err-insert-clause-full g c = λ full.
-    put_full g.R.S.Space g.R.Records g.O.Order c.args.mode c.args.key.now c.args.value.now c.chosen-given.result.now c.args.self.now c.look.new.self c.insert.new.self c.args.space.now c.look.new.space c.insert.new.space
+    put_full g.R.S.Space g.R.Records g.O.Order c.args.mode c.args.key.now c.args.value.now c.chosen-given.result.now c.args.self.now c.look.new.self c.args.space.now c.look.new.space c.insert.new.space
     c.look.ensures.looks (λ ps h. put_given g.R.S.Space g.R.Records g.O.Order c.args.mode c.args.key.now c.args.value.now c.chosen-given.result.now _ ps c.chosen-given.ensures (c.in_ok-joined.ensures.tells.0 ps h)) (λ keep ps h. (c.in_ok-joined.ensures.tells.0 ps h).absent keep)
     (c.in_err-insert.ensures.full (full_told c.from_residual-in_err-insert.result c.in_err-insert.field-0.0 c.from_residual-in_err-insert.ensures.1 full))

@@ -13,7 +13,7 @@ returns-clause-refused g c = refused_up g.R.S.Space g.R.Records g.O.Order c.inse
 
 pub returns-clause-full : goal.returns-clause-full
 returns-clause-full g c = λ is.
-    insert_full g.R.S.Space g.R.Records g.O.Order true c.args.key.now c.args.value.now (put_last g.O.Order.cmp c.args.key.now c.args.value.now) c.args.self.now c.args.self.now c.insert.new.self c.args.space.now c.args.space.now c.insert.new.space
+    insert_full g.R.S.Space g.R.Records g.O.Order true c.args.key.now c.args.value.now (put_last g.O.Order.cmp c.args.key.now c.args.value.now) c.args.self.now c.args.self.now c.args.space.now c.args.space.now c.insert.new.space
     (looked_refl g.R.S.Space g.R.Records g.O.Order c.args.self.now c.args.space.now c.requires.sound) (λ ps h. refl) (c.insert.ensures.full is)
 
 pub returns-clause-stays : goal.returns-clause-stays

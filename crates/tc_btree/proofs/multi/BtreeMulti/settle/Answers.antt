@@ -12,4 +12,4 @@ pub returns-clause-refused : goal.returns-clause-refused
 returns-clause-refused g c = refused_up g.R.S.Space g.R.Records g.O.Order c.settle.result _ _ _ _ c.settle.ensures.refused
 
 pub returns-clause-stays : goal.returns-clause-stays
-returns-clause-stays g c = list_settled_packed g.R.Records _ _ c.settle.ensures.stays c.settle.ensures.tight
+returns-clause-stays g c = list_settled_packed g.R.Records _ _ c.settle.ensures.stays
