@@ -6,15 +6,16 @@ use Rattle.tc_space.specs.declared.errors.RecErr.{RecErr}
 use Rattle.tc_space.specs.declared.errors.RecErr.TheVariants.{Full}
 use Rattle.tc_space.specs.declared.space.Space.{Ghosts}
 use Rattle.tc_model.specs.Contents.{Contents}
-use Rattle.ty_base.specs.Holding.{Held, OfHeld}
+use Rattle.ty_base.specs.Holding.{Held, KeepsNumbers, Layout, OfHeld}
 use Rattle.tc_engine.specs.Changes.{Change, wanted}
 use Rattle.tc_engine.specs.Rows.{Adds, AreItems, IsItem}
 use Rattle.tc_engine.specs.declared.rows.Rows.{Rows}
 
--- the change was made; or it fails, and nothing has changed
-pub record Makes {S E : Type 0} (s : Ghosts S) (own : ℕ → Type 0) (holds : E → Files → Contents → Type 0) (f : Change) (done : Bool) (e e' : E) (old new : S) : Type 0 where
+-- the change was made, and the numbers of the files stay; or it fails, and nothing has changed
+pub record Makes {S E : Type 0} (s : Ghosts S) (own : ℕ → Type 0) (layout : Files → Layout) (holds : E → Files → Contents → Type 0) (f : Change) (done : Bool) (e e' : E) (old new : S) : Type 0 where
   pub sound : s.sound new
   pub others : Others s own old new
+  pub numbered : (c : Contents) → Held s holds e old c → KeepsNumbers (layout (s.now old)) (layout (s.now new))
   pub made : done ≡ true → (c : Contents) → Held s holds e old c → (d : Contents) × (f c ≡ Some d) × Held s holds e' new d
   pub fails : done ≡ false → (c : Contents) → Held s holds e old c → f c ≡ None
   pub same : done ≡ false → Reads s (Held s holds) e e' old new
@@ -26,8 +27,8 @@ pub record IsFull {S E : Type 0} (s : Ghosts S) (holds : E → Files → Content
 -- ---- by the result of a call
 
 module _ {S E : Type 0} (s : Ghosts S) (holds : E → Files → Contents → Type 0) where
-  abbrev pub MadeBy : (ℕ → Type 0) → Result Bool RecErr → Change → E → E → S → S → Type 0
-  MadeBy own result f e e' old new = IfOk result (λ done. Makes s own holds f done e e' old new)
+  abbrev pub MadeBy : (ℕ → Type 0) → (Files → Layout) → Result Bool RecErr → Change → E → E → S → S → Type 0
+  MadeBy own layout result f e e' old new = IfOk result (λ done. Makes s own layout holds f done e e' old new)
 
   abbrev pub FullFor : {T : Type 0} → (E → S → S → Contents → Contents → Type 0) → Result T RecErr → Change → E → S → S → Type 0
   FullFor fills result f e old new = IsErrOf result Full → IsFull s holds fills f e old new

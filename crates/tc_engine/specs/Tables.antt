@@ -12,7 +12,7 @@ use Rattle.tc_model.specs.Meaning.{row_held, searched}
 use Rattle.tc_model.specs.Queries.{query_of}
 use Rattle.tc_model.specs.Rows.{Row, row_of_call, texts_of}
 use Rattle.tc_model.specs.Stores.{store_row}
-use Rattle.ty_base.specs.Holding.{Held}
+use Rattle.ty_base.specs.Holding.{Held, Layout}
 use Rattle.tc_engine.specs.Changes.{Change, found_by, index_set, row_stored, search_of}
 use Rattle.tc_engine.specs.Effects.{Makes}
 use Rattle.tc_engine.specs.Rows.{AreItems, adds_nothing}
@@ -64,12 +64,13 @@ no_row_added c key rows plain = none_added (option_map texts_of (row_held c key)
 pub none_said : (c : Contents) (conditions : List (List ℕ)) (rows : Rows) → is_table c ≡ false → AreItems (option_map (λ o. o.1) (search_of conditions c)) false rows rows
 none_said c conditions rows plain = none_added (option_map (λ o. o.1) (search_of conditions c)) rows (ap (option_map (λ o. o.1)) (no_search c conditions plain))
 
-module _ {S E : Type 0} (s : Ghosts S) (own : ℕ → Type 0) (holds : E → Files → Contents → Type 0) where
+module _ {S E : Type 0} (s : Ghosts S) (own : ℕ → Type 0) (layout : Files → Layout) (holds : E → Files → Contents → Type 0) where
   -- a change that fails, whatever is held
-  pub makes_none : (f : Change) (e : E) (a : S) → s.sound a → ((c : Contents) → Held s holds e a c → f c ≡ None) → Makes s own holds f false e e a a
+  pub makes_none : (f : Change) (e : E) (a : S) → s.sound a → ((c : Contents) → Held s holds e a c → f c ≡ None) → Makes s own layout holds f false e e a a
   makes_none f e a sound none = record {
     sound = sound;
     others = others_refl s own a;
+    numbered = λ c h. refl;
     made = λ yes. absurd cc;
     fails = λ no. none;
     same = λ no. reads_refl s (Held s holds) e a sound;

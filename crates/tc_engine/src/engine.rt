@@ -132,7 +132,7 @@ pub trait Engine: Storage {
         value: Blob,
     ) -> Result<bool, RecErr>
         requires { IsReady Self.S.Space Self.holds self.old space.old }
-        ensures makes { MadeBy Self.S.Space Self.holds Self.own result (stored mode key value) self.old self.new space.old space.new }
+        ensures makes { MadeBy Self.S.Space Self.holds Self.own Self.layout result (stored mode key value) self.old self.new space.old space.new }
         ensures refused { RefusesHeld Self.S.Space Self.holds result self.old self.new space.old space.new }
         ensures full { FullFor Self.S.Space Self.holds Self.fills result (stored mode key value) self.old space.old space.new }
         ensures keeps { Keeps Self.S.Space space.old space.new }
@@ -141,7 +141,7 @@ pub trait Engine: Storage {
     /// Adds a value behind those that a tree has of a key.
     fn push(&mut self, space: &mut Self::S, key: Key, value: Blob) -> Result<bool, RecErr>
         requires { IsReady Self.S.Space Self.holds self.old space.old }
-        ensures makes { MadeBy Self.S.Space Self.holds Self.own result (pushed key value) self.old self.new space.old space.new }
+        ensures makes { MadeBy Self.S.Space Self.holds Self.own Self.layout result (pushed key value) self.old self.new space.old space.new }
         ensures refused { RefusesHeld Self.S.Space Self.holds result self.old self.new space.old space.new }
         ensures full { FullFor Self.S.Space Self.holds Self.fills result (pushed key value) self.old space.old space.new }
         ensures keeps { Keeps Self.S.Space space.old space.new }
@@ -150,7 +150,7 @@ pub trait Engine: Storage {
     /// Takes a key out, of a tree its first value. It answers whether it was held.
     fn out(&mut self, space: &mut Self::S, key: &Key) -> Result<bool, RecErr>
         requires { IsReady Self.S.Space Self.holds self.old space.old }
-        ensures makes { MadeBy Self.S.Space Self.holds Self.own result (taken key.now) self.old self.new space.old space.new }
+        ensures makes { MadeBy Self.S.Space Self.holds Self.own Self.layout result (taken key.now) self.old self.new space.old space.new }
         ensures refused { RefusesHeld Self.S.Space Self.holds result self.old self.new space.old space.new }
         ensures full { FullFor Self.S.Space Self.holds Self.fills result (taken key.now) self.old space.old space.new }
         ensures keeps { Keeps Self.S.Space space.old space.new }
@@ -159,7 +159,7 @@ pub trait Engine: Storage {
     /// Gives each key its value, one pair after the other; none where one of them can't be stored.
     fn store_all(&mut self, space: &mut Self::S, pairs: Pairs) -> Result<bool, RecErr>
         requires { IsReady Self.S.Space Self.holds self.old space.old }
-        ensures makes { MadeBy Self.S.Space Self.holds Self.own result (all_stored pairs) self.old self.new space.old space.new }
+        ensures makes { MadeBy Self.S.Space Self.holds Self.own Self.layout result (all_stored pairs) self.old self.new space.old space.new }
         ensures refused { RefusesHeld Self.S.Space Self.holds result self.old self.new space.old space.new }
         ensures full { FullFor Self.S.Space Self.holds Self.fills result (all_stored pairs) self.old space.old space.new }
         ensures keeps { Keeps Self.S.Space space.old space.new }
@@ -168,7 +168,7 @@ pub trait Engine: Storage {
     /// Adds each value behind those of its key, one pair after the other; none where one of them can't be added.
     fn push_all(&mut self, space: &mut Self::S, pairs: Pairs) -> Result<bool, RecErr>
         requires { IsReady Self.S.Space Self.holds self.old space.old }
-        ensures makes { MadeBy Self.S.Space Self.holds Self.own result (all_pushed pairs) self.old self.new space.old space.new }
+        ensures makes { MadeBy Self.S.Space Self.holds Self.own Self.layout result (all_pushed pairs) self.old self.new space.old space.new }
         ensures refused { RefusesHeld Self.S.Space Self.holds result self.old self.new space.old space.new }
         ensures full { FullFor Self.S.Space Self.holds Self.fills result (all_pushed pairs) self.old space.old space.new }
         ensures keeps { Keeps Self.S.Space space.old space.new }
@@ -177,7 +177,7 @@ pub trait Engine: Storage {
     /// Takes out what is held of each key, of a tree all its values. It answers true.
     fn clear_all(&mut self, space: &mut Self::S, keys: Blobs) -> Result<bool, RecErr>
         requires { IsReady Self.S.Space Self.holds self.old space.old }
-        ensures makes { MadeBy Self.S.Space Self.holds Self.own result (all_cleared keys) self.old self.new space.old space.new }
+        ensures makes { MadeBy Self.S.Space Self.holds Self.own Self.layout result (all_cleared keys) self.old self.new space.old space.new }
         ensures refused { RefusesHeld Self.S.Space Self.holds result self.old self.new space.old space.new }
         ensures full { FullFor Self.S.Space Self.holds Self.fills result (all_cleared keys) self.old space.old space.new }
         ensures keeps { Keeps Self.S.Space space.old space.new }
@@ -186,7 +186,7 @@ pub trait Engine: Storage {
     /// Takes out all that is held. It answers true.
     fn clear(&mut self, space: &mut Self::S) -> Result<bool, RecErr>
         requires { IsReady Self.S.Space Self.holds self.old space.old }
-        ensures makes { MadeBy Self.S.Space Self.holds Self.own result all_gone self.old self.new space.old space.new }
+        ensures makes { MadeBy Self.S.Space Self.holds Self.own Self.layout result all_gone self.old self.new space.old space.new }
         ensures refused { RefusesHeld Self.S.Space Self.holds result self.old self.new space.old space.new }
         ensures full { FullFor Self.S.Space Self.holds Self.fills result all_gone self.old space.old space.new }
         ensures keeps { Keeps Self.S.Space space.old space.new }
@@ -201,7 +201,7 @@ pub trait Engine: Storage {
         columns: Pairs,
     ) -> Result<bool, RecErr>
         requires { IsReady Self.S.Space Self.holds self.old space.old }
-        ensures makes { MadeBy Self.S.Space Self.holds Self.own result (row_stored mode key columns) self.old self.new space.old space.new }
+        ensures makes { MadeBy Self.S.Space Self.holds Self.own Self.layout result (row_stored mode key columns) self.old self.new space.old space.new }
         ensures refused { RefusesHeld Self.S.Space Self.holds result self.old self.new space.old space.new }
         ensures full { FullFor Self.S.Space Self.holds Self.fills result (row_stored mode key columns) self.old space.old space.new }
         ensures keeps { Keeps Self.S.Space space.old space.new }
@@ -219,7 +219,7 @@ pub trait Engine: Storage {
     /// Sets the index of a column of a table to the type of a code, or takes it away. It answers whether it did.
     fn set_index(&mut self, space: &mut Self::S, column: Blob, code: &Blob) -> Result<bool, RecErr>
         requires { IsReady Self.S.Space Self.holds self.old space.old }
-        ensures makes { MadeBy Self.S.Space Self.holds Self.own result (index_set column code.now) self.old self.new space.old space.new }
+        ensures makes { MadeBy Self.S.Space Self.holds Self.own Self.layout result (index_set column code.now) self.old self.new space.old space.new }
         ensures refused { RefusesHeld Self.S.Space Self.holds result self.old self.new space.old space.new }
         ensures full { FullFor Self.S.Space Self.holds Self.fills result (index_set column code.now) self.old space.old space.new }
         ensures keeps { Keeps Self.S.Space space.old space.new }
@@ -234,7 +234,7 @@ pub trait Engine: Storage {
         into: &mut Rows,
     ) -> Result<bool, RecErr>
         requires { IsReady Self.S.Space Self.holds self.old space.old }
-        ensures makes { MadeBy Self.S.Space Self.holds Self.own result (found_by conditions.now) self.old self.new space.old space.new }
+        ensures makes { MadeBy Self.S.Space Self.holds Self.own Self.layout result (found_by conditions.now) self.old self.new space.old space.new }
         ensures says { AddsTexts Self.S.Space Self.holds result (λ c. option_map (λ o. o.1) (search_of conditions.now c)) self.old space.old into.old into.new }
         ensures quiet { takes_out conditions.now ≡ true → into.new ≡ into.old }
         ensures front { Extends into.old into.new }

@@ -23,6 +23,7 @@ use Rattle.tc_fixed.specs.declared.fixed.Fixed.{Fixed}
 use Rattle.tc_fixed.specs.Holding.{Means, SameShape, max_id_of, width_of}
 use Rattle.tc_fixeddb.specs.declared.holding.FixedEngine.{FixedEngine}
 use Rattle.tc_fixeddb.specs.Changing.{LacksRoomFor, Takes, all_out, out_at, out_named, stored_at}
+use Rattle.tc_fixeddb.specs.Layouts.{layout_of}
 use Rattle.tc_fixeddb.specs.Holding.{Fills, HoldsIds, IsFound, Names}
 use Rattle.tc_fixeddb.specs.Lifting.{IsStep, as_contents, full_up, made_up}
 
@@ -52,16 +53,16 @@ module _ {S : Type 0} (s : Ghosts S) where
   named_now : (e : FixedEngine S) (a : S) (m : Array) (key text : List ℕ) (o : Option ℕ) → text ≡ key → Names e.fixed text o → Means s e.fixed a m → id_of (max_id_of e.fixed) m key ≡ o
   named_now e a m key text o same names means = ap (id_of (max_id_of e.fixed) m) (sym same) ∙ sym (names.by (s.now a 0) m means.1)
 
-  pub stores : (e e' : FixedEngine S) (a b : S) (mode : Mode) (key text value : List ℕ) (id : ℕ) (done : Bool) → text ≡ key → Names e.fixed text (Some id) → Takes s (stored_at mode (width_of e.fixed) id value) done e.fixed e'.fixed a b → Makes s (Only 0) HoldsIds (stored mode key value) done e e' a b
+  pub stores : (e e' : FixedEngine S) (a b : S) (mode : Mode) (key text value : List ℕ) (id : ℕ) (done : Bool) → text ≡ key → Names e.fixed text (Some id) → Takes s (stored_at mode (width_of e.fixed) id value) done e.fixed e'.fixed a b → Makes s (Only 0) layout_of HoldsIds (stored mode key value) done e e' a b
   stores e e' a b mode key text value id done same names takes = made_up s (stored mode key value) (stored_at mode (width_of e.fixed) id value) done e e' a b takes (λ m means. stored_step e.fixed mode m key value id (named_now e a m key text (Some id) same names means))
 
   pub store_full : (e : FixedEngine S) (a b : S) (mode : Mode) (key text value : List ℕ) (id : ℕ) → text ≡ key → Names e.fixed text (Some id) → LacksRoomFor s (stored_at mode (width_of e.fixed) id value) e.fixed a b → IsFull s HoldsIds (λ x y. Fills s) (stored mode key value) e a b
   store_full e a b mode key text value id same names lacks = full_up s (stored mode key value) (stored_at mode (width_of e.fixed) id value) e a b lacks (λ m means. stored_step e.fixed mode m key value id (named_now e a m key text (Some id) same names means))
 
-  pub takes_out : (e e' : FixedEngine S) (a b : S) (key text : List ℕ) (id : ℕ) (done : Bool) → text ≡ key → Names e.fixed text (Some id) → Takes s (λ m. without m id) done e.fixed e'.fixed a b → Makes s (Only 0) HoldsIds (taken key) done e e' a b
+  pub takes_out : (e e' : FixedEngine S) (a b : S) (key text : List ℕ) (id : ℕ) (done : Bool) → text ≡ key → Names e.fixed text (Some id) → Takes s (λ m. without m id) done e.fixed e'.fixed a b → Makes s (Only 0) layout_of HoldsIds (taken key) done e e' a b
   takes_out e e' a b key text id done same names takes = made_up s (taken key) (λ m. without m id) done e e' a b takes (λ m means. taken_step e.fixed m key id (named_now e a m key text (Some id) same names means))
 
-  pub clears : (e e' : FixedEngine S) (a b : S) (done : Bool) → Takes s (λ m. Some empty) done e.fixed e'.fixed a b → Makes s (Only 0) HoldsIds all_gone done e e' a b
+  pub clears : (e e' : FixedEngine S) (a b : S) (done : Bool) → Takes s (λ m. Some empty) done e.fixed e'.fixed a b → Makes s (Only 0) layout_of HoldsIds all_gone done e e' a b
   clears e e' a b done takes = made_up s all_gone (λ m. Some empty) done e e' a b takes (λ m means. record { is = refl })
 
   -- ---- what fails changes nothing
@@ -86,18 +87,18 @@ module _ {S : Type 0} (s : Ghosts S) where
     same = λ not. absurd cc;
   }
 
-  pub store_none : (e : FixedEngine S) (a : S) (mode : Mode) (key text value : List ℕ) → s.sound a → text ≡ key → Names e.fixed text None → Makes s (Only 0) HoldsIds (stored mode key value) false e e a a
+  pub store_none : (e : FixedEngine S) (a : S) (mode : Mode) (key text value : List ℕ) → s.sound a → text ≡ key → Names e.fixed text None → Makes s (Only 0) layout_of HoldsIds (stored mode key value) false e e a a
   store_none e a mode key text value sound same names = made_up s (stored mode key value) (λ m. None) false e e a a (fails e.fixed a sound) (λ m means. unstored_step e.fixed mode m key value (named_now e a m key text None same names means))
 
   pushing_none : (ps : List Pair) → fold (λ o p. option_and_then (λ (c : Contents). put_last c p.key p.value) o) None ps ≡ None
   pushing_none [] = refl
   pushing_none (p ∷ ps) = pushing_none ps
 
-  pub push_some : (e : FixedEngine S) (a : S) (ps : List Pair) → s.sound a → 0 < length ps → Makes s (Only 0) HoldsIds (all_pushed ps) false e e a a
+  pub push_some : (e : FixedEngine S) (a : S) (ps : List Pair) → s.sound a → 0 < length ps → Makes s (Only 0) layout_of HoldsIds (all_pushed ps) false e e a a
   push_some e a [] sound some = absurd (omega (arith, some))
   push_some e a (p ∷ ps) sound some = made_up s (all_pushed (p ∷ ps)) (λ m. None) false e e a a (fails e.fixed a sound) (λ m means. record { is = pushing_none ps })
 
-  pub push_no : (e : FixedEngine S) (a : S) (ps : List Pair) → s.sound a → length ps ≤ 0 → Makes s (Only 0) HoldsIds (all_pushed ps) true e e a a
+  pub push_no : (e : FixedEngine S) (a : S) (ps : List Pair) → s.sound a → length ps ≤ 0 → Makes s (Only 0) layout_of HoldsIds (all_pushed ps) true e e a a
   push_no e a [] sound none = made_up s (all_pushed []) (λ m. Some m) true e e a a (keeps_all e.fixed a sound) (λ m means. record { is = refl })
   push_no e a (p ∷ ps) sound none = absurd (omega (arith, none))
 
@@ -126,7 +127,7 @@ module _ {S : Type 0} (s : Ghosts S) where
     same = λ not. absurd cc;
   }
 
-  pub clears_all : (e e' : FixedEngine S) (a b : S) (keys texts : List (List ℕ)) → texts ≡ keys → Writes s (Only 0) (Means s) (all_out (max_id_of e.fixed) texts) e.fixed e'.fixed a b → SameShape e.fixed e'.fixed → Makes s (Only 0) HoldsIds (all_cleared keys) true e e' a b
+  pub clears_all : (e e' : FixedEngine S) (a b : S) (keys texts : List (List ℕ)) → texts ≡ keys → Writes s (Only 0) (Means s) (all_out (max_id_of e.fixed) texts) e.fixed e'.fixed a b → SameShape e.fixed e'.fixed → Makes s (Only 0) layout_of HoldsIds (all_cleared keys) true e e' a b
   clears_all e e' a b keys texts same writes shape = made_up s (all_cleared keys) (λ m. Some (all_out (max_id_of e.fixed) texts m)) true e e' a b (takes_writes (all_out (max_id_of e.fixed) texts) e.fixed e'.fixed a b writes shape) (λ m means. record { is = ap (λ c. Some c) (cleared_all e.fixed m keys ∙ ap (λ ks. as_contents e.fixed (all_out (max_id_of e.fixed) ks m)) (sym same)) })
 
   -- ---- rows of a key

@@ -2,6 +2,7 @@
 use Rattle.std.proofs.Common.{◌≡◌, ◌∙◌, inl, inr, ⊎_elim, ℕ, ◌≤◌, List, length, refl, sym, ap, subst, arith}
 use Rattle.std.specs.Prelude.{Result, Ok, Err, IfOk, OnOk}
 use Rattle.std.specs.FinMap.{empty}
+use Rattle.tc_base.specs.Endian.{le_bytes}
 use Rattle.tc_base.specs.Files.{Files}
 use Rattle.tc_base.specs.declared.kind.Kind.{Kind}
 use Rattle.tc_base.specs.declared.kind.Kind.TheVariants as kinds
@@ -9,18 +10,25 @@ use Rattle.tc_space.specs.Stores.{Only}
 use Rattle.tc_space.specs.declared.space.Space.{Ghosts}
 use Rattle.tc_model.specs.Arrays.{Array}
 use Rattle.tc_model.specs.Contents.{Contents, fixed}
-use Rattle.ty_base.specs.Holding.{StaysUsable}
+use Rattle.ty_base.specs.Holding.{KeepsLayout, StaysLaid, StaysUsable, layout_refl}
 use Rattle.ty_base.specs.Opening.{CreatesAs, IsCreated, IsOpened, OpensFor, OpensTo, OpensUsable}
 use Rattle.ty_base.proofs.Refusals.{no_bytes}
 use Rattle.hf_head.specs.declared.fixed.FixedHead.{FixedHead}
+use Rattle.hf_head.specs.FixedHeads.{fixed_spelled}
 use Rattle.tc_fixed.specs.declared.fixed.Fixed.{Fixed}
 use Rattle.tc_fixed.specs.Holding.{Means, max_id_of, width_of}
 use Rattle.tc_fixed.specs.Shapes.{most_id}
 use Rattle.tc_fixed.specs.Standing.{HasHead, Stands}
 use Rattle.tc_fixeddb.specs.declared.holding.FixedEngine.{FixedEngine}
 use Rattle.tc_fixeddb.specs.Holding.{HoldsIds, Reopens}
+use Rattle.tc_fixeddb.specs.Layouts.{layout_in, layout_of}
 use Rattle.tc_fixeddb.specs.Shapes.{Shaped, anew, usual}
 use Rattle.tc_fixeddb.specs.declared.shape.FixedShape.{FixedShape}
+
+-- the head of a file without ids is all of it
+pub made_long : (h : FixedHead) (bytes : List ℕ) → bytes ≡ fixed_spelled h → length bytes ≡ 256
+unfolding le_bytes fixed_spelled
+made_long h bytes made = ap length made
 
 long_file : (bytes : List ℕ) (width most : ℕ) (m : Array) → Stands bytes width most m → 256 ≤ length bytes
 long_file bytes width most m stands = stands.by.head.long
@@ -61,6 +69,14 @@ module _ {S : Type 0} (s : Ghosts S) where
   pub made_usual : {E : Type 0} (r : Result (FixedEngine S) E) (a b : S) → IfOk r (λ e. CreatesAs s Reopens HoldsIds Shaped e (anew usual) usual b) → OnOk r (StaysUsable s (Only 0) a b) → OnOk r (OpensUsable s (Only 0) (Shaped usual) a b)
   made_usual (Ok e) a b created usable = record { sound = usable.sound; others = usable.others; made = λ t none. (created t).numbers }
   made_usual (Err x) a b created usable = tt
+
+  -- what an opening made ends where its head says, and what it only read is as it was
+  pub made_laid : {E : Type 0} (r : Result (FixedEngine S) E) (a b : S) → IfOk r (λ e. CreatesAs s Reopens HoldsIds Shaped e (anew usual) usual b) → OnOk r (StaysLaid s layout_of a b)
+  made_laid (Ok e) a b created = λ t. let made = (created t).numbers in record { numbers = refl; slack = omega (arith, made.long, ap (λ (h : FixedHead). h.size) made.numbers) }
+  made_laid (Err x) a b created = tt
+
+  pub read_laid : (a b : S) → (s.tells → (g : ℕ) → s.now b g ≡ s.now a g) → StaysLaid s layout_of a b
+  read_laid a b same t = subst (λ bytes. KeepsLayout (layout_of (s.now a)) (layout_in bytes)) (sym (same t 0)) (layout_refl (layout_of (s.now a)))
 
   pub main_opens : (f : Fixed S) (kind : Kind) (a : S) → kinds.Fixed ≡ kind → (m : Array) × Stands (s.now a 0) (width_of f) (max_id_of f) m → (c : Contents) × OpensTo kind Reopens (s.now a) c
   main_opens f kind a is stood = (fixed (width_of f) (max_id_of f) stood.0, record { kind_is = is; stand = inr (record { width = width_of f; most = max_id_of f; ids = stood.0; is = refl; stands = stood.1 }) })

@@ -17,6 +17,7 @@ use Rattle.tc_fixed.specs.Cells.{end_of}
 use Rattle.tc_fixed.specs.Holding.{HasNoRoom, Means, SameShape, max_id_of, width_of}
 use Rattle.tc_fixeddb.specs.declared.holding.FixedEngine.{FixedEngine}
 use Rattle.tc_fixeddb.specs.Changing.{AllNamed, all_set, set_at}
+use Rattle.tc_fixeddb.specs.Layouts.{layout_of}
 use Rattle.tc_fixeddb.specs.Holding.{Fills, HoldsIds}
 use Rattle.tc_fixeddb.specs.Lifting.{as_contents, full_up, made_up}
 use Rattle.tc_fixeddb.specs.Naming.{all_named, is_named, least_with}
@@ -69,10 +70,10 @@ module _ {S : Type 0} (s : Ghosts S) where
       stored_each e.fixed means.1.shape.width_most pairs m (λ id held. (means.1.fills.map.within id held).0)
       ∙ ap (λ x. cond x (Some (as_contents e.fixed (all_set (width_of e.fixed) (max_id_of e.fixed) pairs m))) None) (ap (all_named (max_id_of e.fixed) (least m) (greatest m)) (sym same) ∙ sym (names.by (s.now a 0) m means.1))
 
-  pub stores_none : (e : FixedEngine S) (a : S) (pairs texts : List Pair) (b : Bool) → s.sound a → texts ≡ pairs → AllNamed e.fixed texts b → b ≡ false → Makes s (Only 0) HoldsIds (all_stored pairs) false e e a a
+  pub stores_none : (e : FixedEngine S) (a : S) (pairs texts : List Pair) (b : Bool) → s.sound a → texts ≡ pairs → AllNamed e.fixed texts b → b ≡ false → Makes s (Only 0) layout_of HoldsIds (all_stored pairs) false e e a a
   stores_none e a pairs texts b sound same names not = made_up s (all_stored pairs) (λ m. None) false e e a a (fails s e.fixed a sound) (λ m means. record { is = each_is e a pairs texts b same names m means ∙ ap (λ x. cond x (Some (as_contents e.fixed (all_set (width_of e.fixed) (max_id_of e.fixed) pairs m))) None) not })
 
-  pub stores_all : (e e' : FixedEngine S) (a b : S) (pairs texts others : List Pair) (t : Bool) → texts ≡ pairs → others ≡ pairs → AllNamed e.fixed texts t → t ≡ true → Writes s (Only 0) (Means s) (all_set (width_of e.fixed) (max_id_of e.fixed) others) e.fixed e'.fixed a b → SameShape e.fixed e'.fixed → Makes s (Only 0) HoldsIds (all_stored pairs) true e e' a b
+  pub stores_all : (e e' : FixedEngine S) (a b : S) (pairs texts others : List Pair) (t : Bool) → texts ≡ pairs → others ≡ pairs → AllNamed e.fixed texts t → t ≡ true → Writes s (Only 0) (Means s) (all_set (width_of e.fixed) (max_id_of e.fixed) others) e.fixed e'.fixed a b → SameShape e.fixed e'.fixed → Makes s (Only 0) layout_of HoldsIds (all_stored pairs) true e e' a b
   stores_all e e' a b pairs texts others t same again names is writes shape = made_up s (all_stored pairs) (λ m. Some (all_set (width_of e.fixed) (max_id_of e.fixed) others m)) true e e' a b (takes_writes s (all_set (width_of e.fixed) (max_id_of e.fixed) others) e.fixed e'.fixed a b writes shape)
       (λ m means. record { is = each_is e a pairs texts t same names m means ∙ ap (λ x. cond x (Some (as_contents e.fixed (all_set (width_of e.fixed) (max_id_of e.fixed) pairs m))) None) is ∙ ap (λ ps. Some (as_contents e.fixed (all_set (width_of e.fixed) (max_id_of e.fixed) ps m))) (sym again) })
 

@@ -1,6 +1,6 @@
 -- Calls on the array, as the trait of engines says them.
 use Rattle.std.specs.Prelude.{◌≡◌, ℕ, Bool, true, false, cond, List, Some, None, option_map, option_and_then, is_some, unwrap_or, nat_le, ◌&&◌}
-use Rattle.std.proofs.Common.{◌∙◌, sym, ap, subst, inl, inr, ⊎_elim}
+use Rattle.std.proofs.Common.{◌∙◌, refl, sym, ap, subst, inl, inr, ⊎_elim}
 use Rattle.std.specs.FinMap.{get}
 use Rattle.std.specs.Fmt.{decimal}
 use Rattle.tc_space.specs.Frames.{Reads, Refuses}
@@ -17,6 +17,7 @@ use Rattle.tc_fixed.specs.Holding.{Means, SameShape, max_id_of, width_of}
 use Rattle.tc_fixed.specs.Shapes.{most_id}
 use Rattle.tc_fixeddb.specs.declared.holding.FixedEngine.{FixedEngine}
 use Rattle.tc_fixeddb.specs.Changing.{LacksRoomFor, Step, Takes}
+use Rattle.tc_fixeddb.specs.Layouts.{layout_of}
 use Rattle.tc_fixeddb.specs.Holding.{Fills, HoldsIds, IsFound, Names}
 
 module _ {S : Type 0} where
@@ -53,10 +54,11 @@ module _ {S : Type 0} (s : Ghosts S) where
   pub refuses_up : (e e' : FixedEngine S) (a b : S) → Refuses s (Means s) e.fixed e'.fixed a b → SameShape e.fixed e'.fixed → Refuses s (Held s HoldsIds) e e' a b
   refuses_up e e' a b refuses same = ⊎_elim (λ spoiled. inl spoiled) (λ reads. inr (reads_up e e' a b reads same)) refuses
 
-  pub made_up : (change : Change) (step : Step) (done : Bool) (e e' : FixedEngine S) (a b : S) → Takes s step done e.fixed e'.fixed a b → ((m : Array) → Means s e.fixed a m → IsStep e.fixed change step m) → Makes s (Only 0) HoldsIds change done e e' a b
+  pub made_up : (change : Change) (step : Step) (done : Bool) (e e' : FixedEngine S) (a b : S) → Takes s step done e.fixed e'.fixed a b → ((m : Array) → Means s e.fixed a m → IsStep e.fixed change step m) → Makes s (Only 0) layout_of HoldsIds change done e e' a b
   made_up change step done e e' a b takes is_step = record {
     sound = takes.sound;
     others = takes.others;
+    numbered = λ c h. refl;
     made = λ yes c h.
         let made = takes.made yes h.1.ids (means_of e a c h) in
         (as_contents e.fixed made.0, ap change h.1.is ∙ (is_step h.1.ids (means_of e a c h)).is ∙ ap (option_map (λ n. as_contents e.fixed n)) made.1, held_again e e' b made.0 takes.shape made.2);

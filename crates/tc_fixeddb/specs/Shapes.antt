@@ -1,5 +1,5 @@
 -- A file made anew, by its numbers.
-use Rattle.std.specs.Prelude.{◌≡◌, ◌≤◌, ◌^◌, take}
+use Rattle.std.specs.Prelude.{◌≡◌, ◌≤◌, ◌^◌, length, take}
 use Rattle.std.specs.FinMap.{empty}
 use Rattle.tc_base.specs.Files.{Files}
 use Rattle.tc_space.specs.declared.space.Space.{Ghosts}
@@ -19,9 +19,10 @@ pub record MayHave (shape : FixedShape) : Type 0 where
   pub width : (1 ≤ shape.width) × (shape.width ≤ 1048576)
   pub limit : (512 ≤ shape.limit) × (shape.limit ≤ 2 ^ 40)
 
--- the head of file 0 is that of a file without ids which has them
-abbrev pub Shaped : FixedShape → Files → Type 0
-Shaped shape files = fixed_in (take 256 (files 0)) ≡ new_head shape.width shape.limit
+-- the head of file 0 is that of a file without ids which has them, and the file ends where it says
+pub record Shaped (shape : FixedShape) (files : Files) : Type 0 where
+  pub numbers : fixed_in (take 256 (files 0)) ≡ new_head shape.width shape.limit
+  pub long : length (files 0) ≡ 256
 
 -- no data
 abbrev pub anew : FixedShape → Contents

@@ -6,6 +6,7 @@ ghost use Rattle.tc_space.specs.Stores.{Only};
 ghost use Rattle.ty_base.specs.Holding.{main_no_log};
 ghost use Rattle.tc_fixeddb.specs.Holding.{Fills, HoldsIds, Lines, Reopens};
 ghost use Rattle.tc_fixeddb.specs.Laws.{moved_apart};
+ghost use Rattle.tc_fixeddb.specs.Layouts.{layout_of};
 
 use crate::holding::FixedEngine;
 use crate::informing::{add_lines, read_head};
@@ -38,9 +39,11 @@ impl<S: Space> Storage for FixedEngine<S> {
 
     ghost packed = { λ form files. Unit {0} };
 
+    ghost layout = { layout_of };
+
     ghost no_logs = { main_no_log };
 
-    ghost apart = { λ e f g c same. moved_apart e f g c same };
+    ghost apart = { λ e f g same. moved_apart e f g same };
 
     ghost log_fills = { λ e a b c d full. inr full };
 

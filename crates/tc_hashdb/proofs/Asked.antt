@@ -20,9 +20,10 @@ use Rattle.tc_engine.specs.Effects.{IsFull, Makes}
 use Rattle.tc_engine.specs.Rows.{Adds, item_row}
 use Rattle.tc_engine.specs.declared.rows.Rows.{Rows}
 use Rattle.tc_hashdb.specs.declared.holding.HashEngine.{HashEngine}
-use Rattle.tc_hashdb.specs.Changing.{LacksRoomFor, Takes, all_out, all_set, is_short, stored_in}
+use Rattle.tc_hashdb.specs.Changing.{KeepsHead, LacksRoomFor, Takes, all_out, all_set, is_short, stored_in}
 use Rattle.tc_hashdb.specs.Filling.{Fills, FillsMap}
 use Rattle.tc_hashdb.specs.Holding.{HoldsKeys, Means}
+use Rattle.tc_hashdb.specs.Layouts.{layout_of}
 use Rattle.tc_hashdb.specs.Lifting.{IsStep, full_up, made_up, means_of}
 use Rattle.tc_hashdb.proofs.Several.{cleared_all, pushed_none, stored_all}
 
@@ -40,7 +41,7 @@ module _ {S : Type 0} (s : Ghosts S) where
   is_stored : (mode : Mode) (key text value bytes : List ℕ) → text ≡ key → bytes ≡ value → (m : Map) → IsStep (stored mode key value) (stored_in mode text bytes) m
   is_stored mode key text value bytes same given m = record { is = stored_step mode key value m ∙ (λ i. option_map (hash false) (stored_in mode (sym same i) (sym given i) m)) }
 
-  pub stores : (e e' : HashEngine S) (a b : S) (mode : Mode) (key text value bytes : List ℕ) (done : Bool) → text ≡ key → bytes ≡ value → Takes s (stored_in mode text bytes) done e e' a b → Makes s (Only 0) HoldsKeys (stored mode key value) done e e' a b
+  pub stores : (e e' : HashEngine S) (a b : S) (mode : Mode) (key text value bytes : List ℕ) (done : Bool) → text ≡ key → bytes ≡ value → Takes s (stored_in mode text bytes) done e e' a b → Makes s (Only 0) layout_of HoldsKeys (stored mode key value) done e e' a b
   stores e e' a b mode key text value bytes done same given takes = made_up s (stored mode key value) (stored_in mode text bytes) done e e' a b takes (is_stored mode key text value bytes same given)
 
   pub store_full : (e : HashEngine S) (a b : S) (mode : Mode) (key text value bytes : List ℕ) → text ≡ key → bytes ≡ value → LacksRoomFor s (stored_in mode text bytes) e a b → IsFull s HoldsKeys (λ x. Fills s) (stored mode key value) e a b
@@ -49,13 +50,13 @@ module _ {S : Type 0} (s : Ghosts S) where
   is_taken : (key text : List ℕ) → text ≡ key → (m : Map) → IsStep (taken key) (λ n. without n text) m
   is_taken key text same m = record { is = ap (λ k. option_map (hash false) (without m k)) (sym same) }
 
-  pub takes_key : (e e' : HashEngine S) (a b : S) (key text : List ℕ) (done : Bool) → text ≡ key → Takes s (λ m. without m text) done e e' a b → Makes s (Only 0) HoldsKeys (taken key) done e e' a b
+  pub takes_key : (e e' : HashEngine S) (a b : S) (key text : List ℕ) (done : Bool) → text ≡ key → Takes s (λ m. without m text) done e e' a b → Makes s (Only 0) layout_of HoldsKeys (taken key) done e e' a b
   takes_key e e' a b key text done same takes = made_up s (taken key) (λ m. without m text) done e e' a b takes (is_taken key text same)
 
   pub take_full : (e : HashEngine S) (a b : S) (key text : List ℕ) → text ≡ key → LacksRoomFor s (λ m. without m text) e a b → IsFull s HoldsKeys (λ x. Fills s) (taken key) e a b
   take_full e a b key text same lacks = full_up s (taken key) (λ m. without m text) e a b lacks (is_taken key text same)
 
-  pub clears : (e e' : HashEngine S) (a b : S) (done : Bool) → Takes s (λ m. Some empty) done e e' a b → Makes s (Only 0) HoldsKeys all_gone done e e' a b
+  pub clears : (e e' : HashEngine S) (a b : S) (done : Bool) → Takes s (λ m. Some empty) done e e' a b → Makes s (Only 0) layout_of HoldsKeys all_gone done e e' a b
   clears e e' a b done takes = made_up s all_gone (λ m. Some empty) done e e' a b takes (λ m. record { is = refl })
 
   pub clear_full : (e : HashEngine S) (a b : S) → LacksRoomFor s (λ m. Some empty) e a b → IsFull s HoldsKeys (λ x. Fills s) all_gone e a b
@@ -67,6 +68,7 @@ module _ {S : Type 0} (s : Ghosts S) where
   fails e a sound = record {
     sound = sound;
     others = record { same = λ t g other. refl };
+    numbers = refl;
     made = λ done. absurd cc;
     fails = λ not m means. refl;
     same = λ not. reads_refl s (Means s) e a sound;
@@ -76,25 +78,27 @@ module _ {S : Type 0} (s : Ghosts S) where
   keeps_all e a sound = record {
     sound = sound;
     others = record { same = λ t g other. refl };
+    numbers = refl;
     made = λ done m means. (m, refl, means);
     fails = λ not. absurd cc;
     same = λ not. absurd cc;
   }
 
-  pub push_some : (e : HashEngine S) (a : S) (ps : List Pair) → s.sound a → 0 < length ps → Makes s (Only 0) HoldsKeys (all_pushed ps) false e e a a
+  pub push_some : (e : HashEngine S) (a : S) (ps : List Pair) → s.sound a → 0 < length ps → Makes s (Only 0) layout_of HoldsKeys (all_pushed ps) false e e a a
   push_some e a [] sound some = absurd (omega (arith, some))
   push_some e a (p ∷ ps) sound some = made_up s (all_pushed (p ∷ ps)) (λ m. None) false e e a a (fails e a sound) (λ m. record { is = pushed_none m p ps })
 
-  pub push_no : (e : HashEngine S) (a : S) (ps : List Pair) → s.sound a → length ps ≤ 0 → Makes s (Only 0) HoldsKeys (all_pushed ps) true e e a a
+  pub push_no : (e : HashEngine S) (a : S) (ps : List Pair) → s.sound a → length ps ≤ 0 → Makes s (Only 0) layout_of HoldsKeys (all_pushed ps) true e e a a
   push_no e a [] sound none = made_up s (all_pushed []) (λ m. Some m) true e e a a (keeps_all e a sound) (λ m. record { is = refl })
   push_no e a (p ∷ ps) sound none = absurd (omega (arith, none))
 
   -- ---- many
 
-  wrote_all : (g : Map → Map) (v w : HashEngine S) (a b : S) → Writes s (Only 0) (Means s) g v w a b → Takes s (λ m. Some (g m)) true v w a b
-  wrote_all g v w a b writes = record {
+  wrote_all : (g : Map → Map) (v w : HashEngine S) (a b : S) → KeepsHead v w → Writes s (Only 0) (Means s) g v w a b → Takes s (λ m. Some (g m)) true v w a b
+  wrote_all g v w a b head writes = record {
     sound = writes.sound;
     others = writes.others;
+    numbers = head;
     made = λ done m means. (g m, refl, writes.means m means);
     fails = λ not. absurd cc;
     same = λ not. absurd cc;
@@ -106,8 +110,8 @@ module _ {S : Type 0} (s : Ghosts S) where
   all_clear : (keys texts : List (List ℕ)) → texts ≡ keys → (m : Map) → IsStep (all_cleared keys) (λ n. Some (all_out texts n)) m
   all_clear keys texts same m = record { is = ap (λ c. Some c) (cleared_all m keys ∙ ap (λ ks. hash false (all_out ks m)) (sym same)) }
 
-  pub clears_all : (e e' : HashEngine S) (a b : S) (keys texts : List (List ℕ)) → texts ≡ keys → Writes s (Only 0) (Means s) (all_out texts) e e' a b → Makes s (Only 0) HoldsKeys (all_cleared keys) true e e' a b
-  clears_all e e' a b keys texts same writes = made_up s (all_cleared keys) (λ m. Some (all_out texts m)) true e e' a b (wrote_all (all_out texts) e e' a b writes) (all_clear keys texts same)
+  pub clears_all : (e e' : HashEngine S) (a b : S) (keys texts : List (List ℕ)) → texts ≡ keys → KeepsHead e e' → Writes s (Only 0) (Means s) (all_out texts) e e' a b → Makes s (Only 0) layout_of HoldsKeys (all_cleared keys) true e e' a b
+  clears_all e e' a b keys texts same head writes = made_up s (all_cleared keys) (λ m. Some (all_out texts m)) true e e' a b (wrote_all (all_out texts) e e' a b head writes) (all_clear keys texts same)
 
   pub clear_all_full : (e : HashEngine S) (a b : S) (keys texts : List (List ℕ)) → texts ≡ keys → ((m : Map) → Means s e a m → FillsMap s a b m (all_out texts m)) → IsFull s HoldsKeys (λ x. Fills s) (all_cleared keys) e a b
   clear_all_full e a b keys texts same full = full_up s (all_cleared keys) (λ m. Some (all_out texts m)) e a b (lacks_all (all_out texts) e a b full) (all_clear keys texts same)
@@ -118,11 +122,11 @@ module _ {S : Type 0} (s : Ghosts S) where
   all_store : (pairs texts : List Pair) (b : Bool) → texts ≡ pairs → b ≡ list_all is_short texts → b ≡ true → (m : Map) → IsStep (all_stored pairs) (λ n. Some (all_set pairs n)) m
   all_store pairs texts b same short so m = record { is = short_step pairs texts b same short m ∙ ap (λ x. cond x (Some (hash false (all_set pairs m))) None) so }
 
-  pub stores_none : (e : HashEngine S) (a : S) (pairs texts : List Pair) (b : Bool) → s.sound a → texts ≡ pairs → b ≡ list_all is_short texts → b ≡ false → Makes s (Only 0) HoldsKeys (all_stored pairs) false e e a a
+  pub stores_none : (e : HashEngine S) (a : S) (pairs texts : List Pair) (b : Bool) → s.sound a → texts ≡ pairs → b ≡ list_all is_short texts → b ≡ false → Makes s (Only 0) layout_of HoldsKeys (all_stored pairs) false e e a a
   stores_none e a pairs texts b sound same short not = made_up s (all_stored pairs) (λ m. None) false e e a a (fails e a sound) (λ m. record { is = short_step pairs texts b same short m ∙ ap (λ x. cond x (Some (hash false (all_set pairs m))) None) not })
 
-  pub stores_all : (e e' : HashEngine S) (a b : S) (pairs texts : List Pair) (short : Bool) → texts ≡ pairs → short ≡ list_all is_short texts → short ≡ true → Writes s (Only 0) (Means s) (all_set pairs) e e' a b → Makes s (Only 0) HoldsKeys (all_stored pairs) true e e' a b
-  stores_all e e' a b pairs texts short same is so writes = made_up s (all_stored pairs) (λ m. Some (all_set pairs m)) true e e' a b (wrote_all (all_set pairs) e e' a b writes) (all_store pairs texts short same is so)
+  pub stores_all : (e e' : HashEngine S) (a b : S) (pairs texts : List Pair) (short : Bool) → texts ≡ pairs → short ≡ list_all is_short texts → short ≡ true → KeepsHead e e' → Writes s (Only 0) (Means s) (all_set pairs) e e' a b → Makes s (Only 0) layout_of HoldsKeys (all_stored pairs) true e e' a b
+  stores_all e e' a b pairs texts short same is so head writes = made_up s (all_stored pairs) (λ m. Some (all_set pairs m)) true e e' a b (wrote_all (all_set pairs) e e' a b head writes) (all_store pairs texts short same is so)
 
   pub store_all_full : (e : HashEngine S) (a b : S) (pairs texts : List Pair) (short : Bool) → texts ≡ pairs → short ≡ list_all is_short texts → short ≡ true → ((m : Map) → Means s e a m → FillsMap s a b m (all_set pairs m)) → IsFull s HoldsKeys (λ x. Fills s) (all_stored pairs) e a b
   store_all_full e a b pairs texts short same is so full = full_up s (all_stored pairs) (λ m. Some (all_set pairs m)) e a b (lacks_all (all_set pairs) e a b full) (all_store pairs texts short same is so)

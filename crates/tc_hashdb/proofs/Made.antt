@@ -1,5 +1,5 @@
 -- A file that is opened, or made anew.
-use Rattle.std.proofs.Common.{◌≡◌, inl, inr, ⊎_elim, ◌≤◌, false, length, take, refl, sym, ap, subst, arith}
+use Rattle.std.proofs.Common.{◌≡◌, ◌∙◌, inl, inr, ⊎_elim, ℕ, ◌≤◌, false, length, take, refl, sym, ap, subst, arith}
 use Rattle.std.specs.Prelude.{IfOk, OnOk, IfSome, Some, None, Result, Ok, Err}
 use Rattle.std.specs.FinMap.{empty, get}
 use Rattle.tc_base.specs.Files.{Files}
@@ -11,19 +11,21 @@ use Rattle.tc_maps.proofs.Bytes.{size-empty}
 use Rattle.tc_space.specs.declared.space.Space.{Ghosts}
 use Rattle.ty_base.specs.Opening.{CanOpen, CreatesAs, IsCreated, IsOpened, OpensFor, OpensTo, OpensUsable}
 use Rattle.tc_space.specs.Stores.{Only}
-use Rattle.ty_base.specs.Holding.{StaysUsable}
+use Rattle.ty_base.specs.Holding.{KeepsLayout, StaysLaid, StaysUsable, layout_refl}
 use Rattle.ty_base.proofs.Refusals.{no_bytes}
 use Rattle.hf_head.specs.declared.head.Head.{Head}
 use Rattle.hf_head.specs.Heads.{head_in}
 use Rattle.hf_tree.specs.Standing.{StandsFor}
 use Rattle.tc_hash.specs.declared.hash.Hash.{Hash}
-use Rattle.tc_hash.specs.Creating.{HasNoRoom}
+use Rattle.tc_hash.specs.Creating.{HasNoRoom, new_bytes}
 use Rattle.tc_hash.specs.Keeping.{holds}
 use Rattle.tc_hash.specs.Settling.{IsBrought}
 use Rattle.tc_hash.specs.Standing.{StandsWith}
 use Rattle.tc_model.specs.Contents.{Contents, hash}
 use Rattle.tc_hashdb.specs.declared.holding.HashEngine.{HashEngine}
 use Rattle.tc_hashdb.specs.Holding.{HoldsKeys, Reopens}
+use Rattle.tc_hashdb.specs.Layouts.{layout_in, layout_of}
+use Rattle.tc_hashdb.specs.Laying.{created_long, usual_layout}
 use Rattle.tc_hashdb.specs.Shapes.{IsNewIn, Lacks, Shaped, anew, usual}
 use Rattle.tc_hashdb.specs.declared.shape.HashShape.{HashShape}
 
@@ -39,14 +41,17 @@ only_none files c none stand = ⊎_elim (λ empty_file. empty_file.1) (λ main. 
 
 module _ {S : Type 0} (s : Ghosts S) where
   -- what was made is as the trait says it
-  pub created_as : (e : HashEngine S) (shape : HashShape) (b : S) → e.hash.body.file ≡ 0 → IsNewIn shape e.hash.body.head → e.total ≡ Some 0 → IsBrought e.hash empty (s.now b 0) → holds e.hash (s.now b 0) empty → head_in (take 256 (s.now b 0)) ≡ e.hash.body.head → IsCreated HoldsKeys Reopens Shaped e (anew shape) shape (s.now b)
-  created_as e shape b file new total brought held head =
+  pub created_as : (e : HashEngine S) (shape : HashShape) (b : S) → e.hash.body.file ≡ 0 → IsNewIn shape e.hash.body.head → e.total ≡ Some 0 → IsBrought e.hash empty (s.now b 0) → holds e.hash (s.now b 0) empty → head_in (take 256 (s.now b 0)) ≡ e.hash.body.head → s.now b 0 ≡ new_bytes e.hash.body.head → IsCreated HoldsKeys Reopens Shaped e (anew shape) shape (s.now b)
+  created_as e shape b file new total brought held head made =
       let stands : StandsFor 0 (s.now b 0) (get nothing) = subst (λ k. StandsFor k (s.now b 0) (get nothing)) new.kind_is brought.stands.is in
       record {
         holds = record { map = empty; is = refl; holds_map = record { file = file; kind = new.kind_is; holds_it = held; counted = subst (λ o. IfSome o (λ n. n ≡ size_of empty)) (sym total) (sym size-empty) } };
         stand = inr (record { map = empty; is = refl; stands = stands });
         some = λ none. absurd (let long : 256 ≤ length (s.now b 0) = stands.opens.long in let short : length (s.now b 0) ≡ 0 = ap length none in omega (arith, long, short));
-        numbers = subst (λ h. IsNewIn shape h) (sym head) new;
+        numbers = record {
+          numbers = subst (λ h. IsNewIn shape h) (sym head) new;
+          long = created_long e.hash.body.head _ (s.now b 0) made brought.spells (sym brought.head ∙ head) stands.opens.long new.behind ∙ (sym new.size ∙ ap (λ (h : Head). h.size) (sym head));
+        };
       }
 
   pub lacks_sections : (a b : S) (shape : HashShape) → s.limit b ≡ s.limit a → (h : Head) × IsNewIn shape h × HasNoRoom (s.limit a 0) (s.log_full b) h.first → Lacks s b shape
@@ -67,6 +72,14 @@ module _ {S : Type 0} (s : Ghosts S) where
   pub made_usual : {E : Type 0} (r : Result (HashEngine S) E) (a b : S) → IfOk r (λ e. CreatesAs s Reopens HoldsKeys Shaped e (anew usual) usual b) → OnOk r (StaysUsable s (Only 0) a b) → OnOk r (OpensUsable s (Only 0) (Shaped usual) a b)
   made_usual (Ok e) a b created usable = record { sound = usable.sound; others = usable.others; made = λ t none. (created t).numbers }
   made_usual (Err x) a b created usable = tt
+
+  -- what an opening made has the usual layout, and what it only read is as it was
+  pub made_laid : {E : Type 0} (r : Result (HashEngine S) E) (a b : S) → (s.tells → length (s.now a 0) ≡ 0) → IfOk r (λ e. CreatesAs s Reopens HoldsKeys Shaped e (anew usual) usual b) → OnOk r (StaysLaid s layout_of a b)
+  made_laid (Ok e) a b none created = λ t. subst (λ bytes. KeepsLayout (layout_in bytes) (layout_of (s.now b))) (sym (no_bytes (s.now a 0) (none t))) (usual_layout (s.now b) (created t).numbers)
+  made_laid (Err x) a b none created = tt
+
+  pub read_laid : (a b : S) → (s.tells → (g : ℕ) → s.now b g ≡ s.now a g) → StaysLaid s layout_of a b
+  read_laid a b same t = subst (λ bytes. KeepsLayout (layout_of (s.now a)) (layout_in bytes)) (sym (same t 0)) (layout_refl (layout_of (s.now a)))
 
   pub main_opens : (h : Hash S) (kind : Kind) (a : S) → kinds.Hash ≡ kind → (m : Map) × StandsWith 0 (s.now a 0) m h.region → (c : Contents) × OpensTo kind Reopens (s.now a) c
   main_opens h kind a is stood = (hash false stood.0, record { kind_is = is; stand = inr (record { map = stood.0; is = refl; stands = stood.1.is }) })

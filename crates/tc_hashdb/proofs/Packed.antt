@@ -1,5 +1,5 @@
 -- A packing keeps what is held, and a limit that it meets is one of the database.
-use Rattle.std.proofs.Common.{◌≡◌, ◌⊎◌, ◌+◌, ◌<◌, ℕ, List, length, sym, ap, subst, inl, inr, ⊎_elim, arith}
+use Rattle.std.proofs.Common.{◌≡◌, ◌∙◌, ◌⊎◌, ◌+◌, ◌<◌, ℕ, List, length, sym, ap, subst, inl, inr, ⊎_elim, arith}
 use Rattle.std.specs.FinMap.{keys}
 use Rattle.tc_base.specs.Files.{Files}
 use Rattle.tc_base.specs.Maps.{Map}
@@ -8,7 +8,7 @@ use Rattle.tc_base.specs.declared.kind.Form.{Form}
 use Rattle.tc_base.specs.declared.kind.Form.TheVariants as forms
 use Rattle.tc_space.specs.Changes.{same}
 use Rattle.tc_space.specs.Frames.{In, Refuses, Writes}
-use Rattle.tc_space.specs.Stores.{Only}
+use Rattle.tc_space.specs.Stores.{Only, in_form}
 use Rattle.tc_space.specs.declared.space.Space.{Ghosts}
 use Rattle.hf_head.specs.declared.head.Head.{Head}
 use Rattle.hf_head.specs.Heads.{unit}
@@ -20,11 +20,13 @@ use Rattle.hf_record.specs.Moves.{IsRefusedFor}
 use Rattle.ty_base.specs.Holding.{Held, IsPast, IsReady}
 use Rattle.tc_hash.specs.Holding.{IsNumbered}
 use Rattle.tc_hash.specs.Keeping.{file_of, holds}
-use Rattle.tc_hash.specs.Packing.{ArePairs, LacksLarge as LacksIts, LacksOne, LacksPacking, StaysNumbered, blocks_long}
+use Rattle.tc_hash.specs.Packing.{ArePairs, LacksLarge as LacksIts, LacksOne, LacksPacking, Packs, StaysNumbered, blocks_long, options_for}
 use Rattle.tc_model.specs.Contents.{Contents}
 use Rattle.tc_hashdb.specs.declared.holding.HashEngine.{HashEngine}
 use Rattle.tc_hashdb.specs.Filling.{LacksLarge, LacksLargeAt, LacksLargeOf, LacksOne as LacksOneOf}
 use Rattle.tc_hashdb.specs.Holding.{HoldsKeys, Means}
+use Rattle.tc_hashdb.specs.Layouts.{layout_of}
+use Rattle.tc_hashdb.specs.Laying.{formed_numbers, held_layout}
 use Rattle.tc_hashdb.specs.Lifting.{held_again, means_of, ready_down, refuses_up}
 use Rattle.tc_hashdb.proofs.Kept.{Counts, in_of, means_again, writes_again}
 
@@ -33,6 +35,12 @@ module _ {S : Type 0} (s : Ghosts S) where
   packed_up e e' a b ready writes stays total c h =
       let again = writes_again s same e e' a b (ready_down s e a ready) writes stays.map.file stays.map.sort_same (λ m means. subst (λ o. Counts o m) (sym total) means.1.counted) in
       subst (λ d. Held s HoldsKeys e' b d) (sym h.1.is) (held_again s e' b h.1.map (again.means h.1.map (means_of s e a c h)))
+
+  pub pack_formed : (form : Form) (e e' : HashEngine S) (a b : S) → ((c : Contents) → Held s HoldsKeys e a c → Held s HoldsKeys e' b c) → StaysNumbered e.hash e'.hash → Packs (options_for form e.hash) e'.hash
+      → (c : Contents) → Held s HoldsKeys e a c → (layout_of (s.now b)).numbers ≡ in_form form (layout_of (s.now a)).numbers
+  pack_formed form e e' a b remains stays packs c h =
+      let now = remains c h in
+      held_layout e' (s.now b 0) now.1.map now.1.holds_map ∙ (formed_numbers form e.hash e'.hash stays packs ∙ ap (in_form form) (sym (held_layout e (s.now a 0) h.1.map h.1.holds_map)))
 
   pub pack_refused : (e e' : HashEngine S) (a b : S) → Refuses s (In s file_of holds) e.hash e'.hash a b → StaysNumbered e.hash e'.hash → e'.total ≡ e.total → Refuses s (Held s HoldsKeys) e e' a b
   pack_refused e e' a b refused stays total = refuses_up s e e' a b (⊎_elim

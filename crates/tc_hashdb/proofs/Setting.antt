@@ -14,7 +14,7 @@ use Rattle.tc_space.specs.Frames.{Keeps, Writes, keeps_refl, keeps_then, writes_
 use Rattle.tc_space.specs.Stores.{IsReady, Only, ready_writes}
 use Rattle.tc_space.specs.declared.space.Space.{Ghosts}
 use Rattle.tc_hashdb.specs.declared.holding.HashEngine.{HashEngine}
-use Rattle.tc_hashdb.specs.Changing.{all_set, last_values, set_entries, set_one}
+use Rattle.tc_hashdb.specs.Changing.{KeepsHead, all_set, last_values, set_entries, set_one}
 use Rattle.tc_hashdb.specs.Filling.{FillsKey, FillsMap, key_more}
 use Rattle.tc_hashdb.specs.Holding.{Means}
 use Rattle.tc_hashdb.proofs.Several.{all_entries, fills_on, last_set, set_next}
@@ -28,6 +28,7 @@ module _ {S : Type 0} (s : Ghosts S) where
     pub done : List Entry
     pub split : all ≡ done ++ rest
     pub writes : Writes s (Only 0) (Means s) (λ m. set_entries m done) v u a b
+    pub numbers : KeepsHead v u
     pub keeps : Keeps s a b
 
   pub set_start : (v : HashEngine S) (a : S) (all : List Entry) → s.sound a → SetSoFar v v a a all all
@@ -35,14 +36,15 @@ module _ {S : Type 0} (s : Ghosts S) where
     done = [];
     split = refl;
     writes = record { sound = sound; means = λ m means. means; others = record { same = λ t g other. refl } };
+    numbers = refl;
     keeps = keeps_refl s a;
   }
 
   pub set_ready : (v u : HashEngine S) (a b : S) (all rest : List Entry) → SetSoFar v u a b all rest → IsReady s (Means s) v a → IsReady s (Means s) u b
   set_ready v u a b all rest so_far ready = ready_writes s (Means s) (Only 0) (λ m. set_entries m so_far.done) v u a b so_far.writes ready
 
-  pub set_more : (v u w : HashEngine S) (a b c : S) (all rest next : List Entry) (e : Entry) (key value : List ℕ) (h : SetSoFar v u a b all rest) → rest ≡ e ∷ next → key ≡ e.0 → value ≡ e.1 → Writes s (Only 0) (Means s) (λ m. set_one m key value) u w b c → Keeps s b c → SetSoFar v w a c all next
-  set_more v u w a b c all rest next e key value h is key_is value_is writes keeps =
+  pub set_more : (v u w : HashEngine S) (a b c : S) (all rest next : List Entry) (e : Entry) (key value : List ℕ) (h : SetSoFar v u a b all rest) → rest ≡ e ∷ next → key ≡ e.0 → value ≡ e.1 → Writes s (Only 0) (Means s) (λ m. set_one m key value) u w b c → KeepsHead u w → Keeps s b c → SetSoFar v w a c all next
+  set_more v u w a b c all rest next e key value h is key_is value_is writes head keeps =
       let both = writes_then s (Means s) (Only 0) (λ m. set_entries m h.done) (λ m. set_one m key value) v u w a b c h.writes writes in
       record {
         done = h.done ++ e ∷ [];
@@ -52,6 +54,7 @@ module _ {S : Type 0} (s : Ghosts S) where
           others = both.others;
           means = λ m means. subst (λ n. Means s w c n) ((λ i. set_one (set_entries m h.done) (key_is i) (value_is i)) ∙ sym (set_next h.done e m)) (both.means m means);
         };
+        numbers = head ∙ h.numbers;
         keeps = keeps_then s a b c h.keeps keeps;
       }
 

@@ -5,7 +5,7 @@ use Rattle.tc_base.specs.Maps.{Map}
 use Rattle.tc_base.specs.declared.kind.Form.{Form}
 use Rattle.tc_space.specs.Frames.{Refuses}
 use Rattle.tc_space.specs.declared.space.Space.{Ghosts}
-use Rattle.ty_base.specs.Holding.{Held}
+use Rattle.ty_base.specs.Holding.{Held, IsTrimmed}
 use Rattle.hf_pool.specs.Pools.{frees}
 use Rattle.hf_pool.specs.Trims.{Trimmed}
 use Rattle.hf_tree.specs.Standing.{StandsFor}
@@ -17,7 +17,9 @@ use Rattle.tc_hash.proofs.Tight.{packed_of, still_none}
 use Rattle.tc_model.specs.Contents.{Contents}
 use Rattle.tc_hashdb.specs.declared.holding.HashEngine.{HashEngine}
 use Rattle.tc_hashdb.specs.Holding.{HoldsKeys, Means, Reopens}
+use Rattle.tc_hashdb.specs.Layouts.{layout_of}
 use Rattle.tc_hashdb.specs.Lifting.{held_again, means_of, refuses_up}
+use Rattle.tc_hashdb.specs.Laying.{settled_layout}
 use Rattle.tc_hashdb.proofs.Kept.{Counts, in_of, means_again, refuses_again}
 
 module _ {S : Type 0} (s : Ghosts S) where
@@ -42,6 +44,16 @@ module _ {S : Type 0} (s : Ghosts S) where
       subst (λ f. IsPacked form (s.now b f)) means.1.file (packed_of form h.body.head h.body.pool.size (frees h.body.pool) h.records h.region m (s.now b e.hash.body.file) (brought held.0 m (in_of s e a m means).1) (long held.0)
       (still_none (frees e.hash.body.pool) (frees h.body.pool) e.hash.body.pool.size h.body.pool.size trimmed tight.nothing)
       (λ is. ap (λ x. x.options) head ∙ tight.large is))
+
+  pub settle_trims : (e : HashEngine S) (h : Hash S) (a b : S) → h.body.head ≡ e.hash.body.head
+      → (s.tells → (m : Map) → holds e.hash (s.now a e.hash.body.file) m → Brought h.body.head h.body.pool.size (frees h.body.pool) h.records h.region m (s.now b e.hash.body.file))
+      → (s.tells → length (s.now b e.hash.body.file) ≡ h.body.pool.size) → (c : Contents) → Held s HoldsKeys e a c → IsTrimmed (layout_of (s.now a)) (layout_of (s.now b))
+  settle_trims e h a b head brought long c held =
+      let m : Map = held.1.map in
+      let means : Means s e a m = means_of s e a c held in
+      settled_layout e h (s.now a 0) (s.now b 0) m head means.1
+      (subst (λ f. Brought h.body.head h.body.pool.size (frees h.body.pool) h.records h.region m (s.now b f)) means.1.file (brought held.0 m (in_of s e a m means).1))
+      (subst (λ f. length (s.now b f) ≡ h.body.pool.size) means.1.file (long held.0))
 
   pub settle_refused : (e e' : HashEngine S) (a b : S) → e'.hash.body.file ≡ e.hash.body.file → e'.hash.body.head ≡ e.hash.body.head → e'.total ≡ e.total → Refused s e.hash e'.hash a b → Refuses s (Held s HoldsKeys) e e' a b
   settle_refused e e' a b file head total refused = refuses_up s e e' a b (refuses_again s e e' a b refused file head total)

@@ -8,6 +8,9 @@ use Rattle.tc_base.specs.declared.seq.Pair.{Pair}
 use Rattle.tc_space.specs.Frames.{Others, Reads}
 use Rattle.tc_space.specs.Stores.{Only}
 use Rattle.tc_space.specs.declared.space.Space.{Ghosts}
+use Rattle.tc_hash.specs.Keeping.{StaysOpen, numbers_of}
+use Rattle.tc_hash.specs.Standing.{numbers_in}
+use Rattle.std.proofs.Common.{◌∙◌, ap, refl}
 use Rattle.tc_model.specs.Maps.{with_value, without}
 use Rattle.tc_hashdb.specs.declared.holding.HashEngine.{HashEngine}
 use Rattle.tc_hashdb.specs.Filling.{FillsMap}
@@ -61,11 +64,25 @@ all_out keys m = fold out_one m keys
 
 -- ---- calls
 
+-- the numbers of the file stay
+abbrev pub KeepsHead : {S : Type 0} → HashEngine S → HashEngine S → Type 0
+KeepsHead v v' = numbers_of v'.hash ≡ numbers_of v.hash
+
+pub head_refl : {S : Type 0} (v : HashEngine S) → KeepsHead v v
+head_refl v = refl
+
+pub head_then : {S : Type 0} (a b c : HashEngine S) → KeepsHead a b → KeepsHead b c → KeepsHead a c
+head_then a b c first second = second ∙ first
+
+pub head_open : {S : Type 0} (v w : HashEngine S) → StaysOpen v.hash w.hash → KeepsHead v w
+head_open v w stays = ap numbers_in stays.head
+
 module _ {S : Type 0} (s : Ghosts S) where
-  -- the step was made in file 0; or it fails, and nothing has changed
+  -- the step was made in file 0, whose numbers stay; or it fails, and nothing has changed
   pub record Takes (f : Step) (done : Bool) (v v' : HashEngine S) (old new : S) : Type 0 where
     pub sound : s.sound new
     pub others : Others s (Only 0) old new
+    pub numbers : KeepsHead v v'
     pub made : done ≡ true → (m : Map) → Means s v old m → (n : Map) × (f m ≡ Some n) × Means s v' new n
     pub fails : done ≡ false → (m : Map) → Means s v old m → f m ≡ None
     pub same : done ≡ false → Reads s (Means s) v v' old new

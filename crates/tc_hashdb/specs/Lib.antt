@@ -4,6 +4,8 @@ pub mod Filling
 pub mod Holding
 pub mod Informing
 pub mod Laws
+pub mod Laying
+pub mod Layouts
 pub mod Lifting
 pub mod Listing
 pub mod Shapes

@@ -1,5 +1,5 @@
 -- Calls on the map, as the trait of engines says them.
-use Rattle.std.specs.Prelude.{◌≡◌, Bool, false, Option, Some, None, option_map, unwrap_or, Result, Ok, Err, OnErr}
+use Rattle.std.specs.Prelude.{◌≡◌, Bool, true, false, Option, Some, None, option_map, unwrap_or, Result, Ok, Err, OnErr}
 use Rattle.std.proofs.Common.{◌∙◌, refl, sym, ap, subst, inl, inr, ⊎_elim}
 use Rattle.tc_base.specs.Maps.{Map}
 use Rattle.tc_space.specs.Frames.{Reads, Refuses}
@@ -7,13 +7,15 @@ use Rattle.tc_space.specs.Stores as stores
 use Rattle.tc_space.specs.declared.space.Space.{Ghosts}
 use Rattle.tc_model.specs.Contents.{Contents, hash}
 use Rattle.tc_space.specs.Stores.{Only}
-use Rattle.ty_base.specs.Holding.{Held, IsReady}
+use Rattle.ty_base.specs.Holding.{Held, IsReady, KeepsNumbers}
 use Rattle.tc_engine.specs.Changes.{Change, wanted}
 use Rattle.tc_engine.specs.Effects.{IsFull, Makes}
 use Rattle.tc_hashdb.specs.declared.holding.HashEngine.{HashEngine}
-use Rattle.tc_hashdb.specs.Changing.{LacksRoomFor, Step, Takes, after}
+use Rattle.tc_hashdb.specs.Changing.{KeepsHead, LacksRoomFor, Step, Takes, after}
 use Rattle.tc_hashdb.specs.Filling.{Fills, FillsMap}
 use Rattle.tc_hashdb.specs.Holding.{HoldsKeys, Means}
+use Rattle.tc_hashdb.specs.Layouts.{layout_of}
+use Rattle.tc_hashdb.specs.Laying.{held_layout}
 
 -- a change of contents is a step of the map
 pub record IsStep (change : Change) (step : Step) (m : Map) : Type 0 where
@@ -45,10 +47,19 @@ module _ {S : Type 0} (s : Ghosts S) where
   refused_up (Ok x) e e' a b refused = tt
   refused_up (Err x) e e' a b refused = refuses_up e e' a b refused
 
-  pub made_up : (change : Change) (step : Step) (done : Bool) (e e' : HashEngine S) (a b : S) → Takes s step done e e' a b → ((m : Map) → IsStep change step m) → Makes s (Only 0) HoldsKeys change done e e' a b
+  -- the numbers of the file are those that are held, before and behind
+  pub head_numbers : (e e' : HashEngine S) (a b : S) (m n : Map) → KeepsHead e e' → Means s e a m → Means s e' b n → KeepsNumbers (layout_of (s.now a)) (layout_of (s.now b))
+  head_numbers e e' a b m n same before now = held_layout e' (s.now b 0) n now.1 ∙ same ∙ sym (held_layout e (s.now a 0) m before.1)
+
+  made_numbered : {f : Step} (done : Bool) (e e' : HashEngine S) (a b : S) → Takes s f done e e' a b → (m : Map) → Means s e a m → KeepsNumbers (layout_of (s.now a)) (layout_of (s.now b))
+  made_numbered true e e' a b takes m means = let made = takes.made refl m means in head_numbers e e' a b m made.0 takes.numbers means made.2
+  made_numbered false e e' a b takes m means = head_numbers e e' a b m m takes.numbers means ((takes.same refl).means m means)
+
+  pub made_up : (change : Change) (step : Step) (done : Bool) (e e' : HashEngine S) (a b : S) → Takes s step done e e' a b → ((m : Map) → IsStep change step m) → Makes s (Only 0) layout_of HoldsKeys change done e e' a b
   made_up change step done e e' a b takes is_step = record {
     sound = takes.sound;
     others = takes.others;
+    numbered = λ c h. made_numbered done e e' a b takes h.1.map (means_of e a c h);
     made = λ yes c h.
         let made = takes.made yes h.1.map (means_of e a c h) in
         (hash false made.0, ap change h.1.is ∙ (is_step h.1.map).is ∙ ap (option_map (hash false)) made.1, held_again e' b made.0 made.2);

@@ -1,5 +1,5 @@
 -- A file made anew, by its numbers.
-use Rattle.std.specs.Prelude.{ℕ, false, take}
+use Rattle.std.specs.Prelude.{◌≡◌, ℕ, false, length, take}
 use Rattle.std.specs.FinMap.{empty}
 use Rattle.tc_base.specs.Files.{Files}
 use Rattle.tc_space.specs.declared.space.Space.{Ghosts}
@@ -21,9 +21,10 @@ MayHave shape = MayBe 0 shape.apow shape.fpow shape.buckets
 abbrev pub IsNewIn : HashShape → Head → Type 0
 IsNewIn shape h = IsNew 0 shape.apow shape.fpow shape.buckets shape.large h
 
--- and so has that of file 0
-abbrev pub Shaped : HashShape → Files → Type 0
-Shaped shape files = IsNewIn shape (head_in (take 256 (files 0)))
+-- and so has that of file 0, which ends where it says
+pub record Shaped (shape : HashShape) (files : Files) : Type 0 where
+  pub numbers : IsNewIn shape (head_in (take 256 (files 0)))
+  pub long : length (files 0) ≡ (head_in (take 256 (files 0))).size
 
 -- no data
 abbrev pub anew : HashShape → Contents

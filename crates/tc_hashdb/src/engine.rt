@@ -8,6 +8,7 @@ ghost use Rattle.tc_hashdb.specs.Filling.{Fills, LacksLarge, fills_more, large_m
 ghost use Rattle.tc_hashdb.specs.Holding.{HoldsKeys, Reopens};
 ghost use Rattle.tc_hashdb.specs.Informing.{Lines};
 ghost use Rattle.tc_hashdb.specs.Laws.{moved_apart};
+ghost use Rattle.tc_hashdb.specs.Layouts.{layout_of};
 ghost use Rattle.tc_hash.specs.Packing.{IsPacked, IsTight};
 
 use crate::holding::HashEngine;
@@ -40,9 +41,11 @@ impl<S: Space> Storage for HashEngine<S> {
 
     ghost packed = { λ form files. IsPacked form (files 0) };
 
+    ghost layout = { layout_of };
+
     ghost no_logs = { main_no_log };
 
-    ghost apart = { λ e f g c same. moved_apart e f g c same };
+    ghost apart = { λ e f g same. moved_apart e f g same };
 
     ghost log_fills = { λ e a b c d full. inl full };
 

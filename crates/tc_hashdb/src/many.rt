@@ -1,5 +1,5 @@
 //! Changes of many keys.
-#![tactic(auto, using(tc_space::specs::Frames::keeps_refl, tc_space::specs::Frames::keeps_then))]
+#![tactic(auto, using(tc_space::specs::Frames::keeps_refl, tc_space::specs::Frames::keeps_then, crate::specs::Changing::head_refl, crate::specs::Changing::head_then, crate::specs::Changing::head_open))]
 
 ghost use Rattle.std.specs.Prelude.{◌≡◌, false, OnOk, OnErr, IfOk, IsErrOf};
 ghost use Rattle.std.specs.List.{list_all};
@@ -8,7 +8,7 @@ ghost use Rattle.tc_base.specs.Maps.{Map};
 ghost use Rattle.tc_space.specs.Frames.{Keeps, Refuses, Writes};
 ghost use Rattle.tc_space.specs.Refusals.{OnFault, OnlyLogIsFull};
 ghost use Rattle.tc_space.specs.Stores.{IsReady, Only};
-ghost use Rattle.tc_hashdb.specs.Changing.{after, all_out, all_set, is_short, last_values, out_one, set_entries, set_one};
+ghost use Rattle.tc_hashdb.specs.Changing.{KeepsHead, after, all_out, all_set, is_short, last_values, out_one, set_entries, set_one};
 ghost use Rattle.tc_hashdb.specs.Filling.{FillsKey, FillsMap};
 ghost use Rattle.tc_hashdb.specs.Holding.{Means};
 
@@ -67,6 +67,7 @@ impl<S: Space> HashEngine<S> {
         ensures set { OnOk result (Writes S.Space (Only 0) (Means S.Space) (λ m. set_one m key.now value.now) self.old self.new space.old space.new) }
         ensures refused { OnErr result (S.flag space.new ≡ false) }
         ensures full { IsErrOf result RecErr.Full → (m : Map) → Means S.Space self.old space.old m → FillsKey S.Space space.old space.new m key.now value.now }
+        ensures numbers { KeepsHead self.old self.new }
         ensures keeps { Keeps S.Space space.old space.new }
         ensures cause { OnFault S.Space result space.old space.new }
     {
@@ -94,6 +95,7 @@ impl<S: Space> HashEngine<S> {
         ensures set { OnOk result (Writes S.Space (Only 0) (Means S.Space) (λ m. set_entries m (entries values.now)) self.old self.new space.old space.new) }
         ensures refused { OnErr result (S.flag space.new ≡ false) }
         ensures full { IsErrOf result RecErr.Full → (m : Map) → Means S.Space self.old space.old m → FillsMap S.Space space.old space.new m (set_entries m (entries values.now)) }
+        ensures numbers { KeepsHead self.old self.new }
         ensures keeps { Keeps S.Space space.old space.new }
         ensures cause { OnFault S.Space result space.old space.new }
     {
@@ -111,6 +113,7 @@ impl<S: Space> HashEngine<S> {
         ensures set { OnOk result (Writes S.Space (Only 0) (Means S.Space) (all_set pairs) self.old self.new space.old space.new) }
         ensures refused { OnErr result (Refuses S.Space (Means S.Space) self.old self.new space.old space.new) }
         ensures full { IsErrOf result RecErr.Full → (m : Map) → Means S.Space self.old space.old m → FillsMap S.Space space.old space.new m (all_set pairs m) }
+        ensures numbers { KeepsHead self.old self.new }
         ensures keeps { Keeps S.Space space.old space.new }
         ensures cause { OnFault S.Space result space.old space.new }
     {
@@ -125,6 +128,7 @@ impl<S: Space> HashEngine<S> {
         ensures out { OnOk result (Writes S.Space (Only 0) (Means S.Space) (λ m. out_one m key.now) self.old self.new space.old space.new) }
         ensures refused { OnErr result (S.flag space.new ≡ false) }
         ensures full { OnlyLogIsFull S.Space result space.new }
+        ensures numbers { KeepsHead self.old self.new }
         ensures keeps { Keeps S.Space space.old space.new }
         ensures cause { OnFault S.Space result space.old space.new }
     {
@@ -140,6 +144,7 @@ impl<S: Space> HashEngine<S> {
         ensures out { OnOk result (Writes S.Space (Only 0) (Means S.Space) (all_out keys.now) self.old self.new space.old space.new) }
         ensures refused { OnErr result (S.flag space.new ≡ false) }
         ensures full { OnlyLogIsFull S.Space result space.new }
+        ensures numbers { KeepsHead self.old self.new }
         ensures keeps { Keeps S.Space space.old space.new }
         ensures cause { OnFault S.Space result space.old space.new }
     {

@@ -1,5 +1,5 @@
 //! Values given to keys, and keys taken out.
-#![tactic(auto, using(tc_space::specs::Frames::keeps_refl, tc_space::specs::Frames::keeps_then, tc_space::specs::Frames::reads_refl, tc_space::specs::Stores::ready_reads, crate::proofs::Kept::ready_hash, crate::proofs::Kept::in_of, crate::proofs::Kept::reads_again, crate::proofs::Kept::refuses_again))]
+#![tactic(auto, using(crate::specs::Changing::head_refl, crate::specs::Changing::head_open, tc_space::specs::Frames::keeps_refl, tc_space::specs::Frames::keeps_then, tc_space::specs::Frames::reads_refl, tc_space::specs::Stores::ready_reads, crate::proofs::Kept::ready_hash, crate::proofs::Kept::in_of, crate::proofs::Kept::reads_again, crate::proofs::Kept::refuses_again))]
 
 ghost use Rattle.std.specs.Prelude.{◌≡◌, false, IfOk, OnErr, IsErrOf, Some};
 ghost use Rattle.std.specs.FinMap.{empty};
@@ -8,7 +8,7 @@ ghost use Rattle.tc_space.specs.Refusals.{OnFault};
 ghost use Rattle.tc_space.specs.Stores.{IsReady};
 ghost use Rattle.hf_record.specs.Filling.{SpoilsFull};
 ghost use Rattle.tc_model.specs.Maps.{without};
-ghost use Rattle.tc_hashdb.specs.Changing.{LacksRoomFor, Takes, stored_in};
+ghost use Rattle.tc_hashdb.specs.Changing.{KeepsHead, LacksRoomFor, Takes, stored_in};
 ghost use Rattle.tc_hashdb.specs.Holding.{Means};
 
 use crate::counting::{counted_with, counted_without, stored_len};
@@ -52,6 +52,7 @@ impl<S: Space> HashEngine<S> {
         ensures takes { IfOk result (λ done. Takes S.Space (λ m. without m key.now) done self.old self.new space.old space.new) }
         ensures refused { OnErr result (Refuses S.Space (Means S.Space) self.old self.new space.old space.new) }
         ensures full { SpoilsFull S.Space result space.new }
+        ensures numbers { KeepsHead self.old self.new }
         ensures keeps { Keeps S.Space space.old space.new }
         ensures cause { OnFault S.Space result space.old space.new }
     {

@@ -1,11 +1,11 @@
 -- A change of what is held in memory, as the trait of engines says it.
-use Rattle.std.specs.Prelude.{◌≡◌, Bool}
+use Rattle.std.specs.Prelude.{◌≡◌, Bool, []}
 use Rattle.std.proofs.Common.{◌∙◌, refl, sym, ap, inr}
 use Rattle.tc_base.specs.Files.{Files}
 use Rattle.tc_space.specs.Frames.{Reads, Refuses, others_refl}
 use Rattle.tc_space.specs.declared.space.Space.{Ghosts}
 use Rattle.tc_model.specs.Contents.{Contents}
-use Rattle.ty_base.specs.Holding.{Held}
+use Rattle.ty_base.specs.Holding.{Held, no_layout}
 use Rattle.tc_engine.specs.Changes.{Change}
 use Rattle.tc_engine.specs.Effects.{Makes}
 use Rattle.tc_memdb.specs.declared.engine.MemEngine.{MemEngine}
@@ -23,10 +23,11 @@ module _ {S : Type 0} (s : Ghosts S) where
   pub refuses_same : (e e' : MemEngine) (a : S) → s.sound a → contents_of e'.held ≡ contents_of e.held → Refuses s (Held s Holds) e e' a a
   refuses_same e e' a sound same = inr (reads_same e e' a sound same)
 
-  pub makes : (f : Change) (done : Bool) (e e' : MemEngine) (a : S) → s.sound a → Made (f (contents_of e.held)) done (contents_of e.held) (contents_of e'.held) → Makes s (λ file. ⊥) Holds f done e e' a a
+  pub makes : (f : Change) (done : Bool) (e e' : MemEngine) (a : S) → s.sound a → Made (f (contents_of e.held)) done (contents_of e.held) (contents_of e'.held) → Makes s (λ file. ⊥) no_layout Holds f done e e' a a
   makes f done e e' a sound m = record {
     sound = sound;
     others = others_refl s (λ file. ⊥) a;
+    numbered = λ c h. refl;
     made = λ yes c h. (contents_of e'.held, ap f (sym h.1) ∙ m.made yes, (h.0, refl));
     fails = λ no c h. ap f (sym h.1) ∙ m.fails no;
     same = λ no. reads_same e e' a sound (m.same no);

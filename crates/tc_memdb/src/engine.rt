@@ -6,6 +6,7 @@ ghost use Rattle.tc_base.specs.declared.kind.Kind.TheVariants as kind;
 ghost use Rattle.std.specs.Prelude.{false};
 ghost use Rattle.tc_model.specs.Contents.{no_data};
 ghost use Rattle.tc_memdb.specs.Holding.{contents_of};
+ghost use Rattle.ty_base.specs.Holding.{no_layout};
 
 use crate::data::Data;
 use crate::many::are_short;
@@ -67,9 +68,11 @@ impl Storage for MemEngine {
 
     ghost packed = { λ form files. Unit {0} };
 
+    ghost layout = { no_layout };
+
     ghost no_logs = { ((λ h. h), (λ h. h)) };
 
-    ghost apart = { λ e f g c same. ((λ h. h), (λ h. h)) };
+    ghost apart = { λ e f g same. record { held = λ c h. h; stand = λ c h. h; laid = λ i. no_layout f; tight = λ form h. h; told = λ text h. h } };
 
     ghost log_fills = { λ e a b c d full. full };
 

@@ -9,7 +9,7 @@ use Rattle.tc_model.specs.Apply.{apply, applied, updates}
 use Rattle.tc_model.specs.Applying.{Applies}
 use Rattle.tc_model.specs.Packing.{is_optimize}
 use Rattle.tc_model.specs.declared.applied.Applied.{Applied}
-use Rattle.ty_base.specs.Holding.{Held, Leaves, Serves, FillsBy}
+use Rattle.ty_base.specs.Holding.{FillsBy, Held, Layout, Leaves, Serves}
 use Rattle.ty_answers.specs.Engines.{engine_of}
 use Rattle.ty_answers.specs.Steps.{IsFullStep, Steps}
 use Rattle.ty_answers.specs.declared.database.Database.{Database}
@@ -18,8 +18,8 @@ applied_here : (r : Request) (c : Contents) (w : Walk) → apply false r c w ≡
 unfolding apply
 applied_here r c w = refl
 
-module _ {S E : Type 0} (s : Ghosts S) (own : ℕ → Type 0) (holds : E → Files → Contents → Type 0) where
-  pub serves : (r : Request) (done updating : Bool) (a : Applied) (e : E) (d : Database E) (x y : S) (w w' : Walk) (old new : List ℕ) → updating ≡ updates r → a.ok ≡ done → a.updated ≡ (done && updating) → Steps s own holds r done e (engine_of d) x y w w' old new → (c : Contents) → Held s holds e x c → Serves s (λ b. holds (engine_of b)) (apply false r c w) r a d y w' old new
+module _ {S E : Type 0} (s : Ghosts S) (own : ℕ → Type 0) (layout : Files → Layout) (holds : E → Files → Contents → Type 0) where
+  pub serves : (r : Request) (done updating : Bool) (a : Applied) (e : E) (d : Database E) (x y : S) (w w' : Walk) (old new : List ℕ) → updating ≡ updates r → a.ok ≡ done → a.updated ≡ (done && updating) → Steps s own layout holds r done e (engine_of d) x y w w' old new → (c : Contents) → Held s holds e x c → Serves s (λ b. holds (engine_of b)) (apply false r c w) r a d y w' old new
   serves r done updating a e d x y w w' old new up ok updated n c h =
       let z = n.applied_is c h in
       record {
@@ -34,10 +34,11 @@ module _ {S E : Type 0} (s : Ghosts S) (own : ℕ → Type 0) (holds : E → Fil
         });
       }
 
-  pub leaves : (r : Request) (done updating : Bool) (idle : Type 0) (e e' : E) (x y : S) (w w' : Walk) (old new : List ℕ) → updating ≡ updates r → (idle → ((done && updating) ≡ false) × (is_optimize r ≡ false)) → Steps s own holds r done e e' x y w w' old new → Leaves s own idle x y
-  leaves r done updating idle e e' x y w w' old new up quiet n = record {
+  pub leaves : (r : Request) (done updating : Bool) (idle : Type 0) (e e' : E) (x y : S) (w w' : Walk) (old new : List ℕ) → updating ≡ updates r → (idle → ((done && updating) ≡ false) × (is_optimize r ≡ false)) → (s.tells → (c : Contents) × Held s holds e x c) → Steps s own layout holds r done e e' x y w w' old new → Leaves s own layout idle x y
+  leaves r done updating idle e e' x y w w' old new up quiet held n = record {
     sound = n.sound;
     others = n.others;
+    numbered = λ t. let h = held t in n.numbered h.0 h.1;
     reads = λ i. n.idle (sym (ap (λ u. done && u) up) ∙ (quiet i).0) (quiet i).1;
   }
 

@@ -11,7 +11,7 @@ use Rattle.tc_model.specs.Contents.{Contents, kind_of}
 use Rattle.tc_model.specs.Meaning as meaning
 use Rattle.tc_model.specs.Meaning.{are_short, done, keys_of}
 use Rattle.tc_model.specs.Misc.{misc_of, updates_call}
-use Rattle.ty_base.specs.Holding.{Held}
+use Rattle.ty_base.specs.Holding.{Held, Layout}
 use Rattle.ty_answers.specs.Answers.{Answered, Answers, IsFullBy, Request, contents_of}
 use Rattle.ty_answers.specs.Calls.{meant}
 
@@ -43,20 +43,22 @@ called_is name options args m c kept is short = sym (called_done name options ar
 pub called_long : (name : List ℕ) (options : ℕ) (args : List (List ℕ)) (m : Misc) (c : Contents) → (options % 2 == 1 && updates_call name args) ≡ false → misc_of name args (kind_of c) ≡ Some m → are_short (keys_of m) ≡ false → called name options args c ≡ None
 called_long name options args m c kept is long = called_done name options args m c kept is ∙ ap told (long_done m c long)
 
-module _ {S E : Type 0} (s : Ghosts S) (own : ℕ → Type 0) (holds : E → Files → Contents → Type 0) where
-  pub shown : (effect other : Request) (refusal : Reply) (updating done : Bool) (e e' : E) (a b : S) (old new : List ℕ) → ((c : Contents) → Held s holds e a c → other c ≡ effect c) → Answers s own holds other refusal updating done e e' a b old new → Answers s own holds effect refusal updating done e e' a b old new
+module _ {S E : Type 0} (s : Ghosts S) (own : ℕ → Type 0) (layout : Files → Layout) (holds : E → Files → Contents → Type 0) where
+  pub shown : (effect other : Request) (refusal : Reply) (updating done : Bool) (e e' : E) (a b : S) (old new : List ℕ) → ((c : Contents) → Held s holds e a c → other c ≡ effect c) → Answers s own layout holds other refusal updating done e e' a b old new → Answers s own layout holds effect refusal updating done e e' a b old new
   shown effect other refusal updating done e e' a b old new same n = record {
     sound = n.sound;
     others = n.others;
+    numbered = n.numbered;
     answered = λ c h. let x = n.answered c h in (x.0, x.1, subst (λ y. Answered y refusal done c x.0 old new) (same c h) x.2);
     idle = n.idle;
   }
 
   -- what is shown of a request that may update is shown of one that does
-  pub quieter : (effect : Request) (refusal : Reply) (less more done : Bool) (e e' : E) (a b : S) (old new : List ℕ) → (less ≡ true → more ≡ true) → Answers s own holds effect refusal less done e e' a b old new → Answers s own holds effect refusal more done e e' a b old new
+  pub quieter : (effect : Request) (refusal : Reply) (less more done : Bool) (e e' : E) (a b : S) (old new : List ℕ) → (less ≡ true → more ≡ true) → Answers s own layout holds effect refusal less done e e' a b old new → Answers s own layout holds effect refusal more done e e' a b old new
   quieter effect refusal less more done e e' a b old new rises n = record {
     sound = n.sound;
     others = n.others;
+    numbered = n.numbered;
     answered = n.answered;
     idle = λ i. n.idle (both_quiet done less more rises i);
   }

@@ -11,7 +11,7 @@ use Rattle.ty_wire.specs.Spelling.{reply_bytes}
 use Rattle.tc_model.specs.Contents.{Contents, Walk}
 use Rattle.tc_model.specs.Apply.{Effect, Step, applied, effect, fits, refusal_of, refused, took, updates}
 use Rattle.tc_model.specs.Packing.{is_optimize}
-use Rattle.ty_base.specs.Holding.{FillsAll, may_write}
+use Rattle.ty_base.specs.Holding.{FillsAll, Layout, may_write}
 use Rattle.ty_answers.specs.Answers.{Answered, Answers, IsFullBy, contents_of, told_by}
 use Rattle.ty_answers.specs.Answers as answers
 use Rattle.ty_answers.specs.Steps.{Ends, IsFullStep, Steps}
@@ -75,21 +75,23 @@ pub took_contents : (r : Request) (e : Effect) (c : Contents) (w : Walk) → con
 took_contents r None c w = refl
 took_contents r (Some x) c w = sym (cond_contents (fits x.1) (record { contents = x.0; walk = w; reply = x.1; ok = true }) (refused r c w))
 
-module _ {S E : Type 0} (s : Ghosts S) (own : ℕ → Type 0) (holds : E → Files → Contents → Type 0) where
+module _ {S E : Type 0} (s : Ghosts S) (own : ℕ → Type 0) (layout : Files → Layout) (holds : E → Files → Contents → Type 0) where
   -- an arm of the dispatch: what was shown is the effect of the request
-  pub arm : (r shape : Request) (shown : answers.Request) (refusal : Reply) (updating done : Bool) (e e' : E) (a b : S) (w : Walk) (old new : List ℕ) → r ≡ shape → is_plain shape ≡ true → ((c : Contents) → shown c ≡ effect shape c) → refusal ≡ refusal_of shape → updating ≡ updates shape → Answers s own holds shown refusal updating done e e' a b old new → Steps s own holds r done e e' a b w w old new
-  arm r shape shown refusal updating done e e' a b w old new is plain same refuses up n = subst (λ q. Steps s own holds q done e e' a b w w old new) (sym is) (record {
+  pub arm : (r shape : Request) (shown : answers.Request) (refusal : Reply) (updating done : Bool) (e e' : E) (a b : S) (w : Walk) (old new : List ℕ) → r ≡ shape → is_plain shape ≡ true → ((c : Contents) → shown c ≡ effect shape c) → refusal ≡ refusal_of shape → updating ≡ updates shape → Answers s own layout holds shown refusal updating done e e' a b old new → Steps s own layout holds r done e e' a b w w old new
+  arm r shape shown refusal updating done e e' a b w old new is plain same refuses up n = subst (λ q. Steps s own layout holds q done e e' a b w w old new) (sym is) (record {
     sound = n.sound;
     others = n.others;
+    numbered = n.numbered;
     applied_is = λ c h. let x = n.answered c h in (x.0, x.1, subst (λ q. Ends q done x.0 w old new) (sym (plain_applied shape c w plain)) (took_ends shape (effect shape c) done c x.0 w old new (subst (λ q. Answered (effect shape c) q done c x.0 old new) refuses (subst (λ q. Answered q refusal done c x.0 old new) (same c) x.2))));
     idle = λ i plain. n.idle (ap (λ q. done && q) up ∙ i);
   })
 
   -- a packing, which may have written
-  pub packing_arm : (r : Request) (text : List ℕ) (done : Bool) (e e' : E) (a b : S) (w : Walk) (old new : List ℕ) → r ≡ Optimize text → Answers s own holds (told_by (λ c. Some answer.Done)) answer.Fail true done e e' a b old new → Steps s own holds r done e e' a b w w old new
-  packing_arm r text done e e' a b w old new is n = subst (λ q. Steps s own holds q done e e' a b w w old new) (sym is) (record {
+  pub packing_arm : (r : Request) (text : List ℕ) (done : Bool) (e e' : E) (a b : S) (w : Walk) (old new : List ℕ) → r ≡ Optimize text → Answers s own layout holds (told_by (λ c. Some answer.Done)) answer.Fail true done e e' a b old new → Steps s own layout holds r done e e' a b w w old new
+  packing_arm r text done e e' a b w old new is n = subst (λ q. Steps s own layout holds q done e e' a b w w old new) (sym is) (record {
     sound = n.sound;
     others = n.others;
+    numbered = n.numbered;
     applied_is = λ c h. let x = n.answered c h in (x.0, x.1, took_ends (Optimize text) (effect (Optimize text) c) done c x.0 w old new x.2);
     idle = λ i packs. absurd (let f : true ≡ false = packs in cc);
   })

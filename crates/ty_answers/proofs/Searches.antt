@@ -28,7 +28,7 @@ use Rattle.tc_engine.specs.Changes.{found_by, search_of, takes_out}
 use Rattle.tc_engine.specs.Effects.{IsFull, Makes}
 use Rattle.tc_engine.specs.Rows.{AreItems, Extends, is_long}
 use Rattle.tc_engine.specs.declared.rows.Rows.{Rows}
-use Rattle.ty_base.specs.Holding.{Held}
+use Rattle.ty_base.specs.Holding.{Held, Layout}
 use Rattle.ty_answers.specs.Answers.{Answered, Answers, IsFullBy, contents_of}
 use Rattle.ty_answers.specs.Calls.{meant}
 use Rattle.ty_answers.specs.Lists.{Gives, Opens, Undone, counted, no_rows, room}
@@ -196,7 +196,7 @@ whole_of whole found long is f l = is ∙ ap (λ b. b && not long) f ∙ ap not 
 not_found : (whole found long : Bool) → whole ≡ (found && not long) → found ≡ false → whole ≡ false
 not_found whole found long is f = is ∙ ap (λ b. b && not long) f
 
-module _ {S E : Type 0} (s : Ghosts S) (own : ℕ → Type 0) (holds : E → Files → Contents → Type 0) where
+module _ {S E : Type 0} (s : Ghosts S) (own : ℕ → Type 0) (layout : Files → Layout) (holds : E → Files → Contents → Type 0) where
   told_by_rows : (conditions : List (List ℕ)) (made : Result Bool RecErr) (r0 r1 : Rows) (begin : ℕ) (whole : Bool) (c : Contents) (old new : List ℕ)
       → begin ≡ length old → Opens r0 (old ++ no_rows) room → Extends r0 r1 → (gives : Gives made r1 begin Misc whole (counted r1 begin) new)
       → AreItems (option_map (λ o. o.1) (search_of conditions c)) gives.found r0 r1 → Answered (Told (search_of conditions c) c) reply.FailMisc whole c c old new
@@ -207,49 +207,51 @@ module _ {S E : Type 0} (s : Ghosts S) (own : ℕ → Type 0) (holds : E → Fil
 
   pub search_answers : (conditions : List (List ℕ)) (result made : Result Bool RecErr) (r0 r1 : Rows) (begin : ℕ) (e e' : E) (a b : S) (old new : List ℕ)
       → begin ≡ length old → Opens r0 (old ++ no_rows) room → Extends r0 r1
-      → IfOk made (λ done. Makes s own holds (found_by conditions) done e e' a b) → IfOk made (λ found. (c : Contents) → Held s holds e a c → AreItems (option_map (λ o. o.1) (search_of conditions c)) found r0 r1)
+      → IfOk made (λ done. Makes s own layout holds (found_by conditions) done e e' a b) → IfOk made (λ found. (c : Contents) → Held s holds e a c → AreItems (option_map (λ o. o.1) (search_of conditions c)) found r0 r1)
       → (takes_out conditions ≡ true → r1 ≡ r0) → (takes_out conditions ≡ false → Reads s (Held s holds) e e' a b) → Keeps s a b
       → IfOk result (λ whole. Gives made r1 begin Misc whole (counted r1 begin) new)
-      → IfOk result (λ done. Answers s own holds (meant (misc.Search conditions)) reply.FailMisc (takes_out conditions) done e e' a b old new)
+      → IfOk result (λ done. Answers s own layout holds (meant (misc.Search conditions)) reply.FailMisc (takes_out conditions) done e e' a b old new)
   search_answers conditions (Err x) made r0 r1 begin e e' a b old new at opens ext makes says quiet reads keeps gives = tt
   search_answers conditions (Ok whole) made r0 r1 begin e e' a b old new at opens ext makes says quiet reads keeps gives = go (takes_out conditions) refl gives.found refl
     where
-      made_is : Makes s own holds (found_by conditions) gives.found e e' a b
-      made_is = subst (λ (m : Result Bool RecErr). IfOk m (λ done. Makes s own holds (found_by conditions) done e e' a b)) gives.made_is makes
+      made_is : Makes s own layout holds (found_by conditions) gives.found e e' a b
+      made_is = subst (λ (m : Result Bool RecErr). IfOk m (λ done. Makes s own layout holds (found_by conditions) done e e' a b)) gives.made_is makes
 
       told : (c : Contents) → Held s holds e a c → Answered (Told (search_of conditions c) c) reply.FailMisc whole c c old new
       told c h =
           told_by_rows conditions made r0 r1 begin whole c old new at opens ext gives
           (subst (λ (m : Result Bool RecErr). IfOk m (λ found. (c : Contents) → Held s holds e a c → AreItems (option_map (λ o. o.1) (search_of conditions c)) found r0 r1)) gives.made_is says c h)
 
-      go : (takes : Bool) → takes ≡ takes_out conditions → (found : Bool) → found ≡ gives.found → Answers s own holds (meant (misc.Search conditions)) reply.FailMisc (takes_out conditions) whole e e' a b old new
+      go : (takes : Bool) → takes ≡ takes_out conditions → (found : Bool) → found ≡ gives.found → Answers s own layout holds (meant (misc.Search conditions)) reply.FailMisc (takes_out conditions) whole e e' a b old new
       go false is found f =
           let r = reads (sym is) in
-          read_answers s own holds (meant (misc.Search conditions)) reply.FailMisc (takes_out conditions) whole e e' a b old new r keeps
+          read_answers s own layout holds (meant (misc.Search conditions)) reply.FailMisc (takes_out conditions) whole e e' a b old new r keeps
           (λ c h. stays_meant (search_of conditions c) reply.FailMisc whole c old new (search_idle conditions c (sym is)) (told c h))
       go true is true f =
-          let m : Makes s own holds (found_by conditions) true e e' a b = subst (λ d. Makes s own holds (found_by conditions) d e e' a b) (sym f) made_is in
+          let m : Makes s own layout holds (found_by conditions) true e e' a b = subst (λ d. Makes s own layout holds (found_by conditions) d e e' a b) (sym f) made_is in
           let short : is_long r1 ≡ false = opened_short r1 (old ++ no_rows) room (is_long r1) refl (subst (λ r. Opens r (old ++ no_rows) room) (sym (quiet (sym is))) opens) in
           let stands : whole ≡ true = whole_of whole gives.found (is_long r1) gives.whole_is (sym f) short in
-          subst (λ w. Answers s own holds (meant (misc.Search conditions)) reply.FailMisc (takes_out conditions) w e e' a b old new) (sym stands) (record {
+          subst (λ w. Answers s own layout holds (meant (misc.Search conditions)) reply.FailMisc (takes_out conditions) w e e' a b old new) (sym stands) (record {
             sound = m.sound;
             others = m.others;
+            numbered = m.numbered;
             answered = λ c h. let g = m.made refl c h in (g.0, g.2, made_meant (search_of conditions c) reply.FailMisc c g.0 old new g.1 (subst (λ w. Answered (Told (search_of conditions c) c) reply.FailMisc w c c old new) stands (told c h)));
             idle = λ i. absurd (let never : true ≡ false = is ∙ i in cc);
           })
       go true is false f =
-          let m : Makes s own holds (found_by conditions) false e e' a b = subst (λ d. Makes s own holds (found_by conditions) d e e' a b) (sym f) made_is in
+          let m : Makes s own layout holds (found_by conditions) false e e' a b = subst (λ d. Makes s own layout holds (found_by conditions) d e e' a b) (sym f) made_is in
           let fails : whole ≡ false = not_found whole gives.found (is_long r1) gives.whole_is (sym f) in
-          subst (λ w. Answers s own holds (meant (misc.Search conditions)) reply.FailMisc (takes_out conditions) w e e' a b old new) (sym fails) (record {
+          subst (λ w. Answers s own layout holds (meant (misc.Search conditions)) reply.FailMisc (takes_out conditions) w e e' a b old new) (sym fails) (record {
             sound = m.sound;
             others = m.others;
+            numbered = m.numbered;
             answered = λ c h. (c, (m.same refl).means c h, fails_meant (search_of conditions c) reply.FailMisc c old new (m.fails refl c h) (subst (λ w. Answered (Told (search_of conditions c) c) reply.FailMisc w c c old new) fails (told c h)));
             idle = λ i. only_reads s (Held s holds) e e' a b keeps (m.same refl);
           })
 
   -- where it is refused it has changed nothing, or the space is given up
   pub search_refused : (conditions : List (List ℕ)) (result made : Result Bool RecErr) (r0 r1 : Rows) (front : List ℕ) (most : ℕ) (e e' : E) (a b : S)
-      → Opens r0 front most → IfOk made (λ done. Makes s own holds (found_by conditions) done e e' a b)
+      → Opens r0 front most → IfOk made (λ done. Makes s own layout holds (found_by conditions) done e e' a b)
       → (takes_out conditions ≡ true → r1 ≡ r0) → (takes_out conditions ≡ false → Reads s (Held s holds) e e' a b)
       → Undone made r1 result → OnErr made (Refuses s (Held s holds) e e' a b) → OnErr result (Refuses s (Held s holds) e e' a b)
   search_refused conditions (Ok whole) made r0 r1 front most e e' a b opens makes quiet reads undone refused = tt

@@ -17,7 +17,7 @@ use Rattle.tc_model.specs.Texts.{maximum_of}
 use Rattle.ty_answers.specs.Calls.{meant}
 use Rattle.tc_engine.specs.Rows.{Adds, AreItems, Extends, IsItem, bytes_of, item_row, pair_rows}
 use Rattle.tc_engine.specs.declared.rows.Rows.{Rows}
-use Rattle.ty_base.specs.Holding.{Held}
+use Rattle.ty_base.specs.Holding.{Held, Layout}
 use Rattle.ty_answers.specs.Answers.{Answered, Answers, Request, fail_reply, told_by}
 use Rattle.ty_answers.specs.Lists.{Gives, Opens, counted, no_rows, room}
 use Rattle.ty_answers.specs.declared.voice.Voice.{Voice}
@@ -53,23 +53,25 @@ range_meant c from to o = option_map {U = Contents × Reply} (λ x. (x.0, reply.
 pub range_some : (c : Contents) (from maximum : List ℕ) (to : Option (List ℕ)) (most : Option ℕ) → Some most ≡ maximum_of maximum → Some (c, reply.List (texts_of (ranged c from to most))) ≡ meant (misc.Range from maximum to) c
 range_some c from maximum to most is = ap (range_meant c from to) is
 
-module _ {S E : Type 0} (s : Ghosts S) (own : ℕ → Type 0) (holds : E → Files → Contents → Type 0) where
+module _ {S E : Type 0} (s : Ghosts S) (own : ℕ → Type 0) (layout : Files → Layout) (holds : E → Files → Contents → Type 0) where
   -- a request that only reads
   pub read_answers : (effect : Request) (refusal : Reply) (updating done : Bool) (e e' : E) (a b : S) (old new : List ℕ) → Reads s (Held s holds) e e' a b → Keeps s a b → ((c : Contents) → Held s holds e a c → Answered (effect c) refusal done c c old new)
-      → Answers s own holds effect refusal updating done e e' a b old new
+      → Answers s own layout holds effect refusal updating done e e' a b old new
   read_answers effect refusal updating done e e' a b old new reads keeps says = record {
     sound = reads.sound;
     others = record { same = λ t g other. reads.now t g };
+    numbered = λ c h. ap (λ (f : Files). (layout f).numbers) (λ i g. reads.now h.0 g i);
     answered = λ c h. (c, reads.means c h, says c h);
     idle = λ i. record { keeps = keeps; files = reads.now; untouched = reads.touched; is_sound = reads.sound };
   }
 
   -- the same request by another name
-  pub same_effect : (f g : Request) (refusal : Reply) (updating : Bool) (result : Result Bool RecErr) (e e' : E) (a b : S) (old new : List ℕ) → ((c : Contents) → f c ≡ g c) → IfOk result (λ done. Answers s own holds f refusal updating done e e' a b old new)
-      → IfOk result (λ done. Answers s own holds g refusal updating done e e' a b old new)
+  pub same_effect : (f g : Request) (refusal : Reply) (updating : Bool) (result : Result Bool RecErr) (e e' : E) (a b : S) (old new : List ℕ) → ((c : Contents) → f c ≡ g c) → IfOk result (λ done. Answers s own layout holds f refusal updating done e e' a b old new)
+      → IfOk result (λ done. Answers s own layout holds g refusal updating done e e' a b old new)
   same_effect f g refusal updating (Ok done) e e' a b old new same h = record {
     sound = h.sound;
     others = h.others;
+    numbered = h.numbered;
     answered = λ c held. let x = h.answered c held in (x.0, x.1, subst (λ y. Answered y refusal done c x.0 old new) (same c) x.2);
     idle = h.idle;
   }
@@ -80,7 +82,7 @@ module _ {S E : Type 0} (s : Ghosts S) (own : ℕ → Type 0) (holds : E → Fil
       → begin ≡ length old → Opens r0 (old ++ no_rows) room → Extends r0 r1 → IfOk result (λ whole. Gives made r1 begin voice whole (counted r1 begin) new)
       → ((found : Bool) → made ≡ Ok found → (c : Contents) → Held s holds e a c → IsListed (f c) found r0 r1)
       → Reads s (Held s holds) e e' a b → Keeps s a b
-      → IfOk result (λ done. Answers s own holds (told_by f) (fail_reply voice) updating done e e' a b old new)
+      → IfOk result (λ done. Answers s own layout holds (told_by f) (fail_reply voice) updating done e e' a b old new)
   list_read f voice updating (Ok whole) made r0 r1 begin e e' a b old new at opens ext gives listed reads keeps =
       read_answers (told_by f) (fail_reply voice) updating whole e e' a b old new reads keeps (λ c h.
       answered (f c) voice c r0 r1 no_rows room begin made whole old (counted r1 begin) new at opens ext gives (list_told (f c) r0 r1 old begin gives.found at opens (listed gives.found gives.made_is c h)))
@@ -90,7 +92,7 @@ module _ {S E : Type 0} (s : Ghosts S) (own : ℕ → Type 0) (holds : E → Fil
   pub items_read : (f : Contents → List (List ℕ)) (voice : Voice) (updating : Bool) (result made : Result Bool RecErr) (filled : Result (Unit {0}) RecErr) (r0 r1 : Rows) (begin : ℕ) (e e' : E) (a b : S) (old new : List ℕ)
       → begin ≡ length old → Opens r0 (old ++ no_rows) room → Extends r0 r1 → made ≡ result_and filled (Ok true) → OnOk filled ((c : Contents) → Held s holds e a c → Adds r0 r1 (map item_row (f c)))
       → Reads s (Held s holds) e e' a b → Keeps s a b → IfOk result (λ whole. Gives made r1 begin voice whole (counted r1 begin) new)
-      → IfOk result (λ done. Answers s own holds (told_by (λ c. Some (reply.List (f c)))) (fail_reply voice) updating done e e' a b old new)
+      → IfOk result (λ done. Answers s own layout holds (told_by (λ c. Some (reply.List (f c)))) (fail_reply voice) updating done e e' a b old new)
   items_read f voice updating result made filled r0 r1 begin e e' a b old new at opens ext is adds reads keeps gives =
       list_read (λ c. Some (reply.List (f c))) voice updating result made r0 r1 begin e e' a b old new at opens ext gives
       (λ found m c h. items_listed (f c) r0 r1 found (and_found filled found (sym is ∙ m)) (and_ok ((c : Contents) → Held s holds e a c → Adds r0 r1 (map item_row (f c))) filled found (sym is ∙ m) adds c h)) reads keeps
@@ -98,7 +100,7 @@ module _ {S E : Type 0} (s : Ghosts S) (own : ℕ → Type 0) (holds : E → Fil
   pub pairs_read : (f : Contents → List Pair) (voice : Voice) (updating : Bool) (result made : Result Bool RecErr) (filled : Result (Unit {0}) RecErr) (r0 r1 : Rows) (begin : ℕ) (e e' : E) (a b : S) (old new : List ℕ)
       → begin ≡ length old → Opens r0 (old ++ no_rows) room → Extends r0 r1 → made ≡ result_and filled (Ok true) → OnOk filled ((c : Contents) → Held s holds e a c → Adds r0 r1 (pair_rows (f c)))
       → Reads s (Held s holds) e e' a b → Keeps s a b → IfOk result (λ whole. Gives made r1 begin voice whole (counted r1 begin) new)
-      → IfOk result (λ done. Answers s own holds (told_by (λ c. Some (reply.Pairs (f c)))) (fail_reply voice) updating done e e' a b old new)
+      → IfOk result (λ done. Answers s own layout holds (told_by (λ c. Some (reply.Pairs (f c)))) (fail_reply voice) updating done e e' a b old new)
   pairs_read f voice updating result made filled r0 r1 begin e e' a b old new at opens ext is adds reads keeps gives =
       list_read (λ c. Some (reply.Pairs (f c))) voice updating result made r0 r1 begin e e' a b old new at opens ext gives
       (λ found m c h. pairs_listed (f c) r0 r1 found (and_found filled found (sym is ∙ m)) (and_ok ((c : Contents) → Held s holds e a c → Adds r0 r1 (pair_rows (f c))) filled found (sym is ∙ m) adds c h)) reads keeps
@@ -107,7 +109,7 @@ module _ {S E : Type 0} (s : Ghosts S) (own : ℕ → Type 0) (holds : E → Fil
   pub value_read : (f : Contents → Option (List ℕ)) (voice : Voice) (updating : Bool) (result made : Result Bool RecErr) (r0 r1 : Rows) (begin : ℕ) (e e' : E) (a b : S) (old new : List ℕ)
       → begin ≡ length old → Opens r0 (old ++ 0 ∷ []) 67108863 → Extends r0 r1 → IfOk made (λ found. (c : Contents) → Held s holds e a c → IsItem (f c) found r0 r1)
       → Reads s (Held s holds) e e' a b → Keeps s a b → IfOk result (λ whole. Gives made r1 begin voice whole (bytes_of r1) new)
-      → IfOk result (λ done. Answers s own holds (told_by (λ c. option_map (λ v. reply.Value v) (f c))) (fail_reply voice) updating done e e' a b old new)
+      → IfOk result (λ done. Answers s own layout holds (told_by (λ c. option_map (λ v. reply.Value v) (f c))) (fail_reply voice) updating done e e' a b old new)
   value_read f voice updating (Ok whole) made r0 r1 begin e e' a b old new at opens ext item reads keeps gives =
       let items = subst (λ (m : Result Bool RecErr). IfOk m (λ found. (c : Contents) → Held s holds e a c → IsItem (f c) found r0 r1)) gives.made_is item in
       read_answers (told_by (λ c. option_map (λ v. reply.Value v) (f c))) (fail_reply voice) updating whole e e' a b old new reads keeps (λ c h.
@@ -117,7 +119,7 @@ module _ {S E : Type 0} (s : Ghosts S) (own : ℕ → Type 0) (holds : E → Fil
   pub element_read : (f : Contents → Option (List ℕ)) (voice : Voice) (updating : Bool) (result made : Result Bool RecErr) (r0 r1 : Rows) (begin : ℕ) (e e' : E) (a b : S) (old new : List ℕ)
       → begin ≡ length old → Opens r0 (old ++ no_rows) room → Extends r0 r1 → IfOk made (λ found. (c : Contents) → Held s holds e a c → IsItem (f c) found r0 r1)
       → Reads s (Held s holds) e e' a b → Keeps s a b → IfOk result (λ whole. Gives made r1 begin voice whole (counted r1 begin) new)
-      → IfOk result (λ done. Answers s own holds (told_by (λ c. option_map (λ v. reply.List (v ∷ [])) (f c))) (fail_reply voice) updating done e e' a b old new)
+      → IfOk result (λ done. Answers s own layout holds (told_by (λ c. option_map (λ v. reply.List (v ∷ [])) (f c))) (fail_reply voice) updating done e e' a b old new)
   element_read f voice updating result made r0 r1 begin e e' a b old new at opens ext item reads keeps gives =
       list_read (λ c. option_map (λ v. reply.List (v ∷ [])) (f c)) voice updating result made r0 r1 begin e e' a b old new at opens ext gives
       (λ found m c h. item_listed (f c) r0 r1 found (subst (λ (x : Result Bool RecErr). IfOk x (λ found. (c : Contents) → Held s holds e a c → IsItem (f c) found r0 r1)) m item c h)) reads keeps
@@ -126,7 +128,7 @@ module _ {S E : Type 0} (s : Ghosts S) (own : ℕ → Type 0) (holds : E → Fil
   pub texts_read : (f : Contents → Option (List (List ℕ))) (voice : Voice) (updating : Bool) (result made : Result Bool RecErr) (r0 r1 : Rows) (begin : ℕ) (e e' : E) (a b : S) (old new : List ℕ)
       → begin ≡ length old → Opens r0 (old ++ no_rows) room → Extends r0 r1 → IfOk made (λ found. (c : Contents) → Held s holds e a c → AreItems (f c) found r0 r1)
       → Reads s (Held s holds) e e' a b → Keeps s a b → IfOk result (λ whole. Gives made r1 begin voice whole (counted r1 begin) new)
-      → IfOk result (λ done. Answers s own holds (told_by (λ c. option_map (λ items. reply.List items) (f c))) (fail_reply voice) updating done e e' a b old new)
+      → IfOk result (λ done. Answers s own layout holds (told_by (λ c. option_map (λ items. reply.List items) (f c))) (fail_reply voice) updating done e e' a b old new)
   texts_read f voice updating result made r0 r1 begin e e' a b old new at opens ext items reads keeps gives =
       list_read (λ c. option_map (λ items. reply.List items) (f c)) voice updating result made r0 r1 begin e e' a b old new at opens ext gives
       (λ found m c h. texts_listed (f c) r0 r1 found (subst (λ (x : Result Bool RecErr). IfOk x (λ found. (c : Contents) → Held s holds e a c → AreItems (f c) found r0 r1)) m items c h)) reads keeps

@@ -10,7 +10,7 @@ use Rattle.tc_space.specs.declared.space.Space.{Ghosts}
 use Rattle.ty_wire.specs.Spelling.{reply_bytes}
 use Rattle.tc_model.specs.Contents.{Contents}
 use Rattle.tc_model.specs.Apply.{Effect, fits}
-use Rattle.ty_base.specs.Holding.{Held}
+use Rattle.ty_base.specs.Holding.{Held, KeepsNumbers, Layout}
 use Rattle.tc_engine.specs.Changes.{Change}
 use Rattle.ty_answers.specs.declared.voice.Voice.{Voice}
 use Rattle.ty_answers.specs.declared.voice.Voice.TheVariants.{Plain, Silent, Misc}
@@ -58,10 +58,11 @@ pub record Answered (e : Effect) (refusal : Reply) (done : Bool) (c d : Contents
   pub contents : d ≡ contents_of e c
   pub bytes : new ≡ old ++ reply_bytes (reply_of e refusal)
 
--- the request is answered; where nothing was updated, nothing was written
-pub record Answers {S E : Type 0} (s : Ghosts S) (own : ℕ → Type 0) (holds : E → Files → Contents → Type 0) (effect : Request) (refusal : Reply) (updating : Bool) (done : Bool) (e e' : E) (a b : S) (old new : List ℕ) : Type 0 where
+-- the request is answered, and the numbers of the files stay; where nothing was updated, nothing was written
+pub record Answers {S E : Type 0} (s : Ghosts S) (own : ℕ → Type 0) (layout : Files → Layout) (holds : E → Files → Contents → Type 0) (effect : Request) (refusal : Reply) (updating : Bool) (done : Bool) (e e' : E) (a b : S) (old new : List ℕ) : Type 0 where
   pub sound : s.sound b
   pub others : Others s own a b
+  pub numbered : (c : Contents) → Held s holds e a c → KeepsNumbers (layout (s.now a)) (layout (s.now b))
   pub answered : (c : Contents) → Held s holds e a c → (d : Contents) × Held s holds e' b d × Answered (effect c) refusal done c d old new
   pub idle : (done && updating) ≡ false → OnlyReads s a b
 
@@ -75,18 +76,18 @@ pub record IsFullBy {S E : Type 0} (s : Ghosts S) (holds : E → Files → Conte
 abbrev pub OnlyMemory : {T : Type 0} → Result T RecErr → Type 0
 OnlyMemory result = (IsErrOf result rec.Fault → ⊥) × (IsErrOf result rec.Full → ⊥)
 
-module _ {S E : Type 0} (s : Ghosts S) (own : ℕ → Type 0) (holds : E → Files → Contents → Type 0) where
+module _ {S E : Type 0} (s : Ghosts S) (own : ℕ → Type 0) (layout : Files → Layout) (holds : E → Files → Contents → Type 0) where
   -- a request that may change contents
   abbrev pub AnswersBy : Result Bool RecErr → Request → Reply → Bool → E → E → S → S → List ℕ → List ℕ → Type 0
-  AnswersBy result effect refusal updating e e' a b old new = IfOk result (λ done. Answers s own holds effect refusal updating done e e' a b old new)
+  AnswersBy result effect refusal updating e e' a b old new = IfOk result (λ done. Answers s own layout holds effect refusal updating done e e' a b old new)
 
   -- one that only asks
   abbrev pub TellsBy : Result Bool RecErr → Request → Reply → E → E → S → S → List ℕ → List ℕ → Type 0
-  TellsBy result effect refusal e e' a b old new = IfOk result (λ done. Answers s own holds effect refusal false done e e' a b old new)
+  TellsBy result effect refusal e e' a b old new = IfOk result (λ done. Answers s own layout holds effect refusal false done e e' a b old new)
 
   -- one that is a change, by how it is answered
   abbrev pub AnswersChange : Result Bool RecErr → Voice → Change → E → E → S → S → List ℕ → List ℕ → Type 0
-  AnswersChange result voice f e e' a b old new = IfOk result (λ done. Answers s own holds (changed_by (done_reply voice) f) (fail_reply voice) true done e e' a b old new)
+  AnswersChange result voice f e e' a b old new = IfOk result (λ done. Answers s own layout holds (changed_by (done_reply voice) f) (fail_reply voice) true done e e' a b old new)
 
 module _ {S E : Type 0} (s : Ghosts S) (holds : E → Files → Contents → Type 0) (fills : E → S → S → Contents → Contents → Type 0) (result : Result Bool RecErr) where
   abbrev pub FullAnswer : Request → E → S → S → Type 0

@@ -26,7 +26,7 @@ pub fn store<E: Engine>(
     reply: &mut Blob,
 ) -> Result<bool, RecErr>
     requires { IsReady E.S.Space E.holds engine.old space.old }
-    ensures answers { AnswersChange E.S.Space E.own E.holds result voice (stored mode key value) engine.old engine.new space.old space.new reply.old reply.new }
+    ensures answers { AnswersChange E.S.Space E.own E.layout E.holds result voice (stored mode key value) engine.old engine.new space.old space.new reply.old reply.new }
     ensures refused { RefusesHeld E.S.Space E.holds result engine.old engine.new space.old space.new }
     ensures front { IsPrefix reply.old reply.new }
     ensures full { FullChange E.S.Space E.holds E.fills result voice (stored mode key value) engine.old space.old space.new }
@@ -50,7 +50,7 @@ pub fn push<E: Engine>(
     reply: &mut Blob,
 ) -> Result<bool, RecErr>
     requires { IsReady E.S.Space E.holds engine.old space.old }
-    ensures answers { AnswersChange E.S.Space E.own E.holds result voice (pushed key value) engine.old engine.new space.old space.new reply.old reply.new }
+    ensures answers { AnswersChange E.S.Space E.own E.layout E.holds result voice (pushed key value) engine.old engine.new space.old space.new reply.old reply.new }
     ensures refused { RefusesHeld E.S.Space E.holds result engine.old engine.new space.old space.new }
     ensures front { IsPrefix reply.old reply.new }
     ensures full { FullChange E.S.Space E.holds E.fills result voice (pushed key value) engine.old space.old space.new }
@@ -73,7 +73,7 @@ pub fn out<E: Engine>(
     reply: &mut Blob,
 ) -> Result<bool, RecErr>
     requires { IsReady E.S.Space E.holds engine.old space.old }
-    ensures answers { AnswersChange E.S.Space E.own E.holds result voice (taken key.now) engine.old engine.new space.old space.new reply.old reply.new }
+    ensures answers { AnswersChange E.S.Space E.own E.layout E.holds result voice (taken key.now) engine.old engine.new space.old space.new reply.old reply.new }
     ensures refused { RefusesHeld E.S.Space E.holds result engine.old engine.new space.old space.new }
     ensures front { IsPrefix reply.old reply.new }
     ensures full { FullChange E.S.Space E.holds E.fills result voice (taken key.now) engine.old space.old space.new }
@@ -96,7 +96,7 @@ pub fn store_all<E: Engine>(
     reply: &mut Blob,
 ) -> Result<bool, RecErr>
     requires { IsReady E.S.Space E.holds engine.old space.old }
-    ensures answers { AnswersChange E.S.Space E.own E.holds result voice (all_stored pairs) engine.old engine.new space.old space.new reply.old reply.new }
+    ensures answers { AnswersChange E.S.Space E.own E.layout E.holds result voice (all_stored pairs) engine.old engine.new space.old space.new reply.old reply.new }
     ensures refused { RefusesHeld E.S.Space E.holds result engine.old engine.new space.old space.new }
     ensures front { IsPrefix reply.old reply.new }
     ensures full { FullChange E.S.Space E.holds E.fills result voice (all_stored pairs) engine.old space.old space.new }
@@ -119,7 +119,7 @@ pub fn push_all<E: Engine>(
     reply: &mut Blob,
 ) -> Result<bool, RecErr>
     requires { IsReady E.S.Space E.holds engine.old space.old }
-    ensures answers { AnswersChange E.S.Space E.own E.holds result voice (all_pushed pairs) engine.old engine.new space.old space.new reply.old reply.new }
+    ensures answers { AnswersChange E.S.Space E.own E.layout E.holds result voice (all_pushed pairs) engine.old engine.new space.old space.new reply.old reply.new }
     ensures refused { RefusesHeld E.S.Space E.holds result engine.old engine.new space.old space.new }
     ensures front { IsPrefix reply.old reply.new }
     ensures full { FullChange E.S.Space E.holds E.fills result voice (all_pushed pairs) engine.old space.old space.new }
@@ -144,7 +144,7 @@ pub fn store_row<E: Engine>(
     reply: &mut Blob,
 ) -> Result<bool, RecErr>
     requires { IsReady E.S.Space E.holds engine.old space.old }
-    ensures answers { AnswersChange E.S.Space E.own E.holds result voice (row_stored mode key columns) engine.old engine.new space.old space.new reply.old reply.new }
+    ensures answers { AnswersChange E.S.Space E.own E.layout E.holds result voice (row_stored mode key columns) engine.old engine.new space.old space.new reply.old reply.new }
     ensures refused { RefusesHeld E.S.Space E.holds result engine.old engine.new space.old space.new }
     ensures front { IsPrefix reply.old reply.new }
     ensures full { FullChange E.S.Space E.holds E.fills result voice (row_stored mode key columns) engine.old space.old space.new }
@@ -168,7 +168,7 @@ pub fn set_index<E: Engine>(
     reply: &mut Blob,
 ) -> Result<bool, RecErr>
     requires { IsReady E.S.Space E.holds engine.old space.old }
-    ensures answers { AnswersChange E.S.Space E.own E.holds result voice (index_set column code.now) engine.old engine.new space.old space.new reply.old reply.new }
+    ensures answers { AnswersChange E.S.Space E.own E.layout E.holds result voice (index_set column code.now) engine.old engine.new space.old space.new reply.old reply.new }
     ensures refused { RefusesHeld E.S.Space E.holds result engine.old engine.new space.old space.new }
     ensures front { IsPrefix reply.old reply.new }
     ensures full { FullChange E.S.Space E.holds E.fills result voice (index_set column code.now) engine.old space.old space.new }
@@ -191,7 +191,7 @@ pub fn clear_all<E: Engine>(
     reply: &mut Blob,
 ) -> Result<bool, RecErr>
     requires { IsReady E.S.Space E.holds engine.old space.old }
-    ensures answers { AnswersChange E.S.Space E.own E.holds result voice (all_cleared keys) engine.old engine.new space.old space.new reply.old reply.new }
+    ensures answers { AnswersChange E.S.Space E.own E.layout E.holds result voice (all_cleared keys) engine.old engine.new space.old space.new reply.old reply.new }
     ensures refused { RefusesHeld E.S.Space E.holds result engine.old engine.new space.old space.new }
     ensures front { IsPrefix reply.old reply.new }
     ensures full { FullChange E.S.Space E.holds E.fills result voice (all_cleared keys) engine.old space.old space.new }
@@ -213,7 +213,7 @@ pub fn clear<E: Engine>(
     reply: &mut Blob,
 ) -> Result<bool, RecErr>
     requires { IsReady E.S.Space E.holds engine.old space.old }
-    ensures answers { AnswersChange E.S.Space E.own E.holds result voice all_gone engine.old engine.new space.old space.new reply.old reply.new }
+    ensures answers { AnswersChange E.S.Space E.own E.layout E.holds result voice all_gone engine.old engine.new space.old space.new reply.old reply.new }
     ensures refused { RefusesHeld E.S.Space E.holds result engine.old engine.new space.old space.new }
     ensures front { IsPrefix reply.old reply.new }
     ensures full { FullChange E.S.Space E.holds E.fills result voice all_gone engine.old space.old space.new }
@@ -235,7 +235,7 @@ pub fn optimize<E: Engine>(
 ) -> Result<bool, RecErr>
     requires { IsReady E.S.Space E.holds engine.old space.old }
     ensures tight { OnOk result (E.tight engine.new Keep) }
-    ensures answers { AnswersBy E.S.Space E.own E.holds result (told_by (λ c. Some answer.Done)) answer.Fail true engine.old engine.new space.old space.new reply.old reply.new }
+    ensures answers { AnswersBy E.S.Space E.own E.layout E.holds result (told_by (λ c. Some answer.Done)) answer.Fail true engine.old engine.new space.old space.new reply.old reply.new }
     ensures refused { RefusesHeld E.S.Space E.holds result engine.old engine.new space.old space.new }
     ensures front { IsPrefix reply.old reply.new }
     ensures full { OnlyLogIsFull E.S.Space result space.new }

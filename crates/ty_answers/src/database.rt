@@ -52,7 +52,7 @@ fn serve<E: Engine>(
 ) -> Result<bool, RecErr>
     requires ready { IsReady E.S.Space E.holds engine.old space.old }
     requires updating { updating ≡ updates request }
-    ensures steps { StepsBy E.S.Space E.own E.holds result request engine.old engine.new space.old space.new walk.old walk.new reply.old reply.new }
+    ensures steps { StepsBy E.S.Space E.own E.layout E.holds result request engine.old engine.new space.old space.new walk.old walk.new reply.old reply.new }
     ensures tight { OnOk result (is_optimize request ≡ true → E.tight engine.new Keep) }
     ensures declines { OnErr result (Declines E.S.Space E.holds engine.old engine.new space.old space.new walk.old walk.new) }
     ensures front { IsPrefix reply.old reply.new }
@@ -127,6 +127,8 @@ impl<E: Storage> Storage for Database<E> {
     ghost tight = { λ b. E.tight (engine_of b) };
 
     ghost packed = { E.packed };
+
+    ghost layout = { E.layout };
 
     ghost no_logs = { E.no_logs };
 

@@ -32,7 +32,7 @@ fn perform<E: Engine>(
     reply: &mut Blob,
 ) -> Result<bool, RecErr>
     requires { IsReady E.S.Space E.holds engine.old space.old }
-    ensures answers { AnswersBy E.S.Space E.own E.holds result (meant misc) FailMisc (misc_updates misc) engine.old engine.new space.old space.new reply.old reply.new }
+    ensures answers { AnswersBy E.S.Space E.own E.layout E.holds result (meant misc) FailMisc (misc_updates misc) engine.old engine.new space.old space.new reply.old reply.new }
     ensures refused { RefusesHeld E.S.Space E.holds result engine.old engine.new space.old space.new }
     ensures front { IsPrefix reply.old reply.new }
     ensures writes { IsErrOf result RecErr.Full → misc_updates misc ≡ true }
@@ -85,7 +85,7 @@ pub fn call<E: Engine>(
 ) -> Result<bool, RecErr>
     requires ready { IsReady E.S.Space E.holds engine.old space.old }
     requires updating { updating ≡ updates_call name.now args.now }
-    ensures answers { AnswersBy E.S.Space E.own E.holds result (called name.now options args.now) FailMisc (updates_call name.now args.now) engine.old engine.new space.old space.new reply.old reply.new }
+    ensures answers { AnswersBy E.S.Space E.own E.layout E.holds result (called name.now options args.now) FailMisc (updates_call name.now args.now) engine.old engine.new space.old space.new reply.old reply.new }
     ensures refused { RefusesHeld E.S.Space E.holds result engine.old engine.new space.old space.new }
     ensures front { IsPrefix reply.old reply.new }
     ensures writes { IsErrOf result RecErr.Full → updates_call name.now args.now ≡ true }

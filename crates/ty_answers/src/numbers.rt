@@ -53,7 +53,7 @@ pub fn shift<E: Engine>(
     reply: &mut Blob,
 ) -> Result<bool, RecErr>
     requires { IsReady E.S.Space E.holds engine.old space.old }
-    ensures answers { AnswersBy E.S.Space E.own E.holds result (shifted key value.now width) Fail true engine.old engine.new space.old space.new reply.old reply.new }
+    ensures answers { AnswersBy E.S.Space E.own E.layout E.holds result (shifted key value.now width) Fail true engine.old engine.new space.old space.new reply.old reply.new }
     ensures refused { RefusesHeld E.S.Space E.holds result engine.old engine.new space.old space.new }
     ensures front { IsPrefix reply.old reply.new }
     ensures full { FullAnswer E.S.Space E.holds E.fills result (shifted key value.now width) engine.old space.old space.new }
@@ -78,7 +78,7 @@ pub fn add<E: Engine>(
     reply: &mut Blob,
 ) -> Result<bool, RecErr>
     requires { IsReady E.S.Space E.holds engine.old space.old }
-    ensures answers { AnswersBy E.S.Space E.own E.holds result (added key number) Fail true engine.old engine.new space.old space.new reply.old reply.new }
+    ensures answers { AnswersBy E.S.Space E.own E.layout E.holds result (added key number) Fail true engine.old engine.new space.old space.new reply.old reply.new }
     ensures refused { RefusesHeld E.S.Space E.holds result engine.old engine.new space.old space.new }
     ensures front { IsPrefix reply.old reply.new }
     ensures full { FullAnswer E.S.Space E.holds E.fills result (added key number) engine.old space.old space.new }

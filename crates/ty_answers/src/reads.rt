@@ -98,7 +98,7 @@ pub fn get<E: Engine>(
     reply: &mut Blob,
 ) -> Result<bool, RecErr>
     requires { IsReady E.S.Space E.holds engine.old space.old }
-    ensures answers { TellsBy E.S.Space E.own E.holds result (got key.now) answer.Fail engine.old engine.new space.old space.new reply.old reply.new }
+    ensures answers { TellsBy E.S.Space E.own E.layout E.holds result (got key.now) answer.Fail engine.old engine.new space.old space.new reply.old reply.new }
     ensures reads { ReadsHeld E.S.Space E.holds engine.old engine.new space.old space.new }
     ensures front { IsPrefix reply.old reply.new }
     ensures keeps { Keeps E.S.Space space.old space.new }
@@ -118,7 +118,7 @@ pub fn vsiz<E: Engine>(
     reply: &mut Blob,
 ) -> Result<bool, RecErr>
     requires { IsReady E.S.Space E.holds engine.old space.old }
-    ensures answers { TellsBy E.S.Space E.own E.holds result (got_len key.now) answer.Fail engine.old engine.new space.old space.new reply.old reply.new }
+    ensures answers { TellsBy E.S.Space E.own E.layout E.holds result (got_len key.now) answer.Fail engine.old engine.new space.old space.new reply.old reply.new }
     ensures reads { ReadsHeld E.S.Space E.holds engine.old engine.new space.old space.new }
     ensures front { IsPrefix reply.old reply.new }
     ensures keeps { Keeps E.S.Space space.old space.new }
@@ -182,7 +182,7 @@ pub fn mget<E: Engine>(
     reply: &mut Blob,
 ) -> Result<bool, RecErr>
     requires { IsReady E.S.Space E.holds engine.old space.old }
-    ensures answers { TellsBy E.S.Space E.own E.holds result (got_all keys.now) answer.Fail engine.old engine.new space.old space.new reply.old reply.new }
+    ensures answers { TellsBy E.S.Space E.own E.layout E.holds result (got_all keys.now) answer.Fail engine.old engine.new space.old space.new reply.old reply.new }
     ensures reads { ReadsHeld E.S.Space E.holds engine.old engine.new space.old space.new }
     ensures front { IsPrefix reply.old reply.new }
     ensures keeps { Keeps E.S.Space space.old space.new }
@@ -221,7 +221,7 @@ pub fn fwmkeys<E: Engine>(
     reply: &mut Blob,
 ) -> Result<bool, RecErr>
     requires { IsReady E.S.Space E.holds engine.old space.old }
-    ensures answers { TellsBy E.S.Space E.own E.holds result (got_keys prefix.now maximum) answer.Fail engine.old engine.new space.old space.new reply.old reply.new }
+    ensures answers { TellsBy E.S.Space E.own E.layout E.holds result (got_keys prefix.now maximum) answer.Fail engine.old engine.new space.old space.new reply.old reply.new }
     ensures reads { ReadsHeld E.S.Space E.holds engine.old engine.new space.old space.new }
     ensures front { IsPrefix reply.old reply.new }
     ensures keeps { Keeps E.S.Space space.old space.new }
@@ -243,7 +243,7 @@ pub fn fwmkeys<E: Engine>(
 /// Answers the number of pairs of a tree, else of keys.
 pub fn rnum<E: Engine>(engine: &E, _space: &E::S, reply: &mut Blob) -> Result<bool, RecErr>
     requires { IsReady E.S.Space E.holds engine.now _space.now }
-    ensures answers { TellsBy E.S.Space E.own E.holds result counted_keys answer.Fail engine.now engine.now _space.now _space.now reply.old reply.new }
+    ensures answers { TellsBy E.S.Space E.own E.layout E.holds result counted_keys answer.Fail engine.now engine.now _space.now _space.now reply.old reply.new }
     ensures err { OnErr result (reply.new ≡ reply.old) }
     ensures front { IsPrefix reply.old reply.new }
     ensures cause { OnlyMemory result }
@@ -254,7 +254,7 @@ pub fn rnum<E: Engine>(engine: &E, _space: &E::S, reply: &mut Blob) -> Result<bo
 /// Answers the bytes of all keys and values.
 pub fn size<E: Engine>(engine: &mut E, space: &mut E::S, reply: &mut Blob) -> Result<bool, RecErr>
     requires { IsReady E.S.Space E.holds engine.old space.old }
-    ensures answers { TellsBy E.S.Space E.own E.holds result sized answer.Fail engine.old engine.new space.old space.new reply.old reply.new }
+    ensures answers { TellsBy E.S.Space E.own E.layout E.holds result sized answer.Fail engine.old engine.new space.old space.new reply.old reply.new }
     ensures reads { ReadsHeld E.S.Space E.holds engine.old engine.new space.old space.new }
     ensures front { IsPrefix reply.old reply.new }
     ensures keeps { Keeps E.S.Space space.old space.new }
@@ -272,7 +272,7 @@ pub fn stat<E: Engine>(
     reply: &mut Blob,
 ) -> Result<bool, RecErr>
     requires { IsReady E.S.Space E.holds engine.old space.old }
-    ensures answers { TellsBy E.S.Space E.own E.holds result lines_told answer.Fail engine.old engine.new space.old space.new reply.old reply.new }
+    ensures answers { TellsBy E.S.Space E.own E.layout E.holds result lines_told answer.Fail engine.old engine.new space.old space.new reply.old reply.new }
     ensures reads { ReadsHeld E.S.Space E.holds engine.old engine.new space.old space.new }
     ensures front { IsPrefix reply.old reply.new }
     ensures keeps { Keeps E.S.Space space.old space.new }
@@ -293,7 +293,7 @@ pub fn misc_get<E: Engine>(
     reply: &mut Blob,
 ) -> Result<bool, RecErr>
     requires { IsReady E.S.Space E.holds engine.old space.old }
-    ensures answers { TellsBy E.S.Space E.own E.holds result (meant (misc.Get key.now)) answer.FailMisc engine.old engine.new space.old space.new reply.old reply.new }
+    ensures answers { TellsBy E.S.Space E.own E.layout E.holds result (meant (misc.Get key.now)) answer.FailMisc engine.old engine.new space.old space.new reply.old reply.new }
     ensures reads { ReadsHeld E.S.Space E.holds engine.old engine.new space.old space.new }
     ensures front { IsPrefix reply.old reply.new }
     ensures keeps { Keeps E.S.Space space.old space.new }
@@ -314,7 +314,7 @@ pub fn misc_row<E: Engine>(
     reply: &mut Blob,
 ) -> Result<bool, RecErr>
     requires { IsReady E.S.Space E.holds engine.old space.old }
-    ensures answers { TellsBy E.S.Space E.own E.holds result (meant (misc.GetRow key.now)) answer.FailMisc engine.old engine.new space.old space.new reply.old reply.new }
+    ensures answers { TellsBy E.S.Space E.own E.layout E.holds result (meant (misc.GetRow key.now)) answer.FailMisc engine.old engine.new space.old space.new reply.old reply.new }
     ensures reads { ReadsHeld E.S.Space E.holds engine.old engine.new space.old space.new }
     ensures front { IsPrefix reply.old reply.new }
     ensures keeps { Keeps E.S.Space space.old space.new }
@@ -377,7 +377,7 @@ pub fn misc_getlist<E: Engine>(
     reply: &mut Blob,
 ) -> Result<bool, RecErr>
     requires { IsReady E.S.Space E.holds engine.old space.old }
-    ensures answers { TellsBy E.S.Space E.own E.holds result (meant (misc.GetList keys)) answer.FailMisc engine.old engine.new space.old space.new reply.old reply.new }
+    ensures answers { TellsBy E.S.Space E.own E.layout E.holds result (meant (misc.GetList keys)) answer.FailMisc engine.old engine.new space.old space.new reply.old reply.new }
     ensures reads { ReadsHeld E.S.Space E.holds engine.old engine.new space.old space.new }
     ensures front { IsPrefix reply.old reply.new }
     ensures keeps { Keeps E.S.Space space.old space.new }
@@ -426,7 +426,7 @@ pub fn misc_range<E: Engine>(
     reply: &mut Blob,
 ) -> Result<bool, RecErr>
     requires { IsReady E.S.Space E.holds engine.old space.old }
-    ensures answers { TellsBy E.S.Space E.own E.holds result (meant (misc.Range from maximum.now to)) answer.FailMisc engine.old engine.new space.old space.new reply.old reply.new }
+    ensures answers { TellsBy E.S.Space E.own E.layout E.holds result (meant (misc.Range from maximum.now to)) answer.FailMisc engine.old engine.new space.old space.new reply.old reply.new }
     ensures reads { ReadsHeld E.S.Space E.holds engine.old engine.new space.old space.new }
     ensures front { IsPrefix reply.old reply.new }
     ensures keeps { Keeps E.S.Space space.old space.new }

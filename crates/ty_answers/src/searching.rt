@@ -26,7 +26,7 @@ pub fn search<E: Engine>(
     reply: &mut Blob,
 ) -> Result<bool, RecErr>
     requires { IsReady E.S.Space E.holds engine.old space.old }
-    ensures answers { AnswersBy E.S.Space E.own E.holds result (meant (misc.Search conditions.now)) FailMisc (takes_out conditions.now) engine.old engine.new space.old space.new reply.old reply.new }
+    ensures answers { AnswersBy E.S.Space E.own E.layout E.holds result (meant (misc.Search conditions.now)) FailMisc (takes_out conditions.now) engine.old engine.new space.old space.new reply.old reply.new }
     ensures refused { RefusesHeld E.S.Space E.holds result engine.old engine.new space.old space.new }
     ensures front { IsPrefix reply.old reply.new }
     ensures writes { IsErrOf result RecErr.Full → takes_out conditions.now ≡ true }

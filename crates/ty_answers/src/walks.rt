@@ -27,7 +27,7 @@ pub fn begin<E: Engine>(
     reply: &mut Blob,
 ) -> Result<bool, RecErr>
     requires { IsReady E.S.Space E.holds engine.old space.old }
-    ensures steps { StepsBy E.S.Space E.own E.holds result request.IterInit engine.old engine.new space.old space.new walk.old walk.new reply.old reply.new }
+    ensures steps { StepsBy E.S.Space E.own E.layout E.holds result request.IterInit engine.old engine.new space.old space.new walk.old walk.new reply.old reply.new }
     ensures reads { ReadsHeld E.S.Space E.holds engine.old engine.new space.old space.new }
     ensures walk { OnErr result (walk.new ≡ walk.old) }
     ensures front { IsPrefix reply.old reply.new }
@@ -98,7 +98,7 @@ pub fn step<E: Engine>(
     reply: &mut Blob,
 ) -> Result<bool, RecErr>
     requires { IsReady E.S.Space E.holds engine.old space.old }
-    ensures steps { StepsBy E.S.Space E.own E.holds result request.IterNext engine.old engine.new space.old space.new walk.old walk.new reply.old reply.new }
+    ensures steps { StepsBy E.S.Space E.own E.layout E.holds result request.IterNext engine.old engine.new space.old space.new walk.old walk.new reply.old reply.new }
     ensures reads { ReadsHeld E.S.Space E.holds engine.old engine.new space.old space.new }
     ensures walk { OnErr result (walk.new ≡ walk.old) }
     ensures front { IsPrefix reply.old reply.new }

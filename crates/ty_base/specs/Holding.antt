@@ -1,19 +1,65 @@
 -- What a database holds over the files of its space.
-use Rattle.std.specs.Prelude.{◌≡◌, ◌⊎◌, ◌||◌, ◌++◌, ◌≤◌, ℕ, Bool, true, false, List, Result, IfOk, OnErr}
+use Rattle.std.specs.Prelude.{◌≡◌, ◌⊎◌, ◌||◌, ◌++◌, ◌≤◌, ℕ, Bool, true, false, List, [], ◌∷◌, Result, IfOk, OnErr}
 use Rattle.std.proofs.Common.{◌∙◌, arith, refl, sym}
 use Rattle.tc_base.specs.Files.{Files}
 use Rattle.tc_base.specs.declared.kind.Form.{Form}
-use Rattle.tc_base.specs.declared.kind.Form.TheVariants.{Large}
+use Rattle.tc_base.specs.declared.kind.Form.TheVariants.{Keep, Large}
 use Rattle.tc_base.specs.declared.request.Request.{Request}
-use Rattle.tc_space.specs.Frames.{OnlyReads, Others, Reads, Refuses, only_reads_refl, others_refl}
+use Rattle.tc_space.specs.Frames.{OnlyReads, Others, Reads, Refuses, only_reads_refl, others_refl, others_then}
 use Rattle.tc_space.specs.Moments.{Past}
-use Rattle.tc_space.specs.Stores.{Only}
+use Rattle.tc_space.specs.Stores.{Only, in_form}
 use Rattle.tc_space.specs.declared.space.Space.{Ghosts}
 use Rattle.tc_model.specs.Contents.{Contents, Walk}
 use Rattle.tc_model.specs.Apply.{Step, apply, updates}
 use Rattle.tc_model.specs.Applying.{Applies}
 use Rattle.tc_model.specs.Packing.{is_optimize}
 use Rattle.tc_model.specs.declared.applied.Applied.{Applied}
+
+-- how files are laid out: the numbers that their heads fix, the options first, and how many bytes stand behind what the heads say
+pub record Layout : Type 0 where
+  pub numbers : List ℕ
+  pub slack : ℕ
+
+-- nothing is said of files, or there are none
+abbrev pub no_layout : Files → Layout
+no_layout files = record { numbers = []; slack = 0 }
+
+-- the numbers stay
+abbrev pub KeepsNumbers : Layout → Layout → Type 0
+KeepsNumbers old new = new.numbers ≡ old.numbers
+
+-- and no more bytes stand behind than did
+pub record KeepsLayout (old new : Layout) : Type 0 where
+  pub numbers : KeepsNumbers old new
+  pub slack : new.slack ≤ old.slack
+
+-- the numbers stay, and nothing stands behind
+pub record IsTrimmed (old new : Layout) : Type 0 where
+  pub numbers : KeepsNumbers old new
+  pub none : new.slack ≡ 0
+
+-- what stays of files: how its own are laid out, and those beside them
+pub record Frame : Type 0 where
+  pub layout : Layout
+  pub files : Files
+
+-- as files are
+abbrev pub frame_of : (Files → Layout) → Files → Frame
+frame_of layout files = record { layout = layout files; files = files }
+
+-- files beside its own stay, but for the update log
+abbrev pub KeepsBeside : (ℕ → Type 0) → Files → Files → Type 0
+KeepsBeside own f g = (n : ℕ) → (own n → ⊥) → (n ≡ 2 → ⊥) → g n ≡ f n
+
+-- its own are laid out alike, and those beside them stay
+pub record KeepsFrame (own : ℕ → Type 0) (old new : Frame) : Type 0 where
+  pub layout : KeepsLayout old.layout new.layout
+  pub beside : KeepsBeside own old.files new.files
+
+-- files that stand for contents are laid out like this, with nothing more behind, and those beside them are these
+pub record Laid (own : ℕ → Type 0) (layout : Files → Layout) (l : Frame) (reopens : Files → Contents → Type 0) (files : Files) (c : Contents) : Type 0 where
+  pub stand : reopens files c
+  pub like : KeepsFrame own l (frame_of layout files)
 
 -- it holds these contents, with the files as they are now
 abbrev pub Held : {S B : Type 0} → Ghosts S → (B → Files → Contents → Type 0) → B → S → Contents → Type 0
@@ -43,6 +89,14 @@ module _ {S B : Type 0} (s : Ghosts S) (holds : B → Files → Contents → Typ
   -- besides, the files stand for it
   abbrev pub SettlesHeld : (Files → Contents → Type 0) → B → B → S → S → Type 0
   SettlesHeld reopens base base' old new = OfHeld base old (λ c. Held s holds base' new c × reopens (s.now new) c)
+
+  -- of whatever is held: the numbers of the files stay, and they end where their heads say
+  abbrev pub TrimsHeld : (Files → Layout) → B → S → S → Type 0
+  TrimsHeld layout base old new = OfHeld base old (λ c. IsTrimmed (layout (s.now old)) (layout (s.now new)))
+
+  -- the numbers of the files are those of that form
+  abbrev pub FormsHeld : (Files → Layout) → Form → B → S → S → Type 0
+  FormsHeld layout form base old new = OfHeld base old (λ c. (layout (s.now new)).numbers ≡ in_form form (layout (s.now old)).numbers)
 
   -- the files stand for what is held
   abbrev pub FilesStand : (Files → Contents → Type 0) → B → S → Type 0
@@ -110,15 +164,20 @@ pub record IsReady {S B : Type 0} (s : Ghosts S) (holds : B → Files → Conten
 pub record Stays {S : Type 0} (s : Ghosts S) (file : ℕ) (old new : S) : Type 0 where
   pub same : s.tells → s.now new file ≡ s.now old file
 
+-- the numbers of its files stay, and no more bytes stand behind them than did
+abbrev pub StaysLaid : {S : Type 0} → Ghosts S → (Files → Layout) → S → S → Type 0
+StaysLaid s layout old new = s.tells → KeepsLayout (layout (s.now old)) (layout (s.now new))
+
 -- the space may be used, and files that aren't its own stay
 pub record StaysUsable {S : Type 0} (s : Ghosts S) (own : ℕ → Type 0) (old new : S) : Type 0 where
   pub sound : s.sound new
   pub others : Others s own old new
 
--- besides, nothing is written where it is idle
-pub record Leaves {S : Type 0} (s : Ghosts S) (own : ℕ → Type 0) (idle : Type 0) (old new : S) : Type 0 where
+-- besides, the numbers of its files stay, and nothing is written where it is idle
+pub record Leaves {S : Type 0} (s : Ghosts S) (own : ℕ → Type 0) (layout : Files → Layout) (idle : Type 0) (old new : S) : Type 0 where
   pub sound : s.sound new
   pub others : Others s own old new
+  pub numbered : s.tells → KeepsNumbers (layout (s.now old)) (layout (s.now new))
   pub reads : idle → OnlyReads s old new
 
 -- the space may not be used any more, or files, contents and walk stay
@@ -135,15 +194,66 @@ module _ {S : Type 0} (s : Ghosts S) where
   pub log_stays : (own : ℕ → Type 0) (a b : S) → (own 2 → ⊥) → Others s own a b → Stays s 2 a b
   log_stays own a b other others = record { same = λ t. others.same t 2 other }
 
-  pub leaves_nothing : (own : ℕ → Type 0) (idle : Type 0) (a : S) → s.sound a → Leaves s own idle a a
-  leaves_nothing own idle a is = record { sound = is; others = others_refl s own a; reads = λ i. only_reads_refl s a is }
+  pub leaves_nothing : (own : ℕ → Type 0) (layout : Files → Layout) (idle : Type 0) (a : S) → s.sound a → Leaves s own layout idle a a
+  leaves_nothing own layout idle a is = record { sound = is; others = others_refl s own a; numbered = λ t. refl; reads = λ i. only_reads_refl s a is }
 
-  pub leaves_less : (own : ℕ → Type 0) (idle less : Type 0) (a b : S) → (less → idle) → Leaves s own idle a b → Leaves s own less a b
-  leaves_less own idle less a b fewer l = record { sound = l.sound; others = l.others; reads = λ i. l.reads (fewer i) }
+  pub leaves_less : (own : ℕ → Type 0) (layout : Files → Layout) (idle less : Type 0) (a b : S) → (less → idle) → Leaves s own layout idle a b → Leaves s own layout less a b
+  leaves_less own layout idle less a b fewer l = record { sound = l.sound; others = l.others; numbered = l.numbered; reads = λ i. l.reads (fewer i) }
+
+  -- whether nothing was written or not
+  pub leaves_on : (own : ℕ → Type 0) (layout : Files → Layout) (a b c : S) → Leaves s own layout ⊥ a b → Leaves s own layout ⊥ b c → Leaves s own layout ⊥ a c
+  leaves_on own layout a b c first second = record { sound = second.sound; others = others_then s own a b c first.others second.others; numbered = λ t. second.numbered t ∙ first.numbered t; reads = λ never. absurd never }
+
+-- ---- layouts
+
+pub layout_refl : (a : Layout) → KeepsLayout a a
+layout_refl a = record { numbers = refl; slack = omega arith }
+
+pub layout_then : (a b c : Layout) → KeepsLayout a b → KeepsLayout b c → KeepsLayout a c
+layout_then a b c first second = record { numbers = second.numbers ∙ first.numbers; slack = omega (arith, first.slack, second.slack) }
+
+-- where nothing stands behind, nothing more does
+pub trimmed_keeps : (a b : Layout) → IsTrimmed a b → KeepsLayout a b
+trimmed_keeps a b trims = record { numbers = trims.numbers; slack = omega (arith, trims.none) }
+
+pub frame_refl : (own : ℕ → Type 0) (a : Frame) → KeepsFrame own a a
+frame_refl own a = record { layout = layout_refl a.layout; beside = λ n other log. refl }
+
+pub frame_then : (own : ℕ → Type 0) (a b c : Frame) → KeepsFrame own a b → KeepsFrame own b c → KeepsFrame own a c
+frame_then own a b c first second = record { layout = layout_then a.layout b.layout c.layout first.layout second.layout; beside = λ n other log. second.beside n other log ∙ first.beside n other log }
+
+pub others_beside : {S : Type 0} (s : Ghosts S) (own : ℕ → Type 0) (a b : S) → s.tells → Others s own a b → KeepsBeside own (s.now a) (s.now b)
+others_beside s own a b t others = λ n other log. others.same t n other
+
+pub laid_then : (own : ℕ → Type 0) (layout : Files → Layout) (reopens : Files → Contents → Type 0) (l k : Frame) (files : Files) (c : Contents) → KeepsFrame own l k → Laid own layout k reopens files c → Laid own layout l reopens files c
+laid_then own layout reopens l k files c first laid = record { stand = laid.stand; like = frame_then own l k (frame_of layout files) first laid.like }
+
+-- files beside them stay, whatever is said of their own
+pub beside_laid : (own : ℕ → Type 0) (layout : Files → Layout) (reopens : Files → Contents → Type 0) (l k : Frame) (files : Files) (c : Contents) → KeepsFrame own l (frame_of no_layout k.files) → Laid own layout k reopens files c → Laid own no_layout l reopens files c
+beside_laid own layout reopens l k files c was laid = record { stand = laid.stand; like = record { layout = was.layout; beside = λ n other log. laid.like.beside n other log ∙ was.beside n other log } }
+
+-- in the form that it has the numbers stay
+pub in_form_keep : (numbers : List ℕ) → in_form Keep numbers ≡ numbers
+in_form_keep [] = refl
+in_form_keep (n ∷ ns) = refl
+
+-- a form that they have already changes nothing more
+pub in_form_again : (form : Form) (numbers : List ℕ) → in_form form (in_form form numbers) ≡ in_form form numbers
+in_form_again form [] = refl
+in_form_again Keep (n ∷ ns) = refl
+in_form_again Large (n ∷ ns) = refl
 
 -- files that may differ in others than these
 abbrev pub AreApart : (ℕ → Type 0) → Files → Files → Type 0
 AreApart own f g = (n : ℕ) → own n → g n ≡ f n
+
+-- what is said of files f is so of files g
+pub record SaysAlike (holds : Files → Contents → Type 0) (reopens : Files → Contents → Type 0) (layout : Files → Layout) (packed : Form → Files → Type 0) (lines : Files → List ℕ → Type 0) (f g : Files) : Type 0 where
+  pub held : (c : Contents) → holds f c → holds g c
+  pub stand : (c : Contents) → reopens f c → reopens g c
+  pub laid : layout g ≡ layout f
+  pub tight : (form : Form) → packed form f → packed form g
+  pub told : (text : List ℕ) → lines f text → lines g text
 
 -- neither the undo log's file nor the update log's
 abbrev pub NoLogs : (ℕ → Type 0) → Type 0

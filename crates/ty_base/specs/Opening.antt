@@ -25,7 +25,7 @@ pub record IsOpened {B : Type 0} (held : B → Files → Contents → Type 0) (r
   pub holds : held base files c
   pub stand : reopens files c
 
--- made anew: no data is held in that shape, the files stand for it, and the main file isn't empty and has the numbers
+-- made anew: no data is held in that shape, the files stand for it, and the main file isn't empty and has the numbers, with nothing behind what its head says
 pub record IsCreated {B N : Type 0} (held : B → Files → Contents → Type 0) (reopens : Files → Contents → Type 0) (has_numbers : N → Files → Type 0) (base : B) (c : Contents) (shape : N) (files : Files) : Type 0 where
   pub holds : held base files c
   pub stand : reopens files c

@@ -27,7 +27,7 @@ pub trait Base: Storage {
         requires ready { IsReady Self.S.Space Self.holds self.old space.old }
         ensures applied { IfOk result (λ a. ServedBy Self.S.Space Self.holds false request a self.old self.new space.old space.new walk.old walk.new reply.old reply.new) }
         ensures tight { OnOk result (is_optimize request ≡ true → Self.tight self.new Keep) }
-        ensures leaves { IfOk result (λ a. Leaves Self.S.Space Self.own (is_idle request a) space.old space.new) }
+        ensures leaves { IfOk result (λ a. Leaves Self.S.Space Self.own Self.layout (is_idle request a) space.old space.new) }
         ensures refused { OnErr result (Declines Self.S.Space Self.holds self.old self.new space.old space.new walk.old walk.new) }
         ensures reply_front { IsPrefix reply.old reply.new }
         ensures full { IsErrOf result RecErr.Full → FillsBy Self.S.Space Self.holds (Self.fills self.old space.old space.new) request self.old space.old (contents_after false request walk.old) }

@@ -5,7 +5,7 @@ ghost use Rattle.tc_base.specs.declared.kind.Kind.{Kind};
 ghost use Rattle.tc_base.specs.declared.kind.Rule.{Rule};
 ghost use Rattle.tc_space.specs.Frames.{Keeps, OnlyReads};
 ghost use Rattle.tc_model.specs.Contents.{Contents};
-ghost use Rattle.ty_base.specs.Holding.{StaysUsable};
+ghost use Rattle.ty_base.specs.Holding.{StaysLaid, StaysUsable};
 ghost use Rattle.ty_base.specs.Opening.{CanOpen, CreatesAs, LacksNew, NamesNew, NamesRule, OpensFor, OpensTo, OpensUsable, RefusesToOpen};
 
 use crate::errors::AnyErr;
@@ -25,7 +25,7 @@ pub trait Opens: Storage {
     /// No data, in that shape.
     ghost anew: { Self.Shape → Contents };
 
-    /// The head of the main file has these numbers.
+    /// The head of the main file has these numbers, and the file ends where it says.
     ghost shaped: { Self.Shape → Files → Type 0 };
 
     /// The numbers of a file that an opening makes.
@@ -48,6 +48,7 @@ pub trait Opens: Storage {
         ensures opened { IfOk result (λ b. OpensFor Self.S.Space Self.reopens Self.holds kind b space.old space.new) }
         ensures broken { NamesRule Self.S.Space result breaks kind space.old }
         ensures usable { OnOk result (OpensUsable Self.S.Space Self.own (shaped usual) space.old space.new) }
+        ensures laid { OnOk result (StaysLaid Self.S.Space Self.layout space.old space.new) }
         ensures refused { RefusesToOpen Self.S.Space result space.old space.new }
         ensures reads { Self.S.tells → (Self.S.now space.old 0 ≡ [] → ⊥) → OnlyReads Self.S.Space space.old space.new }
         ensures full { IsErrOf result AnyErr.Full → LacksNew Self.S.Space Self.reopens (lacks space.new usual) kind space.old }

@@ -6,7 +6,7 @@ ghost use Rattle.tc_space.specs.Frames.{Keeps, Others};
 ghost use Rattle.tc_space.specs.Refusals.{OnFault, OnlyLogIsFull};
 ghost use Rattle.ty_wire.specs.Prefixes.{IsPrefix};
 ghost use Rattle.tc_model.specs.Contents.{Contents, kind_of};
-ghost use Rattle.ty_base.specs.Holding.{AreApart, FilesStand, FullPack, IsEarlier, IsReady, NoLogs, PacksHeld, ReadsHeld, RefusesHeld, Remains, SettlesHeld, TellsLines};
+ghost use Rattle.ty_base.specs.Holding.{AreApart, FilesStand, FormsHeld, FullPack, IsEarlier, IsReady, Layout, NoLogs, PacksHeld, ReadsHeld, RefusesHeld, Remains, SaysAlike, SettlesHeld, TellsLines, TrimsHeld};
 
 use tc_base::{Blob, Form, Kind};
 use tc_space::{RecErr, Space};
@@ -44,15 +44,21 @@ pub trait Storage {
     /// Files are packed in a form: no space lies free in them.
     ghost packed: { Form → Files → Type 0 };
 
+    /// The numbers that the heads of files fix, the options first, and how many bytes stand behind what the heads say. Of files that are still to be
+    /// made they are those that an opening makes.
+    ghost layout: { Files → Layout };
+
     /// Its kind.
     fn kind(&self) -> Kind
         ensures { (files : Files) (c : Contents) → holds self.now files c → result ≡ kind_of c };
 
-    /// Brings what is held in memory to the files, which then stand for the contents. It is full only where the undo log is.
+    /// Brings what is held in memory to the files, which then stand for the contents, with the numbers that they had and nothing behind what their heads say. It is
+    /// full only where the undo log is.
     fn settle(&mut self, space: &mut Self::S) -> Result<(), RecErr>
         requires ready { IsReady Self.S.Space holds self.old space.old }
         ensures packs { OnOk result (PacksHeld Self.S.Space holds tight packed self.old space.old space.new) }
         ensures settled { OnOk result (SettlesHeld Self.S.Space holds reopens self.old self.new space.old space.new) }
+        ensures trims { OnOk result (TrimsHeld Self.S.Space holds layout self.old space.old space.new) }
         ensures sound { OnOk result (Self.S.sound space.new) }
         ensures others { OnOk result (Others Self.S.Space own space.old space.new) }
         ensures refused { RefusesHeld Self.S.Space holds result self.old self.new space.old space.new }
@@ -60,11 +66,13 @@ pub trait Storage {
         ensures keeps { Keeps Self.S.Space space.old space.new }
         ensures cause { OnFault Self.S.Space result space.old space.new };
 
-    /// Packs the files, in place or in the large form. The contents stay, and stand in the files once it is settled. In place it is full only where the undo log is.
+    /// Packs the files, in place or in the large form. The contents stay, and stand in the files once it is settled; of the numbers of the files only the form
+    /// changes, where the large one is asked for. In place it is full only where the undo log is.
     fn pack(&mut self, space: &mut Self::S, form: Form) -> Result<(), RecErr>
         requires ready { IsReady Self.S.Space holds self.old space.old }
         ensures tight { OnOk result (tight self.new form) }
         ensures packed { OnOk result (Remains Self.S.Space holds self.old self.new space.old space.new) }
+        ensures formed { OnOk result (FormsHeld Self.S.Space holds layout form self.old space.old space.new) }
         ensures sound { OnOk result (Self.S.sound space.new) }
         ensures others { OnOk result (Others Self.S.Space own space.old space.new) }
         ensures refused { RefusesHeld Self.S.Space holds result self.old self.new space.old space.new }
@@ -86,8 +94,8 @@ pub trait Storage {
     /// They are neither log.
     ghost no_logs: { NoLogs own };
 
-    /// What it holds, and what files reopen to, has to do with them alone.
-    ghost apart: { (b : Self) (f g : Files) (c : Contents) → AreApart own f g → (holds b f c → holds b g c) × (reopens f c → reopens g c) };
+    /// What it holds, what files reopen to, how they are laid out and packed, and what an inspection tells of them, has to do with them alone.
+    ghost apart: { (b : Self) (f g : Files) → AreApart own f g → SaysAlike (holds b) reopens layout packed lines f g };
 
     /// Where the undo log is full a limit is reached, whatever was to be made.
     ghost log_fills: { (b : Self) (old new : Self.S) (c d : Contents) → Self.S.log_full new → fills b old new c d };

@@ -92,7 +92,7 @@ pub fn answer<B: Base>(
 ) -> Result<Applied, RecErr>
     requires ready { IsReady B.S.Space B.holds base.old space.old }
     ensures applied { IfOk result (λ a. ServedBy B.S.Space B.holds replica request a base.old base.new space.old space.new walk.old walk.new reply.old reply.new) }
-    ensures leaves { IfOk result (λ a. Leaves B.S.Space B.own (is_idle request a) space.old space.new) }
+    ensures leaves { IfOk result (λ a. Leaves B.S.Space B.own B.layout (is_idle request a) space.old space.new) }
     ensures refused { OnErr result (Declines B.S.Space B.holds base.old base.new space.old space.new walk.old walk.new) }
     ensures reply_front { IsPrefix reply.old reply.new }
     ensures full { IsErrOf result RecErr.Full → FillsBy B.S.Space B.holds (B.fills base.old space.old space.new) request base.old space.old (contents_after replica request walk.old) }
@@ -122,7 +122,7 @@ pub fn serve_taken<B: Base>(
 ) -> Result<Served, RecErr>
     requires ready { IsReady B.S.Space B.holds base.old space.old }
     ensures served { IfOk result (λ d. ServesTaken B.S.Space B.holds taken replica d base.old base.new space.old space.new walk.old walk.new waiting.old waiting.new) }
-    ensures leaves { IfOk result (λ d. Leaves B.S.Space B.own (d.commits ≡ false) space.old space.new) }
+    ensures leaves { IfOk result (λ d. Leaves B.S.Space B.own B.layout (d.commits ≡ false) space.old space.new) }
     ensures refused { OnErr result (Declines B.S.Space B.holds base.old base.new space.old space.new walk.old walk.new) }
     ensures waiting_front { IsPrefix waiting.old waiting.new }
     ensures full { IsErrOf result RecErr.Full → FillsTaken B.S.Space B.holds (B.fills base.old space.old space.new) taken replica base.old space.old walk.old }

@@ -123,7 +123,7 @@ impl Session {
         requires quiet { self.old.waiting ≡ [] }
         requires ready { IsReady B.S.Space B.holds base.old space.old }
         ensures served { IfOk result (λ d. ServesQueue B.S.Space B.holds replica logs d base.old base.new space.old space.new walk.old walk.new self.old self.new) }
-        ensures leaves { IfOk result (λ d. Leaves B.S.Space B.own (d.commits ≡ false) space.old space.new) }
+        ensures leaves { IfOk result (λ d. Leaves B.S.Space B.own B.layout (d.commits ≡ false) space.old space.new) }
         ensures refused { OnErr result (Declines B.S.Space B.holds base.old base.new space.old space.new walk.old walk.new) }
         ensures full { IsErrOf result RecErr.Full → FillsFront B.S.Space B.holds (B.fills base.old space.old space.new) replica base.old space.old walk.old self.old.unread }
         ensures keeps { Keeps B.S.Space space.old space.new }

@@ -1,15 +1,15 @@
 -- Settling and committing, or neither.
-use Rattle.std.proofs.Common.{◌≡◌, ◌⊎◌, inl, inr, ⊎_elim, ℕ, Bool, false, ◌∙◌, sym, subst, arith}
+use Rattle.std.proofs.Common.{◌≡◌, ◌⊎◌, inl, inr, ⊎_elim, ℕ, Bool, true, false, ◌∙◌, sym, subst, arith}
 use Rattle.std.specs.Prelude.{Some}
 use Rattle.tc_base.specs.Files.{Files}
-use Rattle.tc_space.specs.Frames.{Keeps}
+use Rattle.tc_space.specs.Frames.{Keeps, Others}
 use Rattle.tc_space.specs.Moments.{LeavesOnly}
 use Rattle.tc_space.specs.declared.space.Space.{Ghosts}
 use Rattle.tc_model.specs.Contents.{Contents}
 use Rattle.ty_world.specs.World.{Mark}
-use Rattle.ty_base.specs.Holding.{Held, IsReady, Stays}
+use Rattle.ty_base.specs.Holding.{Frame, Held, IsReady, IsTrimmed, KeepsBeside, KeepsFrame, Laid, Layout, Stays, TrimsHeld, frame_of, others_beside, trimmed_keeps}
 use Rattle.ty_rounds.specs.Kept.{HasMark, MovesTo}
-use Rattle.ty_rounds.specs.Keeping.{IsKept}
+use Rattle.ty_rounds.specs.Keeping.{IsKept, kept_frame}
 
 module _ {S : Type 0} (s : Ghosts S) where
   pub none_moved : (reopens : Files → Contents → Type 0) (a : S) (m : Mark) → MovesTo s reopens a a m
@@ -25,6 +25,17 @@ module _ {S : Type 0} (s : Ghosts S) where
   -- what is settled: whatever was held, it is, and the files stand for it
   abbrev pub Settles : {B : Type 0} → (B → Files → Contents → Type 0) → (Files → Contents → Type 0) → B → B → S → S → Type 0
   Settles holds reopens base base' a b = (c : Contents) → Held s holds base a c → Held s holds base' b c × reopens (s.now b) c
+
+  kept_fits : (own : ℕ → Type 0) (commits : Bool) (l k : Frame) → IsTrimmed l.layout k.layout → KeepsBeside own l.files k.files → KeepsFrame own (kept_frame commits l) k
+  kept_fits own true l k trims beside = record { layout = record { numbers = trims.numbers; slack = omega (arith, trims.none) }; beside = beside }
+  kept_fits own false l k trims beside = record { layout = trimmed_keeps l.layout k.layout trims; beside = beside }
+
+  -- besides, they are laid out as files that are kept
+  pub settles_laid : {B : Type 0} (holds : B → Files → Contents → Type 0) (reopens : Files → Contents → Type 0) (own : ℕ → Type 0) (layout : Files → Layout) (commits : Bool) (base base' : B) (a b : S) → Settles holds reopens base base' a b → TrimsHeld s holds layout base a b → Others s own a b
+      → Settles holds (Laid own layout (kept_frame commits (frame_of layout (s.now a))) reopens) base base' a b
+  settles_laid holds reopens own layout commits base base' a b settled trims others c h =
+      let x = settled c h in
+      (x.0, record { stand = x.1; like = kept_fits own commits (frame_of layout (s.now a)) (frame_of layout (s.now b)) (trims c h) (others_beside s own a b h.0 others) })
 
   pub committed_moves : {B : Type 0} (holds : B → Files → Contents → Type 0) (reopens : Files → Contents → Type 0) (base base' : B) (a b d : S) (m : Mark) → Keeps s a b → Settles holds reopens base base' a b → Stays s 2 a b
       → (s.tells → LeavesOnly s.moment s.left b d (λ o. (o ≡ s.kept b) ⊎ (o ≡ Some (s.now b)))) → HasMark s holds base a m → MovesTo s reopens a d m

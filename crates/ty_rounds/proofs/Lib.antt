@@ -6,6 +6,7 @@ pub mod Finishing
 pub mod Going
 pub mod Hearing
 pub mod Keeping
+pub mod Laying
 pub mod Leaving
 pub mod Places
 pub mod SendLaws

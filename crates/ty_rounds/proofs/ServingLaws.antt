@@ -8,7 +8,7 @@ use Rattle.tc_base.specs.declared.request.Request.{Request}
 use Rattle.tc_base.specs.declared.request.Request.TheVariants.{Repl}
 use Rattle.tc_space.specs.Frames.{only_reads_then, others_then}
 use Rattle.tc_space.specs.declared.space.Space.{Ghosts}
-use Rattle.ty_base.specs.Holding.{IsReady, Leaves}
+use Rattle.ty_base.specs.Holding.{IsReady, Layout, Leaves}
 use Rattle.tc_base.specs.declared.fields.NotWhole.{NotWhole}
 use Rattle.tc_base.specs.declared.fields.NotWhole.TheVariants.{Part}
 use Rattle.tc_base.specs.Reading.{Front}
@@ -242,15 +242,16 @@ more_is x u v c0 c c' w0 w w' old ps ks i p q is h lt at serves = subst (λ (b :
 
 -- ---- what the space is and what the connection holds
 
-pub leaves_then : {S : Type 0} (s : Ghosts S) (own : ℕ → Type 0) (x u v : Bool) (a b c : S) → x ≡ (u || v) → Leaves s own (u ≡ false) a b → Leaves s own (v ≡ false) b c → Leaves s own (x ≡ false) a c
-leaves_then s own x u v a b c is first second = record {
+pub leaves_then : {S : Type 0} (s : Ghosts S) (own : ℕ → Type 0) (layout : Files → Layout) (x u v : Bool) (a b c : S) → x ≡ (u || v) → Leaves s own layout (u ≡ false) a b → Leaves s own layout (v ≡ false) b c → Leaves s own layout (x ≡ false) a c
+leaves_then s own layout x u v a b c is first second = record {
   sound = second.sound;
   others = others_then s own a b c first.others second.others;
+  numbered = λ t. second.numbered t ∙ first.numbered t;
   reads = λ e. let n = or_parts u v (sym is ∙ e) in only_reads_then s a b c (first.reads n.0) (second.reads n.1);
 }
 
-pub still_ready : {S B : Type 0} (s : Ghosts S) (own : ℕ → Type 0) (holds : B → Files → Contents → Type 0) (logs : Bool) (d : Served) (base base' : B) (old new : S) (w w' : Walk) (unread unread' waiting waiting' : List ℕ) (idle : Type 0) → IsReady s holds base old → ServesFront s holds false logs d base base' old new w w' unread unread' waiting waiting' → Leaves s own idle old new → IsReady s holds base' new
-still_ready s own holds logs d base base' old new w w' unread unread' waiting waiting' idle is f l = record { sound = l.sound; held = λ t. let h = is.held t in let x = f.serves h.0 (t, h.1) in (x.0, x.1.1) }
+pub still_ready : {S B : Type 0} (s : Ghosts S) (own : ℕ → Type 0) (layout : Files → Layout) (holds : B → Files → Contents → Type 0) (logs : Bool) (d : Served) (base base' : B) (old new : S) (w w' : Walk) (unread unread' waiting waiting' : List ℕ) (idle : Type 0) → IsReady s holds base old → ServesFront s holds false logs d base base' old new w w' unread unread' waiting waiting' → Leaves s own layout idle old new → IsReady s holds base' new
+still_ready s own layout holds logs d base base' old new w w' unread unread' waiting waiting' idle is f l = record { sound = l.sound; held = λ t. let h = is.held t in let x = f.serves h.0 (t, h.1) in (x.0, x.1.1) }
 
 pub fewer_unread : (p p' : Peer) (q : Queue) (r : Request) (d : Served) → TakesOff r d p.session.unread q.unread → OwesRepl (record p { session = q }) p' r → FewUnread p → FewUnread p'
 fewer_unread p p' q r d t o few = omega (arith, few, ap length t.spelled, length-append (spelling r) q.unread, ap (λ (z : Queue). length z.unread) o.session)

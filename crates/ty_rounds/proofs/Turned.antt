@@ -14,7 +14,7 @@ use Rattle.tc_io.specs.declared.wire.Entry.TheVariants.{Event}
 use Rattle.tc_space.specs.Frames.{Keeps, OnlyReads, keeps_refl, keeps_then, only_reads_refl, only_reads_then}
 use Rattle.tc_space.specs.declared.space.Space as space
 use Rattle.tc_model.specs.Contents.{Contents, Walk}
-use Rattle.ty_base.specs.Holding.{FillsAll, Held}
+use Rattle.ty_base.specs.Holding.{FillsAll, Held, Layout}
 use Rattle.ty_world.specs.World.{Client, World, Mark, mark_of, heard, unstopped, happens, world_after, round_all, shut_after, commits_in, AllAsked, AllCame, AreFinishing}
 use Rattle.ty_world.proofs.RoundLaws.{round_idle, round_quiet}
 use Rattle.ty_rounds.specs.Kept.{Reopens, HasMark, HoldsMark, MovesTo, LeavesTwo}
@@ -224,9 +224,9 @@ module _ {S B W : Type 0} (s : space.Ghosts S) (g : wire.Ghosts W) (holds : B �
     some = λ w st. let js = heard (map unstopped w.there) ev hears.asks.bytes in subst (λ (v : Walk). FillsAt fills w.contents v js) (sym st.walk) (full w.contents st.mark.has.held js (hears.holds w.there st.each));
   }
 
-  module _ (own : ℕ → Type 0) where
+  module _ (own : ℕ → Type 0) (layout : Files → Layout) where
     -- what the round made, of any world that the server stood for
-    mid_round : (b b1 : B) (a a1 : S) (x y : W) (k l : Walk) (ps ps1 ps2 : List Peer) (ev : Ev) (u : Bool) (hears : Hears g x y ps ps1 ev) (w : World) (st : Stands (Known b a) (g.given x) k ps w) → Rounds s own holds u b b1 a a1 k l ps1 ps2
+    mid_round : (b b1 : B) (a a1 : S) (x y : W) (k l : Walk) (ps ps1 ps2 : List Peer) (ev : Ev) (u : Bool) (hears : Hears g x y ps ps1 ev) (w : World) (st : Stands (Known b a) (g.given x) k ps w) → Rounds s own layout holds u b b1 a a1 k l ps1 ps2
         → RoundsTo u (Held s holds b1 a1) l ps2 (round_all w.contents w.walk (heard (map unstopped w.there) ev hears.asks.bytes))
     mid_round b b1 a a1 x y k l ps ps1 ps2 ev u hears w st rounds =
         let js = heard (map unstopped w.there) ev hears.asks.bytes in
@@ -235,7 +235,7 @@ module _ {S B W : Type 0} (s : space.Ghosts S) (g : wire.Ghosts W) (holds : B �
     -- all four steps, before it is known how the last one ended
     pub record Steps (b b1 b2 : B) (a a1 a2 : S) (x y z : W) (k l : Walk) (ps ps1 ps2 ps3 : List Peer) (ev : Ev) (u : Bool) (ok : Result (Unit {0}) TurnErr) : Type 0 where
       pub hears : Hears g x y ps ps1 ev
-      pub rounds : Rounds s own holds u b b1 a a1 k l ps1 ps2
+      pub rounds : Rounds s own layout holds u b b1 a a1 k l ps1 ps2
       pub keeps : Keeps s a a1
       pub kept : IsKept s holds reopens u b1 b2 a1 a2
       pub moves : (m : Mark) → HasMark s holds b1 a1 m → MovesTo s reopens a1 a2 m
@@ -270,21 +270,21 @@ module _ {S B W : Type 0} (s : space.Ghosts S) (g : wire.Ghosts W) (holds : B �
 
     -- ---- a limit was reached
 
-    pub full_keep : (fills : Contents → Contents → Type 0) (b b1 : B) (a a1 : S) (x y : W) (k l : Walk) (ps ps1 ps2 : List Peer) (ev : Ev) (u : Bool) → Hears g x y ps ps1 ev → Rounds s own holds u b b1 a a1 k l ps1 ps2 → (u ≡ true) × (s.tells → FillsAll fills) → FullTurn fills (Known b a) (g.given x) k ps (g.transcript x) (g.transcript y)
+    pub full_keep : (fills : Contents → Contents → Type 0) (b b1 : B) (a a1 : S) (x y : W) (k l : Walk) (ps ps1 ps2 : List Peer) (ev : Ev) (u : Bool) → Hears g x y ps ps1 ev → Rounds s own layout holds u b b1 a a1 k l ps1 ps2 → (u ≡ true) × (s.tells → FillsAll fills) → FullTurn fills (Known b a) (g.given x) k ps (g.transcript x) (g.transcript y)
     full_keep fills b b1 a a1 x y k l ps ps1 ps2 ev u hears rounds full = full_round fills b a x y k ps ps1 ev hears (λ c hc js held. record { front = js; back = []; parts = sym (append-nil js); next = (sym (rounds.each c hc js held).was ∙ full.0, full.1 hc.0) })
 
     -- ---- of a base that leaves the log alone
 
     module _ (no_log : own 2 → ⊥) where
       -- the mark behind the event is held
-      mid_has : (b b1 : B) (a a1 : S) (x y : W) (k l : Walk) (ps ps1 ps2 : List Peer) (ev : Ev) (u : Bool) (hears : Hears g x y ps ps1 ev) (w : World) (st : Stands (Known b a) (g.given x) k ps w) → Rounds s own holds u b b1 a a1 k l ps1 ps2
+      mid_has : (b b1 : B) (a a1 : S) (x y : W) (k l : Walk) (ps ps1 ps2 : List Peer) (ev : Ev) (u : Bool) (hears : Hears g x y ps ps1 ev) (w : World) (st : Stands (Known b a) (g.given x) k ps w) → Rounds s own layout holds u b b1 a a1 k l ps1 ps2
           → HasMark s holds b1 a1 (mark_of (mid g x y (Known b a) k ps ev hears.asks w st))
       mid_has b b1 a a1 x y k l ps ps1 ps2 ev u hears w st rounds = record {
         held = (mid_round b b1 a a1 x y k l ps ps1 ps2 ev u hears w st rounds).contents;
         log = rounds.leaves.others.same st.mark.has.held.0 2 no_log ∙ st.mark.has.log;
       }
 
-      pub keep_ends : (b b1 b' : B) (a a1 a2 : S) (x y : W) (k l k' : Walk) (ps ps1 ps2 ps' : List Peer) (ev : Ev) (u : Bool) (e : TurnErr) → Hears g x y ps ps1 ev → (e ≡ Wire → ⊥) → Rounds s own holds u b b1 a a1 k l ps1 ps2 → Keeps s a a1
+      pub keep_ends : (b b1 b' : B) (a a1 a2 : S) (x y : W) (k l k' : Walk) (ps ps1 ps2 ps' : List Peer) (ev : Ev) (u : Bool) (e : TurnErr) → Hears g x y ps ps1 ev → (e ≡ Wire → ⊥) → Rounds s own layout holds u b b1 a a1 k l ps1 ps2 → Keeps s a a1
           → ((m : Mark) → HasMark s holds b1 a1 m → MovesTo s reopens a1 a2 m) → (u ≡ false → OnlyReads s a1 a2) → IsClean s a → Earlier s a2 → Turns s g holds reopens (Err e) b b' a a2 x y k k' ps ps'
       keep_ends b b1 b' a a1 a2 x y k l k' ps ps1 ps2 ps' ev u e hears other rounds keeps moves idle clean earlier = record {
         entries = Event hears.asks.paused hears.asks.busy ev hears.asks.bytes ∷ [];

@@ -8,7 +8,7 @@ use Rattle.tc_base.specs.declared.request.Request.{Request}
 use Rattle.tc_space.specs.declared.space.Space as space
 use Rattle.ty_base.specs.Holding as holding
 use Rattle.tc_model.specs.Packing.{is_optimize}
-use Rattle.ty_base.specs.Holding.{FillsAll, Held, Leaves, OfHeld, may_write}
+use Rattle.ty_base.specs.Holding.{FillsAll, Held, Layout, Leaves, OfHeld, may_write}
 use Rattle.ty_core.specs.Serving.{Begins}
 use Rattle.ty_rounds.specs.Holding.{Holds, AllHold, RoundsTo}
 use Rattle.ty_rounds.specs.Peers.{numbers}
@@ -60,24 +60,24 @@ abbrev pub FullOne : {S B : Type 0} → space.Ghosts S → (B → Files → Cont
 FullOne s holds fills base old new w p = OfHeld s holds base old (λ c. (k : Client) → Holds p k → FillsOne (fills old new) c w k)
 
 -- the round was made: its numbers stay, no connection holds more but for one reply, and the space may be used; nothing is written where it has nothing to commit
-pub record Rounds {S B : Type 0} (s : space.Ghosts S) (own : ℕ → Type 0) (holds : B → Files → Contents → Type 0) (commits : Bool) (base base' : B) (old new : S) (w w' : Walk) (ps ps' : List Peer) : Type 0 where
+pub record Rounds {S B : Type 0} (s : space.Ghosts S) (own : ℕ → Type 0) (layout : Files → Layout) (holds : B → Files → Contents → Type 0) (commits : Bool) (base base' : B) (old new : S) (w w' : Walk) (ps ps' : List Peer) : Type 0 where
   pub numbers : numbers ps' ≡ numbers ps
   pub unread : Each FewUnread ps → Each FewUnread ps'
   pub waiting : Each FewWaiting ps → Each FewWaiting ps'
   pub calm : Each IsCalm ps'
   pub each : (c : Contents) → Held s holds base old c → (ks : List Client) → AllHold ps ks → RoundsTo commits (Held s holds base' new) w' ps' (round_all c w ks)
   pub ready : holding.IsReady s holds base' new
-  pub leaves : Leaves s own (commits ≡ false) old new
+  pub leaves : Leaves s own layout (commits ≡ false) old new
 
 -- the same of one connection
-pub record ServesReady {S B : Type 0} (s : space.Ghosts S) (own : ℕ → Type 0) (holds : B → Files → Contents → Type 0) (commits : Bool) (base base' : B) (old new : S) (w w' : Walk) (p p' : Peer) : Type 0 where
+pub record ServesReady {S B : Type 0} (s : space.Ghosts S) (own : ℕ → Type 0) (layout : Files → Layout) (holds : B → Files → Contents → Type 0) (commits : Bool) (base base' : B) (old new : S) (w w' : Walk) (p p' : Peer) : Type 0 where
   pub conn : p'.conn ≡ p.conn
   pub unread : FewUnread p → FewUnread p'
   pub waiting : FewWaiting p → FewWaiting p'
   pub calm : IsCalm p'
   pub each : (c : Contents) → Held s holds base old c → ServesOne commits c (Held s holds base' new) w w' p p'
   pub ready : holding.IsReady s holds base' new
-  pub leaves : Leaves s own (commits ≡ false) old new
+  pub leaves : Leaves s own layout (commits ≡ false) old new
 
 -- a round over the first connections
 pub record Halfway (u : Bool) (c : Contents) (known : Contents → Type 0) (w w' : Walk) (old now : List Peer) (count : ℕ) (ks : List Client) : Type 0 where

@@ -41,7 +41,7 @@ fn serve_one<B: Base>(
 ) -> Result<bool, RecErr>
     requires ready { holding.IsReady B.S.Space B.holds base.old space.old }
     requires calm { IsCalm p.old }
-    ensures served { IfOk result (λ u. ServesReady B.S.Space B.own B.holds u base.old base.new space.old space.new walk.old walk.new p.old p.new) }
+    ensures served { IfOk result (λ u. ServesReady B.S.Space B.own B.layout B.holds u base.old base.new space.old space.new walk.old walk.new p.old p.new) }
     ensures full { IsErrOf result RecErr.Full → FullOne B.S.Space B.holds B.fills_since base.old space.old space.new walk.old p.old }
     ensures keeps { Keeps B.S.Space space.old space.new }
     ensures cause { OnFault B.S.Space result space.old space.new }
@@ -73,7 +73,7 @@ pub fn round_of_all<B: Base>(
 ) -> Result<bool, TurnErr>
     requires ready { holding.IsReady B.S.Space B.holds base.old space.old }
     requires calm { IsSpan span peers.old.items }
-    ensures rounds { IfOk result (λ u. Rounds B.S.Space B.own B.holds u base.old base.new space.old space.new walk.old walk.new peers.old.items peers.new.items) }
+    ensures rounds { IfOk result (λ u. Rounds B.S.Space B.own B.layout B.holds u base.old base.new space.old space.new walk.old walk.new peers.old.items peers.new.items) }
     ensures not_wire { IfErr result (λ e. e ≡ wire_err → ⊥) }
     ensures full { IsErrOf result TurnErr.Full → FullRound B.S.Space B.holds B.fills_since base.old space.old space.new walk.old peers.old.items }
     ensures span { OnOk result (IsSpan span peers.new.items) }

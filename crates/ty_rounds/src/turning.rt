@@ -4,6 +4,7 @@ ghost use Rattle.tc_io.specs.Causes.{HasCause, Rose};
 ghost use Rattle.tc_io.specs.declared.wire.Ev.TheVariants.{Shut};
 ghost use Rattle.tc_space.specs.Frames.{Follows};
 ghost use Rattle.ty_rounds.specs.declared.outcome.TurnErr.TheVariants.{Wire as wire_err};
+ghost use Rattle.ty_base.specs.Holding.{Frame, Laid};
 ghost use Rattle.ty_rounds.specs.Holding.{Wired};
 ghost use Rattle.ty_rounds.specs.Servers.{FullTurnAs, IsReadyAs, TurnsAs};
 ghost use Rattle.ty_rounds.specs.Spans.{IsSpan};
@@ -51,7 +52,7 @@ fn is_shut(ev: Ev) -> bool
 /// closings. A connection holds at most 33,558,528 unread bytes after it, and at most one reply of 67,108,864, over any space.
 ///
 /// `Memory`, `Full` and `Volume` come before anything was sent, and what a stop leaves is then what was kept before the round or
-/// after it; `Wire` comes behind the commit too. After an `Err` the server is to be dropped, and the space to be opened again.
+/// after it; `Wire` comes behind the commit too. Whatever the files are laid out like, and whichever stand beside them, what a stop leaves is laid out like them, beside those. After an `Err` the server is to be dropped, and the space to be opened again.
 pub fn turn<B: Base, W: Wire, K: Clock>(
     server: &mut Server<B>,
     space: &mut B::S,
@@ -62,6 +63,7 @@ pub fn turn<B: Base, W: Wire, K: Clock>(
     ensures ready { OnOk result (IsReadyAs B.S.Space W.Wire B.holds server.new space.new wire.new) }
     ensures opened { W.opened wire.new ≡ true }
     ensures told { TurnsAs B.S.Space W.Wire B.holds B.reopens result server.old server.new space.old space.new wire.old wire.new }
+    ensures laid { (l : Frame) → TurnsAs B.S.Space W.Wire B.holds (Laid B.own B.layout l B.reopens) result server.old server.new space.old space.new wire.old wire.new }
     ensures full { IsErrOf result TurnErr.Full → FullTurnAs B.S.Space W.Wire B.holds B.reopens B.fills_since server.old space.old space.new wire.old wire.new }
     ensures follows { Follows B.S.Space space.old space.new }
     ensures later_wire { W.faults wire.old ≤ W.faults wire.new }

@@ -12,13 +12,13 @@ use Rattle.ty_answers.proofs.database.serve.Goals as goal
 pub returns-in-FwmKeys-clause-steps : goal.returns-in-FwmKeys-clause-steps
 returns-in-FwmKeys-clause-steps g c =
     let same : to_z w32 (of_z w32 c.in-FwmKeys.maximum) ≡ c.in-FwmKeys.maximum = search rules in
-    if_ok _ (λ done n. arm g.E.S.Space g.E.Storage.own g.E.Storage.holds c.args.request (FwmKeys c.in-FwmKeys.prefix c.in-FwmKeys.maximum) (got_keys c.in-FwmKeys.prefix c.in-FwmKeys.maximum) Fail false done _ _ _ _ _ _ _ c.in-FwmKeys.is refl (λ m. refl) refl refl n) (rw same at c.fwmkeys.ensures.answers)
+    if_ok _ (λ done n. arm g.E.S.Space g.E.Storage.own g.E.Storage.layout g.E.Storage.holds c.args.request (FwmKeys c.in-FwmKeys.prefix c.in-FwmKeys.maximum) (got_keys c.in-FwmKeys.prefix c.in-FwmKeys.maximum) Fail false done _ _ _ _ _ _ _ c.in-FwmKeys.is refl (λ m. refl) refl refl n) (rw same at c.fwmkeys.ensures.answers)
 
 pub returns-in-Misc-clause-steps : goal.returns-in-Misc-clause-steps
-returns-in-Misc-clause-steps g c = if_ok _ (λ done n. arm g.E.S.Space g.E.Storage.own g.E.Storage.holds c.args.request (Misc c.in-Misc.name c.in-Misc.options c.in-Misc.args) (called c.in-Misc.name c.in-Misc.options c.in-Misc.args) FailMisc (updates_call c.in-Misc.name c.in-Misc.args) done _ _ _ _ _ _ _ c.in-Misc.is refl (λ m. refl) refl refl n) c.call.ensures.answers
+returns-in-Misc-clause-steps g c = if_ok _ (λ done n. arm g.E.S.Space g.E.Storage.own g.E.Storage.layout g.E.Storage.holds c.args.request (Misc c.in-Misc.name c.in-Misc.options c.in-Misc.args) (called c.in-Misc.name c.in-Misc.options c.in-Misc.args) FailMisc (updates_call c.in-Misc.name c.in-Misc.args) done _ _ _ _ _ _ _ c.in-Misc.is refl (λ m. refl) refl refl n) c.call.ensures.answers
 
 pub returns-in-Optimize-clause-steps : goal.returns-in-Optimize-clause-steps
-returns-in-Optimize-clause-steps g c = if_ok _ (λ done n. packing_arm g.E.S.Space g.E.Storage.own g.E.Storage.holds c.args.request _ done _ _ _ _ _ _ _ c.in-Optimize.is n) c.optimize.ensures.answers
+returns-in-Optimize-clause-steps g c = if_ok _ (λ done n. packing_arm g.E.S.Space g.E.Storage.own g.E.Storage.layout g.E.Storage.holds c.args.request _ done _ _ _ _ _ _ _ c.in-Optimize.is n) c.optimize.ensures.answers
 
 pub returns-in-Optimize-clause-full : goal.returns-in-Optimize-clause-full
 returns-in-Optimize-clause-full g c = λ full. full_packing g.E.S.Space g.E.Storage.holds g.E.Storage.fills c.args.request _ c.args.engine.now _ _ c.args.walk.now c.in-Optimize.is (λ t d e. g.met.E.Storage.log_fills c.args.engine.now c.args.space.now c.optimize.new.space d e (c.optimize.ensures.full full t))

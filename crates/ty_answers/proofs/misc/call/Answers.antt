@@ -20,7 +20,7 @@ returns-then-not-has_short_keys-clause-answers g c =
     let kept = ap (λ u. options % 2 == 1 && u) (sym c.requires.updating) ∙ (sym c.is_omitted.ensures ∙ c.if-is_omitted.false) in
     let read = ap (λ n. misc_of n args c.kind.result) (sym c.as_slice.ensures) ∙ (sym c.in_ok-misc.ensures ∙ c.in-Some.is) in
     let long = sym c.has_short_keys.ensures ∙ c.if-not-has_short_keys.true in
-    fails_by s g.E.Storage.own holds (called name options args) FailMisc (updates_call name args) c.args.engine.now c.args.space.now c.args.reply.now _ _ c.requires.ready
+    fails_by s g.E.Storage.own g.E.Storage.layout holds (called name options args) FailMisc (updates_call name args) c.args.engine.now c.args.space.now c.args.reply.now _ _ c.requires.ready
     (λ m h. called_long name options args misc m kept (ap (misc_of name args) (sym (c.kind.ensures _ m h.1)) ∙ read) long)
     c.fail-then-not-has_short_keys.ensures.said
 
@@ -36,9 +36,9 @@ returns-clause-answers g c =
     let read = ap (λ n. misc_of n args c.kind.result) (sym c.as_slice.ensures) ∙ (sym c.in_ok-misc.ensures ∙ c.in-Some.is) in
     let short = sym c.has_short_keys.ensures ∙ c.if-not-has_short_keys.false in
     if_ok _ (λ done n.
-    shown s g.E.Storage.own holds (called name options args) (meant misc) FailMisc (updates_call name args) done c.args.engine.now c.perform.new.engine c.args.space.now c.perform.new.space c.args.reply.now c.perform.new.reply
+    shown s g.E.Storage.own g.E.Storage.layout holds (called name options args) (meant misc) FailMisc (updates_call name args) done c.args.engine.now c.perform.new.engine c.args.space.now c.perform.new.space c.args.reply.now c.perform.new.reply
     (λ m h. called_is name options args misc m kept (ap (misc_of name args) (sym (c.kind.ensures _ m h.1)) ∙ read) short)
-    (quieter s g.E.Storage.own holds (meant misc) FailMisc (misc_updates misc) (updates_call name args) done c.args.engine.now c.perform.new.engine c.args.space.now c.perform.new.space c.args.reply.now c.perform.new.reply (updates_named name args c.kind.result misc read) n)) c.perform.ensures.answers
+    (quieter s g.E.Storage.own g.E.Storage.layout holds (meant misc) FailMisc (misc_updates misc) (updates_call name args) done c.args.engine.now c.perform.new.engine c.args.space.now c.perform.new.space c.args.reply.now c.perform.new.reply (updates_named name args c.kind.result misc read) n)) c.perform.ensures.answers
 
 pub returns-clause-full : goal.returns-clause-full
 returns-clause-full g c =

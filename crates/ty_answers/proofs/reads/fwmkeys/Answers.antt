@@ -16,7 +16,7 @@ end_list-requires g c = has_count c.in_ok-rows.rows c.keys_from-filled.new.into 
 
 pub returns-clause-answers : goal.returns-clause-answers
 returns-clause-answers g c =
-    items_read g.E.S.Space g.E.Storage.own g.E.Storage.holds (λ k. at_most c.args.maximum (keys_from k c.args.prefix.now)) Plain false c.end_list.result c.and.result c.keys_from-filled.result c.in_ok-rows.rows c.keys_from-filled.new.into c.len-begin.result c.args.engine.now c.keys_from-filled.new.self c.args.space.now c.keys_from-filled.new.space c.args.reply.now c.end_list.new.reply
+    items_read g.E.S.Space g.E.Storage.own g.E.Storage.layout g.E.Storage.holds (λ k. at_most c.args.maximum (keys_from k c.args.prefix.now)) Plain false c.end_list.result c.and.result c.keys_from-filled.result c.in_ok-rows.rows c.keys_from-filled.new.into c.len-begin.result c.args.engine.now c.keys_from-filled.new.self c.args.space.now c.keys_from-filled.new.space c.args.reply.now c.end_list.new.reply
     c.len-begin.ensures c.in_ok-rows.ensures.ok c.keys_from-filled.ensures.front c.and.ensures
     (on_ok_weaker c.keys_from-filled.result (λ f k h. subst (λ (xs : List (List ℕ)). Adds c.in_ok-rows.rows c.keys_from-filled.new.into (map item_row xs)) (c.limit.ensures (keys_from k c.args.prefix.now) ∙ ap (λ m. at_most m (keys_from k c.args.prefix.now)) (to_z-of_z w32 c.args.maximum c.ranges.maximum)) (f k h)) c.keys_from-filled.ensures.rows)
     c.keys_from-filled.ensures.reads c.keys_from-filled.ensures.keeps c.end_list.ensures.ok

@@ -15,7 +15,7 @@ end_list-requires g c = has_count c.in_ok-rows.rows c.fill_pairs-filled.new.into
 
 pub returns-clause-answers : goal.returns-clause-answers
 returns-clause-answers g c =
-    pairs_read g.E.S.Space g.E.Storage.own g.E.Storage.holds (λ k. flat_map (first_pair k) c.args.keys.now) Plain false c.end_list.result c.and.result c.fill_pairs-filled.result c.in_ok-rows.rows c.fill_pairs-filled.new.into c.len-begin.result c.args.engine.now c.fill_pairs-filled.new.engine c.args.space.now c.fill_pairs-filled.new.space c.args.reply.now c.end_list.new.reply
+    pairs_read g.E.S.Space g.E.Storage.own g.E.Storage.layout g.E.Storage.holds (λ k. flat_map (first_pair k) c.args.keys.now) Plain false c.end_list.result c.and.result c.fill_pairs-filled.result c.in_ok-rows.rows c.fill_pairs-filled.new.into c.len-begin.result c.args.engine.now c.fill_pairs-filled.new.engine c.args.space.now c.fill_pairs-filled.new.space c.args.reply.now c.end_list.new.reply
     c.len-begin.ensures c.in_ok-rows.ensures.ok c.fill_pairs-filled.ensures.front c.and.ensures
     (on_ok_weaker c.fill_pairs-filled.result (λ f k h. subst (λ (xs : List (List ℕ)). Adds c.in_ok-rows.rows c.fill_pairs-filled.new.into (pair_rows (flat_map (first_pair k) xs))) c.as_slice.ensures (f k h)) c.fill_pairs-filled.ensures.rows)
     c.fill_pairs-filled.ensures.reads c.fill_pairs-filled.ensures.keeps c.end_list.ensures.ok

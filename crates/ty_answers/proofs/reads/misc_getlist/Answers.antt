@@ -14,7 +14,7 @@ end_list-requires g c = has_count c.in_ok-rows.rows c.fill_all-filled.new.into c
 
 pub returns-clause-answers : goal.returns-clause-answers
 returns-clause-answers g c =
-    items_read g.E.S.Space g.E.Storage.own g.E.Storage.holds (λ k. texts_of (flat_map (all_pairs k) c.args.keys)) Misc false c.end_list.result c.and.result c.fill_all-filled.result c.in_ok-rows.rows c.fill_all-filled.new.into c.len-begin.result c.args.engine.now c.fill_all-filled.new.engine c.args.space.now c.fill_all-filled.new.space c.args.reply.now c.end_list.new.reply
+    items_read g.E.S.Space g.E.Storage.own g.E.Storage.layout g.E.Storage.holds (λ k. texts_of (flat_map (all_pairs k) c.args.keys)) Misc false c.end_list.result c.and.result c.fill_all-filled.result c.in_ok-rows.rows c.fill_all-filled.new.into c.len-begin.result c.args.engine.now c.fill_all-filled.new.engine c.args.space.now c.fill_all-filled.new.space c.args.reply.now c.end_list.new.reply
     c.len-begin.ensures c.in_ok-rows.ensures.ok c.fill_all-filled.ensures.front c.and.ensures c.fill_all-filled.ensures.rows c.fill_all-filled.ensures.reads c.fill_all-filled.ensures.keeps c.end_list.ensures.ok
 
 pub returns-clause-front : goal.returns-clause-front

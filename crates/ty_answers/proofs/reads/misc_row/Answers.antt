@@ -16,9 +16,9 @@ end_list-requires g c = has_count c.in_ok-rows.rows c.row-found.new.into c.args.
 
 pub returns-clause-answers : goal.returns-clause-answers
 returns-clause-answers g c =
-    same_effect g.E.S.Space g.E.Storage.own g.E.Storage.holds (told_by (λ k. option_map (λ v. reply.List v) (option_map texts_of (row_held k c.args.key.now)))) (meant (misc.GetRow c.args.key.now)) reply.FailMisc false c.end_list.result c.args.engine.now c.row-found.new.self c.args.space.now c.row-found.new.space c.args.reply.now c.end_list.new.reply
+    same_effect g.E.S.Space g.E.Storage.own g.E.Storage.layout g.E.Storage.holds (told_by (λ k. option_map (λ v. reply.List v) (option_map texts_of (row_held k c.args.key.now)))) (meant (misc.GetRow c.args.key.now)) reply.FailMisc false c.end_list.result c.args.engine.now c.row-found.new.self c.args.space.now c.row-found.new.space c.args.reply.now c.end_list.new.reply
     (λ k. texts_meant k (option_map texts_of (row_held k c.args.key.now)))
-    (texts_read g.E.S.Space g.E.Storage.own g.E.Storage.holds (λ k. option_map texts_of (row_held k c.args.key.now)) Misc false c.end_list.result c.row-found.result c.in_ok-rows.rows c.row-found.new.into c.len-begin.result c.args.engine.now c.row-found.new.self c.args.space.now c.row-found.new.space c.args.reply.now c.end_list.new.reply
+    (texts_read g.E.S.Space g.E.Storage.own g.E.Storage.layout g.E.Storage.holds (λ k. option_map texts_of (row_held k c.args.key.now)) Misc false c.end_list.result c.row-found.result c.in_ok-rows.rows c.row-found.new.into c.len-begin.result c.args.engine.now c.row-found.new.self c.args.space.now c.row-found.new.space c.args.reply.now c.end_list.new.reply
     c.len-begin.ensures c.in_ok-rows.ensures.ok c.row-found.ensures.front c.row-found.ensures.value c.row-found.ensures.reads c.row-found.ensures.keeps c.end_list.ensures.ok)
 
 pub returns-clause-front : goal.returns-clause-front

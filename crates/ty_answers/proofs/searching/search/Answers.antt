@@ -9,7 +9,7 @@ end_list-requires g c = has_count c.in_ok-rows.rows c.search-found.new.into c.ar
 
 pub returns-clause-answers : goal.returns-clause-answers
 returns-clause-answers g c =
-    search_answers g.E.S.Space g.E.Storage.own g.E.Storage.holds c.args.conditions.now c.end_list.result c.search-found.result c.in_ok-rows.rows c.search-found.new.into c.len-begin.result c.args.engine.now c.search-found.new.self c.args.space.now c.search-found.new.space c.args.reply.now c.end_list.new.reply
+    search_answers g.E.S.Space g.E.Storage.own g.E.Storage.layout g.E.Storage.holds c.args.conditions.now c.end_list.result c.search-found.result c.in_ok-rows.rows c.search-found.new.into c.len-begin.result c.args.engine.now c.search-found.new.self c.args.space.now c.search-found.new.space c.args.reply.now c.end_list.new.reply
     c.len-begin.ensures c.in_ok-rows.ensures.ok c.search-found.ensures.front c.search-found.ensures.makes c.search-found.ensures.says c.search-found.ensures.quiet c.search-found.ensures.reads c.search-found.ensures.keeps c.end_list.ensures.ok
 
 pub returns-clause-front : goal.returns-clause-front
@@ -22,5 +22,5 @@ returns-clause-full g c = λ is.
 
 pub returns-clause-refused : goal.returns-clause-refused
 returns-clause-refused g c =
-    search_refused g.E.S.Space g.E.Storage.own g.E.Storage.holds c.args.conditions.now c.end_list.result c.search-found.result c.in_ok-rows.rows c.search-found.new.into _ room c.args.engine.now c.search-found.new.self c.args.space.now c.search-found.new.space
+    search_refused g.E.S.Space g.E.Storage.own g.E.Storage.layout g.E.Storage.holds c.args.conditions.now c.end_list.result c.search-found.result c.in_ok-rows.rows c.search-found.new.into _ room c.args.engine.now c.search-found.new.self c.args.space.now c.search-found.new.space
     c.in_ok-rows.ensures.ok c.search-found.ensures.makes c.search-found.ensures.quiet c.search-found.ensures.reads c.end_list.ensures.undone c.search-found.ensures.refused

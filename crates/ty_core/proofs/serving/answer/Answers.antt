@@ -18,7 +18,7 @@ returns-then-if_updating-clause-applied g c = λ d h. record {
 }
 
 pub returns-then-if_updating-clause-leaves : goal.returns-then-if_updating-clause-leaves
-returns-then-if_updating-clause-leaves g c = leaves_nothing g.B.S.Space g.B.Storage.own _ c.args.space.now c.requires.ready.sound
+returns-then-if_updating-clause-leaves g c = leaves_nothing g.B.S.Space g.B.Storage.own g.B.Storage.layout _ c.args.space.now c.requires.ready.sound
 
 pub returns-clause-applied : goal.returns-clause-applied
 returns-clause-applied g c = IfOk-weaker c.apply.result _ _ (λ a served. served_alike g.B.S.Space g.B.Storage.holds c.args.replica c.args.request a c.args.base.now c.apply.new.self c.args.space.now c.apply.new.space c.args.walk.now c.apply.new.walk c.args.reply.now c.apply.new.reply (sym c.if_updating.ensures ∙ c.if-if_updating.false) served) c.apply.ensures.applied

@@ -17,7 +17,7 @@ loop-i-init g c = record {
   calm = c.requires.calm;
   round = λ d h ks a. skip_front _ c.args.span c.args.peers.now.items c.requires.calm (round_steps false d _ _ _ _ c.args.peers.now.items ks) (begin _ d _ _ ks h a);
   ready = c.requires.ready;
-  leaves = leaves_nothing g.B.S.Space g.B.Storage.own (false ≡ false) c.args.space.now c.requires.ready.sound;
+  leaves = leaves_nothing g.B.S.Space g.B.Storage.own g.B.Storage.layout (false ≡ false) c.args.space.now c.requires.ready.sound;
   keeps = keeps_refl g.B.S.Space c.args.space.now;
 }
 
@@ -33,7 +33,7 @@ loop-i-preserved g c = let s = g.B.S.Space in
       calm = span_inside c.args.span _ c.loop-i.i _ (search rules) (search rules) (search rules) one.calm i.calm;
       round = λ d h ks a. more_is _ c.loop-i.commits c.in_ok-one.one d _ _ _ _ _ _ _ ks _ c.index_mut-p.result.now c.serve_one.new.p is (i.round d h ks a) (search rules) (search rules) one.each;
       ready = one.ready;
-      leaves = leaves_then s g.B.Storage.own _ c.loop-i.commits c.in_ok-one.one _ c.loop-i.space _ is i.leaves one.leaves;
+      leaves = leaves_then s g.B.Storage.own g.B.Storage.layout _ c.loop-i.commits c.in_ok-one.one _ c.loop-i.space _ is i.leaves one.leaves;
       keeps = keeps_then s c.args.space.now c.loop-i.space c.serve_one.new.space i.keeps c.serve_one.ensures.keeps;
     }
 

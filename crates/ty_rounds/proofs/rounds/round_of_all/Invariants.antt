@@ -18,6 +18,6 @@ invariant-loop-i g l = let s = g.B.S.Space in let holds = g.B.Storage.holds in r
   calm : IsSpan l.fn.span l.peers.items;
   round : (c : Contents) → Held s holds l.fn.base l.fn.space c → (ks : List Client) → AllHold l.fn.peers.items ks → Halfway l.commits c (Held s holds l.base l.space) l.fn.walk l.walk l.fn.peers.items l.peers.items l.i ks;
   ready : IsReady s holds l.base l.space;
-  leaves : Leaves s g.B.Storage.own (l.commits ≡ false) l.fn.space l.space;
+  leaves : Leaves s g.B.Storage.own g.B.Storage.layout (l.commits ≡ false) l.fn.space l.space;
   keeps : Keeps s l.fn.space l.space;
 }

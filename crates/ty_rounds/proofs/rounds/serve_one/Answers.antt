@@ -14,7 +14,7 @@ returns-then-not-p-clause-served g c = record {
   calm = c.requires.calm;
   each = λ d h. none_idle _ d _ c.args.p.now _ h refl (quiet_none c.args.p.now (c.requires.calm (search rules)));
   ready = c.requires.ready;
-  leaves = leaves_nothing g.B.S.Space g.B.Storage.own (false ≡ false) c.args.space.now c.requires.ready.sound;
+  leaves = leaves_nothing g.B.S.Space g.B.Storage.own g.B.Storage.layout (false ≡ false) c.args.space.now c.requires.ready.sound;
 }
 
 pub returns-then-p-clause-served : goal.returns-then-p-clause-served
@@ -25,7 +25,7 @@ returns-then-p-clause-served g c = record {
   calm = c.requires.calm;
   each = λ d h. gone_idle _ d _ _ h (search rules);
   ready = c.requires.ready;
-  leaves = leaves_nothing g.B.S.Space g.B.Storage.own (false ≡ false) c.args.space.now c.requires.ready.sound;
+  leaves = leaves_nothing g.B.S.Space g.B.Storage.own g.B.Storage.layout (false ≡ false) c.args.space.now c.requires.ready.sound;
 }
 
 pub returns-then-not-all_taken-clause-served : goal.returns-then-not-all_taken-clause-served
@@ -36,7 +36,7 @@ returns-then-not-all_taken-clause-served g c = record {
   calm = c.requires.calm;
   each = λ d h. waits_idle _ d _ c.args.p.now _ h refl (search rules);
   ready = c.requires.ready;
-  leaves = leaves_nothing g.B.S.Space g.B.Storage.own (false ≡ false) c.args.space.now c.requires.ready.sound;
+  leaves = leaves_nothing g.B.S.Space g.B.Storage.own g.B.Storage.layout (false ≡ false) c.args.space.now c.requires.ready.sound;
 }
 
 pub returns-then-not-has_whole-clause-served : goal.returns-then-not-has_whole-clause-served
@@ -47,7 +47,7 @@ returns-then-not-has_whole-clause-served g c = record {
   calm = c.requires.calm;
   each = λ d h. none_idle _ d _ c.args.p.now _ h refl (search rules);
   ready = c.requires.ready;
-  leaves = leaves_nothing g.B.S.Space g.B.Storage.own (false ≡ false) c.args.space.now c.requires.ready.sound;
+  leaves = leaves_nothing g.B.S.Space g.B.Storage.own g.B.Storage.layout (false ≡ false) c.args.space.now c.requires.ready.sound;
 }
 
 pub returns-clause-served : goal.returns-clause-served
@@ -57,7 +57,7 @@ returns-clause-served g c = let s = c.in_ok-served.ensures.served in let o = c.i
   waiting = few_waiting c.args.p.now c.owe_repl.new.p c.serve.new.self s.request c.in_ok-served.served s.takes.feeds s.few (search rules) o;
   calm = calm_stirs c.owe_repl.new.p (o.stirs ∙ search rules);
   each = λ d h. let x = s.serves d h in one_served _ d x.0 _ _ c.args.p.now c.owe_repl.new.p c.serve.new.self s.request c.in_ok-served.served (search rules) (search rules) s.takes x.2 o x.1;
-  ready = still_ready g.B.S.Space g.B.Storage.own g.B.Storage.holds false c.in_ok-served.served _ _ _ _ _ _ _ _ _ _ _ c.requires.ready s c.in_ok-served.ensures.leaves;
+  ready = still_ready g.B.S.Space g.B.Storage.own g.B.Storage.layout g.B.Storage.holds false c.in_ok-served.served _ _ _ _ _ _ _ _ _ _ _ c.requires.ready s c.in_ok-served.ensures.leaves;
   leaves = c.in_ok-served.ensures.leaves;
 }
 

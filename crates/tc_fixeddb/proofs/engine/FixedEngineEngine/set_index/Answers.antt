@@ -3,7 +3,8 @@ use Rattle.tc_engine.specs.Tables.{makes_none, no_index}
 use Rattle.tc_space.specs.Stores.{Only}
 use Rattle.tc_fixeddb.specs.Holding.{HoldsIds}
 use Rattle.tc_fixeddb.specs.Laws.{never_table}
+use Rattle.tc_fixeddb.specs.Layouts.{layout_of}
 use Rattle.tc_fixeddb.proofs.engine.FixedEngineEngine.set_index.Goals as goal
 
 pub returns-clause-makes : goal.returns-clause-makes
-returns-clause-makes g c = makes_none g.S.Space (Only 0) HoldsIds (index_set _ _) _ _ c.requires.sound (λ m h. no_index m _ _ (never_table _ _ m h.1))
+returns-clause-makes g c = makes_none g.S.Space (Only 0) layout_of HoldsIds (index_set _ _) _ _ c.requires.sound (λ m h. no_index m _ _ (never_table _ _ m h.1))

@@ -4,7 +4,7 @@ use Rattle.tc_base.specs.declared.kind.Kind.TheVariants as kinds
 use Rattle.ty_base.proofs.Refusals.{breaks_all, breaks_none, if_err_of, no_bytes, on_err_of, on_ok_of}
 use Rattle.tc_fixeddb.specs.Holding.{BreaksAs}
 use Rattle.tc_fixeddb.specs.Shapes.{anew, usual}
-use Rattle.tc_fixeddb.proofs.Made.{made_opens, made_usual, opens_made, main_opened, main_opens}
+use Rattle.tc_fixeddb.proofs.Made.{made_laid, made_opens, made_usual, read_laid, opens_made, main_opened, main_opens}
 use Rattle.tc_fixeddb.proofs.opening.FixedEngineOpens.open.Goals as goal
 
 pub returns-then-len-eq0-clause-stands : goal.returns-then-len-eq0-clause-stands
@@ -51,3 +51,9 @@ returns-clause-usable g c = record {
   others = record { same = λ t n other. c.open.ensures.reads.files t n };
   made = λ t none. absurd (let zero = ap length none in omega (arith, c.if-len-eq0.false, c.len.ensures t, zero));
 }
+
+pub returns-then-len-eq0-clause-laid : goal.returns-then-len-eq0-clause-laid
+returns-then-len-eq0-clause-laid g c = made_laid g.S.Space c.create.result c.args.space.now c.create.new.space c.create.ensures.created
+
+pub returns-clause-laid : goal.returns-clause-laid
+returns-clause-laid g c = read_laid g.S.Space c.args.space.now c.open.new.space (λ t. c.open.ensures.reads.files t)

@@ -11,4 +11,4 @@ pub returns-in_err-drop_each-clause-full : goal.returns-in_err-drop_each-clause-
 returns-in_err-drop_each-clause-full g c = λ full. clear_all_full g.S.Space _ _ _ c.args.keys c.as_slice.result.now c.as_slice.ensures (λ m means. inl (c.in_err-drop_each.ensures.full (err_handed _ _ _ c.from_residual.ensures.1 full) means.0))
 
 pub returns-clause-makes : goal.returns-clause-makes
-returns-clause-makes g c = clears_all g.S.Space _ _ _ _ c.args.keys c.as_slice.result.now c.as_slice.ensures c.in_ok-drop_each.ensures.out
+returns-clause-makes g c = clears_all g.S.Space _ _ _ _ c.args.keys c.as_slice.result.now c.as_slice.ensures c.drop_each.ensures.numbers c.in_ok-drop_each.ensures.out

@@ -16,4 +16,4 @@ pub returns-in_err-set_all-clause-full : goal.returns-in_err-set_all-clause-full
 returns-in_err-set_all-clause-full g c = λ full. store_all_full g.S.Space _ _ _ c.args.pairs c.as_slice.result.now c.are_short.result c.as_slice.ensures c.are_short.ensures c.if-not-are_short.false (c.in_err-set_all.ensures.full (err_handed _ _ _ c.from_residual.ensures.1 full))
 
 pub returns-clause-makes : goal.returns-clause-makes
-returns-clause-makes g c = stores_all g.S.Space _ _ _ _ c.args.pairs c.as_slice.result.now c.are_short.result c.as_slice.ensures c.are_short.ensures c.if-not-are_short.false c.in_ok-set_all.ensures.set
+returns-clause-makes g c = stores_all g.S.Space _ _ _ _ c.args.pairs c.as_slice.result.now c.are_short.result c.as_slice.ensures c.are_short.ensures c.if-not-are_short.false c.set_all.ensures.numbers c.in_ok-set_all.ensures.set

@@ -3,7 +3,8 @@ use Rattle.tc_engine.specs.Tables.{makes_none, no_row}
 use Rattle.tc_space.specs.Stores.{Only}
 use Rattle.tc_hashdb.specs.Holding.{HoldsKeys}
 use Rattle.tc_hashdb.specs.Laws.{never_table}
+use Rattle.tc_hashdb.specs.Layouts.{layout_of}
 use Rattle.tc_hashdb.proofs.engine.HashEngineEngine.store_row.Goals as goal
 
 pub returns-clause-makes : goal.returns-clause-makes
-returns-clause-makes g c = makes_none g.S.Space (Only 0) HoldsKeys (row_stored c.args._mode c.args._key c.args._columns) _ _ c.requires.sound (λ m h. no_row m c.args._mode c.args._key c.args._columns (never_table _ _ m h.1))
+returns-clause-makes g c = makes_none g.S.Space (Only 0) layout_of HoldsKeys (row_stored c.args._mode c.args._key c.args._columns) _ _ c.requires.sound (λ m h. no_row m c.args._mode c.args._key c.args._columns (never_table _ _ m h.1))

@@ -14,7 +14,7 @@ pub loop-key-init : goal.loop-key-init
 loop-key-init g c = set_start g.S.Space _ _ _ c.requires.ready.sound
 
 pub loop-key-preserved : goal.loop-key-preserved
-loop-key-preserved g c = set_more g.S.Space _ _ _ _ _ _ _ _ _ (c.in-Some.key.now, c.in-Some.value.now) c.as_slice.result.now c.as_slice-in-loop-key.result.now c.loop-key.invariant c.in-Some.ensures.steps c.as_slice.ensures c.as_slice-in-loop-key.ensures c.in_ok-set_value.ensures.set c.set_value.ensures.keeps
+loop-key-preserved g c = set_more g.S.Space _ _ _ _ _ _ _ _ _ (c.in-Some.key.now, c.in-Some.value.now) c.as_slice.result.now c.as_slice-in-loop-key.result.now c.loop-key.invariant c.in-Some.ensures.steps c.as_slice.ensures c.as_slice-in-loop-key.ensures c.in_ok-set_value.ensures.set c.set_value.ensures.numbers c.set_value.ensures.keeps
 
 pub returns-in_err-set_value-clause-full : goal.returns-in_err-set_value-clause-full
 returns-in_err-set_value-clause-full g c = λ full.
@@ -27,3 +27,9 @@ pub returns-clause-set : goal.returns-clause-set
 returns-clause-set g c =
     let least = c.new-least.ensures ∙ c.new.ensures in
     set_end g.S.Space _ _ _ _ _ _ c.args.values.now c.loop-key.invariant c.in-None.ensures.steps.0 (c.into_iter-key-iterator.ensures.into_iter_gives ∙ (c.entries_from-key-items.ensures.entries ∙ ap (λ k. entries_on k c.args.values.now) least))
+
+pub returns-in_err-set_value-clause-numbers : goal.returns-in_err-set_value-clause-numbers
+returns-in_err-set_value-clause-numbers g c = c.set_value.ensures.numbers ∙ c.loop-key.invariant.numbers
+
+pub returns-clause-numbers : goal.returns-clause-numbers
+returns-clause-numbers g c = c.loop-key.invariant.numbers

@@ -5,7 +5,7 @@ use Rattle.tc_base.specs.declared.kind.Kind.TheVariants as kinds
 use Rattle.tc_model.specs.Contents.{hash}
 use Rattle.ty_base.proofs.Refusals.{breaks_all, breaks_none, if_err_of, no_bytes, on_err_of}
 use Rattle.tc_hashdb.specs.Holding.{BreaksAs}
-use Rattle.tc_hashdb.proofs.Made.{all_opened, made_usual, all_stand, made_opens, main_opened, main_opens}
+use Rattle.tc_hashdb.proofs.Made.{all_opened, made_laid, made_usual, read_laid, all_stand, made_opens, main_opened, main_opens}
 use Rattle.tc_hashdb.proofs.opening.HashEngineOpens.open.Goals as goal
 
 pub returns-then-len-eq0-clause-stands : goal.returns-then-len-eq0-clause-stands
@@ -47,3 +47,9 @@ returns-then-len-eq0-clause-broken g c = IfErr-weaker _ _ _ (λ e none. breaks_n
 
 pub returns-in_err-hash-clause-refused : goal.returns-in_err-hash-clause-refused
 returns-in_err-hash-clause-refused g c = record { left = on_err_of _ (inr c.open.ensures.reads); cause = search rules; sound = if_err_of _ (λ e. breaks_all e _ c.open.ensures.reads) }
+
+pub returns-then-len-eq0-clause-laid : goal.returns-then-len-eq0-clause-laid
+returns-then-len-eq0-clause-laid g c = made_laid g.S.Space c.create.result c.args.space.now c.create.new.space (λ t. sym (c.len.ensures t) ∙ c.if-len-eq0.true) c.create.ensures.created
+
+pub returns-clause-laid : goal.returns-clause-laid
+returns-clause-laid g c = read_laid g.S.Space c.args.space.now c.open.new.space (λ t. c.open.ensures.reads.files t)
