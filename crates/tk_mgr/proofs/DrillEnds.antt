@@ -11,7 +11,7 @@ use Rattle.ty_world.specs.World.{Mark}
 use Rattle.ty_rounds.specs.Kept.{HoldsMark, LeavesMarks, Reopens}
 use Rattle.ty_rounds.proofs.Leaving.{IsClean, left_stands}
 use Rattle.ty_rounds.proofs.Telling.{Adds-none}
-use Rattle.tk_mgr.specs.Drilling.{Secures, Stands, Tells, mark_behind}
+use Rattle.tk_mgr.specs.Drilling.{Stands, Tells, mark_behind}
 use Rattle.tk_mgr.specs.Drills.{drilled, summary}
 use Rattle.tk_mgr.specs.Managing.{IsThrough, Manages, last_mark, marks_of}
 use Rattle.tk_mgr.specs.Tasks.{text_of}
@@ -43,11 +43,10 @@ module _ {S B : Type 0} (s : space.Ghosts S) (holds : B → Files → Contents �
       subst (λ (n : ℕ). text ≡ summary n (drilled n seed m.contents)) all (tells.each seed m (stands_hold s holds reopens seed run base a m st))
 
   -- what a stop leaves once it is kept
-  pub last_left : (seed count : ℕ) (run run' : Run) (base base' : B) (mid new : S) (m : Mark) → run.made ≡ 100 * (count / 100) → Secures s holds reopens (count % 100) run run' base base' mid new → IsClean s new → Stands s holds reopens seed run base mid m
+  pub last_left : (seed count : ℕ) (run run' : Run) (base' : B) (new : S) (m : Mark) → run.made ≡ 100 * (count / 100) → run'.made ≡ run.made + count % 100 → IsClean s new → Stands s holds reopens seed run' base' new m
       → (o : Option Files) → s.left new (s.moment new) o → Reopens reopens o (last_mark (Drill seed count) m)
-  last_left seed count run run' base base' mid new m made secures clean st o l =
-      let all : run'.made ≡ count = omega (arith, secures.made) in
-      let there = secures.each seed m st in
+  last_left seed count run run' base' new m made more clean there o l =
+      let all : run'.made ≡ count = omega (arith, made, more) in
       subst (λ (n : ℕ). Reopens reopens o (mark_behind n seed m)) all (left_stands s reopens holds base' new (mark_behind run'.made seed m) clean there.stands o l)
 
 -- ---- what it leaves, and what it prints

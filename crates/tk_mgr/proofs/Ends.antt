@@ -1,6 +1,6 @@
 -- What tasks leave, by what their requests left.
 use Rattle.std.proofs.Common.{◌≡◌, ◌⊎◌, inl, inr, ⊎_elim, ℕ, Bool, true, false, List, [], ◌∷◌, refl, sym, ap, subst, ◌∙◌, arith, Ok, Err}
-use Rattle.std.specs.Prelude.{◌&&◌, Option, Some, None, Result, IsErrOf, map, unwrap_or}
+use Rattle.std.specs.Prelude.{◌&&◌, Option, Some, None, Result, OnOk, IsErrOf, map, unwrap_or}
 use Rattle.std.specs.Result.{IsErrAnd}
 use Rattle.std.proofs.lemmas.Result.{err_from_is_err_and}
 use Rattle.std.proofs.lemmas.Bool.{or_from}
@@ -19,7 +19,7 @@ use Rattle.tc_model.specs.Packing.{is_optimize}
 use Rattle.tc_model.specs.declared.applied.Applied.{Applied}
 use Rattle.tc_model.proofs.Idle.{apply_idle}
 use Rattle.ty_world.specs.World.{Mark}
-use Rattle.ty_base.specs.Holding.{Held, IsReady, Leaves, may_write}
+use Rattle.ty_base.specs.Holding.{Frame, Held, IsReady, Laid, Layout, Leaves, may_write}
 use Rattle.ty_base.proofs.Refusals.{cause_is}
 use Rattle.ty_rounds.specs.Kept.{HasMark, HoldsMark, LeavesMarks, LeavesTwo, MovesTo, Reopens}
 use Rattle.ty_rounds.proofs.Leaving.{IsClean, Earlier, kept_stands, was_kept, left_stands, none_two, steady_two, moved_two}
@@ -30,7 +30,7 @@ use Rattle.tk_mgr.specs.declared.task.Task.{Task}
 use Rattle.tk_mgr.specs.declared.task.Task.TheVariants.{Optimize}
 use Rattle.tk_mgr.specs.Errors.{mgr_of}
 use Rattle.tk_mgr.specs.Tasks.{Prints, after, all_marks, answered, asked, at_step, before_last, ok_of, steps_of}
-use Rattle.tk_mgr.specs.Managing.{ArePacked, FillsTask, IsThrough, LacksKeeping, Manages, MayManage, PacksTask, form_for, last_mark, packing, with_contents}
+use Rattle.tk_mgr.specs.Managing.{ArePacked, FillsTask, IsThrough, LacksKeeping, Manages, MayManage, PacksTask, form_for, last_mark, packing, said_by, with_contents}
 use Rattle.tk_mgr.specs.Asking.{Answers, Carries, IsIdle, Looks}
 use Rattle.tk_mgr.specs.Showing.{Shows}
 
@@ -41,6 +41,16 @@ pub full_rec : (e : RecErr) → mgr_of e ≡ err.Full → e ≡ rec.Full
 full_rec rec.Full is = refl
 full_rec rec.Fault is = absurd cc
 full_rec rec.Memory is = absurd cc
+
+pub mgr_not_sink : (e : RecErr) → mgr_of e ≡ err.Sink → ⊥
+mgr_not_sink rec.Full is = absurd cc
+mgr_not_sink rec.Fault is = absurd cc
+mgr_not_sink rec.Memory is = absurd cc
+
+-- where it is an `Ok` both hold
+pub on_ok_both : {T E P Q R : Type 0} (r : Result T E) → (P → Q → R) → OnOk r P → OnOk r Q → OnOk r R
+on_ok_both (Ok x) f p q = f p q
+on_ok_both (Err e) f p q = tt
 
 -- a refusal for want of room, at the exit of a `?`
 pub full_at : {T U : Type 0} (r : Result T MgrErr) (e : RecErr) → IsErrAnd r (λ f. f ≡ mgr_of e) → IsErrOf r err.Full → IsErrOf {T = U} (Err e) rec.Full
@@ -76,13 +86,22 @@ module _ {S B : Type 0} (s : space.Ghosts S) (holds : B → Files → Contents �
       (x.0, (l.held x.0 (t, x.1)).1, subst (λ (files : Files). reopens files x.0) (λ i f. sym (l.files t f) i) x.2)
 
   -- an idle request
-  pub asked_looks : {own : ℕ → Type 0} (r : Request) (x : Applied) (b b' : B) (a a' : S) (reply : List ℕ) → IsIdle r → IsReady s holds b a → Keeps s a a' → Leaves s own ((x.updated ≡ false) × (is_optimize r ≡ false)) a a'
+  pub asked_looks : {own : ℕ → Type 0} {layout : Files → Layout} (r : Request) (x : Applied) (b b' : B) (a a' : S) (reply : List ℕ) → IsIdle r → IsReady s holds b a → Keeps s a a' → Leaves s own layout ((x.updated ≡ false) × (is_optimize r ≡ false)) a a'
       → ((c : Contents) → Held s holds b a c → Answers s holds r x c b' a' reply) → Looks s holds b b' a a'
   asked_looks r x b b' a a' reply idle is keeps leaves answers = record {
     keeps = keeps;
     sound = leaves.sound;
     files = λ t. let h = is.held t in let w = answers h.0 (t, h.1) in (leaves.reads (w.updated ∙ and_none (apply false r h.0 None).ok (updates r) idle.updates_none, idle.packs_none)).files t;
     held = λ c h. let w = answers c h in subst (λ (d : Contents). Held s holds b' a' d) (idle_stays r c idle) w.held;
+  }
+
+  -- nothing was written
+  pub looks_leaves : (own : ℕ → Type 0) (layout : Files → Layout) (b b' : B) (a a' : S) → Looks s holds b b' a a' → Leaves s own layout ⊥ a a'
+  looks_leaves own layout b b' a a' l = record {
+    sound = l.sound;
+    others = record { same = λ t g other. l.files t g };
+    numbered = λ t. ap (λ (f : Files). (layout f).numbers) (λ i g. l.files t g i);
+    reads = λ never. absurd never;
   }
 
 -- ---- marks
@@ -156,6 +175,11 @@ module _ {S : Type 0} (s : space.Ghosts S) (reopens : Files → Contents → Typ
   pub packs_as : (packed : Form → Files → Type 0) (now task : Task) (result : Result Bool MgrErr) (a : S) → now ≡ task → PacksTask s packed task result a → PacksTask s packed now result a
   packs_as packed now task result a is h = subst (λ (t : Task). PacksTask s packed t result a) (sym is) h
 
+  -- laid out like what was there, as far as a task leaves that
+  pub laid_as : {B O : Type 0} (g : sink.Ghosts O) (holds : B → Files → Contents → Type 0) (lines : Files → List ℕ → Type 0) (own : ℕ → Type 0) (layout : Files → Layout) (l : Frame) (now task : Task) (result : Result Bool MgrErr) (base : B) (a b : S) (p q : O) → now ≡ task
+      → Manages s g holds (Laid own (said_by (packing task) layout) l reopens) lines task result base a b p q → Manages s g holds (Laid own (said_by (packing now) layout) l reopens) lines now result base a b p q
+  laid_as g holds lines own layout l now task result base a b p q is h = subst (λ (t : Task). Manages s g holds (Laid own (said_by (packing t) layout) l reopens) lines t result base a b p q) (sym is) h
+
   pub manages_as : {B O : Type 0} (g : sink.Ghosts O) (holds : B → Files → Contents → Type 0) (lines : Files → List ℕ → Type 0) (now task : Task) (result : Result Bool MgrErr) (base : B) (a b : S) (p q : O) → now ≡ task
       → Manages s g holds reopens lines task result base a b p q → Manages s g holds reopens lines now result base a b p q
   manages_as g holds lines now task result base a b p q is h = subst (λ (t : Task). Manages s g holds reopens lines t result base a b p q) (sym is) h
@@ -200,12 +224,12 @@ module _ {S : Type 0} (s : space.Ghosts S) (reopens : Files → Contents → Typ
 
   module _ {B : Type 0} (holds : B → Files → Contents → Type 0) where
     -- the mark that is held behind a request
-    pub asked_mark : {own : ℕ → Type 0} (r : Request) (x : Applied) (base base' : B) (a b : S) (reply : List ℕ) (m : Mark) → (own 2 → ⊥) → Leaves s own ((x.updated ≡ false) × (is_optimize r ≡ false)) a b → Answers s holds r x m.contents base' b reply → HasMark s holds base a m
+    pub asked_mark : {own : ℕ → Type 0} {layout : Files → Layout} (r : Request) (x : Applied) (base base' : B) (a b : S) (reply : List ℕ) (m : Mark) → (own 2 → ⊥) → Leaves s own layout ((x.updated ≡ false) × (is_optimize r ≡ false)) a b → Answers s holds r x m.contents base' b reply → HasMark s holds base a m
         → HasMark s holds base' b (with_contents m (asked (Some r) m.contents))
     asked_mark r x base base' a b reply m other leaves answers h = record { held = answers.held; log = leaves.others.same h.held.0 2 other ∙ h.log }
 
     -- and it stood in the files already where nothing is to be kept
-    pub asked_stood : {own : ℕ → Type 0} (r : Request) (x : Applied) (base base' : B) (a b : S) (reply : List ℕ) (m : Mark) → is_optimize r ≡ false → Leaves s own ((x.updated ≡ false) × (is_optimize r ≡ false)) a b → Answers s holds r x m.contents base' b reply → HoldsMark s holds reopens base a m
+    pub asked_stood : {own : ℕ → Type 0} {layout : Files → Layout} (r : Request) (x : Applied) (base base' : B) (a b : S) (reply : List ℕ) (m : Mark) → is_optimize r ≡ false → Leaves s own layout ((x.updated ≡ false) × (is_optimize r ≡ false)) a b → Answers s holds r x m.contents base' b reply → HoldsMark s holds reopens base a m
         → x.updated ≡ false → reopens (s.now b) (asked (Some r) m.contents)
     asked_stood r x base base' a b reply m packs leaves answers h idle =
         let only = leaves.reads (idle, packs) in

@@ -12,12 +12,12 @@ use Rattle.tc_model.specs.declared.applied.Applied.{Applied}
 use Rattle.ty_wire.specs.Spelling.{reply_bytes}
 use Rattle.ty_base.specs.Holding.{Held, OfHeld}
 use Rattle.ty_world.specs.World.{Mark}
-use Rattle.ty_rounds.specs.Kept.{HoldsMark, LeavesTwo, Reopens}
+use Rattle.ty_rounds.specs.Kept.{HoldsMark, LeavesMarks, LeavesTwo, Reopens}
 use Rattle.std.proofs.Common.{refl, ◌∙◌}
 use Rattle.tk_mgr.specs.declared.errors.MgrErr.{MgrErr}
 use Rattle.tk_mgr.specs.declared.errors.MgrErr.TheVariants.{Fault, Full, Sink}
 use Rattle.tk_mgr.specs.Tasks.{asked, answered}
-use Rattle.tk_mgr.specs.Managing.{IsThrough, last_mark, with_contents}
+use Rattle.tk_mgr.specs.Managing.{IsThrough, last_mark, marks_of, with_contents}
 use Rattle.tk_mgr.specs.declared.task.Task.{Task}
 
 -- a request was made of contents: what it makes of them is held now, and its reply stands alone
@@ -87,6 +87,10 @@ CarriesOf s holds reopens r result base old new = OfMark s holds reopens base ol
 
 abbrev pub FillsRequest : {S B T : Type 0} → space.Ghosts S → (B → Files → Contents → Type 0) → (S → S → Contents → Contents → Type 0) → Option Request → Result T MgrErr → B → S → S → Type 0
 FillsRequest s holds fills r result base old new = IsErrOf result Full → OfHeld s holds base old (λ c. fills old new c (asked r c))
+
+-- a stop leaves files that stand for one of the marks of a task
+abbrev pub LeavesAll : {S B : Type 0} → space.Ghosts S → (B → Files → Contents → Type 0) → (Files → Contents → Type 0) → Task → B → S → S → Type 0
+LeavesAll s holds reopens task base old new = OfMark s holds reopens base old (λ m. LeavesMarks s reopens old new (marks_of task m))
 
 -- a stop at the exit leaves files that stand for the last mark of a task
 abbrev pub LeavesLast : {S B : Type 0} → space.Ghosts S → (B → Files → Contents → Type 0) → (Files → Contents → Type 0) → Task → B → S → S → Type 0

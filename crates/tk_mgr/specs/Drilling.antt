@@ -71,6 +71,10 @@ module _ {S B : Type 0} (s : space.Ghosts S) (holds : B → Files → Contents �
     FillsUpTo reopens count run base old new = IsErrOf result Full → (seed : ℕ) (m : Mark) → Stands s holds reopens seed run base old m → FillsTask (s.log_full new) (fills old new) (lacks_large old new) (Drill seed count) m.contents
 
   module _ (reopens : Files → Contents → Type 0) where
+    -- where the files stood for what was held they do
+    abbrev pub StandsOn : Run → Run → B → B → S → S → Type 0
+    StandsOn run run' base base' old new = (seed : ℕ) (m : Mark) → Stands s holds reopens seed run base old m → Stands s holds reopens seed run' base' new m
+
     -- the files stand for what was held, or for what so many requests more make of it
     abbrev pub MovesBy : ℕ → Run → B → S → S → Type 0
     MovesBy more run base old new = (seed : ℕ) (m : Mark) → Stands s holds reopens seed run base old m → MovesTo s reopens old new (mark_behind (run.made + more) seed m)

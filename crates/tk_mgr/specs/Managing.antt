@@ -9,6 +9,8 @@ use Rattle.tc_io.specs.declared.sink.Sink as sink
 use Rattle.tc_space.specs.declared.space.Space as space
 use Rattle.ty_wire.specs.Prefixes.{IsPrefix}
 use Rattle.tc_model.specs.Contents.{Contents}
+use Rattle.tc_space.specs.Stores.{in_form}
+use Rattle.ty_base.specs.Holding.{Layout, no_layout}
 use Rattle.ty_world.specs.World.{Mark}
 use Rattle.ty_rounds.specs.Kept.{HoldsMark, LeavesMarks, Reopens}
 use Rattle.tk_mgr.specs.declared.errors.MgrErr.{MgrErr}
@@ -86,6 +88,16 @@ pub record ArePacked (packed : Form → Files → Type 0) (f : Form) (o : Option
   pub files : Files
   pub is : o ≡ Some files
   pub are : packed f files
+
+-- files have the numbers that others have in that form, and end where their heads say
+pub record FormedFrom (layout : Files → Layout) (was : Files) (f : Form) (files : Files) : Type 0 where
+  pub numbers : (layout files).numbers ≡ in_form f (layout was).numbers
+  pub none : (layout files).slack ≡ 0
+
+-- how files are laid out, where a task packs none; where it packs them nothing is said of that
+abbrev pub said_by : Option Form → (Files → Layout) → Files → Layout
+said_by None layout = layout
+said_by (Some f) layout = no_layout
 
 -- once a packing is carried out a stop leaves packed files
 abbrev pub PacksTask : {S : Type 0} → space.Ghosts S → (Form → Files → Type 0) → Task → Result Bool MgrErr → S → Type 0

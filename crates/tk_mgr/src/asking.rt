@@ -2,10 +2,10 @@
 ghost use Rattle.std.specs.Prelude.{◌≡◌, false, true, Some, OnOk, IfOk, IsErrOf};
 ghost use Rattle.tc_space.specs.Frames.{Follows, Keeps};
 ghost use Rattle.tc_model.specs.Packing.{is_optimize};
-ghost use Rattle.ty_base.specs.Holding.{FillsBy, IsReady, Leaves, OfHeld, PacksHeld, is_idle};
+ghost use Rattle.ty_base.specs.Holding.{FillsBy, Frame, IsReady, Laid, Leaves, OfHeld, PacksHeld, is_idle};
 ghost use Rattle.ty_world.specs.World.{Mark};
 ghost use Rattle.ty_rounds.specs.Kept.{HasMark, MovesTo};
-ghost use Rattle.ty_rounds.specs.Keeping.{IsKept};
+ghost use Rattle.ty_rounds.specs.Keeping.{IsKept, IsKeptLaid, MovesLaid};
 ghost use Rattle.tk_mgr.specs.Asking.{AnswersOf, CarriesOf, FillsRequest, IsIdle, IsTold, Looks, OnMgrFault};
 ghost use Rattle.tk_mgr.specs.Managing.{MayManage};
 ghost use Rattle.tk_mgr.specs.Tasks.{asked};
@@ -26,7 +26,7 @@ pub fn ask<B: Base>(
 ) -> Result<Applied, MgrErr>
     requires ready { IsReady B.S.Space B.holds base.old space.old }
     ensures answers { IfOk result (λ a. AnswersOf B.S.Space B.holds request a base.old base.new space.old space.new reply.new) }
-    ensures leaves { IfOk result (λ a. Leaves B.S.Space B.own (is_idle request a) space.old space.new) }
+    ensures leaves { IfOk result (λ a. Leaves B.S.Space B.own B.layout (is_idle request a) space.old space.new) }
     ensures full { IsErrOf result MgrErr.Full → FillsBy B.S.Space B.holds (B.fills base.old space.old space.new) request base.old space.old (asked (Some request)) }
     ensures not_sink { IsErrOf result MgrErr.Sink → ⊥ }
     ensures keeps { Keeps B.S.Space space.old space.new }
@@ -62,6 +62,8 @@ pub fn save<B: Base>(base: &mut B, space: &mut B::S, commits: bool) -> Result<()
     requires ready { IsReady B.S.Space B.holds base.old space.old }
     requires untouched { commits ≡ false → B.S.touched space.old ≡ false }
     ensures kept { OnOk result (IsKept B.S.Space B.holds B.reopens commits base.old base.new space.old space.new) }
+    ensures laid { OnOk result (IsKeptLaid B.S.Space B.holds B.reopens B.own B.layout commits base.old base.new space.old space.new) }
+    ensures moved { MovesLaid B.S.Space B.holds B.reopens B.own B.layout commits base.old space.old space.new }
     ensures packs { OnOk result (commits ≡ true → PacksHeld B.S.Space B.holds B.tight B.packed base.old space.old space.new) }
     ensures moments { (m : Mark) → HasMark B.S.Space B.holds base.old space.old m → MovesTo B.S.Space B.reopens space.old space.new m }
     ensures full { IsErrOf result MgrErr.Full → B.S.tells → B.S.log_full space.new }
@@ -78,7 +80,7 @@ pub fn save<B: Base>(base: &mut B, space: &mut B::S, commits: bool) -> Result<()
     }
 }
 
-/// Makes a request that packs nothing, keeps what it changed, and answers whether it succeeded.
+/// Makes a request that packs nothing, keeps what it changed, and answers whether it succeeded. Whatever the files are laid out like, so is what a stop leaves.
 pub fn change<B: Base>(
     base: &mut B,
     space: &mut B::S,
@@ -88,6 +90,7 @@ pub fn change<B: Base>(
     requires may { MayManage B.S.Space B.holds B.reopens base.old space.old }
     requires packs_none { is_optimize request ≡ false }
     ensures carries { CarriesOf B.S.Space B.holds B.reopens (Some request) result base.old space.old space.new }
+    ensures laid { (l : Frame) → CarriesOf B.S.Space B.holds (Laid B.own B.layout l B.reopens) (Some request) result base.old space.old space.new }
     ensures full { FillsRequest B.S.Space B.holds B.fills_since (Some request) result base.old space.old space.new }
     ensures not_sink { IsErrOf result MgrErr.Sink → ⊥ }
     ensures follows { Follows B.S.Space space.old space.new }

@@ -1,10 +1,10 @@
 //! Tasks that change a database or its files, and print nothing.
 ghost use Rattle.std.specs.Prelude.{◌≡◌, Some, None, IfOk, IsErrOf};
 ghost use Rattle.tc_base.specs.declared.request.Request.TheVariants as request;
-ghost use Rattle.tk_mgr.specs.Managing.{MayManage, PacksTaskOf, form_for};
+ghost use Rattle.tk_mgr.specs.Managing.{FormedFrom, MayManage, PacksTaskOf, form_for};
 ghost use Rattle.tk_mgr.specs.Tasks.{put_request};
 ghost use Rattle.tk_mgr.specs.declared.task.Task.TheVariants.{Optimize};
-ghost use Rattle.ty_base.specs.Holding.{FullPack};
+ghost use Rattle.ty_base.specs.Holding.{Frame, FullPack, Laid, no_layout};
 ghost use Rattle.tc_space.specs.Frames.{Follows};
 ghost use Rattle.tk_mgr.specs.Asking.{CarriesOf, FillsRequest, OnMgrFault};
 
@@ -63,6 +63,7 @@ pub fn put<B: Base>(
 ) -> Result<bool, MgrErr>
     requires may { MayManage B.S.Space B.holds B.reopens base.old space.old }
     ensures carries { CarriesOf B.S.Space B.holds B.reopens (Some (put_request word key value)) result base.old space.old space.new }
+    ensures laid { (l : Frame) → CarriesOf B.S.Space B.holds (Laid B.own B.layout l B.reopens) (Some (put_request word key value)) result base.old space.old space.new }
     ensures full { FillsRequest B.S.Space B.holds B.fills_since (Some (put_request word key value)) result base.old space.old space.new }
     ensures not_sink { IsErrOf result MgrErr.Sink → ⊥ }
     ensures follows { Follows B.S.Space space.old space.new }
@@ -82,6 +83,7 @@ pub fn take_out<B: Base>(
 ) -> Result<bool, MgrErr>
     requires may { MayManage B.S.Space B.holds B.reopens base.old space.old }
     ensures carries { CarriesOf B.S.Space B.holds B.reopens (Some (request.Out key)) result base.old space.old space.new }
+    ensures laid { (l : Frame) → CarriesOf B.S.Space B.holds (Laid B.own B.layout l B.reopens) (Some (request.Out key)) result base.old space.old space.new }
     ensures full { FillsRequest B.S.Space B.holds B.fills_since (Some (request.Out key)) result base.old space.old space.new }
     ensures not_sink { IsErrOf result MgrErr.Sink → ⊥ }
     ensures follows { Follows B.S.Space space.old space.new }
@@ -99,11 +101,13 @@ fn form_of(large: bool) -> Form
     if large { Form::Large } else { Form::Keep }
 }
 
-/// Packs the files, in the large form where `large` says so, and keeps them.
+/// Packs the files, in the large form where `large` says so, and keeps them. Those beside them stay.
 pub fn optimize<B: Base>(large: bool, base: &mut B, space: &mut B::S) -> Result<bool, MgrErr>
     requires may { MayManage B.S.Space B.holds B.reopens base.old space.old }
     ensures carries { CarriesOf B.S.Space B.holds B.reopens None result base.old space.old space.new }
+    ensures laid { (l : Frame) → CarriesOf B.S.Space B.holds (Laid B.own no_layout l B.reopens) None result base.old space.old space.new }
     ensures packs { PacksTaskOf B.S.Space B.holds B.reopens B.packed (Optimize large) result base.old space.old space.new }
+    ensures formed { PacksTaskOf B.S.Space B.holds B.reopens (FormedFrom B.layout (B.S.now space.old)) (Optimize large) result base.old space.old space.new }
     ensures full { IsErrOf result MgrErr.Full → FullPack B.S.Space B.holds B.lacks_large (form_for large) base.old space.old space.new }
     ensures not_sink { IsErrOf result MgrErr.Sink → ⊥ }
     ensures follows { Follows B.S.Space space.old space.new }

@@ -1,12 +1,12 @@
 //! A drill: requests that a seed determines, and what came of them.
 ghost use Rattle.std.specs.Prelude.{◌≡◌, ◌≤◌, IfOk, OnOk, IsErrOf};
 ghost use Rattle.tc_io.specs.Causes.{Rose};
-ghost use Rattle.ty_rounds.specs.Kept.{LeavesMarks};
-ghost use Rattle.tk_mgr.specs.Managing.{FillsTaskOf, Manages, MayManage, marks_of};
+ghost use Rattle.ty_base.specs.Holding.{Frame, Laid};
+ghost use Rattle.tk_mgr.specs.Managing.{FillsTaskOf, Manages, MayManage};
 ghost use Rattle.tk_mgr.specs.Tasks.{text_of};
 ghost use Rattle.tk_mgr.specs.declared.task.Task.TheVariants.{Drill};
 ghost use Rattle.tc_space.specs.Frames.{Follows};
-ghost use Rattle.tk_mgr.specs.Asking.{LeavesLast, OfMark, OnMgrFault};
+ghost use Rattle.tk_mgr.specs.Asking.{LeavesAll, LeavesLast, OfMark, OnMgrFault};
 
 use crate::errors::MgrErr;
 use crate::making::{keep_hundreds, keep_rest};
@@ -27,8 +27,10 @@ fn make<B: Base>(
 ) -> Result<Blob, MgrErr>
     requires may { MayManage B.S.Space B.holds B.reopens base.old space.old }
     ensures text { IfOk result (λ text. OfMark B.S.Space B.holds B.reopens base.old space.old (λ m. text ≡ text_of (Drill seed count) m.contents)) }
-    ensures moments { OfMark B.S.Space B.holds B.reopens base.old space.old (λ m. LeavesMarks B.S.Space B.reopens space.old space.new (marks_of (Drill seed count) m)) }
+    ensures moments { LeavesAll B.S.Space B.holds B.reopens (Drill seed count) base.old space.old space.new }
+    ensures moved { (l : Frame) → LeavesAll B.S.Space B.holds (Laid B.own B.layout l B.reopens) (Drill seed count) base.old space.old space.new }
     ensures last { OnOk result (LeavesLast B.S.Space B.holds B.reopens (Drill seed count) base.old space.old space.new) }
+    ensures laid { OnOk result ((l : Frame) → LeavesLast B.S.Space B.holds (Laid B.own B.layout l B.reopens) (Drill seed count) base.old space.old space.new) }
     ensures full { FillsTaskOf B.S.Space B.holds B.reopens B.fills_since B.lacks_large (Drill seed count) result base.old space.old space.new }
     ensures not_sink { IsErrOf result MgrErr.Sink → ⊥ }
     ensures follows { Follows B.S.Space space.old space.new }
@@ -53,6 +55,7 @@ pub fn drill<B: Base, O: Sink>(
 ) -> Result<bool, MgrErr>
     requires may { MayManage B.S.Space B.holds B.reopens base.old space.old }
     ensures managed { Manages B.S.Space O.Sink B.holds B.reopens B.lines (Drill seed count) result base.old space.old space.new out.old out.new }
+    ensures laid { (l : Frame) → Manages B.S.Space O.Sink B.holds (Laid B.own B.layout l B.reopens) B.lines (Drill seed count) result base.old space.old space.new out.old out.new }
     ensures full { FillsTaskOf B.S.Space B.holds B.reopens B.fills_since B.lacks_large (Drill seed count) result base.old space.old space.new }
     ensures follows { Follows B.S.Space space.old space.new }
     ensures later { O.faults out.old ≤ O.faults out.new }

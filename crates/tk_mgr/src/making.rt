@@ -1,8 +1,8 @@
 //! Requests of a drill, and commits behind them.
 ghost use Rattle.std.specs.Prelude.{◌≡◌, ◌≤◌, ◌<◌, ◌+◌, ◌*◌, OnOk, IfOk, IsErrOf};
 ghost use Rattle.tc_space.specs.Frames.{Follows, Keeps};
-ghost use Rattle.ty_base.specs.Holding.{IsReady};
-ghost use Rattle.tk_mgr.specs.Drilling.{FillsMore, FillsUpTo, LeavesBy, Makes, MovesBy, Secures, Tells};
+ghost use Rattle.ty_base.specs.Holding.{Frame, IsReady, Laid, Leaves};
+ghost use Rattle.tk_mgr.specs.Drilling.{FillsMore, FillsUpTo, LeavesBy, Makes, MovesBy, Secures, StandsOn, Tells};
 ghost use Rattle.tk_mgr.specs.Managing.{MayManage};
 ghost use Rattle.tk_mgr.specs.Asking.{OnMgrFault};
 
@@ -20,6 +20,7 @@ fn make_one<B: Base>(run: &mut Run, base: &mut B, space: &mut B::S) -> Result<()
     requires ready { IsReady B.S.Space B.holds base.old space.old }
     requires room { run.old.made < u32.MAX }
     ensures makes { OnOk result (Makes B.S.Space B.holds 1 run.old run.new base.old base.new space.old space.new) }
+    ensures leaves { OnOk result (Leaves B.S.Space B.own B.layout ⊥ space.old space.new) }
     ensures full { FillsMore B.S.Space B.holds B.fills_since B.lacks_large result 1 run.old base.old space.old space.new }
     ensures not_sink { IsErrOf result MgrErr.Sink → ⊥ }
     ensures keeps { Keeps B.S.Space space.old space.new }
@@ -43,6 +44,7 @@ fn make_some<B: Base>(
     requires ready { IsReady B.S.Space B.holds base.old space.old }
     requires room { run.old.made + more ≤ u32.MAX }
     ensures makes { OnOk result (Makes B.S.Space B.holds more run.old run.new base.old base.new space.old space.new) }
+    ensures leaves { OnOk result (Leaves B.S.Space B.own B.layout ⊥ space.old space.new) }
     ensures full { FillsMore B.S.Space B.holds B.fills_since B.lacks_large result more run.old base.old space.old space.new }
     ensures not_sink { IsErrOf result MgrErr.Sink → ⊥ }
     ensures keeps { Keeps B.S.Space space.old space.new }
@@ -65,6 +67,8 @@ fn keep_some<B: Base>(
     requires room { run.old.made + more ≤ u32.MAX }
     ensures secures { OnOk result (Secures B.S.Space B.holds B.reopens more run.old run.new base.old base.new space.old space.new) }
     ensures moments { MovesBy B.S.Space B.holds B.reopens more run.old base.old space.old space.new }
+    ensures laid { OnOk result ((l : Frame) → StandsOn B.S.Space B.holds (Laid B.own B.layout l B.reopens) run.old run.new base.old base.new space.old space.new) }
+    ensures moved { (l : Frame) → MovesBy B.S.Space B.holds (Laid B.own B.layout l B.reopens) more run.old base.old space.old space.new }
     ensures full { FillsUpTo B.S.Space B.holds B.fills_since B.lacks_large result B.reopens (run.old.made + more) run.old base.old space.old space.new }
     ensures not_sink { IsErrOf result MgrErr.Sink → ⊥ }
     ensures follows { Follows B.S.Space space.old space.new }
@@ -89,6 +93,8 @@ pub fn keep_hundreds<B: Base>(
     requires room { 100 * most ≤ u32.MAX }
     ensures secures { OnOk result (Secures B.S.Space B.holds B.reopens (100 * most) run.old run.new base.old base.new space.old space.new) }
     ensures moments { LeavesBy B.S.Space B.holds B.reopens most run.old base.old space.old space.new }
+    ensures laid { OnOk result ((l : Frame) → StandsOn B.S.Space B.holds (Laid B.own B.layout l B.reopens) run.old run.new base.old base.new space.old space.new) }
+    ensures moved { (l : Frame) → LeavesBy B.S.Space B.holds (Laid B.own B.layout l B.reopens) most run.old base.old space.old space.new }
     ensures full { FillsUpTo B.S.Space B.holds B.fills_since B.lacks_large result B.reopens (100 * most) run.old base.old space.old space.new }
     ensures not_sink { IsErrOf result MgrErr.Sink → ⊥ }
     ensures follows { Follows B.S.Space space.old space.new }
@@ -111,6 +117,7 @@ fn tell_some<B: Base>(
     requires room { run.old.made + more ≤ u32.MAX }
     ensures text { IfOk result (λ text. Tells B.S.Space B.holds run.old (run.old.made + more) base.old space.old text) }
     ensures makes { OnOk result (Makes B.S.Space B.holds more run.old run.new base.old base.new space.old space.new) }
+    ensures leaves { OnOk result (Leaves B.S.Space B.own B.layout ⊥ space.old space.new) }
     ensures full { FillsMore B.S.Space B.holds B.fills_since B.lacks_large result more run.old base.old space.old space.new }
     ensures not_sink { IsErrOf result MgrErr.Sink → ⊥ }
     ensures keeps { Keeps B.S.Space space.old space.new }
@@ -134,6 +141,8 @@ pub fn keep_rest<B: Base>(
     ensures text { IfOk result (λ text. Tells B.S.Space B.holds run.old (run.old.made + more) base.old space.old text) }
     ensures secures { OnOk result (Secures B.S.Space B.holds B.reopens more run.old run.new base.old base.new space.old space.new) }
     ensures moments { MovesBy B.S.Space B.holds B.reopens more run.old base.old space.old space.new }
+    ensures laid { OnOk result ((l : Frame) → StandsOn B.S.Space B.holds (Laid B.own B.layout l B.reopens) run.old run.new base.old base.new space.old space.new) }
+    ensures moved { (l : Frame) → MovesBy B.S.Space B.holds (Laid B.own B.layout l B.reopens) more run.old base.old space.old space.new }
     ensures full { FillsUpTo B.S.Space B.holds B.fills_since B.lacks_large result B.reopens (run.old.made + more) run.old base.old space.old space.new }
     ensures not_sink { IsErrOf result MgrErr.Sink → ⊥ }
     ensures follows { Follows B.S.Space space.old space.new }

@@ -1,7 +1,8 @@
 //! A task carried out on a database.
 ghost use Rattle.std.specs.Prelude.{◌≡◌, false, true, IsErrOf};
-ghost use Rattle.tk_mgr.specs.Managing.{FillsTaskOf, Manages, MayManage, PacksTaskOf, writes_files};
+ghost use Rattle.tk_mgr.specs.Managing.{FillsTaskOf, FormedFrom, Manages, MayManage, PacksTaskOf, packing, said_by, writes_files};
 ghost use Rattle.tc_space.specs.Frames.{Keeps};
+ghost use Rattle.ty_base.specs.Holding.{Frame, Laid};
 ghost use Rattle.tk_mgr.specs.Asking.{Accounts};
 
 use crate::changing::{optimize, put, take_out};
@@ -17,7 +18,8 @@ use tc_space::Space;
 use ty_base::Base;
 
 /// Carries out a task: makes its requests, commits what they changed, and then prints. Answers whether its request succeeded; where it failed nothing
-/// has changed and nothing is printed. A drill commits behind each hundred of its requests and behind the last.
+/// has changed and nothing is printed. A drill commits behind each hundred of its requests and behind the last. Files beside those of the database stay, and where nothing is packed,
+/// whatever the files are laid out like, so is what a stop leaves.
 ///
 /// On an `Err` a stop leaves what was kept at one of its commits; the space is to be opened again. `Memory` also comes where a list would print a value
 /// that is too long for a reply.
@@ -31,7 +33,9 @@ pub fn manage<B: Base, O: Sink>(
 ) -> Result<bool, MgrErr>
     requires may { MayManage B.S.Space B.holds B.reopens base.old space.old }
     ensures managed { Manages B.S.Space O.Sink B.holds B.reopens B.lines task result base.old space.old space.new out.old out.new }
+    ensures laid { (l : Frame) → Manages B.S.Space O.Sink B.holds (Laid B.own (said_by (packing task) B.layout) l B.reopens) B.lines task result base.old space.old space.new out.old out.new }
     ensures packs { PacksTaskOf B.S.Space B.holds B.reopens B.packed task result base.old space.old space.new }
+    ensures formed { PacksTaskOf B.S.Space B.holds B.reopens (FormedFrom B.layout (B.S.now space.old)) task result base.old space.old space.new }
     ensures writes { IsErrOf result MgrErr.Full → writes_files task ≡ true }
     ensures reads { writes_files task ≡ false → Keeps B.S.Space space.old space.new }
     ensures full { FillsTaskOf B.S.Space B.holds B.reopens B.fills_since B.lacks_large task result base.old space.old space.new }

@@ -4,7 +4,7 @@ ghost use Rattle.std.specs.Fmt.{decimal};
 ghost use Rattle.tc_base.specs.declared.request.Request.TheVariants.{Stat};
 ghost use Rattle.tc_space.specs.Frames.{Keeps};
 ghost use Rattle.tc_model.specs.Contents.{kind_of};
-ghost use Rattle.ty_base.specs.Holding.{IsReady};
+ghost use Rattle.ty_base.specs.Holding.{IsReady, Leaves};
 ghost use Rattle.tk_mgr.specs.Asking.{IsTold, OnMgrFault};
 ghost use Rattle.tk_mgr.specs.Drilling.{Makes, Tells};
 ghost use Rattle.tk_mgr.specs.Drills.{Drilled, summary};
@@ -60,6 +60,7 @@ pub fn report<B: Base>(run: &mut Run, base: &mut B, space: &mut B::S) -> Result<
     requires ready { IsReady B.S.Space B.holds base.old space.old }
     ensures text { IfOk result (λ text. Tells B.S.Space B.holds run.old run.old.made base.old space.old text) }
     ensures makes { OnOk result (Makes B.S.Space B.holds 0 run.old run.new base.old base.new space.old space.new) }
+    ensures leaves { OnOk result (Leaves B.S.Space B.own B.layout ⊥ space.old space.new) }
     ensures not_full { IsErrOf result MgrErr.Full → ⊥ }
     ensures not_sink { IsErrOf result MgrErr.Sink → ⊥ }
     ensures keeps { Keeps B.S.Space space.old space.new }

@@ -10,9 +10,11 @@ use Rattle.tk_top.specs.declared.ends.End.{End}
 use Rattle.tk_top.specs.declared.ends.End.TheVariants.{Words, NoMemory}
 use Rattle.tk_top.specs.Over.{BreaksAt, Judged, StandsFor}
 use Rattle.tk_top.specs.Making.{IsThere, JudgedMaking, MainIsEmpty, MainIsThere}
-use Rattle.tk_top.specs.Stored.{anew_of, breaks_new_of, breaks_of, kind_in, lines_in, numbers_of, packed_in, reopens_of, stored_as}
+use Rattle.ty_base.specs.Holding.{Laid, no_layout}
+use Rattle.tk_top.specs.Stored.{anew_of, breaks_new_of, breaks_of, kind_in, layout_of, lines_in, numbers_of, own_of, packed_in, reopens_of, stored_as}
 use Rattle.tk_top.specs.Tasks.{IsMisplaced, JudgedTask, RefusedAt}
 use Rattle.tk_top.specs.Top.{AskedRun, CausedBy, DrillsMemory, FileRun, IsDrilled, IsServing, MakesFiles, Opens, RunsAsked, SourceRun, TaskOnFiles}
+use Rattle.tk_mgr.specs.Managing.{packing, said_by}
 use Rattle.tk_mgr.specs.declared.task.Task.{Task}
 use Rattle.tk_top.specs.declared.words.Asked.{Asked}
 use Rattle.tk_top.specs.declared.words.Asked.TheVariants as asked
@@ -35,6 +37,7 @@ module _ {V W O : Type 0} (v : volume.Ghosts V) (g : wire.Ghosts W) (o : sink.Gh
   file_none name stored limit at turns vol x = record {
     names = (ends_unnamed v name vol).names;
     told = files_unopened g (kind_in stored) (reopens_of stored) NoMemory turns at x (ends_unnamed v name vol);
+    laid = λ l. files_unopened g (kind_in stored) (Laid (own_of stored) (layout_of stored) l (reopens_of stored)) NoMemory turns at x (ends_unnamed v name vol);
     judged = tt;
     guards = record { begun = inl refl; spared = spares_unnamed (ends_unnamed v name vol) (IsDamaged (Opens stored)); within = λ out. absurd (⊎_elim (λ is. cc) (λ is. cc) out) };
     full = λ e. absurd cc;
@@ -49,6 +52,8 @@ module _ {V W O : Type 0} (v : volume.Ghosts V) (g : wire.Ghosts W) (o : sink.Gh
   task_none name stored task vol p = record {
     names = (ends_unnamed v name vol).names;
     told = managed_unopened o (reopens_of stored) (lines_in stored) (packed_in stored) task (kind_in stored) NoMemory p (ends_unnamed v name vol);
+    laid = λ l. managed_unopened o (Laid (own_of stored) (said_by (packing task) (layout_of stored)) l (reopens_of stored)) (lines_in stored) (packed_in stored) task (kind_in stored) NoMemory p (ends_unnamed v name vol);
+    formed = record { formed = λ first h f packs done. absurd cc };
     judged = tt;
     guards = record { begun = inl refl; spared = spares_unnamed (ends_unnamed v name vol) (IsDamaged (Opens stored)); misplaced = left_alone_unnamed (ends_unnamed v name vol) (IsMisplaced task) };
     full = λ e. absurd cc;
@@ -59,6 +64,7 @@ module _ {V W O : Type 0} (v : volume.Ghosts V) (g : wire.Ghosts W) (o : sink.Gh
   make_none name shape vol = record {
     names = (ends_unnamed v name vol).names;
     made = made_unopened (reopens_of (stored_as shape)) (numbers_of shape) (anew_of shape) NoMemory (ends_unnamed v name vol);
+    laid = λ l. made_unopened (Laid (own_of (stored_as shape)) no_layout l (reopens_of (stored_as shape))) (numbers_of shape) (anew_of shape) NoMemory (ends_unnamed v name vol);
     judged = tt;
     there = left_alone_unnamed (ends_unnamed v name vol) IsThere;
     full = λ e. absurd cc;

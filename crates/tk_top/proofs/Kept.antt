@@ -198,3 +198,29 @@ full_err (any.Broken file rule) is = absurd cc
 full_err any.Full is = refl
 full_err any.Fault is = absurd cc
 full_err any.Memory is = absurd cc
+
+-- ---- a main file that is there
+
+module _ {S : Type 0} (s : space.Ghosts S) where
+  abbrev RestsAt : S → Option Files → Type 0
+  RestsAt old o = (o ≡ s.kept old) ⊎ (o ≡ Some (s.now old))
+
+  pub reads_rest : (old mid : S) → Steady s.moment s.files_at s.left s.kept old mid → LeavesOnly s.moment s.left old mid (RestsAt old)
+  reads_rest old mid st = record { later = st.leaves.later; each = λ t o le l. ⊎_elim (λ was. inl was) (λ is. inr (inl is)) (st.leaves.each t o le l) }
+
+  -- a commit of files that were only read
+  pub commit_rests : (old mid new : S) → Steady s.moment s.files_at s.left s.kept old mid → ((g : ℕ) → s.now mid g ≡ s.now old g) → LeavesOnly s.moment s.left mid new (λ o. (o ≡ s.kept mid) ⊎ (o ≡ Some (s.now mid))) → LeavesOnly s.moment s.left old new (RestsAt old)
+  commit_rests old mid new st same cm = record {
+    later = omega (arith, st.leaves.later, cm.later);
+    each = λ t o le l. ⊎_elim
+        (λ was. ⊎_elim (λ w. inl w) (λ is. inr (inl is)) (st.leaves.each t o le was))
+        (λ p. inr (⊎_elim (λ is. inl (is ∙ st.same)) (λ is. inr (is ∙ (λ i. Some (λ g. same g i)))) p))
+        (cm.each t o (omega (arith, le, st.leaves.later)) l);
+  }
+
+  -- at the exit, of a space that had nothing to commit
+  pub rests_left : (old new : S) → s.tells → Fresh s old → Earlier s new → LeavesOnly s.moment s.left old new (RestsAt old) → (o : Option Files) → s.left new (s.moment new) o → o ≡ Some (s.now old)
+  rests_left old new t fresh earlier rests o l = ⊎_elim
+      (λ was. (fresh t).0 o was ∙ (fresh t).1)
+      (λ p. ⊎_elim (λ is. is ∙ (fresh t).1) (λ is. is) p)
+      (rests.each (s.moment old) o (omega arith) (earlier (s.moment old) (s.moment new) o rests.later l))

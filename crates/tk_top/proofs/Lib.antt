@@ -3,6 +3,7 @@ pub mod Causes
 pub mod Events
 pub mod Fresh
 pub mod Kept
+pub mod Laying
 pub mod Limits
 pub mod Made
 pub mod Managed

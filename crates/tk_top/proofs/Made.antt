@@ -81,4 +81,4 @@ module _ (reopens : Files → Contents → Type 0) (numbers : Files → Type 0) 
   made_unopened {V} {v} end {old} {new} u = record { broken = unopened_broken u; ends = λ settled first h. stops_unopened reopens _ _ _ (v.calls old) (v.calls new) first (early_of u) (u.leaves h.0 settled) h.1 (λ o r. exits_unbegun end first o (unbegun_early end (early_of u)) r) }
 
   pub made_run : {S V : Type 0} {s : space.Ghosts S} {v : volume.Ghosts V} {name : List ℕ} {most : ℕ} {vol w : V} {a t : S} {end : End} → OpensNamed s v name most vol a → Closes s v t w → ((first : Mark) → Begins s reopens a first → MakingOver s reopens numbers anew end a t first) → FilesMade v.tells reopens reopens numbers anew end (v.calls vol) (v.calls w)
-  made_run {S} {V} {s} {v} {name} {most} {vol} {w} {a} {t} {end} o closed run = record { broken = opened_whole o end (v.calls w); ends = λ settled first h. stops_run reopens _ _ _ (o.over h.0) closed settled (run first (begins_so o reopens first h)) }
+  made_run {S} {V} {s} {v} {name} {most} {vol} {w} {a} {t} {end} o closed run = record { broken = opened_whole o (v.calls w); ends = λ settled first h. stops_run reopens _ _ _ (o.over h.0) closed settled (run first (begins_so o reopens first h)) }

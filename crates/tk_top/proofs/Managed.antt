@@ -9,6 +9,7 @@ use Rattle.tc_io.specs.Images.{now}
 use Rattle.tc_io.specs.declared.sink.Sink as sink
 use Rattle.tc_io.specs.declared.volume.Volume as volume
 use Rattle.tc_space.specs.Frames.{Keeps}
+use Rattle.tc_space.specs.Moments.{LeavesOnly}
 use Rattle.tc_space.specs.declared.space.Space as space
 use Rattle.ud_log.specs.Undo.{recovered}
 use Rattle.tc_model.specs.Apply.{Effect, Step, apply, effect, fits, refused, took}
@@ -23,7 +24,7 @@ use Rattle.tc_base.specs.declared.kind.Kind.{Kind}
 use Rattle.tc_base.specs.declared.kind.Rule.{Rule}
 use Rattle.tk_words.specs.declared.order.PutWord.{PutWord}
 use Rattle.tk_words.specs.declared.order.PutWord.TheVariants.{Over, Keep, Cat, Dup}
-use Rattle.tk_mgr.specs.Managing.{IsThrough, Manages, PacksTask, marks_of, with_contents, writes_files}
+use Rattle.tk_mgr.specs.Managing.{IsThrough, Manages, PacksTask, marks_of, with_contents, writes_files, packing}
 use Rattle.tk_mgr.specs.Tasks.{Prints, after, hundreds, maximum_of, ok_of, put_request}
 use Rattle.tk_mgr.specs.declared.errors.MgrErr.{MgrErr}
 use Rattle.tk_mgr.specs.declared.errors.MgrErr.TheVariants as mgr
@@ -39,7 +40,7 @@ use Rattle.tk_top.specs.Staying.{IsSilent}
 use Rattle.tk_top.specs.Stops.{IsEarly, StopsOver}
 use Rattle.tk_top.specs.Tasks.{ExitsTask, FilesManaged, FullTask, IsCarried, IsMisplaced, JudgedTask, ManagesOver, ReasonOver, RefusedAt, TaskOn, end_of_task, wants_empty}
 use Rattle.tk_top.proofs.Fresh.{Earlier, Fresh, still_left}
-use Rattle.tk_top.proofs.Kept.{kept_stands, marks_then, moved, opening_marks, still_first}
+use Rattle.tk_top.proofs.Kept.{kept_stands, marks_then, moved, opening_marks, rests_left, still_first}
 use Rattle.tk_top.proofs.Named.{bare_so, begins_so, early_of, of_kind, opened_whole, same_files, unopened_broken}
 use Rattle.tk_top.proofs.Stops.{Closes, exit_left, stops_run, stops_unopened}
 
@@ -141,7 +142,7 @@ placed_writes Inform files placed empty = absurd (placed empty)
 placed_writes (Drill seed n) files placed empty = refl
 
 -- nor is one that only reads for an empty one
-reads_there : (task : Task) → writes_files task ≡ false → wants_empty task ≡ false
+pub reads_there : (task : Task) → writes_files task ≡ false → wants_empty task ≡ false
 reads_there (Put word key value) reads = refl
 reads_there (Out key) reads = refl
 reads_there (Get key) reads = refl
@@ -150,8 +151,15 @@ reads_there (Optimize large) reads = refl
 reads_there Inform reads = refl
 reads_there (Drill seed n) reads = absurd cc
 
-unbegun_not : (end : End) → IsUnbegun end → IsCarried end ⊎ (end ≡ Refused) → ⊥
-unbegun_not end un ends = ⊎_elim un.not_carried un.not_refused ends
+-- nor is one that packs files
+pub packs_there : (task : Task) (f : Form) → packing task ≡ Some f → wants_empty task ≡ false
+packs_there (Put word key value) f packs = refl
+packs_there (Out key) f packs = refl
+packs_there (Get key) f packs = refl
+packs_there (Lists maximum values) f packs = refl
+packs_there (Optimize large) f packs = refl
+packs_there Inform f packs = refl
+packs_there (Drill seed n) f packs = absurd cc
 
 -- ---- marks
 
@@ -214,12 +222,12 @@ module _ {S O : Type 0} (s : space.Ghosts S) (g : sink.Ghosts O) (opens reopens 
   }
 
   -- the database wasn't opened
-  pub over_unopened : (e : AnyErr) (old mid : S) (p : O) → Fresh s old → Earlier s mid → ((m : Mark) → Begins s opens old m → MovesTo s reopens old mid m) → ManagesOver s g opens reopens lines packed task (end_of e) old mid p p
-  over_unopened e old mid p fresh earlier moves = record {
+  pub over_unopened : (e : AnyErr) (old mid : S) (p : O) → Fresh s old → Earlier s mid → ((m : Mark) → Begins s opens old m → MovesTo s reopens old mid m) → (s.tells → writes_files task ≡ false → LeavesOnly s.moment s.left old mid (λ o. (o ≡ s.kept old) ⊎ (o ≡ Some (s.now old)))) → ManagesOver s g opens reopens lines packed task (end_of e) old mid p p
+  over_unopened e old mid p fresh earlier moves rests = record {
     taken = [];
     told = Adds-none (g.taken p);
     silent = λ is. refl;
-    ends = λ first h. record { on = on_unbegun lines task (end_of e) (s.now old) first (unbegun_of e); looks = λ reads ends. absurd (unbegun_not (end_of e) (unbegun_of e) ends); stops = first_left (end_of e) old mid first (unbegun_of e) fresh earlier h (moves first h) };
+    ends = λ first h. record { on = on_unbegun lines task (end_of e) (s.now old) first (unbegun_of e); looks = λ reads o l. rests_left s old mid h.0 fresh earlier (rests h.0 reads) o l; stops = first_left (end_of e) old mid first (unbegun_of e) fresh earlier h (moves first h) };
   }
 
   -- the main file isn't as it is wanted
@@ -236,7 +244,7 @@ module _ {S O : Type 0} (s : space.Ghosts S) (g : sink.Ghosts O) (opens reopens 
             exit = λ o l. exits_misplaced reopens packed task first o (moved k ((fresh h.0).0 o l));
             moments = record { leaves = record { later = omega arith; each = λ t o le l. inl l } };
           };
-          looks = λ reads ends o l. (fresh h.0).0 o l ∙ (fresh h.0).1;
+          looks = λ reads o l. (fresh h.0).0 o l ∙ (fresh h.0).1;
         };
   }
 
@@ -273,7 +281,7 @@ module _ {S O : Type 0} (s : space.Ghosts S) (g : sink.Ghosts O) (opens reopens 
             };
             moments = marks_then s reopens opens stand old mid new (marks_of task first) (opening_marks s reopens opens stand old mid first (marks_of task first) (first_marked task first) k (moves first h)) m.moments;
           };
-          looks = λ only ends o l. still_left s mid new o calm earlier h.0 (reads only) l ∙ ap (λ (f : Files). Some f) (same h.0 (reads_there task only));
+          looks = λ only o l. still_left s mid new o calm earlier h.0 (reads only) l ∙ ap (λ (f : Files). Some f) (same h.0 (reads_there task only));
         };
   }
 
@@ -289,7 +297,7 @@ module _ {V O : Type 0} {v : volume.Ghosts V} (g : sink.Ghosts O) (reopens : Fil
     broken = unopened_broken u;
     ends = λ settled first h. record {
       on = on_unbegun lines task end h.1.files first un;
-      looks = λ reads ends. absurd (unbegun_not end un ends);
+      looks = λ reads ims are. ⊎_elim (λ is. inl (is ∙ h.1.is)) (λ lost. inr ((early_of u, refl), lost.0, lost.1)) ((u.leaves h.0 settled).exit ims are);
       stops = stops_unopened reopens _ _ _ (v.calls old) (v.calls new) first (early_of u, refl) (u.leaves h.0 settled) (of_kind kind reopens _ first h.1) (λ o r. exits_unbegun reopens packed task end first o un r);
     };
   }
@@ -300,13 +308,13 @@ module _ {V O : Type 0} {v : volume.Ghosts V} (g : sink.Ghosts O) (reopens : Fil
     taken = run.taken;
     told = run.told;
     silent = run.silent;
-    broken = opened_whole o end (v.calls w);
+    broken = opened_whole o (v.calls w);
     ends = λ settled first h.
         let r = run.ends first (begins_so o opens first h) in
         record {
           on = subst (λ (f : Files). TaskOn lines task end f run.taken first) (sym (same_files o h.1.files h.0 h.1.is)) r.on;
           stops = stops_run reopens _ _ _ (o.over h.0) closed settled r.stops;
-          looks = λ reads ends ims are. r.looks reads ends (recovered ims) (exit_left closed ims are) ∙ ap (λ (f : Files). Some f) (sym (same_files o h.1.files h.0 h.1.is));
+          looks = λ reads ims are. inl (r.looks reads (recovered ims) (exit_left closed ims are) ∙ ap (λ (f : Files). Some f) (sym (same_files o h.1.files h.0 h.1.is)));
         };
   }
 

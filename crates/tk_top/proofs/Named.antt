@@ -1,6 +1,6 @@
 -- A volume that is named and opened.
-use Rattle.std.proofs.Common.{◌≡◌, ◌⊎◌, ◌≢◌, ◌≤◌, inl, inr, ⊎_elim, ℕ, Bool, cond, max, true, List, [], ◌∷◌, length, refl, sym, ap, subst, ◌∙◌, arith}
-use Rattle.std.specs.Prelude.{Option, Some, Result, Err}
+use Rattle.std.proofs.Common.{◌≡◌, ◌⊎◌, ◌≢◌, ◌≤◌, inl, inr, ⊎_elim, ℕ, Bool, cond, max, true, false, List, [], ◌∷◌, length, refl, sym, ap, subst, ◌∙◌, arith}
+use Rattle.std.specs.Prelude.{Option, Some, Result, Ok, Err, IfOk, IfErr, MatchResult}
 use Rattle.tc_base.specs.Files.{Files}
 use Rattle.tc_base.specs.declared.kind.Kind.{Kind}
 use Rattle.tc_base.specs.declared.kind.Rule.{Rule}
@@ -36,6 +36,16 @@ use Rattle.tk_top.specs.Serving.{Begins}
 use Rattle.tk_top.specs.Staying.{AsOpening, BreaksLog, LeavesBroken}
 use Rattle.tk_top.specs.Stops.{IsEarly}
 
+-- what is so of any that it may be
+pub ok_any : {T E : Type 0} (r : Result T E) (P : T → Type 0) → ((x : T) → P x) → IfOk r P
+ok_any (Ok x) P each = each x
+ok_any (Err e) P each = tt
+
+-- of a refusal
+pub err_of_both : {T E : Type 0} (r : Result T E) (P : T → Type 0) (Q R : E → Type 0) → MatchResult r P Q → ((e : E) → Q e → R e) → IfErr r R
+err_of_both (Ok x) P Q R both each = tt
+err_of_both (Err e) P Q R both each = each e both
+
 at_moment : (cs : Calls) (ims : Files) → ImagesSince cs (length cs) ims → Images cs ims
 at_moment [] ims some = some
 at_moment (c ∷ cs) ims some = ⊎_elim (λ at_once. at_once) (λ earlier. absurd (omega (arith, earlier.0))) some
@@ -44,7 +54,7 @@ pub at_exit : (cs : Calls) (ims : Files) → Images cs ims → ImagesSince cs (l
 at_exit [] ims are = are
 at_exit (c ∷ cs) ims are = inl are
 
-longer : (cs : Calls) (t u : ℕ) (ims : Files) → t ≤ u → ImagesSince cs u ims → ImagesSince cs t ims
+pub longer : (cs : Calls) (t u : ℕ) (ims : Files) → t ≤ u → ImagesSince cs u ims → ImagesSince cs t ims
 longer [] t u ims le some = some
 longer (c ∷ cs) t u ims le some = ⊎_elim (λ at_once. inl at_once) (λ older. inr (omega (arith, le, older.0), longer cs t u ims le older.1)) some
 
@@ -91,9 +101,12 @@ refused_rule undo_err.Fault told old bound new same refused = tt
 refused_rule (undo_err.Broken rule) told old bound new same refused = λ t. subst (λ (cs : Calls). BreaksLog cs new rule) (same t) (let b = (refused t).broken in record { broken = b.0; only = b.1 })
 refused_rule undo_err.Memory told old bound new same refused = tt
 
+pub refused_spares : (told : Type 0) (why : UndoErr) (old bound new : Calls) → (told → bound ≡ old) → (told → IsRefused why bound new) → told → LeavesBroken old new
+refused_spares told why old bound new same refused t = subst (λ (cs : Calls). LeavesBroken cs new) (same t) (record { stays = (refused t).spares.spares })
+
 -- there was no memory before any call
 pub ends_unnamed : {V : Type 0} (v : volume.Ghosts V) (name : List ℕ) (vol : V) → EndsUnopened v name NoMemory vol vol
-ends_unnamed v name vol = record { why = undo_err.Memory; is = refl; broken = tt; no_memory = λ is. refl; names = record { told = inr (Adds-none (v.names vol).told); copies = λ t. refl }; caused = λ count count'. tt; leaves = λ t settled. unbound_leaves (v.calls vol) (v.calls vol) refl }
+ends_unnamed v name vol = record { why = undo_err.Memory; is = refl; broken = tt; spares = λ t. record { stays = λ rule broken. inr (inl refl) }; no_memory = λ is t. refl; names = record { told = inr (Adds-none (v.names vol).told); copies = λ t. refl }; caused = λ count count'. tt; leaves = λ t settled. unbound_leaves (v.calls vol) (v.calls vol) refl }
 
 module _ {V : Type 0} {v : volume.Ghosts V} {name : List ℕ} {end : End} {old new : V} (u : EndsUnopened v name end old new) where
   pub early_of : IsEarly end
@@ -102,26 +115,21 @@ module _ {V : Type 0} {v : volume.Ghosts V} {name : List ℕ} {end : End} {old n
   pub not_ended : (end ≢ Done) × (end ≢ TurnsSpent)
   not_ended = (λ is. subst IsEarly is early_of, λ is. subst IsEarly is early_of)
 
-  pub unopened_broken : v.tells → LeavesBroken end (v.calls old) (v.calls new)
-  unopened_broken told = record { stays = λ rule broken. which u.why u.is u.broken u.no_memory }
-    where
-      which : (why : UndoErr) → end ≡ end_of_undo why → OnRule why (λ rule. v.tells → BreaksLog (v.calls old) (v.calls new) rule) → (why ≡ undo_err.Memory → new ≡ old) → (end ≡ VolumeFault) ⊎ ((v.calls new ≡ v.calls old) ⊎ (v.calls new ≡ (1, synced) ∷ v.calls old))
-      which undo_err.Fault is b none = inl is
-      which (undo_err.Broken rule) is b none = inr (inr (b told).only)
-      which undo_err.Memory is b none = inr (inl (ap v.calls (none refl)))
+  pub unopened_broken : v.tells → LeavesBroken (v.calls old) (v.calls new)
+  unopened_broken = u.spares
 
 -- ---- it was opened
 
 pub opens_over : {S : Type 0} (s : space.Ghosts S) (told : Type 0) (most : ℕ) (old bound ca : Calls) (a : S) (names given : Named) (faults count : ℕ) → bound ≡ old → OpensKept bound ca → ((f : ℕ) → is_data f ≡ true → s.limit a f ≡ max most (length (s.now a f)))
-    → IsOver s.tells told ca (s.moment a) (s.left a) (s.now a) names given faults count → told → OpensOver s most old a
-opens_over s told most old bound ca a names given faults count same kept limits over t =
+    → s.sound a → s.touched a ≡ false → s.moment a ≡ length ca → IsOver s.tells told (s.sound a) ca (s.touched a) (s.moment a) (s.left a) (s.now a) names given faults count → told → OpensOver s most old a
+opens_over s told most old bound ca a names given faults count same kept limits sound untouched moments over t =
     let k : OpensKept old ca = subst (λ (cs : Calls). OpensKept cs ca) same kept in
     record {
       tells = over.from t;
-      files = ap (λ (r : Result Files Rule). files_of r) k.undone ∙ ap (λ (f : Files). Some f) (sym over.now_is);
+      files = ap (λ (r : Result Files Rule). files_of r) k.undone ∙ ap (λ (f : Files). Some f) (sym (over.now_is sound untouched));
       limits = limits;
-      later = λ settled. let long = since_later (StaysSettled old) old ca (k.stops settled).moments in omega (arith, long, over.moment_is);
-      moments = λ settled o l. leads_back old ca settled (k.stops settled).moments o (over.left_is (length old) o l);
+      later = let long = k.grows in omega (arith, long, over.moment_later);
+      moments = λ settled o l. leads_back old ca settled (k.stops settled).moments o (over.left_is moments (length old) o k.grows l);
     }
 
 module _ {S V : Type 0} {s : space.Ghosts S} {v : volume.Ghosts V} {name : List ℕ} {most : ℕ} {vol : V} {a : S} (o : OpensNamed s v name most vol a) where
@@ -136,8 +144,8 @@ module _ {S V : Type 0} {s : space.Ghosts S} {v : volume.Ghosts V} {name : List 
   }
 
   -- over a broken log none is opened
-  pub opened_whole : (end : End) (new : Calls) → v.tells → LeavesBroken end (v.calls vol) new
-  opened_whole end new t = record { stays = λ rule broken. absurd (no_files (v.calls vol) rule (s.now a) broken (o.over t).files) }
+  pub opened_whole : (new : Calls) → v.tells → LeavesBroken (v.calls vol) new
+  opened_whole new t = record { stays = λ rule broken. absurd (no_files (v.calls vol) rule (s.now a) broken (o.over t).files) }
 
   pub limits_so : (limit : ℕ → ℕ) → limit ≡ s.limit a → v.tells → (files : Files) → recovered (now (v.calls vol)) ≡ Some files → (f : ℕ) → is_data f ≡ true → limit f ≡ max most (length (files f))
   limits_so limit same t files is f isd = ap (λ (l : ℕ → ℕ). l f) same ∙ (o.over t).limits f isd ∙ ap (λ (fs : Files). max most (length (fs f))) (sym (same_files files t is))

@@ -25,10 +25,10 @@ use Rattle.tk_top.specs.Staying.{AsOpening, BreaksLog, BreaksOver, IsHindered}
 use Rattle.tk_top.specs.Stops.{LeavesAlone, Spares}
 use Rattle.tk_top.specs.Tasks.{JudgedTask}
 use Rattle.tk_top.proofs.Fresh.{Fresh}
-use Rattle.tk_top.proofs.Named.{at_exit, early_of, no_files, same_files}
-use Rattle.tk_top.proofs.Stops.{Closes}
+use Rattle.tk_top.proofs.Named.{early_of, no_files, same_files}
+use Rattle.tk_top.proofs.Stops.{Closes, exit_left}
 
-pub breaks_over : {S : Type 0} (s : space.Ghosts S) (breaks : Files → ℕ → Rule → Type 0) (e : AnyErr) (old new : S) → Breaks e (λ file rule. s.tells → breaks (s.now old) file rule) → (s.tells → (s.now old 0 ≡ [] → ⊥) → OnlyReads s old new) → Breaks e (BreaksOver s breaks old new)
+pub breaks_over : {S : Type 0} (s : space.Ghosts S) (breaks : Files → ℕ → Rule → Type 0) (e : AnyErr) (old new : S) → Breaks e (λ file rule. s.tells → breaks (s.now old) file rule) → Breaks e (λ file rule. OnlyReads s old new) → Breaks e (BreaksOver s breaks old new)
 breaks_over s breaks (any.Broken file rule) old new is reads = record { is = is; reads = reads }
 breaks_over s breaks any.Full old new is reads = tt
 breaks_over s breaks any.Fault old new is reads = tt
@@ -41,7 +41,7 @@ module _ {S V : Type 0} {s : space.Ghosts S} {v : volume.Ghosts V} {most : ℕ} 
   reads_exit fresh reads files is ims are =
       let f = fresh o.tells in
       let same : s.now t ≡ s.now a = λ i g. reads.files o.tells g i in
-      f.0 (recovered ims) (subst (λ (n : ℕ). s.left t n (recovered ims)) (sym closed.moment) (closed.leaves (length (v.calls w)) ims (at_exit (v.calls w) ims are)))
+      f.0 (recovered ims) (exit_left closed ims are)
       ∙ f.1 ∙ ap (λ (fs : Files). Some fs) same ∙ sym o.files ∙ is
 
   -- a stop leaves what it left of the opening, or what was kept then
@@ -49,15 +49,15 @@ module _ {S V : Type 0} {s : space.Ghosts S} {v : volume.Ghosts V} {most : ℕ} 
   reads_moments fresh reads image settled ims some = ⊎_elim
       (λ was. o.moments settled (recovered ims) was)
       (λ kept. record { image = now old; is_one = image; same = kept ∙ (fresh o.tells).1 ∙ sym o.files })
-      ((reads.keeps.steady o.tells).leaves.each (length old) (recovered ims) (o.later settled) (closed.leaves (length old) ims some))
+      ((reads.keeps.steady o.tells).leaves.each (length old) (recovered ims) o.later (closed.leaves (length old) ims some))
 
 module _ {S V : Type 0} {s : space.Ghosts S} {v : volume.Ghosts V} {name : List ℕ} {most : ℕ} {vol w : V} {a t : S} (o : OpensNamed s v name most vol a) (closed : Closes s v t w) (laws : (x : S) → s.sound x → s.touched x ≡ false → Fresh s x) where
   pub breaks_so : (v.tells → Images (v.calls vol) (now (v.calls vol))) → (breaks : Files → ℕ → Rule → Type 0) (file : ℕ) (rule : Rule) → BreaksOver s breaks a t file rule → v.tells → BreaksAt breaks (v.calls vol) (v.calls w) file rule
   breaks_so image breaks file rule broken told = let b = o.over told in record {
     which = inr (s.now a, b.files, broken.is b.tells);
     stays = record {
-      stay = λ settled files is some.
-          let r = broken.reads b.tells (λ none. some (ap (λ (f : Files). f 0) (same_files o files told is) ∙ none)) in
+      stay = λ settled files is.
+          let r = broken.reads in
           record { exit = reads_exit b closed (laws t r.is_sound (r.untouched ∙ o.untouched)) r files is; moments = reads_moments b closed (laws a o.sound o.untouched) r (image told) settled };
     };
   }
@@ -101,7 +101,7 @@ module _ {S V : Type 0} {s : space.Ghosts S} {v : volume.Ghosts V} {name : List 
 
 module _ {V : Type 0} {v : volume.Ghosts V} {name : List ℕ} {end : End} {old new : V} (u : EndsUnopened v name end old new) where
   log_breaks : (breaks : Files → ℕ → Rule → Type 0) (rule : Rule) → (v.tells → BreaksLog (v.calls old) (v.calls new) rule) → v.tells → BreaksAt breaks (v.calls old) (v.calls new) 1 rule
-  log_breaks breaks rule broken told = record { which = inl (refl, broken told); stays = record { stay = λ settled files is some. absurd (no_files (v.calls old) rule files (broken told).broken is) } }
+  log_breaks breaks rule broken told = record { which = inl (refl, broken told); stays = record { stay = λ settled files is. absurd (no_files (v.calls old) rule files (broken told).broken is) } }
 
   -- the same of each way in which ends are judged, where what it asks of an end that is none of these is nothing
   of_rule : (J : End → Type 0) → ((why : UndoErr) → OnRule why (λ rule. v.tells → BreaksLog (v.calls old) (v.calls new) rule) → J (end_of_undo why)) → J end

@@ -52,7 +52,7 @@ module _ {S V : Type 0} {s : space.Ghosts S} {v : volume.Ghosts V} {name : List 
     told = run.told;
     opened = run.opened;
     events = run.events;
-    broken = opened_whole o end (v.calls w);
+    broken = opened_whole o (v.calls w);
     ends = λ settled first h.
         let r = run.ends first (begins_so o opens first h) in
         let last = world_after run.entries (started [] first) in

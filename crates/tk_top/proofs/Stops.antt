@@ -18,15 +18,15 @@ use Rattle.tk_top.proofs.Named.{at_exit}
 
 -- a space is closed to this volume: what a stop leaves of its calls, it leaves of the space
 pub record Closes {S V : Type 0} (s : space.Ghosts S) (v : volume.Ghosts V) (t : S) (w : V) : Type 0 where
-  pub moment : s.moment t ≡ length (v.calls w)
+  pub exit : (ims : Files) → Images (v.calls w) ims → s.left t (s.moment t) (recovered ims)
   pub leaves : (n : ℕ) (ims : Files) → ImagesSince (v.calls w) n ims → s.left t n (recovered ims)
 
-pub closes : {S V : Type 0} (s : space.Ghosts S) (v : volume.Ghosts V) (under : S → V) (t : S) (w : V) → w ≡ under t → IsOver s.tells v.tells (v.calls (under t)) (s.moment t) (s.left t) (s.now t) (s.names t) (v.names (under t)) (s.faults t) (v.faults (under t)) → Closes s v t w
-closes s v under t w is over = subst (λ z. Closes s v t z) (sym is) (record { moment = over.moment_is; leaves = over.leaves })
+pub closes : {S V : Type 0} (s : space.Ghosts S) (v : volume.Ghosts V) (under : S → V) (t : S) (w : V) → w ≡ under t → IsOver s.tells v.tells (s.sound t) (v.calls (under t)) (s.touched t) (s.moment t) (s.left t) (s.now t) (s.names t) (v.names (under t)) (s.faults t) (v.faults (under t)) → Closes s v t w
+closes s v under t w is over = subst (λ z. Closes s v t z) (sym is) (record { exit = over.exit; leaves = over.leaves })
 
 -- at the exit
 pub exit_left : {S V : Type 0} {s : space.Ghosts S} {v : volume.Ghosts V} {t : S} {w : V} → Closes s v t w → (ims : Files) → Images (v.calls w) ims → s.left t (s.moment t) (recovered ims)
-exit_left {S} {V} {s} {v} {t} {w} closed ims are = subst (λ (n : ℕ). s.left t n (recovered ims)) (sym closed.moment) (closed.leaves (length (v.calls w)) ims (at_exit (v.calls w) ims are))
+exit_left closed ims are = closed.exit ims are
 
 module _ (reopens : Files → Contents → Type 0) (exits : Option Files → Type 0) (early : Type 0) (marks : List Mark) where
   -- the run never came to an open space
@@ -43,5 +43,5 @@ module _ (reopens : Files → Contents → Type 0) (exits : Option Files → Typ
     moments = λ ims some. ⊎_elim
         (λ was. inr (o.moments settled (recovered ims) was))
         (λ m. inl m)
-        (run.moments.leaves.each (length old) (recovered ims) (o.later settled) (closed.leaves (length old) ims some));
+        (run.moments.leaves.each (length old) (recovered ims) o.later (closed.leaves (length old) ims some));
   }

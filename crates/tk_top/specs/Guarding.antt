@@ -1,5 +1,5 @@
 -- What a run leaves alone, however it ends.
-use Rattle.std.specs.Prelude.{◌≡◌, ◌⊎◌, ℕ}
+use Rattle.std.specs.Prelude.{◌≡◌, ◌⊎◌, ℕ, false}
 use Rattle.tc_base.specs.Files.{Files}
 use Rattle.tc_base.specs.declared.kind.Kind.{Kind}
 use Rattle.tc_io.specs.declared.volume.Volume as volume
@@ -23,7 +23,7 @@ pub record GuardsOver {S W : Type 0} (s : space.Ghosts S) (reopens : Files → C
   -- files that break a rule are looked at, and no more
   pub spared : s.tells → IsDamaged (OpensTo kind reopens) (s.now old) → OnlyReads s old new
   -- at the end of the turns, or of the wire, the space may be used, so that no file has passed its limit
-  pub sound : IsOut end → s.sound new
+  pub sound : IsOut end → s.sound new × (s.touched new ≡ false)
 
 pub record GuardsTaskOver {S O : Type 0} (s : space.Ghosts S) (reopens : Files → Contents → Type 0) (kind : Kind) (task : Task) (end : End) (old new : S) (p q : O) : Type 0 where
   -- something is printed only where the files stand for contents

@@ -64,7 +64,7 @@ MakingOver s reopens numbers anew end old new first = StopsOver s reopens (Exits
 
 -- what making a file leaves of a volume
 pub record FilesMade (tells : Type 0) (opens reopens : Files → Contents → Type 0) (numbers : Files → Type 0) (anew : Contents) (end : End) (old new : Calls) : Type 0 where
-  pub broken : tells → LeavesBroken end old new
+  pub broken : tells → LeavesBroken old new
   -- where it was settled, and its files, as they read, recovered and reopened to a mark
   pub ends : IsSettled old → (first : Mark) → BeginsAt tells opens old first → StopsAt reopens (ExitsMaking reopens numbers anew end first) (IsEarly end) (with_contents first anew ∷ first ∷ []) old new
 

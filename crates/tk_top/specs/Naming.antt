@@ -1,6 +1,7 @@
 -- What the naming and opening of a volume leaves of it.
-use Rattle.std.specs.Prelude.{◌≡◌, ◌⊎◌, ◌≤◌, ℕ, max, true, false, List, [], ◌∷◌, length, Option, Some}
+use Rattle.std.specs.Prelude.{◌≡◌, ◌⊎◌, ◌≤◌, ℕ, max, Bool, true, false, List, [], ◌∷◌, length, Option, Some}
 use Rattle.tc_base.specs.Files.{Files}
+use Rattle.tc_io.specs.Causes.{Rose}
 use Rattle.tc_io.specs.Images.{Calls, now, Images, ImagesSince, IsLostSync}
 use Rattle.tc_io.specs.Told.{Adds}
 use Rattle.tc_io.specs.declared.volume.Volume as volume
@@ -13,7 +14,13 @@ use Rattle.ud_state.specs.State.{IsSettled}
 use Rattle.tk_top.specs.declared.ends.End.{End}
 use Rattle.tk_top.specs.Causes.{CausedByVolume}
 use Rattle.tk_top.specs.Ends.{end_of_undo}
-use Rattle.tk_top.specs.Staying.{AsOpening, BreaksLog}
+use Rattle.tk_top.specs.Staying.{AsOpening, BreaksLog, LeavesBroken}
+
+-- a volume is handed back: it may be opened again, and a call of it failed where that is said
+pub record HandsOver (why : UndoErr) (is_bound : Bool) (before now : ℕ) : Type 0 where
+  pub bound : is_bound ≡ true
+  pub later : before ≤ now
+  pub cause : why ≡ undo_error.Fault → Rose before now
 
 -- a space was opened over a volume that told its calls
 pub record OpensOver {S : Type 0} (s : space.Ghosts S) (most : ℕ) (old : Calls) (a : S) : Type 0 where
@@ -22,8 +29,8 @@ pub record OpensOver {S : Type 0} (s : space.Ghosts S) (most : ℕ) (old : Calls
   pub files : recovered (now old) ≡ Some (s.now a)
   -- each data file may have so many bytes, or as many as it has where that is more
   pub limits : (f : ℕ) → is_data f ≡ true → s.limit a f ≡ max most (length (s.now a f))
+  pub later : length old ≤ s.moment a
   -- at any moment of a volume that was settled, as an opening image
-  pub later : IsSettled old → length old ≤ s.moment a
   pub moments : IsSettled old → (o : Option Files) → s.left a (length old) o → AsOpening old o
 
 -- no space was opened over it
@@ -53,8 +60,10 @@ pub record EndsUnopened {V : Type 0} (v : volume.Ghosts V) (name : List ℕ) (en
   pub is : end ≡ end_of_undo why
   -- a rule is named where the log breaks it first, and then no file was changed
   pub broken : OnRule why (λ rule. v.tells → BreaksLog (v.calls old) (v.calls new) rule)
-  -- recovery takes no memory
-  pub no_memory : why ≡ undo_error.Memory → new ≡ old
+  -- over a log that breaks a rule nothing was called but the sync of it, which may have failed
+  pub spares : v.tells → LeavesBroken (v.calls old) (v.calls new)
+  -- memory is asked for before the volume is called
+  pub no_memory : why ≡ undo_error.Memory → v.tells → v.calls new ≡ v.calls old
   pub names : NamesOnce v name old new
   pub caused : CausedByVolume v.faults end old new
   pub leaves : v.tells → IsSettled (v.calls old) → LeavesOpening (v.calls old) (v.calls new)

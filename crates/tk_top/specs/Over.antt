@@ -1,5 +1,6 @@
 -- What a run over a volume leaves of it.
-use Rattle.std.specs.Prelude.{◌≡◌, ◌≢◌, ◌⊎◌, ◌≤◌, ℕ, max, true, false, List, [], length, Option, Some}
+use Rattle.std.specs.Prelude.{◌≡◌, ◌≢◌, ◌⊎◌, ◌≤◌, ℕ, max, Bool, true, false, List, [], ◌∷◌, length, Option, Some}
+use Rattle.std.proofs.Common.{inl}
 use Rattle.tc_base.specs.Files.{Files}
 use Rattle.tc_base.specs.declared.kind.Kind.{Kind}
 use Rattle.tc_base.specs.declared.kind.Rule.{Rule}
@@ -20,9 +21,9 @@ use Rattle.ud_state.specs.State.{IsSettled}
 use Rattle.tc_model.specs.Contents.{Contents}
 use Rattle.ty_world.specs.World.{World, Mark, mark_of, started, world_after, AllAsked}
 use Rattle.ty_world.specs.Playing.{unplayed}
-use Rattle.ty_base.specs.Holding.{IsReady}
+use Rattle.ty_base.specs.Holding.{Frame, IsReady, Laid, Layout}
 use Rattle.ty_base.specs.Opening.{CanOpen, OpensTo}
-use Rattle.ty_rounds.specs.Kept.{HoldsMark, Reopens, AtMark}
+use Rattle.ty_rounds.specs.Kept.{AtMark, HoldsMark, MovesTo, Reopens}
 use Rattle.ty_rounds.specs.Turns.{Told}
 use Rattle.tk_top.specs.declared.ends.End.{End}
 use Rattle.tk_top.specs.declared.ends.End.TheVariants.{Done, Words, Refused, VolumeFault, Broken, NoMemory, Full, WireFault, TurnsSpent}
@@ -59,7 +60,7 @@ pub record FilesRun {W : Type 0} (tells : Type 0) (g : wire.Ghosts W) (opens reo
   -- where a script is played, each event and answer is as the script has it, and all bytes offered were taken
   pub played : (end ≡ Done) ⊎ (end ≡ TurnsSpent) → Plays (g.plays x) (g.plays y) entries
   pub plays : (first : Mark) → BeginsAt tells opens old first → (acts : List Act) (given : ℕ) → g.plays x ≡ Some (unplayed acts given) → PlaysAll turns (g.plays y) end acts given
-  pub broken : tells → LeavesBroken end old new
+  pub broken : tells → LeavesBroken old new
 
 -- the main file of these files is empty
 abbrev pub MainIsBare : Option Files → Type 0
@@ -69,11 +70,10 @@ MainIsBare o = (files : Files) × (o ≡ Some files) × (files 0 ≡ [])
 pub record FullFiles (tells empty lacks : Type 0) (fills : Contents → Contents → Type 0) (start : Mark → Type 0) (a b : Told) : Type 0 where
   pub which : (tells → empty × lacks) ⊎ FullRun fills start [] a b
 
--- a rule that is broken is one of the log, and no file was changed; or it is one of the layout, of what the log makes of the files, and where the main file
--- isn't empty they stay
+-- a rule that is broken is one of the log, and no file was changed; or it is one of the layout, of what the log makes of the files, and they stay
 pub record BreaksAt (breaks : Files → ℕ → Rule → Type 0) (old new : Calls) (file : ℕ) (rule : Rule) : Type 0 where
   pub which : ((file ≡ 1) × BreaksLog old new rule) ⊎ ((files : Files) × (recovered (now old) ≡ Some files) × breaks files file rule)
-  pub stays : FilesStay (λ files. files 0 ≡ [] → ⊥) old new
+  pub stays : FilesStay old new
 
 -- these are files, and they may be opened as the contents
 pub record Recover (opens : Files → Contents → Type 0) (o : Option Files) (c : Contents) : Type 0 where
@@ -86,14 +86,22 @@ pub record StandsFor (opens : Files → Contents → Type 0) (old : Calls) : Typ
   pub contents : Contents
   pub stand : Recover opens (recovered (now old)) contents
 
--- what a space over a volume tells is what the calls of the volume make of its files
-pub record IsOver (tells told : Type 0) (calls : Calls) (moment : ℕ) (left : ℕ → Option Files → Type 0) (files : Files) (names given : Named) (faults count : ℕ) : Type 0 where
+-- an image at the exit is one since then
+pub images_now : (calls : Calls) (ims : Files) → Images calls ims → ImagesSince calls (length calls) ims
+images_now [] ims are = are
+images_now (c ∷ cs) ims are = inl are
+
+-- what a space over a volume tells is what the calls of the volume make of its files; of one that may hold writes its files are so where nothing waits to be
+-- committed. Its moments are the calls of the volume, and those made of it since it was opened
+pub record IsOver (tells told sound : Type 0) (calls : Calls) (touched : Bool) (moment : ℕ) (left : ℕ → Option Files → Type 0) (files : Files) (names given : Named) (faults count : ℕ) : Type 0 where
   pub to : tells → told
   pub from : told → tells
-  pub moment_is : moment ≡ length calls
+  pub moment_later : length calls ≤ moment
   pub leaves : (t : ℕ) (ims : Files) → ImagesSince calls t ims → left t (recovered ims)
-  pub left_is : (t : ℕ) (o : Option Files) → left t o → LeftSince calls t o
-  pub now_is : files ≡ data_of (now calls)
+  -- of one that was just opened, a stop leaves no more
+  pub left_is : moment ≡ length calls → (t : ℕ) (o : Option Files) → t ≤ length calls → left t o → LeftSince calls t o
+  pub exit : (ims : Files) → Images calls ims → left moment (recovered ims)
+  pub now_is : sound → touched ≡ false → files ≡ data_of (now calls)
   pub names_are : names ≡ given
   pub faults_are : faults ≡ count
 
@@ -106,6 +114,14 @@ pub record OpensAs {S B : Type 0} (s : space.Ghosts S) (holds : B → Files → 
   pub stands : s.tells → (c : Contents) × opens (s.now old) c
   -- an empty main file was made, and others stay
   pub still : s.tells → IsStill made (s.now old) (Some (s.now new))
+
+-- whatever they were laid out like, what is held stands in files that are laid out like it, beside the same
+abbrev pub HoldsLike : {S B : Type 0} → space.Ghosts S → (B → Files → Contents → Type 0) → (Files → Contents → Type 0) → (ℕ → Type 0) → (Files → Layout) → Kind → B → S → S → Type 0
+HoldsLike s holds reopens own layout kind b old new = (l : Frame) (m : Mark) → Begins s (OpensTo kind (Laid own layout l reopens)) old m → HoldsMark s holds (Laid own layout l reopens) b new m
+
+-- and so does what a stop leaves
+abbrev pub MovesLike : {S : Type 0} → space.Ghosts S → (Files → Contents → Type 0) → (ℕ → Type 0) → (Files → Layout) → Kind → S → S → Type 0
+MovesLike s reopens own layout kind old new = (l : Frame) (m : Mark) → Begins s (OpensTo kind (Laid own layout l reopens)) old m → MovesTo s (Laid own layout l reopens) old new m
 
 -- the end of a run that came to the end of its turns, or of the wire
 abbrev pub IsOut : End → Type 0
@@ -131,7 +147,7 @@ Judged TurnsSpent stand breaks = stand
 pub record FilesFull {S V : Type 0} (s : space.Ghosts S) (under : S → V) (tells : Type 0) (lacks : S → Type 0) (fills : S → S → Contents → Contents → Type 0) (opens : Files → Contents → Type 0) (most : ℕ) (old : Calls) (vol : V) (a b : Told) : Type 0 where
   -- as it was opened, and as it ended
   pub begin : S
-  pub since : tells → IsSettled old → length old ≤ s.moment begin
+  pub since : tells → length old ≤ s.moment begin
   pub space : S
   pub vol_is : under space ≡ vol
   pub limits : tells → (files : Files) → recovered (now old) ≡ Some files → (f : ℕ) → is_data f ≡ true → s.limit space f ≡ max most (length (files f))

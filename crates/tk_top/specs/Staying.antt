@@ -2,8 +2,9 @@
 use Rattle.std.specs.Prelude.{◌≡◌, ◌⊎◌, ℕ, [], ◌∷◌, length, Option, Some, Err}
 use Rattle.tc_base.specs.Files.{Files}
 use Rattle.tc_base.specs.declared.kind.Rule.{Rule}
-use Rattle.tc_io.specs.Images.{Calls, synced, now, Images, ImagesSince}
+use Rattle.tc_io.specs.Images.{Calls, synced, now, Images, ImagesSince, IsLostSync}
 use Rattle.tc_space.specs.Frames.{OnlyReads}
+use Rattle.tc_space.specs.Moments.{LeavesOnly}
 use Rattle.tc_space.specs.declared.space.Space as space
 use Rattle.ud_log.specs.Undo.{recovered, undo}
 use Rattle.ud_state.specs.State.{IsSettled}
@@ -51,24 +52,29 @@ pub record BreaksLog (old new : Calls) (rule : Rule) : Type 0 where
   pub broken : undo (now old 1) (now old) ≡ Err rule
   pub only : new ≡ (1, synced) ∷ old
 
--- over a volume whose log breaks a rule nothing was called but that sync, or a call of the volume failed
-pub record LeavesBroken (end : End) (old new : Calls) : Type 0 where
-  pub stays : (rule : Rule) → undo (now old 1) (now old) ≡ Err rule → (end ≡ VolumeFault) ⊎ ((new ≡ old) ⊎ (new ≡ (1, synced) ∷ old))
+-- over a volume whose log breaks a rule nothing was called but that sync, which may have failed
+pub record LeavesBroken (old new : Calls) : Type 0 where
+  pub stays : (rule : Rule) → undo (now old 1) (now old) ≡ Err rule → (new ≡ (1, synced) ∷ old) ⊎ IsLostSync old new 1
 
--- of a space: a rule of the layout is broken, and where the main file isn't empty nothing was written
+-- of a space: a rule of the layout is broken, and nothing was written
 pub record BreaksOver {S : Type 0} (s : space.Ghosts S) (breaks : Files → ℕ → Rule → Type 0) (old new : S) (file : ℕ) (rule : Rule) : Type 0 where
   pub is : s.tells → breaks (s.now old) file rule
-  pub reads : s.tells → (s.now old 0 ≡ [] → ⊥) → OnlyReads s old new
+  pub reads : OnlyReads s old new
 
 -- the main file isn't empty, and the files stand for nothing
 pub record IsDamaged (opens : Files → Contents → Type 0) (files : Files) : Type 0 where
   pub some : files 0 ≡ [] → ⊥
   pub none : (c : Contents) → opens files c → ⊥
 
+-- a main file that is there is opened as it stands: a stop leaves the files as they are kept, and where they stand for nothing they are looked at, and no more
+pub record OpensThere {S : Type 0} (s : space.Ghosts S) (opens : Files → Contents → Type 0) (old new : S) : Type 0 where
+  pub rests : LeavesOnly s.moment s.left old new (λ o. (o ≡ s.kept old) ⊎ (o ≡ Some (s.now old)))
+  pub spared : ((c : Contents) → opens (s.now old) c → ⊥) → OnlyReads s old new
+
 -- these files, or, where the main file is empty, ones in which it was made anew
 pub record IsStill (made : Files → Type 0) (files : Files) (o : Option Files) : Type 0 where
   pub which : (o ≡ Some files) ⊎ ((files 0 ≡ []) × (anew : Files) × (o ≡ Some anew) × made anew)
 
--- the volume was settled, and what its files, as they read, recover to stays where this holds of it
-pub record FilesStay (which : Files → Type 0) (old new : Calls) : Type 0 where
-  pub stay : IsSettled old → (files : Files) → recovered (now old) ≡ Some files → which files → StaysAt files old new
+-- the volume was settled, and what its files, as they read, recover to stays
+pub record FilesStay (old new : Calls) : Type 0 where
+  pub stay : IsSettled old → (files : Files) → recovered (now old) ≡ Some files → StaysAt files old new

@@ -6,13 +6,17 @@ use Rattle.tc_base.specs.declared.kind.Kind.{Kind}
 use Rattle.tc_base.specs.declared.kind.Kind.TheVariants as kind
 use Rattle.tc_base.specs.declared.kind.Rule.{Rule}
 use Rattle.tc_model.specs.Contents.{Contents}
+use Rattle.ty_base.specs.Holding.{Layout}
+use Rattle.tc_space.specs.Stores.{Only}
 use Rattle.tc_fixed.specs.Holding.{HasNoRoom}
 use Rattle.tc_hash.specs.Packing.{IsPacked}
 use Rattle.tc_hashdb.specs.Filling.{FillsWith, LacksLargeWith}
 use Rattle.tc_hashdb.specs.Holding as hash
 use Rattle.tc_hashdb.specs.Informing as hash_lines
+use Rattle.tc_hashdb.specs.Layouts as hash_layout
 use Rattle.tc_hashdb.specs.Shapes as hash_shape
 use Rattle.tc_fixeddb.specs.Holding as fixed
+use Rattle.tc_fixeddb.specs.Layouts as fixed_layout
 use Rattle.tc_fixeddb.specs.Shapes as fixed_shape
 use Rattle.tk_top.specs.declared.words.Shape.{Shape}
 use Rattle.tk_top.specs.declared.words.Shape.TheVariants as shapes
@@ -37,6 +41,16 @@ breaks_of Fixed = fixed.BreaksAs kind.Fixed
 abbrev pub lines_in : Stored → Files → List ℕ → Type 0
 lines_in Hash = hash_lines.Lines
 lines_in Fixed = fixed.Lines
+
+-- its files
+abbrev pub own_of : Stored → ℕ → Type 0
+own_of Hash = Only 0
+own_of Fixed = Only 0
+
+-- how files are laid out
+abbrev pub layout_of : Stored → Files → Layout
+layout_of Hash = hash_layout.layout_of
+layout_of Fixed = fixed_layout.layout_of
 
 -- files are packed in a form: of a fixed-length file all are
 abbrev pub packed_in : Stored → Form → Files → Type 0

@@ -4,7 +4,7 @@ use Rattle.tc_base.specs.Files.{Files}
 use Rattle.tc_base.specs.declared.kind.Form.{Form}
 use Rattle.tc_base.specs.declared.kind.Kind.{Kind}
 use Rattle.tc_base.specs.declared.kind.Rule.{Rule}
-use Rattle.tc_io.specs.Images.{Calls, now, Images}
+use Rattle.tc_io.specs.Images.{Calls, now, Images, IsLostSync}
 use Rattle.tc_io.specs.Told.{Adds}
 use Rattle.tc_io.specs.declared.sink.Sink as sink
 use Rattle.tc_io.specs.declared.volume.Volume as volume
@@ -13,9 +13,10 @@ use Rattle.ud_log.specs.Undo.{is_data, recovered}
 use Rattle.ud_state.specs.State.{IsSettled}
 use Rattle.tc_model.specs.Contents.{Contents}
 use Rattle.ty_world.specs.World.{Mark}
+use Rattle.ty_base.specs.Holding.{Layout}
 use Rattle.ty_base.specs.Opening.{CanOpen, OpensTo}
 use Rattle.ty_rounds.specs.Kept.{AtMark, Reopens}
-use Rattle.tk_mgr.specs.Managing.{ArePacked, IsFrontOf, last_mark, marks_of, packing, writes_files}
+use Rattle.tk_mgr.specs.Managing.{ArePacked, FormedFrom, IsFrontOf, last_mark, marks_of, packing, writes_files}
 use Rattle.tk_mgr.specs.Tasks.{Prints, ok_of}
 use Rattle.tk_mgr.specs.declared.errors.MgrErr.{MgrErr}
 use Rattle.tk_mgr.specs.declared.errors.MgrErr.TheVariants as mgr
@@ -25,7 +26,7 @@ use Rattle.tk_top.specs.declared.ends.End.{End}
 use Rattle.tk_top.specs.declared.ends.End.TheVariants.{Done, Words, Refused, VolumeFault, Broken, NoMemory, Full, WireFault, TurnsSpent}
 use Rattle.tk_top.specs.Over.{BeginsAt, BreaksOn, CanStand, MainIsBare, Recover}
 use Rattle.tk_top.specs.Serving.{Begins}
-use Rattle.tk_top.specs.Staying.{BreaksOver, IsSilent, LeavesBroken}
+use Rattle.tk_top.specs.Staying.{AsOpening, BreaksOver, IsSilent, LeavesBroken}
 use Rattle.tk_top.specs.Stops.{IsEarly, StopsAt, StopsOver}
 
 -- ---- which files a task is for
@@ -102,8 +103,8 @@ pub record ExitsTask (reopens : Files → Contents → Type 0) (packed : Form �
 pub record TaskOver {S : Type 0} (s : space.Ghosts S) (reopens : Files → Contents → Type 0) (lines : Files → List ℕ → Type 0) (packed : Form → Files → Type 0) (task : Task) (end : End) (old new : S) (taken : List ℕ) (first : Mark) : Type 0 where
   pub on : TaskOn lines task end (s.now old) taken first
   pub stops : StopsOver s reopens (ExitsTask reopens packed task end taken first) (marks_of task first) old new
-  -- a task that only reads leaves the files as they are once it comes to its end
-  pub looks : writes_files task ≡ false → IsCarried end ⊎ (end ≡ Refused) → (o : Option Files) → s.left new (s.moment new) o → o ≡ Some (s.now old)
+  -- a task that only reads leaves the files as they are, however it ends
+  pub looks : writes_files task ≡ false → (o : Option Files) → s.left new (s.moment new) o → o ≡ Some (s.now old)
 
 pub record ManagesOver {S O : Type 0} (s : space.Ghosts S) (g : sink.Ghosts O) (opens reopens : Files → Contents → Type 0) (lines : Files → List ℕ → Type 0) (packed : Form → Files → Type 0) (task : Task) (end : End) (old new : S) (p q : O) : Type 0 where
   pub taken : List ℕ
@@ -115,15 +116,15 @@ pub record ManagesOver {S O : Type 0} (s : space.Ghosts S) (g : sink.Ghosts O) (
 pub record TaskRun (reopens : Files → Contents → Type 0) (lines : Files → List ℕ → Type 0) (packed : Form → Files → Type 0) (task : Task) (end : End) (files : Files) (old new : Calls) (taken : List ℕ) (first : Mark) : Type 0 where
   pub on : TaskOn lines task end files taken first
   pub stops : StopsAt reopens (ExitsTask reopens packed task end taken first) (IsEarly end × (taken ≡ [])) (marks_of task first) old new
-  -- a task that only reads leaves the files as they are once it comes to its end
-  pub looks : writes_files task ≡ false → IsCarried end ⊎ (end ≡ Refused) → (ims : Files) → Images new ims → recovered ims ≡ Some files
+  -- a task that only reads leaves the files as they are, however it ends; where it ended before the log was brought to the disk, as an opening image
+  pub looks : writes_files task ≡ false → (ims : Files) → Images new ims → (recovered ims ≡ Some files) ⊎ ((IsEarly end × (taken ≡ [])) × IsLostSync old new 1 × AsOpening old (recovered ims))
 
 -- what was printed, and what a task makes of a volume that was settled
 pub record FilesManaged {O : Type 0} (tells : Type 0) (g : sink.Ghosts O) (opens reopens : Files → Contents → Type 0) (lines : Files → List ℕ → Type 0) (packed : Form → Files → Type 0) (task : Task) (end : End) (old new : Calls) (p q : O) : Type 0 where
   pub taken : List ℕ
   pub told : Adds (g.taken p) (g.taken q) taken
   pub silent : IsSilent end → taken ≡ []
-  pub broken : tells → LeavesBroken end old new
+  pub broken : tells → LeavesBroken old new
   pub ends : IsSettled old → (first : Mark) (b : BeginsAt tells opens old first) → TaskRun reopens lines packed task end b.1.files old new taken first
 
 -- why a task was refused over a space
@@ -143,11 +144,21 @@ pub record FullTask (tells empty lacks : Type 0) (fills : Task → Contents → 
 pub record FilesFullTask {S V : Type 0} (s : space.Ghosts S) (under : S → V) (tells : Type 0) (lacks : S → Type 0) (fills : S → S → Task → Contents → Type 0) (opens : Files → Contents → Type 0) (task : Task) (most : ℕ) (old : Calls) (vol : V) : Type 0 where
   -- as it was opened, and as it ended
   pub begin : S
-  pub since : tells → IsSettled old → length old ≤ s.moment begin
+  pub since : tells → length old ≤ s.moment begin
   pub space : S
   pub vol_is : under space ≡ vol
   pub limits : tells → (files : Files) → recovered (now old) ≡ Some files → (f : ℕ) → is_data f ≡ true → s.limit space f ≡ max most (length (files f))
   pub full : FullTask tells (MainIsBare (recovered (now old))) (lacks space) (fills begin space) (BeginsAt tells opens old) task
+
+-- ---- the numbers of files that a task packed
+
+-- once a packing is carried out over a space a stop leaves files with the numbers that they had in that form
+pub record FormsOver {S : Type 0} (s : space.Ghosts S) (layout : Files → Layout) (opens : Files → Contents → Type 0) (task : Task) (end : End) (old new : S) : Type 0 where
+  pub formed : (first : Mark) → Begins s opens old first → (f : Form) → packing task ≡ Some f → end ≡ Done → (o : Option Files) → s.left new (s.moment new) o → ArePacked (FormedFrom layout (s.now old)) f o
+
+-- and over a volume
+pub record FormsFiles (tells : Type 0) (layout : Files → Layout) (opens : Files → Contents → Type 0) (task : Task) (end : End) (old new : Calls) : Type 0 where
+  pub formed : (first : Mark) (b : BeginsAt tells opens old first) (f : Form) → packing task ≡ Some f → end ≡ Done → (ims : Files) → Images new ims → ArePacked (FormedFrom layout b.1.files) f (recovered ims)
 
 -- ---- of a space
 
@@ -167,6 +178,9 @@ module _ {S : Type 0} (s : space.Ghosts S) (reopens : Files → Contents → Typ
 module _ {V : Type 0} (v : volume.Ghosts V) where
   abbrev pub ManagesOn : {O : Type 0} → sink.Ghosts O → (Files → Contents → Type 0) → (Files → List ℕ → Type 0) → (Form → Files → Type 0) → Kind → Task → End → V → V → O → O → Type 0
   ManagesOn g reopens lines packed kind task end old new p q = FilesManaged v.tells g (OpensTo kind reopens) reopens lines packed task end (v.calls old) (v.calls new) p q
+
+  abbrev pub FormsOn : (Files → Layout) → (Files → Contents → Type 0) → Task → End → V → V → Type 0
+  FormsOn layout opens task end old new = FormsFiles v.tells layout opens task end (v.calls old) (v.calls new)
 
   abbrev pub JudgedTaskOn : (Files → Contents → Type 0) → (Files → ℕ → Rule → Type 0) → Task → End → V → V → Type 0
   JudgedTaskOn opens breaks task end old new = JudgedTask end (CanStand v opens old) (BreaksOn v breaks old new) (v.tells → RefusedAt opens task (v.calls old))

@@ -19,9 +19,10 @@ use Rattle.tc_model.specs.Contents.{Contents, no_data}
 use Rattle.ty_world.specs.World.{Mark, World, started, world_after, AllAsked}
 use Rattle.ty_world.specs.Playing.{unplayed}
 use Rattle.ty_rounds.specs.Turns.{Told}
+use Rattle.ty_base.specs.Holding.{Frame, Laid, no_layout}
 use Rattle.ty_base.specs.Opening.{OpensTo}
 use Rattle.ty_wire.specs.Prefixes.{IsPrefix}
-use Rattle.tk_mgr.specs.Managing.{FillsTask}
+use Rattle.tk_mgr.specs.Managing.{FillsTask, packing, said_by}
 use Rattle.tk_mgr.specs.Tasks.{text_of}
 use Rattle.tk_mgr.specs.declared.task.Task.{Task}
 use Rattle.tk_mgr.specs.declared.task.Task.TheVariants as tasks
@@ -35,9 +36,9 @@ use Rattle.tk_top.specs.Making.{IsThere, JudgedMakingOn, MakesOn}
 use Rattle.tk_top.specs.Naming.{NamesOnce}
 use Rattle.tk_top.specs.Over.{BeginsAt, FullFiles, JudgedOn, MainIsBare, RunsOn}
 use Rattle.tk_top.specs.Serving.{ServesAt, PlaysAll}
-use Rattle.tk_top.specs.Stored.{anew_of, breaks_new_of, breaks_of, fills_of, kind_in, lacks_large_of, lacks_of, lines_in, numbers_of, packed_in, reopens_of, stored_as, usual_of}
+use Rattle.tk_top.specs.Stored.{anew_of, breaks_new_of, breaks_of, fills_of, kind_in, lacks_large_of, lacks_of, layout_of, lines_in, numbers_of, own_of, packed_in, reopens_of, stored_as, usual_of}
 use Rattle.tk_top.specs.Stops.{LeavesAlone}
-use Rattle.tk_top.specs.Tasks.{FullTask, JudgedTaskOn, ManagesOn}
+use Rattle.tk_top.specs.Tasks.{FormsOn, FullTask, JudgedTaskOn, ManagesOn}
 use Rattle.tk_top.specs.Words.{asked_of}
 use Rattle.tk_top.specs.declared.words.Asked.{Asked}
 use Rattle.tk_top.specs.declared.words.Asked.TheVariants as asked
@@ -112,9 +113,9 @@ LacksUsual v stored limits w = lacks_of (usual_of stored) (limits 0) (LogIsFull 
 abbrev pub FillsTaskAt : {V : Type 0} → volume.Ghosts V → Stored → (ℕ → ℕ) → ℕ → V → Task → Contents → Type 0
 FillsTaskAt v stored limits from w task c = FillsTask (LogIsFull v w) (FillsAt v stored limits from w) (LacksLargeAt v stored limits from w) task c
 
--- a moment of the run over a volume that was settled
+-- a moment of the run
 abbrev pub IsInRun : {V : Type 0} → volume.Ghosts V → V → ℕ → Type 0
-IsInRun v vol from = v.tells → IsSettled (v.calls vol) → length (v.calls vol) ≤ from
+IsInRun v vol from = v.tells → length (v.calls vol) ≤ from
 
 -- a limit was reached where the files were opened, or in the round of the last event: each data file may have so many bytes, or as many as it
 -- had where that is more, and has as many as the volume that is handed back; of the undo log it is said where it has half of what it may have
@@ -131,6 +132,8 @@ pub record FileRun {V W : Type 0} (v : volume.Ghosts V) (g : wire.Ghosts W) (end
   pub names : NamesOnce v name vol vol'
   -- what came of the wire, and what any stop leaves of a volume that was settled and whose files stood for contents
   pub told : RunsOn v g (reopens_of stored) (numbers_of (usual_of stored)) (kind_in stored) end turns at vol vol' x y
+  -- whatever the files are laid out like, and whichever stand beside them, so it is with files that have their numbers and nothing more behind, beside those
+  pub laid : (l : Frame) → RunsOn v g (Laid (own_of stored) (layout_of stored) l (reopens_of stored)) (numbers_of (usual_of stored)) (kind_in stored) end turns at vol vol' x y
   -- where it was served, the files stood for contents; and where a rule is named, it is the first that is broken
   pub judged : JudgedOn v (Opens stored) (breaks_of stored) end vol vol'
   -- the wire, files that break a rule and the limits of files
@@ -159,6 +162,10 @@ pub record TaskOnFiles {V O : Type 0} (v : volume.Ghosts V) (o : sink.Ghosts O) 
   pub names : NamesOnce v name vol vol'
   -- what was printed, and what any stop leaves of a volume that was settled and whose files stood for contents
   pub told : ManagesOn v o (reopens_of stored) (lines_in stored) (packed_in stored) (kind_in stored) task end vol vol' p q
+  -- so it is with files laid out like them, where the task packs none, beside the same in any case
+  pub laid : (l : Frame) → ManagesOn v o (Laid (own_of stored) (said_by (packing task) (layout_of stored)) l (reopens_of stored)) (lines_in stored) (packed_in stored) (kind_in stored) task end vol vol' p q
+  -- files that were packed have the numbers that they had, in the form that was asked for
+  pub formed : FormsOn v (layout_of stored) (Opens stored) task end vol vol'
   -- where it was carried out, the files stood for contents; where it was refused, for a reason; and where a rule is named, it is the first that is broken
   pub judged : JudgedTaskOn v (Opens stored) (breaks_of stored) task end vol vol'
   -- what is printed to, files that break a rule and a main file that isn't as the task wants it
@@ -177,6 +184,8 @@ pub record MakesFiles {V : Type 0} (v : volume.Ghosts V) (end : End) (name : Lis
   pub names : NamesOnce v name vol vol'
   -- what any stop leaves of a volume that was settled and whose files stood for contents
   pub made : MakesOn v (reopens_of (stored_as shape)) (numbers_of shape) (anew_of shape) end vol vol'
+  -- files beside them stay
+  pub laid : (l : Frame) → MakesOn v (Laid (own_of (stored_as shape)) no_layout l (reopens_of (stored_as shape))) (numbers_of shape) (anew_of shape) end vol vol'
   -- where it was made, the main file was empty; where it was refused, it wasn't; and where a rule is named, it is one of the log
   pub judged : JudgedMakingOn v (breaks_new_of shape) end vol vol'
   -- a main file that is there is looked at, and no more

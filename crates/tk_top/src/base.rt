@@ -1,6 +1,6 @@
 //! A database that was opened, served.
 ghost use Rattle.std.specs.Prelude.{◌≡◌, false, []};
-ghost use Rattle.ty_base.specs.Holding.{IsReady};
+ghost use Rattle.ty_base.specs.Holding.{Frame, IsReady, Laid};
 ghost use Rattle.tk_top.specs.declared.ends.End.TheVariants.{Full};
 ghost use Rattle.tk_top.specs.Ends.{IsEnd};
 ghost use Rattle.tk_top.specs.Over.{IsOut};
@@ -32,10 +32,11 @@ pub fn serve_base<B: Base + Drop, W: Wire, K: Clock>(
     requires ready { IsReady B.S.Space B.holds base space.old }
     requires untouched { B.S.touched space.old ≡ false }
     ensures told { RunsHeld B.S.Space W.Wire B.reopens B.holds base result turns at.now space.old space.new wire.old wire.new }
+    ensures laid { (l : Frame) → RunsHeld B.S.Space W.Wire (Laid B.own B.layout l B.reopens) B.holds base result turns at.now space.old space.new wire.old wire.new }
     ensures full { result ≡ Full → FullRunOf B.S.Space W.Wire B.holds B.reopens B.fills_since [] base space.old space.new wire.old wire.new }
     ensures accounted { IsAccounted B.S.Space W.faults result space.old space.new wire.old wire.new }
     ensures ends { IsEnd result }
-    ensures sound { IsOut result → B.S.sound space.new }
+    ensures sound { IsOut result → B.S.sound space.new × (B.S.touched space.new ≡ false) }
 {
     match wire.open(at) {
         Ok(()) => {}

@@ -2,6 +2,7 @@
 ghost use Rattle.std.specs.Prelude.{◌≡◌, false};
 ghost use Rattle.tc_io.specs.Images.{now};
 ghost use Rattle.tc_space.specs.Frames.{Follows};
+ghost use Rattle.ty_base.specs.Holding.{Frame, Laid, no_layout};
 ghost use Rattle.tk_top.specs.declared.ends.End.TheVariants.{Full, Refused};
 ghost use Rattle.tk_top.specs.Stops.{LeavesAlone};
 ghost use Rattle.tk_top.specs.Causes.{CausedByVolume};
@@ -23,6 +24,7 @@ pub fn make_opened<B: Opens + Drop>(alloc: Global, shape: &B::Shape, space: &mut
     requires untouched { B.S.touched space.old ≡ false }
     requires numbers { B.may_be shape.now }
     ensures made { MakesOver B.S.Space B.reopens (B.shaped shape.now) (B.anew shape.now) result space.old space.new }
+    ensures laid { (l : Frame) → MakesOver B.S.Space (Laid B.own no_layout l B.reopens) (B.shaped shape.now) (B.anew shape.now) result space.old space.new }
     ensures judged { JudgedMakingOver B.S.Space B.breaks_new result space.old space.new }
     // A main file that is there is looked at, and no more.
     ensures there { B.S.tells → IsThere (B.S.now space.old) → (result ≡ Refused) × (space.new ≡ space.old) }
@@ -55,13 +57,15 @@ pub fn make_files<S: OnVolume, B: Opens<S = S> + Drop>(
     ensures names { NamesOnce S.V.Volume name.now vol result.vol }
     // What any stop leaves of a volume that was settled and whose files stood for contents.
     ensures made { MakesOn S.V.Volume B.reopens (B.shaped shape.now) (B.anew shape.now) result.end vol result.vol }
+    // Files beside them stay.
+    ensures laid { (l : Frame) → MakesOn S.V.Volume (Laid B.own no_layout l B.reopens) (B.shaped shape.now) (B.anew shape.now) result.end vol result.vol }
     // Where it was made, the main file was empty; where it was refused, it wasn't; and where a rule is named, it is broken.
     ensures judged { JudgedMakingOn S.V.Volume B.breaks_new result.end vol result.vol }
     ensures there { S.V.tells → LeavesAlone IsThere result.end (S.V.calls vol) (S.V.calls result.vol) }
     ensures full { result.end ≡ Full → LacksOn S.V.Volume S.Space S.under B.lacks shape.now vol result.vol }
     ensures caused { CausedByVolume S.V.faults result.end vol result.vol }
 {
-    let mut space = match open_named::<S>(name, vol, FILE_MOST) {
+    let mut space = match open_named::<S>(alloc, name, vol, FILE_MOST) {
         Ok(space) => space,
         Err(stopped) => return stopped,
     };

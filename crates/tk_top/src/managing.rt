@@ -1,10 +1,11 @@
 //! A task on a database in files.
 ghost use Rattle.std.specs.Prelude.{◌≡◌, ℕ, List, length, false, IsTrue, IsFalse};
+ghost use Rattle.ty_base.specs.Holding.{Frame, Laid};
 ghost use Rattle.ty_base.specs.Opening.{OpensTo};
-ghost use Rattle.tk_mgr.specs.Managing.{FillsTaskIn};
+ghost use Rattle.tk_mgr.specs.Managing.{FillsTaskIn, packing, said_by};
 ghost use Rattle.tk_top.specs.declared.ends.End.TheVariants.{Full};
 ghost use Rattle.tk_top.specs.Guarding.{GuardsTaskOn, GuardsTaskOver};
-ghost use Rattle.tk_top.specs.Tasks.{FullTaskOn, FullTaskOver, JudgedTaskOn, JudgedTaskOver, ManagesAs, ManagesOn, end_of_task, is_refused_by, wants_empty};
+ghost use Rattle.tk_top.specs.Tasks.{FormsOn, FormsOver, FullTaskOn, FullTaskOver, JudgedTaskOn, JudgedTaskOver, ManagesAs, ManagesOn, end_of_task, is_refused_by, wants_empty};
 ghost use Rattle.tk_top.specs.Causes.{CausedIn, IsAccounted};
 ghost use Rattle.tk_top.specs.Naming.{NamesOnce};
 
@@ -68,6 +69,8 @@ pub fn manage_opened<B: Base + Opens + Drop, O: Sink>(
     requires sound { B.S.sound space.old }
     requires untouched { B.S.touched space.old ≡ false }
     ensures told { ManagesAs B.S.Space B.reopens O.Sink B.lines B.packed kind task result space.old space.new out.old out.new }
+    ensures laid { (l : Frame) → ManagesAs B.S.Space (Laid B.own (said_by (packing task) B.layout) l B.reopens) O.Sink B.lines B.packed kind task result space.old space.new out.old out.new }
+    ensures formed { FormsOver B.S.Space B.layout (OpensTo kind B.reopens) task result space.old space.new }
     ensures judged { JudgedTaskOver B.S.Space B.reopens B.breaks kind task result space.old space.new }
     ensures guards { GuardsTaskOver B.S.Space B.reopens kind task result space.old space.new out.old out.new }
     ensures full { result ≡ Full → FullTaskOver B.S.Space B.reopens (λ x. B.lacks x B.usual) (FillsTaskIn B.S.Space B.fills_since B.lacks_large) kind task space.old space.new }
@@ -97,6 +100,10 @@ pub fn manage_files<S: OnVolume, B: Base + Opens<S = S> + Drop, O: Sink>(
     ensures names { NamesOnce S.V.Volume name.now vol result.vol }
     // What was printed, and what any stop leaves of a volume that was settled and whose files stood for contents.
     ensures told { ManagesOn S.V.Volume O.Sink B.reopens B.lines B.packed kind task result.end vol result.vol out.old out.new }
+    // So it is with files laid out like them, where the task packs none, beside the same in any case.
+    ensures laid { (l : Frame) → ManagesOn S.V.Volume O.Sink (Laid B.own (said_by (packing task) B.layout) l B.reopens) B.lines B.packed kind task result.end vol result.vol out.old out.new }
+    // Files that were packed have the numbers that they had, in the form that was asked for.
+    ensures formed { FormsOn S.V.Volume B.layout (OpensTo kind B.reopens) task result.end vol result.vol }
     // Where it was carried out, the files stood for contents; where it was refused, for a reason; and where a rule is named, it is broken.
     ensures judged { JudgedTaskOn S.V.Volume (OpensTo kind B.reopens) (B.breaks kind) task result.end vol result.vol }
     // However it ended, something was printed only where they did, and nothing was written where they don't, or the main file isn't as the task wants it.
@@ -104,7 +111,7 @@ pub fn manage_files<S: OnVolume, B: Base + Opens<S = S> + Drop, O: Sink>(
     ensures full { result.end ≡ Full → FullTaskOn S.V.Volume S.Space S.under (λ x. B.lacks x B.usual) (FillsTaskIn S.Space B.fills_since B.lacks_large) (OpensTo kind B.reopens) task vol result.vol }
     ensures caused { CausedIn S.V.faults O.faults result.end vol result.vol out.old out.new }
 {
-    let mut space = match open_named::<S>(name, vol, FILE_MOST) {
+    let mut space = match open_named::<S>(alloc, name, vol, FILE_MOST) {
         Ok(space) => space,
         Err(stopped) => return stopped,
     };

@@ -1,6 +1,7 @@
 //! The loop of turns.
-ghost use Rattle.std.specs.Prelude.{◌≡◌, [], List, None};
+ghost use Rattle.std.specs.Prelude.{◌≡◌, [], List, None, false};
 ghost use Rattle.tc_io.specs.declared.wire.At.{At};
+ghost use Rattle.ty_base.specs.Holding.{Frame, Laid};
 ghost use Rattle.ty_rounds.specs.Servers.{IsReadyAs};
 ghost use Rattle.tk_top.specs.declared.ends.End.TheVariants.{Full};
 ghost use Rattle.tk_top.specs.Ends.{IsEnd};
@@ -26,10 +27,11 @@ pub fn serve<B: Base, W: Wire, K: Clock>(
     requires peers { server.old.peers.items ≡ [] }
     requires walk { server.old.walk ≡ None }
     ensures told { Ends B.S.Space W.Wire B.holds B.reopens result turns server.old.base space.old space.new wire.old wire.new }
+    ensures laid { (l : Frame) → Ends B.S.Space W.Wire B.holds (Laid B.own B.layout l B.reopens) result turns server.old.base space.old space.new wire.old wire.new }
     ensures full { result ≡ Full → (opens : List At) → FullRunOf B.S.Space W.Wire B.holds B.reopens B.fills_since opens server.old.base space.old space.new wire.old wire.new }
     ensures accounted { IsAccounted B.S.Space W.faults result space.old space.new wire.old wire.new }
     ensures ends { IsEnd result }
-    ensures sound { IsOut result → B.S.sound space.new }
+    ensures sound { IsOut result → B.S.sound space.new × (B.S.touched space.new ≡ false) }
 {
     for _done in 0..turns {
         let outcome = match turn(server, space, wire, clock) {

@@ -1,9 +1,12 @@
 //! A space over a volume.
 ghost use Rattle.std.specs.Prelude.{◌≡◌, ◌≤◌, ◌^◌, ℕ, true, false, length, max, IfOk, IfErr, MatchResult};
 ghost use Rattle.ud_log.specs.Undo.{is_data};
-ghost use Rattle.tc_undo.specs.Opening.{HandsBack, IsRefused, OpensKept};
+ghost use Rattle.tc_undo.specs.Opening.{IsRefused, OpensKept};
+ghost use Rattle.tc_undo.specs.declared.errors.UndoErr.TheVariants.{Memory};
+ghost use Rattle.tk_top.specs.Naming.{HandsOver};
 ghost use Rattle.tk_top.specs.Over.{IsOver};
 
+use std::alloc::Global;
 use tc_io::Volume;
 use tc_space::Space;
 use tc_undo::{Undo, Unopened};
@@ -15,37 +18,40 @@ pub trait OnVolume: Space {
     /// The volume.
     ghost under: { Self → Self.V };
 
-    /// Recovers the volume and opens it.
-    fn open_over(vol: Self::V, limit: u64) -> Result<Self, Unopened<Self::V>>
+    /// Recovers the volume and opens it. Memory for what it holds is taken before any call of the volume; its moments go on from those of the volume.
+    fn open_over(alloc: Global, vol: Self::V, limit: u64) -> Result<Self, Unopened<Self::V>>
         requires bound { Self.V.bound vol ≡ true }
         requires limit { limit ≤ 2 ^ 40 }
         ensures sound { IfOk result (λ s. Self.sound s) }
         ensures untouched { IfOk result (λ s. Self.touched s ≡ false) }
         ensures limits { IfOk result (λ s. Self.V.tells → (f : ℕ) → is_data f ≡ true → Self.limit s f ≡ max limit (length (Self.now s f))) }
         ensures kept { IfOk result (λ s. Self.V.tells → OpensKept (Self.V.calls vol) (Self.V.calls (Self.under s))) }
+        ensures moments { IfOk result (λ s. Self.V.tells → Self.moment s ≡ length (Self.V.calls (Self.under s))) }
+        ensures none { IfErr result (λ r. r.why ≡ Memory → r.vol ≡ vol) }
         ensures refused { IfErr result (λ r. Self.V.tells → IsRefused r.why (Self.V.calls vol) (Self.V.calls r.vol)) }
         ensures names { MatchResult result (λ s. Self.V.names (Self.under s) ≡ Self.V.names vol) (λ r. Self.V.names r.vol ≡ Self.V.names vol) }
-        ensures cause { MatchResult result (λ s. Self.V.faults vol ≤ Self.V.faults (Self.under s)) (λ r. HandsBack r.why (Self.V.bound r.vol) (Self.V.faults vol) (Self.V.faults r.vol)) };
+        ensures cause { MatchResult result (λ s. Self.V.faults vol ≤ Self.V.faults (Self.under s)) (λ r. HandsOver r.why (Self.V.bound r.vol) (Self.V.faults vol) (Self.V.faults r.vol)) };
 
     /// Hands the volume back as it stands.
     fn close_over(self) -> Self::V
         ensures { result ≡ Self.under self };
 
-    /// What the space tells is what the calls of the volume make of its files.
-    ghost is_over: { (s : Self) → IsOver Self.tells Self.V.tells (Self.V.calls (Self.under s)) (Self.moment s) (Self.left s) (Self.now s) (Self.names s) (Self.V.names (Self.under s)) (Self.faults s) (Self.V.faults (Self.under s)) };
+    /// What the space tells is what the calls of the volume make of its files, as soon as nothing waits to be committed. Its moments may be more than the calls.
+    ghost is_over: { (s : Self) → IsOver Self.tells Self.V.tells (Self.sound s) (Self.V.calls (Self.under s)) (Self.touched s) (Self.moment s) (Self.left s) (Self.now s) (Self.names s) (Self.V.names (Self.under s)) (Self.faults s) (Self.V.faults (Self.under s)) };
 }
 
 impl<X: Volume> OnVolume for Undo<X> {
-    ghost use Rattle.std.proofs.Common.{refl};
+    ghost use Rattle.std.proofs.Common.{arith, refl};
+    ghost use Rattle.tk_top.specs.Over.{images_now};
     ghost use Rattle.ud_state.proofs.Leaving.{images_left};
 
     type V = X;
 
     ghost under = { λ s. s.vol };
 
-    ghost is_over = { λ s. record { to = λ t. t; from = λ t. t; moment_is = refl; leaves = λ t ims some. record { is = images_left (X.calls s.vol) t ims some }; left_is = λ t o l. l.is; now_is = refl; names_are = refl; faults_are = refl } };
+    ghost is_over = { λ s. record { to = λ t. t; from = λ t. t; moment_later = omega arith; leaves = λ t ims some. record { is = images_left (X.calls s.vol) t ims some }; left_is = λ is t o le l. l.is; exit = λ ims some. record { is = images_left (X.calls s.vol) _ ims (images_now (X.calls s.vol) ims some) }; now_is = λ sound kept. refl; names_are = refl; faults_are = refl } };
 
-    fn open_over(vol: X, limit: u64) -> Result<Self, Unopened<X>> {
+    fn open_over(_alloc: Global, vol: X, limit: u64) -> Result<Self, Unopened<X>> {
         Undo::open(vol, limit)
     }
 

@@ -75,5 +75,8 @@ fn main(rt: HostRuntime) -> ExitCode {
     );
     // what was taken before a status other than 0 isn't lost
     let _ = wire.write_out();
-    ExitCode::from(ran.status)
+    let status = ran.status;
+    let mut vol = ran.vol;
+    vol.end();
+    ExitCode::from(status)
 }

@@ -1,6 +1,7 @@
 use Rattle.std.proofs.Common.{rules}
+use Rattle.ty_base.specs.Holding.{Laid}
 use Rattle.tk_mgr.proofs.Ends.{ready_may}
-use Rattle.tk_mgr.proofs.Secured.{secured, secured_fills, secured_moves, stands_hold, unmade_moves}
+use Rattle.tk_mgr.proofs.Secured.{moved_like, secured, secured_fills, secured_like, secured_moves, stands_hold, unmade_moves}
 use Rattle.tk_mgr.proofs.making.keep_some.Goals as goal
 
 pub make_some-requires-clause-ready : goal.make_some-requires-clause-ready
@@ -23,3 +24,17 @@ returns-in_err-save-clause-moments g c = secured_moves g.B.S.Space g.B.Storage.h
 
 pub returns-in_err-save-clause-full : goal.returns-in_err-save-clause-full
 returns-in_err-save-clause-full g c = λ is. secured_fills g.B.S.Space g.B.Storage.holds g.B.Storage.reopens _ _ _ _ _ c.save.new.base _ _ c.save.new.space c.in_ok-make_some.ensures.makes _ _ _ (c.in_err-save.ensures.full (search (rules, is)))
+
+-- ---- laid out like what was there
+
+pub returns-in_err-make_some-clause-moved : goal.returns-in_err-make_some-clause-moved
+returns-in_err-make_some-clause-moved g c = λ l. unmade_moves g.B.S.Space g.B.Storage.holds (Laid g.B.Storage.own g.B.Storage.layout l g.B.Storage.reopens) _ _ _ _ _ c.make_some.ensures.keeps
+
+pub returns-in_err-save-clause-moved : goal.returns-in_err-save-clause-moved
+returns-in_err-save-clause-moved g c = λ l. moved_like g.B.S.Space g.B.Storage.holds g.B.Storage.reopens _ _ _ _ c.make_some.new.base c.args.space.now c.make_some.new.space c.save.new.space g.B.Storage.own g.B.Storage.layout l c.in_ok-make_some.ensures.makes c.make_some.ensures.keeps c.in_ok-make_some.ensures.leaves c.save.ensures.moved
+
+pub returns-clause-moved : goal.returns-clause-moved
+returns-clause-moved g c = λ l. moved_like g.B.S.Space g.B.Storage.holds g.B.Storage.reopens _ _ _ _ c.make_some.new.base c.args.space.now c.make_some.new.space c.save.new.space g.B.Storage.own g.B.Storage.layout l c.in_ok-make_some.ensures.makes c.make_some.ensures.keeps c.in_ok-make_some.ensures.leaves c.save.ensures.moved
+
+pub returns-clause-laid : goal.returns-clause-laid
+returns-clause-laid g c = λ l. secured_like g.B.S.Space g.B.Storage.holds g.B.Storage.reopens _ _ _ _ c.make_some.new.base c.save.new.base c.args.space.now c.make_some.new.space c.save.new.space c.in_ok-make_some.ensures.makes g.B.Storage.own g.B.Storage.layout l c.in_ok-make_some.ensures.leaves c.in_ok-save.ensures.laid

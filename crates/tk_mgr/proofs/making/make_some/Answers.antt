@@ -1,16 +1,18 @@
 use Rattle.std.proofs.Common.{◌+◌, rules, arith}
 use Rattle.tc_space.specs.Frames.{keeps_refl, keeps_then}
+use Rattle.ty_base.specs.Holding.{leaves_nothing, leaves_on}
 use Rattle.tk_mgr.specs.Managing.{task_less}
 use Rattle.tk_mgr.specs.declared.task.Task.TheVariants.{Drill}
 use Rattle.tk_mgr.proofs.Steps.{fills_within, makes_as, makes_none, makes_then}
 use Rattle.tk_mgr.proofs.making.make_some.Goals as goal
 
 pub loop-done-init : goal.loop-done-init
-loop-done-init g c = record { makes = makes_none g.B.S.Space g.B.Storage.holds _ _ _ c.requires.ready; keeps = keeps_refl g.B.S.Space _ }
+loop-done-init g c = record { makes = makes_none g.B.S.Space g.B.Storage.holds _ _ _ c.requires.ready; leaves = leaves_nothing g.B.S.Space g.B.Storage.own g.B.Storage.layout ⊥ _ c.requires.ready.sound; keeps = keeps_refl g.B.S.Space _ }
 
 pub loop-done-preserved : goal.loop-done-preserved
 loop-done-preserved g c = record {
   makes = makes_then g.B.S.Space g.B.Storage.holds c.loop-done._done 1 _ _ _ _ _ _ _ _ _ c.loop-done.invariant.makes c.in_ok-make_one.ensures.makes;
+  leaves = leaves_on g.B.S.Space g.B.Storage.own g.B.Storage.layout _ _ _ c.loop-done.invariant.leaves c.in_ok-make_one.ensures.leaves;
   keeps = keeps_then g.B.S.Space _ _ _ c.loop-done.invariant.keeps c.make_one.ensures.keeps;
 }
 

@@ -2,9 +2,10 @@ use Rattle.std.proofs.Common.{refl, ap}
 use Rattle.std.specs.Prelude.{Some, None, []}
 use Rattle.tc_base.specs.declared.request.Request.TheVariants as request
 use Rattle.tk_mgr.specs.declared.task.Task.TheVariants as task
-use Rattle.tk_mgr.specs.Managing.{writes_files}
+use Rattle.ty_base.specs.Holding.{Laid, no_layout}
+use Rattle.tk_mgr.specs.Managing.{FormedFrom, writes_files}
 use Rattle.tk_mgr.specs.Tasks.{maximum_of, put_request}
-use Rattle.tk_mgr.proofs.Ends.{carries_manages, shows_manages, manages_as, idle_stays, fills_as, fills_asked, fills_before, not_both, packs_as, packs_large}
+use Rattle.tk_mgr.proofs.Ends.{carries_manages, laid_as, shows_manages, manages_as, idle_stays, fills_as, fills_asked, fills_before, not_both, packs_as, packs_large}
 use Rattle.tk_mgr.proofs.managing.manage.Goals as goal
 
 pub returns-in-Put-clause-managed : goal.returns-in-Put-clause-managed
@@ -134,3 +135,67 @@ returns-in-List-clause-full g c = λ is m h. absurd (c.list.ensures.not_full is)
 
 pub returns-in-Inform-clause-full : goal.returns-in-Inform-clause-full
 returns-in-Inform-clause-full g c = λ is m h. absurd (c.inform.ensures.not_full is)
+
+-- ---- and their numbers
+
+pub returns-in-Put-clause-formed : goal.returns-in-Put-clause-formed
+returns-in-Put-clause-formed g c = λ m h. packs_as g.B.S.Space g.B.Storage.reopens (FormedFrom g.B.Storage.layout (g.B.S.Space.now c.args.space.now)) _ (task.Put c.in-Put.word c.in-Put.key c.in-Put.value) _ _ c.in-Put.is (λ f is. absurd cc)
+
+pub returns-in-Out-clause-formed : goal.returns-in-Out-clause-formed
+returns-in-Out-clause-formed g c = λ m h. packs_as g.B.S.Space g.B.Storage.reopens (FormedFrom g.B.Storage.layout (g.B.S.Space.now c.args.space.now)) _ (task.Out c.in-Out.key) _ _ c.in-Out.is (λ f is. absurd cc)
+
+pub returns-in-Get-clause-formed : goal.returns-in-Get-clause-formed
+returns-in-Get-clause-formed g c = λ m h. packs_as g.B.S.Space g.B.Storage.reopens (FormedFrom g.B.Storage.layout (g.B.S.Space.now c.args.space.now)) _ (task.Get c.in-Get.key) _ _ c.in-Get.is (λ f is. absurd cc)
+
+pub returns-in-List-clause-formed : goal.returns-in-List-clause-formed
+returns-in-List-clause-formed g c = λ m h. packs_as g.B.S.Space g.B.Storage.reopens (FormedFrom g.B.Storage.layout (g.B.S.Space.now c.args.space.now)) _ (task.List c.in-List.maximum c.in-List.values) _ _ c.in-List.is (λ f is. absurd cc)
+
+pub returns-in-Inform-clause-formed : goal.returns-in-Inform-clause-formed
+returns-in-Inform-clause-formed g c = λ m h. packs_as g.B.S.Space g.B.Storage.reopens (FormedFrom g.B.Storage.layout (g.B.S.Space.now c.args.space.now)) _ task.Inform _ _ c.in-Inform.is (λ f is. absurd cc)
+
+pub returns-in-Drill-clause-formed : goal.returns-in-Drill-clause-formed
+returns-in-Drill-clause-formed g c = λ m h. packs_as g.B.S.Space g.B.Storage.reopens (FormedFrom g.B.Storage.layout (g.B.S.Space.now c.args.space.now)) _ (task.Drill c.in-Drill.seed c.in-Drill.count) _ _ c.in-Drill.is (λ f is. absurd cc)
+
+pub returns-in-Optimize-clause-formed : goal.returns-in-Optimize-clause-formed
+returns-in-Optimize-clause-formed g c = λ m h. packs_as g.B.S.Space g.B.Storage.reopens (FormedFrom g.B.Storage.layout (g.B.S.Space.now c.args.space.now)) _ (task.Optimize c.in-Optimize.large) _ _ c.in-Optimize.is (c.optimize.ensures.formed m h)
+
+-- ---- laid out like what was there
+
+pub returns-in-Put-clause-laid : goal.returns-in-Put-clause-laid
+returns-in-Put-clause-laid g c = λ l.
+    laid_as g.B.S.Space g.B.Storage.reopens g.O.Sink g.B.Storage.holds g.B.Storage.lines g.B.Storage.own g.B.Storage.layout l _ (task.Put c.in-Put.word c.in-Put.key c.in-Put.value) _ _ _ _ _ _ c.in-Put.is
+    (carries_manages g.B.S.Space (Laid g.B.Storage.own g.B.Storage.layout l g.B.Storage.reopens) g.O.Sink g.B.Storage.holds g.B.Storage.lines (task.Put c.in-Put.word c.in-Put.key c.in-Put.value) (Some (put_request c.in-Put.word c.in-Put.key c.in-Put.value)) _ _ _ _ _ (λ d. refl) (λ d. refl) (λ f d. refl) (c.put.ensures.laid l))
+
+pub returns-in-Out-clause-laid : goal.returns-in-Out-clause-laid
+returns-in-Out-clause-laid g c = λ l.
+    laid_as g.B.S.Space g.B.Storage.reopens g.O.Sink g.B.Storage.holds g.B.Storage.lines g.B.Storage.own g.B.Storage.layout l _ (task.Out c.in-Out.key) _ _ _ _ _ _ c.in-Out.is
+    (carries_manages g.B.S.Space (Laid g.B.Storage.own g.B.Storage.layout l g.B.Storage.reopens) g.O.Sink g.B.Storage.holds g.B.Storage.lines (task.Out c.in-Out.key) (Some (request.Out c.in-Out.key)) _ _ _ _ _ (λ d. refl) (λ d. refl) (λ f d. refl) (c.take_out.ensures.laid l))
+
+pub returns-in-Optimize-clause-laid : goal.returns-in-Optimize-clause-laid
+returns-in-Optimize-clause-laid g c = λ l.
+    laid_as g.B.S.Space g.B.Storage.reopens g.O.Sink g.B.Storage.holds g.B.Storage.lines g.B.Storage.own g.B.Storage.layout l _ (task.Optimize c.in-Optimize.large) _ _ _ _ _ _ c.in-Optimize.is
+    (carries_manages g.B.S.Space (Laid g.B.Storage.own no_layout l g.B.Storage.reopens) g.O.Sink g.B.Storage.holds g.B.Storage.lines (task.Optimize c.in-Optimize.large) None _ _ _ _ _ (λ d. refl) (λ d. refl) (λ f d. refl) (c.optimize.ensures.laid l))
+
+pub returns-in-Get-clause-laid : goal.returns-in-Get-clause-laid
+returns-in-Get-clause-laid g c = λ l.
+    laid_as g.B.S.Space g.B.Storage.reopens g.O.Sink g.B.Storage.holds g.B.Storage.lines g.B.Storage.own g.B.Storage.layout l _ (task.Get c.in-Get.key) _ _ _ _ _ _ c.in-Get.is
+    (shows_manages g.B.S.Space (Laid g.B.Storage.own g.B.Storage.layout l g.B.Storage.reopens) g.O.Sink g.B.Storage.holds g.B.Storage.lines (task.Get c.in-Get.key) _ _ _ _ _ _ (λ d. idle_stays (request.Get c.in-Get.key) d (record { updates_none = refl; packs_none = refl }))
+    (record { sound = c.requires.may.sound; only = λ o t x. g.met.B.S.Space.only_kept c.args.space.now o t c.requires.may.sound x; clean = λ t. g.met.B.S.Space.clean c.args.space.now t c.requires.may.sound c.requires.may.untouched })
+    (λ t u o le x. g.met.B.S.Space.earlier c.get.new.space t u o le x) c.get.ensures.keeps c.get.ensures.shows)
+
+pub returns-in-List-clause-laid : goal.returns-in-List-clause-laid
+returns-in-List-clause-laid g c = λ l.
+    laid_as g.B.S.Space g.B.Storage.reopens g.O.Sink g.B.Storage.holds g.B.Storage.lines g.B.Storage.own g.B.Storage.layout l _ (task.List c.in-List.maximum c.in-List.values) _ _ _ _ _ _ c.in-List.is
+    (shows_manages g.B.S.Space (Laid g.B.Storage.own g.B.Storage.layout l g.B.Storage.reopens) g.O.Sink g.B.Storage.holds g.B.Storage.lines (task.List c.in-List.maximum c.in-List.values) _ _ _ _ _ _ (λ d. idle_stays (request.FwmKeys [] (maximum_of c.in-List.maximum)) d (record { updates_none = refl; packs_none = refl }))
+    (record { sound = c.requires.may.sound; only = λ o t x. g.met.B.S.Space.only_kept c.args.space.now o t c.requires.may.sound x; clean = λ t. g.met.B.S.Space.clean c.args.space.now t c.requires.may.sound c.requires.may.untouched })
+    (λ t u o le x. g.met.B.S.Space.earlier c.list.new.space t u o le x) c.list.ensures.keeps c.list.ensures.shows)
+
+pub returns-in-Inform-clause-laid : goal.returns-in-Inform-clause-laid
+returns-in-Inform-clause-laid g c = λ l.
+    laid_as g.B.S.Space g.B.Storage.reopens g.O.Sink g.B.Storage.holds g.B.Storage.lines g.B.Storage.own g.B.Storage.layout l _ task.Inform _ _ _ _ _ _ c.in-Inform.is
+    (shows_manages g.B.S.Space (Laid g.B.Storage.own g.B.Storage.layout l g.B.Storage.reopens) g.O.Sink g.B.Storage.holds g.B.Storage.lines task.Inform _ _ _ _ _ _ (λ d. refl)
+    (record { sound = c.requires.may.sound; only = λ o t x. g.met.B.S.Space.only_kept c.args.space.now o t c.requires.may.sound x; clean = λ t. g.met.B.S.Space.clean c.args.space.now t c.requires.may.sound c.requires.may.untouched })
+    (λ t u o le x. g.met.B.S.Space.earlier c.inform.new.space t u o le x) c.inform.ensures.keeps c.inform.ensures.shows)
+
+pub returns-in-Drill-clause-laid : goal.returns-in-Drill-clause-laid
+returns-in-Drill-clause-laid g c = λ l. laid_as g.B.S.Space g.B.Storage.reopens g.O.Sink g.B.Storage.holds g.B.Storage.lines g.B.Storage.own g.B.Storage.layout l _ (task.Drill c.in-Drill.seed c.in-Drill.count) _ _ _ _ _ _ c.in-Drill.is (c.drill.ensures.laid l)

@@ -2,6 +2,7 @@ use Rattle.std.proofs.Common.{◌≡◌, ◌⊎◌, ⊎_elim, [], ◌∷◌, tru
 use Rattle.tc_io.specs.Script.{Plays}
 use Rattle.tc_io.specs.Told.{Adds}
 use Rattle.tc_io.specs.declared.wire.Entry.TheVariants.{Open}
+use Rattle.ty_base.specs.Holding.{Laid}
 use Rattle.ty_rounds.specs.Kept.{HoldsMark}
 use Rattle.tk_top.specs.Runs.{Ends, FullRun}
 use Rattle.tk_top.proofs.Causes.{caused_later}
@@ -41,3 +42,17 @@ returns-in-Err-clause-sound g c = λ out. absurd (⊎_elim (λ is. cc) (λ is. c
 pub returns-clause-accounted : goal.returns-clause-accounted
 returns-clause-accounted g c = let a = c.serve-end.ensures.accounted in let later = c.open.ensures.cause.later in
     record { follows = a.follows; later = omega (arith, later, a.later); caused = caused_later c.serve-end.result _ _ _ _ _ _ (omega arith) later a.caused }
+
+pub returns-in-Err-clause-laid : goal.returns-in-Err-clause-laid
+returns-in-Err-clause-laid g c = λ l. let s = g.B.S.Space in let w = g.W.Wire in
+    let told : Adds (w.transcript c.args.wire.now) (w.transcript c.open.new.self) [] ⊎ Adds (w.transcript c.args.wire.now) (w.transcript c.open.new.self) (Open c.args.at.now ∷ []) = search rules in
+    over_unopened s w g.B.Storage.holds (Laid g.B.Storage.own g.B.Storage.layout l g.B.Storage.reopens) c.args.base c.args.turns c.args.at.now c.args.space.now _ _
+    (fresh g.B.S.Space c.args.space.now g.met.B.S.Space.only_kept g.met.B.S.Space.clean c.requires.ready.sound c.requires.untouched) told
+
+pub returns-clause-laid : goal.returns-clause-laid
+returns-clause-laid g c = λ l. let s = g.B.S.Space in let w = g.W.Wire in
+    let told : Adds (w.transcript c.args.wire.now) (w.transcript c.open.new.self) (Open c.args.at.now ∷ []) = search rules in
+    let plays : Plays (w.plays c.args.wire.now) (w.plays c.open.new.self) (Open c.args.at.now ∷ []) = search rules in
+    over_served s w g.B.Storage.holds (Laid g.B.Storage.own g.B.Storage.layout l g.B.Storage.reopens) c.args.base c.serve-end.result c.args.turns c.args.at.now c.args.space.now c.serve-end.new.space _ _ _
+    (fresh g.B.S.Space c.args.space.now g.met.B.S.Space.only_kept g.met.B.S.Space.clean c.requires.ready.sound c.requires.untouched) (g.met.B.S.Space.earlier c.serve-end.new.space) told plays
+    (subst (λ b. Ends s w g.B.Storage.holds (Laid g.B.Storage.own g.B.Storage.layout l g.B.Storage.reopens) c.serve-end.result c.args.turns b c.args.space.now c.serve-end.new.space c.open.new.self c.serve-end.new.wire) c.new-server.ensures.base (c.serve-end.ensures.laid l))

@@ -1,4 +1,5 @@
 use Rattle.std.proofs.Common.{◌∙◌, inl, inr, ⊎_elim, refl, sym, ap}
+use Rattle.ty_base.specs.Holding.{Laid}
 use Rattle.ty_base.specs.Opening.{OpensTo}
 use Rattle.tk_top.proofs.Kept.{judged_as}
 use Rattle.tk_top.specs.Staying.{IsDamaged}
@@ -31,7 +32,7 @@ returns-in-Err-clause-judged g c = judged_unnamed c.in-Err.ensures.unopened (g.B
 pub returns-clause-full : goal.returns-clause-full
 returns-clause-full g c = λ is. let o = c.in-Ok.ensures.opened in let end = c.serve_files-end.new.space in record {
   begin = c.in-Ok.space;
-  since = λ t settled. (o.over t).later settled;
+  since = λ t. (o.over t).later;
   space = end;
   vol_is = sym c.close_over.ensures;
   limits = limits_so o (g.S.Space.limit end) c.serve_files-end.ensures.accounted.follows.same_limit;
@@ -50,6 +51,13 @@ returns-clause-guards g c = let o = c.in-Ok.ensures.opened in let end = c.serve_
     let guards = c.serve_files-end.ensures.guards in record {
       begun = ⊎_elim (λ same. inl same) (λ can. inr (stands_so o opens can)) guards.begun;
       spared = spares_so o (closes g.S.Space g.S.V.Volume g.S.OnVolume.under end _ c.close_over.ensures over) (λ x. fresh g.S.Space x g.met.S.Space.only_kept g.met.S.Space.clean) (g.met.S.V.Volume.now_is_image c.args.vol) (IsDamaged opens) c.serve_files-end.result guards.spared;
-      within = λ out t. within_so o end (g.S.Space.limit end) c.serve_files-end.ensures.accounted.follows.same_limit t (ap g.S.V.Volume.calls c.close_over.ensures) over.now_is
-          (λ f is. g.met.S.Space.within end f (over.from t) (guards.sound out) is);
+      within = λ out t. within_so o end (g.S.Space.limit end) c.serve_files-end.ensures.accounted.follows.same_limit t (ap g.S.V.Volume.calls c.close_over.ensures) (over.now_is (guards.sound out).0 (guards.sound out).1)
+          (λ f is. g.met.S.Space.within end f (over.from t) (guards.sound out).0 is);
     }
+
+pub returns-in-Err-clause-laid : goal.returns-in-Err-clause-laid
+returns-in-Err-clause-laid g c = λ l. files_unopened g.W.Wire c.args.kind (Laid g.B.Storage.own g.B.Storage.layout l g.B.Storage.reopens) _ c.args.turns c.args.at.now c.args.wire.now c.in-Err.ensures.unopened
+
+pub returns-clause-laid : goal.returns-clause-laid
+returns-clause-laid g c = λ l. let end = c.serve_files-end.new.space in
+    files_run c.in-Ok.ensures.opened (OpensTo c.args.kind (Laid g.B.Storage.own g.B.Storage.layout l g.B.Storage.reopens)) g.W.Wire (Laid g.B.Storage.own g.B.Storage.layout l g.B.Storage.reopens) (closes g.S.Space g.S.V.Volume g.S.OnVolume.under end _ c.close_over.ensures (g.met.S.OnVolume.is_over end)) (c.serve_files-end.ensures.laid l)

@@ -1,6 +1,7 @@
 use Rattle.std.proofs.Common.{◌≡◌, inl, inr, ⊎_elim, refl, rules, sym, subst, ◌∙◌}
 use Rattle.tc_model.specs.Contents.{Contents}
 use Rattle.tk_top.specs.declared.ends.End.{End}
+use Rattle.ty_base.specs.Holding.{Laid}
 use Rattle.ty_base.specs.Opening.{OpensTo}
 use Rattle.ty_base.specs.declared.errors.AnyErr.TheVariants as any
 use Rattle.tk_top.specs.Over.{Judged}
@@ -46,7 +47,7 @@ returns-clause-full g c = λ is. let s = g.B.S.Space in let b = g.B.Storage in
 pub returns-in-Err-clause-guards : goal.returns-in-Err-clause-guards
 returns-in-Err-clause-guards g c = let other = ended_not c.in-Err.e in record {
   begun = inl refl;
-  spared = c.open_kept.ensures.spared;
+  spared = λ t damaged. (c.open_kept.ensures.there t damaged.some).spared damaged.none;
   sound = λ out. absurd (⊎_elim (λ is. other.0 (sym c.from.ensures ∙ is)) (λ is. other.1 (sym c.from.ensures ∙ is)) out);
 }
 
@@ -56,3 +57,18 @@ returns-clause-guards g c = let stands = c.in-Ok.ensures.opened.stands in record
   spared = λ t damaged. let x = stands t in absurd (damaged.none x.0 x.1);
   sound = c.serve_base.ensures.sound;
 }
+
+pub returns-in-Err-clause-laid : goal.returns-in-Err-clause-laid
+returns-in-Err-clause-laid g c = λ l. let s = g.B.S.Space in let b = g.B.Storage in let w = g.W.Wire in
+    subst (λ end. RunsOver s w (Laid b.own b.layout l b.reopens) (g.B.Opens.shaped g.B.Opens.usual) end c.args.turns c.args.at.now c.args.space.now c.open_kept.new.space c.args.wire.now c.args.wire.now (Begins s (OpensTo c.args.kind (Laid b.own b.layout l b.reopens)) c.args.space.now)) (sym c.from.ensures)
+    (over_refused s w (Laid b.own b.layout l b.reopens) (OpensTo c.args.kind (Laid b.own b.layout l b.reopens)) (g.B.Opens.shaped g.B.Opens.usual) (λ files d h. h.stand) c.in-Err.e c.args.turns c.args.at.now c.args.space.now c.open_kept.new.space c.args.wire.now
+    (fresh g.B.S.Space c.args.space.now g.met.B.S.Space.only_kept g.met.B.S.Space.clean c.requires.sound c.requires.untouched)
+    (g.met.B.S.Space.earlier c.open_kept.new.space) (c.open_kept.ensures.moved l))
+
+pub returns-clause-laid : goal.returns-clause-laid
+returns-clause-laid g c = λ l. let s = g.B.S.Space in let b = g.B.Storage in let w = g.W.Wire in
+    over_opened s w (Laid b.own b.layout l b.reopens) (OpensTo c.args.kind (Laid b.own b.layout l b.reopens)) (g.B.Opens.shaped g.B.Opens.usual) (λ files d h. h.stand) (HoldsMark s b.holds (Laid b.own b.layout l b.reopens) c.in-Ok.base c.open_kept.new.space) c.serve_base.result c.args.turns c.args.at.now c.args.space.now c.open_kept.new.space c.serve_base.new.space c.args.wire.now c.serve_base.new.wire
+    (fresh g.B.S.Space c.args.space.now g.met.B.S.Space.only_kept g.met.B.S.Space.clean c.requires.sound c.requires.untouched)
+    (c.open_kept.ensures.moved l) (c.in-Ok.ensures.laid l)
+    c.in-Ok.ensures.opened.still
+    (c.serve_base.ensures.laid l)

@@ -1,4 +1,5 @@
 use Rattle.std.proofs.Common.{◌∙◌, sym, ap}
+use Rattle.ty_base.specs.Holding.{Laid, no_layout}
 use Rattle.tk_top.specs.Making.{IsThere}
 use Rattle.tk_top.proofs.Made.{judged_made, made_run, made_unopened}
 use Rattle.tk_top.proofs.Named.{limits_so, names_so}
@@ -43,3 +44,10 @@ returns-clause-full g c = λ is. let o = c.in-Ok.ensures.opened in let end = c.m
   limits = limits_so o (g.S.Space.limit end) c.make_opened-end.ensures.follows.same_limit;
   lack = λ t. c.make_opened-end.ensures.full is (o.over t).tells;
 }
+
+pub returns-in-Err-clause-laid : goal.returns-in-Err-clause-laid
+returns-in-Err-clause-laid g c = λ l. let shape = c.args.shape.now in made_unopened (Laid g.B.Storage.own no_layout l g.B.Storage.reopens) (g.B.Opens.shaped shape) (g.B.Opens.anew shape) _ c.in-Err.ensures.unopened
+
+pub returns-clause-laid : goal.returns-clause-laid
+returns-clause-laid g c = λ l. let shape = c.args.shape.now in let end = c.make_opened-end.new.space in
+    made_run (Laid g.B.Storage.own no_layout l g.B.Storage.reopens) (g.B.Opens.shaped shape) (g.B.Opens.anew shape) c.in-Ok.ensures.opened (closes g.S.Space g.S.V.Volume g.S.OnVolume.under end _ c.close_over.ensures (g.met.S.OnVolume.is_over end)) (c.make_opened-end.ensures.laid l)

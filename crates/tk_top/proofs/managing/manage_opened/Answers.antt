@@ -1,16 +1,19 @@
-use Rattle.std.proofs.Common.{◌≡◌, inl, inr, sym, subst, refl, rules, ◌∙◌, false, Bool}
+use Rattle.std.proofs.Common.{◌≡◌, inl, inr, sym, subst, refl, rules, ◌∙◌, false, Bool, []}
 use Rattle.tc_model.specs.Contents.{Contents}
+use Rattle.ty_base.specs.Holding.{Laid}
 use Rattle.ty_base.specs.Opening.{OpensTo}
 use Rattle.ty_world.specs.World.{Mark}
-use Rattle.tk_mgr.specs.Managing.{task_less}
+use Rattle.tc_base.specs.Files.{Files}
+use Rattle.tk_mgr.specs.Managing.{ArePacked, FormedFrom, packing, said_by, task_less}
 use Rattle.tk_top.specs.Staying.{BreaksOver}
 use Rattle.tk_top.specs.Tasks.{IsMisplaced, JudgedTask, ManagesOver, ReasonOver, is_refused_by}
 use Rattle.tk_top.specs.declared.ends.End.{End}
 use Rattle.ty_base.specs.declared.errors.AnyErr.TheVariants as any
 use Rattle.tc_space.specs.Frames.{only_reads_refl}
 use Rattle.tk_top.proofs.Kept.{full_err, still_same}
-use Rattle.tk_top.proofs.Managed.{full_is, judged_begun, over_managed, over_misplaced, over_unopened, placed_writes}
+use Rattle.tk_top.proofs.Managed.{done_is, full_is, judged_begun, over_managed, over_misplaced, over_unopened, packs_there, placed_writes, reads_there, unbegun_of}
 use Rattle.tk_top.proofs.Fresh.{fresh}
+use Rattle.tk_top.proofs.Laying.{holds_said, moves_said}
 use Rattle.tk_top.proofs.managing.manage_opened.Goals as goal
 
 pub returns-then-not-is_placed-clause-told : goal.returns-then-not-is_placed-clause-told
@@ -24,7 +27,8 @@ returns-in-Err-clause-told g c = let s = g.B.S.Space in let b = g.B.Storage in
     subst (λ (end : End). ManagesOver s g.O.Sink (OpensTo c.args.kind b.reopens) b.reopens b.lines b.packed c.args.task end c.args.space.now c.open_kept.new.space c.args.out.now c.args.out.now) (sym c.from.ensures)
     (over_unopened s g.O.Sink (OpensTo c.args.kind b.reopens) b.reopens (λ files d h. h.stand) b.lines b.packed c.args.task c.in-Err.e c.args.space.now c.open_kept.new.space c.args.out.now
     (fresh g.B.S.Space c.args.space.now g.met.B.S.Space.only_kept g.met.B.S.Space.clean c.requires.sound c.requires.untouched)
-    (g.met.B.S.Space.earlier c.open_kept.new.space) c.open_kept.ensures.moments)
+    (g.met.B.S.Space.earlier c.open_kept.new.space) c.open_kept.ensures.moments
+    (λ t reads. (c.open_kept.ensures.there t (λ empty. c.if-not-is_placed.ensures.yes (search rules) (s.now c.args.space.now 0) (c.len.ensures t) (subst (λ (e : Bool). is_refused_by e (s.now c.args.space.now 0)) (sym (c.wants_empty.ensures ∙ reads_there c.args.task reads)) empty))).rests))
 
 pub manage-requires : goal.manage-requires
 manage-requires g c = let s = g.B.S.Space in record {
@@ -83,7 +87,7 @@ returns-then-not-is_placed-clause-guards g c = record { begun = inl refl; spared
 pub returns-in-Err-clause-guards : goal.returns-in-Err-clause-guards
 returns-in-Err-clause-guards g c = let main = g.B.S.Space.now c.args.space.now 0 in record {
   begun = inl refl;
-  spared = c.open_kept.ensures.spared;
+  spared = λ t damaged. (c.open_kept.ensures.there t damaged.some).spared damaged.none;
   misplaced = λ t not. absurd (c.if-not-is_placed.ensures.yes (search rules) main (c.len.ensures t) (subst (λ (e : Bool). is_refused_by e main) (sym c.wants_empty.ensures) not));
 }
 
@@ -93,3 +97,46 @@ returns-clause-guards g c = let main = g.B.S.Space.now c.args.space.now 0 in let
   spared = λ t damaged. let x = stands t in absurd (damaged.none x.0 x.1);
   misplaced = λ t not. absurd (c.if-not-is_placed.ensures.yes (search rules) main (c.len.ensures t) (subst (λ (e : Bool). is_refused_by e main) (sym c.wants_empty.ensures) not));
 }
+
+pub returns-then-not-is_placed-clause-formed : goal.returns-then-not-is_placed-clause-formed
+returns-then-not-is_placed-clause-formed g c = record { formed = λ first h f packs done. absurd cc }
+
+pub returns-in-Err-clause-formed : goal.returns-in-Err-clause-formed
+returns-in-Err-clause-formed g c = record { formed = λ first h f packs done. absurd ((unbegun_of c.in-Err.e).not_done (sym c.from.ensures ∙ done)) }
+
+pub returns-clause-formed : goal.returns-clause-formed
+returns-clause-formed g c = let s = g.B.S.Space in let b = g.B.Storage in let old = s.now c.args.space.now in let mid = s.now c.open_kept.new.space in record {
+  formed = λ first h f packs done o l.
+      let main : old 0 ≡ [] → ⊥ = λ empty. c.if-not-is_placed.ensures.yes (search rules) (old 0) (c.len.ensures h.0) (subst (λ (e : Bool). is_refused_by e (old 0)) (sym (c.wants_empty.ensures ∙ packs_there c.args.task f packs)) empty) in
+      let same : mid ≡ old = still_same (g.B.Opens.shaped g.B.Opens.usual) old mid (c.in-Ok.ensures.opened.still h.0) main in
+      subst (λ (was : Files). ArePacked (FormedFrom b.layout was) f o) same
+      (c.manage.ensures.formed first (c.in-Ok.ensures.opened.marks first h) f packs (done_is c.manage.result (sym c.end_of-end.ensures ∙ done)) o l);
+}
+
+-- ---- laid out like what was there
+
+pub returns-then-not-is_placed-clause-laid : goal.returns-then-not-is_placed-clause-laid
+returns-then-not-is_placed-clause-laid g c = λ l. let s = g.B.S.Space in let b = g.B.Storage in let like = (Laid b.own (said_by (packing c.args.task) b.layout) l b.reopens) in
+    over_misplaced s g.O.Sink (OpensTo c.args.kind like) like (λ files d h. h.stand) b.lines b.packed c.args.task c.args.space.now c.args.out.now
+    (fresh g.B.S.Space c.args.space.now g.met.B.S.Space.only_kept g.met.B.S.Space.clean c.requires.sound c.requires.untouched)
+    (λ t. subst (λ (b : Bool). is_refused_by b (s.now c.args.space.now 0)) c.wants_empty.ensures (c.if-not-is_placed.ensures.no (search rules) (s.now c.args.space.now 0) (c.len.ensures t)))
+
+pub returns-in-Err-clause-laid : goal.returns-in-Err-clause-laid
+returns-in-Err-clause-laid g c = λ l. let s = g.B.S.Space in let b = g.B.Storage in let like = (Laid b.own (said_by (packing c.args.task) b.layout) l b.reopens) in
+    subst (λ (end : End). ManagesOver s g.O.Sink (OpensTo c.args.kind like) like b.lines b.packed c.args.task end c.args.space.now c.open_kept.new.space c.args.out.now c.args.out.now) (sym c.from.ensures)
+    (over_unopened s g.O.Sink (OpensTo c.args.kind like) like (λ files d h. h.stand) b.lines b.packed c.args.task c.in-Err.e c.args.space.now c.open_kept.new.space c.args.out.now
+    (fresh g.B.S.Space c.args.space.now g.met.B.S.Space.only_kept g.met.B.S.Space.clean c.requires.sound c.requires.untouched)
+    (g.met.B.S.Space.earlier c.open_kept.new.space) (moves_said b.holds b.reopens b.own b.layout c.args.kind s c.args.space.now c.open_kept.new.space (packing c.args.task) c.open_kept.ensures.moved l)
+    (λ t reads. (c.open_kept.ensures.there t (λ empty. c.if-not-is_placed.ensures.yes (search rules) (s.now c.args.space.now 0) (c.len.ensures t) (subst (λ (e : Bool). is_refused_by e (s.now c.args.space.now 0)) (sym (c.wants_empty.ensures ∙ reads_there c.args.task reads)) empty))).rests))
+
+pub returns-clause-laid : goal.returns-clause-laid
+returns-clause-laid g c = λ l. let s = g.B.S.Space in let b = g.B.Storage in let old = c.args.space.now in let mid = c.open_kept.new.space in let like = (Laid b.own (said_by (packing c.args.task) b.layout) l b.reopens) in
+    let placed : s.tells → IsMisplaced c.args.task (s.now old) → ⊥ = λ t m. c.if-not-is_placed.ensures.yes (search rules) (s.now old 0) (c.len.ensures t) (subst (λ (e : Bool). is_refused_by e (s.now old 0)) (sym c.wants_empty.ensures) m) in
+    subst (λ (end : End). ManagesOver s g.O.Sink (OpensTo c.args.kind like) like b.lines b.packed c.args.task end old c.manage.new.space c.args.out.now c.manage.new.out) (sym c.end_of-end.ensures)
+    (over_managed s g.O.Sink (OpensTo c.args.kind like) like (λ files d h. h.stand) b.lines b.packed c.args.task b.holds c.manage.result c.in-Ok.base old mid c.manage.new.space c.args.out.now c.manage.new.out
+    (fresh g.B.S.Space old g.met.B.S.Space.only_kept g.met.B.S.Space.clean c.requires.sound c.requires.untouched)
+    (fresh g.B.S.Space mid g.met.B.S.Space.only_kept g.met.B.S.Space.clean c.in-Ok.ensures.opened.ready.sound c.in-Ok.ensures.opened.untouched)
+    (g.met.B.S.Space.earlier c.manage.new.space) (moves_said b.holds b.reopens b.own b.layout c.args.kind s c.args.space.now c.open_kept.new.space (packing c.args.task) c.open_kept.ensures.moved l)
+    (holds_said b.holds b.reopens b.own b.layout c.args.kind s c.args.space.now c.open_kept.new.space (packing c.args.task) c.in-Ok.base c.in-Ok.ensures.laid l)
+    (λ t w. still_same (g.B.Opens.shaped g.B.Opens.usual) (s.now old) (s.now mid) (c.in-Ok.ensures.opened.still t) (subst (λ (e : Bool). is_refused_by e (s.now old 0) → ⊥) w (placed t)))
+    placed c.manage.ensures.reads (c.manage.ensures.laid l) (λ m h. c.manage.ensures.packs m (record { has = h.has; stand = h.stand.stand })))

@@ -1,5 +1,6 @@
 use Rattle.std.proofs.Common.{arith, rules, ◌≡◌, ◌∙◌, subst, sym}
 use Rattle.tc_space.specs.Frames.{follows_then, follows_refl}
+use Rattle.ty_base.specs.Holding.{Laid}
 use Rattle.ty_rounds.specs.declared.outcome.Outcome.TheVariants.{Went, Shut}
 use Rattle.ty_rounds.specs.declared.outcome.TurnErr.TheVariants as turn
 use Rattle.tk_top.specs.Causes.{Caused}
@@ -15,6 +16,7 @@ pub loop-done-init : goal.loop-done-init
 loop-done-init g c = let s = g.B.S.Space in let w = g.W.Wire in record {
   ready = c.requires.ready;
   told = run_start s w g.B.Storage.holds g.B.Storage.reopens _ _ _ _ _ c.requires.ready.base_is.sound c.requires.walk c.requires.peers;
+  laid = λ l. run_start s w g.B.Storage.holds (Laid g.B.Storage.own g.B.Storage.layout l g.B.Storage.reopens) _ _ _ _ _ c.requires.ready.base_is.sound c.requires.walk c.requires.peers;
   later_wire = omega arith;
   follows = follows_refl s c.args.space.now;
 }
@@ -23,6 +25,7 @@ pub loop-done-preserved : goal.loop-done-preserved
 loop-done-preserved g c = let s = g.B.S.Space in let w = g.W.Wire in record {
   ready = c.in-Ok.ensures.ready;
   told = run_more s w g.B.Storage.holds g.B.Storage.reopens _ _ _ _ _ _ _ _ _ _ _ _ _ _ c.loop-done.invariant.told (turn_is s w g.B.Storage.holds g.B.Storage.reopens _ _ _ _ _ _ _ _ _ _ c.in-Ok.outcome Went c.in-Went.is c.in-Ok.ensures.told);
+  laid = λ l. run_more s w g.B.Storage.holds (Laid g.B.Storage.own g.B.Storage.layout l g.B.Storage.reopens) _ _ _ _ _ _ _ _ _ _ _ _ _ _ (c.loop-done.invariant.laid l) (turn_is s w g.B.Storage.holds (Laid g.B.Storage.own g.B.Storage.layout l g.B.Storage.reopens) _ _ _ _ _ _ _ _ _ _ c.in-Ok.outcome Went c.in-Went.is (c.in-Ok.ensures.laid l));
   later_wire = omega (arith, c.loop-done.invariant.later_wire, c.turn.ensures.later_wire);
   follows = follows_then s c.args.space.now c.loop-done.space c.turn.new.space c.loop-done.invariant.follows c.turn.ensures.follows;
 }
@@ -55,13 +58,13 @@ returns-clause-told g c = let s = g.B.S.Space in let w = g.W.Wire in let ready =
     c.loop-done.invariant.told
 
 pub returns-in-Shut-clause-sound : goal.returns-in-Shut-clause-sound
-returns-in-Shut-clause-sound g c = λ out. c.in-Ok.ensures.ready.base_is.sound
+returns-in-Shut-clause-sound g c = λ out. (c.in-Ok.ensures.ready.base_is.sound, c.in-Ok.ensures.ready.untouched)
 
 pub returns-in-Err-clause-sound : goal.returns-in-Err-clause-sound
 returns-in-Err-clause-sound g c = λ out. absurd (not_out c.in-Err.e (subst IsOut c.from.ensures out))
 
 pub returns-clause-sound : goal.returns-clause-sound
-returns-clause-sound g c = λ out. c.loop-done.invariant.ready.base_is.sound
+returns-clause-sound g c = λ out. (c.loop-done.invariant.ready.base_is.sound, c.loop-done.invariant.ready.untouched)
 
 pub returns-in-Err-clause-accounted : goal.returns-in-Err-clause-accounted
 returns-in-Err-clause-accounted g c = let s = g.B.S.Space in let w = g.W.Wire in let i = c.loop-done.invariant in record {
@@ -70,3 +73,21 @@ returns-in-Err-clause-accounted g c = let s = g.B.S.Space in let w = g.W.Wire in
   caused = subst (λ end. Caused end (s.faults c.args.space.now) (s.faults c.turn.new.space) (w.faults c.args.wire.now) (w.faults c.turn.new.wire)) (sym c.from.ensures)
       (caused_turn c.in-Err.e _ _ _ _ _ _ i.follows.later i.later_wire (λ is. c.in-Err.ensures.cause_space (search rules)) (λ is. c.in-Err.ensures.cause_wire (search rules)));
 }
+
+pub returns-in-Shut-clause-laid : goal.returns-in-Shut-clause-laid
+returns-in-Shut-clause-laid g c = λ l. let s = g.B.S.Space in let w = g.W.Wire in let ready = c.in-Ok.ensures.ready in
+    run_shut s w g.B.Storage.holds (Laid g.B.Storage.own g.B.Storage.layout l g.B.Storage.reopens) _ _ _ _ _ _ _ _ _ _ _ _ _ _ _ (omega arith)
+    (fresh g.B.S.Space c.turn.new.space g.met.B.S.Space.only_kept g.met.B.S.Space.clean ready.base_is.sound ready.untouched)
+    c.loop-done.invariant.ready.wired (c.loop-done.invariant.laid l) (turn_is s w g.B.Storage.holds (Laid g.B.Storage.own g.B.Storage.layout l g.B.Storage.reopens) _ _ _ _ _ _ _ _ _ _ c.in-Ok.outcome Shut c.in-Shut.is (c.in-Ok.ensures.laid l))
+
+pub returns-in-Err-clause-laid : goal.returns-in-Err-clause-laid
+returns-in-Err-clause-laid g c = λ l. let s = g.B.S.Space in let w = g.W.Wire in
+    subst (λ end. Ends s w g.B.Storage.holds (Laid g.B.Storage.own g.B.Storage.layout l g.B.Storage.reopens) end c.args.turns c.args.server.now.base c.args.space.now c.turn.new.space c.args.wire.now c.turn.new.wire) (sym c.from.ensures)
+    (run_err s w g.B.Storage.holds (Laid g.B.Storage.own g.B.Storage.layout l g.B.Storage.reopens) _ _ _ _ _ _ _ _ _ _ _ _ _ _ _ c.in-Err.e (omega arith) c.loop-done.invariant.ready.wired (c.loop-done.invariant.laid l) (c.in-Err.ensures.laid l))
+
+pub returns-clause-laid : goal.returns-clause-laid
+returns-clause-laid g c = λ l. let s = g.B.S.Space in let w = g.W.Wire in let ready = c.loop-done.invariant.ready in
+    let all : c.loop-done._done ≡ c.args.turns = search rules in
+    run_spent s w g.B.Storage.holds (Laid g.B.Storage.own g.B.Storage.layout l g.B.Storage.reopens) _ _ _ _ _ _ _ _ c.loop-done._done c.args.turns all
+    (fresh g.B.S.Space c.loop-done.space g.met.B.S.Space.only_kept g.met.B.S.Space.clean ready.base_is.sound ready.untouched)
+    (c.loop-done.invariant.laid l)

@@ -8,9 +8,9 @@ use Rattle.tk_top.proofs.top.manage_stored.Goals as goal
 pub returns-in-Hash : goal.returns-in-Hash
 returns-in-Hash g c = let v = g.V.Volume in let run = c.manage_files.ensures in
     subst (λ (stored : Stored). TaskOnFiles v g.O.Sink c.manage_files.result.end c.args.name.now stored c.args.task c.args.vol c.manage_files.result.vol c.args.out.now c.manage_files.new.out) (sym c.in-Hash.is)
-    (record { names = run.names; told = run.told; judged = run.judged; guards = run.guards; full = λ is. is_full_task v Hash c.args.task (run.full is); caused = run.caused })
+    (record { names = run.names; told = run.told; laid = run.laid; formed = run.formed; judged = run.judged; guards = run.guards; full = λ is. is_full_task v Hash c.args.task (run.full is); caused = run.caused })
 
 pub returns-in-Fixed : goal.returns-in-Fixed
 returns-in-Fixed g c = let v = g.V.Volume in let run = c.manage_files-in-Fixed.ensures in
     subst (λ (stored : Stored). TaskOnFiles v g.O.Sink c.manage_files-in-Fixed.result.end c.args.name.now stored c.args.task c.args.vol c.manage_files-in-Fixed.result.vol c.args.out.now c.manage_files-in-Fixed.new.out) (sym c.in-Fixed.is)
-    (record { names = run.names; told = run.told; judged = run.judged; guards = run.guards; full = λ is. is_full_task v Fixed c.args.task (run.full is); caused = run.caused })
+    (record { names = run.names; told = run.told; laid = run.laid; formed = run.formed; judged = run.judged; guards = run.guards; full = λ is. is_full_task v Fixed c.args.task (run.full is); caused = run.caused })

@@ -8,9 +8,9 @@ use Rattle.tk_top.proofs.top.serve_stored.Goals as goal
 pub returns-in-Hash : goal.returns-in-Hash
 returns-in-Hash g c = let v = g.V.Volume in let run = c.run_files.ensures in
     subst (λ (stored : Stored). FileRun v g.W.Wire c.run_files.result.end c.args.name.now stored c.args.limit c.args.at.now c.args.turns c.args.vol c.run_files.result.vol c.args.wire.now c.run_files.new.wire) (sym c.in-Hash.is)
-    (record { names = run.names; told = run.told; judged = run.judged; guards = run.guards; full = λ is. is_full v Hash (g.W.Wire.transcript c.args.wire.now) (g.W.Wire.transcript c.run_files.new.wire) (run.full is); caused = run.caused })
+    (record { names = run.names; told = run.told; laid = run.laid; judged = run.judged; guards = run.guards; full = λ is. is_full v Hash (g.W.Wire.transcript c.args.wire.now) (g.W.Wire.transcript c.run_files.new.wire) (run.full is); caused = run.caused })
 
 pub returns-in-Fixed : goal.returns-in-Fixed
 returns-in-Fixed g c = let v = g.V.Volume in let run = c.run_files-in-Fixed.ensures in
     subst (λ (stored : Stored). FileRun v g.W.Wire c.run_files-in-Fixed.result.end c.args.name.now stored c.args.limit c.args.at.now c.args.turns c.args.vol c.run_files-in-Fixed.result.vol c.args.wire.now c.run_files-in-Fixed.new.wire) (sym c.in-Fixed.is)
-    (record { names = run.names; told = run.told; judged = run.judged; guards = run.guards; full = λ is. is_full v Fixed (g.W.Wire.transcript c.args.wire.now) (g.W.Wire.transcript c.run_files-in-Fixed.new.wire) (run.full is); caused = run.caused })
+    (record { names = run.names; told = run.told; laid = run.laid; judged = run.judged; guards = run.guards; full = λ is. is_full v Fixed (g.W.Wire.transcript c.args.wire.now) (g.W.Wire.transcript c.run_files-in-Fixed.new.wire) (run.full is); caused = run.caused })
