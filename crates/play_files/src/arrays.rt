@@ -1,197 +1,193 @@
 //! Cases of fixed-length files.
 
-use crate::failures::Failure;
-use crate::looks::{are_bytes, is_number, is_so, is_value, usable};
+use crate::looks::{bytes_line, is_number, is_so, is_value, usable};
+use crate::playing::{Object, play_lines};
+use crate::refusals::{faulted, refused};
 use play_text::{Line, Script, Wrong, number_of};
-use std::alloc::Global;
+use std::alloc::{AllocError, Global};
 use tc_base::Blob;
 use tc_fixed::Fixed;
 use tc_memstores::OneFile;
-use tc_space::RecErr;
 
-// A value put where it may be.
-fn put(
-    fixed: &mut Fixed<OneFile>,
-    space: &mut OneFile,
-    id: u64,
-    value: &[u8],
-) -> Result<(), RecErr> {
-    usable(space)?;
-    if id == 0 || id > fixed.max_id() || value.len() > fixed.width() as usize {
-        return Err(RecErr::Full);
+// A file of an array in memory.
+#[derive(Drop)]
+struct Held {
+    alloc: Global,
+    fixed: Fixed<OneFile>,
+    space: OneFile,
+}
+
+impl Held {
+    // Puts a value where it may be.
+    fn put(&mut self, id: u64, value: &[u8]) -> Result<(), Wrong> {
+        usable(&self.space)?;
+        if id == 0 || id > self.fixed.max_id() || value.len() > self.fixed.width() as usize {
+            return Err(Wrong::Not("a limit was reached"));
+        }
+        self.fixed.put(&mut self.space, id, value).map_err(refused)
     }
-    fixed.put(space, id, value)
+
+    // A value.
+    fn value(&mut self, id: u64) -> Result<Option<Blob>, Wrong> {
+        usable(&self.space)?;
+        let mut bytes = Vec::new(self.alloc);
+        bytes.resize(self.fixed.width() as usize, 0)?;
+        match self.fixed.get(&mut self.space, id, &mut bytes) {
+            Ok(Some(long)) => {
+                bytes.truncate(long);
+                Ok(Some(Blob::from_vec(bytes)))
+            }
+            Ok(None) => Ok(None),
+            Err(_) => Err(Wrong::Not("a fault")),
+        }
+    }
+
+    // How long a value is.
+    fn long(&mut self, id: u64) -> Result<Option<u64>, Wrong> {
+        usable(&self.space)?;
+        self.fixed.value_len(&mut self.space, id).map_err(faulted)
+    }
+
+    // Takes an id out; false where it isn't held.
+    fn out(&mut self, id: u64) -> Result<bool, Wrong> {
+        usable(&self.space)?;
+        self.fixed.out(&mut self.space, id).map_err(refused)
+    }
+
+    // Takes all values out.
+    fn clear(&mut self) -> Result<(), Wrong> {
+        usable(&self.space)?;
+        self.fixed.clear(&mut self.space).map_err(refused)
+    }
+
+    // Brings what is held in memory to the file.
+    fn settle(&mut self) -> Result<(), Wrong> {
+        usable(&self.space)?;
+        self.fixed.settle(&mut self.space).map_err(refused)
+    }
 }
 
-// A value.
-fn value(
-    alloc: Global,
-    fixed: &mut Fixed<OneFile>,
-    space: &mut OneFile,
-    id: u64,
-) -> Result<Option<Blob>, RecErr> {
-    usable(space)?;
-    let mut bytes = Vec::new(alloc);
-    bytes.resize(fixed.width() as usize, 0)?;
-    let Some(long) = fixed.get(space, id, &mut bytes)? else {
-        return Ok(None);
-    };
-    bytes.truncate(long);
-    Ok(Some(Blob::from_vec(bytes)))
-}
-
-// How long a value is.
-fn long(fixed: &mut Fixed<OneFile>, space: &mut OneFile, id: u64) -> Result<Option<u64>, RecErr> {
-    usable(space)?;
-    Ok(fixed.value_len(space, id)?)
-}
-
-// An id taken out; false where it isn't held.
-fn out(fixed: &mut Fixed<OneFile>, space: &mut OneFile, id: u64) -> Result<bool, RecErr> {
-    usable(space)?;
-    fixed.out(space, id)
-}
-
-// All values taken out.
-fn clear(fixed: &mut Fixed<OneFile>, space: &mut OneFile) -> Result<(), RecErr> {
-    usable(space)?;
-    fixed.clear(space)
-}
-
-// What is held in memory brought to the file.
-fn settle(fixed: &mut Fixed<OneFile>, space: &mut OneFile) -> Result<(), RecErr> {
-    usable(space)?;
-    fixed.settle(space)
-}
-
-// A line that asks for an id: `get ID = VALUE`, `none ID`, `length ID N`.
-fn get_line(
-    alloc: Global,
-    fixed: &mut Fixed<OneFile>,
-    space: &mut OneFile,
-    what: &str,
-    line: &mut Line<'_>,
-) -> Result<(), Failure> {
+// A line that asks for the value of an id: `get ID = VALUE`.
+fn get_line(held: &mut Held, line: &mut Line<'_>) -> Result<(), Wrong> {
     let id = line.number()?;
-    if what == "length" {
-        let found = long(fixed, space, id)?;
-        let wanted = line.number()?;
-        return is_so(line, found == Some(wanted));
-    }
-    let found = value(alloc, fixed, space, id)?;
-    if what == "none" {
-        let length = long(fixed, space, id)?;
-        is_so(line, length.is_none())?;
-        return is_value(line, None, &found);
-    }
+    let found = held.value(id)?;
     let wanted = line.wanted()?;
     is_value(line, Some(&wanted), &found)
 }
 
-// A line that changes the file: `put ID => VALUE`, `out ID`, `no_out ID`, `clear`, `settle`.
-fn change_line(
-    fixed: &mut Fixed<OneFile>,
-    space: &mut OneFile,
-    what: &str,
-    line: &mut Line<'_>,
-) -> Result<(), Failure> {
-    match what {
-        "settle" => Ok(settle(fixed, space)?),
-        "clear" => Ok(clear(fixed, space)?),
-        "put" => {
-            let id = line.number()?;
-            let value = line.wanted()?;
-            Ok(put(fixed, space, id, value.as_slice())?)
-        }
-        _ => {
-            let taken = out(fixed, space, line.number()?)?;
-            is_so(line, taken == (what == "out"))
-        }
-    }
+// A line that asks for an id which isn't held: `none ID`.
+fn none_line(held: &mut Held, line: &mut Line<'_>) -> Result<(), Wrong> {
+    let id = line.number()?;
+    let length = held.long(id)?;
+    is_so(line, length.is_none())?;
+    let found = held.value(id)?;
+    is_value(line, None, &found)
+}
+
+// A line that asks for the length of a value: `length ID N`.
+fn length_line(held: &mut Held, line: &mut Line<'_>) -> Result<(), Wrong> {
+    let id = line.number()?;
+    let wanted = line.number()?;
+    let found = held.long(id)?;
+    is_so(line, found == Some(wanted))
+}
+
+// A line that puts: `put ID => VALUE`.
+fn put_line(held: &mut Held, line: &mut Line<'_>) -> Result<(), Wrong> {
+    let id = line.number()?;
+    let value = line.wanted()?;
+    held.put(id, value.as_slice())
+}
+
+// A line that takes an id out: `out ID`, or `no_out ID` where it isn't held.
+fn out_line(held: &mut Held, what: &str, line: &mut Line<'_>) -> Result<(), Wrong> {
+    let taken = held.out(line.number()?)?;
+    is_so(line, taken == (what == "out"))
 }
 
 // A number at most, or `all` for any.
-fn most_of(line: &mut Line<'_>) -> Result<Option<u64>, Failure> {
+fn most_of(line: &mut Line<'_>) -> Result<Option<u64>, Wrong> {
     match line.word() {
         "all" => Ok(None),
-        word => Ok(Some(number_of(word).ok_or(Wrong::Unread)?)),
+        word => match number_of(word) {
+            Some(most) => Ok(Some(most)),
+            None => Err(Wrong::Unread),
+        },
     }
+}
+
+// The ids from one to another, at most so many, as text.
+fn ids_text(held: &mut Held, first: u64, last: u64, most: Option<u64>) -> Result<String, Wrong> {
+    let mut ids = Vec::new(held.alloc);
+    usable(&held.space)?;
+    held.fixed
+        .ids_in(&mut held.space, first, last, most, &mut ids)
+        .map_err(refused)?;
+    Ok(format!(in held.alloc; "{ids:?}")?)
 }
 
 // A line that lists ids: `ids FIRST LAST MOST ID ID ..`, from one id to another, at most so many; `all` for any number.
-fn ids_line(
-    alloc: Global,
-    fixed: &mut Fixed<OneFile>,
-    space: &mut OneFile,
-    line: &mut Line<'_>,
-) -> Result<(), Failure> {
+fn ids_line(held: &mut Held, line: &mut Line<'_>) -> Result<(), Wrong> {
     let first = line.number()?;
     let last = line.number()?;
     let most = most_of(line)?;
-    let mut ids = Vec::new(alloc);
-    usable(space)?;
-    fixed.ids_in(space, first, last, most, &mut ids)?;
-    Ok(line.is_text(format!(in alloc; "{ids:?}")?)?)
+    line.is_text(ids_text(held, first, last, most)?)
 }
 
-// A line on what is held: `numbers LEAST GREATEST COUNT SIZE`, `most_id N`, `bytes PLACE BYTES`, `ends N`.
-fn look(
-    alloc: Global,
-    fixed: &Fixed<OneFile>,
-    file: &[u8],
-    what: &str,
-    line: &mut Line<'_>,
-) -> Result<(), Failure> {
+// The numbers of a file as text.
+fn numbers(alloc: Global, fixed: &Fixed<OneFile>) -> Result<String, AllocError> {
+    format!(in alloc;
+        "{} {} {} {}",
+        fixed.least(),
+        fixed.greatest(),
+        fixed.count(),
+        fixed.size()
+    )
+}
+
+// A line on the whole: `numbers LEAST GREATEST COUNT SIZE`, `most_id N`, `clear`, `settle`; and those on its bytes.
+fn whole_line(held: &mut Held, what: &str, line: &mut Line<'_>) -> Result<(), Wrong> {
     match what {
-        "numbers" => {
-            let found = format!(in alloc;
-                "{} {} {} {}",
-                fixed.least(),
-                fixed.greatest(),
-                fixed.count(),
-                fixed.size()
-            )?;
-            Ok(line.is_text(found)?)
+        "numbers" => line.is_text(numbers(held.alloc, &held.fixed)?),
+        "most_id" => is_number(held.alloc, line, held.fixed.max_id()),
+        "settle" => held.settle(),
+        "clear" => held.clear(),
+        _ => bytes_line(held.alloc, held.space.bytes(), what, line),
+    }
+}
+
+impl Object for Held {
+    fn play(&mut self, what: &str, line: &mut Line<'_>) -> Result<(), Wrong> {
+        match what {
+            "get" => get_line(self, line),
+            "none" => none_line(self, line),
+            "length" => length_line(self, line),
+            "put" => put_line(self, line),
+            "out" | "no_out" => out_line(self, what, line),
+            "ids" => ids_line(self, line),
+            _ => whole_line(self, what, line),
         }
-        "most_id" => is_number(alloc, line, fixed.max_id()),
-        "bytes" => are_bytes(line, file),
-        "ends" => is_number(alloc, line, file.len() as u64),
-        _ => Err(Failure::Line(Wrong::Unread)),
     }
 }
 
-// Plays a line.
-fn play_line(
-    alloc: Global,
-    fixed: &mut Fixed<OneFile>,
-    space: &mut OneFile,
-    what: &str,
-    line: &mut Line<'_>,
-) -> Result<(), Failure> {
-    match what {
-        "get" | "none" | "length" => get_line(alloc, fixed, space, what, line),
-        "put" | "out" | "no_out" | "clear" | "settle" => change_line(fixed, space, what, line),
-        "ids" => ids_line(alloc, fixed, space, line),
-        _ => look(alloc, fixed, space.bytes(), what, line),
-    }
+// A new file of no values: `array WIDTH LIMIT`.
+fn created(alloc: Global, line: &mut Line<'_>) -> Result<Held, Wrong> {
+    let width = line.within(1, 1_048_576)?;
+    let limit = line.within(512, 1 << 40)?;
+    let mut space = OneFile::of(Vec::new(alloc));
+    let fixed = Fixed::create(alloc, &mut space, width as u32, limit).map_err(refused)?;
+    Ok(Held {
+        alloc,
+        fixed,
+        space,
+    })
 }
 
-/// Plays a case of a fixed-length file: `array WIDTH LIMIT`.
+/// Plays a case of a fixed-length file.
 pub fn play_array(
     alloc: Global,
     line: &mut Line<'_>,
     script: &mut Script<'_>,
-) -> Result<(), Failure> {
-    let mut space = OneFile::of(Vec::new(alloc));
-    let width = line.within(1, 1_048_576)?;
-    let limit = line.within(512, 1 << 40)?;
-    let mut fixed = Fixed::create(alloc, &mut space, width as u32, limit)?;
-    for _ in 0..script.len() {
-        let Some((what, mut line)) = script.next_line() else {
-            return Ok(());
-        };
-        play_line(alloc, &mut fixed, &mut space, what, &mut line)?;
-        script.end(line)?;
-    }
-    Ok(())
+) -> Result<(), Wrong> {
+    play_lines(&mut created(alloc, line)?, script)
 }

@@ -1,159 +1,206 @@
 //! Cases of pages in a cache over records in memory.
+ghost use Rattle.std.specs.Prelude.{◌<◌, ◌≤◌, ◌^◌};
 
-use crate::failures::Failure;
 use crate::looks::{is_number, usable};
+use crate::maps::is_put;
+use crate::playing::{Object, play_lines};
+use crate::refusals::refused;
 use bt_cache::Cache;
 use bt_slots::{SlottedLeaf, SlottedNode};
 use play_text::{Line, Script, Wrong};
 use std::alloc::Global;
 use tc_base::{Blob, Mode, PAGE_END, Steps};
 use tc_memstores::{MemRecords, OneFile};
-use tc_space::{RecErr, Records};
+use tc_space::Records;
 
 type Store = MemRecords<OneFile>;
 
-// A record put.
-fn put(store: &mut Store, space: &mut OneFile, key: &[u8], bytes: &[u8]) -> Result<(), Failure> {
-    usable(space)?;
-    let mut steps: Steps<()> = Steps::new();
-    Ok(store.put(space, key, bytes, Mode::Over, &mut steps)?)
+// A cache and its records.
+#[derive(Drop)]
+struct Held {
+    alloc: Global,
+    cache: Cache<Store>,
+    store: Store,
+    space: OneFile,
 }
 
-// The leaf before a leaf, and the steps to it.
-fn leaf(
-    cache: &mut Cache<Store>,
-    store: &mut Store,
-    space: &mut OneFile,
-    id: u64,
-) -> Result<(u64, u64), RecErr> {
-    usable(space)?;
-    let mut steps: Steps<()> = Steps::new();
-    let leaf = cache.leaf(store, space, id, &mut steps)?;
-    let prev = leaf.prev();
-    Ok((prev, steps.count()))
+// What was found of a page, and the steps to it.
+#[derive(Clone, Copy)]
+struct Found {
+    number: u64,
+    steps: u64,
 }
 
-// The same of a leaf that is taken out of the cache.
-fn taken(
-    cache: &mut Cache<Store>,
-    store: &mut Store,
-    space: &mut OneFile,
-    id: u64,
-) -> Result<(u64, u64), RecErr> {
-    usable(space)?;
-    let mut steps: Steps<()> = Steps::new();
-    let leaf = cache.take_leaf(store, space, id, &mut steps)?;
-    Ok((leaf.prev(), steps.count()))
-}
+impl Held {
+    // Puts a record past the cache.
+    fn put(&mut self, key: &[u8], bytes: &[u8]) -> Result<bool, Wrong> {
+        usable(&self.space)?;
+        let mut steps: Steps<()> = Steps::new();
+        is_put(
+            self.store
+                .put(&mut self.space, key, bytes, Mode::Over, &mut steps),
+        )
+    }
 
-// The heir of a node, and the steps to it.
-fn node(
-    cache: &mut Cache<Store>,
-    store: &mut Store,
-    space: &mut OneFile,
-    id: u64,
-) -> Result<(u64, u64), RecErr> {
-    usable(space)?;
-    let mut steps: Steps<()> = Steps::new();
-    let node = cache.node(store, space, id, &mut steps)?;
-    let heir = node.heir();
-    Ok((heir, steps.count()))
+    // The leaf before a leaf.
+    fn leaf(&mut self, id: u64) -> Result<Found, Wrong> {
+        usable(&self.space)?;
+        let mut steps: Steps<()> = Steps::new();
+        let found = self
+            .cache
+            .leaf(&mut self.store, &mut self.space, id, &mut steps);
+        match found {
+            Ok(leaf) => {
+                let number = leaf.prev();
+                Ok(Found {
+                    number,
+                    steps: steps.count(),
+                })
+            }
+            Err(e) => Err(refused(e)),
+        }
+    }
+
+    // The same of a leaf that is taken out of the cache.
+    fn taken(&mut self, id: u64) -> Result<Found, Wrong> {
+        usable(&self.space)?;
+        let mut steps: Steps<()> = Steps::new();
+        let found = self
+            .cache
+            .take_leaf(&mut self.store, &mut self.space, id, &mut steps);
+        match found {
+            Ok(leaf) => Ok(Found {
+                number: leaf.prev(),
+                steps: steps.count(),
+            }),
+            Err(e) => Err(refused(e)),
+        }
+    }
+
+    // The heir of a node.
+    fn node(&mut self, id: u64) -> Result<Found, Wrong> {
+        usable(&self.space)?;
+        let mut steps: Steps<()> = Steps::new();
+        let found = self
+            .cache
+            .node(&mut self.store, &mut self.space, id, &mut steps);
+        match found {
+            Ok(node) => {
+                let number = node.heir();
+                Ok(Found {
+                    number,
+                    steps: steps.count(),
+                })
+            }
+            Err(e) => Err(refused(e)),
+        }
+    }
+
+    // Puts a leaf.
+    fn put_leaf(&mut self, id: u64, leaf: SlottedLeaf) -> Result<(), Wrong>
+        requires { id < 2 ^ 48 }
+    {
+        usable(&self.space)?;
+        self.cache
+            .put_leaf(&mut self.store, &mut self.space, id, leaf)
+            .map_err(refused)
+    }
+
+    // Puts a node.
+    fn put_node(&mut self, id: u64, node: SlottedNode) -> Result<(), Wrong>
+        requires { 2 ^ 48 ≤ id }
+    {
+        usable(&self.space)?;
+        self.cache
+            .put_node(&mut self.store, &mut self.space, id, node)
+            .map_err(refused)
+    }
+
+    // Drops a page, from its record too.
+    fn drop_page(&mut self, id: u64) -> Result<(), Wrong> {
+        usable(&self.space)?;
+        self.cache
+            .drop_page(&mut self.store, &mut self.space, id)
+            .map_err(refused)
+    }
 }
 
 // A page put: a leaf below 2^48, else a node.
-fn put_page(
-    alloc: Global,
-    cache: &mut Cache<Store>,
-    store: &mut Store,
-    space: &mut OneFile,
-    line: &mut Line<'_>,
-) -> Result<(), Failure> {
-    let id = line.number()?;
-    let bytes = Blob::from_slice(alloc, line.bytes()?.as_slice())?;
-    usable(space)?;
+fn put_page(held: &mut Held, id: u64, bytes: Blob) -> Result<(), Wrong> {
     if id < PAGE_END {
-        let Ok(leaf) = SlottedLeaf::read(alloc, bytes) else {
-            return Err(Failure::Line(Wrong::Unread));
+        return match SlottedLeaf::read(held.alloc, bytes) {
+            Ok(leaf) => held.put_leaf(id, leaf),
+            Err(_) => Err(Wrong::Unread),
         };
-        return Ok(cache.put_leaf(store, space, id, leaf)?);
     }
-    let Ok(node) = SlottedNode::read(alloc, bytes) else {
-        return Err(Failure::Line(Wrong::Unread));
-    };
-    Ok(cache.put_node(store, space, id, node)?)
+    match SlottedNode::read(held.alloc, bytes) {
+        Ok(node) => held.put_node(id, node),
+        Err(_) => Err(Wrong::Unread),
+    }
 }
 
-// A page dropped, from its record too.
-fn drop_page(
-    cache: &mut Cache<Store>,
-    store: &mut Store,
-    space: &mut OneFile,
-    id: u64,
-) -> Result<(), RecErr> {
-    usable(space)?;
-    cache.drop_page(store, space, id)
+// A line that puts a page: `page ID BYTES`.
+fn page_line(held: &mut Held, line: &mut Line<'_>) -> Result<(), Wrong> {
+    let id = line.number()?;
+    let bytes = line.bytes()?;
+    let bytes = Blob::from_slice(held.alloc, bytes.as_slice())?;
+    put_page(held, id, bytes)
+}
+
+// A line that puts a record past the cache: `record KEY = BYTES`.
+fn record_line(held: &mut Held, line: &mut Line<'_>) -> Result<(), Wrong> {
+    let key = line.bytes_up_to(" = ")?;
+    let bytes = line.bytes()?;
+    held.put(key.as_slice(), bytes.as_slice())?;
+    Ok(())
 }
 
 // A line that asks for a page: `leaf ID FOUND STEPS` and `taken` for the leaf before it, `node` for its heir, each with the steps to it.
-fn ask(
-    alloc: Global,
-    cache: &mut Cache<Store>,
-    store: &mut Store,
-    space: &mut OneFile,
-    what: &str,
-    line: &mut Line<'_>,
-) -> Result<(), Failure> {
+fn ask(held: &mut Held, what: &str, line: &mut Line<'_>) -> Result<(), Wrong> {
     let id = line.number()?;
-    let (found, steps) = match what {
-        "leaf" => leaf(cache, store, space, id)?,
-        "taken" => taken(cache, store, space, id)?,
-        "node" => node(cache, store, space, id)?,
-        _ => return Err(Failure::Line(Wrong::Unread)),
+    let found = match what {
+        "leaf" => held.leaf(id),
+        "taken" => held.taken(id),
+        "node" => held.node(id),
+        _ => Err(Wrong::Unread),
     };
-    Ok(line.is_text(format!(in alloc; "{found} {steps}")?)?)
+    let Found { number, steps } = found?;
+    line.is_text(format!(in held.alloc; "{number} {steps}")?)
 }
 
-// Plays a line; `record KEY = BYTES` puts a record past the cache.
-fn play_line(
-    alloc: Global,
-    cache: &mut Cache<Store>,
-    store: &mut Store,
-    space: &mut OneFile,
-    what: &str,
-    line: &mut Line<'_>,
-) -> Result<(), Failure> {
-    match what {
-        "record" => {
-            let key = line.bytes_up_to(" = ")?;
-            put(store, space, key.as_slice(), line.bytes()?.as_slice())
+impl Object for Held {
+    fn play(&mut self, what: &str, line: &mut Line<'_>) -> Result<(), Wrong> {
+        match what {
+            "record" => record_line(self, line),
+            "page" => page_line(self, line),
+            "count" => is_number(self.alloc, line, self.store.count()),
+            "forget" => {
+                self.cache.forget(line.number()?);
+                Ok(())
+            }
+            "drop" => self.drop_page(line.number()?),
+            _ => ask(self, what, line),
         }
-        "page" => put_page(alloc, cache, store, space, line),
-        "count" => is_number(alloc, line, store.count()),
-        "forget" => {
-            cache.forget(line.number()?);
-            Ok(())
-        }
-        "drop" => Ok(drop_page(cache, store, space, line.number()?)?),
-        _ => ask(alloc, cache, store, space, what, line),
     }
 }
 
-/// Plays a case of a cache: `cache ROOM`, for so many pages.
+// No pages: `cache ROOM`, for so many of them.
+fn created(alloc: Global, line: &mut Line<'_>) -> Result<Held, Wrong> {
+    let room = line.within(1, u64::from(u32::MAX))?;
+    let cache = Cache::new(alloc, room as usize)?;
+    Ok(Held {
+        alloc,
+        cache,
+        store: MemRecords::new(alloc, 0),
+        space: OneFile::of(Vec::new(alloc)),
+    })
+}
+
+/// Plays a case of a cache.
 pub fn play_cache(
     alloc: Global,
     line: &mut Line<'_>,
     script: &mut Script<'_>,
-) -> Result<(), Failure> {
-    let mut space = OneFile::of(Vec::new(alloc));
-    let mut store: Store = MemRecords::new(alloc, 0);
-    let room = line.within(1, u64::from(u32::MAX))?;
-    let mut cache: Cache<Store> = Cache::new(alloc, room as usize)?;
-    for _ in 0..script.len() {
-        let Some((what, mut line)) = script.next_line() else {
-            return Ok(());
-        };
-        play_line(alloc, &mut cache, &mut store, &mut space, what, &mut line)?;
-        script.end(line)?;
-    }
-    Ok(())
+) -> Result<(), Wrong> {
+    play_lines(&mut created(alloc, line)?, script)
 }

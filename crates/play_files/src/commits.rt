@@ -1,29 +1,65 @@
 //! Cases of files with commits, over a volume in memory that counts its syncs.
-ghost use Rattle.std.specs.Prelude.{◌≡◌, ◌≤◌, true, IfOk, OnOk};
+ghost use Rattle.std.specs.Prelude.{◌≡◌, ◌≤◌, true, false, IfOk, OnOk};
 ghost use Rattle.tc_space.specs.Ranges.{IsDataFile};
 
 use crate::counted::Counted;
-use crate::failures::Failure;
 use crate::looks::{is_number, is_so, name_of};
+use crate::memory::Memory;
+use crate::refusals::unwritten;
 use play_stops::choices;
 use play_text::{Line, Script, Wrong};
 use std::alloc::{AllocError, Global};
-use tc_base::Label;
+use tc_base::{Fault, Label};
 use tc_fakes::MemVolume;
+use tc_held::{Held, HeldSpace};
 use tc_io::Volume;
 use tc_space::{Space, SpaceErr};
-use tc_undo::{RecoverErr, Undo, recover};
+use tc_undo::{Batched, RecoverErr, Undo, recover};
 
 // The limits of a case on the length of a file.
 const LIMIT: u64 = 1 << 20;
 
+/// Why a line on files fails: it isn't as it is to be, or the files refused a call.
+#[derive(Drop)]
+pub enum Failure {
+    Line(Wrong),
+    Space(SpaceErr),
+}
+
+impl From<Wrong> for Failure {
+    fn from(wrong: Wrong) -> Failure {
+        Failure::Line(wrong)
+    }
+}
+
+impl From<SpaceErr> for Failure {
+    fn from(refused: SpaceErr) -> Failure {
+        Failure::Space(refused)
+    }
+}
+
+impl From<Fault> for Failure {
+    fn from(_fault: Fault) -> Failure {
+        Failure::Space(SpaceErr::Fault)
+    }
+}
+
+impl From<Failure> for Wrong {
+    fn from(failure: Failure) -> Wrong {
+        match failure {
+            Failure::Line(wrong) => wrong,
+            Failure::Space(refused) => unwritten(refused),
+        }
+    }
+}
+
 /// A data file: 0, or 2 to 18.
-pub fn data_file(line: &mut Line<'_>) -> Result<u32, Failure>
+pub fn data_file(line: &mut Line<'_>) -> Result<u32, Wrong>
     ensures { IfOk result (λ file. IsDataFile file) }
 {
     let file = line.within(0, 18)?;
     if file == 1 {
-        return Err(Failure::Line(Wrong::Unread));
+        return Err(Wrong::Unread);
     }
     Ok(file as u32)
 }
@@ -86,7 +122,25 @@ fn cut_line<S: Space>(space: &mut S, line: &mut Line<'_>) -> Result<(), Failure>
     Ok(cut(space, file, len)?)
 }
 
-/// Plays a line on files: `put FILE PLACE BYTES`, `cut FILE LENGTH`, `commit`, `copy LABEL`.
+// Looks at up to 64 bytes of a file: `get FILE PLACE BYTES`.
+fn get_line<S: Space>(space: &mut S, line: &mut Line<'_>) -> Result<(), Failure>
+    requires { S.sound space.old }
+    ensures { OnOk result (S.sound space.new) }
+{
+    let file = data_file(line)?;
+    let at = line.number()?;
+    let wanted = line.bytes()?;
+    let mut found = [0u8; 64];
+    let n = wanted.as_slice().len().min(64);
+    let len = space.len(file);
+    if at > len || n as u64 > len - at {
+        return Err(Failure::Line(Wrong::Not("the file is shorter")));
+    }
+    space.read(file, at, &mut found[..n])?;
+    Ok(line.told(&wanted, &found[..n])?)
+}
+
+/// Plays a line on files: `put FILE PLACE BYTES`, `cut FILE LENGTH`, `get FILE PLACE BYTES`, `commit`, `copy LABEL`.
 pub fn change<S: Space>(space: &mut S, what: &str, line: &mut Line<'_>) -> Result<(), Failure>
     requires { S.sound space.old }
     ensures { OnOk result (S.sound space.new) }
@@ -94,10 +148,11 @@ pub fn change<S: Space>(space: &mut S, what: &str, line: &mut Line<'_>) -> Resul
     match what {
         "put" => put_line(space, line),
         "cut" => cut_line(space, line),
+        "get" => get_line(space, line),
         "commit" => Ok(space.commit()?),
         "copy" => {
             let made = copy(space, line)?;
-            is_so(line, made)
+            Ok(is_so(line, made)?)
         }
         _ => Err(Failure::Line(Wrong::Unread)),
     }
@@ -106,11 +161,13 @@ pub fn change<S: Space>(space: &mut S, what: &str, line: &mut Line<'_>) -> Resul
 type Vol = Counted<MemVolume>;
 
 /// A volume in memory, bound, with no syncs counted.
-fn bound(vol: MemVolume) -> Result<Vol, Failure>
+fn bound(vol: MemVolume) -> Result<Vol, Wrong>
     ensures { IfOk result (λ v. v.vol.bound ≡ true) }
 {
     let mut vol = vol;
-    vol.bind("a")?;
+    let Ok(()) = vol.bind("a") else {
+        return Err(Wrong::Not("a fault"));
+    };
     Ok(Counted { vol, syncs: 0 })
 }
 
@@ -139,19 +196,22 @@ impl Files {
         Ok(std::mem::replace(&mut self.vol, MemVolume::new(self.alloc)?))
     }
 
-    // Opens the files, plays lines up to the last of them, and closes them.
-    fn open(&mut self, script: &mut Script<'_>) -> Result<(), Failure> {
+    // Opens the files, plays lines up to the last of them, and closes them; with a memory in which writes are held, if the line asks for one.
+    fn open(&mut self, line: &mut Line<'_>, script: &mut Script<'_>) -> Result<(), Wrong> {
+        let held = match Memory::of(line)? {
+            Some(memory) => Some(memory.take(self.alloc)?),
+            None => None,
+        };
         let vol = bound(self.take()?)?;
         match Undo::open(vol, self.limit.min(1 << 40)) {
             Ok(space) => {
-                let mut space = space;
-                let played = play_lines(&mut space, script);
+                let (space, played) = play_opened(space, held, script);
                 self.keep(space.close());
-                played
+                Ok(played?)
             }
             Err(refused) => {
                 self.vol = refused.vol.vol;
-                Err(Failure::Line(Wrong::Not("the files aren't opened")))
+                Err(Wrong::Not("the files aren't opened"))
             }
         }
     }
@@ -163,7 +223,7 @@ impl Files {
     }
 
     // Recovers the files, and counts the syncs.
-    fn recover(&mut self) -> Result<Option<RecoverErr>, Failure> {
+    fn recover(&mut self) -> Result<Option<RecoverErr>, Wrong> {
         let mut vol = bound(self.take()?)?;
         let answer = recover(&mut vol).err();
         self.keep(vol);
@@ -171,7 +231,7 @@ impl Files {
     }
 
     // A file that there is.
-    fn file(line: &mut Line<'_>) -> Result<u32, Failure>
+    fn file(line: &mut Line<'_>) -> Result<u32, Wrong>
         ensures { IfOk result (λ file. file ≤ 18) }
     {
         let file = line.within(0, 18)?;
@@ -179,25 +239,27 @@ impl Files {
     }
 
     // Looks at a file: `file FILE BYTES`.
-    fn is_file(&self, line: &mut Line<'_>) -> Result<(), Failure> {
+    fn is_file(&self, line: &mut Line<'_>) -> Result<(), Wrong> {
         let file = Files::file(line)?;
-        Ok(line.is_bytes(self.vol.bytes(file))?)
+        line.is_bytes(self.vol.bytes(file))
     }
 
     // Looks at a file of the copy under a label: `copied LABEL FILE BYTES`.
-    fn is_copied(&self, line: &mut Line<'_>) -> Result<(), Failure> {
+    fn is_copied(&self, line: &mut Line<'_>) -> Result<(), Wrong> {
         let copy = self.vol.copy(line.word().as_bytes())?;
         let file = Files::file(line)?;
-        Ok(line.is_bytes(copy.bytes(file))?)
+        line.is_bytes(copy.bytes(file))
     }
 
     // Looks at all that a stop may leave of a file once it is recovered: `stopped FILE BYTES`.
-    fn is_left(&self, line: &mut Line<'_>) -> Result<(), Failure> {
+    fn is_left(&self, line: &mut Line<'_>) -> Result<(), Wrong> {
         let file = Files::file(line)?;
         let wanted = line.bytes()?;
         for choice in choices().iter() {
             let mut image = self.vol.image(choice)?;
-            image.bind("a")?;
+            let Ok(()) = image.bind("a") else {
+                return Err(Wrong::Not("a fault"));
+            };
             is_so(line, recover(&mut image).is_ok())?;
             line.told(&wanted, image.bytes(file))?;
         }
@@ -205,29 +267,29 @@ impl Files {
     }
 
     // Recovers the files, which is not refused.
-    fn is_recovered(&mut self) -> Result<(), Failure> {
+    fn is_recovered(&mut self) -> Result<(), Wrong> {
         match self.recover()? {
             None => Ok(()),
-            Some(_) => Err(Failure::Line(Wrong::Not("it is refused"))),
+            Some(_) => Err(Wrong::Not("it is refused")),
         }
     }
 
     // Looks at the rule by which a recovery is refused: `broken U1`.
-    fn is_broken(&mut self, line: &mut Line<'_>) -> Result<(), Failure> {
+    fn is_broken(&mut self, line: &mut Line<'_>) -> Result<(), Wrong> {
         match self.recover()? {
-            Some(RecoverErr::Broken(rule)) => { Ok(line.is_text(name_of(self.alloc, rule)?)?) }
-            _ => Err(Failure::Line(Wrong::Not("no broken rule"))),
+            Some(RecoverErr::Broken(rule)) => line.is_text(name_of(self.alloc, rule)?),
+            _ => Err(Wrong::Not("no broken rule")),
         }
     }
 
-    /// Plays a line: `load FILE BYTES`, `limit N`, `open` up to `close`, `recover`, or `broken RULE` where that is refused, `syncs N`, `file FILE BYTES`, `stopped FILE BYTES`,
+    /// Plays a line: `load FILE BYTES`, `limit N`, `open` or `open held PIECES BYTES` up to `close`, `recover`, or `broken RULE` where that is refused, `syncs N`, `file FILE BYTES`, `stopped FILE BYTES`,
     /// `copied LABEL FILE BYTES`.
     pub fn play(
         &mut self,
         what: &str,
         line: &mut Line<'_>,
         script: &mut Script<'_>,
-    ) -> Result<(), Failure> {
+    ) -> Result<(), Wrong> {
         match what {
             "load" => {
                 let file = Files::file(line)?;
@@ -237,14 +299,14 @@ impl Files {
                 self.limit = line.within(0, 1 << 40)?;
                 Ok(())
             }
-            "open" => self.open(script),
+            "open" => self.open(line, script),
             "recover" => self.is_recovered(),
             "broken" => self.is_broken(line),
             "syncs" => is_number(self.alloc, line, self.syncs),
             "file" => self.is_file(line),
             "stopped" => self.is_left(line),
             "copied" => self.is_copied(line),
-            _ => Err(Failure::Line(Wrong::Unread)),
+            _ => Err(Wrong::Unread),
         }
     }
 }
@@ -273,7 +335,7 @@ fn play_last<S: Space>(space: &mut S, what: &str, line: &mut Line<'_>) -> Result
                 change(space, what, line),
                 Err(Failure::Space(SpaceErr::Full))
             );
-            is_so(line, refused && !space.is_sound())
+            Ok(is_so(line, refused && !space.is_sound())?)
         }
     }
 }
@@ -294,4 +356,27 @@ fn play_lines<S: Space>(space: &mut S, script: &mut Script<'_>) -> Result<(), Fa
         script.end(line)?;
     }
     Ok(())
+}
+
+// Plays lines on files that were opened, up to the last, and hands them back.
+fn play_opened<S: Batched>(
+    space: S,
+    held: Option<Held>,
+    script: &mut Script<'_>,
+) -> (S, Result<(), Failure>)
+    requires sound { S.sound space }
+    requires untouched { S.touched space ≡ false }
+{
+    match held {
+        None => {
+            let mut space = space;
+            let played = play_lines(&mut space, script);
+            (space, played)
+        }
+        Some(held) => {
+            let mut space = HeldSpace::new(space, held);
+            let played = play_lines(&mut space, script);
+            (space.into_below(), played)
+        }
+    }
 }

@@ -1,251 +1,111 @@
-//! Lines on any map.
-ghost use Rattle.std.specs.Prelude.{OnOk};
-ghost use Rattle.tc_space.specs.Frames.{In};
-ghost use Rattle.tc_space.specs.Stores.{IsReady};
+//! Lines on any map in a file in memory.
 
-use crate::failures::Failure;
-use crate::looks::{are_steps, are_texts, is_number, is_so, is_value};
-use play_text::{Line, Script, Wrong};
+use crate::kept::{Kept, kept_line};
+use crate::looks::{are_texts, usable};
+use crate::refusals::refused;
+use play_text::{Line, Wrong};
 use std::alloc::Global;
 use tc_base::{Blob, Blobs, Form, Mode, Steps};
+use tc_memstores::OneFile;
 use tc_space::{PutErr, RecErr, Records};
 
-// A pair put, by the mode; false where its key is held and was to be kept.
-fn put<R: Records>(
-    map: &mut R,
-    space: &mut R::S,
-    key: &[u8],
-    value: &[u8],
-    mode: Mode,
-) -> Result<bool, PutErr>
-    requires { IsReady R.S.Space (In R.S.Space R.file_of R.holds) map.old space.old }
-    ensures { OnOk result (IsReady R.S.Space (In R.S.Space R.file_of R.holds) map.new space.new) }
-{
-    let mut steps: Steps<()> = Steps::new();
-    match map.put(space, key, value, mode, &mut steps) {
-        Ok(()) => Ok(true),
-        Err(PutErr::Exists) => Ok(false),
-        Err(e) => Err(e),
+/// A map and its file, and the steps of a search in it, if that was the last that was done.
+#[derive(Drop)]
+pub struct MapOf<R> {
+    pub map: R,
+    pub space: OneFile,
+    pub steps: Option<u64>,
+}
+
+impl<R> MapOf<R> {
+    pub fn new(map: R, space: OneFile) -> MapOf<R> {
+        MapOf {
+            map,
+            space,
+            steps: None,
+        }
     }
 }
 
-// A key taken out; false where it isn't held.
-fn out<R: Records>(map: &mut R, space: &mut R::S, key: &[u8]) -> Result<bool, RecErr>
-    requires { IsReady R.S.Space (In R.S.Space R.file_of R.holds) map.old space.old }
-    ensures { OnOk result (IsReady R.S.Space (In R.S.Space R.file_of R.holds) map.new space.new) }
-{
-    let mut steps: Steps<()> = Steps::new();
-    let taken = map.out(space, key, &mut steps)?;
-    Ok(taken)
+/// Whether a pair was put; false where its key is held and was to be kept.
+pub fn is_put(answer: Result<(), PutErr>) -> Result<bool, Wrong> {
+    match answer {
+        Ok(()) => Ok(true),
+        Err(PutErr::Exists) => Ok(false),
+        Err(PutErr::Full) => Err(refused(RecErr::Full)),
+        Err(PutErr::Fault) => Err(refused(RecErr::Fault)),
+        Err(PutErr::Memory) => Err(refused(RecErr::Memory)),
+    }
 }
 
-// The value of a key, and the steps to it.
-fn get<R: Records>(map: &mut R, space: &mut R::S, key: &[u8]) -> Result<(Option<Blob>, u64), RecErr>
-    requires { IsReady R.S.Space (In R.S.Space R.file_of R.holds) map.old space.old }
-    ensures { OnOk result (IsReady R.S.Space (In R.S.Space R.file_of R.holds) map.new space.new) }
-{
-    let mut steps: Steps<()> = Steps::new();
-    let found = map.get(space, key, &mut steps)?;
-    Ok((found, steps.count()))
+impl<R: Records<S = OneFile>> Kept for MapOf<R> {
+    fn file(&self) -> u32 {
+        self.map.file()
+    }
+
+    fn count(&self) -> u64 {
+        self.map.count()
+    }
+
+    fn steps(&self) -> Option<u64> {
+        self.steps
+    }
+
+    fn put(&mut self, key: &[u8], value: &[u8], mode: Mode) -> Result<bool, Wrong> {
+        usable(&self.space)?;
+        let mut steps: Steps<()> = Steps::new();
+        is_put(self.map.put(&mut self.space, key, value, mode, &mut steps))
+    }
+
+    fn get(&mut self, key: &[u8]) -> Result<Option<Blob>, Wrong> {
+        usable(&self.space)?;
+        let mut steps: Steps<()> = Steps::new();
+        let found = self.map.get(&mut self.space, key, &mut steps);
+        self.steps = Some(steps.count());
+        found.map_err(refused)
+    }
+
+    fn out(&mut self, key: &[u8]) -> Result<bool, Wrong> {
+        usable(&self.space)?;
+        let mut steps: Steps<()> = Steps::new();
+        self.map
+            .out(&mut self.space, key, &mut steps)
+            .map_err(refused)
+    }
+
+    fn settle(&mut self) -> Result<(), Wrong> {
+        usable(&self.space)?;
+        self.map.settle(&mut self.space).map_err(refused)
+    }
+
+    fn pack(&mut self, form: Form) -> Result<(), Wrong> {
+        usable(&self.space)?;
+        self.map.pack(&mut self.space, form).map_err(refused)
+    }
 }
 
 // All keys.
-fn keys<R: Records>(map: &mut R, space: &mut R::S) -> Result<Blobs, RecErr>
-    requires { IsReady R.S.Space (In R.S.Space R.file_of R.holds) map.old space.old }
-    ensures { OnOk result (IsReady R.S.Space (In R.S.Space R.file_of R.holds) map.new space.new) }
-{
+fn keys<R: Records<S = OneFile>>(held: &mut MapOf<R>) -> Result<Blobs, Wrong> {
+    usable(&held.space)?;
     let mut steps: Steps<()> = Steps::new();
-    let all = map.keys(space, &mut steps)?;
-    Ok(all)
+    held.map.keys(&mut held.space, &mut steps).map_err(refused)
 }
 
-// What is held in memory brought to the file.
-fn settle<R: Records>(map: &mut R, space: &mut R::S) -> Result<(), RecErr>
-    requires { IsReady R.S.Space (In R.S.Space R.file_of R.holds) map.old space.old }
-    ensures { OnOk result (IsReady R.S.Space (In R.S.Space R.file_of R.holds) map.new space.new) }
-{
-    map.settle(space)?;
-    Ok(())
-}
-
-// The file packed in this form, and what is held in memory brought to it.
-fn pack<R: Records>(map: &mut R, space: &mut R::S, form: Form) -> Result<(), RecErr>
-    requires { IsReady R.S.Space (In R.S.Space R.file_of R.holds) map.old space.old }
-    ensures { OnOk result (IsReady R.S.Space (In R.S.Space R.file_of R.holds) map.new space.new) }
-{
-    map.pack(space, form)?;
-    settle(map, space)
-}
-
-// A line that puts: `put KEY = VALUE` over what is there, `keep` where nothing is, `held` where something is, `cat` behind it.
-fn put_line<R: Records>(
-    map: &mut R,
-    space: &mut R::S,
-    what: &str,
-    line: &mut Line<'_>,
-) -> Result<(), Failure>
-    requires { IsReady R.S.Space (In R.S.Space R.file_of R.holds) map.old space.old }
-    ensures { OnOk result (IsReady R.S.Space (In R.S.Space R.file_of R.holds) map.new space.new) }
-{
-    let mode = match what {
-        "put" => Mode::Over,
-        "cat" => Mode::Cat,
-        _ => Mode::Keep,
-    };
-    let key = line.bytes_up_to(" = ")?;
-    let value = line.bytes()?;
-    let done = put(map, space, key.as_slice(), value.as_slice(), mode)?;
-    if mode != Mode::Keep {
-        return Ok(());
-    }
-    is_so(line, done == (what == "keep"))
-}
-
-// A line that asks for a key: `get KEY = VALUE`, or `none KEY` where there is none. Answers the steps to it.
-fn get_line<R: Records>(
-    map: &mut R,
-    space: &mut R::S,
-    what: &str,
-    line: &mut Line<'_>,
-) -> Result<u64, Failure>
-    requires { IsReady R.S.Space (In R.S.Space R.file_of R.holds) map.old space.old }
-    ensures { OnOk result (IsReady R.S.Space (In R.S.Space R.file_of R.holds) map.new space.new) }
-{
-    if what == "none" {
-        let key = line.bytes()?;
-        let (found, steps) = get(map, space, key.as_slice())?;
-        is_value(line, None, &found)?;
-        return Ok(steps);
-    }
-    let key = line.bytes_up_to(" = ")?;
-    let value = line.bytes()?;
-    let (found, steps) = get(map, space, key.as_slice())?;
-    is_value(line, Some(&value), &found)?;
-    Ok(steps)
-}
-
-// A line that takes a key out: `out KEY`, or `no_out KEY` where it isn't held.
-fn out_line<R: Records>(
-    map: &mut R,
-    space: &mut R::S,
-    what: &str,
-    line: &mut Line<'_>,
-) -> Result<(), Failure>
-    requires { IsReady R.S.Space (In R.S.Space R.file_of R.holds) map.old space.old }
-    ensures { OnOk result (IsReady R.S.Space (In R.S.Space R.file_of R.holds) map.new space.new) }
-{
-    let key = line.bytes()?;
-    let taken = out(map, space, key.as_slice())?;
-    is_so(line, taken == (what == "out"))
-}
-
-// A line that changes or lists the map.
-fn other_line<R: Records>(
+/// Plays a line on a map; `keys #KEY ..` lists it.
+pub fn map_line<R: Records<S = OneFile>>(
     alloc: Global,
-    map: &mut R,
-    space: &mut R::S,
+    held: &mut MapOf<R>,
     what: &str,
     line: &mut Line<'_>,
-) -> Result<(), Failure>
-    requires { IsReady R.S.Space (In R.S.Space R.file_of R.holds) map.old space.old }
-    ensures { OnOk result (IsReady R.S.Space (In R.S.Space R.file_of R.holds) map.new space.new) }
-{
+) -> Result<(), Wrong> {
+    if what != "steps" {
+        held.steps = None;
+    }
     match what {
-        "settle" => Ok(settle(map, space)?),
-        "pack" => Ok(pack(map, space, Form::Keep)?),
-        "enlarge" => Ok(pack(map, space, Form::Large)?),
         "keys" => {
-            let all = keys(map, space)?;
+            let all = keys(held)?;
             are_texts(alloc, line, &all)
         }
-        _ => out_line(map, space, what, line),
+        _ => kept_line(alloc, held, what, line),
     }
-}
-
-// Plays a line that isn't a search, behind a search of so many steps, if there was one.
-fn plain_line<R: Records>(
-    alloc: Global,
-    map: &mut R,
-    space: &mut R::S,
-    what: &str,
-    line: &mut Line<'_>,
-    steps: Option<u64>,
-) -> Result<(), Failure>
-    requires { IsReady R.S.Space (In R.S.Space R.file_of R.holds) map.old space.old }
-    ensures { OnOk result (IsReady R.S.Space (In R.S.Space R.file_of R.holds) map.new space.new) }
-{
-    match what {
-        "put" | "keep" | "held" | "cat" => put_line(map, space, what, line),
-        "steps" => are_steps(alloc, line, steps),
-        "count" => is_number(alloc, line, map.count()),
-        "file" => is_number(alloc, line, u64::from(map.file())),
-        _ => other_line(alloc, map, space, what, line),
-    }
-}
-
-// Plays a line, and answers the steps of the last search, if there was one.
-fn play_line<R: Records>(
-    alloc: Global,
-    map: &mut R,
-    space: &mut R::S,
-    what: &str,
-    line: &mut Line<'_>,
-    steps: Option<u64>,
-) -> Result<Option<u64>, Failure>
-    requires { IsReady R.S.Space (In R.S.Space R.file_of R.holds) map.old space.old }
-    ensures { OnOk result (IsReady R.S.Space (In R.S.Space R.file_of R.holds) map.new space.new) }
-{
-    match what {
-        "get" | "none" => Ok(Some(get_line(map, space, what, line)?)),
-        _ => {
-            plain_line(alloc, map, space, what, line, steps)?;
-            Ok(steps)
-        }
-    }
-}
-
-// Whether a line is one on maps.
-fn is_of_maps(what: &str) -> bool {
-    matches!(
-        what,
-        "put"
-            | "keep"
-            | "held"
-            | "cat"
-            | "get"
-            | "none"
-            | "steps"
-            | "count"
-            | "file"
-            | "settle"
-            | "pack"
-            | "enlarge"
-            | "keys"
-            | "out"
-            | "no_out"
-    )
-}
-
-/// Plays lines on a map, up to one that isn't of maps, which it answers.
-pub fn play_map<'a, R: Records>(
-    alloc: Global,
-    map: &mut R,
-    space: &mut R::S,
-    script: &mut Script<'a>,
-) -> Result<Option<(&'a str, Line<'a>)>, Failure>
-    requires { IsReady R.S.Space (In R.S.Space R.file_of R.holds) map.old space.old }
-    ensures { OnOk result (IsReady R.S.Space (In R.S.Space R.file_of R.holds) map.new space.new) }
-{
-    let mut steps = None;
-    for _ in 0..script.len() {
-        let Some((what, mut line)) = script.next_line() else {
-            return Ok(None);
-        };
-        if !is_of_maps(what) {
-            return Ok(Some((what, line)));
-        }
-        steps = play_line(alloc, map, space, what, &mut line, steps)?;
-        script.end(line)?;
-    }
-    Ok(None)
 }

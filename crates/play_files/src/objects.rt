@@ -3,7 +3,6 @@
 use crate::arrays::play_array;
 use crate::caches::play_cache;
 use crate::commits::Files;
-use crate::failures::Failure;
 use crate::hashes::play_hash;
 use crate::pools::{are_blocks, play_pool};
 use crate::stopped::play_trial;
@@ -19,7 +18,7 @@ pub struct Objects {
 }
 
 // Plays a case of files with commits.
-fn play_commits(alloc: Global, script: &mut Script<'_>) -> Result<(), Failure> {
+fn play_commits(alloc: Global, script: &mut Script<'_>) -> Result<(), Wrong> {
     let mut files = Files::new(alloc)?;
     for _ in 0..script.len() {
         let Some((what, mut line)) = script.next_line() else {
@@ -37,7 +36,7 @@ fn play_of(
     what: &str,
     line: &mut Line<'_>,
     script: &mut Script<'_>,
-) -> Result<(), Failure> {
+) -> Result<(), Wrong> {
     match what {
         "map" => play_records(alloc, line, script),
         "list" => play_pairs(alloc, line, script),
@@ -48,8 +47,8 @@ fn play_of(
         "pool" => play_pool(alloc, line, script),
         "cache" => play_cache(alloc, line, script),
         "commits" => play_commits(alloc, script),
-        "transactions" => play_trial(alloc, script),
-        _ => Err(Failure::Line(Wrong::Unread)),
+        "transactions" => play_trial(alloc, line, script),
+        _ => Err(Wrong::Unread),
     }
 }
 

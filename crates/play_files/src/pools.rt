@@ -1,7 +1,8 @@
 //! Cases of blocks that are listed, and of a pool of free ones.
 
-use crate::failures::Failure;
-use crate::looks::{are_bytes, is_number, is_so, name_of, usable};
+use crate::looks::{bytes_line, is_number, is_so, name_of, usable};
+use crate::playing::{Object, play_lines};
+use crate::refusals::{refused, unlisted, unwritten};
 use hf_block::{Blocks, WalkErr, walk};
 use hf_head::Head;
 use hf_pool::Pool;
@@ -9,7 +10,7 @@ use play_text::{Line, Script, Wrong};
 use std::alloc::{AllocError, Global};
 use tc_base::Blob;
 use tc_memstores::OneFile;
-use tc_space::{RecErr, Space};
+use tc_space::Space;
 
 // A hash file of three buckets whose blocks stand from 336 up to a size.
 fn head(size: u64) -> Head {
@@ -63,90 +64,102 @@ fn text_of(alloc: Global, blocks: &Blocks) -> Result<String, AllocError> {
     Ok(text)
 }
 
+// The blocks of a file as text, or the rule that they break.
+fn blocks_text(alloc: Global, bytes: &[u8]) -> Result<String, Wrong> {
+    match listed(alloc, bytes) {
+        Ok(blocks) => Ok(text_of(alloc, &blocks)?),
+        Err(WalkErr::Broken(rule)) => Ok(name_of(alloc, rule)?),
+        Err(e) => Err(unlisted(e)),
+    }
+}
+
 /// Looks at blocks: `blocks BYTES => PLACE SIZE used|free ..`, or the rule that they break.
-pub fn are_blocks(alloc: Global, line: &mut Line<'_>) -> Result<(), Failure> {
+pub fn are_blocks(alloc: Global, line: &mut Line<'_>) -> Result<(), Wrong> {
     let given = line.given()?;
     let bytes = file_of(alloc, given.as_slice())?;
-    let text = match listed(alloc, &bytes) {
-        Ok(blocks) => text_of(alloc, &blocks)?,
-        Err(WalkErr::Broken(rule)) => name_of(alloc, rule)?,
-        Err(e) => return Err(Failure::Walk(e)),
-    };
-    Ok(line.is_text(text)?)
+    line.is_text(blocks_text(alloc, &bytes)?)
 }
 
-// A block of a size that begins below a place, or one at the end, where the sum still fits.
-fn take(pool: &mut Pool, space: &mut OneFile, size: u64, most: u64) -> Result<u64, RecErr> {
-    usable(space)?;
-    if size == 0 || size % pool.unit() != 0 || pool.size() > u64::MAX - size {
-        return Err(RecErr::Full);
-    }
-    pool.take(space, 0, size, most)
+// A pool and its file.
+#[derive(Drop)]
+struct Held {
+    alloc: Global,
+    pool: Pool,
+    space: OneFile,
 }
 
-// A block given back, where it meets no free one.
-fn give(pool: &mut Pool, space: &mut OneFile, at: u64, size: u64) -> Result<(), RecErr> {
-    usable(space)?;
-    if size == 0 || size >= 1 << 32 || at > pool.size() || size > pool.size() - at {
-        return Err(RecErr::Full);
+impl Held {
+    // Takes a block of a size that begins below a place, or one at the end, where the sum still fits.
+    fn take(&mut self, size: u64, most: u64) -> Result<u64, Wrong> {
+        usable(&self.space)?;
+        let pool = &mut self.pool;
+        if size == 0 || size % pool.unit() != 0 || pool.size() > u64::MAX - size {
+            return Err(Wrong::Not("a limit was reached"));
+        }
+        pool.take(&mut self.space, 0, size, most).map_err(refused)
     }
-    if at % pool.unit() != 0 || size % pool.unit() != 0 || !pool.meets_none(at, size) {
-        return Err(RecErr::Full);
-    }
-    pool.give(space, 0, at, size)
-}
 
-// A record written into a file.
-fn write(space: &mut OneFile, at: u64, bytes: &[u8]) -> Result<(), Failure> {
-    usable(space)?;
-    Ok(space.write(0, at, bytes)?)
+    // Gives a block back, where it meets no free one.
+    fn give(&mut self, at: u64, size: u64) -> Result<(), Wrong> {
+        usable(&self.space)?;
+        let pool = &mut self.pool;
+        if size == 0 || size >= 1 << 32 || at > pool.size() || size > pool.size() - at {
+            return Err(Wrong::Not("a limit was reached"));
+        }
+        if at % pool.unit() != 0 || size % pool.unit() != 0 || !pool.meets_none(at, size) {
+            return Err(Wrong::Not("a limit was reached"));
+        }
+        pool.give(&mut self.space, 0, at, size).map_err(refused)
+    }
+
+    // Writes a record into the file.
+    fn write(&mut self, at: u64, bytes: &[u8]) -> Result<(), Wrong> {
+        usable(&self.space)?;
+        self.space.write(0, at, bytes).map_err(unwritten)
+    }
 }
 
 // A block taken at a place, and a record written into it: `SIZE PLACE RECORD`.
-fn take_line(
-    alloc: Global,
-    pool: &mut Pool,
-    space: &mut OneFile,
-    most: u64,
-    line: &mut Line<'_>,
-) -> Result<(), Failure> {
+fn take_line(held: &mut Held, most: u64, line: &mut Line<'_>) -> Result<(), Wrong> {
     let size = line.number()?;
     let wanted = line.number()?;
     line.compares();
-    let place = take(pool, space, size, most)?;
+    let place = held.take(size, most)?;
     if place != wanted {
-        return Err(Failure::Line(Wrong::Differs(format!(in alloc; "{place}")?)));
+        return Err(Wrong::Differs(format!(in held.alloc; "{place}")?));
     }
-    write(space, place, line.bytes()?.as_slice())
+    let record = line.bytes()?;
+    held.write(place, record.as_slice())
+}
+
+// A block taken so, which begins below a place: `PLACE SIZE PLACE RECORD`.
+fn below_line(held: &mut Held, line: &mut Line<'_>) -> Result<(), Wrong> {
+    let most = line.number()?;
+    take_line(held, most, line)
+}
+
+// A block given back: `PLACE SIZE`.
+fn give_line(held: &mut Held, line: &mut Line<'_>) -> Result<(), Wrong> {
+    let at = line.number()?;
+    let size = line.number()?;
+    held.give(at, size)
 }
 
 // A line that changes the pool: `take SIZE PLACE RECORD`, `below PLACE SIZE PLACE RECORD`, `give PLACE SIZE`, `trim`; or `written`, that the file has its section.
-fn change(
-    alloc: Global,
-    pool: &mut Pool,
-    space: &mut OneFile,
-    what: &str,
-    line: &mut Line<'_>,
-) -> Result<(), Failure> {
+fn change(held: &mut Held, what: &str, line: &mut Line<'_>) -> Result<(), Wrong> {
     match what {
-        "take" => take_line(alloc, pool, space, u64::MAX, line),
-        "below" => {
-            let most = line.number()?;
-            take_line(alloc, pool, space, most, line)
-        }
-        "give" => {
-            let at = line.number()?;
-            Ok(give(pool, space, at, line.number()?)?)
-        }
+        "take" => take_line(held, u64::MAX, line),
+        "below" => below_line(held, line),
+        "give" => give_line(held, line),
         "trim" => {
-            pool.trim();
+            held.pool.trim();
             Ok(())
         }
         "written" => {
-            pool.mark_written();
+            held.pool.mark_written();
             Ok(())
         }
-        _ => Err(Failure::Line(Wrong::Unread)),
+        _ => Err(Wrong::Unread),
     }
 }
 
@@ -164,51 +177,51 @@ fn pairs(alloc: Global, pool: &Pool) -> Result<Blob, AllocError> {
     Ok(into)
 }
 
+// Whether a pool has the same section and size as another.
+fn is_same(alloc: Global, pool: &Pool, other: &Pool) -> Result<bool, AllocError> {
+    let (one, another) = (section(alloc, pool)?, section(alloc, other)?);
+    Ok(one.as_slice() == another.as_slice() && pool.size() == other.size())
+}
+
 // Looks whether a walk finds the pool again.
-fn is_found(alloc: Global, pool: &Pool, bytes: &[u8], line: &mut Line<'_>) -> Result<(), Failure> {
-    let again = found(alloc, bytes, pool.size())?;
-    let (one, other) = (section(alloc, pool)?, section(alloc, &again)?);
-    is_so(
-        line,
-        one.as_slice() == other.as_slice() && pool.size() == again.size(),
-    )
-}
-
-// Plays a line: `section BYTES` is what the pool lists, `pairs BYTES` the same without zeros, `changed` or `unchanged` whether that may differ from what was written, `size N` where the blocks end, `bytes PLACE BYTES` what stands in the file, `walked` that a walk finds the pool again.
-fn play_line(
-    alloc: Global,
-    pool: &mut Pool,
-    space: &mut OneFile,
-    what: &str,
-    line: &mut Line<'_>,
-) -> Result<(), Failure> {
-    match what {
-        "changed" => is_so(line, pool.has_changed()),
-        "unchanged" => is_so(line, !pool.has_changed()),
-        "pairs" => Ok(line.is_bytes(pairs(alloc, pool)?.as_slice())?),
-        "section" => Ok(line.is_bytes(section(alloc, pool)?.as_slice())?),
-        "size" => is_number(alloc, line, pool.size()),
-        "bytes" => are_bytes(line, space.bytes()),
-        "walked" => is_found(alloc, pool, space.bytes(), line),
-        _ => change(alloc, pool, space, what, line),
+fn is_found(alloc: Global, pool: &Pool, bytes: &[u8], line: &mut Line<'_>) -> Result<(), Wrong> {
+    match found(alloc, bytes, pool.size()) {
+        Ok(again) => is_so(line, is_same(alloc, pool, &again)?),
+        Err(e) => Err(unlisted(e)),
     }
 }
 
-/// Plays a case of a pool: `pool BYTES`, the blocks of its file.
-pub fn play_pool(
-    alloc: Global,
-    line: &mut Line<'_>,
-    script: &mut Script<'_>,
-) -> Result<(), Failure> {
-    let bytes = file_of(alloc, line.bytes()?.as_slice())?;
-    let mut pool = found(alloc, &bytes, bytes.len() as u64)?;
-    let mut space = OneFile::of(bytes);
-    for _ in 0..script.len() {
-        let Some((what, mut line)) = script.next_line() else {
-            return Ok(());
-        };
-        play_line(alloc, &mut pool, &mut space, what, &mut line)?;
-        script.end(line)?;
+// A line: `section BYTES` is what the pool lists, `pairs BYTES` the same without zeros, `changed` or `unchanged` whether that may differ from what was written, `size N` where the blocks end, `bytes PLACE BYTES` what stands in the file, `walked` that a walk finds the pool again.
+impl Object for Held {
+    fn play(&mut self, what: &str, line: &mut Line<'_>) -> Result<(), Wrong> {
+        match what {
+            "changed" => is_so(line, self.pool.has_changed()),
+            "unchanged" => is_so(line, !self.pool.has_changed()),
+            "pairs" => line.is_bytes(pairs(self.alloc, &self.pool)?.as_slice()),
+            "section" => line.is_bytes(section(self.alloc, &self.pool)?.as_slice()),
+            "size" => is_number(self.alloc, line, self.pool.size()),
+            "bytes" => bytes_line(self.alloc, self.space.bytes(), what, line),
+            "walked" => is_found(self.alloc, &self.pool, self.space.bytes(), line),
+            _ => change(self, what, line),
+        }
     }
-    Ok(())
+}
+
+// The pool of a file: `pool BYTES`, its blocks.
+fn opened(alloc: Global, line: &mut Line<'_>) -> Result<Held, Wrong> {
+    let blocks = line.bytes()?;
+    let bytes = file_of(alloc, blocks.as_slice())?;
+    match found(alloc, &bytes, bytes.len() as u64) {
+        Ok(pool) => Ok(Held {
+            alloc,
+            pool,
+            space: OneFile::of(bytes),
+        }),
+        Err(e) => Err(unlisted(e)),
+    }
+}
+
+/// Plays a case of a pool.
+pub fn play_pool(alloc: Global, line: &mut Line<'_>, script: &mut Script<'_>) -> Result<(), Wrong> {
+    play_lines(&mut opened(alloc, line)?, script)
 }

@@ -1,15 +1,16 @@
 //! Transactions and copies that are stopped or fail at each call of the volume, and recovery that is stopped or fails at each of its calls.
-ghost use Rattle.std.specs.Prelude.{OnOk};
+ghost use Rattle.std.specs.Prelude.{◌≡◌, false, OnOk};
 
-use crate::commits::{change, copy, data_file};
-use crate::failures::Failure;
+use crate::commits::{Failure, change, copy, data_file};
+use crate::memory::Memory;
 use play_stops::{Seen, Trouble, WHOLE, are_same, choices};
 use play_text::{Line, Pattern, Script, Wrong};
 use std::alloc::{AllocError, Global};
 use tc_fakes::{Choice, MemVolume};
+use tc_held::{Held, HeldSpace};
 use tc_io::Volume;
 use tc_space::Space;
-use tc_undo::{RecoverErr, Undo, recover};
+use tc_undo::{Batched, RecoverErr, Undo, recover};
 
 // What two files have.
 #[derive(Drop)]
@@ -35,6 +36,7 @@ struct Trial<'a> {
     kept: Vec<Kept>,
     label: &'a str,
     trouble: Trouble,
+    memory: Option<Memory>,
 }
 
 // How far transactions came.
@@ -245,8 +247,37 @@ impl<'a> Trial<'a> {
         Ok(true)
     }
 
+    // Plays the transactions on files that were opened, and hands them back.
+    fn transacted<S: Batched>(
+        &self,
+        space: S,
+        held: Option<Held>,
+        done: &mut Progress,
+    ) -> (S, Result<(), Failure>)
+        requires sound { S.sound space }
+        requires untouched { S.touched space ≡ false }
+    {
+        let mut lines = self.lines;
+        match held {
+            None => {
+                let mut space = space;
+                let played = transact(&mut space, &mut lines, done);
+                (space, played)
+            }
+            Some(held) => {
+                let mut space = HeldSpace::new(space, held);
+                let played = transact(&mut space, &mut lines, done);
+                (space.into_below(), played)
+            }
+        }
+    }
+
     // A volume on which the transactions ran into trouble at a call, or didn't.
-    fn troubled(&self, call: u64, done: &mut Progress) -> Result<MemVolume, Failure> {
+    fn troubled(&self, call: u64, done: &mut Progress) -> Result<MemVolume, Wrong> {
+        let held = match self.memory {
+            Some(memory) => Some(memory.take(self.alloc)?),
+            None => None,
+        };
         let mut vol = self.volume(0)?;
         self.trouble.meet(self.alloc, &mut vol, call)?;
         if vol.bind("a").is_err() {
@@ -254,13 +285,12 @@ impl<'a> Trial<'a> {
         }
         match Undo::open(vol, 1 << 20) {
             Err(refused) => Ok(refused.vol),
-            Ok(mut space) => {
-                let mut lines = self.lines;
-                let played = transact(&mut space, &mut lines, done);
+            Ok(space) => {
+                let (space, played) = self.transacted(space, held, done);
                 done.is_through = played.is_ok();
                 let vol = space.close();
                 match played {
-                    Err(Failure::Line(wrong)) => Err(Failure::Line(wrong)),
+                    Err(Failure::Line(wrong)) => Err(wrong),
                     _ => Ok(vol),
                 }
             }
@@ -276,7 +306,7 @@ impl<'a> Trial<'a> {
     }
 
     // Each call goes wrong in turn, until none does. Answers the call at which something else came.
-    fn first_lost(&self) -> Result<Option<u64>, Failure> {
+    fn first_lost(&self) -> Result<Option<u64>, Wrong> {
         let mut course = Course::new(self, NONE);
         for call in 1..MOST {
             let mut done = NONE;
@@ -299,7 +329,7 @@ impl<'a> Trial<'a> {
     }
 
     // Takes what two files have: `kept FILE BYTES = FILE BYTES`.
-    fn keep(&mut self, line: &mut Line<'_>) -> Result<(), Failure> {
+    fn keep(&mut self, line: &mut Line<'_>) -> Result<(), Wrong> {
         let one = data_file(line)?;
         let first = line.bytes_up_to(" = ")?;
         let other = data_file(line)?;
@@ -312,52 +342,58 @@ impl<'a> Trial<'a> {
     }
 
     // Takes the label of a line `copy LABEL`, which is that of all of them.
-    fn take_label(&mut self, label: &'a str) -> Result<(), Failure> {
+    fn take_label(&mut self, label: &'a str) -> Result<(), Wrong> {
         if !self.label.is_empty() && self.label != label {
-            return Err(Failure::Line(Wrong::Unread));
+            return Err(Wrong::Unread);
         }
         self.label = label;
         Ok(())
     }
 
     // Takes a line in front of the trial, which plays those that change files.
-    fn take(&mut self, what: &str, line: &mut Line<'a>) -> Result<(), Failure> {
+    fn take(&mut self, what: &str, line: &mut Line<'a>) -> Result<(), Wrong> {
         match what {
             "kept" => self.keep(line),
             "copy" => self.take_label(line.word()),
-            "put" | "cut" | "commit" => {
+            "put" | "cut" | "get" | "commit" => {
                 line.skip();
                 Ok(())
             }
-            _ => Err(Failure::Line(Wrong::Unread)),
+            _ => Err(Wrong::Unread),
         }
     }
 
     // Tries all calls, `trial stops` or `trial faults`.
-    fn try_all(&mut self, line: &mut Line<'_>) -> Result<(), Failure> {
+    fn try_all(&mut self, line: &mut Line<'_>) -> Result<(), Wrong> {
         self.trouble = match line.word() {
             "stops" => Trouble::Stop,
             "faults" => Trouble::Fault,
-            _ => return Err(Failure::Line(Wrong::Unread)),
+            _ => return Err(Wrong::Unread),
         };
         line.compares();
         let Some(call) = self.first_lost()? else {
             return Ok(());
         };
         let found = format!(in self.alloc; "at call {call}")?;
-        Err(Failure::Line(Wrong::Differs(found)))
+        Err(Wrong::Differs(found))
     }
 }
 
 /// Plays a case of transactions in trouble: `trial stops|faults` behind lines of transactions, in which `kept FILE BYTES = FILE BYTES` says what two files have at first and behind each commit.
-/// What a stop leaves of the copies is looked at too.
-pub fn play_trial(alloc: Global, script: &mut Script<'_>) -> Result<(), Failure> {
+/// What a stop leaves of the copies is looked at too. Writes are held where the first line goes on with `held PIECES BYTES`.
+pub fn play_trial(
+    alloc: Global,
+    line: &mut Line<'_>,
+    script: &mut Script<'_>,
+) -> Result<(), Wrong> {
+    let memory = Memory::of(line)?;
     let mut trial = Trial {
         alloc,
         lines: *script,
         kept: Vec::new(alloc),
         label: "",
         trouble: Trouble::Stop,
+        memory,
     };
     for _ in 0..script.len() {
         let Some((what, mut line)) = script.next_line() else {
@@ -365,7 +401,7 @@ pub fn play_trial(alloc: Global, script: &mut Script<'_>) -> Result<(), Failure>
         };
         if what == "trial" {
             trial.try_all(&mut line)?;
-            return Ok(script.end(line)?);
+            return script.end(line);
         }
         trial.take(what, &mut line)?;
         script.end(line)?;

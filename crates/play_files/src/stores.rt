@@ -1,45 +1,34 @@
 //! Cases of records in memory, and of the trees that they may be.
 
-use crate::failures::Failure;
-use crate::lists::play_list;
-use crate::looks::{is_number, is_rule, is_second, usable};
-use crate::maps::play_map;
-use bt_check::check_tree;
+use crate::lists::{ListOf, list_line};
+use crate::looks::{is_number, is_rule};
+use crate::maps::{MapOf, map_line};
+use crate::playing::{Object, play_lines};
+use crate::trees::{breaks, is_index};
 use play_text::{Line, Script, Wrong};
 use std::alloc::Global;
 use tc_base::{Lexical, set_le};
 use tc_btree::Btree;
 use tc_memstores::{MemMulti, MemRecords, OneFile};
-use tc_space::{NoSpace, OpenErr, Records};
+use tc_space::{OpenErr, Records, Space};
 
 type Store = MemRecords<OneFile>;
 
-// The first rule of trees that the records break: `plain|index FILE RULE`.
-fn breaks(
-    alloc: Global,
-    store: &mut Store,
-    space: &mut OneFile,
-    line: &mut Line<'_>,
-) -> Result<(), Failure> {
-    let index = is_second(line, "plain", "index")?;
-    usable(space)?;
-    let broken = check_tree::<Store, Lexical>(alloc, store, space, index).err();
-    is_rule(alloc, line, broken)
+// A region of other bytes: `region BYTES`.
+fn given_region(line: &mut Line<'_>) -> Result<[u8; 128], Wrong> {
+    let bytes = line.bytes()?;
+    let all = bytes.as_slice();
+    let mut region = [0; 128];
+    if all.len() != 128 {
+        return Err(Wrong::Unread);
+    }
+    region.copy_from_slice(all);
+    Ok(region)
 }
 
-// The region of a tree with limits 4 and 4: `tree ORDER ROOT LAST LEAVES NODES PAIRS`, or other bytes: `region BYTES`.
-fn set_region(store: &mut Store, what: &str, line: &mut Line<'_>) -> Result<(), Failure> {
+// The region of a tree with limits 4 and 4: `tree ORDER ROOT LAST LEAVES NODES PAIRS`.
+fn tree_region(line: &mut Line<'_>) -> Result<[u8; 128], Wrong> {
     let mut region = [0; 128];
-    if what == "region" {
-        let bytes = line.bytes()?;
-        let all = bytes.as_slice();
-        if all.len() != 128 {
-            return Err(Failure::Line(Wrong::Unread));
-        }
-        region.copy_from_slice(all);
-        store.set_opaque(&region);
-        return Ok(());
-    }
     region[0] = line.within(0, 255)? as u8;
     set_le(&mut region, 8, 4, 4);
     set_le(&mut region, 12, 4, 4);
@@ -48,23 +37,28 @@ fn set_region(store: &mut Store, what: &str, line: &mut Line<'_>) -> Result<(), 
     for place in [32, 40, 48, 56] {
         set_le(&mut region, place, 8, line.number()?);
     }
-    store.set_opaque(&region);
-    Ok(())
+    Ok(region)
 }
 
 // A line on records in memory.
 fn look(
     alloc: Global,
-    store: &mut Store,
-    space: &mut OneFile,
+    held: &mut MapOf<Store>,
     what: &str,
     line: &mut Line<'_>,
-) -> Result<(), Failure> {
+) -> Result<(), Wrong> {
     match what {
-        "tree" | "region" => set_region(store, what, line),
-        "has_region" => Ok(line.is_bytes(&store.opaque())?),
-        "rule" => breaks(alloc, store, space, line),
-        _ => Err(Failure::Line(Wrong::Unread)),
+        "tree" => {
+            held.map.set_opaque(&tree_region(line)?);
+            Ok(())
+        }
+        "region" => {
+            held.map.set_opaque(&given_region(line)?);
+            Ok(())
+        }
+        "has_region" => line.is_bytes(&held.map.opaque()),
+        "rule" => breaks(alloc, &mut held.map, &mut held.space, line),
+        _ => map_line(alloc, held, what, line),
     }
 }
 
@@ -76,14 +70,42 @@ fn opened(
     index: bool,
 ) -> Result<Btree<Store, Lexical>, OpenErr> {
     let opaque = store.opaque();
-    if opaque[0] != 0 {
+    if opaque[0] != 0 || !space.is_sound() {
         return Err(OpenErr::Fault);
     }
-    usable(space)?;
     if index {
         return Btree::open_index(alloc, store, space);
     }
     Btree::open(alloc, store, space)
+}
+
+// A list in memory.
+#[derive(Drop)]
+struct ListCase {
+    alloc: Global,
+    held: ListOf<MemMulti<OneFile, Lexical>>,
+}
+
+impl Object for ListCase {
+    fn play(&mut self, what: &str, line: &mut Line<'_>) -> Result<(), Wrong> {
+        list_line(self.alloc, &mut self.held, what, line)
+    }
+}
+
+// A tree that records are.
+#[derive(Drop)]
+struct TreeCase {
+    alloc: Global,
+    held: ListOf<Btree<Store, Lexical>>,
+}
+
+impl Object for TreeCase {
+    fn play(&mut self, what: &str, line: &mut Line<'_>) -> Result<(), Wrong> {
+        match what {
+            "height" => is_number(self.alloc, line, self.held.list.tree().height()),
+            _ => list_line(self.alloc, &mut self.held, what, line),
+        }
+    }
 }
 
 // Opens the tree, `opens plain|index RULE`, and plays what is left of the case on it.
@@ -93,25 +115,16 @@ fn play_opened(
     mut space: OneFile,
     line: &mut Line<'_>,
     script: &mut Script<'_>,
-) -> Result<(), Failure> {
-    let index = is_second(line, "plain", "index")?;
-    let mut tree = match opened(alloc, store, &mut space, index) {
-        Ok(tree) => tree,
-        Err(e) => return is_rule(alloc, line, Some(e)),
-    };
-    is_rule(alloc, line, None)?;
-    for _ in 0..script.len() {
-        usable(&space)?;
-        let Some((what, mut line)) = play_list(alloc, &mut tree, &mut space, script)? else {
-            return Ok(());
-        };
-        if what != "height" {
-            return Err(Failure::Line(Wrong::Unread));
+) -> Result<(), Wrong> {
+    let index = is_index(line)?;
+    match opened(alloc, store, &mut space, index) {
+        Ok(tree) => {
+            is_rule(alloc, line, None)?;
+            let held = ListOf::new(tree, space);
+            play_lines(&mut TreeCase { alloc, held }, script)
         }
-        is_number(alloc, &mut line, tree.tree().height())?;
-        script.end(line)?;
+        Err(e) => is_rule(alloc, line, Some(e)),
     }
-    Ok(())
 }
 
 /// Plays a case of records in memory: `map FILE`.
@@ -119,19 +132,18 @@ pub fn play_records(
     alloc: Global,
     line: &mut Line<'_>,
     script: &mut Script<'_>,
-) -> Result<(), Failure> {
-    let mut space = OneFile::of(Vec::new(alloc));
-    let mut store: Store = MemRecords::new(alloc, line.small()?);
+) -> Result<(), Wrong> {
+    let store: Store = MemRecords::new(alloc, line.small()?);
+    let mut held = MapOf::new(store, OneFile::of(Vec::new(alloc)));
     for _ in 0..script.len() {
-        usable(&space)?;
-        let Some((what, mut line)) = play_map(alloc, &mut store, &mut space, script)? else {
+        let Some((what, mut line)) = script.next_line() else {
             return Ok(());
         };
         if what == "opens" {
-            play_opened(alloc, store, space, &mut line, script)?;
-            return Ok(script.end(line)?);
+            play_opened(alloc, held.map, held.space, &mut line, script)?;
+            return script.end(line);
         }
-        look(alloc, &mut store, &mut space, what, &mut line)?;
+        look(alloc, &mut held, what, &mut line)?;
         script.end(line)?;
     }
     Ok(())
@@ -142,11 +154,8 @@ pub fn play_pairs(
     alloc: Global,
     line: &mut Line<'_>,
     script: &mut Script<'_>,
-) -> Result<(), Failure> {
-    let mut space = NoSpace::new();
-    let mut list: MemMulti<NoSpace, Lexical> = MemMulti::new(alloc, line.small()?);
-    match play_list(alloc, &mut list, &mut space, script)? {
-        None => Ok(()),
-        Some(_) => Err(Failure::Line(Wrong::Unread)),
-    }
+) -> Result<(), Wrong> {
+    let list = MemMulti::new(alloc, line.small()?);
+    let held = ListOf::new(list, OneFile::of(Vec::new(alloc)));
+    play_lines(&mut ListCase { alloc, held }, script)
 }

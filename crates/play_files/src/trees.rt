@@ -1,9 +1,11 @@
 //! Cases of trees in hash files.
 ghost use Rattle.std.specs.Prelude.{◌≤◌, IfOk};
 
-use crate::failures::Failure;
-use crate::lists::play_list;
-use crate::looks::{are_bytes, is_number, is_rule, is_second, is_so, is_value, usable};
+use crate::lists::{ListOf, list_line};
+use crate::looks::{is_number, is_rule, is_second, is_value, marked_line, usable};
+use crate::maps::is_put;
+use crate::playing::{Object, play_lines};
+use crate::refusals::{refused, unopened};
 use bt_check::check_tree;
 use play_text::{Line, Script, Wrong};
 use std::alloc::Global;
@@ -11,126 +13,145 @@ use tc_base::{Blob, Lexical, Mode, Steps};
 use tc_btree::Btree;
 use tc_hash::Hash;
 use tc_memstores::OneFile;
-use tc_space::{Multi, OpenErr, RecErr, Records};
+use tc_space::Records;
 
 type Store = Hash<OneFile>;
 
-type TreeOf = Btree<Store, Lexical>;
+type TreeFile = ListOf<Btree<Store, Lexical>>;
+
+/// Whether a tree is an index: `plain|index`.
+pub fn is_index(line: &mut Line<'_>) -> Result<bool, Wrong> {
+    is_second(line, "plain", "index")
+}
+
+/// The first rule of trees that records break: `plain|index FILE RULE`.
+pub fn breaks<R: Records<S = OneFile>>(
+    alloc: Global,
+    store: &mut R,
+    space: &mut OneFile,
+    line: &mut Line<'_>,
+) -> Result<(), Wrong> {
+    let index = is_index(line)?;
+    usable(space)?;
+    let broken = check_tree::<R, Lexical>(alloc, store, space, index).err();
+    is_rule(alloc, line, broken)
+}
 
 // A limit on keys or entries, from 4 to 256.
-fn limit(line: &mut Line<'_>) -> Result<u32, Failure>
+fn limit(line: &mut Line<'_>) -> Result<u32, Wrong>
     ensures { IfOk result (λ n. (4 ≤ n) × (n ≤ 256)) }
 {
     let limit = line.within(4, 256)?;
     Ok(limit as u32)
 }
 
-// A new file of type 1 of three buckets, with the record `column` or without records.
-fn file(alloc: Global, space: &mut OneFile, column: bool) -> Result<Store, Failure> {
+// Puts the record `column`.
+fn put_column(store: &mut Store, space: &mut OneFile) -> Result<bool, Wrong> {
     usable(space)?;
-    let mut store = Hash::create(alloc, space, 0, 1, 4, 0, 3, false)?;
+    let mut steps: Steps<()> = Steps::new();
+    is_put(store.put(space, b"column", b"x", Mode::Over, &mut steps))
+}
+
+// A new file of type 1 of three buckets, with the record `column` or without records.
+fn file(alloc: Global, space: &mut OneFile, column: bool) -> Result<Store, Wrong> {
+    usable(space)?;
+    let mut store = Hash::create(alloc, space, 0, 1, 4, 0, 3, false).map_err(refused)?;
     if column {
-        let mut steps: Steps<()> = Steps::new();
-        store.put(space, b"column", b"x", Mode::Over, &mut steps)?;
+        put_column(&mut store, space)?;
     }
     Ok(store)
 }
 
+// A tree of no pairs in a file, with such limits.
+fn planted(
+    alloc: Global,
+    store: Store,
+    space: &mut OneFile,
+    leaf: u32,
+    node: u32,
+) -> Result<Btree<Store, Lexical>, Wrong>
+    requires leaf { (4 ≤ leaf) × (leaf ≤ 256) }
+    requires node { (4 ≤ node) × (node ≤ 256) }
+{
+    usable(space)?;
+    Btree::create(alloc, store, space, leaf, node).map_err(refused)
+}
+
 // A tree of no pairs in such a file: `tree LEAF NODE`, with `column` behind it where the record is there.
-fn created(alloc: Global, space: &mut OneFile, line: &mut Line<'_>) -> Result<TreeOf, Failure> {
+fn created(alloc: Global, line: &mut Line<'_>) -> Result<TreeFile, Wrong> {
     let leaf = limit(line)?;
     let node = limit(line)?;
     let column = is_second(line, "", "column")?;
-    let store = file(alloc, space, column)?;
-    usable(space)?;
-    Ok(Btree::create(alloc, store, space, leaf, node)?)
+    let mut space = OneFile::of(Vec::new(alloc));
+    let store = file(alloc, &mut space, column)?;
+    let tree = planted(alloc, store, &mut space, leaf, node)?;
+    Ok(ListOf::new(tree, space))
 }
 
 // A record of a file.
-fn record(store: &mut Store, space: &mut OneFile, key: &[u8]) -> Result<Option<Blob>, RecErr> {
+fn record(store: &mut Store, space: &mut OneFile, key: &[u8]) -> Result<Option<Blob>, Wrong> {
     usable(space)?;
     let mut steps: Steps<()> = Steps::new();
-    store.get(space, key, &mut steps)
+    store.get(space, key, &mut steps).map_err(refused)
 }
 
 // A record of a file: `record KEY = VALUE`.
-fn is_record(store: &mut Store, space: &mut OneFile, line: &mut Line<'_>) -> Result<(), Failure> {
+fn is_record(store: &mut Store, space: &mut OneFile, line: &mut Line<'_>) -> Result<(), Wrong> {
     let key = line.bytes_up_to(" = ")?;
     let value = line.bytes()?;
     let found = record(store, space, key.as_slice())?;
     is_value(line, Some(&value), &found)
 }
 
-// The rule of trees that a file breaks: `rule plain|index FILE RULE`.
-fn breaks(
-    alloc: Global,
-    store: &mut Store,
-    space: &mut OneFile,
-    line: &mut Line<'_>,
-) -> Result<(), Failure> {
-    let index = is_second(line, "plain", "index")?;
+// A file opened anew.
+fn opened(alloc: Global, space: &mut OneFile) -> Result<Store, Wrong> {
     usable(space)?;
-    let broken = check_tree::<Store, Lexical>(alloc, store, space, index).err();
-    is_rule(alloc, line, broken)
+    Hash::open(alloc, space, 0, 1).map_err(unopened)
 }
 
 // A line on a file that is opened anew: how many `records` it has, a `record`, its region, `has_region BYTES`, or the `rule` of trees that it breaks.
-fn look_anew(alloc: Global, bytes: &[u8], what: &str, line: &mut Line<'_>) -> Result<(), Failure> {
+fn look_anew(alloc: Global, bytes: &[u8], what: &str, line: &mut Line<'_>) -> Result<(), Wrong> {
     let mut space = OneFile::new(alloc, bytes)?;
-    let mut store: Store = Hash::open(alloc, &mut space, 0, 1)?;
+    let mut store = opened(alloc, &mut space)?;
     match what {
         "records" => is_number(alloc, line, store.count()),
-        "has_region" => Ok(line.is_bytes(&store.opaque())?),
+        "has_region" => line.is_bytes(&store.opaque()),
         "record" => is_record(&mut store, &mut space, line),
-        "rule" => breaks(alloc, &mut store, &mut space, line),
-        _ => Err(Failure::Line(Wrong::Unread)),
+        _ => breaks(alloc, &mut store, &mut space, line),
     }
 }
 
-// A line on a tree in a file: its `height`; the file's bytes, `bytes PLACE BYTES`, `mark`, which keeps them, and `same`, that they are as they were there; or what its file is once it is opened anew.
-fn look(
+// A tree in a file, and the bytes that a line kept.
+#[derive(Drop)]
+struct Case {
     alloc: Global,
-    tree: &mut TreeOf,
-    bytes: &[u8],
-    marked: &mut Blob,
-    what: &str,
-    line: &mut Line<'_>,
-) -> Result<(), Failure> {
-    match what {
-        "mark" => {
-            *marked = Blob::from_slice(alloc, bytes)?;
-            Ok(())
+    held: TreeFile,
+    marked: Blob,
+}
+
+// A line: the `height`; those on the file's bytes, on what the file is once it is opened anew, and on lists.
+impl Object for Case {
+    fn play(&mut self, what: &str, line: &mut Line<'_>) -> Result<(), Wrong> {
+        match what {
+            "height" => is_number(self.alloc, line, self.held.list.tree().height()),
+            "bytes" | "mark" | "same" => {
+                let file = self.held.space.bytes();
+                marked_line(self.alloc, file, &mut self.marked, what, line)
+            }
+            "records" | "has_region" | "record" | "rule" => {
+                look_anew(self.alloc, self.held.space.bytes(), what, line)
+            }
+            _ => list_line(self.alloc, &mut self.held, what, line),
         }
-        "same" => is_so(line, marked.as_slice() == bytes),
-        "height" => is_number(alloc, line, tree.tree().height()),
-        "bytes" => are_bytes(line, bytes),
-        _ => look_anew(alloc, bytes, what, line),
     }
 }
 
 /// Plays a case of a tree in a hash file.
-pub fn play_tree(
-    alloc: Global,
-    line: &mut Line<'_>,
-    script: &mut Script<'_>,
-) -> Result<(), Failure> {
-    let mut space = OneFile::of(Vec::new(alloc));
-    let mut tree = created(alloc, &mut space, line)?;
-    let mut marked = Blob::new(alloc);
-    for _ in 0..script.len() {
-        usable(&space)?;
-        let Some((what, mut line)) = play_list(alloc, &mut tree, &mut space, script)? else {
-            return Ok(());
-        };
-        look(
-            alloc,
-            &mut tree,
-            space.bytes(),
-            &mut marked,
-            what,
-            &mut line,
-        )?;
-        script.end(line)?;
-    }
-    Ok(())
+pub fn play_tree(alloc: Global, line: &mut Line<'_>, script: &mut Script<'_>) -> Result<(), Wrong> {
+    let mut case = Case {
+        alloc,
+        held: created(alloc, line)?,
+        marked: Blob::new(alloc),
+    };
+    play_lines(&mut case, script)
 }
