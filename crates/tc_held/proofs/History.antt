@@ -8,7 +8,7 @@ use Rattle.tc_space.specs.Effects.{FollowsIn, Stays}
 use Rattle.tc_space.specs.Frames.{Follows, Keeps}
 use Rattle.tc_space.specs.Moments.{LeavesOnly, Past, Steady}
 use Rattle.tc_space.specs.declared.space.Space.{Ghosts}
-use Rattle.tc_held.specs.Held.{over}
+use Rattle.tc_held.specs.Held.{shown}
 use Rattle.tc_held.specs.History.{IsNoLater, LeftFrom, Rises, files_in, moment_in, stood_at, stood_from}
 use Rattle.tc_held.specs.Laws.{now_low, stood_now}
 use Rattle.tc_held.specs.declared.held.Held.{Held}
@@ -59,6 +59,15 @@ module _ {S : Type 0} (s : Ghosts S) (past : List (S × Held)) (below : S) (held
       (λ ge. subst (λ (q : S × Held). s.moment q.0 ≤ s.moment below) (sym (stood_now s past below held t ge)) (omega arith))
       (cases_lt t (moment_in s past below))
 
+-- where nothing was told
+pub stood_none : {S : Type 0} (s : Ghosts S) (past : List (S × Held)) (below : S) (held : Held) (t : ℕ) → length past ≡ 0 → stood_at s past below held t ≡ (below, held)
+stood_none s [] below held t none = ⊎_elim (λ lt. stood_then s [] below held t lt) (λ ge. stood_now s [] below held t ge) (cases_lt t (moment_in s [] below))
+stood_none s (q ∷ qs) below held t none = absurd (omega (arith, none))
+
+-- what a space that was just opened leaves, the one below leaves
+pub held_opened : {S : Type 0} {s : Ghosts S} {past : List (S × Held)} {below : S} {held : Held} (t : ℕ) (o : Option Files) (l : LeftFrom s past below held t o) → length past ≡ 0 → s.left below (min l.at (s.moment below)) o
+held_opened {S} {s} {past} {below} {held} t o l none = subst (λ (q : S × Held). s.left below (min l.at (s.moment q.0)) o) (stood_none s past below held l.at none) l.left
+
 pub rises_none : {S : Type 0} (s : Ghosts S) (past : List (S × Held)) (below : S) → past ≡ [] → Rises s past below
 rises_none {S} s past below none = record { each = λ t. subst (λ (l : List (S × Held)). All (IsNoLater s below) l) (sym none) (All-nil (IsNoLater s below)) }
 
@@ -104,10 +113,12 @@ module _ {S T : Type 0} (s : Ghosts S) (past : T → List (S × Held)) (below : 
         (λ ge. stood_now s (past b) (below b) (held b) t ge)
         (cases_lt t (moment_of b))
 
-    pub past_told : s.moment (below a) ≤ s.moment (below b) → Past moment_of files_of a b
-    past_told later = record {
-      later = omega (arith, later, one_more);
-      same = λ t le. ap (λ (q : S × Held). over q.1 (s.now q.0)) (as_stood later t le);
+    pub past_told : Past s.moment s.files_at (below a) (below b) → Past moment_of files_of a b
+    past_told was = record {
+      later = let later = was.later in omega (arith, later, one_more);
+      same = λ t le.
+          ap (λ (q : S × Held). shown q.1 (s.files_at (below b) (s.moment q.0))) (as_stood was.later t le)
+          ∙ ap (λ (fs : Files). shown (stood_of a t).1 fs) (was.same (s.moment (stood_of a t).0) (low_at s (past a) (below a) (held a) all t));
     }
 
   -- the space below went on to a later moment, so this one does
@@ -146,7 +157,7 @@ module _ {S T : Type 0} (s : Ghosts S) (past : T → List (S × Held)) (below : 
     steady_told told steady = record {
       same = steady.same;
       leaves = leaves_told earlier rises told (λ o. o ≡ s.kept (below a)) steady.leaves;
-      past = past_told (rises.each told) steady.leaves.later;
+      past = past_told (rises.each told) steady.past;
     }
 
     -- a call that keeps the space below keeps what stands over it

@@ -1,5 +1,5 @@
 -- What is held over a space, and when it may be brought there.
-use Rattle.std.specs.Prelude.{◌≡◌, ◌≢◌, ℕ, ◌+◌, ◌*◌, ◌^◌, ◌<◌, ◌≤◌, List, [], length, false, All}
+use Rattle.std.specs.Prelude.{◌≡◌, ◌≢◌, ℕ, ◌+◌, ◌*◌, ◌^◌, ◌<◌, ◌≤◌, List, [], length, take, false, All}
 use Rattle.tc_base.specs.Files.{Files, wrote}
 use Rattle.tc_space.specs.declared.space.Space.{Ghosts}
 use Rattle.tc_undo.specs.Guards.{IsSmall}
@@ -17,6 +17,14 @@ over_all bytes ps under = λ f. laid bytes ps f (under f)
 -- the files with what is held over them
 abbrev pub over : Held → Files → Files
 over held under = over_all held.bytes.items held.pieces.items under
+
+-- the files as they are shown with pieces laid over them, as far as each reaches
+abbrev pub shown_all : List ℕ → List Piece → Files → Files
+shown_all bytes ps under = λ f. take (length (under f)) (over_all bytes ps under f)
+
+-- and with what is held, which leaves each as long as it is
+abbrev pub shown : Held → Files → Files
+shown held under = shown_all held.bytes.items held.pieces.items under
 
 -- a piece lies inside its file
 abbrev pub EndsIn : Files → Piece → Type 0
@@ -63,8 +71,9 @@ pub record IsBare {S : Type 0} (s : Ghosts S) (below : S) (held : Held) : Type 0
   pub untouched : s.touched below ≡ false
   pub none : held.pieces.items ≡ []
 
--- a write or a cut found no room in the log for the old bytes, and the files stay
+-- a cut found no room in the log for the old bytes: nothing is held any more, and the files stay
 pub record FindsFull {S : Type 0} (s : Ghosts S) (logged : S → ℕ) (size : ℕ) (below below' : S) (held held' : Held) : Type 0 where
   pub by : s.tells → 2 ^ 62 < logged below + 2 ^ 29 + needs size
   pub log : s.log_full below'
+  pub none : held'.pieces.items ≡ []
   pub same : s.tells → (f : ℕ) → over held' (s.now below') f ≡ over held (s.now below) f

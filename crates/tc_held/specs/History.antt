@@ -2,7 +2,7 @@
 use Rattle.std.specs.Prelude.{◌≡◌, ℕ, suc, ◌+◌, ◌≤◌, min, List, [], ◌∷◌, length, Bool, true, false, nat_lt, if◌then◌else◌, Option, All}
 use Rattle.tc_base.specs.Files.{Files}
 use Rattle.tc_space.specs.declared.space.Space.{Ghosts}
-use Rattle.tc_held.specs.Held.{IsBare, IsHeld, over}
+use Rattle.tc_held.specs.Held.{IsBare, IsHeld, shown}
 use Rattle.tc_held.specs.declared.held.Held.{Held}
 
 -- moments go on from those of the space below: so many, and one for each call that was told
@@ -18,9 +18,9 @@ stood_from s n (q ∷ qs) last t = if nat_lt (s.moment q.0 + n) t then stood_fro
 abbrev pub stood_at : {S : Type 0} → Ghosts S → List (S × Held) → S → Held → ℕ → S × Held
 stood_at s past below held t = if nat_lt t (moment_in s past below) then stood_from s 0 past (below, held) t else (below, held)
 
--- the files at a moment
+-- the files at a moment: those of the space below when it stood so, with what was held over them
 abbrev pub files_in : {S : Type 0} → Ghosts S → List (S × Held) → S → Held → ℕ → Files
-files_in s past below held t = over (stood_at s past below held t).1 (s.now (stood_at s past below held t).0)
+files_in s past below held t = shown (stood_at s past below held t).1 (s.files_at below (s.moment (stood_at s past below held t).0))
 
 -- what a stop leaves at some moment from that one on: what one leaves of the space below, from there on or from as it stood then
 pub record LeftFrom {S : Type 0} (s : Ghosts S) (past : List (S × Held)) (below : S) (held : Held) (t : ℕ) (o : Option Files) : Type 0 where

@@ -3,7 +3,7 @@ ghost use Rattle.std.specs.Prelude.{◌≡◌, ◌+◌, ◌-◌, ◌^◌, ◌≤
 ghost use Rattle.tc_io.specs.Causes.{Rose};
 ghost use Rattle.tc_space.specs.Effects.{Caused, Changes, Outcome};
 ghost use Rattle.tc_space.specs.Frames.{Follows, Keeps};
-ghost use Rattle.tc_space.specs.Moments.{LeavesOnly};
+ghost use Rattle.tc_space.specs.Moments.{LeavesOnly, Past};
 ghost use Rattle.tc_space.specs.Ranges.{IsDataFile, Passes, Reaches};
 ghost use Rattle.tc_undo.specs.Room.{needs};
 ghost use Rattle.tc_held.specs.Held.{FindsFull, IsBare, IsHeld, Written, over};
@@ -52,6 +52,7 @@ impl<S: Batched> HeldSpace<S> {
         ensures sound { IsSound S.Space S.logged result.good result.touched result.stood.items result.below result.held }
         ensures begins { (result.touched ≡ false) × (result.read ≡ 0) × (result.below ≡ below) }
         ensures empty { result.held.pieces.items ≡ [] }
+        ensures first { result.stood.items ≡ [] }
     {
         let mut held = held;
         held.clear();
@@ -164,6 +165,7 @@ impl<S: Batched> HeldSpace<S> {
         ensures now { OnOk result (S.tells → (f : ℕ) → over self.new.held (S.now self.new.below) f ≡ over self.old.held (S.now self.old.below) f) }
         ensures kept { OnOk result (S.tells → S.kept self.new.below ≡ Some (over self.old.held (S.now self.old.below))) }
         ensures moments { S.tells → LeavesOnly S.moment S.left self.old.below self.new.below (λ o. (o ≡ S.kept self.old.below) ⊎ (o ≡ Some (over self.old.held (S.now self.old.below)))) }
+        ensures past { S.tells → Past S.moment S.files_at self.old.below self.new.below }
         ensures follows { Follows S.Space self.old.below self.new.below }
         ensures outcome { Outcome S.sound S.flag result self.new.below }
         ensures same { self.new ≡ record self.old { below = self.new.below; held = self.new.held } }
@@ -330,14 +332,14 @@ impl<S: Batched> HeldSpace<S> {
 
 impl<S: Batched> Space for HeldSpace<S> {
     ghost use Rattle.std.specs.Prelude.{◌<◌, ◌+◌, ◌^◌, ◌≡◌, true, length};
-    ghost use Rattle.tc_held.specs.Held.{over};
+    ghost use Rattle.tc_held.specs.Held.{shown};
     ghost use Rattle.tc_held.specs.History.{IsSound, LeftFrom, files_in, moment_in};
     ghost use Rattle.tc_held.specs.Laws.{held_clean, held_earlier, held_left, held_present, held_within};
     ghost use Rattle.tc_undo.specs.Room.{needs};
 
     ghost tells = { S.tells };
 
-    ghost now = { λ s. over s.held (S.now s.below) };
+    ghost now = { λ s. shown s.held (S.now s.below) };
 
     ghost kept = { λ s. S.kept s.below };
 
@@ -371,11 +373,11 @@ impl<S: Batched> Space for HeldSpace<S> {
 
     ghost clean = { λ s t sound is. held_clean s.below s.held (sound.bare is) (S.clean s.below t sound.below_is) };
 
-    ghost within = { λ s file t sound is. held_within s.below s.held sound.held_is t file (S.within s.below file t sound.below_is is) };
+    ghost within = { λ s file t sound is. held_within (S.now s.below) s.held file _ (S.within s.below file t sound.below_is is) };
 
     ghost earlier = { λ s t u o le left. held_earlier t u o le left };
 
-    ghost present = { λ s t. held_present S.now s.below s.held (S.moment s.below + length s.stood.items) _ };
+    ghost present = { λ s t. held_present S.moment (S.files_at s.below) (S.now s.below) s.below s.held (S.moment s.below + length s.stood.items) _ (S.present s.below t) };
 
     ghost flagged = { λ s sound. sound.good_is };
 

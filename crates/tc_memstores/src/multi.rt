@@ -135,9 +135,11 @@ impl<S: Space, O: Order> Multi for MemMulti<S, O> {
 
     ghost lacks_bare = { λ r old new. ⊥ };
 
-    ghost tight = { λ r form. Unit {0} };
+    ghost tight = { λ r from form bytes. Unit {0} };
 
-    ghost packed = { λ form bytes. Unit {0} };
+    ghost packed = { λ from form bytes. Unit {0} };
+
+    ghost slack = { λ bytes. 0 };
 
     ghost gets = { λ r. 0 };
 

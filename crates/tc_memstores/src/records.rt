@@ -135,9 +135,13 @@ impl<S: Space> Records for MemRecords<S> {
 
     ghost lacks_large = { λ r old new. ⊥ };
 
-    ghost tight = { λ r form. Unit {0} };
+    ghost filled = { λ r ps. Unit {0} };
 
-    ghost packed = { λ form bytes. Unit {0} };
+    ghost tight = { λ r from form bytes. Unit {0} };
+
+    ghost packed = { λ from form bytes. Unit {0} };
+
+    ghost slack = { λ bytes. 0 };
 
     ghost gets = { λ r. r.gets };
 

@@ -30,8 +30,8 @@ pub record PacksList {S V T E : Type 0} (flag : S → Bool) (file_of : V → ℕ
   pub formed : OnOk result (made new ≡ made_in form (made old))
   pub left : OnErr result ((flag space ≡ false) ⊎ (made new ≡ made old))
 
--- besides, what was packed in a form is so still
-pub record StaysPacked {V : Type 0} (file_of : V → ℕ) (made : V → Made) (tight : V → Form → Type 0) (old new : V) : Type 0 where
+-- besides, what was packed is so still, over the same bytes
+pub record StaysPacked {V : Type 0} (file_of : V → ℕ) (made : V → Made) (tight : V → List ℕ → Form → List ℕ → Type 0) (old new : V) : Type 0 where
   pub file : file_of new ≡ file_of old
   pub made_same : made new ≡ made old
   pub stays_tight : KeepsTight tight old new

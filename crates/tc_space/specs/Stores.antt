@@ -1,5 +1,5 @@
 -- What a call does to a map, or to a list of pairs, that is kept in one file of a space.
-use Rattle.std.specs.Prelude.{◌≡◌, ◌⊎◌, ℕ, ◌+◌, ◌-◌, ◌^◌, ◌≤◌, min, List, [], ◌∷◌, Bool, true, false, Option, None, IsSome, Result, IfOk, OnErr, OnOk}
+use Rattle.std.specs.Prelude.{◌≡◌, ◌⊎◌, ℕ, ◌+◌, ◌-◌, ◌^◌, ◌≤◌, min, List, [], ◌∷◌, ◌++◌, Bool, true, false, Option, None, IsSome, Result, IfOk, OnErr, OnOk}
 use Rattle.std.specs.FinMap.{get}
 use Rattle.std.proofs.Common.{inl, inr, ⊎_elim, refl, arith}
 use Rattle.tc_base.specs.Maps.{Map}
@@ -7,6 +7,7 @@ use Rattle.tc_base.specs.declared.kind.Form.{Form}
 use Rattle.tc_base.specs.declared.kind.Form.TheVariants as forms
 use Rattle.tc_base.specs.declared.kind.Mode.{Mode}
 use Rattle.tc_base.specs.declared.kind.Mode.TheVariants.{Keep}
+use Rattle.tc_base.specs.declared.seq.Pair.{Pair}
 use Rattle.tc_space.specs.Changes.{put_value}
 use Rattle.tc_space.specs.Frames.{In, Reads, Refuses, Writes}
 use Rattle.tc_space.specs.declared.space.Space.{Ghosts}
@@ -96,9 +97,9 @@ FullPack s lacks_large form v old new = s.tells → s.log_full new ⊎ ((form �
 abbrev pub FullClear : {S V : Type 0} → Ghosts S → (V → S → S → Type 0) → V → S → S → Type 0
 FullClear s lacks_bare v old new = s.tells → s.log_full new ⊎ lacks_bare v old new
 
--- what was packed in a form is so still
-abbrev pub KeepsTight : {V : Type 0} → (V → Form → Type 0) → V → V → Type 0
-KeepsTight tight old new = (form : Form) → tight old form → tight new form
+-- what was packed from bytes in a form is so still, over the same bytes
+abbrev pub KeepsTight : {V : Type 0} → (V → List ℕ → Form → List ℕ → Type 0) → V → V → Type 0
+KeepsTight tight old new = (from : List ℕ) (form : Form) (bytes : List ℕ) → tight old from form bytes → tight new from form bytes
 
 -- a counter rose by at least as much as the count of gets did, or stands where it stops
 pub record Ticks (gets gets' steps steps' : ℕ) : Type 0 where
@@ -137,6 +138,18 @@ module _ {S V M : Type 0} (s : Ghosts S) (file : V → ℕ) (holds : V → List 
   abbrev pub BringsIn : (List ℕ → M → Type 0) → V → S → S → Type 0
   BringsIn is v old new = (m : M) → In s file holds v old m → is (s.now new (file v)) m
 
+  -- of whatever was held: it was packed in that form from the bytes that its file had
+  abbrev pub TightIn : (V → List ℕ → Form → List ℕ → Type 0) → Form → V → V → S → S → Type 0
+  TightIn tight form v v' old new = (m : M) → In s file holds v old m → tight v' (s.now old (file v)) form (s.now new (file v))
+
+  -- from which bytes it was packed, and in which form, from those in that form its file is packed now
+  abbrev pub PacksIn : (V → List ℕ → Form → List ℕ → Type 0) → (List ℕ → Form → List ℕ → Type 0) → V → S → S → Type 0
+  PacksIn tight packed v old new = (from : List ℕ) (form : Form) (m : M) → tight v from form (s.now old (file v)) → In s file holds v old m → packed from form (s.now new (file v))
+
+  -- of whatever was held: no byte at the end of its file holds nothing
+  abbrev pub TrimsIn : (List ℕ → ℕ) → V → S → S → Type 0
+  TrimsIn slack v old new = (m : M) → In s file holds v old m → slack (s.now new (file v)) ≡ 0
+
   abbrev pub FullIn : (V → S → M → M → Type 0) → (M → M) → V → S → S → Type 0
   FullIn fills f v old new = FullBy (In s file holds) fills f v old new
 
@@ -145,6 +158,10 @@ module _ {S V M : Type 0} (s : Ghosts S) (file : V → ℕ) (holds : V → List 
 module _ {S V : Type 0} (s : Ghosts S) (file : V → ℕ) (holds : V → List ℕ → Map → Type 0) where
   abbrev pub FullPutIn : (V → S → S → List ℕ → List ℕ → Type 0) → Mode → List ℕ → List ℕ → V → S → S → Type 0
   FullPutIn lacks mode key value v old new = FullPut s (In s file holds) lacks mode key value v old new
+
+  -- where a key that wasn't held was put into a file with the records of these pairs alone, the file has that of one pair more, behind them
+  abbrev pub FillsMore : (V → List Pair → Type 0) → List ℕ → List ℕ → V → V → S → Type 0
+  FillsMore filled key value v v' old = (m : Map) (ps : List Pair) → In s file holds v old m → get m key ≡ None → filled v ps → filled v' (ps ++ record { key = key; value = value } ∷ [])
 
 -- ---- it may be called again
 

@@ -7,7 +7,7 @@ ghost use Rattle.tc_space.specs.Changes.{all_out, first_in, first_out, has_pair,
 ghost use Rattle.tc_space.specs.Frames.{In, Keeps};
 ghost use Rattle.tc_space.specs.Lists.{FullFrom, FullPutFrom, Made, PacksList, StaysList, StaysPacked};
 ghost use Rattle.tc_space.specs.Refusals.{Blamed, Blames, OnFault, OnlyLogIsFull};
-ghost use Rattle.tc_space.specs.Stores.{AnswersIn, BringsIn, ExistsIn, FullClear, FullPack, PutsIn, ReadsIn, ReadyIn, RefusesIn, TakesIn, Ticks, WritesIn};
+ghost use Rattle.tc_space.specs.Stores.{AnswersIn, BringsIn, ExistsIn, FullClear, FullPack, PacksIn, PutsIn, ReadsIn, ReadyIn, RefusesIn, TakesIn, Ticks, TightIn, TrimsIn, WritesIn};
 
 use crate::errors::{PutErr, RecErr};
 use crate::space::Space;
@@ -43,11 +43,14 @@ pub trait Multi {
     /// So it is of what its file has with no pairs: nothing but that stood in the file, and a record of that had no room.
     ghost lacks_bare: { Self → Self.S → Self.S → Type 0 };
 
-    /// It was packed in this form, and nothing was put or taken out since.
-    ghost tight: { Self → Form → Type 0 };
+    /// It was packed from a file with the first bytes in a form, and its file has the others, which aren't settled yet: so it is as long as it is only read.
+    ghost tight: { Self → List ℕ → Form → List ℕ → Type 0 };
 
-    /// These bytes are a file that is packed in this form.
-    ghost packed: { Form → List ℕ → Type 0 };
+    /// From a file with the first bytes one with the others is packed in a form: no space lies free in it, and it is no longer than what the first held takes in that form.
+    ghost packed: { List ℕ → Form → List ℕ → Type 0 };
+
+    /// How many bytes hold nothing at the end of a file with these bytes.
+    ghost slack: { List ℕ → ℕ };
 
     /// How often the map that it stands on was asked for a key, up to the greatest number.
     ghost gets: { Self → ℕ };
@@ -148,16 +151,18 @@ pub trait Multi {
         ensures steps { Ticks (gets self.old) (gets self.new) steps.old steps.new }
         ensures cause { Blames Self.S.Space result space.old space.new };
 
-    /// Brings what is held in memory to the file, which then stands for the pairs; where it was packed it is a packed file. It is full only where the undo log is.
+    /// Brings what is held in memory to the file, which then stands for the pairs, and ends in what holds something; where it was packed it is a packed file. It is full only where
+    /// the undo log is.
     fn settle(&mut self, space: &mut Self::S) -> Result<(), RecErr>
         requires { ReadyIn Self.S.Space file_of holds self.old space.old }
         ensures settled { OnOk result (WritesIn Self.S.Space file_of holds same self.old self.new space.old space.new) }
         ensures stands { OnOk result (BringsIn Self.S.Space file_of holds (stands (made self.old)) self.old space.old space.new) }
-        ensures packs { OnOk result ((form : Form) (ps : List Pair) → tight self.old form → In Self.S.Space file_of holds self.old space.old ps → packed form (Self.S.now space.new (file_of self.old))) }
+        ensures packs { OnOk result (PacksIn Self.S.Space file_of holds tight packed self.old space.old space.new) }
+        ensures trims { OnOk result (TrimsIn Self.S.Space file_of holds slack self.old space.old space.new) }
         ensures refused { RefusesIn Self.S.Space file_of holds result self.old self.new space.old space.new }
         ensures full { OnlyLogIsFull Self.S.Space result space.new }
         ensures keeps { Keeps Self.S.Space space.old space.new }
-        ensures stays { StaysPacked file_of made tight self.old self.new }
+        ensures stays { StaysList file_of made self.old self.new }
         ensures cause { OnFault Self.S.Space result space.old space.new };
 
     /// Takes all pairs out. What the list was made with stays. It is full only where the undo log is, or where the little that an empty list has in its file had no room.
@@ -174,7 +179,7 @@ pub trait Multi {
     fn pack(&mut self, space: &mut Self::S, form: Form) -> Result<(), RecErr>
         requires { ReadyIn Self.S.Space file_of holds self.old space.old }
         ensures packed { OnOk result (WritesIn Self.S.Space file_of holds same self.old self.new space.old space.new) }
-        ensures tight { OnOk result (tight self.new form) }
+        ensures tight { OnOk result (TightIn Self.S.Space file_of holds tight form self.old self.new space.old space.new) }
         ensures refused { RefusesIn Self.S.Space file_of holds result self.old self.new space.old space.new }
         ensures full { IsErrOf result RecErr.Full → FullPack Self.S.Space lacks_large form self.old space.old space.new }
         ensures keeps { Keeps Self.S.Space space.old space.new }

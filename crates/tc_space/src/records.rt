@@ -1,12 +1,13 @@
 //! A map over one file.
-ghost use Rattle.std.specs.Prelude.{◌≡◌, ◌≤◌, ℕ, List, OnOk, IsErrOf};
+ghost use Rattle.std.specs.Prelude.{◌≡◌, ◌≤◌, ℕ, List, [], OnOk, IsErrOf};
 ghost use Rattle.std.specs.FinMap.{empty, keys, len};
 ghost use Rattle.tc_base.specs.Maps.{Map};
 ghost use Rattle.tc_base.specs.declared.kind.Form.{Form};
+ghost use Rattle.tc_base.specs.declared.seq.Pair.{Pair};
 ghost use Rattle.tc_space.specs.Changes.{is_in, out_of, put_in, same, value_in};
-ghost use Rattle.tc_space.specs.Frames.{GivenUp, In, Keeps};
+ghost use Rattle.tc_space.specs.Frames.{GivenUp, Keeps};
 ghost use Rattle.tc_space.specs.Refusals.{Blamed, Blames, OnFault, OnlyLogIsFull};
-ghost use Rattle.tc_space.specs.Stores.{AnswersIn, BringsIn, CountsGet, ExistsIn, FullPack, FullPutIn, KeepsTight, PacksMap, PutsIn, ReadsIn, ReadyIn, RefusesIn, SetsRegion, StaysMap, TakesIn, WritesIn};
+ghost use Rattle.tc_space.specs.Stores.{AnswersIn, BringsIn, CountsGet, ExistsIn, FillsMore, FullPack, FullPutIn, KeepsTight, PacksIn, PacksMap, PutsIn, ReadsIn, ReadyIn, RefusesIn, SetsRegion, StaysMap, TakesIn, TightIn, TrimsIn, WritesIn};
 
 use crate::errors::{PutErr, RecErr};
 use crate::space::Space;
@@ -42,11 +43,18 @@ pub trait Records {
     /// So it is of a file that was to be written anew in the large form, with the records that it has: its sections or one of these had no room.
     ghost lacks_large: { Self → Self.S → Self.S → Type 0 };
 
-    /// It was packed in this form, and nothing was put or taken out since.
-    ghost tight: { Self → Form → Type 0 };
+    /// Its file has the least room for the records of these pairs, one behind the other, and nothing else: nothing lies free in it. So it is of a store that was emptied, and of
+    /// one that is put into after that, key by new key; no other call tells it.
+    ghost filled: { Self → List Pair → Type 0 };
 
-    /// These bytes are a file that is packed in this form.
-    ghost packed: { Form → List ℕ → Type 0 };
+    /// It was packed from a file with the first bytes in a form, and its file has the others, which aren't settled yet: so it is as long as it is only read, and its region set.
+    ghost tight: { Self → List ℕ → Form → List ℕ → Type 0 };
+
+    /// From a file with the first bytes one with the others is packed in a form: no space lies free in it, and it is no longer than what the first held takes in that form.
+    ghost packed: { List ℕ → Form → List ℕ → Type 0 };
+
+    /// How many bytes hold nothing at the end of a file with these bytes.
+    ghost slack: { List ℕ → ℕ };
 
     /// How often `get` was called, up to the greatest number.
     ghost gets: { Self → ℕ };
@@ -90,6 +98,7 @@ pub trait Records {
     ) -> Result<(), PutErr>
         requires { ReadyIn Self.S.Space file_of holds self.old space.old }
         ensures put { OnOk result (PutsIn Self.S.Space file_of holds mode (value_in key.now) (put_in mode key.now value.now) self.old self.new space.old space.new) }
+        ensures fills { OnOk result (FillsMore Self.S.Space file_of holds filled key.now value.now self.old self.new space.old) }
         ensures exists { IsErrOf result PutErr.Exists → ExistsIn Self.S.Space file_of holds mode (value_in key.now) self.old self.new space.old space.new }
         ensures refused { RefusesIn Self.S.Space file_of holds result self.old self.new space.old space.new }
         ensures full { IsErrOf result PutErr.Full → FullPutIn Self.S.Space file_of holds lacks mode key.now value.now self.old space.old space.new }
@@ -131,24 +140,25 @@ pub trait Records {
         ensures means { (file : List ℕ) (m : Map) → holds self.old file m → holds self.new file m }
         ensures tight { KeepsTight tight self.old self.new };
 
-    /// Brings what is held in memory to the file, which then stands for the map and the region; where it was packed it is a packed file. It is full only where the
-    /// undo log is.
+    /// Brings what is held in memory to the file, which then stands for the map and the region, and ends in what holds something; where it was packed it is a packed file. It is
+    /// full only where the undo log is.
     fn settle(&mut self, space: &mut Self::S) -> Result<(), RecErr>
         requires { ReadyIn Self.S.Space file_of holds self.old space.old }
         ensures settled { OnOk result (WritesIn Self.S.Space file_of holds same self.old self.new space.old space.new) }
         ensures stands { OnOk result (BringsIn Self.S.Space file_of holds (λ bytes m. stands (sort self.old) (numbers self.old) bytes m (region self.old)) self.old space.old space.new) }
-        ensures packs { OnOk result ((form : Form) (m : Map) → tight self.old form → In Self.S.Space file_of holds self.old space.old m → packed form (Self.S.now space.new (file_of self.old))) }
-        ensures tight { KeepsTight tight self.old self.new }
+        ensures packs { OnOk result (PacksIn Self.S.Space file_of holds tight packed self.old space.old space.new) }
+        ensures trims { OnOk result (TrimsIn Self.S.Space file_of holds slack self.old space.old space.new) }
         ensures refused { RefusesIn Self.S.Space file_of holds result self.old self.new space.old space.new }
         ensures full { OnlyLogIsFull Self.S.Space result space.new }
         ensures keeps { Keeps Self.S.Space space.old space.new }
         ensures stays { StaysMap file_of sort numbers region gets self.old self.new }
         ensures cause { OnFault Self.S.Space result space.old space.new };
 
-    /// Takes all keys out. The region stays. It is full only where the undo log is.
+    /// Takes all keys out, and leaves nothing free in the file. The region stays. It is full only where the undo log is.
     fn clear(&mut self, space: &mut Self::S) -> Result<(), RecErr>
         requires { ReadyIn Self.S.Space file_of holds self.old space.old }
         ensures cleared { OnOk result (WritesIn Self.S.Space file_of holds (λ m. empty) self.old self.new space.old space.new) }
+        ensures fills { OnOk result (filled self.new []) }
         ensures refused { RefusesIn Self.S.Space file_of holds result self.old self.new space.old space.new }
         ensures full { OnlyLogIsFull Self.S.Space result space.new }
         ensures keeps { Keeps Self.S.Space space.old space.new }
@@ -159,7 +169,7 @@ pub trait Records {
     fn pack(&mut self, space: &mut Self::S, form: Form) -> Result<(), RecErr>
         requires { ReadyIn Self.S.Space file_of holds self.old space.old }
         ensures packed { OnOk result (WritesIn Self.S.Space file_of holds same self.old self.new space.old space.new) }
-        ensures tight { OnOk result (tight self.new form) }
+        ensures tight { OnOk result (TightIn Self.S.Space file_of holds tight form self.old self.new space.old space.new) }
         ensures refused { RefusesIn Self.S.Space file_of holds result self.old self.new space.old space.new }
         ensures full { IsErrOf result RecErr.Full → FullPack Self.S.Space lacks_large form self.old space.old space.new }
         ensures keeps { Keeps Self.S.Space space.old space.new }

@@ -1,5 +1,6 @@
 use Rattle.std.proofs.Common.{Some, ap, ◌∙◌}
 use Rattle.tc_base.specs.Files.{Files}
+use Rattle.tc_space.specs.Moments.{past_then}
 use Rattle.tc_held.specs.Held.{over}
 use Rattle.tc_held.specs.Lengths.{over_bare}
 use Rattle.tc_held.proofs.Holding.{held_bare}
@@ -32,3 +33,12 @@ pub returns-clause-moments : goal.returns-clause-moments
 returns-clause-moments g c = λ t.
     let old = c.args.self.now in
     commits g.S.Space old.below c.flush.new.self.below c.commit.new.self (over old.held (g.S.Space.now old.below)) (g.S.Space.now c.flush.new.self.below) (c.in_ok-flush.ensures.now t) (c.flush.ensures.keeps.steady t) (c.commit.ensures.moments t)
+
+pub returns-in_err-flush-clause-past : goal.returns-in_err-flush-clause-past
+returns-in_err-flush-clause-past g c = λ t. (c.flush.ensures.keeps.steady t).past
+
+pub returns-in_err-commit-clause-past : goal.returns-in_err-commit-clause-past
+returns-in_err-commit-clause-past g c = λ t. past_then g.S.Space.moment g.S.Space.files_at c.args.self.now.below c.flush.new.self.below c.commit.new.self (c.flush.ensures.keeps.steady t).past (c.commit.ensures.past t)
+
+pub returns-clause-past : goal.returns-clause-past
+returns-clause-past g c = λ t. past_then g.S.Space.moment g.S.Space.files_at c.args.self.now.below c.flush.new.self.below c.commit.new.self (c.flush.ensures.keeps.steady t).past (c.commit.ensures.past t)

@@ -49,5 +49,6 @@ returns-in_err-cut-clause-full g c = λ full.
           let high : 2 ^ 62 < g.S.Batched.logged mid.below + needs size = g.met.S.Batched.no_room mid.below c.args.file c.args.len size (r.by.0 t) in
           omega (arith, high, same, c.in_ok-flush.ensures.logged);
       log = r.by.1;
+      none = none;
       same = λ t f. over_bare mid.held (s.now c.cut.new.self) none f ∙ r.same t f ∙ c.in_ok-flush.ensures.now t f;
     }

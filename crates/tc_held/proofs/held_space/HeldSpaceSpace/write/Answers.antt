@@ -1,7 +1,14 @@
-use Rattle.std.proofs.Common.{◌∙◌, ap, arith, refl, ⊎_elim}
+use Rattle.std.proofs.Common.{◌∙◌, ℕ, List, ap, arith, refl, sym, ⊎_elim}
+use Rattle.tc_base.specs.Files.{wrote}
 use Rattle.tc_space.specs.Frames.{keeps_refl}
+use Rattle.tc_held.specs.Lengths.{shown_is}
 use Rattle.tc_held.proofs.History.{on_off, rises_told, stays_told}
+use Rattle.tc_held.proofs.Shown.{reaches_over}
 use Rattle.tc_held.proofs.held_space.HeldSpaceSpace.write.Goals as goal
+
+pub put-requires-clause-reaches : goal.put-requires-clause-reaches
+put-requires-clause-reaches g c = let old = c.args.self.now in
+    reaches_over g.S.Space g.S.Batched.logged old.below old.held c.requires.sound.held_is c.args.file c.args.at c.requires.reaches
 
 pub returns-then-not-fits-clause-stays : goal.returns-then-not-fits-clause-stays
 returns-then-not-fits-clause-stays g c =
@@ -31,7 +38,17 @@ returns-in-Ok-clause-outcome g c = record {
 }
 
 pub returns-in-Ok-clause-wrote : goal.returns-in-Ok-clause-wrote
-returns-in-Ok-clause-wrote g c = λ t. let w = c.in-Ok.ensures.wrote t in record { here = w.here; others = w.others }
+returns-in-Ok-clause-wrote g c = λ t.
+    let s = g.S.Space in
+    let old = c.args.self.now in
+    let new = c.put.new.self in
+    let w = c.in-Ok.ensures.wrote t in
+    record {
+      here = shown_is s g.S.Batched.logged new.below new.held c.in-Ok.ensures.held t c.args.file ∙ w.here
+          ∙ ap (λ (l : List ℕ). wrote c.args.at c.args.bytes.now l) (sym (shown_is s g.S.Batched.logged old.below old.held c.requires.sound.held_is t c.args.file));
+      others = λ h other. shown_is s g.S.Batched.logged new.below new.held c.in-Ok.ensures.held t h ∙ w.others h other
+          ∙ sym (shown_is s g.S.Batched.logged old.below old.held c.requires.sound.held_is t h);
+    }
 
 pub returns-in-Ok-clause-room : goal.returns-in-Ok-clause-room
 returns-in-Ok-clause-room g c = λ passes.
