@@ -24,6 +24,10 @@ pub record IsSmall (m : Array) : Type 0 where
 abbrev pub CountsWith : Tally → ℕ → Option ℕ → ℕ → Tally → Type 0
 CountsWith t id old long new = (m : Array) (v : List ℕ) → Counts t m → IsSmall m → old ≡ option_map length (get m id) → long ≡ length v → IsSmall (insert m id v) → Counts new (insert m id v)
 
+-- the bytes held with a value of so many bytes for an id, whose old value had so many
+abbrev pub SizeWith : Tally → ℕ → Option ℕ → ℕ → ℕ → Type 0
+SizeWith t id old long size = (m : Array) (v : List ℕ) → Counts t m → IsSmall m → old ≡ option_map length (get m id) → long ≡ length v → IsSmall (insert m id v) → size ≡ bytes_held (insert m id v)
+
 -- what is counted without an id, whose value had so many bytes, where these are the least and the greatest of the others
 abbrev pub CountsWithout : Tally → ℕ → ℕ → ℕ → ℕ → Tally → Type 0
 CountsWithout t id long low high new = (m : Array) (v : List ℕ) → Counts t m → IsSmall m → get m id ≡ Some v → long ≡ length v → low ≡ least (remove m id) → high ≡ greatest (remove m id) → Counts new (remove m id)

@@ -4,7 +4,7 @@ ghost use Rattle.std.specs.FinMap.{empty, get, insert, len};
 ghost use Rattle.std.specs.Fmt.{decimal};
 ghost use Rattle.tc_model.specs.Arrays.{Array};
 ghost use Rattle.tc_model.specs.Arrays as Arrays;
-ghost use Rattle.tc_fixed.specs.Tallies.{Counts, IsSmall, bytes_held, CountsWith, CountsWithout};
+ghost use Rattle.tc_fixed.specs.Tallies.{Counts, IsSmall, SizeWith, CountsWith, CountsWithout};
 
 /// What is counted of the ids and values held.
 #[derive(Clone, Copy, Debug, PartialEq, Eq)]
@@ -60,7 +60,7 @@ impl Tally {
 
     // The bytes of all, with a value of so many bytes for an id.
     fn size_with(&self, id: u64, old: Option<u64>, long: u64) -> u64
-        ensures { (m : Array) (v : List ℕ) → Counts self.now m → IsSmall m → old ≡ option_map length (get m id) → long ≡ length v → IsSmall (insert m id v) → result ≡ bytes_held (insert m id v) }
+        ensures { SizeWith self.now id old long result }
     {
         match old {
             Some(was) => self.size.saturating_sub(was).saturating_add(long),

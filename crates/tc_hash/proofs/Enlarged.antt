@@ -29,7 +29,7 @@ use Rattle.tc_hash.specs.Holding.{Holds}
 use Rattle.tc_hash.specs.declared.hash.Hash.{Hash}
 use Rattle.tc_hash.specs.Keeping.{file_of, holds, size_for, GivesValue, StaysOpen}
 use Rattle.hf_record.specs.Moves.{IsRefusedFor, LacksRoom}
-use Rattle.tc_hash.specs.Packing.{AllIn, ArePairs, IsLargeOf, LacksEnd, LacksLarge, LacksOne, LacksRecord, MakesLarge, PutsPairs, WritesLarge, blocks_long, with_pairs}
+use Rattle.tc_hash.specs.Packing.{AllIn, ArePairs, IsLargeOf, LacksAnew, LacksEnd, LacksOne, LacksRecord, MakesLarge, PutsPairs, WritesLarge, blocks_long, with_pairs}
 use Rattle.tc_hash.proofs.Cleared.{anew_holds, may_be}
 use Rattle.tc_hash.proofs.Created.{new_fields}
 use Rattle.hf_record.proofs.Maps.{insert_here, insert_other, other_test, same_or_not}
@@ -99,7 +99,7 @@ one_before q a b c e = omega (arith, e)
 ends_sum : (a b c x y z : ℕ) → a ≡ b + x → b ≡ c + y → z ≡ y + x → a ≡ c + z
 ends_sum a b c x y z p q r = omega (arith, p, q, r)
 
-blocks_one : (h : Head) (ps : List Pair) (p : Pair) → blocks_long h (ps ++ p ∷ []) ≡ blocks_long h ps + block_len (width h) p.key p.value (unit h)
+pub blocks_one : (h : Head) (ps : List Pair) (p : Pair) → blocks_long h (ps ++ p ∷ []) ≡ blocks_long h ps + block_len (width h) p.key p.value (unit h)
 blocks_one h [] p = none_before (block_len (width h) p.key p.value (unit h))
 blocks_one h (q ∷ ps) p = one_before _ _ _ _ (blocks_one h ps p)
 
@@ -212,11 +212,11 @@ module _ {S : Type 0} (s : Ghosts S) where
   packed_after v v' w a b c reads same_file writes = reads_writes s (In s file_of holds) (Only (file_of v)) same_map_of v v' w a b c reads (subst (λ (f : ℕ). Writes s (Only f) (In s file_of holds) same_map_of v' w b c) same_file writes)
 
   -- a file written anew lacked room, by what was held before what only reads
-  pub large_before : (v v' : Hash S) (a b c : S) → v' ≡ v → (s.tells → (g : ℕ) → s.now b g ≡ s.now a g) → LacksLarge s v' b c → LacksLarge s v a c
+  pub large_before : (v v' : Hash S) (a b c : S) → v' ≡ v → (s.tells → (g : ℕ) → s.now b g ≡ s.now a g) → LacksAnew s v' b c → LacksAnew s v a c
   large_before v v' a b c e now lacks = ⊎_elim
       (λ sections. inl sections)
       (λ one. inr (record { head = one.head; is_new = one.is_new; pairs = one.pairs; are = λ m w. one.are m (w.0, subst (λ (l : List ℕ). holds v l m) (sym (now w.0 v.body.file)) w.1); one = one.one }))
-      (subst (λ (h : Hash S). LacksLarge s h b c) e lacks)
+      (subst (λ (h : Hash S). LacksAnew s h b c) e lacks)
 
   -- so it was written anew with what was held before
   pub writes_before : (v v' w : Hash S) (a b c : S) → v' ≡ v → (s.tells → (g : ℕ) → s.now b g ≡ s.now a g) → WritesLarge s v' w b c → WritesLarge s v w a c

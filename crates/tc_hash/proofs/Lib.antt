@@ -3,7 +3,9 @@ pub mod BlockRows
 pub mod BytesRead
 pub mod Cleared
 pub mod Created
+pub mod Ended
 pub mod Enlarged
+pub mod Filled
 pub mod Fronted
 pub mod Kept
 pub mod Keyed
@@ -16,6 +18,7 @@ pub mod Ordered
 pub mod Packed
 pub mod Reading
 pub mod Records
+pub mod Repacked
 pub mod Sectioned
 pub mod Settled
 pub mod Stored

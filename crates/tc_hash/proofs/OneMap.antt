@@ -20,7 +20,7 @@ module _ (h : Head) (end : ℕ) (own : Frees) (bytes : List ℕ) where
   blocks : (m : Map) (z : HasMap h end own m bytes) → HasBlocks h end z.pieces bytes
   blocks m z = record { on = z.is.laid.on; within = z.is.laid.within; filled = z.is.laid.filled; widths = z.is.widths }
 
-  one_of : (m n : Map) → HasMap h end own m bytes → HasMap h end own n bytes → m ≡ n
+  pub one_of : (m n : Map) → HasMap h end own m bytes → HasMap h end own n bytes → m ≡ n
   one_of m n p q = by_blocks m p ∙ ap map_of (one_blocks h end p.pieces q.pieces bytes (blocks m p) (blocks n q)) ∙ sym (by_blocks n q)
 
 pub one_map : {S : Type 0} (s : Ghosts S) → HoldsOne s

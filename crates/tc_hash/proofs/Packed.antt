@@ -2,7 +2,6 @@
 use Rattle.std.proofs.Common.{◌≡◌, ◌∙◌, ℕ, List, None, refl, sym, ap, subst, arith}
 use Rattle.std.specs.FinMap.{get}
 use Rattle.tc_base.specs.Maps.{Map}
-use Rattle.tc_base.specs.declared.kind.Form.{Form}
 use Rattle.tc_space.specs.Changes.{same}
 use Rattle.tc_space.specs.Frames.{In, OnlyReads, Writes}
 use Rattle.hf_block.specs.declared.block.BlockAt.{BlockAt}
@@ -26,11 +25,9 @@ use Rattle.hf_tree.specs.Standing.{AllHang}
 use Rattle.tc_hash.specs.declared.hash.Hash.{Hash}
 use Rattle.tc_hash.specs.Holding.{Holds}
 use Rattle.tc_hash.specs.Keeping.{file_of, holds, numbers_of}
-use Rattle.tc_hash.specs.Packing.{FillsFront, IsPacked, IsRepacked, IsTight}
+use Rattle.tc_hash.specs.Packing.{FillsFront, IsRepacked}
 use Rattle.tc_hash.specs.Settling.{Settles, head_now}
 use Rattle.tc_hash.specs.Standing.{StandsAs, numbers_in}
-use Rattle.tc_hash.proofs.Tight.{packed_of, still_none}
-use Rattle.hf_pool.specs.Trims.{Trimmed}
 use Rattle.tc_hash.proofs.Kept.{links_head}
 
 abbrev Packing : Head → ℕ → List ℕ → List ℕ → Type 0
@@ -92,13 +89,6 @@ module _ {S : Type 0} (s : Ghosts S) where
       let x = done.brought w.0 m w.1 in
       subst (λ (r : List ℕ). StandsAs v.body.head.kind (numbers_of v) (s.now b v.body.file) m r) region
       (subst (λ (h : Head). StandsAs h.kind (numbers_in h) (s.now b v.body.file) m v'.region) head (record { file = x.stands; numbers_are = ap numbers_in (sym x.stands.is.opens.spells.fields ∙ x.head) }))
-
-  -- where it was packed the file is
-  pub settled_packs : (v v' : Hash S) (a b : S) → v'.body.head ≡ v.body.head → Trimmed (frees_in v.body.pool) (frees_in v'.body.pool) v.body.pool.size v'.body.pool.size → Settles s v v' a b → (form : Form) (m : Map) → IsTight form v → In s file_of holds v a m → IsPacked form (s.now b (file_of v))
-  settled_packs v v' a b head dropped done form m tight w =
-      packed_of form v'.body.head v'.body.pool.size (frees_in v'.body.pool) v'.records v'.region m (s.now b v.body.file) (done.brought w.0 m w.1) (done.front w.0).long
-      (still_none (frees_in v.body.pool) (frees_in v'.body.pool) v.body.pool.size v'.body.pool.size dropped tight.nothing)
-      (λ is. ap (λ (h : Head). h.options) head ∙ tight.large is)
 
   -- the blocks that were listed were packed
   pub packs_blocks : (h : Head) (file : ℕ) (a b c : S) (blocks : List BlockAt) (end : ℕ) → OnlyReads s a b → OfBlocks s h file a (λ ps. AreListed h ps (s.now b file) blocks) → Packs s h file blocks b c end → OfBlocks s h file a (λ ps. IsRepacked h end ps (s.now a file) (s.now c file))

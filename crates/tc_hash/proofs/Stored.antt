@@ -232,7 +232,7 @@ module _ {S : Type 0} (s : Ghosts S) where
   sized_same key value v v' e = ap (λ (h : Head). block_len (width h) key value (unit h)) e
 
   -- a key that isn't held gets a block from the pool as it is
-  takes_fresh : (key : List ℕ) (size most : ℕ) (m n : Map) (v v' : Hash S) (a b : S) → get m key ≡ None → (p : IsPlaced s key size most m n v v' a b) → Takes (reach v.body.head) v.body.pool v'.body.pool size p.place
+  pub takes_fresh : (key : List ℕ) (size most : ℕ) (m n : Map) (v v' : Hash S) (a b : S) → get m key ≡ None → (p : IsPlaced s key size most m n v v' a b) → Takes (reach v.body.head) v.body.pool v'.body.pool size p.place
   takes_fresh key size most m n v v' a b none p = go p.was p.stood p.allocates
     where
       go : (was : Option (ℕ × ℕ)) → Stands v.body.head v.body.pool.size (frees v.body.pool) m key (s.now a v.body.file) was → Allocates (reach v.body.head) size p.place was v.body.pool v'.body.pool → Takes (reach v.body.head) v.body.pool v'.body.pool size p.place

@@ -14,7 +14,8 @@ use Rattle.hf_record.specs.declared.body.Body.{Body}
 use Rattle.tc_hash.specs.declared.hash.Hash.{Hash}
 use Rattle.tc_space.specs.declared.space.Space.{Ghosts}
 use Rattle.tc_hash.specs.Keeping.{SameMap, ShowsRegion}
-use Rattle.tc_hash.specs.Packing.{EndsInRecord, IsPacked, IsTight, MovesRecords, Packs, PacksAs, WritesLarge, options_for}
+use Rattle.tc_hash.specs.Packing.{EndsInRecord, IsPacked, IsTight, LacksAnew, LacksLarge, MovesRecords, Packs, PacksAs, WritesLarge, options_for}
+use Rattle.tc_hash.specs.Repacking.{IsTightFrom}
 use Rattle.tc_hash.specs.Settling.{Brought, head_now}
 
 -- the free blocks at the end were dropped, of none
@@ -30,7 +31,7 @@ none_there : (there pool lent : Option ℕ) → pool ≡ None → lent ≡ None 
 none_there there pool lent nothing unlent (inl pools) = sym pools.0 ∙ nothing
 none_there there pool lent nothing unlent (inr lents) = sym lents.1 ∙ unlent
 
-pub tight_of : {S : Type 0} (f : Form) (old new : Hash S) → Packs (options_for f old) new → IsTight f new
+pub tight_of : {S : Type 0} (f : Form) (old new : Hash S) → Packs (options_for f old) new → IsTight f new.body
 tight_of form.Keep old new packs = record { nothing = packs.nothing; large = λ is. absurd cc }
 tight_of form.Large old new packs = record { nothing = packs.nothing; large = λ is. packs.options_is }
 
@@ -46,21 +47,25 @@ packed_of f h end frees records region m bytes brought long nothing large =
       large = large;
     }
 
--- a file that was packed, whose free blocks and form are the same
-pub tight_same : {S : Type 0} (old new : Hash S) → new.body ≡ old.body → (f : Form) → IsTight f old → IsTight f new
-tight_same old new e f tight =
-    let P : Body → Type 0 = λ b. ((q : ℕ) → frees b.pool q ≡ None) × (f ≡ form.Large → b.head.options ≡ 1) in
-    let p = subst P (sym e) (tight.nothing, tight.large) in
-    record { nothing = p.0; large = p.1 }
+-- what was packed is so as long as its free blocks and its form stay
+pub tight_same : (old new : Body) → new ≡ old → (from : List ℕ) (f : Form) (bytes : List ℕ) → IsTightFrom from f old bytes → IsTightFrom from f new bytes
+tight_same old new e from f bytes tight = subst (λ (b : Body). IsTightFrom from f b bytes) (sym e) tight
 
--- whose free blocks at the end were dropped
-pub tight_trimmed : {S : Type 0} (old new : Hash S) → new.body.head ≡ old.body.head → Trimmed (frees old.body.pool) (frees new.body.pool) old.body.pool.size new.body.pool.size → (f : Form) → IsTight f old → IsTight f new
+-- and once free blocks at its end were dropped
+pub tight_trimmed : (old new : Body) → new.head ≡ old.head → Trimmed (frees old.pool) (frees new.pool) old.pool.size new.pool.size → (f : Form) → IsTight f old → IsTight f new
 tight_trimmed old new head trimmed f tight = record {
-  nothing = still_none (frees old.body.pool) (frees new.body.pool) old.body.pool.size new.body.pool.size trimmed tight.nothing;
+  nothing = still_none (frees old.pool) (frees new.pool) old.pool.size new.pool.size trimmed tight.nothing;
   large = λ is. ap (λ (h : Head). h.options) head ∙ tight.large is;
 }
 
 -- ---- how it was packed
+
+is_small : (h : Head) → is_large h ≡ false → h.options ≡ 1 → ⊥
+is_small h small one = let e : true ≡ false = sym (eq-eqb h.options 1 one) ∙ small in cc
+
+-- a small file had no room in the large form
+pub lacks_large : {S : Type 0} (s : Ghosts S) (v : Hash S) (a b : S) → is_large v.body.head ≡ false → LacksAnew s v a b → LacksLarge s v a b
+lacks_large s v a b small lacks = record { small = is_small v.body.head small; anew = lacks }
 
 module _ {S : Type 0} (s : Ghosts S) (f : Form) (v v' : Hash S) (a b : S) where
   -- in the form that it has
@@ -75,7 +80,7 @@ module _ {S : Type 0} (s : Ghosts S) (f : Form) (v v' : Hash S) (a b : S) where
   pub enlarged_as : f ≡ form.Large → is_large v.body.head ≡ false → WritesLarge s v v' a b → PacksAs f s v v' a b
   enlarged_as asked small writes = record {
     packs = record { nothing = writes.packs.nothing; options_is = writes.packs.options_is ∙ sym (ap (λ (x : Form). options_for x v) asked) };
-    fills = inr (record { asked = asked; small = λ one. (let e : true ≡ false = sym (eq-eqb v.body.head.options 1 one) ∙ small in cc); writes = writes });
+    fills = inr (record { asked = asked; small = is_small v.body.head small; writes = writes });
     region = λ t shows. writes.region t;
   }
 

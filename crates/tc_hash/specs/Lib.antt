@@ -1,5 +1,6 @@
 pub mod Bringing
 pub mod Creating
+pub mod Ending
 pub mod Fronts
 pub mod Holding
 pub mod Keeping
@@ -7,6 +8,7 @@ pub mod Listed
 pub mod Opening
 pub mod Packing
 pub mod Putting
+pub mod Repacking
 pub mod Sections
 pub mod Settling
 pub mod Standing

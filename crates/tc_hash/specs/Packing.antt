@@ -7,7 +7,7 @@ use Rattle.tc_base.specs.declared.kind.Form.TheVariants as form
 use Rattle.tc_base.specs.declared.seq.Pair.{Pair}
 use Rattle.tc_space.specs.declared.space.Space.{Ghosts}
 use Rattle.hf_head.specs.declared.head.Head.{Head}
-use Rattle.hf_head.specs.Heads.{head_in, unit}
+use Rattle.hf_head.specs.Heads.{head_in, sections, unit}
 use Rattle.hf_block.specs.Pieces.{Piece}
 use Rattle.hf_block.specs.Written.{block_len}
 use Rattle.hf_layout.specs.Frees.{Frees}
@@ -20,6 +20,7 @@ use Rattle.hf_tree.specs.Standing.{AllHang}
 use Rattle.tc_hash.specs.declared.hash.Hash.{Hash}
 use Rattle.tc_hash.specs.Creating.{IsNew}
 use Rattle.tc_hash.specs.Keeping.{KeepsHead, Means, SameMap, ShowsRegion, Turns}
+use Rattle.hf_record.specs.declared.body.Body.{Body}
 use Rattle.hf_record.specs.Moves.{IsRefusedFor}
 
 -- no free block is left, and this is the form of the file
@@ -28,9 +29,9 @@ pub record Packs {S : Type 0} (options : ℕ) (h : Hash S) : Type 0 where
   pub options_is : h.body.head.options ≡ options
 
 -- of this form, with no free block
-pub record IsTight {S : Type 0} (f : Form) (h : Hash S) : Type 0 where
-  pub nothing : (q : ℕ) → frees h.body.pool q ≡ None
-  pub large : f ≡ form.Large → h.body.head.options ≡ 1
+pub record IsTight (f : Form) (b : Body) : Type 0 where
+  pub nothing : (q : ℕ) → frees b.pool q ≡ None
+  pub large : f ≡ form.Large → b.head.options ≡ 1
 
 -- a file of this form that has just the size that its head says, and whose blocks are all those of records
 pub record IsPacked (f : Form) (bytes : List ℕ) : Type 0 where
@@ -107,6 +108,12 @@ abbrev pub blocks_long : Head → List Pair → ℕ
 blocks_long h [] = 0
 blocks_long h (p ∷ ps) = block_len (width h) p.key p.value (unit h) + blocks_long h ps
 
+-- the first block's place is the least one behind the sections of a file, the blocks of pairs, each the least one that holds its pair, fill it from there on, and none is free
+pub record IsFilledWith {S : Type 0} (h : Hash S) (pairs : List Pair) : Type 0 where
+  pub nothing : (q : ℕ) → frees h.body.pool q ≡ None
+  pub least : h.body.head.first < sections h.body.head + unit h.body.head
+  pub ends : h.body.pool.size ≡ h.body.head.first + blocks_long h.body.head pairs
+
 -- the blocks of the pairs of a map, each the least one that holds its pair, fill a file from the first block's place on up to an end
 pub record FillsLeast (h : Head) (end : ℕ) (m : Map) : Type 0 where
   pub pairs : List Pair
@@ -180,8 +187,13 @@ pub record LacksRecord {S : Type 0} (s : Ghosts S) (h : Hash S) (old new : S) : 
   pub one : LacksOne s head h.body.file head.first new pairs
 
 -- a file written anew in the large form had no room
-abbrev pub LacksLarge : {S : Type 0} → Ghosts S → Hash S → S → S → Type 0
-LacksLarge s h old new = LacksSections s h new ⊎ LacksRecord s h old new
+abbrev pub LacksAnew : {S : Type 0} → Ghosts S → Hash S → S → S → Type 0
+LacksAnew s h old new = LacksSections s h new ⊎ LacksRecord s h old new
+
+-- so it was of a small one: the blocks of a large one are moved
+pub record LacksLarge {S : Type 0} (s : Ghosts S) (h : Hash S) (old new : S) : Type 0 where
+  pub small : h.body.head.options ≡ 1 → ⊥
+  pub anew : LacksAnew s h old new
 
 -- a packing had none, in the form that a file has only since the undo log is full
 abbrev pub LacksPacking : {S : Type 0} → Form → Ghosts S → Hash S → S → S → Type 0

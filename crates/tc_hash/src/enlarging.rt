@@ -12,7 +12,7 @@ ghost use Rattle.hf_record.specs.Fields.{HasFields};
 ghost use Rattle.hf_record.specs.Holding.{Has};
 ghost use Rattle.tc_hash.specs.Creating.{IsNew};
 ghost use Rattle.tc_hash.specs.Keeping.{CanCall, Means, Refused, StaysOpen, Turns};
-ghost use Rattle.tc_hash.specs.Packing.{AddsPair, ArePairs, LacksLarge, LacksOne, LacksSections, LeavesHead, MakesLarge, PutsPairs, StaysNumbered, WritesLarge};
+ghost use Rattle.tc_hash.specs.Packing.{AddsPair, ArePairs, LacksAnew, LacksOne, LacksSections, LeavesHead, MakesLarge, PutsPairs, StaysNumbered, WritesLarge};
 
 use crate::clearing::{head_with, write_anew};
 use crate::create::{PIECE, new_head, new_pool};
@@ -120,7 +120,7 @@ impl<S: Space> Hash<S> {
         requires pairs { (m : Map) → Means S.Space self.old space.old m → ArePairs m (keys m) pairs.now }
         ensures packed { OnOk result (Turns S.Space same self.old self.new space.old space.new) }
         ensures refused { OnErr result (Refused S.Space self.old self.new space.old space.new) }
-        ensures full { IsErrOf result RecErr.Full → S.tells → S.log_full space.new ⊎ LacksLarge S.Space self.old space.old space.new }
+        ensures full { IsErrOf result RecErr.Full → S.tells → S.log_full space.new ⊎ LacksAnew S.Space self.old space.old space.new }
         ensures keeps { Keeps S.Space space.old space.new }
         ensures stays { StaysNumbered self.old self.new }
         ensures left { OnErr result (LeavesHead S.Space self.old self.new space.new) }
@@ -138,7 +138,7 @@ impl<S: Space> Hash<S> {
         requires { CanCall S.Space self.old space.old }
         ensures packed { OnOk result (Turns S.Space same self.old self.new space.old space.new) }
         ensures refused { OnErr result (Refused S.Space self.old self.new space.old space.new) }
-        ensures full { IsErrOf result RecErr.Full → S.tells → S.log_full space.new ⊎ LacksLarge S.Space self.old space.old space.new }
+        ensures full { IsErrOf result RecErr.Full → S.tells → S.log_full space.new ⊎ LacksAnew S.Space self.old space.old space.new }
         ensures keeps { Keeps S.Space space.old space.new }
         ensures stays { StaysNumbered self.old self.new }
         ensures left { OnErr result (LeavesHead S.Space self.old self.new space.new) }

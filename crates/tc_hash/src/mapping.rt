@@ -1,6 +1,8 @@
 //! A hash file as a map over one file.
+ghost use Rattle.tc_hash.specs.Ending.{slack_in};
 ghost use Rattle.tc_hash.specs.Keeping.{LacksRecordOf, file_of, gets_of, holds, lacks_still, numbers_of, region_of, sort_of};
-ghost use Rattle.tc_hash.specs.Packing.{IsPacked, IsTight, LacksLarge};
+ghost use Rattle.tc_hash.specs.Packing.{IsFilledWith, LacksLarge};
+ghost use Rattle.tc_hash.specs.Repacking.{IsPackedFrom, WasPacked};
 ghost use Rattle.tc_hash.specs.Standing.{StandsAs};
 
 use crate::hash::Hash;
@@ -26,9 +28,13 @@ impl<S: Space> Records for Hash<S> {
 
     ghost lacks_large = { LacksLarge S.Space };
 
-    ghost tight = { λ h form. IsTight form h };
+    ghost filled = { λ h ps. IsFilledWith h ps };
 
-    ghost packed = { IsPacked };
+    ghost tight = { WasPacked };
+
+    ghost packed = { IsPackedFrom };
+
+    ghost slack = { slack_in };
 
     ghost gets = { gets_of };
 

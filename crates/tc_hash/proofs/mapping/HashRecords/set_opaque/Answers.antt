@@ -3,4 +3,4 @@ use Rattle.tc_hash.proofs.Tight.{tight_same}
 use Rattle.tc_hash.proofs.mapping.HashRecords.set_opaque.Goals as goal
 
 pub returns-clause-tight : goal.returns-clause-tight
-returns-clause-tight g c = tight_same c.args.self.now _ refl
+returns-clause-tight g c = tight_same c.args.self.now.body _ refl
