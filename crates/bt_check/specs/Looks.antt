@@ -50,7 +50,7 @@ module _ {S V : Type 0} (s : Ghosts S) (r : Store V S) where
   AsksFor n v v' space = (m : Map) → In s r.file_of r.holds v space m → r.gets v' ≤ r.gets v + n * len m
 
   pub looks_refl : (v : V) (a : S) → s.sound a → Looks s r v v a a
-  looks_refl v a sound = record { reads = reads_refl s (In s r.file_of r.holds) v a sound; keeps = keeps_refl s a; file = refl; sort_same = refl; numbers_same = refl; region_same = refl; tight = λ form is. is }
+  looks_refl v a sound = record { reads = reads_refl s (In s r.file_of r.holds) v a sound; keeps = keeps_refl s a; file = refl; sort_same = refl; numbers_same = refl; region_same = refl; tight = λ from form bytes is. is }
 
   pub looks_then : (u v w : V) (a b c : S) → Looks s r u v a b → Looks s r v w b c → Looks s r u w a c
   looks_then u v w a b c first second = record {
@@ -60,5 +60,5 @@ module _ {S V : Type 0} (s : Ghosts S) (r : Store V S) where
     sort_same = second.sort_same ∙ first.sort_same;
     numbers_same = second.numbers_same ∙ first.numbers_same;
     region_same = second.region_same ∙ first.region_same;
-    tight = λ form is. second.tight form (first.tight form is);
+    tight = λ from form bytes is. second.tight from form bytes (first.tight from form bytes is);
   }

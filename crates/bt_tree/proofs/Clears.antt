@@ -12,7 +12,7 @@ use Rattle.tc_base.specs.declared.order.Order.{Ghosts as Orders}
 use Rattle.tc_base.specs.declared.seq.Pair.{Pair}
 use Rattle.tc_space.specs.Changes.{put_in, value_in}
 use Rattle.tc_space.specs.Frames.{GivenUp, Keeps, Reads, Refuses, keeps_then}
-use Rattle.tc_space.specs.Stores.{FullPutIn, PutsIn, ReadyIn, WritesIn}
+use Rattle.tc_space.specs.Stores.{FillsMore, FullPutIn, PutsIn, ReadyIn, WritesIn}
 use Rattle.tc_space.specs.declared.records.Records.{Ghosts as Stores}
 use Rattle.tc_space.specs.declared.space.Space.{Ghosts}
 use Rattle.bt_page.specs.Keys.{key_of, node_offset}
@@ -38,7 +38,7 @@ use Rattle.bt_ways.specs.Removals.{no_items}
 use Rattle.bt_ways.specs.Writes.{put_at}
 use Rattle.bt_ways.proofs.Counts.{held_none, held_some, puts, times_none, times_one}
 use Rattle.bt_tree.specs.declared.tree.Tree.{Tree}
-use Rattle.bt_tree.specs.Clearing.{LacksCleared, LacksColumn, Strips, no_pages, with_column}
+use Rattle.bt_tree.specs.Clearing.{FillsColumn, LacksCleared, LacksColumn, Strips, StripsFile, column_pairs, no_pages, with_column}
 use Rattle.bt_tree.specs.Inserting.{AddsAnew}
 use Rattle.bt_tree.specs.Meaning.{Changes, IsOpen, Means}
 use Rattle.bt_tree.specs.Paging.{IsShown, Shows, StaysStill}
@@ -57,6 +57,12 @@ module _ {S V : Type 0} (s : Ghosts S) (R : Stores V S) where
 
   pub column_some : (column : Option (List ℕ)) (bytes : List ℕ) (v w : V) (a b : S) → column ≡ Some bytes → PutsIn s R.file_of R.holds Over (value_in column_key) (put_in Over column_key bytes) v w a b → WritesIn s R.file_of R.holds (with_column column) v w a b
   column_some column bytes v w a b is put = subst (λ (c : Option (List ℕ)). WritesIn s R.file_of R.holds (with_column c) v w a b) (sym is) put.writes
+
+  pub fills_none : (column : Option (List ℕ)) (v : V) (a : S) → column ≡ None → FillsColumn s R column v v a
+  fills_none column v a is h filled = subst (λ (c : Option (List ℕ)). R.filled v (column_pairs c)) (sym is) filled
+
+  pub fills_some : (column : Option (List ℕ)) (bytes : List ℕ) (v w : V) (a : S) → column ≡ Some bytes → FillsMore s R.file_of R.holds R.filled column_key bytes v w a → FillsColumn s R column v w a
+  fills_some column bytes v w a is more h filled = subst (λ (c : Option (List ℕ)). R.filled w (column_pairs c)) (sym is) (more empty [] h (get-empty (slice_cmp nat_cmp) column_key) filled)
 
 module _ {S V : Type 0} (s : Ghosts S) (R : Stores V S) (still : (v : V) (a b c : S) (key value : List ℕ) → GivenUp s b c → R.lacks v a b key value → R.lacks v a c key value) where
   -- a lack stays once the space was given up
@@ -172,19 +178,24 @@ module _ {S V O : Type 0} (s : Ghosts S) (R : Stores V S) where
     others = record { same = λ told g other. put.others.same told g (λ is. other (is ∙ file)) ∙ clear.others.same told g other };
   }
 
+  pub strip_fills : (t : Tree V O) (v w : V) (a b : S) → IsShown s R t a → WritesIn s R.file_of R.holds (λ m. empty) t.store v a b → R.filled v [] → FillsColumn s R t.column v w b → s.tells → R.filled w (column_pairs t.column)
+  strip_fills t v w a b ready clear bare fills told = let h = ready.held told in fills (clear.means h.1.1.records (told, h.1.1.store)) bare
+
   module _ (still : (v : V) (a b c : S) (key value : List ℕ) → GivenUp s b c → R.lacks v a b key value → R.lacks v a c key value) where
-    pub lacks_column : (t : Tree V O) (v : V) (a b d e : S) → IsShown s R t a → WritesIn s R.file_of R.holds (λ m. empty) t.store v a b → SameStore R t.store v → Keeps s a b → Keeps s b d → GivenUp s d e → LacksColumn s R t.column v b d → LacksCleared s R t a e
-    lacks_column t v a b d e ready clear made since put given lacks = inl (record {
+    pub lacks_column : (t : Tree V O) (v : V) (a b d e : S) → IsShown s R t a → WritesIn s R.file_of R.holds (λ m. empty) t.store v a b → R.filled v [] → SameStore R t.store v → Keeps s a b → Keeps s b d → GivenUp s d e → LacksColumn s R t.column v b d → LacksCleared s R t a e
+    lacks_column t v a b d e ready clear bare made since put given lacks = inl (record {
       store = v;
       moment = b;
       made = made;
       since = since;
       until = keeps_then s b d e put given.keeps;
       held = empty;
+      pairs = [];
       key = column_key;
       bytes = lacks.0;
-      first = inl (refl, refl, lacks.1);
+      first = inl (refl, refl, refl, lacks.1);
       holds = λ told. let h = ready.held told in clear.means h.1.1.records (told, h.1.1.store);
+      filled = λ told. bare;
       by = lacks_on s R still column_key lacks.0 v b d e given lacks.2;
     })
 
@@ -204,18 +215,20 @@ module _ {S V O : Type 0} (s : Ghosts S) (R : Stores V S) (o : Orders O) (t x : 
     pub leaf_ready : IsOpen s R o t a → ReadyBeside s R x.cache x.store b
     leaf_ready ready = record { sound = strips.sound; held = λ told. let h = ready.held told in (with_column t.column empty, strips.means h.1.1.records ((told, h.1.1.store), h.1.1.same)) }
 
-    pub lacks_lone : ((v : V) (p q r : S) (key value : List ℕ) → GivenUp s q r → R.lacks v p q key value → R.lacks v p r key value) → IsOpen s R o t a → (d e : S) → Keeps s b d → GivenUp s d e → LacksKey s R t.head.first (leaf_bytes no_items) x.store b d → LacksCleared s R t a e
-    lacks_lone stays ready d e put given lacks = inl (record {
+    pub lacks_lone : ((v : V) (p q r : S) (key value : List ℕ) → GivenUp s q r → R.lacks v p q key value → R.lacks v p r key value) → StripsFile s R t x → IsOpen s R o t a → (d e : S) → Keeps s b d → GivenUp s d e → LacksKey s R t.head.first (leaf_bytes no_items) x.store b d → LacksCleared s R t a e
+    lacks_lone stays fills ready d e put given lacks = inl (record {
       store = x.store;
       moment = b;
       made = still.made;
       since = still.keeps;
       until = keeps_then s b d e put given.keeps;
       held = with_column t.column empty;
+      pairs = column_pairs t.column;
       key = key_of t.head.first;
       bytes = leaf_bytes no_items;
-      first = inr (refl, refl, refl);
+      first = inr (refl, refl, refl, refl);
       holds = λ told. let h = ready.held told in (strips.means h.1.1.records ((told, h.1.1.store), h.1.1.same)).0;
+      filled = fills;
       by = lacks_on s R stays (key_of t.head.first) (leaf_bytes no_items) x.store b d e given lacks;
     })
 

@@ -26,10 +26,10 @@ use Rattle.bt_ways.proofs.Keys.{all_map, all_part}
 use Rattle.bt_ways.proofs.HeldWays.{WayAbove, way_node, way_parted, way_same}
 use Rattle.bt_ways.proofs.Spots.{got_at}
 use Rattle.bt_tree.specs.declared.tree.Tree.{Tree}
-use Rattle.bt_tree.specs.Climbing.{CanClimb, Divided, FillsWay, Grows, HasWay, IsAmong, IsFullWay, IsKnownNode, IsNodeOf, IsSection, IsWayNode, IsWayOf, LacksNodeIds, LacksWayNode, ShowsWay, StoodIn, TurnsClimbed, TurnsDivided, WritesKnown, entry_key, last_below}
+use Rattle.bt_tree.specs.Climbing.{CanClimb, Divided, FillsWay, Grows, HasWay, IsAmong, IsFullWay, IsKnownNode, IsNodeOf, IsOneOrNext, IsSection, IsWayId, IsWayOf, LacksNodeIds, LacksWayNode, ShowsWay, StoodIn, TurnsClimbed, TurnsDivided, WritesKnown, entry_key, last_below, way_most}
 use Rattle.bt_tree.specs.Meaning.{file_in}
-use Rattle.bt_tree.specs.Paging.{ComesAnew, ComesFrom, FillsIds, HasNodeAt, IsNodeId, IsPageOf, IsShown, LacksPage, NodesUsedUp, Peeks, PutsAt, Shows, StaysStill}
-use Rattle.bt_tree.proofs.Pagings.{Gives, IsMoved, anew_over, anew_put, anew_then, fills_node, fills_none, fills_on, fills_then, lacks_after, looked_shows, more_shows, moved_column, moved_head, moved_height, moved_pages, moved_store, node_fresh, node_given, others_at, put_all, put_here, put_other, same_store_at, some_node}
+use Rattle.bt_tree.specs.Paging.{ComesAnew, ComesFrom, FillsIds, HasNodeAt, IsNext, IsNodeId, IsOwn, IsPageOf, IsShown, LacksSeen, LacksThis, NodesUsedUp, Peeks, PutsAt, Shows, StaysStill}
+use Rattle.bt_tree.proofs.Pagings.{Gives, IsMoved, anew_over, anew_put, anew_then, came_own, came_stood, fills_node, fills_none, fills_on, fills_then, looked_shows, more_shows, moved_column, moved_head, moved_height, moved_pages, moved_store, next_more, node_fresh, node_given, noted_shows, old_or, others_at, own_more, put_all, put_here, put_other, same_store_at, seen_after, seen_still, shown_given, some_node, stood_at}
 
 -- a list is what is in front of a place, the one there and what is behind it
 pub cut_around : (xs front back : List NodeEntry) (i n child : ℕ) (key : List ℕ) → i < length xs → n ≡ length xs → ((e : NodeEntry) → slice_get xs i ≡ Some e → child ≡ e.child) → ((e : NodeEntry) → slice_get xs i ≡ Some e → key ≡ e.key)
@@ -121,9 +121,14 @@ section_back heir entries front back up cut = record {
 
 -- ---- pages that agree along a way
 
-pub way_back : (limit : ℕ) (old new : PageMap) (root : ℕ) (path : List (ℕ × ℕ)) (added : List NodeEntry) (n : Node) → AllByRecursion (λ (step : ℕ × ℕ). new step.0 ≡ old step.0) path → IsWayOf limit new root path added n → IsWayOf limit old root path added n
-way_back limit old new root [] added n same is = is
-way_back limit old new root (step ∷ path) added n same is = (is.0, sym same.0 ∙ is.1, ⊎_elim (λ own. inl own) (λ up. inr (up.0, up.1, up.2, way_back limit old new root path (up.0 ∷ []) n same.1 up.3)) is.2)
+pub way_back : (limit most : ℕ) (old new : PageMap) (root : ℕ) (path : List (ℕ × ℕ)) (added : List NodeEntry) (n : Node) → AllByRecursion (λ (step : ℕ × ℕ). new step.0 ≡ old step.0) path → IsWayOf limit most new root path added n → IsWayOf limit most old root path added n
+way_back limit most old new root [] added n same is = is
+way_back limit most old new root (step ∷ path) added n same is = (is.0, sym same.0 ∙ is.1, ⊎_elim (λ own. inl own) (λ up. inr (up.0, up.1, up.2, up.3, way_back limit most old new root path (up.0 ∷ []) n same.1 up.4)) is.2)
+
+-- and where more ids may be given
+pub way_more : (limit a b : ℕ) (pages : PageMap) (root : ℕ) (path : List (ℕ × ℕ)) (added : List NodeEntry) (n : Node) → a ≤ b → IsWayOf limit a pages root path added n → IsWayOf limit b pages root path added n
+way_more limit a b pages root [] added n le is = is
+way_more limit a b pages root (step ∷ path) added n le is = (is.0, is.1, ⊎_elim (λ own. inl own) (λ up. inr (up.0, up.1, up.2, (up.3.0, omega (arith, up.3.1, le)), way_more limit a b pages root path (up.0 ∷ []) n le up.4)) is.2)
 
 pub full_back : (limit : ℕ) (old new : PageMap) (more n : ℕ) (path : List (ℕ × ℕ)) → AllByRecursion (λ (step : ℕ × ℕ). new step.0 ≡ old step.0) path → IsFullWay limit new more n path → IsFullWay limit old more n path
 full_back limit old new more zero path same full = tt
@@ -163,6 +168,15 @@ nodes_stay limit old new only j none = ⊎_elim
     clash n e = cc
 
 -- a page once one was put
+pub put_where : (pages : PageMap) (id j : ℕ) (page p : Page) → put_at id page pages j ≡ Some p → ((j ≡ id) × (p ≡ page)) ⊎ (pages j ≡ Some p)
+put_where pages id j page p is = ⊎_elim
+    (λ (here : j ≡ id). inl (here, same (sym is ∙ ap (put_at id page pages) here ∙ put_here pages id page)))
+    (λ (other : j ≡ id → ⊥). inr (sym (put_other pages id page j other) ∙ is))
+    (cases_eq j id)
+  where
+    same : Some p ≡ Some page → p ≡ page
+    same e = cc
+
 pub put_either : (pages : PageMap) (id j : ℕ) (page p : Page) → put_at id page pages j ≡ Some p → (p ≡ page) ⊎ (pages j ≡ Some p)
 put_either pages id j page p is = ⊎_elim
     (λ (same : j ≡ id). inl (one (sym is ∙ ap (put_at id page pages) same ∙ put_here pages id page)))
@@ -173,11 +187,36 @@ put_either pages id j page p is = ⊎_elim
     one e = cc
 
 -- where one such node was written, each page is an old one or such a node
-pub one_known : (limit root : ℕ) (path : List (ℕ × ℕ)) (added : List NodeEntry) (pages : PageMap) (id : ℕ) (n : Node) → IsKnownNode limit root path added pages (node_page n) → WritesKnown limit root path added pages (put_at id (node_page n) pages)
-one_known limit root path added pages id n known j p is = ⊎_elim
-    (λ (here : p ≡ node_page n). inr (subst (λ (q : Page). IsKnownNode limit root path added pages q) (sym here) known))
+pub one_known : (limit most root : ℕ) (path : List (ℕ × ℕ)) (added : List NodeEntry) (pages : PageMap) (id : ℕ) (n : Node) → IsKnownNode limit most root path added pages (node_page n) → WritesKnown limit most root path added pages (put_at id (node_page n) pages)
+one_known limit most root path added pages id n known j p is = ⊎_elim
+    (λ (here : p ≡ node_page n). inr (subst (λ (q : Page). IsKnownNode limit most root path added pages q) (sym here) known))
     (λ (old : pages j ≡ Some p). inl old)
     (put_either pages id j (node_page n) p is)
+
+-- the second of two halves, and the first
+upper_node : (below : ℕ) (entries front back : List NodeEntry) (heir : ℕ) (up : NodeEntry) → entries ≡ front ++ up ∷ back → length front ≡ length entries / 2 → heir ≡ up.child
+    → (p : Page) → p ≡ node_page (record { heir = heir; entries = back }) → IsNodeOf (length entries / 2) below entries p
+upper_node below entries front back heir up cut half under p e = (
+  record { heir = heir; entries = back },
+  e,
+  half_back entries front back up cut half,
+  (keys_cut entries front back up cut).1.1,
+  subst (λ (n : ℕ). IsSection below entries (record { heir = n; entries = back })) (sym under) (section_back below entries front back up cut),
+)
+
+lower_node : (below : ℕ) (entries front back : List NodeEntry) (heir : ℕ) (up : NodeEntry) → entries ≡ front ++ up ∷ back → length front ≡ length entries / 2 → heir ≡ below
+    → (p : Page) → p ≡ node_page (record { heir = heir; entries = front }) → IsNodeOf (length entries / 2) below entries p
+lower_node below entries front back heir up cut half under p e = (
+  record { heir = heir; entries = front },
+  e,
+  half_front entries front back up cut half,
+  (keys_cut entries front back up cut).0,
+  subst (λ (n : ℕ). IsSection below entries (record { heir = n; entries = front })) (sym under) (section_front below entries front back up cut),
+)
+
+-- the next id
+next_own : (h : TreeHead) (second i : ℕ) → second ≡ node_offset + (h.node_ids + 1) → i ≡ second → IsNext h 0 1 i
+next_own h second i given e = inr (omega (arith, given, e), omega (arith, given, e))
 
 module _ {S V O : Type 0} (s : Ghosts S) (R : Stores V S) where
   pub divided : (t u v w : Tree V O) (a b d : S) (id second heir : ℕ) (entries front back : List NodeEntry) (up : NodeEntry) (above : List NodeEntry)
@@ -199,6 +238,7 @@ module _ {S V O : Type 0} (s : Ghosts S) (R : Stores V S) where
               front = front;
               up = up;
               back = back;
+              next_id = given;
               fresh = node_fresh t.head h.1.records pages second h.1.head h.1.held (omega (arith, given));
               cut = cut;
               half = half;
@@ -224,25 +264,35 @@ module _ {S V O : Type 0} (s : Ghosts S) (R : Stores V S) where
   -- ---- no room for one of its nodes
 
   module _ where
-    pub lacks_upper : (t u : Tree V O) (a b : S) (below : ℕ) (entries front back : List NodeEntry) {heir : ℕ} (up : NodeEntry) {k : TreeHead} → u ≡ record t { head = k } → entries ≡ front ++ up ∷ back → length front ≡ length entries / 2 → heir ≡ up.child
-        → LacksPage s R (λ p. p ≡ node_page (record { heir = heir; entries = back })) u.store a b → LacksPage s R (IsNodeOf (length entries / 2) below entries) t.store a b
-    lacks_upper t u a b below entries front back {heir} up noted cut half under l =
-        lacks_after s R (λ p. p ≡ node_page (record { heir = heir; entries = back })) (IsNodeOf (length entries / 2) below entries) t.store u.store a a b (keeps_refl s a) (same_store_at s R t.store u.store (ap (λ (x : Tree V O). x.store) noted))
-        (λ p e. (record { heir = heir; entries = back }, e, half_back entries front back up cut half, (keys_cut entries front back up cut).1.1, subst (λ (n : ℕ). IsSection below entries (record { heir = n; entries = back })) (sym under) (section_back below entries front back up cut))) l
+    pub lacks_upper : (t u : Tree V O) (a b : S) (id second below : ℕ) (entries front back : List NodeEntry) {heir : ℕ} (up : NodeEntry) {k : TreeHead} → second ≡ node_offset + (t.head.node_ids + 1) → u ≡ record t { head = k } → Gives t.head k → entries ≡ front ++ up ∷ back → length front ≡ length entries / 2 → heir ≡ up.child
+        → LacksThis s R second (node_page (record { heir = heir; entries = back })) u a b → LacksSeen s R (Shows s R t a) (IsOneOrNext id t.head) (λ pages p. IsNodeOf (length entries / 2) below entries p) t a b
+    lacks_upper t u a b id second below entries front back {heir} up given noted gives cut half under l =
+        seen_still s R (Shows s R u a) (Shows s R t a) (λ pages i. i ≡ second) (IsOneOrNext id t.head) (λ pages p. p ≡ node_page (record { heir = heir; entries = back })) (λ pages p. IsNodeOf (length entries / 2) below entries p) t u a a b (keeps_refl s a)
+        (same_store_at s R t.store u.store (ap (λ (x : Tree V O). x.store) noted)) (ap (λ (x : Tree V O). x.column) noted) (λ pages h. noted_shows s R t u a noted gives pages h) (λ pages h i e. inr (next_own t.head second i given e)) (λ p pages h e. upper_node below entries front back heir up cut half under p e) l
 
-    pub lacks_lower : (t u v : Tree V O) (a b d : S) (below : ℕ) (entries front back : List NodeEntry) {heir : ℕ} (up : NodeEntry) {k : TreeHead} → u ≡ record t { head = k } → entries ≡ front ++ up ∷ back → length front ≡ length entries / 2 → heir ≡ below
-        → StaysStill s R u v a b → LacksPage s R (λ p. p ≡ node_page (record { heir = heir; entries = front })) v.store b d → LacksPage s R (IsNodeOf (length entries / 2) below entries) t.store a d
-    lacks_lower t u v a b d below entries front back {heir} up noted cut half under still l =
-        lacks_after s R (λ p. p ≡ node_page (record { heir = heir; entries = front })) (IsNodeOf (length entries / 2) below entries) t.store v.store a b d still.keeps
-        (same_store_then R t.store u.store v.store (same_store_at s R t.store u.store (ap (λ (x : Tree V O). x.store) noted)) still.made)
-        (λ p e. (record { heir = heir; entries = front }, e, half_front entries front back up cut half, (keys_cut entries front back up cut).0, subst (λ (n : ℕ). IsSection below entries (record { heir = n; entries = front })) (sym under) (section_front below entries front back up cut))) l
+    pub lacks_lower : (t u v : Tree V O) (a b d : S) (id second below : ℕ) (entries front back : List NodeEntry) {heir child : ℕ} (up : NodeEntry) {k : TreeHead} → second ≡ node_offset + (t.head.node_ids + 1) → u ≡ record t { head = k } → Gives t.head k → entries ≡ front ++ up ∷ back → length front ≡ length entries / 2 → heir ≡ below
+        → child ≡ up.child → PutsAt s R second (node_page (record { heir = child; entries = back })) u v a b → StaysStill s R u v a b
+        → LacksThis s R id (node_page (record { heir = heir; entries = front })) v b d → LacksSeen s R (Shows s R t a) (IsOneOrNext id t.head) (λ pages p. IsNodeOf (length entries / 2) below entries p) t a d
+    lacks_lower t u v a b d id second below entries front back {heir} {child} up given noted gives cut half under over put still l =
+        seen_after s R (Shows s R v b) (Shows s R t a) (λ pages i. i ≡ id) (IsOneOrNext id t.head) (λ pages p. p ≡ node_page (record { heir = heir; entries = front })) (λ pages p. IsNodeOf (length entries / 2) below entries p) t v a b d still.keeps
+        (same_store_then R t.store u.store v.store (same_store_at s R t.store u.store (ap (λ (x : Tree V O). x.store) noted)) still.made) (still.column ∙ ap (λ (x : Tree V O). x.column) noted)
+        (λ pages h. record {
+          seen = (put_at second (node_page (record { heir = child; entries = back })) pages, put.means pages (noted_shows s R t u a noted gives pages h));
+          own = λ i e. inl e;
+          was = λ j p is. ⊎_elim
+              (λ (here : (j ≡ second) × (p ≡ node_page (record { heir = child; entries = back }))). inr (inr (next_own t.head second j given here.0), upper_node below entries front back child up cut half over p here.1))
+              (λ (old : pages j ≡ Some p). inl old)
+              (put_where pages second j (node_page (record { heir = child; entries = back })) p is);
+          fine = λ p e. lower_node below entries front back heir up cut half under p e;
+        }) l
 
     -- nor for a new root
-    pub lacks_root : (t u : Tree V O) (a b : S) (heir : ℕ) (added : List NodeEntry) {k : TreeHead} → u ≡ record t { head = k } → length added ≤ 2 → heir ≡ t.head.root
-        → LacksPage s R (λ p. p ≡ node_page (record { heir = heir; entries = added })) u.store a b → LacksPage s R (IsNodeOf 2 t.head.root added) t.store a b
-    lacks_root t u a b heir added noted few old_root l =
-        lacks_after s R (λ p. p ≡ node_page (record { heir = heir; entries = added })) (IsNodeOf 2 t.head.root added) t.store u.store a a b (keeps_refl s a) (same_store_at s R t.store u.store (ap (λ (x : Tree V O). x.store) noted))
-        (λ p e. (record { heir = heir; entries = added }, e, few, keys_in [] added, subst (λ (n : ℕ). IsSection n added (record { heir = heir; entries = added })) old_root (section_whole heir added))) l
+    pub lacks_root : (t u : Tree V O) (a b : S) (id heir : ℕ) (added : List NodeEntry) {k : TreeHead} → id ≡ node_offset + (t.head.node_ids + 1) → u ≡ record t { head = k } → Gives t.head k → length added ≤ 2 → heir ≡ t.head.root
+        → LacksThis s R id (node_page (record { heir = heir; entries = added })) u a b → LacksSeen s R (Shows s R t a) (IsOwn t.head 0 1) (λ pages p. IsNodeOf 2 t.head.root added p) t a b
+    lacks_root t u a b id heir added given noted gives few old_root l =
+        seen_still s R (Shows s R u a) (Shows s R t a) (λ pages i. i ≡ id) (IsOwn t.head 0 1) (λ pages p. p ≡ node_page (record { heir = heir; entries = added })) (λ pages p. IsNodeOf 2 t.head.root added p) t u a a b (keeps_refl s a)
+        (same_store_at s R t.store u.store (ap (λ (x : Tree V O). x.store) noted)) (ap (λ (x : Tree V O). x.column) noted) (λ pages h. noted_shows s R t u a noted gives pages h) (λ pages h i e. inr (next_own t.head id i given e))
+        (λ p pages h e. (record { heir = heir; entries = added }, e, few, keys_in [] added, subst (λ (n : ℕ). IsSection n added (record { heir = heir; entries = added })) old_root (section_whole heir added))) l
 
   -- ---- a new root
 
@@ -267,12 +317,12 @@ module _ {S V O : Type 0} (s : Ghosts S) (R : Stores V S) where
                 (subst (λ (n : ℕ). ClimbsWith t.head.node_limit pages (put_at id (node_page (record { heir = n; entries = added })) pages) t.height (suc t.height) t.head.root id [] added) (sym old_root)
                 (root_grows t.head.node_limit pages t.height t.head.root id added fresh within)))),
             anew_put t.head pages id (node_page (record { heir = heir; entries = added })) (λ g none. not_node t.head id h.0.1.head given g),
-            one_known t.head.node_limit t.head.root t.path added pages id (record { heir = heir; entries = added }) (
+            one_known t.head.node_limit (way_most t.head t.path) t.head.root t.path added pages id (record { heir = heir; entries = added }) (
               record { heir = heir; entries = added },
               refl,
               within,
               all_map (λ (x : NodeEntry). IsAmong entry_key x.key added) (λ (x : NodeEntry). IsAmong entry_key x.key added ⊎ StoodIn pages x.key) added (λ x k. inl k) (keys_in [] added),
-              subst (λ (p : List (ℕ × ℕ)). IsWayOf t.head.node_limit pages t.head.root p added (record { heir = heir; entries = added })) (sym none) (subst (λ (n : ℕ). IsSection n added (record { heir = heir; entries = added })) old_root (section_whole heir added)),
+              subst (λ (p : List (ℕ × ℕ)). IsWayOf t.head.node_limit (way_most t.head t.path) pages t.head.root p added (record { heir = heir; entries = added })) (sym none) (subst (λ (n : ℕ). IsSection n added (record { heir = heir; entries = added })) old_root (section_whole heir added)),
             ),
             fills_node t.head w.head pages id (node_page (record { heir = heir; entries = added })) (ap (λ (x : TreeHead). x.leaf_ids) from) (ap (λ (x : TreeHead). x.node_ids) from) given,
           ),
@@ -309,7 +359,7 @@ MayStand added pages key j o = (n : Node) → o ≡ Some (node_page n) → IsAmo
 
 -- once the node is written as two, the way above it may be climbed on
 pub step_on : (limit : ℕ) (pages new : PageMap) (root id place : ℕ) (path rest : List (ℕ × ℕ)) (node : Node) (above : List NodeEntry) → path ≡ (id, place) ∷ rest → CanClimb limit pages root path
-    → Divided id node above pages new → length node.entries / 2 ≤ limit → CanClimb limit new root rest
+    → {given : ℕ} → Divided given id node above pages new → length node.entries / 2 ≤ limit → CanClimb limit new root rest
 step_on limit pages new root id place path rest node above e k d half =
     let left : Node = record { heir = node.heir; entries = d.front } in
     let right : Node = record { heir = d.up.child; entries = d.back } in
@@ -402,7 +452,7 @@ module _ {S V O : Type 0} (s : Ghosts S) (R : Stores V S) where
                   (subst (λ (n : ℕ). ClimbsWith u.head.node_limit pages k.0 n w.height u.head.root w.head.root t.path added) (moved_height t u path moved)
                   (subst (λ (p : List (ℕ × ℕ)). ClimbsWith u.head.node_limit pages k.0 u.height w.height u.head.root w.head.root p added) path_same k.2.0)),
               subst (λ (x : TreeHead). ComesAnew x pages k.0) head_same k.2.1,
-              subst (λ (x : TreeHead). WritesKnown x.node_limit x.root t.path added pages k.0) head_same (subst (λ (p : List (ℕ × ℕ)). WritesKnown u.head.node_limit u.head.root p added pages k.0) path_same k.2.2),
+              subst (λ (x : TreeHead). WritesKnown x.node_limit (way_most x t.path) x.root t.path added pages k.0) head_same (subst (λ (p : List (ℕ × ℕ)). WritesKnown u.head.node_limit (way_most u.head p) u.head.root p added pages k.0) path_same k.2.2),
               subst (λ (x : TreeHead). FillsIds x w.head k.0) head_same k.2.3,
             ),
           );
@@ -464,11 +514,11 @@ module _ {S V O : Type 0} (s : Ghosts S) (R : Stores V S) where
     )
 
     -- a section of it, with the entries put in
-    in_way : (pages : PageMap) → ShowsWay s R t a pages → (n : Node) → IsSection node.heir (spliced node.entries place added) n → IsWayOf t.head.node_limit pages t.head.root t.path added n
-    in_way pages h n section = subst (λ (p : List (ℕ × ℕ)). IsWayOf t.head.node_limit pages t.head.root p added n) (sym e) (node, here pages h, inl section)
+    in_way : (pages : PageMap) → ShowsWay s R t a pages → (n : Node) → IsSection node.heir (spliced node.entries place added) n → IsWayOf t.head.node_limit (way_most t.head t.path) pages t.head.root t.path added n
+    in_way pages h n section = subst (λ (p : List (ℕ × ℕ)). IsWayOf t.head.node_limit (way_most t.head t.path) pages t.head.root p added n) (sym e) (node, here pages h, inl section)
 
     -- the node with the entries put in, and a half of it
-    whole_known : length (spliced node.entries place added) ≤ t.head.node_limit → (pages : PageMap) → ShowsWay s R t a pages → IsKnownNode t.head.node_limit t.head.root t.path added pages (node_page (record { heir = node.heir; entries = spliced node.entries place added }))
+    whole_known : length (spliced node.entries place added) ≤ t.head.node_limit → (pages : PageMap) → ShowsWay s R t a pages → IsKnownNode t.head.node_limit (way_most t.head t.path) t.head.root t.path added pages (node_page (record { heir = node.heir; entries = spliced node.entries place added }))
     whole_known within pages h = (
       record { heir = node.heir; entries = spliced node.entries place added },
       refl,
@@ -481,7 +531,7 @@ module _ {S V O : Type 0} (s : Ghosts S) (R : Stores V S) where
     few_more pages h = omega (arith, spliced_long node.entries place added, long pages h, few, h.0.1.head.node_limit.0)
 
     half_known : (n : Node) → length n.entries ≤ length (spliced node.entries place added) / 2 → AllByRecursion (λ x. IsAmong entry_key x.key (spliced node.entries place added)) n.entries → IsSection node.heir (spliced node.entries place added) n
-        → (pages : PageMap) → ShowsWay s R t a pages → IsKnownNode t.head.node_limit t.head.root t.path added pages (node_page n)
+        → (pages : PageMap) → ShowsWay s R t a pages → IsKnownNode t.head.node_limit (way_most t.head t.path) t.head.root t.path added pages (node_page n)
     half_known n half among section pages h = (
       n,
       refl,
@@ -490,13 +540,19 @@ module _ {S V O : Type 0} (s : Ghosts S) (R : Stores V S) where
       in_way pages h n section,
     )
 
-    abbrev Fine : Page → Type 0
-    Fine p = IsWayNode s R added t a p
+    vcolumn : v.column ≡ t.column
+    vcolumn = peeks.still.column ∙ moved_column t u path moved
 
-    pub lacks_whole : (d : S) → length (spliced node.entries place added) ≤ t.head.node_limit → LacksPage s R (λ p. p ≡ node_page (record { heir = node.heir; entries = spliced node.entries place added })) v.store b d
-        → LacksPage s R Fine t.store a d
-    lacks_whole d within l = lacks_after s R (λ p. p ≡ node_page (record { heir = node.heir; entries = spliced node.entries place added })) Fine t.store v.store a b d peeks.looks.keeps vmade
-        (λ p is pages h. (
+    -- what may not have room there
+    abbrev Fine : PageMap → Page → Type 0
+    Fine pages p = IsKnownNode t.head.node_limit (way_most t.head t.path) t.head.root t.path added pages p
+
+    pub lacks_whole : (d : S) → length (spliced node.entries place added) ≤ t.head.node_limit → LacksThis s R id (node_page (record { heir = node.heir; entries = spliced node.entries place added })) v b d
+        → LacksSeen s R (ShowsWay s R t a) (IsOwn t.head 0 (suc (length t.path))) Fine t a d
+    lacks_whole d within l =
+        seen_still s R (Shows s R v b) (ShowsWay s R t a) (λ pages i. i ≡ id) (IsOwn t.head 0 (suc (length t.path))) (λ pages p. p ≡ node_page (record { heir = node.heir; entries = spliced node.entries place added })) Fine t v a b d peeks.looks.keeps vmade vcolumn (λ pages h. read_shows pages h.0)
+        (λ pages h i e. inl (stood_at pages id i (node_page node) (here pages h) e))
+        (λ p pages h is. (
           record { heir = node.heir; entries = spliced node.entries place added },
           is,
           within,
@@ -517,16 +573,23 @@ module _ {S V O : Type 0} (s : Ghosts S) (R : Stores V S) where
               (subst (λ (n : ℕ). ClimbsWith t.head.node_limit pages (put_at id (node_page (record { heir = node.heir; entries = spliced node.entries place added })) pages) t.height t.height t.head.root n ((id, place) ∷ path) added) (sym (ap (λ (x : TreeHead). x.root) (still.head ∙ vhead)))
               (node_takes t.head.node_limit pages t.height t.head.root id place path node added (here pages h) within))),
           anew_over t.head pages id (node_page (record { heir = node.heir; entries = spliced node.entries place added })) (node_page node) (here pages h),
-          one_known t.head.node_limit t.head.root t.path added pages id (record { heir = node.heir; entries = spliced node.entries place added }) (whole_known within pages h),
+          one_known t.head.node_limit (way_most t.head t.path) t.head.root t.path added pages id (record { heir = node.heir; entries = spliced node.entries place added }) (whole_known within pages h),
           fills_none t.head w.head (put_at id (node_page (record { heir = node.heir; entries = spliced node.entries place added })) pages) (ap (λ (x : TreeHead). x.leaf_ids) (still.head ∙ vhead)) (ap (λ (x : TreeHead). x.node_ids) (still.head ∙ vhead)),
         ),
       );
       others = others_then s (Only (file_in R t)) a b d (record { same = λ told g other. peeks.looks.reads.now told g }) (others_at s _ _ b d vmade.file put.others);
     }
 
-    pub lacks_half : (d : S) → LacksPage s R (IsNodeOf (length (spliced node.entries place added) / 2) node.heir (spliced node.entries place added)) v.store b d → LacksPage s R Fine t.store a d
-    lacks_half d l = lacks_after s R (IsNodeOf (length (spliced node.entries place added) / 2) node.heir (spliced node.entries place added)) Fine t.store v.store a b d peeks.looks.keeps vmade
-        (λ p n pages h. (
+    pub lacks_half : (d : S) → LacksSeen s R (Shows s R v b) (IsOneOrNext id v.head) (λ pages p. IsNodeOf (length (spliced node.entries place added) / 2) node.heir (spliced node.entries place added) p) v b d
+        → LacksSeen s R (ShowsWay s R t a) (IsOwn t.head 0 (suc (length t.path))) Fine t a d
+    lacks_half d l =
+        seen_still s R (Shows s R v b) (ShowsWay s R t a) (IsOneOrNext id v.head) (IsOwn t.head 0 (suc (length t.path))) (λ pages p. IsNodeOf (length (spliced node.entries place added) / 2) node.heir (spliced node.entries place added) p) Fine t v a b d peeks.looks.keeps vmade vcolumn (λ pages h. read_shows pages h.0)
+        (λ pages h i own. ⊎_elim
+        (λ (e : i ≡ id). inl (stood_at pages id i (node_page node) (here pages h) e))
+        (λ (next : IsNext v.head 0 1 i). inr (next_more t.head v.head 0 1 0 (suc (length t.path)) i (omega (arith, ap (λ (y : TreeHead). y.leaf_ids) vhead)) (omega (arith, ap (λ (y : TreeHead). y.leaf_ids) vhead))
+        (omega (arith, ap (λ (y : TreeHead). y.node_ids) vhead)) (omega (arith, ap (λ (y : TreeHead). y.node_ids) vhead)) next))
+        own)
+        (λ p pages h n. (
           n.0,
           n.1,
           omega (arith, n.2, few_more pages h),
@@ -548,7 +611,7 @@ module _ {S V O : Type 0} (s : Ghosts S) (R : Stores V S) where
       wheight : w.height ≡ v.height
       wheight = omega (arith, grows.rows_least, grows.rows_most)
 
-      on_way : (pages new : PageMap) → ShowsWay s R t a pages → Divided id (record { heir = node.heir; entries = spliced node.entries place added }) above pages new → CanClimb w.head.node_limit new w.head.root w.path
+      on_way : (pages new : PageMap) → ShowsWay s R t a pages → Divided v.head.node_ids id (record { heir = node.heir; entries = spliced node.entries place added }) above pages new → CanClimb w.head.node_limit new w.head.root w.path
       on_way pages new h div =
           subst (λ (p : List (ℕ × ℕ)). CanClimb w.head.node_limit new w.head.root p) (sym (wpath ∙ vpath))
           (subst (λ (n : ℕ). CanClimb n new w.head.root path) (sym (wlimit ∙ ap (λ (x : TreeHead). x.node_limit) vhead))
@@ -558,7 +621,7 @@ module _ {S V O : Type 0} (s : Ghosts S) (R : Stores V S) where
       pub on_ready : HasWay s R t a → HasWay s R w d
       on_ready ready = record { sound = turns.sound; held = λ told. let h = ready.held told in let k = turns.means h.0 (read_shows h.0 h.1.0) in (k.0, (k.1, on_way h.0 k.0 h.1 k.2.0)) }
 
-      mid_known : (pages mid : PageMap) → ShowsWay s R t a pages → Divided id (record { heir = node.heir; entries = spliced node.entries place added }) above pages mid → (key : List ℕ)
+      mid_known : (pages mid : PageMap) → ShowsWay s R t a pages → Divided v.head.node_ids id (record { heir = node.heir; entries = spliced node.entries place added }) above pages mid → (key : List ℕ)
           → IsAmong entry_key key above ⊎ StoodIn mid key → IsAmong entry_key key added ⊎ StoodIn pages key
       mid_known pages mid h div key k = ⊎_elim
           (λ (own : IsAmong entry_key key above). up (subst (λ (x : List NodeEntry). IsAmong entry_key key x) div.above_is own))
@@ -576,25 +639,30 @@ module _ {S V O : Type 0} (s : Ghosts S) (R : Stores V S) where
           up (inr none) = absurd none
 
       -- the nodes above are as they were
-      apart : (pages mid : PageMap) → ShowsWay s R t a pages → Divided id (record { heir = node.heir; entries = spliced node.entries place added }) above pages mid → AllByRecursion (λ (step : ℕ × ℕ). mid step.0 ≡ pages step.0) path
+      apart : (pages mid : PageMap) → ShowsWay s R t a pages → Divided v.head.node_ids id (record { heir = node.heir; entries = spliced node.entries place added }) above pages mid → AllByRecursion (λ (step : ℕ × ℕ). mid step.0 ≡ pages step.0) path
       apart pages mid h div =
           subst (λ (q : PageMap). AllByRecursion (λ (step : ℕ × ℕ). q step.0 ≡ pages step.0) path) (sym div.are)
           (way_same pages t.head.root id place div.second path (record { heir = node.heir; entries = div.front }) (record { heir = div.up.child; entries = div.back }) h.1.crumbs h.1.place (sym e ∙ h.1.along) h.1.way div.fresh)
 
-      above_way : (pages mid : PageMap) → ShowsWay s R t a pages → Divided id (record { heir = node.heir; entries = spliced node.entries place added }) above pages mid → (n : Node) → IsWayOf w.head.node_limit mid w.head.root w.path above n → IsWayOf t.head.node_limit pages t.head.root t.path added n
+      mid_most : way_most w.head w.path ≤ way_most t.head t.path
+      mid_most = omega (arith, grows.nodes_most, ap (λ (y : TreeHead). y.node_ids) vhead, ap length (wpath ∙ vpath), ap length e)
+
+      above_way : (pages mid : PageMap) → ShowsWay s R t a pages → Divided v.head.node_ids id (record { heir = node.heir; entries = spliced node.entries place added }) above pages mid → (n : Node) → IsWayOf w.head.node_limit (way_most w.head w.path) mid w.head.root w.path above n → IsWayOf t.head.node_limit (way_most t.head t.path) pages t.head.root t.path added n
       above_way pages mid h div n is =
           let entry : NodeEntry = record { child = div.second; key = div.up.key } in
           let limit : w.head.node_limit ≡ t.head.node_limit = wlimit ∙ ap (λ (y : TreeHead). y.node_limit) vhead in
-          let i1 : IsWayOf w.head.node_limit mid w.head.root w.path (entry ∷ []) n = subst (λ (es : List NodeEntry). IsWayOf w.head.node_limit mid w.head.root w.path es n) div.above_is is in
-          let i2 : IsWayOf w.head.node_limit mid w.head.root path (entry ∷ []) n = subst (λ (p : List (ℕ × ℕ)). IsWayOf w.head.node_limit mid w.head.root p (entry ∷ []) n) (wpath ∙ vpath) i1 in
-          let i3 : IsWayOf w.head.node_limit mid t.head.root path (entry ∷ []) n = subst (λ (r : ℕ). IsWayOf w.head.node_limit mid r path (entry ∷ []) n) (wroot ∙ ap (λ (y : TreeHead). y.root) vhead) i2 in
-          let i4 : IsWayOf t.head.node_limit mid t.head.root path (entry ∷ []) n = subst (λ (m : ℕ). IsWayOf m mid t.head.root path (entry ∷ []) n) limit i3 in
-          let i5 : IsWayOf t.head.node_limit pages t.head.root path (entry ∷ []) n = way_back t.head.node_limit pages mid t.head.root path (entry ∷ []) n (apart pages mid h div) i4 in
+          let i1 : IsWayOf w.head.node_limit (way_most w.head w.path) mid w.head.root w.path (entry ∷ []) n = subst (λ (es : List NodeEntry). IsWayOf w.head.node_limit (way_most w.head w.path) mid w.head.root w.path es n) div.above_is is in
+          let i2 : IsWayOf w.head.node_limit (way_most w.head w.path) mid w.head.root path (entry ∷ []) n = subst (λ (p : List (ℕ × ℕ)). IsWayOf w.head.node_limit (way_most w.head w.path) mid w.head.root p (entry ∷ []) n) (wpath ∙ vpath) i1 in
+          let i3 : IsWayOf w.head.node_limit (way_most w.head w.path) mid t.head.root path (entry ∷ []) n = subst (λ (r : ℕ). IsWayOf w.head.node_limit (way_most w.head w.path) mid r path (entry ∷ []) n) (wroot ∙ ap (λ (y : TreeHead). y.root) vhead) i2 in
+          let i4 : IsWayOf t.head.node_limit (way_most w.head w.path) mid t.head.root path (entry ∷ []) n = subst (λ (m : ℕ). IsWayOf m (way_most w.head w.path) mid t.head.root path (entry ∷ []) n) limit i3 in
+          let i5 : IsWayOf t.head.node_limit (way_most t.head t.path) pages t.head.root path (entry ∷ []) n =
+          way_back t.head.node_limit (way_most t.head t.path) pages mid t.head.root path (entry ∷ []) n (apart pages mid h div) (way_more t.head.node_limit (way_most w.head w.path) (way_most t.head t.path) mid t.head.root path (entry ∷ []) n mid_most i4) in
+          let below : IsWayId (way_most t.head t.path) div.second = (omega (arith, div.next_id), omega (arith, div.next_id, ap (λ (y : TreeHead). y.node_ids) vhead)) in
           let among : IsAmong entry_key entry.key (spliced node.entries place added) = (keys_cut (spliced node.entries place added) div.front div.back div.up div.cut).1.0 in
-          subst (λ (p : List (ℕ × ℕ)). IsWayOf t.head.node_limit pages t.head.root p added n) (sym e) (node, here pages h, inr (entry, among, over, i5))
+          subst (λ (p : List (ℕ × ℕ)). IsWayOf t.head.node_limit (way_most t.head t.path) pages t.head.root p added n) (sym e) (node, here pages h, inr (entry, among, over, below, i5))
 
-      above_known : (pages mid : PageMap) → ShowsWay s R t a pages → Divided id (record { heir = node.heir; entries = spliced node.entries place added }) above pages mid → (p : Page) → IsKnownNode w.head.node_limit w.head.root w.path above mid p
-          → IsKnownNode t.head.node_limit t.head.root t.path added pages p
+      above_known : (pages mid : PageMap) → ShowsWay s R t a pages → Divided v.head.node_ids id (record { heir = node.heir; entries = spliced node.entries place added }) above pages mid → (p : Page) → IsKnownNode w.head.node_limit (way_most w.head w.path) w.head.root w.path above mid p
+          → IsKnownNode t.head.node_limit (way_most t.head t.path) t.head.root t.path added pages p
       above_known pages mid h div p n =
           let limit : w.head.node_limit ≡ t.head.node_limit = wlimit ∙ ap (λ (y : TreeHead). y.node_limit) vhead in (
             n.0,
@@ -619,27 +687,56 @@ module _ {S V O : Type 0} (s : Ghosts S) (R : Stores V S) where
                 (node, here pages h, omega (arith, over, spliced_long node.entries place added), full_back t.head.node_limit pages k.0 1 n.0 path (apart pages k.0 h k.2.0) f3),
           )
 
-      mid_written : (pages mid : PageMap) → ShowsWay s R t a pages → Divided id (record { heir = node.heir; entries = spliced node.entries place added }) above pages mid → WritesKnown t.head.node_limit t.head.root t.path added pages mid
+      mid_written : (pages mid : PageMap) → ShowsWay s R t a pages → Divided v.head.node_ids id (record { heir = node.heir; entries = spliced node.entries place added }) above pages mid → WritesKnown t.head.node_limit (way_most t.head t.path) t.head.root t.path added pages mid
       mid_written pages mid h div j p is =
           let left : Node = record { heir = node.heir; entries = div.front } in
           let right : Node = record { heir = div.up.child; entries = div.back } in
           let among = keys_cut (spliced node.entries place added) div.front div.back div.up div.cut in
           ⊎_elim
-          (λ (here_is : p ≡ node_page left). inr (subst (λ (q : Page). IsKnownNode t.head.node_limit t.head.root t.path added pages q) (sym here_is) (half_known left (half_front (spliced node.entries place added) div.front div.back div.up div.cut div.half) among.0 (section_front node.heir (spliced node.entries place added) div.front div.back div.up div.cut) pages h)))
+          (λ (here_is : p ≡ node_page left). inr (subst (λ (q : Page). IsKnownNode t.head.node_limit (way_most t.head t.path) t.head.root t.path added pages q) (sym here_is) (half_known left (half_front (spliced node.entries place added) div.front div.back div.up div.cut div.half) among.0 (section_front node.heir (spliced node.entries place added) div.front div.back div.up div.cut) pages h)))
           (λ (rest : put_at div.second (node_page right) pages j ≡ Some p).
-          one_known t.head.node_limit t.head.root t.path added pages div.second right (half_known right (half_back (spliced node.entries place added) div.front div.back div.up div.cut div.half) among.1.1 (section_back node.heir (spliced node.entries place added) div.front div.back div.up div.cut) pages h) j p rest)
+          one_known t.head.node_limit (way_most t.head t.path) t.head.root t.path added pages div.second right (half_known right (half_back (spliced node.entries place added) div.front div.back div.up div.cut div.half) among.1.1 (section_back node.heir (spliced node.entries place added) div.front div.back div.up div.cut) pages h) j p rest)
           (put_either (put_at div.second (node_page right) pages) id j (node_page left) p (ap (λ (x : PageMap). x j) (sym div.are) ∙ is))
 
-      pub lacks_above : (f : S) → LacksPage s R (IsWayNode s R above w d) w.store d f → LacksPage s R Fine t.store a f
-      lacks_above f l = lacks_after s R (IsWayNode s R above w d) Fine t.store w.store a d f (keeps_then s a b d peeks.looks.keeps grows.keeps) (same_store_then R t.store v.store w.store vmade grows.made)
-          (λ p fine pages h. let k = turns.means pages (read_shows pages h.0) in above_known pages k.0 h k.2.0 p (fine k.0 (k.1, on_way pages k.0 h k.2.0))) l
+      some_page : Some (node_page node) ≡ None → ⊥
+      some_page none = cc
+
+      mid_leaves : w.head.leaf_ids ≤ t.head.leaf_ids + 0
+      mid_leaves = omega (arith, ap (λ (y : TreeHead). y.leaf_ids) vhead, ap (λ (y : TreeHead). y.leaf_ids) grows.head)
+
+      mid_nodes : w.head.node_ids ≤ t.head.node_ids + suc (length t.path)
+      mid_nodes = omega (arith, grows.nodes_most, ap (λ (y : TreeHead). y.node_ids) vhead)
+
+      mid_anew : (pages mid : PageMap) → ShowsWay s R t a pages → ((pages id ≡ None → ⊥) → ComesAnew v.head pages mid) → ComesAnew t.head pages mid
+      mid_anew pages mid h anew = subst (λ (y : TreeHead). ComesAnew y pages mid) vhead (anew (λ none. absurd (some_page (sym (here pages h) ∙ none))))
+
+      -- what had a page or is next behind them did so, or is, before
+      mid_own : (pages mid : PageMap) → ShowsWay s R t a pages → Shows s R w d mid → ((pages id ≡ None → ⊥) → ComesAnew v.head pages mid) → (i : ℕ) → IsOwn w.head 0 (suc (length w.path)) mid i → IsOwn t.head 0 (suc (length t.path)) pages i
+      mid_own pages mid h shows anew i (inl stood) = came_stood t.head w.head pages mid 0 (suc (length t.path)) i (mid_anew pages mid h anew) (λ p is. shown_given s R w d mid shows i p is) mid_leaves mid_nodes stood
+      mid_own pages mid h shows anew i (inr next) = inr (next_more t.head w.head 0 (suc (length w.path)) 0 (suc (length t.path)) i
+          (omega (arith, ap (λ (y : TreeHead). y.leaf_ids) vhead, ap (λ (y : TreeHead). y.leaf_ids) grows.head)) (omega (arith, ap (λ (y : TreeHead). y.leaf_ids) vhead, ap (λ (y : TreeHead). y.leaf_ids) grows.head))
+          (omega (arith, grows.nodes_least, ap (λ (y : TreeHead). y.node_ids) vhead)) (omega (arith, grows.nodes_most, ap (λ (y : TreeHead). y.node_ids) vhead, ap length (wpath ∙ vpath), ap length e)) next)
+
+      pub lacks_above : (f : S) → LacksSeen s R (ShowsWay s R w d) (IsOwn w.head 0 (suc (length w.path))) (IsKnownNode w.head.node_limit (way_most w.head w.path) w.head.root w.path above) w d f → LacksSeen s R (ShowsWay s R t a) (IsOwn t.head 0 (suc (length t.path))) Fine t a f
+      lacks_above f l =
+          seen_after s R (ShowsWay s R w d) (ShowsWay s R t a) (IsOwn w.head 0 (suc (length w.path))) (IsOwn t.head 0 (suc (length t.path))) (IsKnownNode w.head.node_limit (way_most w.head w.path) w.head.root w.path above) Fine t w a d f (keeps_then s a b d peeks.looks.keeps grows.keeps) (same_store_then R t.store v.store w.store vmade grows.made) (grows.column ∙ vcolumn)
+          (λ pages h.
+          let k = turns.means pages (read_shows pages h.0) in
+          record {
+            seen = (k.0, (k.1, on_way pages k.0 h k.2.0));
+            own = λ i own. mid_own pages k.0 h k.1 k.2.1 i own;
+            was = λ j p is. old_or pages (IsOwn t.head 0 (suc (length t.path)) pages) (Fine pages) j p
+                (came_own t.head w.head pages k.0 0 (suc (length t.path)) j p (mid_anew pages k.0 h k.2.1) (shown_given s R w d k.0 k.1 j p is) mid_leaves mid_nodes is)
+                (mid_written pages k.0 h k.2.0 j p is);
+            fine = λ p known. above_known pages k.0 h k.2.0 p known;
+          }) l
 
       pub climbed_on : (x : Tree V O) (f : S) → TurnsClimbed s R above w x d f → TurnsClimbed s R added t x a f
       climbed_on x f climb = record {
         sound = climb.sound;
         means = λ pages h.
             let k = turns.means pages (read_shows pages h.0) in
-            let div : Divided id (record { heir = node.heir; entries = spliced node.entries place added }) above pages k.0 = k.2.0 in
+            let div : Divided v.head.node_ids id (record { heir = node.heir; entries = spliced node.entries place added }) above pages k.0 = k.2.0 in
             let l = climb.means k.0 (k.1, on_way pages k.0 h div) in
             let half : length (spliced node.entries place added) / 2 ≤ t.head.node_limit = few_more pages h in (
               l.0,
@@ -669,7 +766,7 @@ module _ {S V O : Type 0} (s : Ghosts S) (R : Stores V S) where
           same_limit : w.head.node_limit ≡ t.head.node_limit
           same_limit = wlimit ∙ ap (λ (y : TreeHead). y.node_limit) vhead
 
-          join : (pages mid new : PageMap) → ShowsWay s R t a pages → (div : Divided id (record { heir = node.heir; entries = spliced node.entries place added }) above pages mid) → length (spliced node.entries place added) / 2 ≤ t.head.node_limit
+          join : (pages mid new : PageMap) → ShowsWay s R t a pages → (div : Divided v.head.node_ids id (record { heir = node.heir; entries = spliced node.entries place added }) above pages mid) → length (spliced node.entries place added) / 2 ≤ t.head.node_limit
               → ClimbsWith w.head.node_limit mid new w.height x.height w.head.root x.head.root w.path above → ClimbsWith t.head.node_limit pages new t.height x.height t.head.root x.head.root t.path added
           join pages mid new h div half c =
               let low : PageMap = put_at id (node_page (record { heir = node.heir; entries = div.front })) (put_at div.second (node_page (record { heir = div.up.child; entries = div.back })) pages) in
@@ -692,7 +789,7 @@ module _ {S V O : Type 0} (s : Ghosts S) (R : Stores V S) where
             ready = on_ready g.ready;
             few = omega (arith, one);
             rest = λ x f climb. g.rest x f (climbed_on x f climb);
-            full = λ f l. g.full f (⊎_elim (λ (used : FillsWay s R above w d). inl (full_above one used)) (λ (lacks : LacksPage s R (IsWayNode s R above w d) w.store d f). inr (lacks_above f lacks)) l);
+            full = λ f l. g.full f (⊎_elim (λ (used : FillsWay s R above w d). inl (full_above one used)) (λ (lacks : LacksSeen s R (ShowsWay s R w d) (IsOwn w.head 0 (suc (length w.path))) (IsKnownNode w.head.node_limit (way_most w.head w.path) w.head.root w.path above) w d f). inr (lacks_above f lacks)) l);
             grows = record {
               keeps = keeps_then s z a d g.grows.keeps (keeps_then s a b d peeks.looks.keeps grows.keeps);
               made = same_store_then R q.store t.store w.store g.grows.made (same_store_then R t.store v.store w.store vmade grows.made);
@@ -709,12 +806,18 @@ module _ {S V O : Type 0} (s : Ghosts S) (R : Stores V S) where
 -- ---- no room past the root
 
 module _ {S V O : Type 0} (s : Ghosts S) (R : Stores V S) where
-  pub lacks_end : (t : Tree V O) (a b : S) (added : List NodeEntry) → t.path ≡ [] → LacksPage s R (IsNodeOf 2 t.head.root added) t.store a b → LacksPage s R (IsWayNode s R added t a) t.store a b
-  lacks_end t a b added none l = lacks_after s R (IsNodeOf 2 t.head.root added) (IsWayNode s R added t a) t.store t.store a a b (keeps_refl s a) (same_store_refl R t.store)
-      (λ p n pages h. (
+  pub lacks_end : (t u : Tree V O) (a b : S) (added : List NodeEntry) (path : List (ℕ × ℕ)) → IsMoved t u path → t.path ≡ [] → LacksSeen s R (Shows s R u a) (IsOwn u.head 0 1) (λ pages p. IsNodeOf 2 u.head.root added p) u a b
+      → LacksSeen s R (ShowsWay s R t a) (IsOwn t.head 0 (suc (length t.path))) (IsKnownNode t.head.node_limit (way_most t.head t.path) t.head.root t.path added) t a b
+  lacks_end t u a b added path moved none l =
+      seen_still s R (Shows s R u a) (ShowsWay s R t a) (IsOwn u.head 0 1) (IsOwn t.head 0 (suc (length t.path))) (λ pages p. IsNodeOf 2 u.head.root added p) (IsKnownNode t.head.node_limit (way_most t.head t.path) t.head.root t.path added) t u a a b (keeps_refl s a) (same_store_at s R t.store u.store (moved_store t u path moved)) (moved_column t u path moved)
+      (λ pages h. way_shows s R t u a path moved pages h.0)
+      (λ pages h i own. own_more t.head u.head 0 1 0 (suc (length t.path)) i pages
+      (omega (arith, ap (λ (y : TreeHead). y.leaf_ids) (moved_head t u path moved))) (omega (arith, ap (λ (y : TreeHead). y.leaf_ids) (moved_head t u path moved)))
+      (omega (arith, ap (λ (y : TreeHead). y.node_ids) (moved_head t u path moved))) (omega (arith, ap (λ (y : TreeHead). y.node_ids) (moved_head t u path moved))) own)
+      (λ p pages h n. (
         n.0,
         n.1,
         omega (arith, n.2, h.0.1.head.node_limit.0),
         all_map (λ (x : NodeEntry). IsAmong entry_key x.key added) (λ (x : NodeEntry). IsAmong entry_key x.key added ⊎ StoodIn pages x.key) n.0.entries (λ x k. inl k) n.3,
-        subst (λ (q : List (ℕ × ℕ)). IsWayOf t.head.node_limit pages t.head.root q added n.0) (sym none) n.4,
+        subst (λ (q : List (ℕ × ℕ)). IsWayOf t.head.node_limit (way_most t.head t.path) pages t.head.root q added n.0) (sym none) (subst (λ (r : ℕ). IsSection r added n.0) (ap (λ (x : TreeHead). x.root) (moved_head t u path moved)) n.4),
       )) l

@@ -29,10 +29,10 @@ use Rattle.bt_ways.specs.Writes.{drop_at}
 use Rattle.bt_ways.proofs.Counts.{drops}
 use Rattle.bt_tree.specs.declared.tree.Tree.{Tree}
 use Rattle.bt_tree.specs.Meaning.{file_in}
-use Rattle.bt_tree.specs.Paging.{IsLeafId, IsNodeId, IsShown, Rewrites, Shows, StaysStill}
-use Rattle.bt_tree.specs.Removing.{LacksRoom, Narrows, StaysNumbered}
+use Rattle.bt_tree.specs.Paging.{IsLeafId, IsNodeId, IsShown, Rewrites, Seen, Shows, StaysStill, Stood}
+use Rattle.bt_tree.specs.Removing.{IsRemnant, LacksRemnant, LacksRoom, Narrows, StaysNumbered}
 use Rattle.bt_tree.specs.Trees.{HasKeys}
-use Rattle.bt_tree.proofs.Pagings.{Gives, keys_moved, lacks_after, leaf_given, more_shows, node_given, shown_beside}
+use Rattle.bt_tree.proofs.Pagings.{ComesOf, Gives, keys_moved, lacks_after, leaf_given, more_shows, node_given, shown_beside}
 
 -- ---- a page goes
 
@@ -141,11 +141,18 @@ module _ {S V O : Type 0} (s : Ghosts S) (R : Stores V S) where
 
 -- ---- no room
 
-module _ {S V : Type 0} (s : Ghosts S) (R : Stores V S) where
-  -- later on, and of a page of a wider sort
-  pub room_after : (P Q : Page → Type 0) (v w : V) (old mid new : S) → Keeps s old mid → SameStore R v w → ((p : Page) → P p → Q p) → LacksRoom s R P w mid new → LacksRoom s R Q v old new
-  room_after P Q v w old mid new keeps made wider (inl l) = inl (lacks_after s R P Q v w old mid new keeps made wider l)
-  room_after P Q v w old mid new keeps made wider (inr log) = inr log
+module _ {S V O : Type 0} (s : Ghosts S) (R : Stores V S) where
+  -- later on, of what is seen at first and of pages of a wider sort
+  pub room_after : (W X : Type 0) (F : W → ℕ → Type 0) (G : X → ℕ → Type 0) (A : W → PageMap) (B : X → PageMap) (P : W → Page → Type 0) (Q : X → Page → Type 0) (t u : Tree V O) (old mid new : S) → Keeps s old mid → SameStore R t.store u.store → u.column ≡ t.column
+      → ((x : X) → ComesOf W F A P (G x) (B x) (Q x)) → LacksRoom s R W F A P u mid new → LacksRoom s R X G B Q t old new
+  room_after W X F G A B P Q t u old mid new keeps made column comes (inl l) = inl (lacks_after s R W X F G A B P Q t u old mid new keeps made column comes l)
+  room_after W X F G A B P Q t u old mid new keeps made column comes (inr log) = inr log
+
+  -- of what is left of pages where a leaf goes
+  pub remnant_after : (C D : Tree V O → S → PageMap → Type 0) (t u : Tree V O) (old mid new : S) → Keeps s old mid → SameStore R t.store u.store → u.column ≡ t.column
+      → ((pages : PageMap) → D t old pages → ComesOf (Seen (C u mid)) (λ w i. Stood w.0 i) (λ w. w.0) (λ w p. IsRemnant u.head w.0 p) (Stood pages) pages (IsRemnant t.head pages)) → LacksRemnant s R C u mid new → LacksRemnant s R D t old new
+  remnant_after C D t u old mid new keeps made column comes l =
+      room_after (Seen (C u mid)) (Seen (D t old)) (λ w i. Stood w.0 i) (λ w i. Stood w.0 i) (λ w. w.0) (λ w. w.0) (λ w p. IsRemnant u.head w.0 p) (λ w p. IsRemnant t.head w.0 p) t u old mid new keeps made column (λ x. comes x.0 x.1) l
 
 -- ---- the nodes on a way go
 

@@ -52,10 +52,10 @@ use Rattle.bt_tree.specs.declared.tree.Tree.{Tree}
 use Rattle.bt_tree.specs.Climbing.{NodesWithin, IsAmong, StoodIn}
 use Rattle.bt_tree.specs.Finding.{LeadsTo}
 use Rattle.bt_tree.specs.Inserting.{AreItemsOf, Gains, Inserts, IsCrowded, IsMorePage, IsPutPage, IsWritten, TakesInLeaf, TakesPair, UsesUp, WritesPages, pair_key}
-use Rattle.bt_tree.specs.Meaning.{IsOpen, Means, file_in}
+use Rattle.bt_tree.specs.Meaning.{IsOpen, Means, Meant, file_in}
 use Rattle.bt_tree.specs.Numbers.{with_pairs}
-use Rattle.bt_tree.specs.Paging.{ComesAnew, FillsIds, HasLeafAt, IsLeafId, IsPageOf, IsShown, LacksPage, PutsAt, Shows, StaysStill}
-use Rattle.bt_tree.specs.Parting.{AtLeaf, ClimbsIn, HasLeaf, IsLeafPiece, IsParted, IsPiece, IsStretch, LacksId, LacksIds, ShowsLeaf, TurnsParted, Widens, last_part, item_key}
+use Rattle.bt_tree.specs.Paging.{ComesAnew, FillsIds, HasLeafAt, IsLeafId, IsOwn, IsPageOf, IsShown, LacksPage, LacksSeen, LacksThis, PutsAt, Seen, Shows, StaysStill}
+use Rattle.bt_tree.specs.Parting.{AtLeaf, ClimbsIn, HasLeaf, IsParted, IsPiece, IsStretch, LacksId, LacksIds, ShowsLeaf, TurnsParted, Widens, last_part, item_key}
 use Rattle.bt_tree.specs.Trees.{HasKeys, HoldsPairs}
 use Rattle.bt_tree.specs.Visits.{LooksAt, StaysTree}
 use Rattle.bt_tree.proofs.Climbings.{among_back, among_front, put_either}
@@ -63,7 +63,7 @@ use Rattle.bt_tree.proofs.Contents.{changed_items, page_items}
 use Rattle.bt_tree.proofs.Descents.{leaf_values}
 use Rattle.bt_tree.proofs.Finds.{tree_reads}
 use Rattle.bt_tree.proofs.Pages.{found_leaf, has_page}
-use Rattle.bt_tree.proofs.Pagings.{Gives, anew_over, fills_none, fills_same, lacks_after, leaf_given, leaf_node, looked_shows, more_shows, others_at, put_all, puts_over}
+use Rattle.bt_tree.proofs.Pagings.{Gives, anew_over, fills_none, fills_same, lacks_after, leaf_given, leaf_node, looked_shows, more_shows, others_at, own_more, put_all, puts_over, stood_at}
 use Rattle.bt_tree.proofs.Partings.{cons_nil, parted_last}
 
 pub not_both : (b : Bool) → b ≡ true → b ≡ false → ⊥
@@ -625,16 +625,30 @@ module _ {S V O : Type 0} (s : Ghosts S) (R : Stores V S) (o : Orders O) (total 
   piece_more over (leaf_page l) ps h piece = tt
   piece_more over (node_page n) ps h piece = (is_crowded over ps h, subst (λ (y : TreeHead). ClimbsIn y h.1.is.tree.pages u.path x.leaf.items n) stays.head piece.2)
 
-  abbrev Fine : Page → Type 0
-  Fine p = IsWritten s R o last key value t a p
+  abbrev LacksWritten : S → Type 0
+  LacksWritten d = LacksPage s R (Meant s R o t a) (λ w i. IsOwn t.head 2 t.height w.1.1.is.tree.pages i) (λ w. w.1.1.is.tree.pages) (IsWritten s R o last key value t a) t a d
 
-  pub lacks_leaf : (d : S) → ItemsWithin u.head.leaf_limit x.leaf.items → LacksPage s R (λ p. p ≡ leaf_page x.leaf) u.store b d → LacksPage s R Fine t.store a d
-  lacks_leaf d fits l = lacks_after s R (λ p. p ≡ leaf_page x.leaf) Fine t.store u.store a b d looks.keeps looks.made (λ p e ps h. subst (λ (y : Page). IsPutPage o.cmp t.head h.1.is.tree.pages ps (inserted o.cmp last key value ps) y × IsMorePage o.cmp last key value h.1.is.tree y) (sym e)
-      (((record { keys = omega (arith, fits.keys, limit_same); bytes = fits.bytes }, inr (new_items o.cmp total order last key value t.head t.height t.column h.1.records ps h.1.is u.path x (taken ps h) x.leaf.items ([], [], sym (append-nil x.leaf.items)))), tt), tt)) l
+  pub lacks_leaf : (d : S) → ItemsWithin u.head.leaf_limit x.leaf.items → LacksThis s R x.id (leaf_page x.leaf) u b d → LacksWritten d
+  lacks_leaf d fits l =
+      lacks_after s R (Seen (Shows s R u b)) (Meant s R o t a) (λ w i. i ≡ x.id) (λ w i. IsOwn t.head 2 t.height w.1.1.is.tree.pages i) (λ w. w.0) (λ w. w.1.1.is.tree.pages) (λ w p. p ≡ leaf_page x.leaf) (IsWritten s R o last key value t a) t u a b d looks.keeps looks.made stays.column
+      (λ w. record {
+        seen = (w.1.1.is.tree.pages, means_looked s R o t u a b looks stays w.0 w.1);
+        own = λ i e. inl (stood_at w.1.1.is.tree.pages x.id i (leaf_page (taken w.0 w.1).found.leaf.leaf) (leaf_held (before_by o.cmp) t.head t.height t.column w.1.1.records w.0 w.1.1.is key u.path x.id (taken w.0 w.1).found) e);
+        was = λ id p is. inl is;
+        fine = λ p e. subst (λ (y : Page). IsWritten s R o last key value t a w y) (sym e) (leaf_put fits w.0 w.1, tt);
+      }) l
 
-  pub lacks_piece : (d : S) → (ItemsWithin u.head.leaf_limit x.leaf.items → ⊥) → LacksPage s R (IsLeafPiece s R x.id x.leaf u b) u.store b d → LacksPage s R Fine t.store a d
-  lacks_piece d over l = lacks_after s R (IsLeafPiece s R x.id x.leaf u b) Fine t.store u.store a b d looks.keeps looks.made
-      (λ p piece ps h. let k = piece h.1.is.tree.pages (leaf_shown ps h) in (piece_put p ps h k, piece_more over p ps h k)) l
+  pub lacks_piece : length u.path + 1 ≡ t.height → (d : S) → (ItemsWithin u.head.leaf_limit x.leaf.items → ⊥)
+      → LacksSeen s R (ShowsLeaf s R x.id x.leaf.next u b) (IsOwn u.head 2 (suc (length u.path))) (IsPiece u.head u.path x.leaf.items x.leaf.next) u b d → LacksWritten d
+  lacks_piece deep d over l =
+      lacks_after s R (Seen (ShowsLeaf s R x.id x.leaf.next u b)) (Meant s R o t a) (λ w i. IsOwn u.head 2 (suc (length u.path)) w.0 i) (λ w i. IsOwn t.head 2 t.height w.1.1.is.tree.pages i) (λ w. w.0) (λ w. w.1.1.is.tree.pages) (λ w p. IsPiece u.head u.path x.leaf.items x.leaf.next w.0 p) (IsWritten s R o last key value t a) t u a b d looks.keeps looks.made stays.column
+      (λ w. record {
+        seen = (w.1.1.is.tree.pages, leaf_shown w.0 w.1);
+        own = λ i own. own_more t.head u.head 2 (suc (length u.path)) 2 t.height i w.1.1.is.tree.pages (omega (arith, ap (λ (y : TreeHead). y.leaf_ids) stays.head)) (omega (arith, ap (λ (y : TreeHead). y.leaf_ids) stays.head))
+            (omega (arith, ap (λ (y : TreeHead). y.node_ids) stays.head)) (omega (arith, ap (λ (y : TreeHead). y.node_ids) stays.head, deep)) own;
+        was = λ id p is. inl is;
+        fine = λ p piece. (piece_put p w.0 w.1 piece, piece_more over p w.0 w.1 piece);
+      }) l
 
 -- ---- what a call leaves, whatever it answers
 

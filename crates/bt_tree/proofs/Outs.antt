@@ -36,9 +36,9 @@ use Rattle.bt_tree.specs.declared.removing.Lessened.{Lessened}
 use Rattle.bt_tree.specs.declared.tree.Tree.{Tree}
 use Rattle.bt_tree.specs.Climbing.{IsAmong, StoodIn}
 use Rattle.bt_tree.specs.Inserting.{AreItemsOf, IsPutPage, WritesPages, pair_key}
-use Rattle.bt_tree.specs.Meaning.{Changes, IsOpen, Means}
-use Rattle.bt_tree.specs.Paging.{IsLeafId, IsShown, LacksPage, PutsAt, Shows}
-use Rattle.bt_tree.specs.Removing.{AtLast, GivesInLeaf, HasLast, IsLeftPage, IsLessPage, IsLone, IsRemnant, LacksLast, LacksRoom, LowersRoot, Narrows, ShowsLast, TurnsVacated, Vacated, Vacates}
+use Rattle.bt_tree.specs.Meaning.{Changes, IsOpen, Means, Meant}
+use Rattle.bt_tree.specs.Paging.{IsLeafId, IsShown, LacksThis, PutsAt, Seen, Shows, Stood}
+use Rattle.bt_tree.specs.Removing.{AtLast, GivesInLeaf, HasLast, IsLeftPage, IsLessPage, IsLone, IsRefusedRoom, IsRemnant, LacksLast, LowersRoot, Narrows, ShowsLast, TurnsVacated, Vacated, Vacates}
 use Rattle.bt_tree.specs.Trees.{HoldsPairs}
 use Rattle.bt_tree.specs.Visits.{LooksAt, StaysTree}
 use Rattle.bt_tree.proofs.Climbings.{put_either, put_was}
@@ -46,7 +46,7 @@ use Rattle.bt_tree.proofs.Contents.{changed_items, no_items_of, page_items}
 use Rattle.bt_tree.proofs.Droppings.{SameIds, leaf_id_shown, room_after, same_shows}
 use Rattle.bt_tree.proofs.Inserts.{means_looked}
 use Rattle.bt_tree.proofs.Pages.{found_leaf}
-use Rattle.bt_tree.proofs.Pagings.{anew_over, fills_none, lacks_after, others_at, put_all}
+use Rattle.bt_tree.proofs.Pagings.{anew_over, fills_none, lacks_after, others_at, put_all, stood_at}
 use Rattle.bt_tree.proofs.Removes.{count_around, first_same, last_same, means_of}
 use Rattle.bt_tree.proofs.Unlinkings.{limits_moved}
 
@@ -139,10 +139,15 @@ module _ {S V O : Type 0} (s : Ghosts S) (R : Stores V S) (o : Orders O) (total 
   pub leaf_given : IsOpen s R o t a → s.tells → IsLeafId v.head x.id
   leaf_given ready told = let h = ready.held told in leaf_id_shown s R v b h.1.1.is.tree.pages x.id (f h.0 h.1).leaf.leaf (shown h.0 h.1) (page_there h.0 h.1)
 
-  pub leaf_full : (d : S) → LacksPage s R (λ q. q ≡ leaf_page x.leaf) v.store b d → LacksRoom s R (IsLeftPage s R o all key t a) t.store a d
-  leaf_full d l =
-      inl (lacks_after s R (λ q. q ≡ leaf_page x.leaf) (IsLeftPage s R o all key t a) t.store v.store a b d looks.keeps looks.made
-      (λ q is ps h. subst (λ (y : Page). IsPutPage o.cmp t.head h.1.is.tree.pages ps (removed cmp all key ps) y × IsLessPage h.1.is.tree.pages y) (sym is) (((left_within ps h, inr (items_are ps h)), tt), tt)) l)
+  pub leaf_full : ((ps : List Pair) → M t a ps → true ≡ has_pair key ps) → (d : S) → LacksThis s R x.id (leaf_page x.leaf) v b d → IsRefusedRoom s R o all key t a d
+  leaf_full hit d l =
+      inl (lacks_after s R (Seen (Shows s R v b)) (Meant s R o t a) (λ w i. i ≡ x.id) (λ w i. Stood w.1.1.is.tree.pages i) (λ w. w.0) (λ w. w.1.1.is.tree.pages) (λ w p. p ≡ leaf_page x.leaf) (IsLeftPage s R o all key t a) t v a b d looks.keeps looks.made stays.column
+      (λ w. record {
+        seen = (w.1.1.is.tree.pages, shown w.0 w.1);
+        own = λ i e. stood_at w.1.1.is.tree.pages x.id i (leaf_page (f w.0 w.1).leaf.leaf) (page_there w.0 w.1) e;
+        was = λ id p is. inl is;
+        fine = λ p e. subst (λ (y : Page). IsLeftPage s R o all key t a w y) (sym e) (((left_within w.0 w.1, inr (items_are w.0 w.1)), tt), tt, sym (hit w.0 w.1));
+      }) l)
 
   -- w once the leaf is written, u in the end
   pub leaf_less : ((0 < length x.leaf.items) ⊎ (x.id ≡ v.head.root)) → (w u : Tree V O) (d : S) → PutsAt s R x.id (leaf_page x.leaf) v w b d → w.head ≡ v.head → w.height ≡ v.height
@@ -264,11 +269,15 @@ module _ {S V O : Type 0} (s : Ghosts S) (R : Stores V S) (o : Orders O) (total 
           let there : AreItemsOf cmp r.was.items ps = page_items cmp order t.head t.height t.column h.1.records ps h.1.is r.id r.was r.there in
           ((record { keys = w.keys; bytes = w.bytes }, inl (subst (λ (xs : List Item). AreItemsOf cmp xs ps) (sym r.same) there)), tt)
 
-  remnant_is : (q : Page) → ((pages : PageMap) → ShowsLast s R (before_by cmp) x.id x.leaf.prev x.leaf.next v b pages → IsRemnant v.head pages q) → IsLeftPage s R o all key t a q
-  remnant_is q fine ps h = let left = fine h.1.is.tree.pages (last_shown ps h) in (remnant_put ps h q left, remnant_less v.head h.1.is.tree.pages q left)
-
-  pub vacate_full : (d : S) → LacksLast s R o x.id x.leaf.prev x.leaf.next v b d → LacksRoom s R (IsLeftPage s R o all key t a) t.store a d
-  vacate_full d l = room_after s R _ _ t.store v.store a b d looks.keeps looks.made remnant_is l
+  pub vacate_full : ((ps : List Pair) → M t a ps → true ≡ has_pair key ps) → (d : S) → LacksLast s R o x.id x.leaf.prev x.leaf.next v b d → IsRefusedRoom s R o all key t a d
+  vacate_full hit d l =
+      room_after s R (Seen (ShowsLast s R (before_by cmp) x.id x.leaf.prev x.leaf.next v b)) (Meant s R o t a) (λ w i. Stood w.0 i) (λ w i. Stood w.1.1.is.tree.pages i) (λ w. w.0) (λ w. w.1.1.is.tree.pages) (λ w p. IsRemnant v.head w.0 p) (IsLeftPage s R o all key t a) t v a b d looks.keeps looks.made stays.column
+      (λ w. record {
+        seen = (w.1.1.is.tree.pages, last_shown w.0 w.1);
+        own = λ i stood. stood;
+        was = λ id p is. inl is;
+        fine = λ p left. (remnant_put w.0 w.1 p left, remnant_less v.head w.1.1.is.tree.pages p left, sym (hit w.0 w.1));
+      }) l
 
   -- one went, or is the root
   pub gone_root : (w u : Tree V O) (d : S) → TurnsVacated s R o x.id x.leaf.prev x.leaf.next v w b d → u ≡ record w { head = record w.head { pairs = w.head.pairs - x.count } } → LowersRoot s R o t u a d

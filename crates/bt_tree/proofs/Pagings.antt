@@ -30,7 +30,7 @@ use Rattle.bt_cache.specs.Shared.{IsSomeLeaf, IsSomeNode}
 use Rattle.bt_cache.proofs.Kept.{insert_here, insert_other}
 use Rattle.bt_ways.specs.Writes.{put_at, put_leaves}
 use Rattle.bt_tree.specs.declared.tree.Tree.{Tree}
-use Rattle.bt_tree.specs.Paging.{ComesAnew, ComesFrom, FillsIds, Shows, HasLeafAt, HasNodeAt, IsLeafId, IsNodeId, IsPageOf, IsShown, LacksPage, Peeks, PutsAt, page_bytes}
+use Rattle.bt_tree.specs.Paging.{ComesAnew, ComesFrom, FillsIds, Shows, HasLeafAt, HasNodeAt, HoldsOnly, IsFinePage, IsLeafId, IsNext, IsNodeId, IsOwn, IsPageOf, IsShown, LacksPage, LacksSeen, LacksThis, OldOr, Peeks, PutsAt, Seen, Stood, page_bytes}
 use Rattle.bt_tree.specs.Trees.{HasKeys}
 use Rattle.bt_tree.proofs.Pages.{has_page}
 
@@ -282,6 +282,10 @@ module _ {S V O : Type 0} (s : Ghosts S) (R : Stores V S) where
       → IsReady s (Shows s R) t a → IsReady s (Shows s R) u a
   more_ready t u a store cache column gives ready = record { sound = ready.sound; held = λ told. let h = ready.held told in (h.0, more_shows t u a store cache column gives h.0 h.1) }
 
+  pub noted_shows : (t u : Tree V O) (a : S) {k : TreeHead} → u ≡ record t { head = k } → Gives t.head k → (pages : PageMap) → Shows s R t a pages → Shows s R u a pages
+  noted_shows t u a {k} noted gives pages h =
+      more_shows t u a (ap (λ (x : Tree V O). x.store) noted) (ap (λ (x : Tree V O). x.cache.pages) noted) (ap (λ (x : Tree V O). x.column) noted) (subst (λ (x : TreeHead). Gives t.head x) (sym (ap (λ (x : Tree V O). x.head) noted)) gives) pages h
+
   pub noted_ready : (t u : Tree V O) (a : S) (k : TreeHead) → u ≡ record t { head = k } → Gives t.head k → IsReady s (Shows s R) t a → IsReady s (Shows s R) u a
   noted_ready t u a k noted gives ready =
       more_ready t u a (ap (λ (x : Tree V O). x.store) noted) (ap (λ (x : Tree V O). x.cache.pages) noted) (ap (λ (x : Tree V O). x.column) noted) (subst (λ (x : TreeHead). Gives t.head x) (sym (ap (λ (x : Tree V O). x.head) noted)) gives) ready
@@ -310,8 +314,27 @@ module _ {S V O : Type 0} (s : Ghosts S) (R : Stores V S) where
 -- ---- no room for a page
 
 module _ {S V O : Type 0} (s : Ghosts S) (R : Stores V S) where
-  pub lacks_now : (t : Tree V O) (a b : S) (id : ℕ) (page : Page) → IsPage id (page_bytes page) page → IsShown s R t a → Keeps s a b → LacksKey s R id (page_bytes page) t.store a b → LacksPage s R (λ p. p ≡ page) t.store a b
-  lacks_now t a b id page spelled ready keeps full = record {
+  pub shown_given : (t : Tree V O) (a : S) (pages : PageMap) → Shows s R t a pages → (i : ℕ) (p : Page) → pages i ≡ Some p → IsGiven t.head i
+  shown_given t a pages h i p is = ⊎_elim (λ (g : IsGiven t.head i). g) (λ (not : IsGiven t.head i → ⊥). absurd (none_some p (sym (h.1.held.others i not) ∙ is))) (decided t.head i)
+
+  -- a tree that shows pages holds these and `column`, and nothing else
+  shown_only : (t : Tree V O) (a : S) (pages : PageMap) (h : Shows s R t a pages) (Fine : ℕ → Page → Type 0) → ((id : ℕ) (p : Page) → pages id ≡ Some p → Fine id p) → HoldsOnly t.column Fine h.1.records
+  shown_only t a pages h Fine fine key bytes e = ⊎_elim (λ (p : IsPageAt t.head key bytes). inr (page_at p)) (λ (col : (is_some t.column ≡ true) × (key ≡ column_key)). inl (col.1, column_at col.1)) (h.1.keys.rule key bytes e)
+    where
+      column_at : key ≡ column_key → t.column ≡ Some bytes
+      column_at same = sym h.1.keys.has ∙ ap (get h.1.records) (sym same) ∙ e
+
+      page_at : IsPageAt t.head key bytes → IsFinePage Fine key bytes
+      page_at p =
+          let there : get h.1.records (key_of p.id) ≡ Some bytes = ap (get h.1.records) (sym p.key_is) ∙ e in
+          go (pages p.id) refl (subst (λ (o : Option (List ℕ)). IsHeldAs p.id o (pages p.id)) there (h.1.held.given p.id p.given))
+        where
+          go : (o : Option Page) → pages p.id ≡ o → IsHeldAs p.id (Some bytes) o → IsFinePage Fine key bytes
+          go None same is = absurd is
+          go (Some q) same is = record { id = p.id; page = q; key_is = p.key_is; is = is; fine = fine p.id q same }
+
+  pub lacks_now : (t : Tree V O) (a b : S) (id : ℕ) (page : Page) → IsPage id (page_bytes page) page → Keeps s a b → LacksKey s R id (page_bytes page) t.store a b → LacksThis s R id page t a b
+  lacks_now t a b id page spelled keeps full = record {
     store = t.store;
     moment = a;
     id = id;
@@ -319,29 +342,106 @@ module _ {S V O : Type 0} (s : Ghosts S) (R : Stores V S) where
     made = same_store_refl R t.store;
     since = keeps_refl s a;
     until = keeps;
-    held = λ told. let h = ready.held told in (h.1.1.records, (told, h.1.1.store));
-    fine = refl;
+    held = λ w. (w.1.1.records, (w.1.0, w.1.1.store), shown_only t a w.0 w.1 (OldOr w.0 (λ i. i ≡ id) (λ p. p ≡ page)) (λ i p is. inl is));
+    own = λ w. refl;
+    fine = λ w. refl;
     spelled = spelled;
     by = full;
   }
 
-module _ {S V : Type 0} (s : Ghosts S) (R : Stores V S) where
-  -- later on, and of a page of a wider sort
-  pub lacks_after : (P Q : Page → Type 0) (v w : V) (old mid new : S) → Keeps s old mid → SameStore R v w → ((p : Page) → P p → Q p) → LacksPage s R P w mid new → LacksPage s R Q v old new
-  lacks_after P Q v w old mid new keeps made wider l = record {
+-- ids that have a page, and the next ones
+pub stood_at : (pages : PageMap) (id i : ℕ) (p : Page) → pages id ≡ Some p → i ≡ id → Stood pages i
+stood_at pages id i p is e none = none_some p (sym none ∙ ap pages e ∙ is)
+
+pub stood_was : (old new : PageMap) (i : ℕ) (p : Page) → (old i ≡ None → new i ≡ None) → new i ≡ Some p → Stood old i
+stood_was old new i p stays is none = none_some p (sym (stays none) ∙ is)
+
+-- from one head to one of as many ids or fewer
+pub next_more : (h k : TreeHead) (a b m n i : ℕ) → h.leaf_ids ≤ k.leaf_ids → k.leaf_ids + a ≤ h.leaf_ids + m → h.node_ids ≤ k.node_ids → k.node_ids + b ≤ h.node_ids + n → IsNext k a b i → IsNext h m n i
+next_more h k a b m n i leaves leaves_most nodes nodes_most (inl g) = inl (omega (arith, g.0, leaves), omega (arith, g.1, leaves_most))
+next_more h k a b m n i leaves leaves_most nodes nodes_most (inr g) = inr (omega (arith, g.0, nodes), omega (arith, g.1, nodes_most))
+
+pub own_more : (h k : TreeHead) (a b m n i : ℕ) (pages : PageMap) → h.leaf_ids ≤ k.leaf_ids → k.leaf_ids + a ≤ h.leaf_ids + m → h.node_ids ≤ k.node_ids → k.node_ids + b ≤ h.node_ids + n → IsOwn k a b pages i → IsOwn h m n pages i
+own_more h k a b m n i pages leaves leaves_most nodes nodes_most (inl stood) = inl stood
+own_more h k a b m n i pages leaves leaves_most nodes nodes_most (inr next) = inr (next_more h k a b m n i leaves leaves_most nodes nodes_most next)
+
+-- a page that came has one of the next ids, where so many are given
+pub came_own : (h k : TreeHead) (old new : PageMap) (m n i : ℕ) (p : Page) → ComesAnew h old new → IsGiven k i → k.leaf_ids ≤ h.leaf_ids + m → k.node_ids ≤ h.node_ids + n → new i ≡ Some p → IsOwn h m n old i
+came_own h k old new m n i p anew given leaves nodes is = go (old i) refl
+  where
+    away : old i ≡ None → IsGiven h i → ⊥
+    away none g = none_some p (sym (anew i g none) ∙ is)
+
+    next : old i ≡ None → IsGiven k i → IsNext h m n i
+    next none (inl g) = ⊎_elim (λ (more : h.leaf_ids < i). inl (more, omega (arith, g.1, leaves))) (λ (le : i ≤ h.leaf_ids). absurd (away none (inl (g.0, le)))) (cases_lt h.leaf_ids i)
+    next none (inr g) = ⊎_elim (λ (more : node_offset + h.node_ids < i). inr (more, omega (arith, g.1, nodes))) (λ (le : i ≤ node_offset + h.node_ids). absurd (away none (inr (g.0, le)))) (cases_lt (node_offset + h.node_ids) i)
+
+    go : (o : Option Page) → old i ≡ o → IsOwn h m n old i
+    go None none = inr (next none given)
+    go (Some q) was = inl (stood_at old i i q was refl)
+
+-- what has a page afterwards had one, or has one of the next ids
+pub came_stood : (h k : TreeHead) (old new : PageMap) (m n i : ℕ) → ComesAnew h old new → ((p : Page) → new i ≡ Some p → IsGiven k i) → k.leaf_ids ≤ h.leaf_ids + m → k.node_ids ≤ h.node_ids + n → Stood new i → IsOwn h m n old i
+came_stood h k old new m n i anew given leaves nodes stood = go (new i) refl
+  where
+    go : (o : Option Page) → new i ≡ o → IsOwn h m n old i
+    go None none = absurd (stood none)
+    go (Some p) is = came_own h k old new m n i p anew (given p is) leaves nodes is
+
+pub old_or : (old : PageMap) (Own : ℕ → Type 0) (Q : Page → Type 0) (id : ℕ) (p : Page) → Own id → (old id ≡ Some p) ⊎ Q p → OldOr old Own Q id p
+old_or old Own Q id p own (inl is) = inl is
+old_or old Own Q id p own (inr fine) = inr (own, fine)
+
+-- what is seen later on, of which each page is one of these or of this sort, as are those that are asked for then, under ids of this sort
+pub record ComesOf (W : Type 0) (F : W → ℕ → Type 0) (A : W → PageMap) (P : W → Page → Type 0) (G : ℕ → Type 0) (old : PageMap) (Q : Page → Type 0) : Type 0 where
+  pub seen : W
+  pub own : (i : ℕ) → F seen i → G i
+  pub was : (id : ℕ) (p : Page) → A seen id ≡ Some p → OldOr old G Q id p
+  pub fine : (p : Page) → P seen p → Q p
+
+comes_either : (W : Type 0) (F : W → ℕ → Type 0) (A : W → PageMap) (P : W → Page → Type 0) (G : ℕ → Type 0) (old : PageMap) (Q : Page → Type 0) (c : ComesOf W F A P G old Q) (id : ℕ) (p : Page) → OldOr (A c.seen) (F c.seen) (P c.seen) id p → OldOr old G Q id p
+comes_either W F A P G old Q c id p (inl is) = c.was id p is
+comes_either W F A P G old Q c id p (inr asked) = inr (c.own id asked.0, c.fine p asked.1)
+
+only_wider : (c d : Option (List ℕ)) (P Q : ℕ → Page → Type 0) (m : Map) → d ≡ c → ((id : ℕ) (p : Page) → P id p → Q id p) → HoldsOnly d P m → HoldsOnly c Q m
+only_wider c d P Q m same wider only key bytes e = ⊎_elim
+    (λ (col : (key ≡ column_key) × (d ≡ Some bytes)). inl (col.0, sym same ∙ col.1))
+    (λ (at : IsFinePage P key bytes). inr (record { id = at.id; page = at.page; key_is = at.key_is; is = at.is; fine = wider at.id at.page at.fine }))
+    (only key bytes e)
+
+module _ {S V O : Type 0} (s : Ghosts S) (R : Stores V S) where
+  -- later on, of what is seen at first and of pages of a wider sort
+  pub lacks_after : (W X : Type 0) (F : W → ℕ → Type 0) (G : X → ℕ → Type 0) (A : W → PageMap) (B : X → PageMap) (P : W → Page → Type 0) (Q : X → Page → Type 0) (t u : Tree V O) (old mid new : S) → Keeps s old mid → SameStore R t.store u.store → u.column ≡ t.column
+      → ((x : X) → ComesOf W F A P (G x) (B x) (Q x)) → LacksPage s R W F A P u mid new → LacksPage s R X G B Q t old new
+  lacks_after W X F G A B P Q t u old mid new keeps made column comes l = record {
     store = l.store;
     moment = l.moment;
     id = l.id;
     page = l.page;
-    made = same_store_then R v w l.store made l.made;
+    made = same_store_then R t.store u.store l.store made l.made;
     since = keeps_then s old mid l.moment keeps l.since;
     until = l.until;
-    held = l.held;
-    fine = wider l.page l.fine;
+    held = λ x.
+        let h = l.held (comes x).seen in
+        (h.0, h.1, only_wider t.column u.column (OldOr (A (comes x).seen) (F (comes x).seen) (P (comes x).seen)) (OldOr (B x) (G x) (Q x)) h.0 column (comes_either W F A P (G x) (B x) (Q x) (comes x)) h.2);
+    own = λ x. (comes x).own l.id (l.own (comes x).seen);
+    fine = λ x. (comes x).fine l.page (l.fine (comes x).seen);
     spelled = l.spelled;
     by = l.by;
   }
 
+  -- of pages that are seen
+  pub seen_after : (C D : PageMap → Type 0) (F G : PageMap → ℕ → Type 0) (P Q : PageMap → Page → Type 0) (t u : Tree V O) (old mid new : S) → Keeps s old mid → SameStore R t.store u.store → u.column ≡ t.column
+      → ((pages : PageMap) → D pages → ComesOf (Seen C) (λ w i. F w.0 i) (λ w. w.0) (λ w p. P w.0 p) (G pages) pages (Q pages)) → LacksSeen s R C F P u mid new → LacksSeen s R D G Q t old new
+  seen_after C D F G P Q t u old mid new keeps made column comes l = lacks_after (Seen C) (Seen D) (λ w i. F w.0 i) (λ w i. G w.0 i) (λ w. w.0) (λ w. w.0) (λ w p. P w.0 p) (λ w p. Q w.0 p) t u old mid new keeps made column (λ x. comes x.0 x.1) l
+
+  -- and nothing was written
+  pub seen_still : (C D : PageMap → Type 0) (F G : PageMap → ℕ → Type 0) (P Q : PageMap → Page → Type 0) (t u : Tree V O) (old mid new : S) → Keeps s old mid → SameStore R t.store u.store → u.column ≡ t.column
+      → ((pages : PageMap) → D pages → C pages) → ((pages : PageMap) → D pages → (i : ℕ) → F pages i → G pages i) → ((p : Page) (pages : PageMap) → D pages → P pages p → Q pages p) → LacksSeen s R C F P u mid new → LacksSeen s R D G Q t old new
+  seen_still C D F G P Q t u old mid new keeps made column on ids wider l =
+      seen_after C D F G P Q t u old mid new keeps made column (λ pages d. record { seen = (pages, on pages d); own = ids pages d; was = λ id p is. inl is; fine = λ p fine. wider p pages d fine }) l
+
+module _ {S V : Type 0} (s : Ghosts S) (R : Stores V S) where
   -- the same store
   pub same_store_at : (v w : V) → w ≡ v → SameStore R v w
   same_store_at v w e = subst (λ (x : V). SameStore R v x) (sym e) (same_store_refl R v)

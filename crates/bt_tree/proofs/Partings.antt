@@ -33,13 +33,13 @@ use Rattle.bt_ways.proofs.Within.{parts_join}
 use Rattle.bt_tree.specs.declared.parting.Laid.{Laid}
 use Rattle.bt_tree.specs.declared.parting.Parted.{Parted}
 use Rattle.bt_tree.specs.declared.tree.Tree.{Tree}
-use Rattle.bt_tree.specs.Climbing.{CanClimb, FillsWay, Grows, HasWay, IsAmong, IsFullWay, IsKnownNode, IsWayNode, IsWayOf, ShowsWay, StoodIn, TurnsClimbed, entry_key}
+use Rattle.bt_tree.specs.Climbing.{CanClimb, FillsWay, Grows, HasWay, IsAmong, IsFullWay, IsKnownNode, IsWayOf, ShowsWay, StoodIn, TurnsClimbed, entry_key, way_most}
 use Rattle.bt_tree.specs.Meaning.{file_in}
 use Rattle.bt_tree.specs.Numbers.{with_last, with_leaf_ids}
-use Rattle.bt_tree.specs.Paging.{ComesAnew, ComesFrom, FillsIds, HasLeafAt, IsLeafId, IsShown, LacksPage, Peeks, PutsAt, Rewrites, Shows, StaysStill}
-use Rattle.bt_tree.specs.Parting.{AddsAll, AddsBehind, ArePartedIn, ArePartsOf, ClimbsIn, HasLeaf, IsLaid, IsLeafPiece, IsPiece, LacksId, TurnsParted, IsStretch, item_key, ShowsLeaf, Widens, laid_at, laid_parts, last_part, parts_from, put_laid}
-use Rattle.bt_tree.proofs.Climbings.{among_back, nodes_stay, put_either, put_was}
-use Rattle.bt_tree.proofs.Pagings.{Gives, anew_put, anew_refl, anew_then, fills_on, fills_then, lacks_after, looked_shows, more_shows, leaf_fresh, leaf_given, leaf_node, others_at, put_here, put_other, same_store_at}
+use Rattle.bt_tree.specs.Paging.{ComesAnew, ComesFrom, FillsIds, HasLeafAt, IsLeafId, IsOwn, IsShown, LacksSeen, LacksThis, Peeks, PutsAt, Rewrites, Shows, StaysStill}
+use Rattle.bt_tree.specs.Parting.{AddsAll, AddsBehind, AreNext, ArePartedIn, ArePartsOf, ClimbsIn, HasLeaf, IsLaid, IsLaidId, IsPiece, LacksId, LacksLaid, TurnsParted, IsStretch, item_key, ShowsLeaf, Widens, laid_at, laid_parts, last_part, parts_from, put_laid}
+use Rattle.bt_tree.proofs.Climbings.{among_back, nodes_stay, put_either, put_was, put_where, way_more}
+use Rattle.bt_tree.proofs.Pagings.{Gives, anew_put, anew_refl, anew_then, came_own, came_stood, fills_on, fills_then, looked_shows, more_shows, leaf_fresh, leaf_given, leaf_node, next_more, old_or, others_at, put_here, put_other, same_store_at, seen_after, seen_still, shown_given, stood_at}
 
 -- ---- leaves that are written
 
@@ -215,6 +215,11 @@ pub from_all : (given : ℕ) (second third : List Item) → (Q : Part → Type 0
 from_all given second [] Q q r = (q, tt)
 from_all given second (x ∷ third) Q q r = (q, (r (omega arith), tt))
 
+-- these are the next ids
+from_next : (given : ℕ) (second third : List Item) → AreNext given (parts_from given second third)
+from_next given second [] = (refl, tt)
+from_next given second (x ∷ third) = (refl, (refl, tt))
+
 pub from_some : (given : ℕ) (second third : List Item) → (1 ≤ length (parts_from given second third)) × (length (parts_from given second third) ≤ 2)
 from_some given second [] = (omega arith, omega arith)
 from_some given second (x ∷ third) = (omega arith, omega arith)
@@ -336,11 +341,27 @@ full_laid limit leaves pages more zero path full = tt
 full_laid limit leaves pages more (suc n) [] full = full
 full_laid limit leaves pages more (suc n) (step ∷ path) full = (full.0, laid_was leaves pages step.0 full.0 full.1, full.2, full_laid limit leaves pages 1 n path full.3)
 
-way_laid : (limit : ℕ) (leaves : List Laid) (pages : PageMap) (root : ℕ) (path : List (ℕ × ℕ)) (added : List NodeEntry) (n : Node) → IsWayOf limit (put_laid leaves pages) root path added n → IsWayOf limit pages root path added n
-way_laid limit leaves pages root [] added n is = is
-way_laid limit leaves pages root (step ∷ path) added n is = (is.0, laid_was leaves pages step.0 is.0 is.1, ⊎_elim (λ own. inl own) (λ up. inr (up.0, up.1, up.2, way_laid limit leaves pages root path (up.0 ∷ []) n up.3)) is.2)
+way_laid : (limit most : ℕ) (leaves : List Laid) (pages : PageMap) (root : ℕ) (path : List (ℕ × ℕ)) (added : List NodeEntry) (n : Node) → IsWayOf limit most (put_laid leaves pages) root path added n → IsWayOf limit most pages root path added n
+way_laid limit most leaves pages root [] added n is = is
+way_laid limit most leaves pages root (step ∷ path) added n is = (is.0, laid_was leaves pages step.0 is.0 is.1, ⊎_elim (λ own. inl own) (λ up. inr (up.0, up.1, up.2, up.3, way_laid limit most leaves pages root path (up.0 ∷ []) n up.4)) is.2)
 
 -- a page once leaves were laid
+laid_where : (leaves : List Laid) (pages : PageMap) (j : ℕ) (p : Page) → put_laid leaves pages j ≡ Some p → (pages j ≡ Some p) ⊎ (IsLaidId leaves j × IsLaid leaves p)
+laid_where [] pages j p is = inl is
+laid_where (l ∷ ls) pages j p is = ⊎_elim
+    (λ (was : put_at l.id (leaf_page l.leaf) pages j ≡ Some p). ⊎_elim
+    (λ (here : (j ≡ l.id) × (p ≡ leaf_page l.leaf)). inr (inl here.0, inl here.1))
+    (λ (old : pages j ≡ Some p). inl old)
+    (put_where pages l.id j (leaf_page l.leaf) p was))
+    (λ (own : IsLaidId ls j × IsLaid ls p). inr (inr own.0, inr own.1))
+    (laid_where ls (put_at l.id (leaf_page l.leaf) pages) j p is)
+
+-- what holds of each of their ids
+laid_id : (Q : ℕ → Type 0) (leaves : List Laid) (i : ℕ) → AllByRecursion (λ l. Q l.id) leaves → IsLaidId leaves i → Q i
+laid_id Q [] i all own = absurd own
+laid_id Q (l ∷ ls) i all (inl e) = subst (λ (j : ℕ). Q j) (sym e) all.0
+laid_id Q (l ∷ ls) i all (inr more) = laid_id Q ls i all.1 more
+
 laid_either : (leaves : List Laid) (pages : PageMap) (j : ℕ) (p : Page) → put_laid leaves pages j ≡ Some p → (pages j ≡ Some p) ⊎ IsLaid leaves p
 laid_either [] pages j p is = inl is
 laid_either (l ∷ ls) pages j p is = ⊎_elim
@@ -408,9 +429,33 @@ module _ {S V O : Type 0} (s : Ghosts S) (R : Stores V S) (leaves : List Laid) (
         still = still_then s R t u v a b d l.still still;
       }
 
-      pub lays_lacks : (d : S) → LacksPage s R (λ p. p ≡ leaf_page laid.leaf) u.store b d → LacksPage s R (IsLaid leaves) t.store a d
-      lays_lacks d lacks = lacks_after s R (λ p. p ≡ leaf_page laid.leaf) (IsLaid leaves) t.store u.store a b d l.still.keeps l.still.made (λ p e. subst (λ (x : List Laid). IsLaid x p) (sym whole) (among l.front p e)) lacks
+      pub lays_lacks : (d : S) → LacksThis s R laid.id (leaf_page laid.leaf) u b d → LacksLaid s R leaves t a d
+      lays_lacks d lacks =
+          seen_after s R (Shows s R u b) (Shows s R t a) (λ pages i. i ≡ laid.id) (λ pages i. IsLaidId leaves i) (λ pages p. p ≡ leaf_page laid.leaf) (λ pages p. IsLaid leaves p) t u a b d l.still.keeps l.still.made l.still.column
+          (λ pages h. record {
+            seen = (put_laid l.front pages, l.writes.means pages h);
+            own = λ i e. subst (λ (x : List Laid). IsLaidId x i) (sym whole) (id_among l.front i e);
+            was = λ j p is. ⊎_elim
+                (λ (old : pages j ≡ Some p). inl old)
+                (λ (own : IsLaidId l.front j × IsLaid l.front p). inr (subst (λ (x : List Laid). IsLaidId x j) (sym whole) (id_front l.front j own.0), subst (λ (x : List Laid). IsLaid x p) (sym whole) (in_front l.front p own.1)))
+                (laid_where l.front pages j p is);
+            fine = λ p e. subst (λ (x : List Laid). IsLaid x p) (sym whole) (among l.front p e);
+          }) lacks
         where
+          id_among : (xs : List Laid) (i : ℕ) → i ≡ laid.id → IsLaidId (xs ++ laid ∷ rest') i
+          id_among [] i e = inl e
+          id_among (x ∷ xs) i e = inr (id_among xs i e)
+
+          id_front : (xs : List Laid) (i : ℕ) → IsLaidId xs i → IsLaidId (xs ++ laid ∷ rest') i
+          id_front [] i own = absurd own
+          id_front (x ∷ xs) i (inl e) = inl e
+          id_front (x ∷ xs) i (inr more) = inr (id_front xs i more)
+
+          in_front : (xs : List Laid) (p : Page) → IsLaid xs p → IsLaid (xs ++ laid ∷ rest') p
+          in_front [] p own = absurd own
+          in_front (x ∷ xs) p (inl e) = inl e
+          in_front (x ∷ xs) p (inr more) = inr (in_front xs p more)
+
           among : (xs : List Laid) (p : Page) → p ≡ leaf_page laid.leaf → IsLaid (xs ++ laid ∷ rest') p
           among [] p e = inl e
           among (x ∷ xs) p e = inr (among xs p e)
@@ -476,6 +521,9 @@ module _ {S V O : Type 0} (s : Ghosts S) (R : Stores V S) (t u v w : Tree V O) (
       same_store_then R t.store v.store w.store
       (same_store_then R t.store u.store v.store (same_store_at s R t.store u.store (ap (λ (x : Tree V O). x.store) noted)) peeks.still.made) (same_store_at s R v.store w.store (ap (λ (x : Tree V O). x.store) follows))
 
+  wcolumn : w.column ≡ t.column
+  wcolumn = ap (λ (y : Tree V O). y.column) follows ∙ peeks.still.column ∙ ap (λ (y : Tree V O). y.column) noted
+
   shows_u : (pages : PageMap) → Shows s R t a pages → Shows s R u a pages
   shows_u = given_shows s R t u a id leaf ready noted more_given small
 
@@ -512,6 +560,9 @@ module _ {S V O : Type 0} (s : Ghosts S) (R : Stores V S) (t u v w : Tree V O) (
       none_node : (n : Node) → ◌≡◌ {A = Option Page} None (Some (node_page n)) → ⊥
       none_node n e = cc
 
+  laid_own : (pages : PageMap) → ShowsLeaf s R id leaf.next t a pages → AllByRecursion (λ l. IsOwn t.head 2 (suc (length t.path)) pages l.id) leaves
+  laid_own pages h = ids pages h (λ i. IsOwn t.head 2 (suc (length t.path)) pages i) (λ i g l is. inl (stood_at pages i i (leaf_page l) is refl)) (λ i more most. inr (inl (more, omega (arith, most, (from_some t.head.leaf_ids second third).1))))
+
   laid_ids : (pages : PageMap) → ShowsLeaf s R id leaf.next t a pages → AllByRecursion (λ l. IsGiven t.head l.id → pages l.id ≡ None → ⊥) leaves
   laid_ids pages h = ids pages h (λ i. IsGiven t.head i → pages i ≡ None → ⊥) (λ i g l e given_i none. none_leaf l (sym none ∙ e)) not_given
     where
@@ -542,6 +593,12 @@ module _ {S V O : Type 0} (s : Ghosts S) (R : Stores V S) (t u v w : Tree V O) (
       (from_all t.head.leaf_ids second third (λ z. ItemsWithin t.head.leaf_limit z.items × IsStretch z.items leaf.items) (subst (λ (z : List Item). ItemsWithin t.head.leaf_limit z × IsStretch z leaf.items) (sym two) (c.second, stretches.1))
       (λ lt. subst (λ (z : List Item). ItemsWithin t.head.leaf_limit z × IsStretch z leaf.items) (sym three) (c.third, stretches.2))) is in
       subst (λ (z : Page). IsPiece t.head t.path leaf.items leaf.next pages z) (sym k.1) k.2
+
+  -- once they are written, each page is an old one or one of them
+  laid_old : (i j : ℕ) → items ≡ take i leaf.items → second ≡ take (j - i) (drop i leaf.items) → third ≡ drop j leaf.items → IsCut t.head.leaf_limit leaf.items i j → (pages : PageMap) → ShowsLeaf s R id leaf.next t a pages → (z : ℕ) (q : Page)
+      → put_laid leaves pages z ≡ Some q → (pages z ≡ Some q) ⊎ IsPiece t.head t.path leaf.items leaf.next pages q
+  laid_old i j one two three c pages h z q was =
+      ⊎_elim (λ (old : pages z ≡ Some q). inl old) (λ (own : IsLaid leaves q). inr (laid_piece i j one two three c pages h q own)) (laid_either leaves pages z q was)
 
   module _ (x : Tree V O) (d : S) (lays : Rewrites s R (put_laid leaves) w x b d) (still_x : StaysStill s R w x b d) where
     xhead : x.head ≡ w.head
@@ -609,26 +666,51 @@ module _ {S V O : Type 0} (s : Ghosts S) (R : Stores V S) (t u v w : Tree V O) (
           used = inr (k.0, omega (arith, k.1, ap (λ (y : TreeHead). y.node_ids) (xhead ∙ whead)), full_laid t.head.node_limit leaves pages (length parts) k.0 t.path f3);
         }
 
-    climb_piece : (i j : ℕ) → items ≡ take i leaf.items → second ≡ take (j - i) (drop i leaf.items) → third ≡ drop j leaf.items → IsCut t.head.leaf_limit leaf.items i j → (pages : PageMap) (q : Page) → IsKnownNode x.head.node_limit x.head.root x.path p.added (put_laid leaves pages) q
+    climb_piece : (i j : ℕ) → items ≡ take i leaf.items → second ≡ take (j - i) (drop i leaf.items) → third ≡ drop j leaf.items → IsCut t.head.leaf_limit leaf.items i j → (pages : PageMap) (q : Page) → IsKnownNode x.head.node_limit (way_most x.head x.path) x.head.root x.path p.added (put_laid leaves pages) q
         → IsPiece t.head t.path leaf.items leaf.next pages q
     climb_piece i j one two three c pages q n =
         let limit : x.head.node_limit ≡ t.head.node_limit = ap (λ (y : TreeHead). y.node_limit) xhead ∙ wlimit in
-        let w1 : IsWayOf x.head.node_limit (put_laid leaves pages) x.head.root t.path p.added n.0 = subst (λ (z : List (ℕ × ℕ)). IsWayOf x.head.node_limit (put_laid leaves pages) x.head.root z p.added n.0) (still_x.path ∙ wpath) n.4 in
-        let w2 : IsWayOf x.head.node_limit (put_laid leaves pages) t.head.root t.path p.added n.0 = subst (λ (r : ℕ). IsWayOf x.head.node_limit (put_laid leaves pages) r t.path p.added n.0) (ap (λ (y : TreeHead). y.root) xhead ∙ wroot) w1 in
-        let w3 : IsWayOf t.head.node_limit (put_laid leaves pages) t.head.root t.path p.added n.0 = subst (λ (m : ℕ). IsWayOf m (put_laid leaves pages) t.head.root t.path p.added n.0) limit w2 in
-        let w4 : IsWayOf t.head.node_limit pages t.head.root t.path (map part_entry parts) n.0 = subst (λ (es : List NodeEntry). IsWayOf t.head.node_limit pages t.head.root t.path es n.0) made.added (way_laid t.head.node_limit leaves pages t.head.root t.path p.added n.0 w3) in
-        let climbs : ClimbsIn t.head pages t.path leaf.items n.0 = (length parts, parts_in i j one two three c, w4) in
+        let w1 : IsWayOf x.head.node_limit (way_most x.head x.path) (put_laid leaves pages) x.head.root t.path p.added n.0 = subst (λ (z : List (ℕ × ℕ)). IsWayOf x.head.node_limit (way_most x.head x.path) (put_laid leaves pages) x.head.root z p.added n.0) (still_x.path ∙ wpath) n.4 in
+        let w2 : IsWayOf x.head.node_limit (way_most x.head x.path) (put_laid leaves pages) t.head.root t.path p.added n.0 = subst (λ (r : ℕ). IsWayOf x.head.node_limit (way_most x.head x.path) (put_laid leaves pages) r t.path p.added n.0) (ap (λ (y : TreeHead). y.root) xhead ∙ wroot) w1 in
+        let w3 : IsWayOf t.head.node_limit (way_most x.head x.path) (put_laid leaves pages) t.head.root t.path p.added n.0 = subst (λ (m : ℕ). IsWayOf m (way_most x.head x.path) (put_laid leaves pages) t.head.root t.path p.added n.0) limit w2 in
+        let most : way_most x.head x.path ≤ way_most t.head t.path = omega (arith, ap (λ (y : TreeHead). y.node_ids) (xhead ∙ whead), ap length (still_x.path ∙ wpath)) in
+        let w3' : IsWayOf t.head.node_limit (way_most t.head t.path) (put_laid leaves pages) t.head.root t.path p.added n.0 = way_more t.head.node_limit (way_most x.head x.path) (way_most t.head t.path) (put_laid leaves pages) t.head.root t.path p.added n.0 most w3 in
+        let w4 : IsWayOf t.head.node_limit (way_most t.head t.path) pages t.head.root t.path (map part_entry parts) n.0 = subst (λ (es : List NodeEntry). IsWayOf t.head.node_limit (way_most t.head t.path) pages t.head.root t.path es n.0) made.added (way_laid t.head.node_limit (way_most t.head t.path) leaves pages t.head.root t.path p.added n.0 w3') in
+        let climbs : ClimbsIn t.head pages t.path leaf.items n.0 = (length parts, parts_in i j one two three c, from_next t.head.leaf_ids second third, w4) in
         subst (λ (z : Page). IsPiece t.head t.path leaf.items leaf.next pages z) (sym n.1) (
           omega (arith, n.2, limit),
           all_map (λ (y : NodeEntry). IsAmong entry_key y.key p.added ⊎ StoodIn (put_laid leaves pages) y.key) (λ (y : NodeEntry). IsAmong item_key y.key leaf.items ⊎ StoodIn pages y.key) n.0.entries (λ y k. piece_key i j one two three c pages y.key k) n.3,
           climbs,
         )
 
+    way_leaves : x.head.leaf_ids ≤ t.head.leaf_ids + 2
+    way_leaves = omega (arith, ap (λ (y : TreeHead). y.leaf_ids) xhead, wids, (from_some t.head.leaf_ids second third).1)
+
+    way_nodes : x.head.node_ids ≤ t.head.node_ids + suc (length t.path)
+    way_nodes = omega (arith, ap (λ (y : TreeHead). y.node_ids) (xhead ∙ whead))
+
+    -- what had a page or is next, once the leaves are written, did so or is
+    way_own : (pages : PageMap) → ShowsLeaf s R id leaf.next t a pages → (z : ℕ) → IsOwn x.head 0 (suc (length x.path)) (put_laid leaves pages) z → IsOwn t.head 2 (suc (length t.path)) pages z
+    way_own pages h z (inl stood) =
+        came_stood t.head x.head pages (put_laid leaves pages) 2 (suc (length t.path)) z (laid_anew t.head leaves pages (laid_ids pages h)) (λ q is. shown_given s R x d (put_laid leaves pages) (way_on pages h).0 z q is) way_leaves way_nodes stood
+    way_own pages h z (inr next) = inr (next_more t.head x.head 0 (suc (length x.path)) 2 (suc (length t.path)) z
+        (omega (arith, ap (λ (y : TreeHead). y.leaf_ids) xhead, wids)) (omega (arith, ap (λ (y : TreeHead). y.leaf_ids) xhead, wids, (from_some t.head.leaf_ids second third).1))
+        (omega (arith, ap (λ (y : TreeHead). y.node_ids) (xhead ∙ whead))) (omega (arith, ap (λ (y : TreeHead). y.node_ids) (xhead ∙ whead), ap length (still_x.path ∙ wpath))) next)
+
     pub lacks_climb : (i j : ℕ) (e : S) → items ≡ take i leaf.items → second ≡ take (j - i) (drop i leaf.items) → third ≡ drop j leaf.items → (s.tells → IsCut t.head.leaf_limit leaf.items i j)
-        → LacksPage s R (IsWayNode s R p.added x d) x.store d e → LacksPage s R (IsLeafPiece s R id leaf t a) t.store a e
+        → LacksSeen s R (ShowsWay s R x d) (IsOwn x.head 0 (suc (length x.path))) (IsKnownNode x.head.node_limit (way_most x.head x.path) x.head.root x.path p.added) x d e
+        → LacksSeen s R (ShowsLeaf s R id leaf.next t a) (IsOwn t.head 2 (suc (length t.path))) (IsPiece t.head t.path leaf.items leaf.next) t a e
     lacks_climb i j e one two three cut l =
-        lacks_after s R (IsWayNode s R p.added x d) (IsLeafPiece s R id leaf t a) t.store x.store a d e (keeps_then s a b d peeks.still.keeps still_x.keeps) (same_store_then R t.store w.store x.store wmade still_x.made)
-        (λ q fine pages h. climb_piece i j one two three (cut h.0.0) pages q (fine (put_laid leaves pages) (way_on pages h))) l
+        seen_after s R (ShowsWay s R x d) (ShowsLeaf s R id leaf.next t a) (IsOwn x.head 0 (suc (length x.path))) (IsOwn t.head 2 (suc (length t.path))) (IsKnownNode x.head.node_limit (way_most x.head x.path) x.head.root x.path p.added) (IsPiece t.head t.path leaf.items leaf.next) t x a d e
+        (keeps_then s a b d peeks.still.keeps still_x.keeps) (same_store_then R t.store w.store x.store wmade still_x.made) (still_x.column ∙ wcolumn)
+        (λ pages h. record {
+          seen = (put_laid leaves pages, way_on pages h);
+          own = λ z own. way_own pages h z own;
+          was = λ z q is. old_or pages (IsOwn t.head 2 (suc (length t.path)) pages) (IsPiece t.head t.path leaf.items leaf.next pages) z q
+              (came_own t.head x.head pages (put_laid leaves pages) 2 (suc (length t.path)) z q (laid_anew t.head leaves pages (laid_ids pages h)) (shown_given s R x d (put_laid leaves pages) (way_on pages h).0 z q is) way_leaves way_nodes is)
+              (laid_old i j one two three (cut h.0.0) pages h z q is);
+          fine = λ q known. climb_piece i j one two three (cut h.0.0) pages q known;
+        }) l
 
     module _ (i j : ℕ) (one : items ≡ take i leaf.items) (two : second ≡ take (j - i) (drop i leaf.items)) (three : third ≡ drop j leaf.items) (cut : s.tells → IsCut t.head.leaf_limit leaf.items i j)
         (y : Tree V O) (e : S) (climb : TurnsClimbed s R p.added x y d e) (yhead : y.head ≡ record x.head { root = y.head.root; node_ids = y.head.node_ids }) where
@@ -663,7 +745,7 @@ module _ {S V O : Type 0} (s : Ghosts S) (R : Stores V S) (t u v w : Tree V O) (
                 within = subst (λ (z : List Item). ItemsWithin t.head.leaf_limit z) (sym one) c.first;
                 are_within = from_all t.head.leaf_ids second third (λ q. ItemsWithin t.head.leaf_limit q.items) (subst (λ (z : List Item). ItemsWithin t.head.leaf_limit z) (sym two) c.second) (λ lt. subst (λ (z : List Item). ItemsWithin t.head.leaf_limit z) (sym three) c.third);
                 written = λ z q is. ⊎_elim
-                    (λ (was : put_laid leaves pages z ≡ Some q). ⊎_elim (λ (old : pages z ≡ Some q). inl old) (λ (own : IsLaid leaves q). inr (laid_piece i j one two three c pages h q own)) (laid_either leaves pages z q was))
+                    (λ (was : put_laid leaves pages z ≡ Some q). laid_old i j one two three c pages h z q was)
                     (λ known. inr (climb_piece i j one two three c pages q known))
                     (k.2.2 z q is);
                 filled = fills_then t.head x.head y.head k.0 (fills_on t.head x.head (put_laid leaves pages) k.0 (nodes_stay x.head.node_limit (put_laid leaves pages) k.0 k.2.0.limits) (laid_filled pages h)) k.2.3;
@@ -683,14 +765,14 @@ module _ {S V O : Type 0} (s : Ghosts S) (R : Stores V S) (t u v w : Tree V O) (
 
   module _ where
     pub lacks_laid : (i j : ℕ) (d : S) → items ≡ take i leaf.items → second ≡ take (j - i) (drop i leaf.items) → third ≡ drop j leaf.items → (s.tells → IsCut t.head.leaf_limit leaf.items i j)
-        → LacksPage s R (IsLaid leaves) w.store b d → LacksPage s R (IsLeafPiece s R id leaf t a) t.store a d
-    lacks_laid i j d one two three cut l = lacks_after s R (IsLaid leaves) (IsLeafPiece s R id leaf t a) t.store w.store a b d peeks.still.keeps wmade (λ q is pages h. laid_piece i j one two three (cut h.0.0) pages h q is) l
+        → LacksLaid s R leaves w b d → LacksSeen s R (ShowsLeaf s R id leaf.next t a) (IsOwn t.head 2 (suc (length t.path))) (IsPiece t.head t.path leaf.items leaf.next) t a d
+    lacks_laid i j d one two three cut l =
+        seen_still s R (Shows s R w b) (ShowsLeaf s R id leaf.next t a) (λ pages z. IsLaidId leaves z) (IsOwn t.head 2 (suc (length t.path))) (λ pages p. IsLaid leaves p) (IsPiece t.head t.path leaf.items leaf.next) t w a b d peeks.still.keeps wmade wcolumn (λ pages h. shows_w pages h.0)
+        (λ pages h z own. laid_id (λ k. IsOwn t.head 2 (suc (length t.path)) pages k) leaves z (laid_own pages h) own)
+        (λ q pages h is. laid_piece i j one two three (cut h.0.0) pages h q is) l
 
   -- whatever is answered
   module _ (least : t.head.leaf_ids ≤ u.head.leaf_ids) (most : u.head.leaf_ids ≤ t.head.leaf_ids + 2) (x : Tree V O) (d : S) (still_x : StaysStill s R w x b d) where
-    wcolumn : w.column ≡ t.column
-    wcolumn = ap (λ (y : Tree V O). y.column) follows ∙ peeks.still.column ∙ ap (λ (y : Tree V O). y.column) noted
-
     from_head : x.head ≡ record t.head { last = (if leaf.next == 0 then p.last else t.head.last); leaf_ids = u.head.leaf_ids }
     from_head = still_x.head ∙ whead
 

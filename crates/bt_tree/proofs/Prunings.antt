@@ -29,11 +29,11 @@ use Rattle.bt_ways.proofs.Removing.{node_goes, node_loses, root_is_alone}
 use Rattle.bt_ways.proofs.RemovingRoots.{root_gives_way}
 use Rattle.bt_tree.specs.declared.tree.Tree.{Tree}
 use Rattle.bt_tree.specs.Climbing.{CanClimb, HasWay, IsAmong, NodesWithin, ShowsWay, StoodIn, entry_key}
-use Rattle.bt_tree.specs.Paging.{HasNodeAt, IsNodeId, IsPageOf, IsShown, LacksPage, Peeks, PutsAt, Rewrites, Shows, StaysStill}
+use Rattle.bt_tree.specs.Paging.{HasNodeAt, IsNodeId, IsPageOf, IsShown, LacksThis, Peeks, PutsAt, Rewrites, Shows, StaysStill, Stood}
 use Rattle.bt_tree.specs.Removing.{HasRows, InRows, IsHeir, IsLone, IsLowered, IsRemnant, LacksCut, Narrows, ShowsHeir, ShowsRows, Sinks, StaysNumbered, TurnsCut, TurnsSunk}
 use Rattle.bt_tree.proofs.Climbings.{keys_in, put_either}
-use Rattle.bt_tree.proofs.Droppings.{SameIds, all_same, narrows_same, node_id_shown, room_after, same_shows}
-use Rattle.bt_tree.proofs.Pagings.{IsMoved, lacks_after, looked_shows, moved_column, moved_head, moved_height, moved_pages, moved_store, others_at, same_store_at}
+use Rattle.bt_tree.proofs.Droppings.{SameIds, all_same, narrows_same, node_id_shown, remnant_after, same_shows}
+use Rattle.bt_tree.proofs.Pagings.{IsMoved, looked_shows, moved_column, moved_head, moved_height, moved_pages, moved_store, others_at, same_store_at, seen_still, stood_at}
 
 none_long : {X : Type 0} (xs : List X) → length xs ≡ 0 → xs ≡ []
 none_long [] e = refl
@@ -52,6 +52,12 @@ pub dropped_was : (pages : PageMap) (id j : ℕ) (p : Page) → drop_at id pages
 dropped_was pages id j p is = ⊎_elim
     (λ (here : j ≡ id). absurd (node_some p (sym (ap (drop_at id pages) here ∙ (drops id pages).gone) ∙ is)))
     (λ (other : j ≡ id → ⊥). sym ((drops id pages).others j (λ e. absurd (other e))) ∙ is)
+    (cases_eq j id)
+
+drop_none : (pages : PageMap) (id j : ℕ) → pages j ≡ None → drop_at id pages j ≡ None
+drop_none pages id j none = ⊎_elim
+    (λ (here : j ≡ id). ap (drop_at id pages) here ∙ (drops id pages).gone)
+    (λ (other : j ≡ id → ⊥). (drops id pages).others j (λ e. absurd (other e)) ∙ none)
     (cases_eq j id)
 
 pub remnant_dropped : (h k : TreeHead) (pages : PageMap) (id : ℕ) (p : Page) → k.node_limit ≡ h.node_limit → IsRemnant k (drop_at id pages) p → IsRemnant h pages p
@@ -135,6 +141,9 @@ module _ {S V O : Type 0} (s : Ghosts S) (R : Stores V S) where
     same_made : SameStore R t.store v.store
     same_made = same_store_then R t.store r.store v.store (same_store_at s R t.store r.store (moved_store t r rest without)) peeks.still.made
 
+    same_column : v.column ≡ t.column
+    same_column = peeks.still.column ∙ moved_column t r rest without
+
     same_head : v.head ≡ t.head
     same_head = peeks.still.head ∙ moved_head t r rest without
 
@@ -175,10 +184,10 @@ module _ {S V O : Type 0} (s : Ghosts S) (R : Stores V S) where
         others = record { same = λ told g other. (others_at s _ _ b d same_made.file writes.others).same told g other ∙ peeks.looks.reads.now told g };
       }
 
-      pub lost_full : (d : S) → LacksPage s R (λ p. p ≡ node_page (without_place place read)) v.store b d → LacksCut s R t a d
+      pub lost_full : (d : S) → LacksThis s R id (node_page (without_place place read)) v b d → LacksCut s R t a d
       lost_full d l =
-          inl (lacks_after s R _ _ t.store v.store a b d peeks.looks.keeps same_made
-          (λ p is pages h. subst (λ (q : Page). IsRemnant t.head pages q) (sym is) (less_remnant t.head pages id place read (here pages h) some le (h.1.within id read (here pages h)))) l)
+          inl (seen_still s R (Shows s R v b) (ShowsWay s R t a) (λ pages i. i ≡ id) Stood (λ pages p. p ≡ node_page (without_place place read)) (IsRemnant t.head) t v a b d peeks.looks.keeps same_made same_column (λ pages h. now pages h.0) (λ pages h i e. stood_at pages id i (node_page read) (here pages h) e)
+          (λ p pages h is. subst (λ (q : Page). IsRemnant t.head pages q) (sym is) (less_remnant t.head pages id place read (here pages h) some le (h.1.within id read (here pages h)))) l)
 
     -- it has this place alone, and goes
     module _ (none : length read.entries ≡ 0) (w : Tree V O) (d : S) (out : Rewrites s R (drop_at id) v w b d) (still : StaysStill s R v w b d) where
@@ -229,8 +238,13 @@ module _ {S V O : Type 0} (s : Ghosts S) (R : Stores V S) where
 
       pub gone_full : (f : S) → LacksCut s R w d f → LacksCut s R t a f
       gone_full f l =
-          room_after s R _ _ t.store w.store a d f (keeps_then s a b d peeks.looks.keeps still.keeps) made_on
-          (λ p fine pages h. remnant_dropped t.head w.head pages id p (ap (λ (x : TreeHead). x.node_limit) head_on) (fine (drop_at id pages) (shows_above pages h))) l
+          remnant_after s R (ShowsWay s R) (ShowsWay s R) t w a d f (keeps_then s a b d peeks.looks.keeps still.keeps) made_on (still.column ∙ same_column)
+          (λ pages h. record {
+            seen = (drop_at id pages, shows_above pages h);
+            own = λ i stood none. stood (drop_none pages id i none);
+            was = λ j p is. inl (dropped_was pages id j p is);
+            fine = λ p left. remnant_dropped t.head w.head pages id p (ap (λ (x : TreeHead). x.node_limit) head_on) left;
+          }) l
 
       pub cuts_on : (q : Tree V O) (z : S) → IsCutting s R q t z a → IsCutting s R q w z d
       cuts_on q z g =

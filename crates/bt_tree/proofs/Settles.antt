@@ -1,6 +1,6 @@
 -- A tree whose numbers are in its store's region.
-use Rattle.std.proofs.Common.{◌≡◌, ℕ, suc, List, ◌∷◌, ◌++◌, Bool, Option, length, set, replicate, refl, sym, ap, ◌∙◌, subst, inl, inr, ⊎_elim}
-use Rattle.std.specs.Prelude.{is_some}
+use Rattle.std.proofs.Common.{◌≡◌, ℕ, suc, List, Bool, Option, length, set, replicate, refl, sym, ap, ◌∙◌, subst, inl, inr, ⊎_elim}
+use Rattle.std.specs.Prelude.{is_some, OnOk, Result, Ok, Err}
 use Rattle.std.specs.FinMap.{get}
 use Rattle.tc_base.specs.Endian.{le_number, le_bytes}
 use Rattle.tc_base.specs.Files.{wrote}
@@ -10,7 +10,7 @@ use Rattle.tc_base.specs.declared.order.Order.{Ghosts as Orders}
 use Rattle.tc_base.specs.declared.seq.Pair.{Pair}
 use Rattle.tc_space.specs.Changes.{same}
 use Rattle.tc_space.specs.Frames.{Reads, Refuses}
-use Rattle.tc_space.specs.Stores.{KeepsTight, ReadyIn, WritesIn}
+use Rattle.tc_space.specs.Stores.{KeepsTight, PacksIn, ReadyIn, TightIn, TrimsIn, WritesIn}
 use Rattle.tc_space.specs.declared.records.Records.{Ghosts as Stores}
 use Rattle.tc_space.specs.declared.space.Space.{Ghosts}
 use Rattle.bt_rows.specs.declared.head.TreeHead.{TreeHead}
@@ -26,28 +26,23 @@ use Rattle.bt_cache.specs.Held.{AreSame, Holds, Pages}
 use Rattle.bt_tree.specs.declared.tree.Tree.{Tree}
 use Rattle.bt_tree.specs.Inserting.{AddsAnew}
 use Rattle.bt_tree.specs.Meaning.{Changes, IsOpen, Means}
-use Rattle.bt_tree.specs.Settling.{BringsPacked, BringsPairs}
+use Rattle.bt_tree.specs.Settling.{BringsPacked, BringsPairs, TightTree}
+use Rattle.bt_tree.specs.Standing.{region_bytes}
 use Rattle.bt_tree.specs.Trees.{HasKeys, HoldsPairs}
 use Rattle.bt_tree.specs.Visits.{StaysTree}
 use Rattle.bt_tree.proofs.Heights.{high_of}
 
 -- ---- the region
 
-unfoldable spelled : TreeHead → List ℕ
-spelled h =
-    (h.order ∷ replicate 7 0) ++ le_bytes 4 h.leaf_limit ++ le_bytes 4 h.node_limit
-    ++ le_bytes 8 h.root ++ le_bytes 8 h.first ++ le_bytes 8 h.last ++ le_bytes 8 h.leaf_ids ++ le_bytes 8 h.node_ids ++ le_bytes 8 h.pairs
-    ++ replicate 64 0
-
 spelled_head : (h : TreeHead) → le_number (le_bytes 4 h.leaf_limit) ≡ h.leaf_limit → le_number (le_bytes 4 h.node_limit) ≡ h.node_limit → le_number (le_bytes 8 h.root) ≡ h.root → le_number (le_bytes 8 h.first) ≡ h.first
-    → le_number (le_bytes 8 h.last) ≡ h.last → le_number (le_bytes 8 h.leaf_ids) ≡ h.leaf_ids → le_number (le_bytes 8 h.node_ids) ≡ h.node_ids → le_number (le_bytes 8 h.pairs) ≡ h.pairs → head_of (spelled h) ≡ h
-unfolding le_bytes spelled
+    → le_number (le_bytes 8 h.last) ≡ h.last → le_number (le_bytes 8 h.leaf_ids) ≡ h.leaf_ids → le_number (le_bytes 8 h.node_ids) ≡ h.node_ids → le_number (le_bytes 8 h.pairs) ≡ h.pairs → head_of (region_bytes h) ≡ h
+unfolding le_bytes region_bytes
 spelled_head h a b c d e f g k = λ i. record { order = h.order; leaf_limit = a i; node_limit = b i; root = c i; first = d i; last = e i; leaf_ids = f i; node_ids = g i; pairs = k i }
 
-written : (h : TreeHead) (a1 a2 a3 a4 a5 a6 a7 a8 : List ℕ)
+pub written : (h : TreeHead) (a1 a2 a3 a4 a5 a6 a7 a8 : List ℕ)
     → a1 ≡ wrote 8 (le_bytes 4 h.leaf_limit) (set (replicate 128 0) 0 h.order) → a2 ≡ wrote 12 (le_bytes 4 h.node_limit) a1 → a3 ≡ wrote 16 (le_bytes 8 h.root) a2 → a4 ≡ wrote 24 (le_bytes 8 h.first) a3
-    → a5 ≡ wrote 32 (le_bytes 8 h.last) a4 → a6 ≡ wrote 40 (le_bytes 8 h.leaf_ids) a5 → a7 ≡ wrote 48 (le_bytes 8 h.node_ids) a6 → a8 ≡ wrote 56 (le_bytes 8 h.pairs) a7 → a8 ≡ spelled h
-unfolding wrote le_bytes spelled
+    → a5 ≡ wrote 32 (le_bytes 8 h.last) a4 → a6 ≡ wrote 40 (le_bytes 8 h.leaf_ids) a5 → a7 ≡ wrote 48 (le_bytes 8 h.node_ids) a6 → a8 ≡ wrote 56 (le_bytes 8 h.pairs) a7 → a8 ≡ region_bytes h
+unfolding wrote le_bytes region_bytes
 written h a1 a2 a3 a4 a5 a6 a7 a8 e1 e2 e3 e4 e5 e6 e7 e8 = e8 ∙ rw (e7, e6, e5, e4, e3, e2, e1) refl
 
 pub head_written : (h : TreeHead) (a1 a2 a3 a4 a5 a6 a7 a8 : List ℕ)
@@ -148,15 +143,16 @@ module _ {S V O : Type 0} (s : Ghosts S) (R : Stores V S) (o : Orders O) (t u : 
 
 module _ {S V O : Type 0} (s : Ghosts S) (R : Stores V S) (o : Orders O) (t : Tree V O) (v : V) (old new : S)
     (set_means : (bytes : List ℕ) (m : Map) → R.holds t.store bytes m → R.holds v bytes m) (set_file : R.file_of v ≡ R.file_of t.store) where
-  pub settle_stands : (opaque : List ℕ) → head_of opaque ≡ t.head → R.region v ≡ opaque → R.sort v ≡ R.sort t.store → R.numbers v ≡ R.numbers t.store
+  pub settle_stands : (opaque : List ℕ) → head_of opaque ≡ t.head → opaque ≡ region_bytes t.head → R.region v ≡ opaque → R.sort v ≡ R.sort t.store → R.numbers v ≡ R.numbers t.store
       → ((m : Map) → Holds s R v old m → R.stands (R.sort v) (R.numbers v) (s.now new (R.file_of v)) m (R.region v)) → BringsPairs s R o t old new
-  settle_stands opaque is in_region sort fixed stood_for ps means =
+  settle_stands opaque is spelled in_region sort fixed stood_for ps means =
       let m : Map = means.1.records in
       let all : Stood (before_by o.cmp) t.head t.height (is_some t.column) m ps = stood (before_by o.cmp) t.head t.height t.column m ps means.1.is in
       record {
         records = m;
         region = R.region v;
         numbers = ap head_of in_region ∙ is;
+        spelled = in_region ∙ spelled;
         order = means.1.order;
         file = subst (λ (k : ℕ). R.stands k (R.numbers t.store) (s.now new (R.file_of t.store)) m (R.region v)) sort
             (subst (λ (ns : List ℕ). R.stands (R.sort v) ns (s.now new (R.file_of t.store)) m (R.region v)) fixed
@@ -167,7 +163,24 @@ module _ {S V O : Type 0} (s : Ghosts S) (R : Stores V S) (o : Orders O) (t : Tr
         are = all.are;
       }
 
-  pub settle_packs : KeepsTight R.tight t.store v → ((form : Form) (m : Map) → R.tight v form → Holds s R v old m → R.packed form (s.now new (R.file_of v))) → BringsPacked s R o t old new
-  settle_packs tight packs form ps is means =
-      subst (λ (f : ℕ). R.packed form (s.now new f)) set_file
-      (packs form means.1.records (tight form is) (at_store s R o t t v t.store old new set_means set_file refl (record { head = refl; height = refl; column = refl }) refl means.1.records (means.0, means.1.store)))
+  store_held : (ps : List Pair) (means : Means s R o t old ps) → Holds s R v old means.1.records
+  store_held ps means = at_store s R o t t v t.store old new set_means set_file refl (record { head = refl; height = refl; column = refl }) refl means.1.records (means.0, means.1.store)
+
+  pub settle_packs : KeepsTight R.tight t.store v → PacksIn s R.file_of R.holds R.tight R.packed v old new → TrimsIn s R.file_of R.holds R.slack v old new → BringsPacked s R o t old new
+  settle_packs tight packs trims = record {
+    packs = λ from form ps is means.
+        let was : R.tight v from form (s.now old (R.file_of v)) = subst (λ (f : ℕ). R.tight v from form (s.now old f)) (sym set_file) (tight from form (s.now old (R.file_of t.store)) is) in
+        subst (λ (f : ℕ). R.packed from form (s.now new f)) set_file (packs from form means.1.records was (store_held ps means));
+    trims = λ ps means. subst (λ (f : ℕ). R.slack (s.now new f) ≡ 0) set_file (trims means.1.records (store_held ps means));
+  }
+
+-- ---- packed
+
+module _ {S V O : Type 0} (s : Ghosts S) (R : Stores V S) (o : Orders O) (t u : Tree V O) (old new : S) where
+  pub pack_tight : (form : Form) → TightIn s R.file_of R.holds R.tight form t.store u.store old new → TightTree s R o form t u old new
+  pack_tight form tight ps means = tight means.1.records (means.0, means.1.store)
+
+-- of what went well, two facts together
+pub both_done : {T E P Q A : Type 0} (r : Result T E) → (P → Q → A) → OnOk r P → OnOk r Q → OnOk r A
+both_done (Ok x) f p q = f p q
+both_done (Err e) f p q = tt

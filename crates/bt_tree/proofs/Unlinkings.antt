@@ -35,11 +35,11 @@ use Rattle.bt_ways.proofs.RemovingLinks.{next_zero, none_front, none_back}
 use Rattle.bt_ways.proofs.RemovingRoots.{only_leaf_empties}
 use Rattle.bt_tree.specs.declared.tree.Tree.{Tree}
 use Rattle.bt_tree.specs.Climbing.{CanClimb, HasWay, NodesWithin, ShowsWay, StoodIn}
-use Rattle.bt_tree.specs.Paging.{ComesNone, HasLeafAt, IsLeafId, IsPageOf, IsShown, LacksPage, Peeks, PutsAt, Rewrites, Shows}
+use Rattle.bt_tree.specs.Paging.{ComesNone, HasLeafAt, IsLeafId, IsPageOf, IsShown, LacksThis, Peeks, PutsAt, Rewrites, Shows, Stood}
 use Rattle.bt_tree.specs.Removing.{AtLast, Cuts, HasLast, HasLink, HasLinks, HasRows, InRows, IsRemnant, LacksCut, LacksLast, LacksLink, LacksLinks, Narrows, ShowsLast, ShowsLink, ShowsLinks, SinksTo, StaysBeside, StaysNumbered, TurnsCut, TurnsLinked, TurnsSunk, TurnsUnlinked, TurnsVacated, Vacated, WritesRemnants, first_after, last_after, without_linked}
 use Rattle.bt_tree.proofs.Climbings.{put_either}
-use Rattle.bt_tree.proofs.Droppings.{SameIds, given_same, leaf_id_shown, narrow_ids, node_id_shown, none_at_zero, room_after, same_shows}
-use Rattle.bt_tree.proofs.Pagings.{lacks_after, looked_shows, others_at}
+use Rattle.bt_tree.proofs.Droppings.{SameIds, given_same, leaf_id_shown, narrow_ids, node_id_shown, none_at_zero, remnant_after, same_shows}
+use Rattle.bt_tree.proofs.Pagings.{looked_shows, old_or, others_at, seen_after, seen_still, stood_at, stood_was}
 use Rattle.bt_tree.proofs.Prunings.{dropped_was, node_some}
 
 -- ---- no page comes
@@ -158,6 +158,11 @@ seen_before f pages leaf_was node_was h k (node_page n) e known = (
 remnant_relinked : (f : PageMap → PageMap) → IsRelink f → (h k : TreeHead) (pages : PageMap) (p : Page) → k.node_limit ≡ h.node_limit → IsRemnant k (f pages) p → IsRemnant h pages p
 remnant_relinked f r h k pages p e known = seen_before f pages (r.leaf_was pages) (r.node_was pages) h k p e known
 
+-- each page is an old one, or a leaf with the items of one
+relinked_written : (f : PageMap → PageMap) → IsRelink f → (h : TreeHead) (pages : PageMap) → WritesRemnants h pages (f pages)
+relinked_written f r h pages j (leaf_page k) is = let u = r.leaf_was pages j k is in inr (inr (record { id = j; was = u.0; there = u.1; same = u.2 }))
+relinked_written f r h pages j (node_page n) is = inl (r.node_was pages j n is)
+
 -- ---- one link
 
 module _ {S V O : Type 0} (s : Ghosts S) (R : Stores V S) (id : ℕ) (f : PageMap → PageMap) where
@@ -197,10 +202,10 @@ module _ {S V O : Type 0} (s : Ghosts S) (R : Stores V S) (id : ℕ) (f : PageMa
       others = record { same = λ told g other. (others_at s _ _ b d peeks.still.made.file writes.others).same told g other ∙ peeks.looks.reads.now told g };
     }
 
-    pub link_full : (d : S) → LacksPage s R (λ p. p ≡ leaf_page (relink read)) v.store b d → LacksLink s R id t a d
+    pub link_full : (d : S) → LacksThis s R id (leaf_page (relink read)) v b d → LacksLink s R id t a d
     link_full d l =
-        inl (lacks_after s R _ _ t.store v.store a b d peeks.looks.keeps peeks.looks.made
-        (λ p is pages h. subst (λ (q : Page). IsRemnant t.head pages q) (sym is) (inr (record { id = id; was = read; there = here pages h; same = items read }))) l)
+        inl (seen_still s R (Shows s R v b) (ShowsLink s R id t a) (λ pages i. i ≡ id) Stood (λ pages p. p ≡ leaf_page (relink read)) (IsRemnant t.head) t v a b d peeks.looks.keeps peeks.looks.made peeks.still.column (λ pages h. now pages h) (λ pages h i e. stood_at pages id i (leaf_page read) (here pages h) e)
+        (λ p pages h is. subst (λ (q : Page). IsRemnant t.head pages q) (sym is) (inr (record { id = id; was = read; there = here pages h; same = items read }))) l)
 
 -- ---- both links, and the page itself
 
@@ -209,7 +214,8 @@ module _ {S V O : Type 0} (s : Ghosts S) (R : Stores V S) (id prev next : ℕ) w
   first_ready t a ready = record { sound = ready.sound; held = λ told. let h = ready.held told in (h.0, (h.1.0, h.1.1.0)) }
 
   pub first_full : (t : Tree V O) (a d : S) → LacksLink s R prev t a d → LacksLinks s R prev next t a d
-  first_full t a d l = room_after s R _ _ t.store t.store a a d (keeps_refl s a) (same_store_refl R t.store) (λ p fine pages h. fine pages (h.0, h.1.0)) l
+  first_full t a d l =
+      remnant_after s R (ShowsLink s R prev) (ShowsLinks s R prev next) t t a a d (keeps_refl s a) (same_store_refl R t.store) refl (λ pages h. record { seen = (pages, (h.0, h.1.0)); own = λ i own. own; was = λ j p is. inl is; fine = λ p left. left }) l
 
   module _ (t v : Tree V O) (a b : S) (first : TurnsLinked s R prev (with_next prev next) t v a b) (narrows : Narrows s R t v a b) where
     ids_on : SameIds t.head v.head
@@ -225,8 +231,13 @@ module _ {S V O : Type 0} (s : Ghosts S) (R : Stores V S) (id prev next : ℕ) w
 
     pub second_full : (d : S) → LacksLink s R next v b d → LacksLinks s R prev next t a d
     second_full d l =
-        room_after s R _ _ t.store v.store a b d narrows.keeps narrows.made
-        (λ p fine pages h. remnant_relinked (with_next prev next) (next_relinks prev next) t.head v.head pages p ids_on.node_limit (fine (with_next prev next pages) (one pages h))) l
+        remnant_after s R (ShowsLink s R next) (ShowsLinks s R prev next) t v a b d narrows.keeps narrows.made narrows.column
+        (λ pages h. record {
+          seen = (with_next prev next pages, one pages h);
+          own = λ i stood none. stood (next_zero prev next i pages none);
+          was = λ j p is. old_or pages (Stood pages) (IsRemnant t.head pages) j p (stood_was pages (with_next prev next pages) j p (next_zero prev next j pages) is) (relinked_written (with_next prev next) (next_relinks prev next) t.head pages j p is);
+          fine = λ p left. remnant_relinked (with_next prev next) (next_relinks prev next) t.head v.head pages p ids_on.node_limit left;
+        }) l
 
     module _ (w : Tree V O) (d : S) (second : TurnsLinked s R next (with_prev next prev) v w b d) (more : Narrows s R v w b d) where
       two : (pages : PageMap) → ShowsLinks s R prev next t a pages → Shows s R w d (with_prev next prev (with_next prev next pages))
@@ -337,7 +348,9 @@ module _ {S V O : Type 0} (s : Ghosts S) (R : Stores V S) (o : Orders O) (id pre
   links_ready t a ready = record { sound = ready.sound; held = λ told. let h = ready.held told in (h.0, links_there t a h.0 h.1) }
 
   pub links_full : (t : Tree V O) (a d : S) → LacksLinks s R prev next t a d → LacksLast s R o id prev next t a d
-  links_full t a d l = room_after s R _ _ t.store t.store a a d (keeps_refl s a) (same_store_refl R t.store) (λ p fine pages h. fine pages (links_there t a pages h)) l
+  links_full t a d l =
+      remnant_after s R (ShowsLinks s R prev next) (ShowsLast s R (before_by o.cmp) id prev next) t t a a d (keeps_refl s a) (same_store_refl R t.store) refl
+      (λ pages h. record { seen = (pages, links_there t a pages h); own = λ i own. own; was = λ j p is. inl is; fine = λ p left. left }) l
 
   -- t at the start, v without the leaf
   module _ (order : IsOrder (before_by o.cmp)) (beside : (prev ≡ 0) × (next ≡ 0) → ⊥) (t v : Tree V O) (a b : S) (cut : TurnsUnlinked s R id prev next t v a b) (narrows : Narrows s R t v a b)
@@ -380,7 +393,13 @@ module _ {S V O : Type 0} (s : Ghosts S) (R : Stores V S) (o : Orders O) (id pre
 
     pub prune_full : (d : S) → LacksCut s R v b d → LacksLast s R o id prev next t a d
     prune_full d l =
-        room_after s R _ _ t.store v.store a b d narrows.keeps narrows.made (λ p fine pages h. remnant_unlinked id prev next pages t.head v.head p vids.node_limit (fine (without_linked id prev next pages) (gone_way pages h))) l
+        remnant_after s R (ShowsWay s R) (ShowsLast s R (before_by o.cmp) id prev next) t v a b d narrows.keeps narrows.made narrows.column
+        (λ pages h. record {
+          seen = (without_linked id prev next pages, gone_way pages h);
+          own = λ i stood none. stood (none_unlinked id prev next pages i none);
+          was = λ j p is. old_or pages (Stood pages) (IsRemnant t.head pages) j p (stood_was pages (without_linked id prev next pages) j p (none_unlinked id prev next pages j) is) (linked_written id prev next pages t.head j p is);
+          fine = λ p left. remnant_unlinked id prev next pages t.head v.head p vids.node_limit left;
+        }) l
 
     -- w once its place went from the rows above
     module _ (w : Tree V O) (d : S) (pruned : TurnsCut s R v w b d) (more : Narrows s R v w b d) (numbered : StaysNumbered v w) where
@@ -524,9 +543,15 @@ module _ {S V O : Type 0} (s : Ghosts S) (R : Stores V S) (o : Orders O) (id : �
     pub emptied_id : HasLast s R o id 0 0 t a → s.tells → IsLeafId v.head id
     emptied_id ready told = let h = ready.held told in subst (λ (k : TreeHead). IsLeafId k id) (sym numbered.0) (leaf_id_shown s R t a h.0 id h.1.1.found.leaf.leaf h.1.0 (there s R o id 0 0 t h.0 h.1.1))
 
-    pub emptied_full : (d : S) → LacksPage s R (λ p. p ≡ leaf_page no_items) v.store b d → LacksLast s R o id 0 0 t a d
+    pub emptied_full : (d : S) → LacksThis s R id (leaf_page no_items) v b d → LacksLast s R o id 0 0 t a d
     emptied_full d l =
-        inl (lacks_after s R _ _ t.store v.store a b d narrows.keeps narrows.made (λ p is pages h. subst (λ (q : Page). IsRemnant t.head pages q) (sym is) (inl refl)) l)
+        inl (seen_after s R (Shows s R v b) (ShowsLast s R (before_by o.cmp) id 0 0 t a) (λ pages i. i ≡ id) Stood (λ pages p. p ≡ leaf_page no_items) (IsRemnant t.head) t v a b d narrows.keeps narrows.made narrows.column
+        (λ pages h. record {
+          seen = (without_way t.path pages, out.means pages h.0);
+          own = λ i e. stood_at pages id i (leaf_page h.1.found.leaf.leaf) (there s R o id 0 0 t pages h.1) e;
+          was = λ j p is. inl (way_was t.path pages j p is);
+          fine = λ p is. subst (λ (q : Page). IsRemnant t.head pages q) (sym is) (inl refl);
+        }) l)
 
     module _ (w u : Tree V O) (d : S) (put : PutsAt s R id (leaf_page no_items) v w b d) (store : u.store ≡ w.store) (cache : u.cache.pages ≡ w.cache.pages) (column : u.column ≡ w.column) (ids : SameIds w.head u.head)
         (root : u.head.root ≡ id) (first : u.head.first ≡ id) (last : u.head.last ≡ id) (height : u.height ≡ 1) where

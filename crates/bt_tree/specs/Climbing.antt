@@ -21,7 +21,7 @@ use Rattle.bt_ways.specs.Ways.{Crumb, path_of}
 use Rattle.bt_ways.specs.Writes.{put_at}
 use Rattle.bt_tree.specs.declared.tree.Tree.{Tree}
 use Rattle.bt_tree.specs.Meaning.{file_in}
-use Rattle.bt_tree.specs.Paging.{ComesAnew, FillsIds, LacksPage, NodesUsedUp, Shows, Turns}
+use Rattle.bt_tree.specs.Paging.{ComesAnew, FillsIds, IsNext, IsOwn, LacksSeen, NodesUsedUp, Shows, Turns}
 
 abbrev pub NodesWithin : ℕ → PageMap → Type 0
 NodesWithin limit pages = (id : ℕ) (n : Node) → pages id ≡ Some (node_page n) → NodeWithin limit n
@@ -49,11 +49,12 @@ pub record Grows {S V O : Type 0} (s : Ghosts S) (R : Stores V S) (nodes rows : 
   pub rows_most : u.height ≤ t.height + rows
 
 -- a node is written as two: an entry in its middle goes on up under the id of the second, which no page had
-pub record Divided (id : ℕ) (node : Node) (above : List NodeEntry) (old new : PageMap) : Type 0 where
+pub record Divided (given id : ℕ) (node : Node) (above : List NodeEntry) (old new : PageMap) : Type 0 where
   pub second : ℕ
   pub front : List NodeEntry
   pub up : NodeEntry
   pub back : List NodeEntry
+  pub next_id : second ≡ node_offset + (given + 1)
   pub fresh : old second ≡ None
   pub cut : node.entries ≡ front ++ up ∷ back
   pub half : length front ≡ length node.entries / 2
@@ -87,25 +88,32 @@ pub record IsSection (heir : ℕ) (entries : List NodeEntry) (n : Node) : Type 0
   pub are : entries ≡ front ++ (n.entries ++ back)
   pub heir_is : n.heir ≡ last_below heir front
 
+-- so many ids of nodes are given at most, once a way was climbed, and an id is one of a node among them
+abbrev pub way_most : TreeHead → List (ℕ × ℕ) → ℕ
+way_most h path = h.node_ids + suc (length path)
+
+abbrev pub IsWayId : ℕ → ℕ → Type 0
+IsWayId most id = (node_offset < id) × (id ≤ node_offset + most)
+
 -- where entries climb a way: past the root, a node of them over it; else a section of the lowest node with them put in at its place, or, where that is above the limit, such a node where one entry with a
--- key of these climbs on
-abbrev pub IsWayOf : ℕ → PageMap → ℕ → List (ℕ × ℕ) → List NodeEntry → Node → Type 0
-IsWayOf limit pages root [] added n = IsSection root added n
-IsWayOf limit pages root (step ∷ path) added n =
+-- key of these climbs on, above a node whose id is given by then
+abbrev pub IsWayOf : ℕ → ℕ → PageMap → ℕ → List (ℕ × ℕ) → List NodeEntry → Node → Type 0
+IsWayOf limit most pages root [] added n = IsSection root added n
+IsWayOf limit most pages root (step ∷ path) added n =
     (m : Node) × (pages step.0 ≡ Some (node_page m))
-    × (IsSection m.heir (spliced m.entries step.1 added) n ⊎ ((up : NodeEntry) × IsAmong entry_key up.key (spliced m.entries step.1 added) × (limit < length (spliced m.entries step.1 added)) × IsWayOf limit pages root path (up ∷ []) n))
+    × (IsSection m.heir (spliced m.entries step.1 added) n ⊎ ((up : NodeEntry) × IsAmong entry_key up.key (spliced m.entries step.1 added) × (limit < length (spliced m.entries step.1 added)) × IsWayId most up.child × IsWayOf limit most pages root path (up ∷ []) n))
 
 -- a section of so many entries at most, whose keys are those of these
 abbrev pub IsNodeOf : ℕ → ℕ → List NodeEntry → Page → Type 0
 IsNodeOf most heir entries p = (n : Node) × (p ≡ node_page n) × (length n.entries ≤ most) × AllByRecursion (λ e. IsAmong entry_key e.key entries) n.entries × IsSection heir entries n
 
 -- a node within the limit, whose keys are those that are added or stood in a node, where these entries climb this way
-abbrev pub IsKnownNode : ℕ → ℕ → List (ℕ × ℕ) → List NodeEntry → PageMap → Page → Type 0
-IsKnownNode limit root path added pages p = (n : Node) × (p ≡ node_page n) × NodeWithin limit n × AllByRecursion (λ e. IsAmong entry_key e.key added ⊎ StoodIn pages e.key) n.entries × IsWayOf limit pages root path added n
+abbrev pub IsKnownNode : ℕ → ℕ → ℕ → List (ℕ × ℕ) → List NodeEntry → PageMap → Page → Type 0
+IsKnownNode limit most root path added pages p = (n : Node) × (p ≡ node_page n) × NodeWithin limit n × AllByRecursion (λ e. IsAmong entry_key e.key added ⊎ StoodIn pages e.key) n.entries × IsWayOf limit most pages root path added n
 
 -- each page is an old one, or such a node
-abbrev pub WritesKnown : ℕ → ℕ → List (ℕ × ℕ) → List NodeEntry → PageMap → PageMap → Type 0
-WritesKnown limit root path added old new = (id : ℕ) (p : Page) → new id ≡ Some p → (old id ≡ Some p) ⊎ IsKnownNode limit root path added old p
+abbrev pub WritesKnown : ℕ → ℕ → ℕ → List (ℕ × ℕ) → List NodeEntry → PageMap → PageMap → Type 0
+WritesKnown limit most root path added old new = (id : ℕ) (p : Page) → new id ≡ Some p → (old id ≡ Some p) ⊎ IsKnownNode limit most root path added old p
 
 -- so many nodes come at least, where so many entries climb a way: the lowest of it have no room, or it ends and a root comes
 abbrev pub IsFullWay : ℕ → PageMap → ℕ → ℕ → List (ℕ × ℕ) → Type 0
@@ -119,11 +127,15 @@ LacksNodeIds h pages path more = (n : ℕ) × (node_offset ≤ h.node_ids + n) �
 
 -- the entries climbed
 abbrev pub Climbs : {V O : Type 0} → Tree V O → Tree V O → List NodeEntry → PageMap → PageMap → Type 0
-Climbs t u added old new = ClimbsWith t.head.node_limit old new t.height u.height t.head.root u.head.root t.path added × ComesAnew t.head old new × WritesKnown t.head.node_limit t.head.root t.path added old new × FillsIds t.head u.head new
+Climbs t u added old new = ClimbsWith t.head.node_limit old new t.height u.height t.head.root u.head.root t.path added × ComesAnew t.head old new × WritesKnown t.head.node_limit (way_most t.head t.path) t.head.root t.path added old new × FillsIds t.head u.head new
 
 -- a node is written as two; where it stood, the second alone comes
 abbrev pub Divides : {V O : Type 0} → Tree V O → Tree V O → ℕ → Node → List NodeEntry → PageMap → PageMap → Type 0
-Divides t u id node above old new = Divided id node above old new × ((old id ≡ None → ⊥) → ComesAnew t.head old new) × FillsIds t.head u.head new
+Divides t u id node above old new = Divided t.head.node_ids id node above old new × ((old id ≡ None → ⊥) → ComesAnew t.head old new) × FillsIds t.head u.head new
+
+-- this id, or the next one of a node
+abbrev pub IsOneOrNext : ℕ → TreeHead → PageMap → ℕ → Type 0
+IsOneOrNext id h pages i = (i ≡ id) ⊎ IsNext h 0 1 i
 
 module _ {S V O : Type 0} (s : Ghosts S) (R : Stores V S) where
   -- the noted way may be climbed
@@ -136,17 +148,14 @@ module _ {S V O : Type 0} (s : Ghosts S) (R : Stores V S) where
   abbrev pub TurnsClimbed : List NodeEntry → Tree V O → Tree V O → S → S → Type 0
   TurnsClimbed added t u old new = Turns s (Only (file_in R t)) (ShowsWay s R) (Shows s R) (Climbs t u added) t u old new
 
-  -- ids are used up, or the store has no room for a section of so many of these entries at most
-  abbrev pub LacksNodeOf : ℕ → ℕ → List NodeEntry → Tree V O → S → S → Type 0
-  LacksNodeOf most heir entries t old new = NodesUsedUp t.head ⊎ LacksPage s R (IsNodeOf most heir entries) t.store old new
+  -- ids are used up, or the store has no room for a section of so many of these entries at most, under such an id
+  abbrev pub LacksNodeOf : (PageMap → ℕ → Type 0) → ℕ → ℕ → List NodeEntry → Tree V O → S → S → Type 0
+  LacksNodeOf Own most heir entries t old new = NodesUsedUp t.head ⊎ LacksSeen s R (Shows s R t old) Own (λ pages p. IsNodeOf most heir entries p) t old new
 
   -- fewer ids of nodes are left than come where these entries climb the noted way
   abbrev pub FillsWay : List NodeEntry → Tree V O → S → Type 0
   FillsWay added t old = (pages : PageMap) → ShowsWay s R t old pages → LacksNodeIds t.head pages t.path (length added)
 
   -- or the store has no room for a node that they make
-  abbrev pub IsWayNode : List NodeEntry → Tree V O → S → Page → Type 0
-  IsWayNode added t old p = (pages : PageMap) → ShowsWay s R t old pages → IsKnownNode t.head.node_limit t.head.root t.path added pages p
-
   abbrev pub LacksWayNode : List NodeEntry → Tree V O → S → S → Type 0
-  LacksWayNode added t old new = FillsWay added t old ⊎ LacksPage s R (IsWayNode added t old) t.store old new
+  LacksWayNode added t old new = FillsWay added t old ⊎ LacksSeen s R (ShowsWay s R t old) (IsOwn t.head 0 (suc (length t.path))) (IsKnownNode t.head.node_limit (way_most t.head t.path) t.head.root t.path added) t old new

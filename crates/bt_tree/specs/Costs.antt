@@ -23,7 +23,7 @@ module _ {S V : Type 0} (R : Stores V S) where
 
 module _ {S V : Type 0} (s : Ghosts S) (R : Stores V S) where
   pub looks_refl : (c : Cache V) (v : V) (a : S) → s.sound a → Looks s R c c v v a a
-  looks_refl c v a sound = record { reads = reads_refl s (Beside s R) (c.pages, v) a sound; keeps = keeps_refl s a; room = refl; made = same_store_refl R v; tight = λ form t. t }
+  looks_refl c v a sound = record { reads = reads_refl s (Beside s R) (c.pages, v) a sound; keeps = keeps_refl s a; room = refl; made = same_store_refl R v; tight = λ from form bytes t. t }
 
   pub looks_then : (c d e : Cache V) (u v w : V) (x y z : S) → Looks s R c d u v x y → Looks s R d e v w y z → Looks s R c e u w x z
   looks_then c d e u v w x y z first second = record {
@@ -31,5 +31,5 @@ module _ {S V : Type 0} (s : Ghosts S) (R : Stores V S) where
     keeps = keeps_then s x y z first.keeps second.keeps;
     room = second.room ∙ first.room;
     made = same_store_then R u v w first.made second.made;
-    tight = λ form t. second.tight form (first.tight form t);
+    tight = λ from form bytes t. second.tight from form bytes (first.tight from form bytes t);
   }

@@ -19,9 +19,9 @@ use Rattle.bt_ways.specs.Ways.{Found}
 use Rattle.bt_tree.specs.declared.inserting.Changed.{Changed}
 use Rattle.bt_tree.specs.declared.tree.Tree.{Tree}
 use Rattle.bt_tree.specs.Climbing.{IsAmong, StoodIn}
-use Rattle.bt_tree.specs.Meaning.{Changes, Means}
+use Rattle.bt_tree.specs.Meaning.{Changes, Means, Meant}
 use Rattle.bt_tree.specs.Parting.{ClimbsIn, IsStretch, LacksIds}
-use Rattle.bt_tree.specs.Paging.{ComesAnew, FillsIds, LacksPage, Shows}
+use Rattle.bt_tree.specs.Paging.{ComesAnew, FillsIds, IsOwn, LacksPage, Shows}
 use Rattle.bt_tree.specs.Trees.{IsTree}
 
 -- in the leaf where a key belongs a pair came in; the leaf isn't written yet
@@ -123,13 +123,13 @@ module _ {S V O : Type 0} (s : Ghosts S) (R : Stores V S) (o : Orders O) (last :
   AddsPages t u old = Gains 0 0 0 t u ⊎ PartsLeaf t u old
 
   -- a page that a put into this tree writes; a node comes along the way to a leaf that has no room
-  abbrev pub IsWritten : Tree V O → S → Page → Type 0
-  IsWritten t old p = (ps : List Pair) (h : Means s R o t old ps) → IsPutPage o.cmp t.head h.1.is.tree.pages ps (inserted o.cmp last key value ps) p × IsMorePage o.cmp last key value h.1.is.tree p
+  abbrev pub IsWritten : (t : Tree V O) (old : S) → Meant s R o t old → Page → Type 0
+  IsWritten t old w p = IsPutPage o.cmp t.head w.1.1.is.tree.pages w.0 (inserted o.cmp last key value w.0) p × IsMorePage o.cmp last key value w.1.1.is.tree p
 
   -- the leaf is to be parted, and fewer ids are left than pages come
   abbrev pub UsesUp : Tree V O → S → Type 0
   UsesUp t old = (ps : List Pair) (h : Means s R o t old ps) → RunsOut o.cmp last key value h.1.is.tree
 
-  -- so it is, or the store has no room for a page of the tree before or after
+  -- so it is, or the store, which holds the pages of the tree before and such pages alone, has no room for a page of the tree before or after, under an id that has a page or is one of the next
   abbrev pub IsFull : Tree V O → S → S → Type 0
-  IsFull t old new = UsesUp t old ⊎ LacksPage s R (IsWritten t old) t.store old new
+  IsFull t old new = UsesUp t old ⊎ LacksPage s R (Meant s R o t old) (λ w i. IsOwn t.head 2 t.height w.1.1.is.tree.pages i) (λ w. w.1.1.is.tree.pages) (IsWritten t old) t old new

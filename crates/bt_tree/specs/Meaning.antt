@@ -29,6 +29,10 @@ pub record HoldsIn {S V O : Type 0} (R : Stores V S) (o : Orders O) (t : Tree V 
 abbrev pub Means : {S V O : Type 0} → Ghosts S → Stores V S → Orders O → Tree V O → S → List Pair → Type 0
 Means s R o t space ps = In s (file_in R) (HoldsIn R o) t space ps
 
+-- pairs that it means
+abbrev pub Meant : {S V O : Type 0} → Ghosts S → Stores V S → Orders O → Tree V O → S → Type 0
+Meant s R o t space = (ps : List Pair) × Means s R o t space ps
+
 module _ {S V O : Type 0} (s : Ghosts S) (R : Stores V S) (o : Orders O) where
   -- it may be called
   abbrev pub IsOpen : Tree V O → S → Type 0

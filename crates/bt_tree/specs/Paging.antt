@@ -1,5 +1,5 @@
 -- What a tree shows as pages, with none of the rules of rows, and what calls on single pages leave.
-use Rattle.std.specs.Prelude.{◌≡◌, ◌⊎◌, ℕ, ◌+◌, ◌<◌, ◌≤◌, List, Some, None, Result}
+use Rattle.std.specs.Prelude.{◌≡◌, ◌⊎◌, ℕ, ◌+◌, ◌<◌, ◌≤◌, List, Option, Some, None, Result}
 use Rattle.std.specs.FinMap.{get}
 use Rattle.tc_base.specs.Maps.{Map}
 use Rattle.std.proofs.Common.{inl, inr, ⊎_elim}
@@ -7,7 +7,7 @@ use Rattle.tc_space.specs.Frames.{GivenUp, In, Keeps, Others, Writes, keeps_then
 use Rattle.tc_space.specs.Stores.{IsReady, Only}
 use Rattle.tc_space.specs.declared.records.Records.{Ghosts as Stores}
 use Rattle.tc_space.specs.declared.space.Space.{Ghosts}
-use Rattle.bt_page.specs.Keys.{node_offset}
+use Rattle.bt_page.specs.Keys.{node_offset, key_of}
 use Rattle.bt_page.specs.Pages.{leaf_bytes, node_bytes}
 use Rattle.bt_page.specs.declared.page.Leaf.{Leaf}
 use Rattle.bt_page.specs.declared.page.Node.{Node}
@@ -15,7 +15,7 @@ use Rattle.bt_rows.specs.declared.head.TreeHead.{TreeHead}
 use Rattle.bt_rows.specs.declared.page.Page.{Page}
 use Rattle.bt_rows.specs.declared.page.Page.TheVariants.{Leaf as leaf_page, Node as node_page}
 use Rattle.bt_rows.specs.Pages.{PageMap, AreHeld, IsGiven, IsPage}
-use Rattle.bt_rows.specs.Rules.{B1}
+use Rattle.bt_rows.specs.Rules.{B1, column as column_key}
 use Rattle.bt_cache.specs.Effects.{LacksKey, Looks, RefusesBeside, SameStore}
 use Rattle.bt_cache.specs.Held.{AreSame, Holds}
 use Rattle.bt_ways.specs.Writes.{put_at}
@@ -116,24 +116,64 @@ abbrev pub page_bytes : Page → List ℕ
 page_bytes (leaf_page l) = leaf_bytes l
 page_bytes (node_page n) = node_bytes n
 
--- the store, as it was at some moment since, had no room for a record that is such a page, of the sort of its id, as the space stands
-pub record LacksPage {S V : Type 0} (s : Ghosts S) (R : Stores V S) (Fine : Page → Type 0) (v : V) (old new : S) : Type 0 where
+-- a record of the map is `column`, with the bytes of the tree, or the page of an id that is one of these
+pub record IsFinePage (Fine : ℕ → Page → Type 0) (key bytes : List ℕ) : Type 0 where
+  pub id : ℕ
+  pub page : Page
+  pub key_is : key ≡ key_of id
+  pub is : IsPage id bytes page
+  pub fine : Fine id page
+
+abbrev pub HoldsOnly : Option (List ℕ) → (ℕ → Page → Type 0) → Map → Type 0
+HoldsOnly column Fine m = (key bytes : List ℕ) → get m key ≡ Some bytes → ((key ≡ column_key) × (column ≡ Some bytes)) ⊎ IsFinePage Fine key bytes
+
+-- an id has a page
+abbrev pub Stood : PageMap → ℕ → Type 0
+Stood pages id = pages id ≡ None → ⊥
+
+-- it is one of the next ids, so many of leaves and of nodes
+abbrev pub IsNext : TreeHead → ℕ → ℕ → ℕ → Type 0
+IsNext h leaves nodes id = ((h.leaf_ids < id) × (id ≤ h.leaf_ids + leaves)) ⊎ ((node_offset + h.node_ids < id) × (id ≤ node_offset + (h.node_ids + nodes)))
+
+-- or has a page
+abbrev pub IsOwn : TreeHead → ℕ → ℕ → PageMap → ℕ → Type 0
+IsOwn h leaves nodes pages id = Stood pages id ⊎ IsNext h leaves nodes id
+
+-- a page that stood, or that may be asked for
+abbrev pub OldOr : PageMap → (ℕ → Type 0) → (Page → Type 0) → ℕ → Page → Type 0
+OldOr old Own Fine id p = (old id ≡ Some p) ⊎ (Own id × Fine p)
+
+-- the store, as it was at some moment since, had no room for a record that is such a page, of the sort of its id, which is one of these, as the space stands; of what is seen at first, whatever it is, the store held then its pages, such pages under such ids, and `column`, and nothing else
+pub record LacksPage {S V O : Type 0} (s : Ghosts S) (R : Stores V S) (W : Type 0) (Own : W → ℕ → Type 0) (At : W → PageMap) (Fine : W → Page → Type 0) (t : Tree V O) (old new : S) : Type 0 where
   pub store : V
   pub moment : S
   pub id : ℕ
   pub page : Page
-  pub made : SameStore R v store
+  pub made : SameStore R t.store store
   pub since : Keeps s old moment
   pub until : Keeps s moment new
-  pub held : s.tells → (m : Map) × Holds s R store moment m
-  pub fine : Fine page
+  pub held : (w : W) → (m : Map) × Holds s R store moment m × HoldsOnly t.column (OldOr (At w) (Own w) (Fine w)) m
+  pub own : (w : W) → Own w id
+  pub fine : (w : W) → Fine w page
   pub spelled : IsPage id (page_bytes page) page
   pub by : LacksKey s R id (page_bytes page) store moment new
 
+-- pages that are seen
+abbrev pub Seen : (PageMap → Type 0) → Type 0
+Seen Shown = (pages : PageMap) × Shown pages
+
+-- so it is, of the pages that are seen at first
+abbrev pub LacksSeen : {S V O : Type 0} → Ghosts S → Stores V S → (PageMap → Type 0) → (PageMap → ℕ → Type 0) → (PageMap → Page → Type 0) → Tree V O → S → S → Type 0
+LacksSeen s R Shown Own Fine t old new = LacksPage s R (Seen Shown) (λ w i. Own w.0 i) (λ w. w.0) (λ w p. Fine w.0 p) t old new
+
+-- of this page under this id
+abbrev pub LacksThis : {S V O : Type 0} → Ghosts S → Stores V S → ℕ → Page → Tree V O → S → S → Type 0
+LacksThis s R id page t old new = LacksSeen s R (Shows s R t old) (λ pages i. i ≡ id) (λ pages p. p ≡ page) t old new
+
 -- so it is in a space that was given up since
-module _ {S V : Type 0} (s : Ghosts S) (R : Stores V S) (still : (v : V) (a b c : S) (key value : List ℕ) → GivenUp s b c → R.lacks v a b key value → R.lacks v a c key value) where
-  pub lacks_given : (Fine : Page → Type 0) (v : V) (old mid new : S) → GivenUp s mid new → LacksPage s R Fine v old mid → LacksPage s R Fine v old new
-  lacks_given Fine v old mid new given l = record {
+module _ {S V O : Type 0} (s : Ghosts S) (R : Stores V S) (still : (v : V) (a b c : S) (key value : List ℕ) → GivenUp s b c → R.lacks v a b key value → R.lacks v a c key value) where
+  pub lacks_given : (W : Type 0) (Own : W → ℕ → Type 0) (At : W → PageMap) (Fine : W → Page → Type 0) (t : Tree V O) (old mid new : S) → GivenUp s mid new → LacksPage s R W Own At Fine t old mid → LacksPage s R W Own At Fine t old new
+  lacks_given W Own At Fine t old mid new given l = record {
     store = l.store;
     moment = l.moment;
     id = l.id;
@@ -142,6 +182,7 @@ module _ {S V : Type 0} (s : Ghosts S) (R : Stores V S) (still : (v : V) (a b c 
     since = l.since;
     until = keeps_then s l.moment mid new l.until given.keeps;
     held = l.held;
+    own = l.own;
     fine = l.fine;
     spelled = l.spelled;
     by = record {

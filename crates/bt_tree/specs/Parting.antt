@@ -1,5 +1,5 @@
 -- A leaf that is written as several.
-use Rattle.std.specs.Prelude.{◌≡◌, ◌⊎◌, ℕ, ◌+◌, ◌-◌, ◌<◌, ◌≤◌, List, [], ◌∷◌, ◌++◌, Some, length, map, take, drop, ◌==◌, if◌then◌else◌}
+use Rattle.std.specs.Prelude.{◌≡◌, ◌⊎◌, ⊤, ℕ, suc, ◌+◌, ◌-◌, ◌<◌, ◌≤◌, List, [], ◌∷◌, ◌++◌, Some, length, map, take, drop, ◌==◌, if◌then◌else◌}
 use Rattle.std.specs.List.{AllByRecursion}
 use Rattle.tc_space.specs.Frames.{Keeps}
 use Rattle.tc_space.specs.Stores.{IsReady, Only}
@@ -26,9 +26,9 @@ use Rattle.bt_ways.specs.Writes.{put_at}
 use Rattle.bt_tree.specs.declared.tree.Tree.{Tree}
 use Rattle.bt_tree.specs.declared.parting.Laid.{Laid}
 use Rattle.bt_tree.specs.declared.parting.Parted.{Parted}
-use Rattle.bt_tree.specs.Climbing.{CanClimb, IsAmong, IsWayOf, LacksNodeIds, StoodIn}
+use Rattle.bt_tree.specs.Climbing.{CanClimb, IsAmong, IsWayOf, LacksNodeIds, StoodIn, way_most}
 use Rattle.bt_tree.specs.Meaning.{file_in}
-use Rattle.bt_tree.specs.Paging.{ComesAnew, FillsIds, LacksPage, Shows, Turns}
+use Rattle.bt_tree.specs.Paging.{ComesAnew, FillsIds, IsOwn, LacksSeen, Shows, Turns}
 
 -- with these leaves at their ids, the last one last
 abbrev pub put_laid : List Laid → PageMap → PageMap
@@ -39,6 +39,11 @@ put_laid (l ∷ ls) pages = put_laid ls (put_at l.id (leaf_page l.leaf) pages)
 abbrev pub IsLaid : List Laid → Page → Type 0
 IsLaid [] p = ⊥
 IsLaid (l ∷ ls) p = (p ≡ leaf_page l.leaf) ⊎ IsLaid ls p
+
+-- the id is that of one of these leaves
+abbrev pub IsLaidId : List Laid → ℕ → Type 0
+IsLaidId [] i = ⊥
+IsLaidId (l ∷ ls) i = (i ≡ l.id) ⊎ IsLaidId ls i
 
 abbrev pub laid_at : ℕ → ℕ → ℕ → List Item → Laid
 laid_at id prev next items = record { id = id; leaf = record { prev = prev; next = next; items = items } }
@@ -115,9 +120,14 @@ pub record ArePartedIn (limit : ℕ) (items : List Item) (more : ℕ) : Type 0 w
   pub count : more ≡ length parts
   pub few : more ≤ 2
 
--- a node that comes where items are parted and the entries of the further parts climb a way
+-- parts under the next ids
+abbrev pub AreNext : ℕ → List Part → Type 0
+AreNext given [] = ⊤
+AreNext given (p ∷ ps) = (p.id ≡ given + 1) × AreNext (given + 1) ps
+
+-- a node that comes where items are parted and the entries of the further parts, which have the next ids, climb a way
 abbrev pub ClimbsIn : TreeHead → PageMap → List (ℕ × ℕ) → List Item → Node → Type 0
-ClimbsIn h pages path items n = (more : ℕ) × (parted_in : ArePartedIn h.leaf_limit items more) × IsWayOf h.node_limit pages h.root path (map part_entry parted_in.parts) n
+ClimbsIn h pages path items n = (more : ℕ) × (parted_in : ArePartedIn h.leaf_limit items more) × AreNext h.leaf_ids parted_in.parts × IsWayOf h.node_limit (way_most h path) pages h.root path (map part_entry parted_in.parts) n
 
 -- a part of the items that is within the limit, the items of the leaf behind, or a node within the limit, whose keys are those of items or stood in a node, along this way
 abbrev pub IsPiece : TreeHead → List (ℕ × ℕ) → List Item → ℕ → PageMap → Page → Type 0
@@ -178,9 +188,10 @@ module _ {S V O : Type 0} (s : Ghosts S) (R : Stores V S) where
   abbrev pub LacksId : ℕ → Leaf → Tree V O → S → Type 0
   LacksId id leaf t old = (pages : PageMap) → ShowsLeaf s R id leaf.next t old pages → LacksIds t.head pages t.path leaf.items
 
-  -- or the store has no room for a page of the leaf's items, of the leaf behind, or of a node along the way
-  abbrev pub IsLeafPiece : ℕ → Leaf → Tree V O → S → Page → Type 0
-  IsLeafPiece id leaf t old p = (pages : PageMap) → ShowsLeaf s R id leaf.next t old pages → IsPiece t.head t.path leaf.items leaf.next pages p
+  -- the store has no room for one of these leaves
+  abbrev pub LacksLaid : List Laid → Tree V O → S → S → Type 0
+  LacksLaid leaves t old new = LacksSeen s R (Shows s R t old) (λ pages i. IsLaidId leaves i) (λ pages p. IsLaid leaves p) t old new
 
+  -- ids are used up, or it has none for a page of the leaf's items, of the leaf behind, or of a node along the way
   abbrev pub LacksPiece : ℕ → Leaf → Tree V O → S → S → Type 0
-  LacksPiece id leaf t old new = LacksId id leaf t old ⊎ LacksPage s R (IsLeafPiece id leaf t old) t.store old new
+  LacksPiece id leaf t old new = LacksId id leaf t old ⊎ LacksSeen s R (ShowsLeaf s R id leaf.next t old) (IsOwn t.head 2 (suc (length t.path))) (IsPiece t.head t.path leaf.items leaf.next) t old new

@@ -1,5 +1,5 @@
 -- Pairs, leaves and nodes that go from a tree.
-use Rattle.std.specs.Prelude.{◌≡◌, ◌⊎◌, ⊤, ℕ, suc, ◌-◌, ◌≤◌, ◌<◌, List, [], ◌∷◌, ◌++◌, Bool, Option, Some, None, is_some, length, MatchOption, ◌==◌, if◌then◌else◌}
+use Rattle.std.specs.Prelude.{◌≡◌, ◌⊎◌, ⊤, ℕ, suc, ◌-◌, ◌≤◌, ◌<◌, List, [], ◌∷◌, ◌++◌, Bool, true, Option, Some, None, is_some, length, MatchOption, ◌==◌, if◌then◌else◌}
 use Rattle.std.specs.List.{AllByRecursion}
 use Rattle.std.specs.declared.cmp.Ordering.{Ordering}
 use Rattle.tc_base.specs.declared.order.Order.{Ghosts as Orders}
@@ -31,8 +31,8 @@ use Rattle.bt_tree.specs.declared.removing.Lessened.{Lessened}
 use Rattle.bt_tree.specs.declared.tree.Tree.{Tree}
 use Rattle.bt_tree.specs.Climbing.{ShowsWay, StoodIn}
 use Rattle.bt_tree.specs.Inserting.{IsPutPage}
-use Rattle.bt_tree.specs.Meaning.{Means, file_in}
-use Rattle.bt_tree.specs.Paging.{ComesNone, LacksPage, Shows, Turns, lacks_given}
+use Rattle.bt_tree.specs.Meaning.{Means, Meant, file_in}
+use Rattle.bt_tree.specs.Paging.{ComesNone, LacksPage, Seen, Shows, Stood, Turns, lacks_given}
 use Rattle.bt_tree.specs.Trees.{IsTree}
 
 -- ---- what stays, whatever a call answers
@@ -54,12 +54,13 @@ pub record Narrows {S V O : Type 0} (s : Ghosts S) (R : Stores V S) (t u : Tree 
 -- ---- when the store has no room
 
 -- it has no room for such a page, or the undo log is full, as a page is to be taken out
-abbrev pub LacksRoom : {S V : Type 0} → Ghosts S → Stores V S → (Page → Type 0) → V → S → S → Type 0
-LacksRoom s R Fine v old new = LacksPage s R Fine v old new ⊎ (s.tells → s.log_full new)
+abbrev pub LacksRoom : {S V O : Type 0} → Ghosts S → Stores V S → (W : Type 0) → (W → ℕ → Type 0) → (W → PageMap) → (W → Page → Type 0) → Tree V O → S → S → Type 0
+LacksRoom s R W Own At Fine t old new = LacksPage s R W Own At Fine t old new ⊎ (s.tells → s.log_full new)
 
 -- so it is in a space that was given up since
-pub room_given : {S V : Type 0} (s : Ghosts S) (R : Stores V S) (still : (v : V) (a b c : S) (key value : List ℕ) → GivenUp s b c → R.lacks v a b key value → R.lacks v a c key value) (Fine : Page → Type 0) (v : V) (old mid new : S) → GivenUp s mid new → LacksRoom s R Fine v old mid → LacksRoom s R Fine v old new
-room_given s R still Fine v old mid new given room = ⊎_elim (λ l. inl (lacks_given s R still Fine v old mid new given l)) (λ log. inr (λ t. given.log (log t))) room
+pub room_given : {S V O : Type 0} (s : Ghosts S) (R : Stores V S) (still : (v : V) (a b c : S) (key value : List ℕ) → GivenUp s b c → R.lacks v a b key value → R.lacks v a c key value)
+    → (W : Type 0) (Own : W → ℕ → Type 0) (At : W → PageMap) (Fine : W → Page → Type 0) (t : Tree V O) (old mid new : S) → GivenUp s mid new → LacksRoom s R W Own At Fine t old mid → LacksRoom s R W Own At Fine t old new
+room_given s R still W Own At Fine t old mid new given room = ⊎_elim (λ l. inl (lacks_given s R still W Own At Fine t old mid new given l)) (λ log. inr (λ told. given.log (log told))) room
 
 -- ---- a leaf that goes
 
@@ -242,7 +243,7 @@ module _ {S V O : Type 0} (s : Ghosts S) (R : Stores V S) where
 
   -- the store has no room for what is left of pages where a leaf goes, or the undo log is full
   abbrev pub LacksRemnant : (Tree V O → S → PageMap → Type 0) → Tree V O → S → S → Type 0
-  LacksRemnant Seen t old new = LacksRoom s R (λ p. (pages : PageMap) → Seen t old pages → IsRemnant t.head pages p) t.store old new
+  LacksRemnant Shown t old new = LacksRoom s R (Seen (Shown t old)) (λ w i. Stood w.0 i) (λ w. w.0) (λ w p. IsRemnant t.head w.0 p) t old new
 
   abbrev pub LacksLink : ℕ → Tree V O → S → S → Type 0
   LacksLink id t old new = LacksRemnant (ShowsLink s R id) t old new
@@ -285,10 +286,10 @@ module _ {S V O : Type 0} (s : Ghosts S) (R : Stores V S) (o : Orders O) where
     abbrev pub Removes : Bool → Tree V O → Tree V O → S → S → Type 0
     Removes taken t u old new = TakesOut s (Only (file_in R t)) (Means s R o) (has_pair key) (removed o.cmp all key) taken t u old new
 
-    -- a page of the tree before or after; a node stood, and is without one of its places
-    abbrev pub IsLeftPage : Tree V O → S → Page → Type 0
-    IsLeftPage t old p = (ps : List Pair) (h : Means s R o t old ps) → IsPutPage o.cmp t.head h.1.is.tree.pages ps (removed o.cmp all key ps) p × IsLessPage h.1.is.tree.pages p
+    -- where the key is held, a page of the tree before or after; a node stood, and is without one of its places
+    abbrev pub IsLeftPage : (t : Tree V O) (old : S) → Meant s R o t old → Page → Type 0
+    IsLeftPage t old w p = IsPutPage o.cmp t.head w.1.1.is.tree.pages w.0 (removed o.cmp all key w.0) p × IsLessPage w.1.1.is.tree.pages p × (has_pair key w.0 ≡ true)
 
-    -- the store has no room for a page of the tree before or after, or the undo log is full
+    -- the store, which holds the pages of the tree before and such pages alone, has no room for a page of the tree before or after, under an id that has one, or the undo log is full
     abbrev pub IsRefusedRoom : Tree V O → S → S → Type 0
-    IsRefusedRoom t old new = LacksRoom s R (IsLeftPage t old) t.store old new
+    IsRefusedRoom t old new = LacksRoom s R (Meant s R o t old) (λ w i. Stood w.1.1.is.tree.pages i) (λ w. w.1.1.is.tree.pages) (IsLeftPage t old) t old new

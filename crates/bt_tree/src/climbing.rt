@@ -3,8 +3,8 @@ ghost use Rattle.std.specs.Prelude.{◌≡◌, ◌+◌, ◌-◌, ◌<◌, ◌≤
 ghost use Rattle.tc_space.specs.Refusals.{OnFault};
 ghost use Rattle.bt_ways.specs.Laws.{spliced};
 ghost use Rattle.bt_cache.specs.Effects.{OnFull};
-ghost use Rattle.bt_tree.specs.Climbing.{Grows, HasWay, LacksNodeOf, LacksWayNode, TurnsClimbed, TurnsDivided};
-ghost use Rattle.bt_tree.specs.Paging.{IsNodeId, IsShown};
+ghost use Rattle.bt_tree.specs.Climbing.{Grows, HasWay, IsOneOrNext, LacksNodeOf, LacksWayNode, TurnsClimbed, TurnsDivided};
+ghost use Rattle.bt_tree.specs.Paging.{IsNodeId, IsOwn, IsShown};
 
 use crate::tree::Tree;
 use bt_page::{Node, NodeEntry};
@@ -77,7 +77,7 @@ impl<R: Records, O: Order> Tree<R, O> {
         requires id { R.S.tells → IsNodeId self.old.head id }
         ensures divided { IfOk result (λ above. TurnsDivided R.S.Space R.Records id node above self.old self.new space.old space.new) }
         ensures one { IfOk result (λ above. length above ≡ 1) }
-        ensures full { OnFull result (LacksNodeOf R.S.Space R.Records (length node.entries / 2) node.heir node.entries self.old space.old space.new) }
+        ensures full { OnFull result (LacksNodeOf R.S.Space R.Records (IsOneOrNext id self.old.head) (length node.entries / 2) node.heir node.entries self.old space.old space.new) }
         ensures grows { Grows R.S.Space R.Records 1 0 self.old self.new space.old space.new }
         ensures way { (self.new.path ≡ self.old.path) × (self.new.head.root ≡ self.old.head.root) }
         ensures cause { OnFault R.S.Space result space.old space.new }
@@ -97,7 +97,7 @@ impl<R: Records, O: Order> Tree<R, O> {
         requires few { length added ≤ 2 }
         requires rows { self.old.height < 2 ^ 64 - 1 }
         ensures climbed { OnOk result (TurnsClimbed R.S.Space R.Records added self.old self.new space.old space.new) }
-        ensures full { OnFull result (LacksNodeOf R.S.Space R.Records 2 self.old.head.root added self.old space.old space.new) }
+        ensures full { OnFull result (LacksNodeOf R.S.Space R.Records (IsOwn self.old.head 0 1) 2 self.old.head.root added self.old space.old space.new) }
         ensures grows { Grows R.S.Space R.Records 1 1 self.old self.new space.old space.new }
         ensures cause { OnFault R.S.Space result space.old space.new }
     {

@@ -8,7 +8,7 @@ ghost use Rattle.bt_cache.specs.Effects.{OnFull, SameStore, rec_of};
 ghost use Rattle.bt_check.specs.Looks.{Looks};
 ghost use Rattle.bt_check.specs.Verdicts.{open_of};
 ghost use Rattle.bt_rows.specs.Rules.{column as column_key};
-ghost use Rattle.bt_tree.specs.Clearing.{LacksColumn, with_column};
+ghost use Rattle.bt_tree.specs.Clearing.{FillsColumn, LacksColumn, with_column};
 ghost use Rattle.bt_tree.specs.Opening.{IsColumn, NamesNone};
 
 use tc_base::{Blob, Mode, Steps};
@@ -82,6 +82,7 @@ pub(crate) fn put_column<R: Records>(
 ) -> Result<(), RecErr>
     requires { ReadyIn R.S.Space R.file_of R.holds store.old space.old }
     ensures put { OnOk result (WritesIn R.S.Space R.file_of R.holds (with_column column.now) store.old store.new space.old space.new) }
+    ensures fills { OnOk result (FillsColumn R.S.Space R.Records column.now store.old store.new space.old) }
     ensures full { OnFull result (LacksColumn R.S.Space R.Records column.now store.old space.old space.new) }
     ensures keeps { Keeps R.S.Space space.old space.new }
     ensures same { SameStore R.Records store.old store.new }

@@ -5,7 +5,7 @@ ghost use Rattle.bt_page.specs.Keys.{node_offset};
 ghost use Rattle.bt_rows.specs.declared.page.Page.TheVariants.{Leaf as leaf_page, Node as node_page};
 ghost use Rattle.bt_cache.specs.Effects.{OnFull};
 ghost use Rattle.bt_tree.specs.Numbers.{with_leaf_ids, with_node_ids};
-ghost use Rattle.bt_tree.specs.Paging.{HasLeafAt, HasNodeAt, IsLeafId, IsNodeId, IsPageOf, IsShown, LacksPage, Peeks, PutsAt, RefusesPages, StaysStill};
+ghost use Rattle.bt_tree.specs.Paging.{HasLeafAt, HasNodeAt, IsLeafId, IsNodeId, IsPageOf, IsShown, LacksThis, Peeks, PutsAt, RefusesPages, StaysStill};
 
 use crate::tree::Tree;
 use bt_slots::{SlottedLeaf, SlottedNode};
@@ -66,7 +66,7 @@ impl<R: Records, O: Order> Tree<R, O> {
         requires id { R.S.tells → IsLeafId self.old.head id }
         ensures put { OnOk result (PutsAt R.S.Space R.Records id (leaf_page leaf) self.old self.new space.old space.new) }
         ensures refused { RefusesPages R.S.Space R.Records result self.old self.new space.old space.new }
-        ensures full { OnFull result (LacksPage R.S.Space R.Records (λ p. p ≡ leaf_page leaf) self.old.store space.old space.new) }
+        ensures full { OnFull result (LacksThis R.S.Space R.Records id (leaf_page leaf) self.old space.old space.new) }
         ensures still { StaysStill R.S.Space R.Records self.old self.new space.old space.new }
         ensures cause { OnFault R.S.Space result space.old space.new }
     {
@@ -90,7 +90,7 @@ impl<R: Records, O: Order> Tree<R, O> {
         requires id { R.S.tells → IsNodeId self.old.head id }
         ensures put { OnOk result (PutsAt R.S.Space R.Records id (node_page node) self.old self.new space.old space.new) }
         ensures refused { RefusesPages R.S.Space R.Records result self.old self.new space.old space.new }
-        ensures full { OnFull result (LacksPage R.S.Space R.Records (λ p. p ≡ node_page node) self.old.store space.old space.new) }
+        ensures full { OnFull result (LacksThis R.S.Space R.Records id (node_page node) self.old space.old space.new) }
         ensures still { StaysStill R.S.Space R.Records self.old self.new space.old space.new }
         ensures cause { OnFault R.S.Space result space.old space.new }
     {

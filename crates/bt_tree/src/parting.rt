@@ -7,8 +7,8 @@ ghost use Rattle.bt_cache.specs.Effects.{OnFull};
 ghost use Rattle.bt_ways.specs.Changes.{IsOver};
 ghost use Rattle.bt_ways.specs.Parts.{first_key};
 ghost use Rattle.bt_tree.specs.Numbers.{with_last, with_leaf_ids};
-ghost use Rattle.bt_tree.specs.Paging.{HasLeafAt, IsLeafId, IsShown, LacksPage, Peeks, Rewrites, StaysStill};
-ghost use Rattle.bt_tree.specs.Parting.{AddsAll, AreHalves, AreThirds, HasLeaf, IsLaid, IsThird, LacksPiece, TurnsParted, Widens, put_laid, third_ids};
+ghost use Rattle.bt_tree.specs.Paging.{HasLeafAt, IsLeafId, IsShown, Peeks, Rewrites, StaysStill};
+ghost use Rattle.bt_tree.specs.Parting.{AddsAll, AreHalves, AreThirds, HasLeaf, IsThird, LacksLaid, LacksPiece, TurnsParted, Widens, put_laid, third_ids};
 
 use crate::cutting::cut_places;
 use crate::tree::Tree;
@@ -162,7 +162,7 @@ impl<R: Records, O: Order> Tree<R, O> {
         requires ready { IsShown R.S.Space R.Records self.old space.old }
         requires ids { R.S.tells → AllByRecursion (λ l. IsLeafId self.old.head l.id) leaves }
         ensures laid { OnOk result (Rewrites R.S.Space R.Records (put_laid leaves) self.old self.new space.old space.new) }
-        ensures full { OnFull result (LacksPage R.S.Space R.Records (IsLaid leaves) self.old.store space.old space.new) }
+        ensures full { OnFull result (LacksLaid R.S.Space R.Records leaves self.old space.old space.new) }
         ensures still { StaysStill R.S.Space R.Records self.old self.new space.old space.new }
         ensures cause { OnFault R.S.Space result space.old space.new }
     {

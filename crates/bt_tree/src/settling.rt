@@ -10,7 +10,8 @@ ghost use Rattle.bt_rows.specs.Heads.{head_of};
 ghost use Rattle.bt_cache.specs.Effects.{OnFull};
 ghost use Rattle.bt_tree.specs.Inserting.{AddsAnew};
 ghost use Rattle.bt_tree.specs.Meaning.{Changes, IsOpen, RefusesPairs};
-ghost use Rattle.bt_tree.specs.Settling.{BringsPacked, BringsPairs, StaysFormed, StaysSettled};
+ghost use Rattle.bt_tree.specs.Settling.{BringsPacked, BringsPairs, StaysFormed, StaysSettled, TightTree};
+ghost use Rattle.bt_tree.specs.Standing.{region_bytes};
 
 use crate::tree::Tree;
 use bt_rows::TreeHead;
@@ -37,7 +38,8 @@ fn put_limit(opaque: &mut [u8; 128], at: usize, n: u32)
 
 // The region of a store whose tree has these numbers: zeros where none stands.
 fn region_of(head: &TreeHead) -> [u8; 128]
-    ensures { head_of result ≡ head.now }
+    ensures numbers { head_of result ≡ head.now }
+    ensures spelled { result ≡ region_bytes head.now }
 {
     let mut opaque = [0; 128];
     opaque[0] = head.order;
@@ -53,8 +55,8 @@ fn region_of(head: &TreeHead) -> [u8; 128]
 }
 
 impl<R: Records, O: Order> Tree<R, O> {
-    /// Brings the numbers of the tree and what the store holds in memory to the file, which then stands for the pairs under these numbers; where the store was packed it is a
-    /// packed file. It is full only where the undo log is. After a refusal the space isn't sound, or the file is as it was.
+    /// Brings the numbers of the tree and what the store holds in memory to the file, which then stands for the pairs under these numbers, and ends in what holds something; where
+    /// the store was packed it is a packed file. It is full only where the undo log is. After a refusal the space isn't sound, or the file is as it was.
     pub fn settle(&mut self, space: &mut R::S) -> Result<(), RecErr>
         requires { IsOpen R.S.Space R.Records O.Order self.old space.old }
         ensures settled { OnOk result (Changes R.S.Space R.Records O.Order same self.old self.new space.old space.new) }
@@ -78,7 +80,7 @@ impl<R: Records, O: Order> Tree<R, O> {
         requires { IsOpen R.S.Space R.Records O.Order self.old space.old }
         ensures packed { OnOk result (Changes R.S.Space R.Records O.Order same self.old self.new space.old space.new) }
         ensures anew { OnOk result (AddsAnew R.S.Space R.Records O.Order self.old self.new space.old space.new) }
-        ensures tight { OnOk result (R.tight self.new.store form) }
+        ensures tight { OnOk result (TightTree R.S.Space R.Records O.Order form self.old self.new space.old space.new) }
         ensures refused { RefusesPairs R.S.Space R.Records O.Order result self.old self.new space.old space.new }
         ensures full { OnFull result (FullPack R.S.Space R.lacks_large form self.old.store space.old space.new) }
         ensures keeps { Keeps R.S.Space space.old space.new }

@@ -7,13 +7,13 @@ use Rattle.tc_base.specs.declared.kind.Mode.{Mode}
 use Rattle.tc_base.specs.declared.kind.Mode.TheVariants.{Keep}
 use Rattle.tc_base.specs.declared.order.Order.{Ghosts as Orders}
 use Rattle.tc_base.specs.declared.seq.Pair.{Pair}
-use Rattle.tc_space.specs.Frames.{In, Keeps, keeps_refl, keeps_then}
+use Rattle.tc_space.specs.Frames.{In, keeps_refl}
 use Rattle.tc_space.specs.Changes.{first_in, put_first}
 use Rattle.tc_space.specs.Lists.{FullFrom, FullPutFrom}
 use Rattle.tc_space.specs.Stores.{FullClear}
 use Rattle.tc_space.specs.declared.records.Records.{Ghosts as Stores}
 use Rattle.tc_space.specs.declared.space.Space.{Ghosts}
-use Rattle.bt_cache.specs.Effects.{SameStore, same_store_refl, same_store_then}
+use Rattle.bt_cache.specs.Effects.{same_store_refl}
 use Rattle.bt_rows.specs.Orders.{before_by}
 use Rattle.bt_rows.specs.Pages.{Map as Bytes, PageMap}
 use Rattle.bt_rows.specs.declared.head.TreeHead.{TreeHead}
@@ -21,10 +21,12 @@ use Rattle.bt_rows.specs.declared.page.Page.{Page}
 use Rattle.bt_ways.specs.Changes.{inserted, removed}
 use Rattle.bt_tree.specs.Clearing.{LacksBare, LacksCleared}
 use Rattle.bt_tree.specs.Inserting.{IsFull, IsMorePage, IsPutPage, IsWritten, RunsOut}
-use Rattle.bt_tree.specs.Meaning.{Means}
-use Rattle.bt_tree.specs.Paging.{LacksPage}
-use Rattle.bt_tree.specs.Removing.{IsRefusedRoom}
+use Rattle.bt_tree.specs.Meaning.{Means, Meant}
+use Rattle.bt_tree.specs.Paging.{IsOwn, Stood}
+use Rattle.bt_tree.specs.Removing.{IsLeftPage, IsRefusedRoom}
 use Rattle.bt_tree.specs.Trees.{HoldsPairs, IsTree}
+use Rattle.bt_tree.proofs.Droppings.{room_after}
+use Rattle.bt_tree.proofs.Pagings.{ComesOf, lacks_after}
 use Rattle.tc_btree.specs.Filling.{IsListPage, fills_list}
 use Rattle.tc_btree.specs.Meaning.{file_list, holds_list}
 use Rattle.tc_btree.specs.Putting.{Looked}
@@ -66,21 +68,6 @@ module _ {S V O : Type 0} (s : Ghosts S) (R : Stores V S) (o : Orders O) where
         same = is.same;
       }
 
-  lacks_for : (P Q : Page → Type 0) (v w : V) (old mid new : S) → SameStore R v w → Keeps s old mid → ((p : Page) → P p → Q p) → LacksPage s R P w mid new → LacksPage s R Q v old new
-  lacks_for P Q v w old mid new made keeps weaker l = record {
-    store = l.store;
-    moment = l.moment;
-    id = l.id;
-    page = l.page;
-    made = same_store_then R v w l.store made l.made;
-    since = keeps_then s old mid l.moment keeps l.since;
-    until = l.until;
-    held = l.held;
-    fine = weaker l.page l.fine;
-    spelled = l.spelled;
-    by = l.by;
-  }
-
   insert_fills : (last : Bool) (key value : List ℕ) (b c : Btree V O) (old mid new : S) (ps qs : List Pair) → Looked s R o b c old mid → inserted o.cmp last key value ps ≡ qs → Means s R o b.tree old ps
       → IsFull s R o last key value c.tree mid new → fills_list s R o b old new ps qs
   insert_fills last key value b c old mid new ps qs looked makes means full = ⊎_elim
@@ -92,18 +79,29 @@ module _ {S V O : Type 0} (s : Ghosts S) (R : Stores V S) (o : Orders O) where
         makes = makes;
         used = a.same.out last key value (used ps a.now);
       }))
-      (λ lacks. inr (inl (lacks_for (IsWritten s R o last key value c.tree mid) (IsListPage s R o b.tree old ps qs) b.tree.store c.tree.store old mid new looked.looks.made looked.looks.keeps
-      (λ p fine.
-      let a = again b c old mid looked ps means in
-      let k = fine ps a.now in (
+      (λ lacks. inr (
         means,
-        subst (λ (x : TreeHead). IsPutPage o.cmp x means.1.is.tree.pages ps qs p) looked.stays.head
-            (subst (λ (pages : PageMap). IsPutPage o.cmp c.tree.head pages ps qs p) a.same.pages
-            (subst (λ (rs : List Pair). IsPutPage o.cmp c.tree.head a.now.1.is.tree.pages ps rs p) makes k.0)),
-        inr (record { last = last; key = key; value = value; makes = makes; more = a.same.more last key value p k.1 }),
+        inl (lacks_after s R (Meant s R o c.tree mid) (Means s R o b.tree old ps) (λ w i. IsOwn c.tree.head 2 c.tree.height w.1.1.is.tree.pages i) (λ h i. IsOwn b.tree.head 2 b.tree.height h.1.is.tree.pages i) (λ w. w.1.1.is.tree.pages) (λ h. h.1.is.tree.pages) (IsWritten s R o last key value c.tree mid) (IsListPage s R o b.tree old ps qs)
+            b.tree c.tree old mid new looked.looks.keeps looked.looks.made looked.stays.column (λ h. listed h) lacks),
       ))
-      lacks)))
       full
+    where
+      listed : (h : Means s R o b.tree old ps) → ComesOf (Meant s R o c.tree mid) (λ w i. IsOwn c.tree.head 2 c.tree.height w.1.1.is.tree.pages i) (λ w. w.1.1.is.tree.pages) (IsWritten s R o last key value c.tree mid) (IsOwn b.tree.head 2 b.tree.height h.1.is.tree.pages) h.1.is.tree.pages (IsListPage s R o b.tree old ps qs h)
+      listed h =
+          let a = again b c old mid looked ps h in
+          record {
+            seen = (ps, a.now);
+            own = λ i own. subst (λ (n : ℕ). IsOwn b.tree.head 2 n h.1.is.tree.pages i) looked.stays.height
+                (subst (λ (x : TreeHead). IsOwn x 2 c.tree.height h.1.is.tree.pages i) looked.stays.head
+                (subst (λ (pages : PageMap). IsOwn c.tree.head 2 c.tree.height pages i) a.same.pages own));
+            was = λ id p is. inl (sym (ap (λ (pages : PageMap). pages id) a.same.pages) ∙ is);
+            fine = λ p k. (
+              subst (λ (x : TreeHead). IsPutPage o.cmp x h.1.is.tree.pages ps qs p) looked.stays.head
+                  (subst (λ (pages : PageMap). IsPutPage o.cmp c.tree.head pages ps qs p) a.same.pages
+                  (subst (λ (rs : List Pair). IsPutPage o.cmp c.tree.head a.now.1.is.tree.pages ps rs p) makes k.0)),
+              inr (record { last = last; key = key; value = value; makes = makes; more = a.same.more last key value p k.1 }),
+            );
+          }
 
   -- an insertion into the tree as it was looked at, which makes of the pairs held what this does
   pub insert_full : (last : Bool) (key value : List ℕ) (f : List Pair → List Pair) (b c : Btree V O) (old mid new : S) → Looked s R o b c old mid
@@ -121,10 +119,13 @@ module _ {S V O : Type 0} (s : Ghosts S) (R : Stores V S) (o : Orders O) where
 
   pub remove_full : (all : Bool) (key : List ℕ) (b : Btree V O) (old new : S) → IsRefusedRoom s R o all key b.tree old new → FullFrom InList (fills_list s R o) (removed o.cmp all key) b old new
   remove_full all key b old new full = record {
-    by = λ ps h. inr (⊎_elim
-        (λ l. inl (lacks_for _ (IsListPage s R o b.tree old ps (removed o.cmp all key ps)) b.tree.store b.tree.store old old new (same_store_refl R b.tree.store) (keeps_refl s old) (λ p fine. let k = fine ps h in (h, k.0, inl k.1)) l))
-        (λ log. inr log)
-        full);
+    by = λ ps h. inr (
+      h,
+      room_after s R (Meant s R o b.tree old) (Means s R o b.tree old ps) (λ w i. Stood w.1.1.is.tree.pages i) (λ k i. IsOwn b.tree.head 2 b.tree.height k.1.is.tree.pages i) (λ w. w.1.1.is.tree.pages) (λ k. k.1.is.tree.pages) (IsLeftPage s R o all key b.tree old) (IsListPage s R o b.tree old ps (removed o.cmp all key ps)) b.tree b.tree old old new
+          (keeps_refl s old) (same_store_refl R b.tree.store) refl
+          (λ k. record { seen = (ps, k); own = λ i stood. inl stood; was = λ id p is. inl is; fine = λ p left. (left.0, inl (record { all = all; key = key; makes = refl; held = left.2; less = left.1 })) })
+          full,
+    );
   }
 
   -- an emptying had no room for what an empty list has

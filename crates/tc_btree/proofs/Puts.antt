@@ -11,7 +11,7 @@ use Rattle.tc_base.specs.declared.seq.Pair.{Pair}
 use Rattle.tc_space.specs.Changes.{first_in, put_first}
 use Rattle.tc_space.specs.Frames.{In, Reads, Refuses, Writes, reads_then}
 use Rattle.tc_space.specs.Lists.{PacksList, StaysList, StaysPacked, made_in}
-use Rattle.tc_space.specs.Stores.{KeepsTight, Only, Puts, TakesOut, in_form}
+use Rattle.tc_space.specs.Stores.{KeepsTight, Only, PacksIn, Puts, TakesOut, TightIn, TrimsIn, in_form}
 use Rattle.tc_space.specs.declared.records.Records.{Ghosts as Stores}
 use Rattle.tc_space.specs.declared.space.Space.{Ghosts}
 use Rattle.bt_cache.specs.Effects.{SameStore}
@@ -19,7 +19,7 @@ use Rattle.bt_ways.specs.Changes.{inserted}
 use Rattle.bt_ways.specs.Items.{item_of}
 use Rattle.bt_tree.specs.Inserting.{StaysMade}
 use Rattle.bt_tree.specs.Meaning.{Means, file_in}
-use Rattle.bt_tree.specs.Settling.{BringsPairs, StaysFormed, StaysSettled}
+use Rattle.bt_tree.specs.Settling.{BringsPacked, BringsPairs, StaysFormed, StaysSettled, TightTree}
 use Rattle.bt_tree.specs.Standing.{FileStands}
 use Rattle.bt_tree.specs.Visits.{StaysTree}
 use Rattle.bt_tree.specs.declared.tree.Tree.{Tree}
@@ -57,8 +57,8 @@ module _ {S V O : Type 0} (R : Stores V S) (b c : Btree V O) where
     left = on_err_weaker r (λ (was : (s.flag new ≡ false) ⊎ (R.numbers c.tree.store ≡ R.numbers b.tree.store)). ⊎_elim (λ spoiled. inl spoiled) (λ numbers. inr (made_same st.store.sort_same numbers st.stays)) was) st.store.left;
   }
 
-  pub list_settled_packed : StaysSettled R b.tree c.tree → StaysPacked (file_list R) (made_of R) (λ d. R.tight d.tree.store) b c
-  list_settled_packed st = record { file = st.file; made_same = made_same st.sort st.fixed st.stays; stays_tight = st.tight }
+  pub list_settled : StaysSettled R b.tree c.tree → StaysList (file_list R) (made_of R) b c
+  list_settled st = record { file = st.file; made_same = made_same st.sort st.fixed st.stays }
 
 pub list_stands : {S V O : Type 0} (R : Stores V S) (o : Orders O) (b : Btree V O) (bytes : List ℕ) (ps : List Pair) → FileStands R o (R.sort b.tree.store) (R.numbers b.tree.store) b.tree.head b.tree.height b.tree.column bytes ps → ListStands R o (made_of R b) bytes ps
 list_stands R o b bytes ps file = record { head = b.tree.head; code_is = refl; leaf_is = refl; node_is = refl; height = b.tree.height; file = file }
@@ -123,3 +123,15 @@ module _ {S V O : Type 0} (s : Ghosts S) (R : Stores V S) (o : Orders O) where
   pub stands_up : {T E : Type 0} (r : Result T E) (b : Btree V O) (old new : S) → OnOk r (BringsPairs s R o b.tree old new) → OnOk r ((ps : List Pair) → InList b old ps → ListStands R o (made_of R b) (s.now new (file_list R b)) ps)
   stands_up (Ok x) b old new brings = λ ps h. list_stands R o b (s.now new (file_list R b)) ps (brings ps h)
   stands_up (Err e) b old new brings = tt
+
+  pub packs_up : {T E : Type 0} (r : Result T E) (b : Btree V O) (old new : S) → OnOk r (BringsPacked s R o b.tree old new) → OnOk r (PacksIn s (file_list R) (holds_list R o) (λ d. R.tight d.tree.store) R.packed b old new)
+  packs_up (Ok x) b old new brings = λ from form ps tight h. brings.packs from form ps tight h
+  packs_up (Err e) b old new brings = tt
+
+  pub trims_up : {T E : Type 0} (r : Result T E) (b : Btree V O) (old new : S) → OnOk r (BringsPacked s R o b.tree old new) → OnOk r (TrimsIn s (file_list R) (holds_list R o) R.slack b old new)
+  trims_up (Ok x) b old new brings = λ ps h. brings.trims ps h
+  trims_up (Err e) b old new brings = tt
+
+  pub tight_up : {T E : Type 0} (r : Result T E) (form : Form) (b c : Btree V O) (old new : S) → OnOk r (TightTree s R o form b.tree c.tree old new) → OnOk r (TightIn s (file_list R) (holds_list R o) (λ d. R.tight d.tree.store) form b c old new)
+  tight_up (Ok x) form b c old new tight = λ ps h. tight ps h
+  tight_up (Err e) form b c old new tight = tt

@@ -1,14 +1,16 @@
 -- When a limit is reached on the way from a list of pairs to another.
-use Rattle.std.specs.Prelude.{◌≡◌, ◌⊎◌, ℕ, List, Bool}
+use Rattle.std.specs.Prelude.{◌≡◌, ◌⊎◌, ℕ, List, Bool, true}
 use Rattle.tc_base.specs.declared.order.Order.{Ghosts as Orders}
 use Rattle.tc_base.specs.declared.seq.Pair.{Pair}
+use Rattle.tc_space.specs.Changes.{has_pair}
 use Rattle.tc_space.specs.declared.records.Records.{Ghosts as Stores}
 use Rattle.tc_space.specs.declared.space.Space.{Ghosts}
 use Rattle.bt_rows.specs.declared.page.Page.{Page}
-use Rattle.bt_ways.specs.Changes.{inserted}
+use Rattle.bt_ways.specs.Changes.{inserted, removed}
 use Rattle.bt_tree.specs.declared.tree.Tree.{Tree}
 use Rattle.bt_tree.specs.Inserting.{IsMorePage, IsPutPage, RunsOut}
 use Rattle.bt_tree.specs.Meaning.{Means}
+use Rattle.bt_tree.specs.Paging.{IsOwn}
 use Rattle.bt_tree.specs.Removing.{IsLessPage, LacksRoom}
 use Rattle.tc_btree.specs.declared.btree.Btree.{Btree}
 
@@ -30,10 +32,22 @@ module _ {S V O : Type 0} (s : Ghosts S) (R : Stores V S) (o : Orders O) where
     pub makes : inserted o.cmp last key value ps ≡ qs
     pub more : IsMorePage o.cmp last key value means.1.is.tree p
 
-  -- the tree means the pairs before, and it is a page of the tree as it was, or as it is to be; a node stood and is without one of its places, or comes so
-  abbrev pub IsListPage : Tree V O → S → List Pair → List Pair → Page → Type 0
-  IsListPage t old ps qs p = (h : Means s R o t old ps) × IsPutPage o.cmp t.head h.1.is.tree.pages ps qs p × (IsLessPage h.1.is.tree.pages p ⊎ IsAbove t old ps qs h p)
+  -- values of a key that is held go out, and a node stood and is without one of its places
+  pub record IsBelow (t : Tree V O) (old : S) (ps qs : List Pair) (means : Means s R o t old ps) (p : Page) : Type 0 where
+    pub all : Bool
+    pub key : List ℕ
+    pub makes : removed o.cmp all key ps ≡ qs
+    pub held : has_pair key ps ≡ true
+    pub less : IsLessPage means.1.is.tree.pages p
 
-  -- a leaf is to be parted and ids are used up; or the store has no room for such a page, or the undo log is full
+  -- it is a page of the tree as it was, or as it is to be; a node comes where a pair comes in, or is less where values go out
+  abbrev pub IsListPage : (t : Tree V O) (old : S) (ps qs : List Pair) → Means s R o t old ps → Page → Type 0
+  IsListPage t old ps qs h p = IsPutPage o.cmp t.head h.1.is.tree.pages ps qs p × (IsBelow t old ps qs h p ⊎ IsAbove t old ps qs h p)
+
+  -- the store, which holds the pages of the tree before and such pages alone, has no room for such a page, under an id that has a page or is one of the next, or the undo log is full
+  abbrev pub LacksListed : Tree V O → S → S → List Pair → List Pair → Type 0
+  LacksListed t old new ps qs = LacksRoom s R (Means s R o t old ps) (λ h i. IsOwn t.head 2 t.height h.1.is.tree.pages i) (λ h. h.1.is.tree.pages) (IsListPage t old ps qs) t old new
+
+  -- a leaf is to be parted and ids are used up; or the tree means the pairs before, and so it is
   abbrev pub fills_list : Btree V O → S → S → List Pair → List Pair → Type 0
-  fills_list b old new ps qs = IsParted b.tree old ps qs ⊎ LacksRoom s R (IsListPage b.tree old ps qs) b.tree.store old new
+  fills_list b old new ps qs = IsParted b.tree old ps qs ⊎ (Means s R o b.tree old ps × LacksListed b.tree old new ps qs)

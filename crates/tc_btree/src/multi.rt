@@ -47,6 +47,8 @@ impl<R: Records, O: Order> Multi for Btree<R, O> {
 
     ghost packed = { R.packed };
 
+    ghost slack = { R.slack };
+
     ghost gets = { λ b. R.gets b.tree.store };
 
     ghost rises = { λ b bytes ps held. pairs_rise b.tree bytes ps held O.total O.exact };

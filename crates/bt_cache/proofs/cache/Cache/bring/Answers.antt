@@ -17,7 +17,7 @@ returns-then-promote-clause-looks g c = record {
   keeps = keeps_refl _ c.args.space.now;
   room = ap (λ (k : Pages). k.cap) c.promote.ensures.entries;
   made = same_store_refl g.R.Records c.args.store.now;
-  tight = λ form t. t;
+  tight = λ from form bytes t. t;
 }
 
 pub returns-then-promote-clause-counts : goal.returns-then-promote-clause-counts

@@ -23,7 +23,7 @@ returns-in-Some-clause-looks g c = record {
   keeps = keeps_refl _ c.args.space.now;
   room = ap (λ (k : Pages). k.cap) c.pop.ensures.entries;
   made = same_store_refl g.R.Records c.args.store.now;
-  tight = λ form t. t;
+  tight = λ from form bytes t. t;
 }
 
 pub returns-in-Some-clause-counts : goal.returns-in-Some-clause-counts

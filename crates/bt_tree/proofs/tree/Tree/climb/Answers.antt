@@ -84,4 +84,4 @@ pub returns-clause-full : goal.returns-clause-full
 returns-clause-full g c = λ is.
     c.loop-id.invariant.full c.grow.new.space
     (⊎_elim (λ used. inl (λ pages h. full_end c.loop-id.self.head pages c.loop-id.self.path (length c.loop-id.more) c.in_default.ensures.0 used))
-    (λ lacks. inr (lacks_end g.R.S.Space g.R.Records c.loop-id.self c.loop-id.space c.grow.new.space c.loop-id.more c.in_default.ensures.0 lacks)) (c.grow.ensures.full is))
+    (λ lacks. inr (lacks_end g.R.S.Space g.R.Records c.loop-id.self _ c.loop-id.space c.grow.new.space c.loop-id.more c.pop.new.self (record { all = refl; way = refl }) c.in_default.ensures.0 lacks)) (c.grow.ensures.full is))

@@ -1,4 +1,4 @@
-use Rattle.std.proofs.Common.{◌∙◌, refl, sym}
+use Rattle.std.proofs.Common.{refl}
 use Rattle.bt_tree.proofs.Droppings.{all_same, drops_on, same_ready, way_none}
 use Rattle.bt_tree.proofs.tree.Tree.drop_way.Goals as goal
 

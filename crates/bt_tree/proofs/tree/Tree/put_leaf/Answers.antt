@@ -17,7 +17,7 @@ returns-clause-put g c =
 
 pub returns-clause-full : goal.returns-clause-full
 returns-clause-full g c = λ is.
-    lacks_now g.R.S.Space g.R.Records c.args.self.now c.args.space.now c.put_leaf.new.space c.args.id (leaf_page c.args.leaf) (c.if-id-ge-PAGE_END.false, record { fits = c.as_slice-bytes.ensures.fits; is = refl }) c.requires.ready c.put_leaf.ensures.stays.keeps (c.put_leaf.ensures.full is)
+    lacks_now g.R.S.Space g.R.Records c.args.self.now c.args.space.now c.put_leaf.new.space c.args.id (leaf_page c.args.leaf) (c.if-id-ge-PAGE_END.false, record { fits = c.as_slice-bytes.ensures.fits; is = refl }) c.put_leaf.ensures.stays.keeps (c.put_leaf.ensures.full is)
 
 pub returns-clause-still : goal.returns-clause-still
 returns-clause-still g c = record {

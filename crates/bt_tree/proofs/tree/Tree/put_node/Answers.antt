@@ -17,7 +17,7 @@ returns-clause-put g c =
 
 pub returns-clause-full : goal.returns-clause-full
 returns-clause-full g c = λ is.
-    lacks_now g.R.S.Space g.R.Records c.args.self.now c.args.space.now c.put_node.new.space c.args.id (node_page c.args.node) (c.if-id-lt-PAGE_END.false, record { fits = c.as_slice-bytes.ensures.fits; is = refl }) c.requires.ready c.put_node.ensures.stays.keeps (c.put_node.ensures.full is)
+    lacks_now g.R.S.Space g.R.Records c.args.self.now c.args.space.now c.put_node.new.space c.args.id (node_page c.args.node) (c.if-id-lt-PAGE_END.false, record { fits = c.as_slice-bytes.ensures.fits; is = refl }) c.put_node.ensures.stays.keeps (c.put_node.ensures.full is)
 
 pub returns-clause-still : goal.returns-clause-still
 returns-clause-still g c = record {

@@ -1,6 +1,6 @@
 use Rattle.std.proofs.Common.{refl, ◌∙◌}
 use Rattle.std.proofs.lemmas.Result.{on_ok_weaker, on_err_weaker}
-use Rattle.bt_tree.proofs.Settles.{store_ready, settle_anew, settle_packs, settle_refused, settle_stands, settles}
+use Rattle.bt_tree.proofs.Settles.{both_done, store_ready, settle_anew, settle_packs, settle_refused, settle_stands, settles}
 use Rattle.bt_tree.proofs.tree.Tree.settle.Goals as goal
 
 pub settle-requires : goal.settle-requires
@@ -16,11 +16,14 @@ returns-clause-anew g c = on_ok_weaker c.settle.result (λ writes. settle_anew g
 pub returns-clause-stands : goal.returns-clause-stands
 returns-clause-stands g c =
     on_ok_weaker c.settle.result
-    (λ stands. settle_stands g.R.S.Space g.R.Records g.O.Order c.args.self.now c.set_opaque.new.self c.args.space.now c.settle.new.space c.set_opaque.ensures.means c.set_opaque.ensures.sets.file c.region_of-opaque.result c.region_of-opaque.ensures c.set_opaque.ensures.sets.region_is c.set_opaque.ensures.sets.sort_same c.set_opaque.ensures.sets.numbers_same stands)
+    (λ stands. settle_stands g.R.S.Space g.R.Records g.O.Order c.args.self.now c.set_opaque.new.self c.args.space.now c.settle.new.space c.set_opaque.ensures.means c.set_opaque.ensures.sets.file c.region_of-opaque.result c.region_of-opaque.ensures.numbers c.region_of-opaque.ensures.spelled c.set_opaque.ensures.sets.region_is c.set_opaque.ensures.sets.sort_same c.set_opaque.ensures.sets.numbers_same stands)
     c.settle.ensures.stands
 
 pub returns-clause-packs : goal.returns-clause-packs
-returns-clause-packs g c = on_ok_weaker c.settle.result (λ packs. settle_packs g.R.S.Space g.R.Records g.O.Order c.args.self.now c.set_opaque.new.self c.args.space.now c.settle.new.space c.set_opaque.ensures.means c.set_opaque.ensures.sets.file c.set_opaque.ensures.tight packs) c.settle.ensures.packs
+returns-clause-packs g c =
+    both_done c.settle.result
+    (λ packs trims. settle_packs g.R.S.Space g.R.Records g.O.Order c.args.self.now c.set_opaque.new.self c.args.space.now c.settle.new.space c.set_opaque.ensures.means c.set_opaque.ensures.sets.file c.set_opaque.ensures.tight packs trims)
+    c.settle.ensures.packs c.settle.ensures.trims
 
 pub returns-clause-refused : goal.returns-clause-refused
 returns-clause-refused g c = on_err_weaker c.settle.result (λ refused. settle_refused g.R.S.Space g.R.Records g.O.Order c.args.self.now _ c.set_opaque.new.self _ c.args.space.now c.settle.new.space c.set_opaque.ensures.means c.set_opaque.ensures.sets.file refl (record { head = refl; height = refl; column = refl }) refl refused) c.settle.ensures.refused
@@ -30,6 +33,5 @@ returns-clause-stays g c = record {
   file = c.settle.ensures.stays.file ∙ c.set_opaque.ensures.sets.file;
   sort = c.settle.ensures.stays.sort_same ∙ c.set_opaque.ensures.sets.sort_same;
   fixed = c.settle.ensures.stays.numbers_same ∙ c.set_opaque.ensures.sets.numbers_same;
-  tight = λ form tight. c.settle.ensures.tight form (c.set_opaque.ensures.tight form tight);
   stays = record { head = refl; height = refl; column = refl };
 }
