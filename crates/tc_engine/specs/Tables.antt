@@ -12,7 +12,7 @@ use Rattle.tc_model.specs.Meaning.{row_held, searched}
 use Rattle.tc_model.specs.Queries.{query_of}
 use Rattle.tc_model.specs.Rows.{Row, row_of_call, texts_of}
 use Rattle.tc_model.specs.Stores.{store_row}
-use Rattle.ty_base.specs.Holding.{Held, Layout}
+use Rattle.ty_base.specs.Holding.{Held, Layout, numbers_refl}
 use Rattle.tc_engine.specs.Changes.{Change, found_by, index_set, row_stored, search_of}
 use Rattle.tc_engine.specs.Effects.{Makes}
 use Rattle.tc_engine.specs.Rows.{AreItems, adds_nothing}
@@ -70,7 +70,7 @@ module _ {S E : Type 0} (s : Ghosts S) (own : ℕ → Type 0) (layout : Files �
   makes_none f e a sound none = record {
     sound = sound;
     others = others_refl s own a;
-    numbered = λ c h. refl;
+    numbered = λ c h. numbers_refl (layout (s.now a));
     made = λ yes. absurd cc;
     fails = λ no. none;
     same = λ no. reads_refl s (Held s holds) e a sound;

@@ -21,7 +21,7 @@ use Rattle.tc_fixed.specs.Shapes.{most_id}
 use Rattle.tc_fixed.specs.Standing.{HasHead, Stands}
 use Rattle.tc_fixeddb.specs.declared.holding.FixedEngine.{FixedEngine}
 use Rattle.tc_fixeddb.specs.Holding.{HoldsIds, Reopens}
-use Rattle.tc_fixeddb.specs.Layouts.{layout_in, layout_of}
+use Rattle.tc_fixeddb.specs.Layouts.{layout_in, layout_of, no_numbers}
 use Rattle.tc_fixeddb.specs.Shapes.{Shaped, anew, usual}
 use Rattle.tc_fixeddb.specs.declared.shape.FixedShape.{FixedShape}
 
@@ -72,7 +72,7 @@ module _ {S : Type 0} (s : Ghosts S) where
 
   -- what an opening made ends where its head says, and what it only read is as it was
   pub made_laid : {E : Type 0} (r : Result (FixedEngine S) E) (a b : S) → IfOk r (λ e. CreatesAs s Reopens HoldsIds Shaped e (anew usual) usual b) → OnOk r (StaysLaid s layout_of a b)
-  made_laid (Ok e) a b created = λ t. let made = (created t).numbers in record { numbers = refl; slack = omega (arith, made.long, ap (λ (h : FixedHead). h.size) made.numbers) }
+  made_laid (Ok e) a b created = λ t. let made = (created t).numbers in record { numbers = no_numbers (s.now a) (s.now b); slack = omega (arith, made.long, ap (λ (h : FixedHead). h.size) made.numbers) }
   made_laid (Err x) a b created = tt
 
   pub read_laid : (a b : S) → (s.tells → (g : ℕ) → s.now b g ≡ s.now a g) → StaysLaid s layout_of a b

@@ -1,5 +1,5 @@
 -- The file stands for the contents once they are settled.
-use Rattle.std.proofs.Common.{◌≡◌, ◌∙◌, ℕ, List, length, take, inr, refl, sym, ap, subst, arith, length-take}
+use Rattle.std.proofs.Common.{◌≡◌, ◌∙◌, ℕ, List, length, take, inr, sym, ap, subst, arith, length-take}
 use Rattle.std.specs.Prelude.{◌-◌}
 use Rattle.tc_base.specs.Files.{wrote}
 use Rattle.hf_head.specs.declared.fixed.FixedHead.{FixedHead}
@@ -8,7 +8,7 @@ use Rattle.tc_space.specs.Effects.{Changes}
 use Rattle.tc_fixed.specs.declared.fixed.Fixed.{Fixed}
 use Rattle.tc_fixed.specs.Cells.{end_of}
 use Rattle.tc_fixed.specs.Settling.{head_of, settled}
-use Rattle.tc_fixeddb.specs.Layouts.{layout_of}
+use Rattle.tc_fixeddb.specs.Layouts.{layout_of, no_numbers}
 use Rattle.tc_space.specs.Changes.{same}
 use Rattle.tc_space.specs.Frames.{Writes}
 use Rattle.tc_space.specs.Stores.{Only}
@@ -33,7 +33,7 @@ module _ {S : Type 0} (s : Ghosts S) where
   -- what is settled ends where its head says
   pub trims_up : (e : FixedEngine S) (a b : S) → (s.tells → Changes s.now 0 (settled e.fixed (s.now a 0)) a b) → ((m : Array) → Means s e.fixed a m → Stands (s.now b 0) (width_of e.fixed) (max_id_of e.fixed) m) → (c : Contents) → Held s HoldsIds e a c → IsTrimmed (layout_of (s.now a)) (layout_of (s.now b))
   trims_up e a b wrote stands c h = record {
-    numbers = refl;
+    numbers = no_numbers (s.now a) (s.now b);
     none = long_of e.fixed (s.now a 0) (s.now b 0) h.1.ids h.1.holds_them (stands h.1.ids (means_of s e a c h)) (wrote h.0).here;
   }
 

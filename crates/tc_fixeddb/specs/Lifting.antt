@@ -1,6 +1,6 @@
 -- Calls on the array, as the trait of engines says them.
 use Rattle.std.specs.Prelude.{◌≡◌, ℕ, Bool, true, false, cond, List, Some, None, option_map, option_and_then, is_some, unwrap_or, nat_le, ◌&&◌}
-use Rattle.std.proofs.Common.{◌∙◌, refl, sym, ap, subst, inl, inr, ⊎_elim}
+use Rattle.std.proofs.Common.{◌∙◌, sym, ap, subst, inl, inr, ⊎_elim}
 use Rattle.std.specs.FinMap.{get}
 use Rattle.std.specs.Fmt.{decimal}
 use Rattle.tc_space.specs.Frames.{Reads, Refuses}
@@ -17,7 +17,7 @@ use Rattle.tc_fixed.specs.Holding.{Means, SameShape, max_id_of, width_of}
 use Rattle.tc_fixed.specs.Shapes.{most_id}
 use Rattle.tc_fixeddb.specs.declared.holding.FixedEngine.{FixedEngine}
 use Rattle.tc_fixeddb.specs.Changing.{LacksRoomFor, Step, Takes}
-use Rattle.tc_fixeddb.specs.Layouts.{layout_of}
+use Rattle.tc_fixeddb.specs.Layouts.{layout_of, no_numbers}
 use Rattle.tc_fixeddb.specs.Holding.{Fills, HoldsIds, IsFound, Names}
 
 module _ {S : Type 0} where
@@ -58,7 +58,7 @@ module _ {S : Type 0} (s : Ghosts S) where
   made_up change step done e e' a b takes is_step = record {
     sound = takes.sound;
     others = takes.others;
-    numbered = λ c h. refl;
+    numbered = λ c h. no_numbers (s.now a) (s.now b);
     made = λ yes c h.
         let made = takes.made yes h.1.ids (means_of e a c h) in
         (as_contents e.fixed made.0, ap change h.1.is ∙ (is_step h.1.ids (means_of e a c h)).is ∙ ap (option_map (λ n. as_contents e.fixed n)) made.1, held_again e e' b made.0 takes.shape made.2);

@@ -35,9 +35,9 @@ impl<S: Space> Storage for FixedEngine<S> {
 
     ghost lines = { λ files text. Lines files text };
 
-    ghost tight = { λ e form. Unit {0} };
+    ghost tight = { λ e from form files. Unit {0} };
 
-    ghost packed = { λ form files. Unit {0} };
+    ghost packed = { λ from form files. Unit {0} };
 
     ghost layout = { layout_of };
 

@@ -20,7 +20,7 @@ use Rattle.tc_engine.specs.Effects.{IsFull, Makes}
 use Rattle.tc_engine.specs.Rows.{Adds, item_row}
 use Rattle.tc_engine.specs.declared.rows.Rows.{Rows}
 use Rattle.tc_hashdb.specs.declared.holding.HashEngine.{HashEngine}
-use Rattle.tc_hashdb.specs.Changing.{KeepsHead, LacksRoomFor, Takes, all_out, all_set, is_short, stored_in}
+use Rattle.tc_hashdb.specs.Changing.{KeepsHead, LacksRoomFor, Takes, all_out, all_set, head_refl, is_short, stored_in}
 use Rattle.tc_hashdb.specs.Filling.{Fills, FillsMap}
 use Rattle.tc_hashdb.specs.Holding.{HoldsKeys, Means}
 use Rattle.tc_hashdb.specs.Layouts.{layout_of}
@@ -68,7 +68,7 @@ module _ {S : Type 0} (s : Ghosts S) where
   fails e a sound = record {
     sound = sound;
     others = record { same = λ t g other. refl };
-    numbers = refl;
+    numbers = head_refl e;
     made = λ done. absurd cc;
     fails = λ not m means. refl;
     same = λ not. reads_refl s (Means s) e a sound;
@@ -78,7 +78,7 @@ module _ {S : Type 0} (s : Ghosts S) where
   keeps_all e a sound = record {
     sound = sound;
     others = record { same = λ t g other. refl };
-    numbers = refl;
+    numbers = head_refl e;
     made = λ done m means. (m, refl, means);
     fails = λ not. absurd cc;
     same = λ not. absurd cc;

@@ -1,5 +1,5 @@
 -- A file that is opened, or made anew.
-use Rattle.std.proofs.Common.{◌≡◌, ◌∙◌, inl, inr, ⊎_elim, ℕ, ◌≤◌, false, length, take, refl, sym, ap, subst, arith}
+use Rattle.std.proofs.Common.{◌≡◌, ◌∙◌, inl, inr, ⊎_elim, ℕ, ◌≤◌, false, List, length, take, refl, sym, ap, subst, arith}
 use Rattle.std.specs.Prelude.{IfOk, OnOk, IfSome, Some, None, Result, Ok, Err}
 use Rattle.std.specs.FinMap.{empty, get}
 use Rattle.tc_base.specs.Files.{Files}
@@ -18,7 +18,7 @@ use Rattle.hf_head.specs.Heads.{head_in}
 use Rattle.hf_tree.specs.Standing.{StandsFor}
 use Rattle.tc_hash.specs.declared.hash.Hash.{Hash}
 use Rattle.tc_hash.specs.Creating.{HasNoRoom, new_bytes}
-use Rattle.tc_hash.specs.Keeping.{holds}
+use Rattle.tc_hash.specs.Keeping.{ShowsRegion, holds}
 use Rattle.tc_hash.specs.Settling.{IsBrought}
 use Rattle.tc_hash.specs.Standing.{StandsWith}
 use Rattle.tc_model.specs.Contents.{Contents, hash}
@@ -45,7 +45,7 @@ module _ {S : Type 0} (s : Ghosts S) where
   created_as e shape b file new total brought held head made =
       let stands : StandsFor 0 (s.now b 0) (get nothing) = subst (λ k. StandsFor k (s.now b 0) (get nothing)) new.kind_is brought.stands.is in
       record {
-        holds = record { map = empty; is = refl; holds_map = record { file = file; kind = new.kind_is; holds_it = held; counted = subst (λ o. IfSome o (λ n. n ≡ size_of empty)) (sym total) (sym size-empty) } };
+        holds = record { map = empty; is = refl; holds_map = record { file = file; kind = new.kind_is; holds_it = held; counted = subst (λ o. IfSome o (λ n. n ≡ size_of empty)) (sym total) (sym size-empty); region = ap (λ (g : Head). g.opaque) brought.head } };
         stand = inr (record { map = empty; is = refl; stands = stands });
         some = λ none. absurd (let long : 256 ≤ length (s.now b 0) = stands.opens.long in let short : length (s.now b 0) ≡ 0 = ap length none in omega (arith, long, short));
         numbers = record {
@@ -84,11 +84,15 @@ module _ {S : Type 0} (s : Ghosts S) where
   pub main_opens : (h : Hash S) (kind : Kind) (a : S) → kinds.Hash ≡ kind → (m : Map) × StandsWith 0 (s.now a 0) m h.region → (c : Contents) × OpensTo kind Reopens (s.now a) c
   main_opens h kind a is stood = (hash false stood.0, record { kind_is = is; stand = inr (record { map = stood.0; is = refl; stands = stood.1.is }) })
 
-  pub main_opened : (e : HashEngine S) (kind : Kind) (a b : S) → (length (s.now a 0) ≡ 0 → ⊥) → s.now b 0 ≡ s.now a 0 → e.hash.body.file ≡ 0 → e.hash.body.head.kind ≡ 0 → e.total ≡ None → ((m : Map) → StandsFor 0 (s.now a 0) (get m) → holds e.hash (s.now b 0) m) → (c : Contents) → OpensTo kind Reopens (s.now a) c → IsOpened HoldsKeys Reopens e (s.now b) c
-  main_opened e kind a b some same file kind_is total opened c opens = ⊎_elim
+  -- the region that was read stands in the head
+  pub opened_shows : (h : Hash S) (a b : S) → s.now b 0 ≡ s.now a 0 → (m : Map) × StandsWith 0 (s.now a 0) m h.region → ShowsRegion h (s.now b 0)
+  opened_shows h a b same stood = ap (λ (l : List ℕ). (head_in (take 256 l)).opaque) same ∙ (ap (λ (g : Head). g.opaque) stood.1.is.opens.spells.fields ∙ stood.1.region_is)
+
+  pub main_opened : (e : HashEngine S) (kind : Kind) (a b : S) → (length (s.now a 0) ≡ 0 → ⊥) → s.now b 0 ≡ s.now a 0 → e.hash.body.file ≡ 0 → e.hash.body.head.kind ≡ 0 → e.total ≡ None → ((m : Map) → StandsFor 0 (s.now a 0) (get m) → holds e.hash (s.now b 0) m) → ShowsRegion e.hash (s.now b 0) → (c : Contents) → OpensTo kind Reopens (s.now a) c → IsOpened HoldsKeys Reopens e (s.now b) c
+  main_opened e kind a b some same file kind_is total opened shows c opens = ⊎_elim
       (λ none. absurd (some (ap length none.0)))
       (λ main. record {
-        holds = record { map = main.map; is = main.is; holds_map = record { file = file; kind = kind_is; holds_it = opened main.map main.stands; counted = subst (λ o. IfSome o (λ n. n ≡ size_of main.map)) (sym total) tt } };
+        holds = record { map = main.map; is = main.is; holds_map = record { file = file; kind = kind_is; holds_it = opened main.map main.stands; counted = subst (λ o. IfSome o (λ n. n ≡ size_of main.map)) (sym total) tt; region = shows } };
         stand = inr (record { map = main.map; is = main.is; stands = subst (λ bytes. StandsFor 0 bytes (get main.map)) (sym same) main.stands });
       })
       opens.stand

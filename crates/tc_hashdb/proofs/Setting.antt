@@ -14,7 +14,7 @@ use Rattle.tc_space.specs.Frames.{Keeps, Writes, keeps_refl, keeps_then, writes_
 use Rattle.tc_space.specs.Stores.{IsReady, Only, ready_writes}
 use Rattle.tc_space.specs.declared.space.Space.{Ghosts}
 use Rattle.tc_hashdb.specs.declared.holding.HashEngine.{HashEngine}
-use Rattle.tc_hashdb.specs.Changing.{KeepsHead, all_set, last_values, set_entries, set_one}
+use Rattle.tc_hashdb.specs.Changing.{KeepsHead, all_set, head_refl, head_then, last_values, set_entries, set_one}
 use Rattle.tc_hashdb.specs.Filling.{FillsKey, FillsMap, key_more}
 use Rattle.tc_hashdb.specs.Holding.{Means}
 use Rattle.tc_hashdb.proofs.Several.{all_entries, fills_on, last_set, set_next}
@@ -36,7 +36,7 @@ module _ {S : Type 0} (s : Ghosts S) where
     done = [];
     split = refl;
     writes = record { sound = sound; means = λ m means. means; others = record { same = λ t g other. refl } };
-    numbers = refl;
+    numbers = head_refl v;
     keeps = keeps_refl s a;
   }
 
@@ -54,7 +54,7 @@ module _ {S : Type 0} (s : Ghosts S) where
           others = both.others;
           means = λ m means. subst (λ n. Means s w c n) ((λ i. set_one (set_entries m h.done) (key_is i) (value_is i)) ∙ sym (set_next h.done e m)) (both.means m means);
         };
-        numbers = head ∙ h.numbers;
+        numbers = head_then v u w h.numbers head;
         keeps = keeps_then s a b c h.keeps keeps;
       }
 

@@ -13,19 +13,21 @@ use Rattle.tc_space.specs.declared.space.Space.{Ghosts}
 use Rattle.tc_hash.specs.declared.hash.Hash.{Hash}
 use Rattle.tc_hash.specs.declared.put.Put.{Put}
 use Rattle.tc_hash.specs.declared.put.Put.TheVariants as put
-use Rattle.tc_hash.specs.Keeping.{SameMap, SameShape, StaysOpen, file_of, holds}
-use Rattle.tc_hash.specs.Standing.{numbers_in}
+use Rattle.tc_hash.specs.Creating.{Clears}
+use Rattle.tc_hash.specs.Keeping.{SameMap, SameShape, ShowsRegion, StaysOpen, file_of, holds}
 use Rattle.tc_hash.specs.Putting.{Answers, LacksWithin, StoresWithin, TakesLen}
 use Rattle.tc_model.specs.Maps.{with_value, without}
 use Rattle.tc_hashdb.specs.declared.holding.HashEngine.{HashEngine}
-use Rattle.tc_hashdb.specs.Changing.{KeepsHead, LacksRoomFor, Step, Takes, after, stored_in}
+use Rattle.tc_hashdb.specs.Changing.{KeepsHead, LacksRoomFor, Step, Takes, after, head_open, stored_in}
 use Rattle.tc_hashdb.specs.Counting.{IsCountedWithout}
 use Rattle.tc_hashdb.specs.Filling.{FillsMap}
 use Rattle.tc_hashdb.specs.Holding.{Means}
+use Rattle.tc_hashdb.specs.Layouts.{lead_of}
+use Rattle.tc_hashdb.specs.Laying.{none_leads}
 use Rattle.tc_hashdb.proofs.Counted.{counts_out}
 use Rattle.ty_base.specs.Holding.{IsPast}
 use Rattle.tc_hashdb.proofs.Filled.{fills_up}
-use Rattle.tc_hashdb.proofs.Kept.{Counts, in_of, reads_again, writes_again}
+use Rattle.tc_hashdb.proofs.Kept.{Counts, in_of, reads_again, shows_still, writes_again}
 
 -- ---- values that may be stored
 
@@ -95,15 +97,15 @@ module _ {S : Type 0} (s : Ghosts S) where
 
   pub takes_put : (mode : Mode) (key value : List ℕ) (was : Option ℕ) (v w : HashEngine S) (a b : S) → IsReady s (Means s) v a → StoresWithin s mode key value 16777216 was v.hash w.hash a b → StaysOpen v.hash w.hash
       → ((m : Map) → Means s v a m → Counts w.total (put_in mode key value m)) → Takes s (stored_in mode key value) true v w a b
-  takes_put mode key value was v w a b ready stores stays counted = takes_of (stored_in mode key value) (put_in mode key value) v w a b (ap numbers_in stays.head)
-      (writes_again s (put_in mode key value) v w a b ready stores.puts.0.writes stays.map.file (ap (λ h. h.kind) stays.head) counted)
+  takes_put mode key value was v w a b ready stores stays counted = takes_of (stored_in mode key value) (put_in mode key value) v w a b (head_open v w stays)
+      (writes_again s (put_in mode key value) v w a b ready stores.puts.0.writes stays.map.file stays.map.sort_same counted (λ m means. shows_still s v w.hash a b m means stays.map.region_same stores.puts.1.front))
       (λ m means. stored_put mode m key value (λ keep. stores.puts.0.absent keep m (in_of s v a m means)) (stores.fits m (in_of s v a m means)))
 
   -- what wasn't stored is held and to be kept, or has too many bytes
   pub takes_no_put : (mode : Mode) (key value : List ℕ) (p : Put) (v w : HashEngine S) (a b : S) → ((was : Option ℕ) → p ≡ put.Stored was → ⊥) → Answers s mode key value 16777216 p v.hash w.hash a b → StaysOpen v.hash w.hash → w.total ≡ v.total → Takes s (stored_in mode key value) false v w a b
   takes_no_put mode key value (put.Stored was) v w a b other x stays total = absurd (other was refl)
-  takes_no_put mode key value put.Held v w a b other x stays total = takes_nothing (stored_in mode key value) v w a b (ap numbers_in stays.head) (reads_again s v w a b x.reads stays.map.file stays.head total) (λ m means. stored_held mode m key value x.keep (x.there m (in_of s v a m means)))
-  takes_no_put mode key value put.TooLong v w a b other x stays total = takes_nothing (stored_in mode key value) v w a b (ap numbers_in stays.head) (reads_again s v w a b x.looks stays.map.file stays.head total) (λ m means. stored_long mode m key value (x.long m (in_of s v a m means)))
+  takes_no_put mode key value put.Held v w a b other x stays total = takes_nothing (stored_in mode key value) v w a b (head_open v w stays) (reads_again s v w a b x.reads stays.map.file stays.map.sort_same stays.map.region_same total) (λ m means. stored_held mode m key value x.keep (x.there m (in_of s v a m means)))
+  takes_no_put mode key value put.TooLong v w a b other x stays total = takes_nothing (stored_in mode key value) v w a b (head_open v w stays) (reads_again s v w a b x.looks stays.map.file stays.map.sort_same stays.map.region_same total) (λ m means. stored_long mode m key value (x.long m (in_of s v a m means)))
 
   pub stored_so : (mode : Mode) (key value : List ℕ) (most : ℕ) (p : Put) (was : Option ℕ) (h h' : Hash S) (a b : S) → p ≡ put.Stored was → Answers s mode key value most p h h' a b → StoresWithin s mode key value most was h h' a b
   stored_so mode key value most p was h h' a b e x = subst (λ q. Answers s mode key value most q h h' a b) e x
@@ -119,16 +121,20 @@ module _ {S : Type 0} (s : Ghosts S) where
   -- ---- outs
 
   pub takes_out : (key : List ℕ) (old long : ℕ) (v w : HashEngine S) (a b : S) → IsReady s (Means s) v a → TakesLen s key (Some old) v.hash w.hash a b → StaysOpen v.hash w.hash → long ≡ length key → IfSome w.total (λ n. IsCountedWithout long (Some old) v.total n) → Takes s (λ m. without m key) true v w a b
-  takes_out key old long v w a b ready takes stays is_long counted = takes_of (λ m. without m key) (out_of key) v w a b (ap numbers_in stays.head)
-      (writes_again s (out_of key) v w a b ready (takes.out.out refl) stays.map.file (ap (λ h. h.kind) stays.head) (λ m means. counts_out v.total w.total m key long old is_long (takes.was_is m (in_of s v a m means)) means.1.counted counted))
+  takes_out key old long v w a b ready takes stays is_long counted = takes_of (λ m. without m key) (out_of key) v w a b (head_open v w stays)
+      (writes_again s (out_of key) v w a b ready (takes.out.out refl) stays.map.file stays.map.sort_same (λ m means. counts_out v.total w.total m key long old is_long (takes.was_is m (in_of s v a m means)) means.1.counted counted)
+      (λ m means. shows_still s v w.hash a b m means stays.map.region_same (takes.own refl m (in_of s v a m means)).takes.front))
       (λ m means. held_true key m true (takes.out.held m (in_of s v a m means)) refl)
 
   pub takes_none : (key : List ℕ) (v w : HashEngine S) (a b : S) → TakesLen s key None v.hash w.hash a b → StaysOpen v.hash w.hash → w.total ≡ v.total → Takes s (λ m. without m key) false v w a b
-  takes_none key v w a b takes stays total = takes_nothing (λ m. without m key) v w a b (ap numbers_in stays.head) (reads_again s v w a b (takes.out.none refl) stays.map.file stays.head total) (λ m means. held_false key m false (takes.out.held m (in_of s v a m means)) refl)
+  takes_none key v w a b takes stays total = takes_nothing (λ m. without m key) v w a b (head_open v w stays) (reads_again s v w a b (takes.out.none refl) stays.map.file stays.map.sort_same stays.map.region_same total) (λ m means. held_false key m false (takes.out.held m (in_of s v a m means)) refl)
 
-  pub takes_cleared : (v w : HashEngine S) (a b : S) → IsReady s (Means s) v a → Writes s (Only (file_of v.hash)) (In s file_of holds) (λ m. empty) v.hash w.hash a b → SameMap v.hash w.hash → SameShape v.hash w.hash → w.total ≡ Some 0 → Takes s (λ m. Some empty) true v w a b
-  takes_cleared v w a b ready writes stays shape total = takes_of (λ m. Some empty) (λ m. empty) v w a b (λ i. shape.options i ∷ shape.apow i ∷ shape.fpow i ∷ shape.buckets i ∷ [])
-      (writes_again s (λ m. empty) v w a b ready writes stays.file shape.kind (λ m means. subst (λ o. Counts o empty) (sym total) (sym size-empty)))
+  pub takes_cleared : (v w : HashEngine S) (a b : S) → IsReady s (Means s) v a → Writes s (Only (file_of v.hash)) (In s file_of holds) (λ m. empty) v.hash w.hash a b → SameMap v.hash w.hash → SameShape v.hash w.hash → Clears s v.hash w.hash b → w.total ≡ Some 0 → Takes s (λ m. Some empty) true v w a b
+  takes_cleared v w a b ready writes stays shape clears total = takes_of (λ m. Some empty) (λ m. empty) v w a b (record {
+    same = λ i. (shape.options i ∷ shape.apow i ∷ shape.fpow i ∷ shape.buckets i ∷ []) ++ stays.region_same i;
+    lead = none_leads w.hash.body.head (lead_of v.hash.body.head) clears.is_new;
+  })
+      (writes_again s (λ m. empty) v w a b ready writes stays.file shape.kind (λ m means. subst (λ o. Counts o empty) (sym total) (sym size-empty)) (λ m means. subst (λ f. ShowsRegion w.hash (s.now b f)) means.1.file (clears.region means.0)))
       (λ m means. refl)
 
   -- the undo log is full

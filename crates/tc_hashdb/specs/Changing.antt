@@ -1,5 +1,5 @@
 -- What calls make of a map.
-use Rattle.std.specs.Prelude.{◌≡◌, ℕ, ◌+◌, Bool, true, false, List, [], ◌++◌, length, fold, nat_le, Option, Some, None, is_some, unwrap_or, if◌then◌else◌}
+use Rattle.std.specs.Prelude.{◌≡◌, ℕ, ◌+◌, ◌≤◌, Bool, true, false, List, [], ◌++◌, length, fold, nat_le, Option, Some, None, is_some, unwrap_or, if◌then◌else◌}
 use Rattle.std.specs.FinMap.{empty, get, insert}
 use Rattle.tc_base.specs.Maps.{Map}
 use Rattle.tc_base.specs.declared.kind.Mode.{Mode}
@@ -8,13 +8,13 @@ use Rattle.tc_base.specs.declared.seq.Pair.{Pair}
 use Rattle.tc_space.specs.Frames.{Others, Reads}
 use Rattle.tc_space.specs.Stores.{Only}
 use Rattle.tc_space.specs.declared.space.Space.{Ghosts}
-use Rattle.tc_hash.specs.Keeping.{StaysOpen, numbers_of}
-use Rattle.tc_hash.specs.Standing.{numbers_in}
-use Rattle.std.proofs.Common.{◌∙◌, ap, refl}
+use Rattle.tc_hash.specs.Keeping.{StaysOpen}
+use Rattle.std.proofs.Common.{◌∙◌, ap, arith, refl}
 use Rattle.tc_model.specs.Maps.{with_value, without}
 use Rattle.tc_hashdb.specs.declared.holding.HashEngine.{HashEngine}
 use Rattle.tc_hashdb.specs.Filling.{FillsMap}
 use Rattle.tc_hashdb.specs.Holding.{Means}
+use Rattle.tc_hashdb.specs.Layouts.{lead_of, numbers_with}
 
 -- the map after, or none where it fails
 abbrev pub Step : Type 0
@@ -64,21 +64,28 @@ all_out keys m = fold out_one m keys
 
 -- ---- calls
 
--- the numbers of the file stay
-abbrev pub KeepsHead : {S : Type 0} → HashEngine S → HashEngine S → Type 0
-KeepsHead v v' = numbers_of v'.hash ≡ numbers_of v.hash
+-- the numbers that are held of the file stay, and so does the region. No more lies free in front of the first block than did
+pub record KeepsHead {S : Type 0} (v v' : HashEngine S) : Type 0 where
+  pub same : numbers_with v'.hash.body.head v'.hash.region ≡ numbers_with v.hash.body.head v.hash.region
+  pub lead : lead_of v'.hash.body.head ≤ lead_of v.hash.body.head
+
+pub no_more : (old new : ℕ) → new ≡ old → new ≤ old
+no_more old new same = omega (arith, same)
+
+less_then : (a b c : ℕ) → b ≤ a → c ≤ b → c ≤ a
+less_then a b c first second = omega (arith, first, second)
 
 pub head_refl : {S : Type 0} (v : HashEngine S) → KeepsHead v v
-head_refl v = refl
+head_refl v = record { same = refl; lead = no_more (lead_of v.hash.body.head) (lead_of v.hash.body.head) refl }
 
 pub head_then : {S : Type 0} (a b c : HashEngine S) → KeepsHead a b → KeepsHead b c → KeepsHead a c
-head_then a b c first second = second ∙ first
+head_then a b c first second = record { same = second.same ∙ first.same; lead = less_then (lead_of a.hash.body.head) (lead_of b.hash.body.head) (lead_of c.hash.body.head) first.lead second.lead }
 
 pub head_open : {S : Type 0} (v w : HashEngine S) → StaysOpen v.hash w.hash → KeepsHead v w
-head_open v w stays = ap numbers_in stays.head
+head_open v w stays = record { same = λ i. numbers_with (stays.head i) (stays.map.region_same i); lead = no_more (lead_of v.hash.body.head) (lead_of w.hash.body.head) (ap lead_of stays.head) }
 
 module _ {S : Type 0} (s : Ghosts S) where
-  -- the step was made in file 0, whose numbers stay; or it fails, and nothing has changed
+  -- the step was made in file 0, whose numbers and region stay; or it fails, and nothing has changed
   pub record Takes (f : Step) (done : Bool) (v v' : HashEngine S) (old new : S) : Type 0 where
     pub sound : s.sound new
     pub others : Others s (Only 0) old new

@@ -97,11 +97,12 @@ pub record LacksOne (limit long : ℕ) (head : Head) (held : Map) : Type 0 where
   pub nothing : (q : ℕ) → free q ≡ None
   pub refused : IsRefusedFor head (head.first + blocks_long head before) free limit long (block_len (width head) pair.key pair.value (unit head))
 
--- with these bytes, under the numbers of the head that stands in front of them, a hash file holds this map; written anew in the large form with these numbers it
+-- with these bytes, under the numbers of the head that stands in front of them, a small hash file holds this map; written anew in the large form with these numbers it
 -- has no room for what stands in front of its records, or for one of them
 pub record LacksLargeAt (limit long : ℕ) (bytes : List ℕ) (held : Map) : Type 0 where
   pub own : Head
   pub numbers : IsNumbered own bytes
+  pub small : own.options ≡ 1 → ⊥
   pub pool : Pool
   pub has : HasMap own pool.size (frees pool) held bytes
   pub head : Head

@@ -10,17 +10,18 @@ use Rattle.tc_maps.specs.Sizes.{size_of}
 use Rattle.tc_space.specs.declared.space.Space.{Ghosts}
 use Rattle.hf_tree.specs.Rules.{rule_l}
 use Rattle.hf_tree.specs.Standing.{StandsFor}
-use Rattle.tc_hash.specs.Keeping.{holds}
+use Rattle.tc_hash.specs.Keeping.{ShowsRegion, holds}
 use Rattle.tc_hash.specs.Opening.{IsBroken}
 use Rattle.tc_model.specs.Contents.{Contents, hash}
 use Rattle.tc_hashdb.specs.declared.holding.HashEngine.{HashEngine}
 
--- it holds this map over the bytes of file 0, a hash file, and what was counted of it is so
+-- it holds this map over the bytes of file 0, a hash file, what was counted of it is so, and the head that stands in front of the file has the region that is held
 pub record HoldsCounted {S : Type 0} (e : HashEngine S) (bytes : List ℕ) (m : Map) : Type 0 where
   pub file : e.hash.body.file ≡ 0
   pub kind : e.hash.body.head.kind ≡ 0
   pub holds_it : holds e.hash bytes m
   pub counted : IfSome e.total (λ n. n ≡ size_of m)
+  pub region : ShowsRegion e.hash bytes
 
 -- with the bytes that file 0 has now
 abbrev pub Means : {S : Type 0} → Ghosts S → HashEngine S → S → Map → Type 0

@@ -15,7 +15,7 @@ use Rattle.tc_hashdb.specs.Changing.{KeepsHead, LacksRoomFor, Step, Takes, after
 use Rattle.tc_hashdb.specs.Filling.{Fills, FillsMap}
 use Rattle.tc_hashdb.specs.Holding.{HoldsKeys, Means}
 use Rattle.tc_hashdb.specs.Layouts.{layout_of}
-use Rattle.tc_hashdb.specs.Laying.{held_layout}
+use Rattle.tc_hashdb.specs.Laying.{kept_layout}
 
 -- a change of contents is a step of the map
 pub record IsStep (change : Change) (step : Step) (m : Map) : Type 0 where
@@ -49,7 +49,7 @@ module _ {S : Type 0} (s : Ghosts S) where
 
   -- the numbers of the file are those that are held, before and behind
   pub head_numbers : (e e' : HashEngine S) (a b : S) (m n : Map) → KeepsHead e e' → Means s e a m → Means s e' b n → KeepsNumbers (layout_of (s.now a)) (layout_of (s.now b))
-  head_numbers e e' a b m n same before now = held_layout e' (s.now b 0) n now.1 ∙ same ∙ sym (held_layout e (s.now a 0) m before.1)
+  head_numbers e e' a b m n same before now = kept_layout e e' (s.now a 0) (s.now b 0) m n before.1 now.1 same
 
   made_numbered : {f : Step} (done : Bool) (e e' : HashEngine S) (a b : S) → Takes s f done e e' a b → (m : Map) → Means s e a m → KeepsNumbers (layout_of (s.now a)) (layout_of (s.now b))
   made_numbered true e e' a b takes m means = let made = takes.made refl m means in head_numbers e e' a b m made.0 takes.numbers means made.2

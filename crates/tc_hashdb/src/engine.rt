@@ -9,7 +9,7 @@ ghost use Rattle.tc_hashdb.specs.Holding.{HoldsKeys, Reopens};
 ghost use Rattle.tc_hashdb.specs.Informing.{Lines};
 ghost use Rattle.tc_hashdb.specs.Laws.{moved_apart};
 ghost use Rattle.tc_hashdb.specs.Layouts.{layout_of};
-ghost use Rattle.tc_hash.specs.Packing.{IsPacked, IsTight};
+ghost use Rattle.tc_hash.specs.Repacking.{IsPackedFrom, IsTightFrom};
 
 use crate::holding::HashEngine;
 use crate::informing::{add_lines, read_head};
@@ -37,9 +37,9 @@ impl<S: Space> Storage for HashEngine<S> {
 
     ghost lines = { λ files text. Lines files text };
 
-    ghost tight = { λ e form. IsTight form e.hash };
+    ghost tight = { λ e from form files. IsTightFrom (from 0) form e.hash.body (files 0) };
 
-    ghost packed = { λ form files. IsPacked form (files 0) };
+    ghost packed = { λ from form files. IsPackedFrom (from 0) form (files 0) };
 
     ghost layout = { layout_of };
 

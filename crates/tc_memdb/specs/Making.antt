@@ -5,7 +5,7 @@ use Rattle.tc_base.specs.Files.{Files}
 use Rattle.tc_space.specs.Frames.{Reads, Refuses, others_refl}
 use Rattle.tc_space.specs.declared.space.Space.{Ghosts}
 use Rattle.tc_model.specs.Contents.{Contents}
-use Rattle.ty_base.specs.Holding.{Held, no_layout}
+use Rattle.ty_base.specs.Holding.{Held, no_layout, numbers_refl}
 use Rattle.tc_engine.specs.Changes.{Change}
 use Rattle.tc_engine.specs.Effects.{Makes}
 use Rattle.tc_memdb.specs.declared.engine.MemEngine.{MemEngine}
@@ -27,7 +27,7 @@ module _ {S : Type 0} (s : Ghosts S) where
   makes f done e e' a sound m = record {
     sound = sound;
     others = others_refl s (λ file. ⊥) a;
-    numbered = λ c h. refl;
+    numbered = λ c h. numbers_refl (no_layout (s.now a));
     made = λ yes c h. (contents_of e'.held, ap f (sym h.1) ∙ m.made yes, (h.0, refl));
     fails = λ no c h. ap f (sym h.1) ∙ m.fails no;
     same = λ no. reads_same e e' a sound (m.same no);

@@ -64,15 +64,15 @@ impl Storage for MemEngine {
 
     ghost lines = { λ files text. text ≡ [] };
 
-    ghost tight = { λ e form. Unit {0} };
+    ghost tight = { λ e from form files. Unit {0} };
 
-    ghost packed = { λ form files. Unit {0} };
+    ghost packed = { λ from form files. Unit {0} };
 
     ghost layout = { no_layout };
 
     ghost no_logs = { ((λ h. h), (λ h. h)) };
 
-    ghost apart = { λ e f g same. record { held = λ c h. h; stand = λ c h. h; laid = λ i. no_layout f; tight = λ form h. h; told = λ text h. h } };
+    ghost apart = { λ e f g same. record { held = λ c h. h; stand = λ c h. h; laid = λ i. no_layout f; tight = λ from form h. h; tight_from = λ form files h. h; told = λ text h. h } };
 
     ghost log_fills = { λ e a b c d full. full };
 

@@ -1,6 +1,6 @@
 -- From what an engine made of contents to what a request is answered.
 use Rattle.std.proofs.Common.{◌≡◌, ◌∙◌, ℕ, Bool, true, false, cond, List, [], ◌∷◌, ◌++◌, length, take, Option, Some, None, Result, Ok, Err, unwrap_or, inr, refl, sym, ap, subst}
-use Rattle.std.specs.Prelude.{IfOk}
+use Rattle.std.specs.Prelude.{IfOk, OnOk}
 use Rattle.tc_base.specs.Files.{Files}
 use Rattle.tc_base.specs.declared.kind.Form.TheVariants.{Keep}
 use Rattle.tc_base.specs.declared.request.Reply.{Reply}
@@ -11,7 +11,7 @@ use Rattle.ty_wire.specs.Prefixes.{IsPrefix}
 use Rattle.ty_wire.specs.Spelling.{reply_bytes}
 use Rattle.tc_model.specs.Contents.{Contents}
 use Rattle.tc_model.specs.Apply.{fits}
-use Rattle.ty_base.specs.Holding.{FormsHeld, Held, IsReady, KeepsFills, Layout, in_form_keep}
+use Rattle.ty_base.specs.Holding.{FormsHeld, Held, IsReady, KeepsFills, Layout, forms_keep, numbers_refl, numbers_stay, numbers_then}
 use Rattle.tc_engine.specs.Changes.{Change}
 use Rattle.tc_engine.specs.Effects.{IsFull, Makes}
 use Rattle.ty_answers.specs.Answers.{Answered, Answers, IsFullBy, Request, changed_by, contents_of, done_reply, told_by}
@@ -42,6 +42,10 @@ if_ok (Err e) f h = tt
 
 pub only_reads : {S E : Type 0} (s : Ghosts S) (Means : E → S → Contents → Type 0) (e e' : E) (a b : S) → Keeps s a b → Reads s Means e e' a b → OnlyReads s a b
 only_reads s Means e e' a b keeps reads = record { keeps = keeps; files = reads.now; untouched = reads.touched; is_sound = reads.sound }
+
+pub on_ok : {A F : Type 0} {P Q : Type 0} (r : Result A F) → (P → Q) → OnOk r P → OnOk r Q
+on_ok (Ok x) f h = f h
+on_ok (Err e) f h = tt
 
 -- a change that was made, of which this was said
 said_made : (answer refusal : Reply) (c d : Contents) (o : Option Contents) (old new : List ℕ) → fits answer ≡ true → o ≡ Some d → new ≡ old ++ reply_bytes answer → Answered (changed_by answer (λ _. o) c) refusal true c d old new
@@ -85,7 +89,7 @@ module _ {S E : Type 0} (s : Ghosts S) (own : ℕ → Type 0) (layout : Files �
   packed e e' a b old new sound others remains formed bytes = record {
     sound = sound;
     others = others;
-    numbered = λ c h. formed c h ∙ in_form_keep (layout (s.now a)).numbers;
+    numbered = λ c h. forms_keep (layout (s.now a)) (layout (s.now b)) (formed c h);
     answered = λ c h. (c, remains c h, record { ok = refl; contents = refl; bytes = bytes });
     idle = λ no_change. absurd cc;
   }
@@ -99,7 +103,7 @@ module _ {S E : Type 0} (s : Ghosts S) (own : ℕ → Type 0) (layout : Files �
   failed effect refusal updating e a old new ready bytes none = record {
     sound = ready.sound;
     others = others_refl s own a;
-    numbered = λ c h. refl;
+    numbered = λ c h. numbers_refl (layout (s.now a));
     answered = λ c h. (c, h, subst (λ x. Answered x refusal false c c old new) (sym (none c h)) (record { ok = refl; contents = refl; bytes = bytes }));
     idle = λ i. only_reads_refl s a ready.sound;
   }
@@ -109,7 +113,7 @@ module _ {S E : Type 0} (s : Ghosts S) (own : ℕ → Type 0) (layout : Files �
   after_reads effect shown refusal updating done e f g a b d old new reads keeps same n = record {
     sound = n.sound;
     others = others_then s own a b d (record { same = λ t g other. reads.now t g }) n.others;
-    numbered = λ c h. n.numbered c (reads.means c h) ∙ ap (λ (f : Files). (layout f).numbers) (λ i g. reads.now h.0 g i);
+    numbered = λ c h. numbers_then (layout (s.now a)) (layout (s.now b)) (layout (s.now d)) (numbers_stay (layout (s.now a)) (layout (s.now b)) (λ i. layout (λ g. reads.now h.0 g i))) (n.numbered c (reads.means c h));
     answered = λ c h. let x = n.answered c (reads.means c h) in (x.0, x.1, subst (λ y. Answered y refusal done c x.0 old new) (same c h) x.2);
     idle = λ i. only_reads_then s a b d (only_reads s (Held s holds) e f a b keeps reads) (n.idle i);
   }

@@ -17,7 +17,7 @@ use Rattle.tc_model.specs.Texts.{maximum_of}
 use Rattle.ty_answers.specs.Calls.{meant}
 use Rattle.tc_engine.specs.Rows.{Adds, AreItems, Extends, IsItem, bytes_of, item_row, pair_rows}
 use Rattle.tc_engine.specs.declared.rows.Rows.{Rows}
-use Rattle.ty_base.specs.Holding.{Held, Layout}
+use Rattle.ty_base.specs.Holding.{Held, Layout, numbers_stay}
 use Rattle.ty_answers.specs.Answers.{Answered, Answers, Request, fail_reply, told_by}
 use Rattle.ty_answers.specs.Lists.{Gives, Opens, counted, no_rows, room}
 use Rattle.ty_answers.specs.declared.voice.Voice.{Voice}
@@ -60,7 +60,7 @@ module _ {S E : Type 0} (s : Ghosts S) (own : ℕ → Type 0) (layout : Files �
   read_answers effect refusal updating done e e' a b old new reads keeps says = record {
     sound = reads.sound;
     others = record { same = λ t g other. reads.now t g };
-    numbered = λ c h. ap (λ (f : Files). (layout f).numbers) (λ i g. reads.now h.0 g i);
+    numbered = λ c h. numbers_stay (layout (s.now a)) (layout (s.now b)) (λ i. layout (λ g. reads.now h.0 g i));
     answered = λ c h. (c, reads.means c h, says c h);
     idle = λ i. record { keeps = keeps; files = reads.now; untouched = reads.touched; is_sound = reads.sound };
   }

@@ -2,7 +2,7 @@
 ghost use Rattle.std.specs.Prelude.{true, Some, OnOk};
 ghost use Rattle.tc_space.specs.Frames.{Keeps};
 ghost use Rattle.tc_space.specs.Refusals.{OnFault, OnlyLogIsFull};
-ghost use Rattle.ty_base.specs.Holding.{IsReady, RefusesHeld};
+ghost use Rattle.ty_base.specs.Holding.{IsReady, RefusesHeld, TightHeld};
 ghost use Rattle.ty_wire.specs.Prefixes.{IsPrefix};
 ghost use Rattle.tc_engine.specs.Changes.{all_cleared, all_gone, all_pushed, all_stored, index_set, pushed, row_stored, stored, taken};
 ghost use Rattle.tc_base.specs.declared.kind.Form.TheVariants.{Keep};
@@ -234,7 +234,7 @@ pub fn optimize<E: Engine>(
     reply: &mut Blob,
 ) -> Result<bool, RecErr>
     requires { IsReady E.S.Space E.holds engine.old space.old }
-    ensures tight { OnOk result (E.tight engine.new Keep) }
+    ensures tight { OnOk result (TightHeld E.S.Space E.holds E.tight Keep engine.old engine.new space.old space.new) }
     ensures answers { AnswersBy E.S.Space E.own E.layout E.holds result (told_by (λ c. Some answer.Done)) answer.Fail true engine.old engine.new space.old space.new reply.old reply.new }
     ensures refused { RefusesHeld E.S.Space E.holds result engine.old engine.new space.old space.new }
     ensures front { IsPrefix reply.old reply.new }

@@ -3,7 +3,7 @@ ghost use Rattle.std.specs.Prelude.{◌≡◌, true, OnOk, OnErr};
 ghost use Rattle.tc_base.specs.declared.kind.Form.TheVariants.{Keep};
 ghost use Rattle.tc_space.specs.Frames.{Keeps};
 ghost use Rattle.tc_space.specs.Refusals.{OnFault};
-ghost use Rattle.ty_base.specs.Holding.{Declines, IsReady};
+ghost use Rattle.ty_base.specs.Holding.{Declines, IsReady, TightHeld};
 ghost use Rattle.ty_wire.specs.Prefixes.{IsPrefix};
 ghost use Rattle.tc_model.specs.Apply.{updates};
 ghost use Rattle.tc_model.specs.Packing.{is_optimize};
@@ -53,7 +53,7 @@ fn serve<E: Engine>(
     requires ready { IsReady E.S.Space E.holds engine.old space.old }
     requires updating { updating ≡ updates request }
     ensures steps { StepsBy E.S.Space E.own E.layout E.holds result request engine.old engine.new space.old space.new walk.old walk.new reply.old reply.new }
-    ensures tight { OnOk result (is_optimize request ≡ true → E.tight engine.new Keep) }
+    ensures tight { OnOk result (is_optimize request ≡ true → TightHeld E.S.Space E.holds E.tight Keep engine.old engine.new space.old space.new) }
     ensures declines { OnErr result (Declines E.S.Space E.holds engine.old engine.new space.old space.new walk.old walk.new) }
     ensures front { IsPrefix reply.old reply.new }
     ensures full { FullStep E.S.Space E.holds result E.fills request walk.old engine.old space.old space.new }

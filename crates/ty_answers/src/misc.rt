@@ -7,7 +7,7 @@ ghost use Rattle.ty_base.specs.Holding.{IsReady, RefusesHeld};
 ghost use Rattle.ty_wire.specs.Prefixes.{IsPrefix};
 ghost use Rattle.tc_model.specs.Apply.{called};
 ghost use Rattle.tc_model.specs.Misc.{updates_call};
-ghost use Rattle.ty_answers.specs.Calls.{meant, misc_updates};
+ghost use Rattle.ty_answers.specs.Calls.{AnswersCalled, meant, misc_updates};
 ghost use Rattle.ty_answers.specs.Answers.{AnswersBy, FullAnswer};
 
 use crate::changes::{
@@ -85,7 +85,7 @@ pub fn call<E: Engine>(
 ) -> Result<bool, RecErr>
     requires ready { IsReady E.S.Space E.holds engine.old space.old }
     requires updating { updating ≡ updates_call name.now args.now }
-    ensures answers { AnswersBy E.S.Space E.own E.layout E.holds result (called name.now options args.now) FailMisc (updates_call name.now args.now) engine.old engine.new space.old space.new reply.old reply.new }
+    ensures answers { AnswersCalled E.S.Space E.own E.layout E.holds result name.now options args.now engine.old engine.new space.old space.new reply.old reply.new }
     ensures refused { RefusesHeld E.S.Space E.holds result engine.old engine.new space.old space.new }
     ensures front { IsPrefix reply.old reply.new }
     ensures writes { IsErrOf result RecErr.Full → updates_call name.now args.now ≡ true }

@@ -1,13 +1,12 @@
 //! Searches in a table.
-ghost use Rattle.tc_base.specs.declared.request.Reply.TheVariants.{FailMisc};
 ghost use Rattle.tc_space.specs.Frames.{Keeps};
 ghost use Rattle.tc_space.specs.Refusals.{OnFault};
 ghost use Rattle.ty_base.specs.Holding.{IsReady, RefusesHeld};
 ghost use Rattle.ty_wire.specs.Prefixes.{IsPrefix};
 ghost use Rattle.tc_model.specs.declared.misc.Misc.TheVariants as misc;
 ghost use Rattle.tc_engine.specs.Changes.{takes_out};
-ghost use Rattle.ty_answers.specs.Answers.{AnswersBy, FullAnswer};
-ghost use Rattle.ty_answers.specs.Calls.{meant};
+ghost use Rattle.ty_answers.specs.Answers.{FullAnswer};
+ghost use Rattle.ty_answers.specs.Calls.{AnswersSearch, meant};
 ghost use Rattle.std.specs.Prelude.{◌≡◌, true, IsErrOf};
 
 use crate::listing::{end_list, open_list};
@@ -26,7 +25,7 @@ pub fn search<E: Engine>(
     reply: &mut Blob,
 ) -> Result<bool, RecErr>
     requires { IsReady E.S.Space E.holds engine.old space.old }
-    ensures answers { AnswersBy E.S.Space E.own E.layout E.holds result (meant (misc.Search conditions.now)) FailMisc (takes_out conditions.now) engine.old engine.new space.old space.new reply.old reply.new }
+    ensures answers { AnswersSearch E.S.Space E.own E.layout E.holds result conditions.now engine.old engine.new space.old space.new reply.old reply.new }
     ensures refused { RefusesHeld E.S.Space E.holds result engine.old engine.new space.old space.new }
     ensures front { IsPrefix reply.old reply.new }
     ensures writes { IsErrOf result RecErr.Full → takes_out conditions.now ≡ true }

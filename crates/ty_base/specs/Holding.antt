@@ -1,6 +1,6 @@
 -- What a database holds over the files of its space.
 use Rattle.std.specs.Prelude.{◌≡◌, ◌⊎◌, ◌||◌, ◌++◌, ◌≤◌, ℕ, Bool, true, false, List, [], ◌∷◌, Result, IfOk, OnErr}
-use Rattle.std.proofs.Common.{◌∙◌, arith, refl, sym}
+use Rattle.std.proofs.Common.{◌∙◌, arith, refl, subst, sym}
 use Rattle.tc_base.specs.Files.{Files}
 use Rattle.tc_base.specs.declared.kind.Form.{Form}
 use Rattle.tc_base.specs.declared.kind.Form.TheVariants.{Keep, Large}
@@ -15,25 +15,33 @@ use Rattle.tc_model.specs.Applying.{Applies}
 use Rattle.tc_model.specs.Packing.{is_optimize}
 use Rattle.tc_model.specs.declared.applied.Applied.{Applied}
 
--- how files are laid out: the numbers that their heads fix, the options first, and how many bytes stand behind what the heads say
+-- how files are laid out: what their heads fix, the options first, then the other numbers and the bytes of who made them; how many whole units lie free in front of
+-- the first block; and how many bytes hold nothing at their ends, behind what the heads say or in free blocks
 pub record Layout : Type 0 where
   pub numbers : List ℕ
+  pub lead : ℕ
   pub slack : ℕ
 
 -- nothing is said of files, or there are none
 abbrev pub no_layout : Files → Layout
-no_layout files = record { numbers = []; slack = 0 }
+no_layout files = record { numbers = []; lead = 0; slack = 0 }
 
--- the numbers stay
-abbrev pub KeepsNumbers : Layout → Layout → Type 0
-KeepsNumbers old new = new.numbers ≡ old.numbers
+-- the numbers stay, and no more lies free in front of the first block than did
+pub record KeepsNumbers (old new : Layout) : Type 0 where
+  pub same : new.numbers ≡ old.numbers
+  pub lead : new.lead ≤ old.lead
 
--- and no more bytes stand behind than did
+-- the numbers are those of that form, and no more lies free in front of the first block than did
+pub record FormsLayout (form : Form) (old new : Layout) : Type 0 where
+  pub numbers : new.numbers ≡ in_form form old.numbers
+  pub lead : new.lead ≤ old.lead
+
+-- and no more bytes hold nothing at the end than did
 pub record KeepsLayout (old new : Layout) : Type 0 where
   pub numbers : KeepsNumbers old new
   pub slack : new.slack ≤ old.slack
 
--- the numbers stay, and nothing stands behind
+-- the numbers stay, and no byte at the end holds nothing
 pub record IsTrimmed (old new : Layout) : Type 0 where
   pub numbers : KeepsNumbers old new
   pub none : new.slack ≡ 0
@@ -56,7 +64,7 @@ pub record KeepsFrame (own : ℕ → Type 0) (old new : Frame) : Type 0 where
   pub layout : KeepsLayout old.layout new.layout
   pub beside : KeepsBeside own old.files new.files
 
--- files that stand for contents are laid out like this, with nothing more behind, and those beside them are these
+-- files that stand for contents are laid out like this, with no more bytes at the end that hold nothing, and those beside them are these
 pub record Laid (own : ℕ → Type 0) (layout : Files → Layout) (l : Frame) (reopens : Files → Contents → Type 0) (files : Files) (c : Contents) : Type 0 where
   pub stand : reopens files c
   pub like : KeepsFrame own l (frame_of layout files)
@@ -90,21 +98,25 @@ module _ {S B : Type 0} (s : Ghosts S) (holds : B → Files → Contents → Typ
   abbrev pub SettlesHeld : (Files → Contents → Type 0) → B → B → S → S → Type 0
   SettlesHeld reopens base base' old new = OfHeld base old (λ c. Held s holds base' new c × reopens (s.now new) c)
 
-  -- of whatever is held: the numbers of the files stay, and they end where their heads say
+  -- of whatever is held: the numbers of the files stay, and they end where their heads say, in what holds something
   abbrev pub TrimsHeld : (Files → Layout) → B → S → S → Type 0
   TrimsHeld layout base old new = OfHeld base old (λ c. IsTrimmed (layout (s.now old)) (layout (s.now new)))
 
-  -- the numbers of the files are those of that form
+  -- of whatever is held: the numbers of the files are those of that form
   abbrev pub FormsHeld : (Files → Layout) → Form → B → S → S → Type 0
-  FormsHeld layout form base old new = OfHeld base old (λ c. (layout (s.now new)).numbers ≡ in_form form (layout (s.now old)).numbers)
+  FormsHeld layout form base old new = OfHeld base old (λ c. FormsLayout form (layout (s.now old)) (layout (s.now new)))
 
   -- the files stand for what is held
   abbrev pub FilesStand : (Files → Contents → Type 0) → B → S → Type 0
   FilesStand reopens base space = s.tells → (c : Contents) × holds base (s.now space) c × reopens (s.now space) c
 
-  -- in which form it was packed, in that the files are now
-  abbrev pub PacksHeld : (B → Form → Type 0) → (Form → Files → Type 0) → B → S → S → Type 0
-  PacksHeld tight packed base old new = (form : Form) (c : Contents) → tight base form → Held s holds base old c → packed form (s.now new)
+  -- of whatever is held: it was packed in that form from the files as they were
+  abbrev pub TightHeld : (B → Files → Form → Files → Type 0) → Form → B → B → S → S → Type 0
+  TightHeld tight form base base' old new = OfHeld base old (λ c. tight base' (s.now old) form (s.now new))
+
+  -- from which files it was packed, and in which form, from those in that form the files are packed now
+  abbrev pub PacksHeld : (B → Files → Form → Files → Type 0) → (Files → Form → Files → Type 0) → B → S → S → Type 0
+  PacksHeld tight packed base old new = (from : Files) (form : Form) (c : Contents) → tight base from form (s.now old) → Held s holds base old c → packed from form (s.now new)
 
   -- a packing had no room: the undo log is full, or what is held had none in the large form
   abbrev pub FullPack : (S → S → Contents → Type 0) → Form → B → S → S → Type 0
@@ -164,7 +176,7 @@ pub record IsReady {S B : Type 0} (s : Ghosts S) (holds : B → Files → Conten
 pub record Stays {S : Type 0} (s : Ghosts S) (file : ℕ) (old new : S) : Type 0 where
   pub same : s.tells → s.now new file ≡ s.now old file
 
--- the numbers of its files stay, and no more bytes stand behind them than did
+-- the numbers of its files stay, and no more bytes hold nothing at their ends than did
 abbrev pub StaysLaid : {S : Type 0} → Ghosts S → (Files → Layout) → S → S → Type 0
 StaysLaid s layout old new = s.tells → KeepsLayout (layout (s.now old)) (layout (s.now new))
 
@@ -184,6 +196,15 @@ pub record Leaves {S : Type 0} (s : Ghosts S) (own : ℕ → Type 0) (layout : F
 abbrev pub Declines : {S B : Type 0} → Ghosts S → (B → Files → Contents → Type 0) → B → B → S → S → Walk → Walk → Type 0
 Declines s holds base base' old new walk walk' = (s.flag new ≡ false) ⊎ (Reads s (Held s holds) base base' old new × (walk' ≡ walk))
 
+pub numbers_refl : (a : Layout) → KeepsNumbers a a
+numbers_refl a = record { same = refl; lead = omega arith }
+
+pub numbers_then : (a b c : Layout) → KeepsNumbers a b → KeepsNumbers b c → KeepsNumbers a c
+numbers_then a b c first second = record { same = second.same ∙ first.same; lead = omega (arith, first.lead, second.lead) }
+
+pub numbers_stay : (a b : Layout) → b ≡ a → KeepsNumbers a b
+numbers_stay a b same = subst (λ (l : Layout). KeepsNumbers a l) (sym same) (numbers_refl a)
+
 module _ {S : Type 0} (s : Ghosts S) where
   pub stays_refl : (file : ℕ) (a : S) → Stays s file a a
   stays_refl file a = record { same = λ t. refl }
@@ -195,24 +216,24 @@ module _ {S : Type 0} (s : Ghosts S) where
   log_stays own a b other others = record { same = λ t. others.same t 2 other }
 
   pub leaves_nothing : (own : ℕ → Type 0) (layout : Files → Layout) (idle : Type 0) (a : S) → s.sound a → Leaves s own layout idle a a
-  leaves_nothing own layout idle a is = record { sound = is; others = others_refl s own a; numbered = λ t. refl; reads = λ i. only_reads_refl s a is }
+  leaves_nothing own layout idle a is = record { sound = is; others = others_refl s own a; numbered = λ t. numbers_refl (layout (s.now a)); reads = λ i. only_reads_refl s a is }
 
   pub leaves_less : (own : ℕ → Type 0) (layout : Files → Layout) (idle less : Type 0) (a b : S) → (less → idle) → Leaves s own layout idle a b → Leaves s own layout less a b
   leaves_less own layout idle less a b fewer l = record { sound = l.sound; others = l.others; numbered = l.numbered; reads = λ i. l.reads (fewer i) }
 
   -- whether nothing was written or not
   pub leaves_on : (own : ℕ → Type 0) (layout : Files → Layout) (a b c : S) → Leaves s own layout ⊥ a b → Leaves s own layout ⊥ b c → Leaves s own layout ⊥ a c
-  leaves_on own layout a b c first second = record { sound = second.sound; others = others_then s own a b c first.others second.others; numbered = λ t. second.numbered t ∙ first.numbered t; reads = λ never. absurd never }
+  leaves_on own layout a b c first second = record { sound = second.sound; others = others_then s own a b c first.others second.others; numbered = λ t. numbers_then (layout (s.now a)) (layout (s.now b)) (layout (s.now c)) (first.numbered t) (second.numbered t); reads = λ never. absurd never }
 
 -- ---- layouts
 
 pub layout_refl : (a : Layout) → KeepsLayout a a
-layout_refl a = record { numbers = refl; slack = omega arith }
+layout_refl a = record { numbers = numbers_refl a; slack = omega arith }
 
 pub layout_then : (a b c : Layout) → KeepsLayout a b → KeepsLayout b c → KeepsLayout a c
-layout_then a b c first second = record { numbers = second.numbers ∙ first.numbers; slack = omega (arith, first.slack, second.slack) }
+layout_then a b c first second = record { numbers = numbers_then a b c first.numbers second.numbers; slack = omega (arith, first.slack, second.slack) }
 
--- where nothing stands behind, nothing more does
+-- where no byte at the end holds nothing, no more do
 pub trimmed_keeps : (a b : Layout) → IsTrimmed a b → KeepsLayout a b
 trimmed_keeps a b trims = record { numbers = trims.numbers; slack = omega (arith, trims.none) }
 
@@ -237,6 +258,9 @@ pub in_form_keep : (numbers : List ℕ) → in_form Keep numbers ≡ numbers
 in_form_keep [] = refl
 in_form_keep (n ∷ ns) = refl
 
+pub forms_keep : (a b : Layout) → FormsLayout Keep a b → KeepsNumbers a b
+forms_keep a b forms = record { same = forms.numbers ∙ in_form_keep a.numbers; lead = forms.lead }
+
 -- a form that they have already changes nothing more
 pub in_form_again : (form : Form) (numbers : List ℕ) → in_form form (in_form form numbers) ≡ in_form form numbers
 in_form_again form [] = refl
@@ -248,11 +272,12 @@ abbrev pub AreApart : (ℕ → Type 0) → Files → Files → Type 0
 AreApart own f g = (n : ℕ) → own n → g n ≡ f n
 
 -- what is said of files f is so of files g
-pub record SaysAlike (holds : Files → Contents → Type 0) (reopens : Files → Contents → Type 0) (layout : Files → Layout) (packed : Form → Files → Type 0) (lines : Files → List ℕ → Type 0) (f g : Files) : Type 0 where
+pub record SaysAlike (holds reopens : Files → Contents → Type 0) (layout : Files → Layout) (packed : Files → Form → Files → Type 0) (lines : Files → List ℕ → Type 0) (f g : Files) : Type 0 where
   pub held : (c : Contents) → holds f c → holds g c
   pub stand : (c : Contents) → reopens f c → reopens g c
   pub laid : layout g ≡ layout f
-  pub tight : (form : Form) → packed form f → packed form g
+  pub tight : (from : Files) (form : Form) → packed from form f → packed from form g
+  pub tight_from : (form : Form) (files : Files) → packed f form files → packed g form files
   pub told : (text : List ℕ) → lines f text → lines g text
 
 -- neither the undo log's file nor the update log's

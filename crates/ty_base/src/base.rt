@@ -5,7 +5,7 @@ ghost use Rattle.tc_space.specs.Frames.{Keeps};
 ghost use Rattle.tc_space.specs.Refusals.{OnFault};
 ghost use Rattle.ty_wire.specs.Prefixes.{IsPrefix};
 ghost use Rattle.tc_model.specs.Packing.{is_optimize};
-ghost use Rattle.ty_base.specs.Holding.{Declines, FillsBy, IsReady, Leaves, ServedBy, contents_after, is_idle};
+ghost use Rattle.ty_base.specs.Holding.{Declines, FillsBy, IsReady, Leaves, ServedBy, TightHeld, contents_after, is_idle};
 
 use crate::storage::Storage;
 use tc_base::{Blob, Request};
@@ -26,7 +26,7 @@ pub trait Base: Storage {
     ) -> Result<Applied, RecErr>
         requires ready { IsReady Self.S.Space Self.holds self.old space.old }
         ensures applied { IfOk result (λ a. ServedBy Self.S.Space Self.holds false request a self.old self.new space.old space.new walk.old walk.new reply.old reply.new) }
-        ensures tight { OnOk result (is_optimize request ≡ true → Self.tight self.new Keep) }
+        ensures tight { OnOk result (is_optimize request ≡ true → TightHeld Self.S.Space Self.holds Self.tight Keep self.old self.new space.old space.new) }
         ensures leaves { IfOk result (λ a. Leaves Self.S.Space Self.own Self.layout (is_idle request a) space.old space.new) }
         ensures refused { OnErr result (Declines Self.S.Space Self.holds self.old self.new space.old space.new walk.old walk.new) }
         ensures reply_front { IsPrefix reply.old reply.new }

@@ -6,7 +6,7 @@ ghost use Rattle.tc_space.specs.Frames.{Keeps, Others};
 ghost use Rattle.tc_space.specs.Refusals.{OnFault, OnlyLogIsFull};
 ghost use Rattle.ty_wire.specs.Prefixes.{IsPrefix};
 ghost use Rattle.tc_model.specs.Contents.{Contents, kind_of};
-ghost use Rattle.ty_base.specs.Holding.{AreApart, FilesStand, FormsHeld, FullPack, IsEarlier, IsReady, Layout, NoLogs, PacksHeld, ReadsHeld, RefusesHeld, Remains, SaysAlike, SettlesHeld, TellsLines, TrimsHeld};
+ghost use Rattle.ty_base.specs.Holding.{AreApart, FilesStand, FormsHeld, FullPack, IsEarlier, IsReady, Layout, NoLogs, PacksHeld, ReadsHeld, RefusesHeld, Remains, SaysAlike, SettlesHeld, TellsLines, TightHeld, TrimsHeld};
 
 use tc_base::{Blob, Form, Kind};
 use tc_space::{RecErr, Space};
@@ -38,22 +38,23 @@ pub trait Storage {
     /// What an inspection tells of files behind what it tells of contents; nothing in memory.
     ghost lines: { Files → List ℕ → Type 0 };
 
-    /// It was packed in a form since it was last changed.
-    ghost tight: { Self → Form → Type 0 };
+    /// It was packed from files in a form since it was last changed, over files as they stand before they are settled.
+    ghost tight: { Self → Files → Form → Files → Type 0 };
 
-    /// Files are packed in a form: no space lies free in them.
-    ghost packed: { Form → Files → Type 0 };
+    /// Files are packed from others in a form: no space lies free in them, and they are no longer than what is held in the others takes in that form.
+    ghost packed: { Files → Form → Files → Type 0 };
 
-    /// The numbers that the heads of files fix, the options first, and how many bytes stand behind what the heads say. Of files that are still to be
-    /// made they are those that an opening makes.
+    /// What the heads of files fix, the options first, then the other numbers and the bytes of who made them; how many whole units lie free in front of the first
+    /// block; and how many bytes hold nothing at their ends, behind what the heads say or in free blocks. Of files that are still to be made it is that of those that
+    /// an opening makes.
     ghost layout: { Files → Layout };
 
     /// Its kind.
     fn kind(&self) -> Kind
         ensures { (files : Files) (c : Contents) → holds self.now files c → result ≡ kind_of c };
 
-    /// Brings what is held in memory to the files, which then stand for the contents, with the numbers that they had and nothing behind what their heads say. It is
-    /// full only where the undo log is.
+    /// Brings what is held in memory to the files, which then stand for the contents, with the numbers that they had, and end in what holds something, where
+    /// their heads say. It is full only where the undo log is.
     fn settle(&mut self, space: &mut Self::S) -> Result<(), RecErr>
         requires ready { IsReady Self.S.Space holds self.old space.old }
         ensures packs { OnOk result (PacksHeld Self.S.Space holds tight packed self.old space.old space.new) }
@@ -67,10 +68,10 @@ pub trait Storage {
         ensures cause { OnFault Self.S.Space result space.old space.new };
 
     /// Packs the files, in place or in the large form. The contents stay, and stand in the files once it is settled; of the numbers of the files only the form
-    /// changes, where the large one is asked for. In place it is full only where the undo log is.
+    /// changes, where the large one is asked for, and no more lies free in front of the first block. In place it is full only where the undo log is.
     fn pack(&mut self, space: &mut Self::S, form: Form) -> Result<(), RecErr>
         requires ready { IsReady Self.S.Space holds self.old space.old }
-        ensures tight { OnOk result (tight self.new form) }
+        ensures tight { OnOk result (TightHeld Self.S.Space holds tight form self.old self.new space.old space.new) }
         ensures packed { OnOk result (Remains Self.S.Space holds self.old self.new space.old space.new) }
         ensures formed { OnOk result (FormsHeld Self.S.Space holds layout form self.old space.old space.new) }
         ensures sound { OnOk result (Self.S.sound space.new) }

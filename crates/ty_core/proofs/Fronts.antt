@@ -6,7 +6,10 @@ use Rattle.tc_base.proofs.Exact.{same_whole}
 use Rattle.ty_wire.proofs.Answered.{whole}
 use Rattle.std.specs.Prelude.{nat_eq, Ok, ◌&&◌, ◌||◌, Option, Some, None, if◌then◌else◌}
 use Rattle.tc_base.specs.Files.{Files}
+use Rattle.tc_base.specs.declared.kind.Form.{Form}
+use Rattle.tc_base.specs.declared.kind.Form.TheVariants.{Keep}
 use Rattle.tc_base.specs.declared.request.Request.{Request}
+use Rattle.tc_base.specs.declared.request.Request.TheVariants.{Put, PutKeep, PutCat, PutShl, PutNr, Out, Get, MGet, Vsiz, IterInit, IterNext, FwmKeys, AddInt, AddDouble, Ext, Sync, Optimize, Vanish, Copy, Restore, SetMst, Rnum, Size, Stat, Misc, Repl}
 use Rattle.tc_model.specs.Apply.{Step, apply, is_updated, refusal_of, updates}
 use Rattle.tc_model.specs.Applying.{Applies}
 use Rattle.tc_model.specs.declared.applied.Applied.{Applied}
@@ -18,10 +21,10 @@ use Rattle.ty_wire.specs.Reading.{request_at}
 use Rattle.ty_wire.specs.Spelling.{spelling, Fits, reply_bytes}
 use Rattle.tc_model.specs.Packing.{is_optimize}
 use Rattle.ty_base.specs.Holding as holding
-use Rattle.ty_base.specs.Holding.{ServedBy}
+use Rattle.ty_base.specs.Holding.{ServedBy, TightHeld}
 use Rattle.ty_core.specs.declared.serving.Served.{Served}
 use Rattle.ty_core.specs.declared.taking.Taken.{Taken}
-use Rattle.ty_core.specs.Serving.{IsTaken, IsWhole, Notes, Serves, ServesFront, TakesOff, feed_of, update_of}
+use Rattle.ty_core.specs.Serving.{IsTaken, IsWhole, Notes, Serves, ServesFront, TakesOff, TightTaken, feed_of, update_of}
 
 pub refused_applies : (replica : Bool) (r : Request) (c : Contents) (w : Walk) (old new : List ℕ) → (replica && updates r) ≡ true → new ≡ old ++ reply_bytes (refusal_of r)
     → Applies (apply replica r c w) r (record { ok = false; updated = false }) c w old new
@@ -149,3 +152,40 @@ front_behind s holds replica logs d b b' a a' w w' u v u' v' waiting old new tak
   few = let more = f.few in omega (arith, more, le, length-drop taken new, length-drop taken old, ap length is);
   serves = λ c h. let x = f.serves c h in (x.0, x.1, serves_behind replica logs f.request d c x.0 w w' waiting old new taken is le x.2);
 }
+
+-- a packing updates nothing
+pub packing_idle : (r : Request) → is_optimize r ≡ true → updates r ≡ false
+packing_idle (Optimize text) packs = refl
+packing_idle (Put key value) packs = absurd cc
+packing_idle (PutKeep key value) packs = absurd cc
+packing_idle (PutCat key value) packs = absurd cc
+packing_idle (PutShl key value width) packs = absurd cc
+packing_idle (PutNr key value) packs = absurd cc
+packing_idle (Out key) packs = absurd cc
+packing_idle (Get key) packs = absurd cc
+packing_idle (MGet keys) packs = absurd cc
+packing_idle (Vsiz key) packs = absurd cc
+packing_idle IterInit packs = absurd cc
+packing_idle IterNext packs = absurd cc
+packing_idle (FwmKeys prefix maximum) packs = absurd cc
+packing_idle (AddInt key number) packs = absurd cc
+packing_idle (AddDouble key integer fraction) packs = absurd cc
+packing_idle (Ext name options key value) packs = absurd cc
+packing_idle Sync packs = absurd cc
+packing_idle Vanish packs = absurd cc
+packing_idle (Copy path) packs = absurd cc
+packing_idle (Restore path timestamp options) packs = absurd cc
+packing_idle (SetMst host port timestamp options) packs = absurd cc
+packing_idle Rnum packs = absurd cc
+packing_idle Size packs = absurd cc
+packing_idle Stat packs = absurd cc
+packing_idle (Misc name options args) packs = absurd cc
+packing_idle (Repl timestamp server) packs = absurd cc
+
+pub never_packs : {P : Type 0} (replica : Bool) (r : Request) → (replica && updates r) ≡ true → is_optimize r ≡ true → P
+never_packs false r fails packs = absurd cc
+never_packs true r fails packs = let idle = packing_idle r packs in absurd cc
+
+-- the request that was taken off packed files, or none were
+pub tight_taken : {S B : Type 0} (s : Ghosts S) (holds : B → Files → Contents → Type 0) (tight : B → Files → Form → Files → Type 0) (t : Taken) (base base' : B) (old new : S) → (is_optimize t.request ≡ true → TightHeld s holds tight Keep base base' old new) → TightTaken s holds tight t base base' old new
+tight_taken s holds tight t base base' old new packs logs unread rest k = record { request = t.request; begins = record { rest = rest; front = whole unread t.request rest k.fits k.spelled }; packs = packs }

@@ -1,6 +1,8 @@
 -- What serving the request at the front of the unread bytes does.
 use Rattle.std.specs.Prelude.{◌≡◌, ◌≤◌, ◌+◌, ℕ, Bool, true, false, List, ◌++◌, ◌||◌, ◌&&◌, length, drop, Ok, Option, Some, None, if◌then◌else◌}
 use Rattle.tc_base.specs.Files.{Files}
+use Rattle.tc_base.specs.declared.kind.Form.{Form}
+use Rattle.tc_base.specs.declared.kind.Form.TheVariants.{Keep}
 use Rattle.tc_base.specs.declared.request.Request.{Request}
 use Rattle.tc_base.specs.declared.request.Request.TheVariants.{Repl}
 use Rattle.tc_space.specs.declared.space.Space.{Ghosts}
@@ -10,7 +12,7 @@ use Rattle.ty_wire.specs.Spelling.{spelling, Fits, reply_bytes}
 use Rattle.tc_model.specs.Contents.{Contents, Walk}
 use Rattle.tc_model.specs.Apply.{Step, apply, is_updated, updates}
 use Rattle.tc_model.specs.Packing.{is_optimize}
-use Rattle.ty_base.specs.Holding.{FillsBy, Held}
+use Rattle.ty_base.specs.Holding.{FillsBy, Held, TightHeld}
 use Rattle.ty_core.specs.Queues.{Queue}
 use Rattle.ty_core.specs.declared.serving.Feed.{Feed}
 use Rattle.ty_core.specs.declared.serving.Served.{Served}
@@ -91,3 +93,12 @@ pub record FillsFront {S B : Type 0} (s : Ghosts S) (holds : B → Files → Con
 
 abbrev pub FillsTaken : {S B : Type 0} → Ghosts S → (B → Files → Contents → Type 0) → (Contents → Contents → Type 0) → Taken → Bool → B → S → Walk → Type 0
 FillsTaken s holds fills t replica base old w = (logs : Bool) (unread rest : List ℕ) → IsTaken t logs unread rest → FillsFront s holds fills replica base old w unread
+
+-- where the request at the front packs files, they were packed in the form that they have, from what they were
+pub record TightFront {S B : Type 0} (s : Ghosts S) (holds : B → Files → Contents → Type 0) (tight : B → Files → Form → Files → Type 0) (base base' : B) (old new : S) (unread : List ℕ) : Type 0 where
+  pub request : Request
+  pub begins : Begins request unread
+  pub packs : is_optimize request ≡ true → TightHeld s holds tight Keep base base' old new
+
+abbrev pub TightTaken : {S B : Type 0} → Ghosts S → (B → Files → Contents → Type 0) → (B → Files → Form → Files → Type 0) → Taken → B → B → S → S → Type 0
+TightTaken s holds tight t base base' old new = (logs : Bool) (unread rest : List ℕ) → IsTaken t logs unread rest → TightFront s holds tight base base' old new unread

@@ -1,12 +1,13 @@
 //! A request, served.
-ghost use Rattle.std.specs.Prelude.{◌≡◌, false, OnErr, IfOk, IsErrOf, if◌then◌else◌, None};
+ghost use Rattle.std.specs.Prelude.{◌≡◌, false, true, OnErr, OnOk, IfOk, IsErrOf, if◌then◌else◌, None};
+ghost use Rattle.tc_base.specs.declared.kind.Form.TheVariants.{Keep};
 ghost use Rattle.tc_space.specs.Frames.{Keeps};
 ghost use Rattle.tc_space.specs.Refusals.{OnFault};
 ghost use Rattle.tc_model.specs.Apply.{refusal_of};
 ghost use Rattle.ty_wire.specs.Prefixes.{IsPrefix};
-ghost use Rattle.ty_base.specs.Holding.{Declines, FillsBy, IsReady, Leaves, ServedBy, contents_after, is_idle};
+ghost use Rattle.ty_base.specs.Holding.{Declines, FillsBy, IsReady, Leaves, ServedBy, TightHeld, contents_after, is_idle};
 ghost use Rattle.tc_model.specs.Packing.{is_optimize};
-ghost use Rattle.ty_core.specs.Serving.{FillsTaken, ServesTaken, feed_of, reply_most};
+ghost use Rattle.ty_core.specs.Serving.{FillsTaken, ServesTaken, TightTaken, feed_of, reply_most};
 
 use crate::taking::{Taken, if_updating};
 use tc_base::{Blob, REPLY_MOST, Reply, Request};
@@ -92,6 +93,7 @@ pub fn answer<B: Base>(
 ) -> Result<Applied, RecErr>
     requires ready { IsReady B.S.Space B.holds base.old space.old }
     ensures applied { IfOk result (λ a. ServedBy B.S.Space B.holds replica request a base.old base.new space.old space.new walk.old walk.new reply.old reply.new) }
+    ensures tight { OnOk result (is_optimize request ≡ true → TightHeld B.S.Space B.holds B.tight Keep base.old base.new space.old space.new) }
     ensures leaves { IfOk result (λ a. Leaves B.S.Space B.own B.layout (is_idle request a) space.old space.new) }
     ensures refused { OnErr result (Declines B.S.Space B.holds base.old base.new space.old space.new walk.old walk.new) }
     ensures reply_front { IsPrefix reply.old reply.new }
@@ -122,6 +124,7 @@ pub fn serve_taken<B: Base>(
 ) -> Result<Served, RecErr>
     requires ready { IsReady B.S.Space B.holds base.old space.old }
     ensures served { IfOk result (λ d. ServesTaken B.S.Space B.holds taken replica d base.old base.new space.old space.new walk.old walk.new waiting.old waiting.new) }
+    ensures tight { OnOk result (TightTaken B.S.Space B.holds B.tight taken base.old base.new space.old space.new) }
     ensures leaves { IfOk result (λ d. Leaves B.S.Space B.own B.layout (d.commits ≡ false) space.old space.new) }
     ensures refused { OnErr result (Declines B.S.Space B.holds base.old base.new space.old space.new walk.old walk.new) }
     ensures waiting_front { IsPrefix waiting.old waiting.new }

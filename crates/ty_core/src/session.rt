@@ -6,7 +6,7 @@ ghost use Rattle.ty_wire.specs.declared.reading.Front.TheVariants.{Whole};
 ghost use Rattle.ty_wire.specs.Taking.{Takes, IsRead};
 ghost use Rattle.ty_base.specs.Holding.{Declines, IsReady, Leaves};
 ghost use Rattle.ty_core.specs.Queues.{queue};
-ghost use Rattle.ty_core.specs.Serving.{FillsFront, ServesQueue};
+ghost use Rattle.ty_core.specs.Serving.{FillsFront, ServesQueue, TightFront};
 
 use crate::serving::{Served, serve_taken};
 use crate::taking::ROOM_KEPT;
@@ -123,6 +123,7 @@ impl Session {
         requires quiet { self.old.waiting ≡ [] }
         requires ready { IsReady B.S.Space B.holds base.old space.old }
         ensures served { IfOk result (λ d. ServesQueue B.S.Space B.holds replica logs d base.old base.new space.old space.new walk.old walk.new self.old self.new) }
+        ensures tight { OnOk result (TightFront B.S.Space B.holds B.tight base.old base.new space.old space.new self.old.unread) }
         ensures leaves { IfOk result (λ d. Leaves B.S.Space B.own B.layout (d.commits ≡ false) space.old space.new) }
         ensures refused { OnErr result (Declines B.S.Space B.holds base.old base.new space.old space.new walk.old walk.new) }
         ensures full { IsErrOf result RecErr.Full → FillsFront B.S.Space B.holds (B.fills base.old space.old space.new) replica base.old space.old walk.old self.old.unread }

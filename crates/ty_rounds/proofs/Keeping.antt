@@ -27,7 +27,7 @@ module _ {S : Type 0} (s : Ghosts S) where
   Settles holds reopens base base' a b = (c : Contents) → Held s holds base a c → Held s holds base' b c × reopens (s.now b) c
 
   kept_fits : (own : ℕ → Type 0) (commits : Bool) (l k : Frame) → IsTrimmed l.layout k.layout → KeepsBeside own l.files k.files → KeepsFrame own (kept_frame commits l) k
-  kept_fits own true l k trims beside = record { layout = record { numbers = trims.numbers; slack = omega (arith, trims.none) }; beside = beside }
+  kept_fits own true l k trims beside = record { layout = record { numbers = record { same = trims.numbers.same; lead = trims.numbers.lead }; slack = omega (arith, trims.none) }; beside = beside }
   kept_fits own false l k trims beside = record { layout = trimmed_keeps l.layout k.layout trims; beside = beside }
 
   -- besides, they are laid out as files that are kept

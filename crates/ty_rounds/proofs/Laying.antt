@@ -72,7 +72,7 @@ module _ {S B : Type 0} (s : space.Ghosts S) (own : ℕ → Type 0) (layout : Fi
   own_fits false l is = frame_refl own l
 
   round_fits : (u : Bool) (a b : S) → s.tells → Leaves s own layout (u ≡ false) a b → KeepsFrame own (frame_of layout (s.now a)) (kept_frame u (frame_of layout (s.now b)))
-  round_fits true a b t l = record { layout = record { numbers = l.numbered t; slack = omega arith }; beside = others_beside s own a b t l.others }
+  round_fits true a b t l = let n = l.numbered t in record { layout = record { numbers = record { same = n.same; lead = n.lead }; slack = omega arith }; beside = others_beside s own a b t l.others }
   round_fits false a b t l =
       let same = ap (λ (f : Files). (layout f).slack) (λ i g. (l.reads refl).files t g i) in
       record { layout = record { numbers = l.numbered t; slack = omega (arith, same) }; beside = others_beside s own a b t l.others }

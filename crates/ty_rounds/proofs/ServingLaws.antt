@@ -8,7 +8,7 @@ use Rattle.tc_base.specs.declared.request.Request.{Request}
 use Rattle.tc_base.specs.declared.request.Request.TheVariants.{Repl}
 use Rattle.tc_space.specs.Frames.{only_reads_then, others_then}
 use Rattle.tc_space.specs.declared.space.Space.{Ghosts}
-use Rattle.ty_base.specs.Holding.{IsReady, Layout, Leaves}
+use Rattle.ty_base.specs.Holding.{IsReady, Layout, Leaves, numbers_then}
 use Rattle.tc_base.specs.declared.fields.NotWhole.{NotWhole}
 use Rattle.tc_base.specs.declared.fields.NotWhole.TheVariants.{Part}
 use Rattle.tc_base.specs.Reading.{Front}
@@ -246,7 +246,7 @@ pub leaves_then : {S : Type 0} (s : Ghosts S) (own : ℕ → Type 0) (layout : F
 leaves_then s own layout x u v a b c is first second = record {
   sound = second.sound;
   others = others_then s own a b c first.others second.others;
-  numbered = λ t. second.numbered t ∙ first.numbered t;
+  numbered = λ t. numbers_then (layout (s.now a)) (layout (s.now b)) (layout (s.now c)) (first.numbered t) (second.numbered t);
   reads = λ e. let n = or_parts u v (sym is ∙ e) in only_reads_then s a b c (first.reads n.0) (second.reads n.1);
 }
 

@@ -21,7 +21,7 @@ pub record IsKept {S B : Type 0} (s : space.Ghosts S) (holds : B → Files → C
 
 -- files that are kept have the numbers that they had, beside the same files; where they are written, nothing stands behind what their heads say
 abbrev pub kept_frame : Bool → Frame → Frame
-kept_frame true l = record { layout = record { numbers = l.layout.numbers; slack = 0 }; files = l.files }
+kept_frame true l = record { layout = record { numbers = l.layout.numbers; lead = l.layout.lead; slack = 0 }; files = l.files }
 kept_frame false l = l
 
 -- what is kept is laid out so

@@ -2,6 +2,9 @@ use Rattle.std.proofs.Common.{rules, ⊎_elim}
 use Rattle.ty_answers.proofs.Making.{packed}
 use Rattle.ty_answers.proofs.changes.optimize.Goals as goal
 
+pub returns-clause-tight : goal.returns-clause-tight
+returns-clause-tight g c = c.in_ok-pack.ensures.tight
+
 pub returns-clause-answers : goal.returns-clause-answers
 returns-clause-answers g c = packed g.E.S.Space g.E.Storage.own g.E.Storage.layout g.E.Storage.holds c.args.engine.now c.pack.new.self c.args.space.now c.pack.new.space c.args.reply.now c.done.new.reply
     c.in_ok-pack.ensures.sound c.in_ok-pack.ensures.others c.in_ok-pack.ensures.packed c.in_ok-pack.ensures.formed (search rules)

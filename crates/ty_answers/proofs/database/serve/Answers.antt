@@ -6,7 +6,7 @@ use Rattle.tc_model.specs.Apply.{called}
 use Rattle.tc_model.specs.Misc.{updates_call}
 use Rattle.ty_answers.specs.Requests.{got_keys}
 use Rattle.ty_answers.proofs.Dispatch.{arm, full_arm, full_packing, packing_arm}
-use Rattle.ty_answers.proofs.Making.{if_ok}
+use Rattle.ty_answers.proofs.Making.{if_ok, on_ok}
 use Rattle.ty_answers.proofs.database.serve.Goals as goal
 
 pub returns-in-FwmKeys-clause-steps : goal.returns-in-FwmKeys-clause-steps
@@ -16,6 +16,9 @@ returns-in-FwmKeys-clause-steps g c =
 
 pub returns-in-Misc-clause-steps : goal.returns-in-Misc-clause-steps
 returns-in-Misc-clause-steps g c = if_ok _ (λ done n. arm g.E.S.Space g.E.Storage.own g.E.Storage.layout g.E.Storage.holds c.args.request (Misc c.in-Misc.name c.in-Misc.options c.in-Misc.args) (called c.in-Misc.name c.in-Misc.options c.in-Misc.args) FailMisc (updates_call c.in-Misc.name c.in-Misc.args) done _ _ _ _ _ _ _ c.in-Misc.is refl (λ m. refl) refl refl n) c.call.ensures.answers
+
+pub returns-in-Optimize-clause-tight : goal.returns-in-Optimize-clause-tight
+returns-in-Optimize-clause-tight g c = on_ok c.optimize.result (λ tight is. tight) c.optimize.ensures.tight
 
 pub returns-in-Optimize-clause-steps : goal.returns-in-Optimize-clause-steps
 returns-in-Optimize-clause-steps g c = if_ok _ (λ done n. packing_arm g.E.S.Space g.E.Storage.own g.E.Storage.layout g.E.Storage.holds c.args.request _ done _ _ _ _ _ _ _ c.in-Optimize.is n) c.optimize.ensures.answers

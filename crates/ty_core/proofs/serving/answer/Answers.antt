@@ -7,7 +7,7 @@ use Rattle.ty_wire.specs.Spelling.{reply_bytes}
 use Rattle.tc_model.specs.Apply.{Step}
 use Rattle.tc_model.proofs.Updating.{apply_same}
 use Rattle.ty_base.specs.Holding.{leaves_nothing}
-use Rattle.ty_core.proofs.Fronts.{refused_applies, served_alike}
+use Rattle.ty_core.proofs.Fronts.{never_packs, refused_applies, served_alike}
 use Rattle.ty_core.proofs.serving.answer.Goals as goal
 
 pub returns-then-if_updating-clause-applied : goal.returns-then-if_updating-clause-applied
@@ -19,6 +19,9 @@ returns-then-if_updating-clause-applied g c = λ d h. record {
 
 pub returns-then-if_updating-clause-leaves : goal.returns-then-if_updating-clause-leaves
 returns-then-if_updating-clause-leaves g c = leaves_nothing g.B.S.Space g.B.Storage.own g.B.Storage.layout _ c.args.space.now c.requires.ready.sound
+
+pub returns-then-if_updating-clause-tight : goal.returns-then-if_updating-clause-tight
+returns-then-if_updating-clause-tight g c = λ packs. never_packs c.args.replica c.args.request (sym c.if_updating.ensures ∙ c.if-if_updating.true) packs
 
 pub returns-clause-applied : goal.returns-clause-applied
 returns-clause-applied g c = IfOk-weaker c.apply.result _ _ (λ a served. served_alike g.B.S.Space g.B.Storage.holds c.args.replica c.args.request a c.args.base.now c.apply.new.self c.args.space.now c.apply.new.space c.args.walk.now c.apply.new.walk c.args.reply.now c.apply.new.reply (sym c.if_updating.ensures ∙ c.if-if_updating.false) served) c.apply.ensures.applied

@@ -2,7 +2,7 @@ use Rattle.std.proofs.Common.{refl, rules, ap, ◌∙◌, List, ℕ}
 use Rattle.std.specs.Prelude.{Option, None, if◌then◌else◌}
 use Rattle.ty_wire.specs.Spelling.{spelling}
 use Rattle.ty_wire.proofs.Answered.{whole}
-use Rattle.ty_core.proofs.Fronts.{notes_of, serves, taken_off}
+use Rattle.ty_core.proofs.Fronts.{notes_of, serves, taken_off, tight_taken}
 use Rattle.ty_core.proofs.serving.serve_taken.Goals as goal
 
 pub returns-clause-served : goal.returns-clause-served
@@ -19,6 +19,9 @@ returns-clause-served g c = λ logs unread rest k. record {
         (c.kept-update.ensures ∙ ap (λ (o : Option (List ℕ)). if c.in_ok-applied.applied.updated then o else None) k.copied) refl x.applies,
   );
 }
+
+pub returns-clause-tight : goal.returns-clause-tight
+returns-clause-tight g c = tight_taken g.B.S.Space g.B.Storage.holds g.B.Storage.tight c.args.taken c.args.base.now _ c.args.space.now _ c.in_ok-applied.ensures.tight
 
 pub returns-in_err-applied-clause-full : goal.returns-in_err-applied-clause-full
 returns-in_err-applied-clause-full g c = λ is logs unread rest k. record {

@@ -24,7 +24,7 @@ pub returns-in-Ok-clause-kept : goal.returns-in-Ok-clause-kept
 returns-in-Ok-clause-kept g c = is_kept g.B.S.Space g.B.Storage.holds g.B.Storage.reopens _ _ _ _ c.settle.new.space _ c.requires.may.ready c.in_ok-settle.ensures.settled (log_stays g.B.S.Space g.B.Storage.own c.args.space.now c.settle.new.space g.met.B.Storage.no_logs.1 c.in_ok-settle.ensures.others) c.in-Ok.ensures.now (search rules) (search rules)
 
 pub returns-in-Ok-clause-packs : goal.returns-in-Ok-clause-packs
-returns-in-Ok-clause-packs g c = λ is form d tight h. kept_packed g.B.S.Space (g.B.Storage.packed form) c.settle.new.space _ (c.in-Ok.ensures.now h.0) (c.in_ok-settle.ensures.packs form d tight h)
+returns-in-Ok-clause-packs g c = λ is from form d tight h. kept_packed g.B.S.Space (g.B.Storage.packed from form) c.settle.new.space _ (c.in-Ok.ensures.now h.0) (c.in_ok-settle.ensures.packs from form d tight h)
 
 pub returns-in-Ok-clause-moments : goal.returns-in-Ok-clause-moments
 returns-in-Ok-clause-moments g c = λ m h. committed_moves g.B.S.Space _ _ _ _ _ c.settle.new.space _ m c.settle.ensures.keeps c.in_ok-settle.ensures.settled (log_stays g.B.S.Space g.B.Storage.own c.args.space.now c.settle.new.space g.met.B.Storage.no_logs.1 c.in_ok-settle.ensures.others) c.commit.ensures.moments h

@@ -15,4 +15,4 @@ pub returns-clause-takes : goal.returns-clause-takes
 returns-clause-takes g c = takes_out g.S.Space c.args.key.now c.in-Some.old _ c.args.self.now _ c.args.space.now c.out.new.space c.requires (subst (λ (o : Option ℕ). TakesLen g.S.Space c.args.key.now o c.args.self.now.hash c.out.new.self c.args.space.now c.out.new.space) c.in-Some.is c.in_ok-old.ensures.out) c.out.ensures.stays refl c.counted_without-self.ensures
 
 pub returns-in_err-old-clause-refused : goal.returns-in_err-old-clause-refused
-returns-in_err-old-clause-refused g c = on_err_any c.from_residual.result (refuses_again g.S.Space c.args.self.now _ c.args.space.now c.out.new.space c.in_err-old.ensures.refused c.out.ensures.stays.map.file c.out.ensures.stays.head refl)
+returns-in_err-old-clause-refused g c = on_err_any c.from_residual.result (refuses_again g.S.Space c.args.self.now _ c.args.space.now c.out.new.space c.in_err-old.ensures.refused c.out.ensures.stays.map.file c.out.ensures.stays.map.sort_same c.out.ensures.stays.map.region_same refl)

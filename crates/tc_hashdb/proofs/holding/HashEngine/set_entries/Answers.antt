@@ -3,6 +3,7 @@ use Rattle.std.specs.List.Sorted.{IsStrictlySortedBy}
 use Rattle.std.specs.Map.{keys_of}
 use Rattle.tc_base.specs.Orders.{lexical}
 use Rattle.tc_maps.specs.Sizes.{entries_on}
+use Rattle.tc_hashdb.specs.Changing.{head_then}
 use Rattle.tc_hashdb.proofs.Setting.{set_end, set_full, set_more, set_ready, set_start}
 use Rattle.tc_reach.proofs.Handed.{err_handed}
 use Rattle.tc_hashdb.proofs.holding.HashEngine.set_entries.Goals as goal
@@ -29,7 +30,7 @@ returns-clause-set g c =
     set_end g.S.Space _ _ _ _ _ _ c.args.values.now c.loop-key.invariant c.in-None.ensures.steps.0 (c.into_iter-key-iterator.ensures.into_iter_gives ∙ (c.entries_from-key-items.ensures.entries ∙ ap (λ k. entries_on k c.args.values.now) least))
 
 pub returns-in_err-set_value-clause-numbers : goal.returns-in_err-set_value-clause-numbers
-returns-in_err-set_value-clause-numbers g c = c.set_value.ensures.numbers ∙ c.loop-key.invariant.numbers
+returns-in_err-set_value-clause-numbers g c = head_then _ _ _ c.loop-key.invariant.numbers c.set_value.ensures.numbers
 
 pub returns-clause-numbers : goal.returns-clause-numbers
 returns-clause-numbers g c = c.loop-key.invariant.numbers

@@ -22,4 +22,4 @@ pub returns-in_err-done-clause-full : goal.returns-in_err-done-clause-full
 returns-in_err-done-clause-full g c = λ full. lacks_put g.S.Space c.args.mode c.args.key.now c.args.value.now c.args.self.now c.args.space.now c.put_within.new.space (λ t. past_of g.S.Space c.args.space.now c.put_within.new.space t (g.met.S.Space.present c.args.space.now t) (c.put_within.ensures.keeps.steady t).past) (c.in_err-done.ensures.full (err_handed c.from_residual.result c.in_err-done.field-0.0 _ c.from_residual.ensures.1 full))
 
 pub returns-in_err-done-clause-refused : goal.returns-in_err-done-clause-refused
-returns-in_err-done-clause-refused g c = on_err_any c.from_residual.result (refuses_again g.S.Space c.args.self.now _ c.args.space.now c.put_within.new.space c.in_err-done.ensures.refused c.put_within.ensures.stays.map.file c.put_within.ensures.stays.head refl)
+returns-in_err-done-clause-refused g c = on_err_any c.from_residual.result (refuses_again g.S.Space c.args.self.now _ c.args.space.now c.put_within.new.space c.in_err-done.ensures.refused c.put_within.ensures.stays.map.file c.put_within.ensures.stays.map.sort_same c.put_within.ensures.stays.map.region_same refl)

@@ -5,7 +5,7 @@ use Rattle.tc_base.specs.declared.kind.Kind.TheVariants as kinds
 use Rattle.tc_model.specs.Contents.{hash}
 use Rattle.ty_base.proofs.Refusals.{breaks_all, breaks_none, if_err_of, no_bytes, on_err_of}
 use Rattle.tc_hashdb.specs.Holding.{BreaksAs}
-use Rattle.tc_hashdb.proofs.Made.{all_opened, made_laid, made_usual, read_laid, all_stand, made_opens, main_opened, main_opens}
+use Rattle.tc_hashdb.proofs.Made.{all_opened, made_laid, made_usual, read_laid, all_stand, made_opens, main_opened, main_opens, opened_shows}
 use Rattle.tc_hashdb.proofs.opening.HashEngineOpens.open.Goals as goal
 
 pub returns-then-len-eq0-clause-stands : goal.returns-then-len-eq0-clause-stands
@@ -31,6 +31,7 @@ returns-clause-stands g c = λ t.
 
 pub returns-clause-opened : goal.returns-clause-opened
 returns-clause-opened g c = λ t. main_opened g.S.Space _ c.args.kind c.args.space.now c.open.new.space (λ zero. omega (arith, c.if-len-eq0.false, c.len.ensures t, zero)) (c.open.ensures.reads.files t 0) c.in_ok-hash.ensures.file.0 c.in_ok-hash.ensures.file.1 refl (c.in_ok-hash.ensures.holds t)
+    (opened_shows g.S.Space c.in_ok-hash.hash c.args.space.now c.open.new.space (c.open.ensures.reads.files t 0) (c.in_ok-hash.ensures.stands t))
 
 pub returns-then-len-eq0-clause-usable : goal.returns-then-len-eq0-clause-usable
 returns-then-len-eq0-clause-usable g c = made_usual g.S.Space c.create.result c.args.space.now c.create.new.space c.create.ensures.created c.create.ensures.usable
