@@ -19,7 +19,7 @@ use Rattle.tc_model.specs.Packing.{is_optimize}
 use Rattle.tc_model.specs.declared.applied.Applied.{Applied}
 use Rattle.tc_model.proofs.Idle.{apply_idle}
 use Rattle.ty_world.specs.World.{Mark}
-use Rattle.ty_base.specs.Holding.{Frame, Held, IsReady, Laid, Layout, Leaves, may_write}
+use Rattle.ty_base.specs.Holding.{Frame, Held, IsReady, Laid, Layout, Leaves, may_write, numbers_stay}
 use Rattle.ty_base.proofs.Refusals.{cause_is}
 use Rattle.ty_rounds.specs.Kept.{HasMark, HoldsMark, LeavesMarks, LeavesTwo, MovesTo, Reopens}
 use Rattle.ty_rounds.proofs.Leaving.{IsClean, Earlier, kept_stands, was_kept, left_stands, none_two, steady_two, moved_two}
@@ -100,7 +100,7 @@ module _ {S B : Type 0} (s : space.Ghosts S) (holds : B → Files → Contents �
   looks_leaves own layout b b' a a' l = record {
     sound = l.sound;
     others = record { same = λ t g other. l.files t g };
-    numbered = λ t. ap (λ (f : Files). (layout f).numbers) (λ i g. l.files t g i);
+    numbered = λ t. numbers_stay (layout (s.now a)) (layout (s.now a')) (λ i. layout (λ g. l.files t g i));
     reads = λ never. absurd never;
   }
 

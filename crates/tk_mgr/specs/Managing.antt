@@ -89,9 +89,10 @@ pub record ArePacked (packed : Form → Files → Type 0) (f : Form) (o : Option
   pub is : o ≡ Some files
   pub are : packed f files
 
--- files have the numbers that others have in that form, and end where their heads say
+-- files have the numbers that others have in that form, with no more free in front of the first block, and end in what holds something, where their heads say
 pub record FormedFrom (layout : Files → Layout) (was : Files) (f : Form) (files : Files) : Type 0 where
   pub numbers : (layout files).numbers ≡ in_form f (layout was).numbers
+  pub lead : (layout files).lead ≤ (layout was).lead
   pub none : (layout files).slack ≡ 0
 
 -- how files are laid out, where a task packs none; where it packs them nothing is said of that

@@ -106,7 +106,7 @@ pub fn optimize<B: Base>(large: bool, base: &mut B, space: &mut B::S) -> Result<
     requires may { MayManage B.S.Space B.holds B.reopens base.old space.old }
     ensures carries { CarriesOf B.S.Space B.holds B.reopens None result base.old space.old space.new }
     ensures laid { (l : Frame) → CarriesOf B.S.Space B.holds (Laid B.own no_layout l B.reopens) None result base.old space.old space.new }
-    ensures packs { PacksTaskOf B.S.Space B.holds B.reopens B.packed (Optimize large) result base.old space.old space.new }
+    ensures packs { PacksTaskOf B.S.Space B.holds B.reopens (B.packed (B.S.now space.old)) (Optimize large) result base.old space.old space.new }
     ensures formed { PacksTaskOf B.S.Space B.holds B.reopens (FormedFrom B.layout (B.S.now space.old)) (Optimize large) result base.old space.old space.new }
     ensures full { IsErrOf result MgrErr.Full → FullPack B.S.Space B.holds B.lacks_large (form_for large) base.old space.old space.new }
     ensures not_sink { IsErrOf result MgrErr.Sink → ⊥ }

@@ -34,7 +34,7 @@ pub fn manage<B: Base, O: Sink>(
     requires may { MayManage B.S.Space B.holds B.reopens base.old space.old }
     ensures managed { Manages B.S.Space O.Sink B.holds B.reopens B.lines task result base.old space.old space.new out.old out.new }
     ensures laid { (l : Frame) → Manages B.S.Space O.Sink B.holds (Laid B.own (said_by (packing task) B.layout) l B.reopens) B.lines task result base.old space.old space.new out.old out.new }
-    ensures packs { PacksTaskOf B.S.Space B.holds B.reopens B.packed task result base.old space.old space.new }
+    ensures packs { PacksTaskOf B.S.Space B.holds B.reopens (B.packed (B.S.now space.old)) task result base.old space.old space.new }
     ensures formed { PacksTaskOf B.S.Space B.holds B.reopens (FormedFrom B.layout (B.S.now space.old)) task result base.old space.old space.new }
     ensures writes { IsErrOf result MgrErr.Full → writes_files task ≡ true }
     ensures reads { writes_files task ≡ false → Keeps B.S.Space space.old space.new }

@@ -9,7 +9,7 @@ use Rattle.ty_rounds.proofs.Telling.{Adds-none}
 use Rattle.tk_top.specs.declared.ends.End.{End}
 use Rattle.tk_top.specs.declared.ends.End.TheVariants.{Words, NoMemory}
 use Rattle.tk_top.specs.Over.{BreaksAt, Judged, StandsFor}
-use Rattle.tk_top.specs.Making.{IsThere, JudgedMaking, MainIsEmpty, MainIsThere}
+use Rattle.tk_top.specs.Making.{InShape, IsThere, JudgedMaking, MainIsEmpty, MainIsThere}
 use Rattle.ty_base.specs.Holding.{Laid, no_layout}
 use Rattle.tk_top.specs.Stored.{anew_of, breaks_new_of, breaks_of, kind_in, layout_of, lines_in, numbers_of, own_of, packed_in, reopens_of, stored_as}
 use Rattle.tk_top.specs.Tasks.{IsMisplaced, JudgedTask, RefusedAt}
@@ -64,6 +64,7 @@ module _ {V W O : Type 0} (v : volume.Ghosts V) (g : wire.Ghosts W) (o : sink.Gh
   make_none name shape vol = record {
     names = (ends_unnamed v name vol).names;
     made = made_unopened (reopens_of (stored_as shape)) (numbers_of shape) (anew_of shape) NoMemory (ends_unnamed v name vol);
+    shaped = made_unopened (InShape (reopens_of (stored_as shape)) (numbers_of shape)) (numbers_of shape) (anew_of shape) NoMemory (ends_unnamed v name vol);
     laid = λ l. made_unopened (Laid (own_of (stored_as shape)) no_layout l (reopens_of (stored_as shape))) (numbers_of shape) (anew_of shape) NoMemory (ends_unnamed v name vol);
     judged = tt;
     there = left_alone_unnamed (ends_unnamed v name vol) IsThere;

@@ -38,7 +38,7 @@ use Rattle.tk_top.specs.Over.{BeginsAt, MainIsBare}
 use Rattle.tk_top.specs.Serving.{Begins}
 use Rattle.tk_top.specs.Staying.{IsSilent}
 use Rattle.tk_top.specs.Stops.{IsEarly, StopsOver}
-use Rattle.tk_top.specs.Tasks.{ExitsTask, FilesManaged, FullTask, IsCarried, IsMisplaced, JudgedTask, ManagesOver, ReasonOver, RefusedAt, TaskOn, end_of_task, wants_empty}
+use Rattle.tk_top.specs.Tasks.{ExitsTask, FilesManaged, FullTask, IsCarried, IsMisplaced, JudgedTask, ManagesOver, ReasonOver, RefusedAt, TaskOn, TaskRun, end_of_task, wants_empty}
 use Rattle.tk_top.proofs.Fresh.{Earlier, Fresh, still_left}
 use Rattle.tk_top.proofs.Kept.{kept_stands, marks_then, moved, opening_marks, rests_left, still_first}
 use Rattle.tk_top.proofs.Named.{bare_so, begins_so, early_of, of_kind, opened_whole, same_files, unopened_broken}
@@ -287,7 +287,7 @@ module _ {S O : Type 0} (s : space.Ghosts S) (g : sink.Ghosts O) (opens reopens 
 
 -- ---- over a volume
 
-module _ {V O : Type 0} {v : volume.Ghosts V} (g : sink.Ghosts O) (reopens : Files → Contents → Type 0) (lines : Files → List ℕ → Type 0) (packed : Form → Files → Type 0) (task : Task) where
+module _ {V O : Type 0} {v : volume.Ghosts V} (g : sink.Ghosts O) (reopens : Files → Contents → Type 0) (lines : Files → List ℕ → Type 0) (packed : Files → Form → Files → Type 0) (task : Task) where
   -- the run never came to an open space
   pub managed_unopened : (kind : Kind) {name : List ℕ} (end : End) {old new : V} (p : O) → EndsUnopened v name end old new → FilesManaged v.tells g (OpensTo kind reopens) reopens lines packed task end (v.calls old) (v.calls new) p p
   managed_unopened kind end {old} {new} p u = let un = unbegun_early end (early_of u) in record {
@@ -298,12 +298,12 @@ module _ {V O : Type 0} {v : volume.Ghosts V} (g : sink.Ghosts O) (reopens : Fil
     ends = λ settled first h. record {
       on = on_unbegun lines task end h.1.files first un;
       looks = λ reads ims are. ⊎_elim (λ is. inl (is ∙ h.1.is)) (λ lost. inr ((early_of u, refl), lost.0, lost.1)) ((u.leaves h.0 settled).exit ims are);
-      stops = stops_unopened reopens _ _ _ (v.calls old) (v.calls new) first (early_of u, refl) (u.leaves h.0 settled) (of_kind kind reopens _ first h.1) (λ o r. exits_unbegun reopens packed task end first o un r);
+      stops = stops_unopened reopens _ _ _ (v.calls old) (v.calls new) first (early_of u, refl) (u.leaves h.0 settled) (of_kind kind reopens _ first h.1) (λ o r. exits_unbegun reopens (packed h.1.files) task end first o un r);
     };
   }
 
   -- recovery ended well, and the task was carried out over the space
-  pub managed_run : {S : Type 0} {s : space.Ghosts S} {name : List ℕ} {most : ℕ} {vol w : V} {a t : S} (opens : Files → Contents → Type 0) {end : End} {p q : O} → OpensNamed s v name most vol a → Closes s v t w → ManagesOver s g opens reopens lines packed task end a t p q → FilesManaged v.tells g opens reopens lines packed task end (v.calls vol) (v.calls w) p q
+  pub managed_run : {S : Type 0} {s : space.Ghosts S} {name : List ℕ} {most : ℕ} {vol w : V} {a t : S} (opens : Files → Contents → Type 0) {end : End} {p q : O} → OpensNamed s v name most vol a → Closes s v t w → ManagesOver s g opens reopens lines (packed (s.now a)) task end a t p q → FilesManaged v.tells g opens reopens lines packed task end (v.calls vol) (v.calls w) p q
   managed_run {S} {s} {name} {most} {vol} {w} opens {end} o closed run = record {
     taken = run.taken;
     told = run.told;
@@ -311,11 +311,11 @@ module _ {V O : Type 0} {v : volume.Ghosts V} (g : sink.Ghosts O) (reopens : Fil
     broken = opened_whole o (v.calls w);
     ends = λ settled first h.
         let r = run.ends first (begins_so o opens first h) in
-        record {
-          on = subst (λ (f : Files). TaskOn lines task end f run.taken first) (sym (same_files o h.1.files h.0 h.1.is)) r.on;
+        subst (λ (f : Files). TaskRun reopens lines (packed f) task end f (v.calls vol) (v.calls w) run.taken first) (sym (same_files o h.1.files h.0 h.1.is)) (record {
+          on = r.on;
           stops = stops_run reopens _ _ _ (o.over h.0) closed settled r.stops;
-          looks = λ reads ims are. inl (r.looks reads (recovered ims) (exit_left closed ims are) ∙ ap (λ (f : Files). Some f) (sym (same_files o h.1.files h.0 h.1.is)));
-        };
+          looks = λ reads ims are. inl (r.looks reads (recovered ims) (exit_left closed ims are));
+        });
   }
 
 -- ---- what is judged, and limits

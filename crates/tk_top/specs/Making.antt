@@ -1,5 +1,5 @@
 -- What making a file anew leaves of a volume.
-use Rattle.std.specs.Prelude.{◌≡◌, ◌^◌, ℕ, max, true, [], ◌∷◌, length, Option, Some}
+use Rattle.std.specs.Prelude.{◌≡◌, ◌⊎◌, ◌^◌, ℕ, max, true, [], ◌∷◌, length, Option, Some}
 use Rattle.tc_base.specs.Files.{Files}
 use Rattle.tc_base.specs.declared.kind.Rule.{Rule}
 use Rattle.tc_io.specs.Images.{Calls, now}
@@ -46,6 +46,11 @@ pub record MainIsThere (old new : Calls) : Type 0 where
   pub some : files 0 ≡ [] → ⊥
   pub stay : IsSettled old → StaysAt files old new
 
+-- files that stand for contents, and whose main file is empty or has these numbers
+pub record InShape (reopens : Files → Contents → Type 0) (numbers : Files → Type 0) (files : Files) (c : Contents) : Type 0 where
+  pub stand : reopens files c
+  pub shape : (files 0 ≡ []) ⊎ numbers files
+
 -- files that stand for no data, and whose head has these numbers
 pub record IsMade (reopens : Files → Contents → Type 0) (numbers : Files → Type 0) (made : Mark) (o : Option Files) : Type 0 where
   pub reopen : Reopens reopens o made
@@ -85,6 +90,11 @@ module _ {S : Type 0} (s : space.Ghosts S) where
   -- what it is made in had an empty main file; where it is refused it hadn't, and is left alone; and a rule that is named is broken
   abbrev pub JudgedMakingOver : (Files → ℕ → Rule → Type 0) → End → S → S → Type 0
   JudgedMakingOver breaks end old new = JudgedMaking end (s.tells → s.now old 0 ≡ []) (BreaksOver s breaks old new) ((s.tells → s.now old 0 ≡ [] → ⊥) × (new ≡ old))
+
+-- and no file with other numbers is left, at any moment and however it ends
+pub record MakesShaped {S : Type 0} (s : space.Ghosts S) (reopens : Files → Contents → Type 0) (numbers : Files → Type 0) (anew : Contents) (end : End) (old new : S) : Type 0 where
+  pub stands : MakesOver s reopens numbers anew end old new
+  pub shaped : MakesOver s (InShape reopens numbers) numbers anew end old new
 
 -- ---- of a volume
 

@@ -9,7 +9,7 @@ use Rattle.tc_model.specs.Contents.{Contents}
 use Rattle.ty_base.specs.Holding.{Layout}
 use Rattle.tc_space.specs.Stores.{Only}
 use Rattle.tc_fixed.specs.Holding.{HasNoRoom}
-use Rattle.tc_hash.specs.Packing.{IsPacked}
+use Rattle.tc_hash.specs.Repacking.{IsPackedFrom}
 use Rattle.tc_hashdb.specs.Filling.{FillsWith, LacksLargeWith}
 use Rattle.tc_hashdb.specs.Holding as hash
 use Rattle.tc_hashdb.specs.Informing as hash_lines
@@ -52,10 +52,10 @@ abbrev pub layout_of : Stored → Files → Layout
 layout_of Hash = hash_layout.layout_of
 layout_of Fixed = fixed_layout.layout_of
 
--- files are packed in a form: of a fixed-length file all are
-abbrev pub packed_in : Stored → Form → Files → Type 0
-packed_in Hash form files = IsPacked form (files 0)
-packed_in Fixed form files = Unit {0}
+-- files are packed from others in a form: of a fixed-length file all are
+abbrev pub packed_in : Stored → Files → Form → Files → Type 0
+packed_in Hash from form files = IsPackedFrom (from 0) form (files 0)
+packed_in Fixed from form files = Unit {0}
 
 -- a limit is reached between contents and those that a request makes of them: of the length of files, which have these now and which were these at the moments from
 -- one on up to another, or of the undo log

@@ -96,7 +96,7 @@ pub record ExitsTask (reopens : Files → Contents → Type 0) (packed : Form �
   pub at : AtMark reopens o (marks_of task first)
   pub last : IsCarried end ⊎ (taken ≢ []) → Reopens reopens o (last_mark task first)
   pub stay : end ≡ Refused → Reopens reopens o first
-  -- files are packed once a packing is carried out
+  -- files are packed, from those that there were, once a packing is carried out
   pub packs : (f : Form) → packing task ≡ Some f → end ≡ Done → ArePacked packed f o
 
 -- over a space that began at this mark
@@ -120,12 +120,12 @@ pub record TaskRun (reopens : Files → Contents → Type 0) (lines : Files → 
   pub looks : writes_files task ≡ false → (ims : Files) → Images new ims → (recovered ims ≡ Some files) ⊎ ((IsEarly end × (taken ≡ [])) × IsLostSync old new 1 × AsOpening old (recovered ims))
 
 -- what was printed, and what a task makes of a volume that was settled
-pub record FilesManaged {O : Type 0} (tells : Type 0) (g : sink.Ghosts O) (opens reopens : Files → Contents → Type 0) (lines : Files → List ℕ → Type 0) (packed : Form → Files → Type 0) (task : Task) (end : End) (old new : Calls) (p q : O) : Type 0 where
+pub record FilesManaged {O : Type 0} (tells : Type 0) (g : sink.Ghosts O) (opens reopens : Files → Contents → Type 0) (lines : Files → List ℕ → Type 0) (packed : Files → Form → Files → Type 0) (task : Task) (end : End) (old new : Calls) (p q : O) : Type 0 where
   pub taken : List ℕ
   pub told : Adds (g.taken p) (g.taken q) taken
   pub silent : IsSilent end → taken ≡ []
   pub broken : tells → LeavesBroken old new
-  pub ends : IsSettled old → (first : Mark) (b : BeginsAt tells opens old first) → TaskRun reopens lines packed task end b.1.files old new taken first
+  pub ends : IsSettled old → (first : Mark) (b : BeginsAt tells opens old first) → TaskRun reopens lines (packed b.1.files) task end b.1.files old new taken first
 
 -- why a task was refused over a space
 pub record ReasonOver {S : Type 0} (s : space.Ghosts S) (opens : Files → Contents → Type 0) (task : Task) (old : S) : Type 0 where
@@ -176,7 +176,7 @@ module _ {S : Type 0} (s : space.Ghosts S) (reopens : Files → Contents → Typ
 -- ---- of a volume
 
 module _ {V : Type 0} (v : volume.Ghosts V) where
-  abbrev pub ManagesOn : {O : Type 0} → sink.Ghosts O → (Files → Contents → Type 0) → (Files → List ℕ → Type 0) → (Form → Files → Type 0) → Kind → Task → End → V → V → O → O → Type 0
+  abbrev pub ManagesOn : {O : Type 0} → sink.Ghosts O → (Files → Contents → Type 0) → (Files → List ℕ → Type 0) → (Files → Form → Files → Type 0) → Kind → Task → End → V → V → O → O → Type 0
   ManagesOn g reopens lines packed kind task end old new p q = FilesManaged v.tells g (OpensTo kind reopens) reopens lines packed task end (v.calls old) (v.calls new) p q
 
   abbrev pub FormsOn : (Files → Layout) → (Files → Contents → Type 0) → Task → End → V → V → Type 0

@@ -32,7 +32,7 @@ use Rattle.tk_top.specs.declared.ends.End.TheVariants.{Done, Words, Refused, Vol
 use Rattle.tk_top.specs.Ends.{line_of}
 use Rattle.tk_top.specs.Causes.{CausedIn, CausedByVolume, CausedByWire}
 use Rattle.tk_top.specs.Guarding.{GuardsOn, GuardsTaskOn}
-use Rattle.tk_top.specs.Making.{IsThere, JudgedMakingOn, MakesOn}
+use Rattle.tk_top.specs.Making.{InShape, IsThere, JudgedMakingOn, MakesOn}
 use Rattle.tk_top.specs.Naming.{NamesOnce}
 use Rattle.tk_top.specs.Over.{BeginsAt, FullFiles, JudgedOn, MainIsBare, RunsOn}
 use Rattle.tk_top.specs.Serving.{ServesAt, PlaysAll}
@@ -184,6 +184,8 @@ pub record MakesFiles {V : Type 0} (v : volume.Ghosts V) (end : End) (name : Lis
   pub names : NamesOnce v name vol vol'
   -- what any stop leaves of a volume that was settled and whose files stood for contents
   pub made : MakesOn v (reopens_of (stored_as shape)) (numbers_of shape) (anew_of shape) end vol vol'
+  -- where the main file is empty it is so, or has these numbers, at any moment and however it ends
+  pub shaped : MakesOn v (InShape (reopens_of (stored_as shape)) (numbers_of shape)) (numbers_of shape) (anew_of shape) end vol vol'
   -- files beside them stay
   pub laid : (l : Frame) → MakesOn v (Laid (own_of (stored_as shape)) no_layout l (reopens_of (stored_as shape))) (numbers_of shape) (anew_of shape) end vol vol'
   -- where it was made, the main file was empty; where it was refused, it wasn't; and where a rule is named, it is one of the log

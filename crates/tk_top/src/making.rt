@@ -7,7 +7,7 @@ ghost use Rattle.tk_top.specs.declared.ends.End.TheVariants.{Full, Refused};
 ghost use Rattle.tk_top.specs.Stops.{LeavesAlone};
 ghost use Rattle.tk_top.specs.Causes.{CausedByVolume};
 ghost use Rattle.tk_top.specs.Naming.{NamesOnce};
-ghost use Rattle.tk_top.specs.Making.{IsThere, JudgedMakingOn, JudgedMakingOver, LacksOn, MakesOn, MakesOver};
+ghost use Rattle.tk_top.specs.Making.{InShape, IsThere, JudgedMakingOn, JudgedMakingOver, LacksOn, MakesOn, MakesOver, MakesShaped};
 
 use crate::ends::{End, Stopped};
 use crate::naming::open_named;
@@ -23,7 +23,8 @@ pub fn make_opened<B: Opens + Drop>(alloc: Global, shape: &B::Shape, space: &mut
     requires sound { B.S.sound space.old }
     requires untouched { B.S.touched space.old ≡ false }
     requires numbers { B.may_be shape.now }
-    ensures made { MakesOver B.S.Space B.reopens (B.shaped shape.now) (B.anew shape.now) result space.old space.new }
+    // At any moment and however it ends, the main file is empty or one of that shape.
+    ensures made { MakesShaped B.S.Space B.reopens (B.shaped shape.now) (B.anew shape.now) result space.old space.new }
     ensures laid { (l : Frame) → MakesOver B.S.Space (Laid B.own no_layout l B.reopens) (B.shaped shape.now) (B.anew shape.now) result space.old space.new }
     ensures judged { JudgedMakingOver B.S.Space B.breaks_new result space.old space.new }
     // A main file that is there is looked at, and no more.
@@ -57,6 +58,8 @@ pub fn make_files<S: OnVolume, B: Opens<S = S> + Drop>(
     ensures names { NamesOnce S.V.Volume name.now vol result.vol }
     // What any stop leaves of a volume that was settled and whose files stood for contents.
     ensures made { MakesOn S.V.Volume B.reopens (B.shaped shape.now) (B.anew shape.now) result.end vol result.vol }
+    // Where the main file is empty it is so, or one of that shape, at any moment and however it ends.
+    ensures shaped { MakesOn S.V.Volume (InShape B.reopens (B.shaped shape.now)) (B.shaped shape.now) (B.anew shape.now) result.end vol result.vol }
     // Files beside them stay.
     ensures laid { (l : Frame) → MakesOn S.V.Volume (Laid B.own no_layout l B.reopens) (B.shaped shape.now) (B.anew shape.now) result.end vol result.vol }
     // Where it was made, the main file was empty; where it was refused, it wasn't; and where a rule is named, it is broken.

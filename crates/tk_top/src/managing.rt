@@ -68,8 +68,8 @@ pub fn manage_opened<B: Base + Opens + Drop, O: Sink>(
 ) -> End
     requires sound { B.S.sound space.old }
     requires untouched { B.S.touched space.old ≡ false }
-    ensures told { ManagesAs B.S.Space B.reopens O.Sink B.lines B.packed kind task result space.old space.new out.old out.new }
-    ensures laid { (l : Frame) → ManagesAs B.S.Space (Laid B.own (said_by (packing task) B.layout) l B.reopens) O.Sink B.lines B.packed kind task result space.old space.new out.old out.new }
+    ensures told { ManagesAs B.S.Space B.reopens O.Sink B.lines (B.packed (B.S.now space.old)) kind task result space.old space.new out.old out.new }
+    ensures laid { (l : Frame) → ManagesAs B.S.Space (Laid B.own (said_by (packing task) B.layout) l B.reopens) O.Sink B.lines (B.packed (B.S.now space.old)) kind task result space.old space.new out.old out.new }
     ensures formed { FormsOver B.S.Space B.layout (OpensTo kind B.reopens) task result space.old space.new }
     ensures judged { JudgedTaskOver B.S.Space B.reopens B.breaks kind task result space.old space.new }
     ensures guards { GuardsTaskOver B.S.Space B.reopens kind task result space.old space.new out.old out.new }

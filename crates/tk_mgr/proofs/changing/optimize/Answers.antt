@@ -16,9 +16,9 @@ pub returns-clause-packs : goal.returns-clause-packs
 returns-clause-packs g c = λ m h f is done o l.
     let s = g.B.S.Space in
     let k = c.in_ok-save.ensures.kept in
-    packs_left s g.B.Storage.reopens g.B.Storage.packed c.args.large f c.save.new.space is h.has.held.0
+    packs_left s g.B.Storage.reopens (g.B.Storage.packed (s.now c.args.space.now)) c.args.large f c.save.new.space is h.has.held.0
     (record { sound = k.ready.sound; only = λ p u left. g.met.B.S.Space.only_kept c.save.new.space p u k.ready.sound left; clean = λ u. g.met.B.S.Space.clean c.save.new.space u k.ready.sound k.untouched })
-    (subst (λ (d : Form). g.B.Storage.packed d (s.now c.save.new.space)) c.form_of.ensures (c.in_ok-save.ensures.packs refl _ m.contents c.in_ok-pack.ensures.tight (c.in_ok-pack.ensures.packed m.contents h.has.held))) o l
+    (subst (λ (d : Form). g.B.Storage.packed (s.now c.args.space.now) d (s.now c.save.new.space)) c.form_of.ensures (c.in_ok-save.ensures.packs refl (s.now c.args.space.now) _ m.contents (c.in_ok-pack.ensures.tight m.contents h.has.held) (c.in_ok-pack.ensures.packed m.contents h.has.held))) o l
 
 pub returns-clause-formed : goal.returns-clause-formed
 returns-clause-formed g c = λ m h f is done o l.
@@ -28,10 +28,12 @@ returns-clause-formed g c = λ m h f is done o l.
     let old = s.now c.args.space.now in
     let kept = k.marks m (record { held = c.in_ok-pack.ensures.packed m.contents h.has.held; log = (log_stays s b.own c.args.space.now c.pack.new.space g.met.B.Storage.no_logs.1 c.in_ok-pack.ensures.others).same h.has.held.0 ∙ h.has.log }) (λ none. absurd cc) in
     let like = kept.stand.like in
+    let forms = c.in_ok-pack.ensures.formed m.contents h.has.held in
     packs_left s b.reopens (FormedFrom b.layout old) c.args.large f c.save.new.space is h.has.held.0
     (record { sound = k.ready.sound; only = λ p u left. g.met.B.S.Space.only_kept c.save.new.space p u k.ready.sound left; clean = λ u. g.met.B.S.Space.clean c.save.new.space u k.ready.sound k.untouched })
     (record {
-      numbers = like.layout.numbers ∙ (c.in_ok-pack.ensures.formed m.contents h.has.held ∙ ap (λ (d : Form). in_form d (b.layout old).numbers) c.form_of.ensures);
+      numbers = like.layout.numbers.same ∙ (forms.numbers ∙ ap (λ (d : Form). in_form d (b.layout old).numbers) c.form_of.ensures);
+      lead = let kept_lead = like.layout.numbers.lead in let packed_lead = forms.lead in omega (arith, kept_lead, packed_lead);
       none = let none = like.layout.slack in omega (arith, none);
     }) o l
 

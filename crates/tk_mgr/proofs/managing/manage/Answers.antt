@@ -47,25 +47,25 @@ returns-in-Inform-clause-managed g c =
 -- ---- files packed
 
 pub returns-in-Put-clause-packs : goal.returns-in-Put-clause-packs
-returns-in-Put-clause-packs g c = λ m h. packs_as g.B.S.Space g.B.Storage.reopens g.B.Storage.packed _ (task.Put c.in-Put.word c.in-Put.key c.in-Put.value) _ _ c.in-Put.is (λ f is. absurd cc)
+returns-in-Put-clause-packs g c = λ m h. packs_as g.B.S.Space g.B.Storage.reopens (g.B.Storage.packed (g.B.S.Space.now c.args.space.now)) _ (task.Put c.in-Put.word c.in-Put.key c.in-Put.value) _ _ c.in-Put.is (λ f is. absurd cc)
 
 pub returns-in-Out-clause-packs : goal.returns-in-Out-clause-packs
-returns-in-Out-clause-packs g c = λ m h. packs_as g.B.S.Space g.B.Storage.reopens g.B.Storage.packed _ (task.Out c.in-Out.key) _ _ c.in-Out.is (λ f is. absurd cc)
+returns-in-Out-clause-packs g c = λ m h. packs_as g.B.S.Space g.B.Storage.reopens (g.B.Storage.packed (g.B.S.Space.now c.args.space.now)) _ (task.Out c.in-Out.key) _ _ c.in-Out.is (λ f is. absurd cc)
 
 pub returns-in-Get-clause-packs : goal.returns-in-Get-clause-packs
-returns-in-Get-clause-packs g c = λ m h. packs_as g.B.S.Space g.B.Storage.reopens g.B.Storage.packed _ (task.Get c.in-Get.key) _ _ c.in-Get.is (λ f is. absurd cc)
+returns-in-Get-clause-packs g c = λ m h. packs_as g.B.S.Space g.B.Storage.reopens (g.B.Storage.packed (g.B.S.Space.now c.args.space.now)) _ (task.Get c.in-Get.key) _ _ c.in-Get.is (λ f is. absurd cc)
 
 pub returns-in-List-clause-packs : goal.returns-in-List-clause-packs
-returns-in-List-clause-packs g c = λ m h. packs_as g.B.S.Space g.B.Storage.reopens g.B.Storage.packed _ (task.List c.in-List.maximum c.in-List.values) _ _ c.in-List.is (λ f is. absurd cc)
+returns-in-List-clause-packs g c = λ m h. packs_as g.B.S.Space g.B.Storage.reopens (g.B.Storage.packed (g.B.S.Space.now c.args.space.now)) _ (task.List c.in-List.maximum c.in-List.values) _ _ c.in-List.is (λ f is. absurd cc)
 
 pub returns-in-Inform-clause-packs : goal.returns-in-Inform-clause-packs
-returns-in-Inform-clause-packs g c = λ m h. packs_as g.B.S.Space g.B.Storage.reopens g.B.Storage.packed _ task.Inform _ _ c.in-Inform.is (λ f is. absurd cc)
+returns-in-Inform-clause-packs g c = λ m h. packs_as g.B.S.Space g.B.Storage.reopens (g.B.Storage.packed (g.B.S.Space.now c.args.space.now)) _ task.Inform _ _ c.in-Inform.is (λ f is. absurd cc)
 
 pub returns-in-Drill-clause-packs : goal.returns-in-Drill-clause-packs
-returns-in-Drill-clause-packs g c = λ m h. packs_as g.B.S.Space g.B.Storage.reopens g.B.Storage.packed _ (task.Drill c.in-Drill.seed c.in-Drill.count) _ _ c.in-Drill.is (λ f is. absurd cc)
+returns-in-Drill-clause-packs g c = λ m h. packs_as g.B.S.Space g.B.Storage.reopens (g.B.Storage.packed (g.B.S.Space.now c.args.space.now)) _ (task.Drill c.in-Drill.seed c.in-Drill.count) _ _ c.in-Drill.is (λ f is. absurd cc)
 
 pub returns-in-Optimize-clause-packs : goal.returns-in-Optimize-clause-packs
-returns-in-Optimize-clause-packs g c = λ m h. packs_as g.B.S.Space g.B.Storage.reopens g.B.Storage.packed _ (task.Optimize c.in-Optimize.large) _ _ c.in-Optimize.is (c.optimize.ensures.packs m h)
+returns-in-Optimize-clause-packs g c = λ m h. packs_as g.B.S.Space g.B.Storage.reopens (g.B.Storage.packed (g.B.S.Space.now c.args.space.now)) _ (task.Optimize c.in-Optimize.large) _ _ c.in-Optimize.is (c.optimize.ensures.packs m h)
 
 -- ---- which may write files
 

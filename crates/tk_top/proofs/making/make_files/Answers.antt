@@ -1,6 +1,6 @@
 use Rattle.std.proofs.Common.{◌∙◌, sym, ap}
 use Rattle.ty_base.specs.Holding.{Laid, no_layout}
-use Rattle.tk_top.specs.Making.{IsThere}
+use Rattle.tk_top.specs.Making.{InShape, IsThere}
 use Rattle.tk_top.proofs.Made.{judged_made, made_run, made_unopened}
 use Rattle.tk_top.proofs.Named.{limits_so, names_so}
 use Rattle.tk_top.proofs.Fresh.{fresh}
@@ -17,7 +17,14 @@ returns-in-Err-clause-made g c = let shape = c.args.shape.now in made_unopened g
 
 pub returns-clause-made : goal.returns-clause-made
 returns-clause-made g c = let shape = c.args.shape.now in let end = c.make_opened-end.new.space in
-    made_run g.B.Storage.reopens (g.B.Opens.shaped shape) (g.B.Opens.anew shape) c.in-Ok.ensures.opened (closes g.S.Space g.S.V.Volume g.S.OnVolume.under end _ c.close_over.ensures (g.met.S.OnVolume.is_over end)) c.make_opened-end.ensures.made
+    made_run g.B.Storage.reopens (g.B.Opens.shaped shape) (g.B.Opens.anew shape) c.in-Ok.ensures.opened (closes g.S.Space g.S.V.Volume g.S.OnVolume.under end _ c.close_over.ensures (g.met.S.OnVolume.is_over end)) c.make_opened-end.ensures.made.stands
+
+pub returns-in-Err-clause-shaped : goal.returns-in-Err-clause-shaped
+returns-in-Err-clause-shaped g c = let shape = c.args.shape.now in made_unopened (InShape g.B.Storage.reopens (g.B.Opens.shaped shape)) (g.B.Opens.shaped shape) (g.B.Opens.anew shape) _ c.in-Err.ensures.unopened
+
+pub returns-clause-shaped : goal.returns-clause-shaped
+returns-clause-shaped g c = let shape = c.args.shape.now in let end = c.make_opened-end.new.space in
+    made_run (InShape g.B.Storage.reopens (g.B.Opens.shaped shape)) (g.B.Opens.shaped shape) (g.B.Opens.anew shape) c.in-Ok.ensures.opened (closes g.S.Space g.S.V.Volume g.S.OnVolume.under end _ c.close_over.ensures (g.met.S.OnVolume.is_over end)) c.make_opened-end.ensures.made.shaped
 
 pub returns-clause-judged : goal.returns-clause-judged
 returns-clause-judged g c = let o = c.in-Ok.ensures.opened in let end = c.make_opened-end.new.space in

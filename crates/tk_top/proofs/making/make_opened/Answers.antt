@@ -1,4 +1,4 @@
-use Rattle.std.proofs.Common.{arith, sym, subst, ◌∙◌, ◌≡◌, []}
+use Rattle.std.proofs.Common.{arith, inr, sym, subst, ◌∙◌, ◌≡◌, []}
 use Rattle.std.proofs.lemmas.List.{nil_from_length}
 use Rattle.tk_top.specs.declared.ends.End.{End}
 use Rattle.tk_top.specs.declared.ends.End.TheVariants.{Done, VolumeFault}
@@ -6,7 +6,11 @@ use Rattle.ty_base.specs.Holding.{Laid, no_layout}
 use Rattle.ty_rounds.specs.Kept.{StandFor}
 use Rattle.tk_mgr.specs.Managing.{with_contents}
 use Rattle.tk_top.specs.Ends.{end_of}
-use Rattle.tk_top.specs.Making.{JudgedMaking, MakingOver}
+use Rattle.tk_top.specs.Making.{InShape, JudgedMaking, MakesShaped, MakingOver}
+use Rattle.tk_top.specs.Serving.{Begins}
+use Rattle.tc_base.specs.Files.{Files}
+use Rattle.tc_model.specs.Contents.{Contents}
+use Rattle.ty_world.specs.World.{Mark}
 use Rattle.tk_top.specs.Staying.{BreaksOver}
 use Rattle.tk_top.proofs.Staying.{breaks_over}
 use Rattle.tk_top.proofs.Kept.{commit_moves, steady_moves}
@@ -17,37 +21,51 @@ use Rattle.tk_top.proofs.Laying.{stays_beside}
 use Rattle.tk_top.proofs.making.make_opened.Goals as goal
 
 pub returns-in-Err-clause-made : goal.returns-in-Err-clause-made
-returns-in-Err-clause-made g c = λ first h. let s = g.B.S.Space in let b = g.B.Storage in let old = c.args.space.now in let mid = c.create.new.space in
-    subst (λ (end : End). MakingOver s b.reopens (g.B.Opens.shaped c.args.shape.now) (g.B.Opens.anew c.args.shape.now) end old mid first) (sym c.from.ensures)
-    (making_over b.reopens (g.B.Opens.shaped c.args.shape.now) (g.B.Opens.anew c.args.shape.now) s (end_of c.in-Err.e) old mid first
-    (fresh g.B.S.Space old g.met.B.S.Space.only_kept g.met.B.S.Space.clean c.requires.sound c.requires.untouched)
+returns-in-Err-clause-made g c = let s = g.B.S.Space in let b = g.B.Storage in let old = c.args.space.now in let mid = c.create.new.space in
+    let shaped = g.B.Opens.shaped c.args.shape.now in let anew = g.B.Opens.anew c.args.shape.now in
+    let by : (like : Files → Contents → Type 0) → (first : Mark) → Begins s like old first → MakingOver s like shaped anew (end_of c.in-Err.e) old mid first = λ like first h.
+    making_over like shaped anew s (end_of c.in-Err.e) old mid first
+    (fresh s old g.met.B.S.Space.only_kept g.met.B.S.Space.clean c.requires.sound c.requires.untouched)
     (g.met.B.S.Space.earlier mid) h
-    (steady_moves s b.reopens old mid (with_contents first (g.B.Opens.anew c.args.shape.now)) (c.in-Err.ensures.keeps.steady h.0))
-    (unbegun_of c.in-Err.e).not_refused (λ is. absurd ((unbegun_of c.in-Err.e).not_done is)))
+    (steady_moves s like old mid (with_contents first anew) (c.in-Err.ensures.keeps.steady h.0))
+    (unbegun_of c.in-Err.e).not_refused (λ is. absurd ((unbegun_of c.in-Err.e).not_done is))
+    in subst (λ (end : End). MakesShaped s b.reopens shaped anew end old mid) (sym c.from.ensures) (record { stands = by b.reopens; shaped = by (InShape b.reopens shaped) })
 
 pub returns-in-Ok-commit-clause-made : goal.returns-in-Ok-commit-clause-made
-returns-in-Ok-commit-clause-made g c = λ first h. let s = g.B.S.Space in let b = g.B.Storage in let old = c.args.space.now in let mid = c.create.new.space in let new = c.commit.new.self in
+returns-in-Ok-commit-clause-made g c = let s = g.B.S.Space in let b = g.B.Storage in let old = c.args.space.now in let mid = c.create.new.space in let new = c.commit.new.self in
+    let shaped = g.B.Opens.shaped c.args.shape.now in let anew = g.B.Opens.anew c.args.shape.now in
+    let by : (like : Files → Contents → Type 0) → (s.tells → like (s.now mid) anew) → (first : Mark) → Begins s like old first → MakingOver s like shaped anew Done old new first = λ like stands first h.
     let created = c.in-Ok.ensures.created h.0 in
-    let stand : StandFor b.reopens (s.now mid) (with_contents first (g.B.Opens.anew c.args.shape.now)) = record { contents = created.stand; log = c.in-Ok.ensures.usable.others.same h.0 2 g.met.B.Storage.no_logs.1 ∙ h.1.log } in
-    making_over b.reopens (g.B.Opens.shaped c.args.shape.now) (g.B.Opens.anew c.args.shape.now) s Done old new first
-    (fresh g.B.S.Space old g.met.B.S.Space.only_kept g.met.B.S.Space.clean c.requires.sound c.requires.untouched)
+    let stand : StandFor like (s.now mid) (with_contents first anew) = record { contents = stands h.0; log = c.in-Ok.ensures.usable.others.same h.0 2 g.met.B.Storage.no_logs.1 ∙ h.1.log } in
+    making_over like shaped anew s Done old new first
+    (fresh s old g.met.B.S.Space.only_kept g.met.B.S.Space.clean c.requires.sound c.requires.untouched)
     (g.met.B.S.Space.earlier new) h
-    (commit_moves s b.reopens old mid new (with_contents first (g.B.Opens.anew c.args.shape.now)) (c.in-Ok.ensures.keeps.steady h.0) (c.in-Ok-commit.ensures.moments h.0) stand)
+    (commit_moves s like old mid new (with_contents first anew) (c.in-Ok.ensures.keeps.steady h.0) (c.in-Ok-commit.ensures.moments h.0) stand)
     (λ is. absurd cc)
     (λ is o l. record {
       reopen = record { files = s.now mid; is = g.met.B.S.Space.only_kept new o h.0 c.in-Ok-commit.ensures.outcome.ok l ∙ c.in-Ok-commit.ensures.kept h.0; stand = stand };
       some = created.some;
       numbered = created.numbers;
     })
+    in record {
+      stands = by b.reopens (λ t. (c.in-Ok.ensures.created t).stand);
+      shaped = by (InShape b.reopens shaped) (λ t. record { stand = (c.in-Ok.ensures.created t).stand; shape = inr (c.in-Ok.ensures.created t).numbers });
+    }
 
 pub returns-in-Err-commit-clause-made : goal.returns-in-Err-commit-clause-made
-returns-in-Err-commit-clause-made g c = λ first h. let s = g.B.S.Space in let b = g.B.Storage in let old = c.args.space.now in let mid = c.create.new.space in let new = c.commit.new.self in
-    let created = c.in-Ok.ensures.created h.0 in
-    making_over b.reopens (g.B.Opens.shaped c.args.shape.now) (g.B.Opens.anew c.args.shape.now) s VolumeFault old new first
-    (fresh g.B.S.Space old g.met.B.S.Space.only_kept g.met.B.S.Space.clean c.requires.sound c.requires.untouched)
+returns-in-Err-commit-clause-made g c = let s = g.B.S.Space in let b = g.B.Storage in let old = c.args.space.now in let mid = c.create.new.space in let new = c.commit.new.self in
+    let shaped = g.B.Opens.shaped c.args.shape.now in let anew = g.B.Opens.anew c.args.shape.now in
+    let by : (like : Files → Contents → Type 0) → (s.tells → like (s.now mid) anew) → (first : Mark) → Begins s like old first → MakingOver s like shaped anew VolumeFault old new first = λ like stands first h.
+    let stand : StandFor like (s.now mid) (with_contents first anew) = record { contents = stands h.0; log = c.in-Ok.ensures.usable.others.same h.0 2 g.met.B.Storage.no_logs.1 ∙ h.1.log } in
+    making_over like shaped anew s VolumeFault old new first
+    (fresh s old g.met.B.S.Space.only_kept g.met.B.S.Space.clean c.requires.sound c.requires.untouched)
     (g.met.B.S.Space.earlier new) h
-    (commit_moves s b.reopens old mid new (with_contents first (g.B.Opens.anew c.args.shape.now)) (c.in-Ok.ensures.keeps.steady h.0) (c.commit.ensures.moments h.0) (record { contents = created.stand; log = c.in-Ok.ensures.usable.others.same h.0 2 g.met.B.Storage.no_logs.1 ∙ h.1.log }))
+    (commit_moves s like old mid new (with_contents first anew) (c.in-Ok.ensures.keeps.steady h.0) (c.commit.ensures.moments h.0) stand)
     (λ is. absurd cc) (λ is. absurd cc)
+    in record {
+      stands = by b.reopens (λ t. (c.in-Ok.ensures.created t).stand);
+      shaped = by (InShape b.reopens shaped) (λ t. record { stand = (c.in-Ok.ensures.created t).stand; shape = inr (c.in-Ok.ensures.created t).numbers });
+    }
 
 pub returns-in-Err-clause-there : goal.returns-in-Err-clause-there
 returns-in-Err-clause-there g c = λ t some. absurd (some (nil_from_length _ (omega (arith, c.len.ensures t))))

@@ -6,7 +6,7 @@ use Rattle.ty_world.specs.World.{Mark}
 use Rattle.tc_base.specs.Files.{Files}
 use Rattle.tk_mgr.specs.Managing.{ArePacked, FormedFrom, packing, said_by, task_less}
 use Rattle.tk_top.specs.Staying.{BreaksOver}
-use Rattle.tk_top.specs.Tasks.{IsMisplaced, JudgedTask, ManagesOver, ReasonOver, is_refused_by}
+use Rattle.tk_top.specs.Tasks.{IsMisplaced, JudgedTask, ManagesOver, ReasonOver, is_refused_by, wants_empty}
 use Rattle.tk_top.specs.declared.ends.End.{End}
 use Rattle.ty_base.specs.declared.errors.AnyErr.TheVariants as any
 use Rattle.tc_space.specs.Frames.{only_reads_refl}
@@ -18,14 +18,14 @@ use Rattle.tk_top.proofs.managing.manage_opened.Goals as goal
 
 pub returns-then-not-is_placed-clause-told : goal.returns-then-not-is_placed-clause-told
 returns-then-not-is_placed-clause-told g c = let s = g.B.S.Space in let b = g.B.Storage in
-    over_misplaced s g.O.Sink (OpensTo c.args.kind b.reopens) b.reopens (λ files d h. h.stand) b.lines b.packed c.args.task c.args.space.now c.args.out.now
+    over_misplaced s g.O.Sink (OpensTo c.args.kind b.reopens) b.reopens (λ files d h. h.stand) b.lines (b.packed (g.B.S.Space.now c.args.space.now)) c.args.task c.args.space.now c.args.out.now
     (fresh g.B.S.Space c.args.space.now g.met.B.S.Space.only_kept g.met.B.S.Space.clean c.requires.sound c.requires.untouched)
     (λ t. subst (λ (b : Bool). is_refused_by b (s.now c.args.space.now 0)) c.wants_empty.ensures (c.if-not-is_placed.ensures.no (search rules) (s.now c.args.space.now 0) (c.len.ensures t)))
 
 pub returns-in-Err-clause-told : goal.returns-in-Err-clause-told
 returns-in-Err-clause-told g c = let s = g.B.S.Space in let b = g.B.Storage in
-    subst (λ (end : End). ManagesOver s g.O.Sink (OpensTo c.args.kind b.reopens) b.reopens b.lines b.packed c.args.task end c.args.space.now c.open_kept.new.space c.args.out.now c.args.out.now) (sym c.from.ensures)
-    (over_unopened s g.O.Sink (OpensTo c.args.kind b.reopens) b.reopens (λ files d h. h.stand) b.lines b.packed c.args.task c.in-Err.e c.args.space.now c.open_kept.new.space c.args.out.now
+    subst (λ (end : End). ManagesOver s g.O.Sink (OpensTo c.args.kind b.reopens) b.reopens b.lines (b.packed (g.B.S.Space.now c.args.space.now)) c.args.task end c.args.space.now c.open_kept.new.space c.args.out.now c.args.out.now) (sym c.from.ensures)
+    (over_unopened s g.O.Sink (OpensTo c.args.kind b.reopens) b.reopens (λ files d h. h.stand) b.lines (b.packed (g.B.S.Space.now c.args.space.now)) c.args.task c.in-Err.e c.args.space.now c.open_kept.new.space c.args.out.now
     (fresh g.B.S.Space c.args.space.now g.met.B.S.Space.only_kept g.met.B.S.Space.clean c.requires.sound c.requires.untouched)
     (g.met.B.S.Space.earlier c.open_kept.new.space) c.open_kept.ensures.moments
     (λ t reads. (c.open_kept.ensures.there t (λ empty. c.if-not-is_placed.ensures.yes (search rules) (s.now c.args.space.now 0) (c.len.ensures t) (subst (λ (e : Bool). is_refused_by e (s.now c.args.space.now 0)) (sym (c.wants_empty.ensures ∙ reads_there c.args.task reads)) empty))).rests))
@@ -45,13 +45,14 @@ manage-requires g c = let s = g.B.S.Space in record {
 pub returns-clause-told : goal.returns-clause-told
 returns-clause-told g c = let s = g.B.S.Space in let b = g.B.Storage in let old = c.args.space.now in let mid = c.open_kept.new.space in
     let placed : s.tells → IsMisplaced c.args.task (s.now old) → ⊥ = λ t m. c.if-not-is_placed.ensures.yes (search rules) (s.now old 0) (c.len.ensures t) (subst (λ (e : Bool). is_refused_by e (s.now old 0)) (sym c.wants_empty.ensures) m) in
-    subst (λ (end : End). ManagesOver s g.O.Sink (OpensTo c.args.kind b.reopens) b.reopens b.lines b.packed c.args.task end old c.manage.new.space c.args.out.now c.manage.new.out) (sym c.end_of-end.ensures)
-    (over_managed s g.O.Sink (OpensTo c.args.kind b.reopens) b.reopens (λ files d h. h.stand) b.lines b.packed c.args.task b.holds c.manage.result c.in-Ok.base old mid c.manage.new.space c.args.out.now c.manage.new.out
+    let same : s.tells → wants_empty c.args.task ≡ false → s.now mid ≡ s.now old = λ t w. still_same (g.B.Opens.shaped g.B.Opens.usual) (s.now old) (s.now mid) (c.in-Ok.ensures.opened.still t) (subst (λ (e : Bool). is_refused_by e (s.now old 0) → ⊥) w (placed t)) in
+    subst (λ (end : End). ManagesOver s g.O.Sink (OpensTo c.args.kind b.reopens) b.reopens b.lines (b.packed (g.B.S.Space.now c.args.space.now)) c.args.task end old c.manage.new.space c.args.out.now c.manage.new.out) (sym c.end_of-end.ensures)
+    (over_managed s g.O.Sink (OpensTo c.args.kind b.reopens) b.reopens (λ files d h. h.stand) b.lines (b.packed (g.B.S.Space.now c.args.space.now)) c.args.task b.holds c.manage.result c.in-Ok.base old mid c.manage.new.space c.args.out.now c.manage.new.out
     (fresh g.B.S.Space old g.met.B.S.Space.only_kept g.met.B.S.Space.clean c.requires.sound c.requires.untouched)
     (fresh g.B.S.Space mid g.met.B.S.Space.only_kept g.met.B.S.Space.clean c.in-Ok.ensures.opened.ready.sound c.in-Ok.ensures.opened.untouched)
-    (g.met.B.S.Space.earlier c.manage.new.space) c.open_kept.ensures.moments c.in-Ok.ensures.opened.marks
-    (λ t w. still_same (g.B.Opens.shaped g.B.Opens.usual) (s.now old) (s.now mid) (c.in-Ok.ensures.opened.still t) (subst (λ (e : Bool). is_refused_by e (s.now old 0) → ⊥) w (placed t)))
-    placed c.manage.ensures.reads c.manage.ensures.managed c.manage.ensures.packs)
+    (g.met.B.S.Space.earlier c.manage.new.space) c.open_kept.ensures.moments c.in-Ok.ensures.opened.marks same
+    placed c.manage.ensures.reads c.manage.ensures.managed
+    (λ m h f packs done o l. subst (λ (was : Files). ArePacked (b.packed was) f o) (same h.has.held.0 (packs_there c.args.task f packs)) (c.manage.ensures.packs m h f packs done o l)))
 
 pub returns-clause-judged : goal.returns-clause-judged
 returns-clause-judged g c = let s = g.B.S.Space in let opens = OpensTo c.args.kind g.B.Storage.reopens in let old = c.args.space.now in
@@ -117,14 +118,14 @@ returns-clause-formed g c = let s = g.B.S.Space in let b = g.B.Storage in let ol
 
 pub returns-then-not-is_placed-clause-laid : goal.returns-then-not-is_placed-clause-laid
 returns-then-not-is_placed-clause-laid g c = λ l. let s = g.B.S.Space in let b = g.B.Storage in let like = (Laid b.own (said_by (packing c.args.task) b.layout) l b.reopens) in
-    over_misplaced s g.O.Sink (OpensTo c.args.kind like) like (λ files d h. h.stand) b.lines b.packed c.args.task c.args.space.now c.args.out.now
+    over_misplaced s g.O.Sink (OpensTo c.args.kind like) like (λ files d h. h.stand) b.lines (b.packed (g.B.S.Space.now c.args.space.now)) c.args.task c.args.space.now c.args.out.now
     (fresh g.B.S.Space c.args.space.now g.met.B.S.Space.only_kept g.met.B.S.Space.clean c.requires.sound c.requires.untouched)
     (λ t. subst (λ (b : Bool). is_refused_by b (s.now c.args.space.now 0)) c.wants_empty.ensures (c.if-not-is_placed.ensures.no (search rules) (s.now c.args.space.now 0) (c.len.ensures t)))
 
 pub returns-in-Err-clause-laid : goal.returns-in-Err-clause-laid
 returns-in-Err-clause-laid g c = λ l. let s = g.B.S.Space in let b = g.B.Storage in let like = (Laid b.own (said_by (packing c.args.task) b.layout) l b.reopens) in
-    subst (λ (end : End). ManagesOver s g.O.Sink (OpensTo c.args.kind like) like b.lines b.packed c.args.task end c.args.space.now c.open_kept.new.space c.args.out.now c.args.out.now) (sym c.from.ensures)
-    (over_unopened s g.O.Sink (OpensTo c.args.kind like) like (λ files d h. h.stand) b.lines b.packed c.args.task c.in-Err.e c.args.space.now c.open_kept.new.space c.args.out.now
+    subst (λ (end : End). ManagesOver s g.O.Sink (OpensTo c.args.kind like) like b.lines (b.packed (g.B.S.Space.now c.args.space.now)) c.args.task end c.args.space.now c.open_kept.new.space c.args.out.now c.args.out.now) (sym c.from.ensures)
+    (over_unopened s g.O.Sink (OpensTo c.args.kind like) like (λ files d h. h.stand) b.lines (b.packed (g.B.S.Space.now c.args.space.now)) c.args.task c.in-Err.e c.args.space.now c.open_kept.new.space c.args.out.now
     (fresh g.B.S.Space c.args.space.now g.met.B.S.Space.only_kept g.met.B.S.Space.clean c.requires.sound c.requires.untouched)
     (g.met.B.S.Space.earlier c.open_kept.new.space) (moves_said b.holds b.reopens b.own b.layout c.args.kind s c.args.space.now c.open_kept.new.space (packing c.args.task) c.open_kept.ensures.moved l)
     (λ t reads. (c.open_kept.ensures.there t (λ empty. c.if-not-is_placed.ensures.yes (search rules) (s.now c.args.space.now 0) (c.len.ensures t) (subst (λ (e : Bool). is_refused_by e (s.now c.args.space.now 0)) (sym (c.wants_empty.ensures ∙ reads_there c.args.task reads)) empty))).rests))
@@ -132,11 +133,12 @@ returns-in-Err-clause-laid g c = λ l. let s = g.B.S.Space in let b = g.B.Storag
 pub returns-clause-laid : goal.returns-clause-laid
 returns-clause-laid g c = λ l. let s = g.B.S.Space in let b = g.B.Storage in let old = c.args.space.now in let mid = c.open_kept.new.space in let like = (Laid b.own (said_by (packing c.args.task) b.layout) l b.reopens) in
     let placed : s.tells → IsMisplaced c.args.task (s.now old) → ⊥ = λ t m. c.if-not-is_placed.ensures.yes (search rules) (s.now old 0) (c.len.ensures t) (subst (λ (e : Bool). is_refused_by e (s.now old 0)) (sym c.wants_empty.ensures) m) in
-    subst (λ (end : End). ManagesOver s g.O.Sink (OpensTo c.args.kind like) like b.lines b.packed c.args.task end old c.manage.new.space c.args.out.now c.manage.new.out) (sym c.end_of-end.ensures)
-    (over_managed s g.O.Sink (OpensTo c.args.kind like) like (λ files d h. h.stand) b.lines b.packed c.args.task b.holds c.manage.result c.in-Ok.base old mid c.manage.new.space c.args.out.now c.manage.new.out
+    let same : s.tells → wants_empty c.args.task ≡ false → s.now mid ≡ s.now old = λ t w. still_same (g.B.Opens.shaped g.B.Opens.usual) (s.now old) (s.now mid) (c.in-Ok.ensures.opened.still t) (subst (λ (e : Bool). is_refused_by e (s.now old 0) → ⊥) w (placed t)) in
+    subst (λ (end : End). ManagesOver s g.O.Sink (OpensTo c.args.kind like) like b.lines (b.packed (g.B.S.Space.now c.args.space.now)) c.args.task end old c.manage.new.space c.args.out.now c.manage.new.out) (sym c.end_of-end.ensures)
+    (over_managed s g.O.Sink (OpensTo c.args.kind like) like (λ files d h. h.stand) b.lines (b.packed (g.B.S.Space.now c.args.space.now)) c.args.task b.holds c.manage.result c.in-Ok.base old mid c.manage.new.space c.args.out.now c.manage.new.out
     (fresh g.B.S.Space old g.met.B.S.Space.only_kept g.met.B.S.Space.clean c.requires.sound c.requires.untouched)
     (fresh g.B.S.Space mid g.met.B.S.Space.only_kept g.met.B.S.Space.clean c.in-Ok.ensures.opened.ready.sound c.in-Ok.ensures.opened.untouched)
     (g.met.B.S.Space.earlier c.manage.new.space) (moves_said b.holds b.reopens b.own b.layout c.args.kind s c.args.space.now c.open_kept.new.space (packing c.args.task) c.open_kept.ensures.moved l)
-    (holds_said b.holds b.reopens b.own b.layout c.args.kind s c.args.space.now c.open_kept.new.space (packing c.args.task) c.in-Ok.base c.in-Ok.ensures.laid l)
-    (λ t w. still_same (g.B.Opens.shaped g.B.Opens.usual) (s.now old) (s.now mid) (c.in-Ok.ensures.opened.still t) (subst (λ (e : Bool). is_refused_by e (s.now old 0) → ⊥) w (placed t)))
-    placed c.manage.ensures.reads (c.manage.ensures.laid l) (λ m h. c.manage.ensures.packs m (record { has = h.has; stand = h.stand.stand })))
+    (holds_said b.holds b.reopens b.own b.layout c.args.kind s c.args.space.now c.open_kept.new.space (packing c.args.task) c.in-Ok.base c.in-Ok.ensures.laid l) same
+    placed c.manage.ensures.reads (c.manage.ensures.laid l)
+    (λ m h f packs done o left. subst (λ (was : Files). ArePacked (b.packed was) f o) (same h.has.held.0 (packs_there c.args.task f packs)) (c.manage.ensures.packs m (record { has = h.has; stand = h.stand.stand }) f packs done o left)))
