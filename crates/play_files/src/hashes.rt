@@ -57,6 +57,7 @@ struct Case {
 // A line: `length KEY = N`, `no_length KEY`, `size N` for the length of its blocks, `opens`; those on its bytes, and on maps.
 impl Object for Case {
     fn play(&mut self, what: &str, line: &mut Line<'_>) -> Result<(), Wrong> {
+        self.held.begin(what);
         match what {
             "length" => length_line(&mut self.held, line),
             "no_length" => no_length_line(&mut self.held, line),

@@ -27,6 +27,13 @@ impl<M> ListOf<M> {
             steps: None,
         }
     }
+
+    /// Before a line: the steps of the search before are told by a line that asks for them at once, and by no later one.
+    pub fn begin(&mut self, what: &str) {
+        if what != "steps" {
+            self.steps = None;
+        }
+    }
 }
 
 impl<M: Multi<S = OneFile>> Kept for ListOf<M> {
@@ -157,9 +164,6 @@ pub fn list_line<M: Multi<S = OneFile>>(
     what: &str,
     line: &mut Line<'_>,
 ) -> Result<(), Wrong> {
-    if what != "steps" {
-        held.steps = None;
-    }
     match what {
         "add" => add_line(held, line),
         "all" => all_line(alloc, held, line),

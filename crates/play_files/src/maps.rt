@@ -25,6 +25,13 @@ impl<R> MapOf<R> {
             steps: None,
         }
     }
+
+    /// Before a line: the steps of the search before are told by a line that asks for them at once, and by no later one.
+    pub fn begin(&mut self, what: &str) {
+        if what != "steps" {
+            self.steps = None;
+        }
+    }
 }
 
 /// Whether a pair was put; false where its key is held and was to be kept.
@@ -98,9 +105,6 @@ pub fn map_line<R: Records<S = OneFile>>(
     what: &str,
     line: &mut Line<'_>,
 ) -> Result<(), Wrong> {
-    if what != "steps" {
-        held.steps = None;
-    }
     match what {
         "keys" => {
             let all = keys(held)?;

@@ -88,6 +88,7 @@ struct ListCase {
 
 impl Object for ListCase {
     fn play(&mut self, what: &str, line: &mut Line<'_>) -> Result<(), Wrong> {
+        self.held.begin(what);
         list_line(self.alloc, &mut self.held, what, line)
     }
 }
@@ -101,6 +102,7 @@ struct TreeCase {
 
 impl Object for TreeCase {
     fn play(&mut self, what: &str, line: &mut Line<'_>) -> Result<(), Wrong> {
+        self.held.begin(what);
         match what {
             "height" => is_number(self.alloc, line, self.held.list.tree().height()),
             _ => list_line(self.alloc, &mut self.held, what, line),
@@ -143,6 +145,7 @@ pub fn play_records(
             play_opened(alloc, held.map, held.space, &mut line, script)?;
             return script.end(line);
         }
+        held.begin(what);
         look(alloc, &mut held, what, &mut line)?;
         script.end(line)?;
     }

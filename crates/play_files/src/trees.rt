@@ -132,6 +132,7 @@ struct Case {
 // A line: the `height`; those on the file's bytes, on what the file is once it is opened anew, and on lists.
 impl Object for Case {
     fn play(&mut self, what: &str, line: &mut Line<'_>) -> Result<(), Wrong> {
+        self.held.begin(what);
         match what {
             "height" => is_number(self.alloc, line, self.held.list.tree().height()),
             "bytes" | "mark" | "same" => {
