@@ -46,7 +46,7 @@ pub trait Multi {
     /// It was packed from a file with the first bytes in a form, and its file has the others, which aren't settled yet: so it is as long as it is only read.
     ghost tight: { Self → List ℕ → Form → List ℕ → Type 0 };
 
-    /// From a file with the first bytes one with the others is packed in a form: no space lies free in it, and it is no longer than what the first held takes in that form.
+    /// From a file with the first bytes one with the others is packed in a form: no block is free in it, and its records' blocks are as they were, or in the large form the least ones.
     ghost packed: { List ℕ → Form → List ℕ → Type 0 };
 
     /// How many bytes hold nothing at the end of a file with these bytes.

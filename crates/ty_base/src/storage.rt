@@ -41,7 +41,7 @@ pub trait Storage {
     /// It was packed from files in a form since it was last changed, over files as they stand before they are settled.
     ghost tight: { Self → Files → Form → Files → Type 0 };
 
-    /// Files are packed from others in a form: no space lies free in them, and they are no longer than what is held in the others takes in that form.
+    /// Files are packed from others in a form: no block is free in them, and their records' blocks are as they were, or in the large form the least ones.
     ghost packed: { Files → Form → Files → Type 0 };
 
     /// What the heads of files fix, the options first, then the other numbers and the bytes of who made them; how many whole units lie free in front of the first
