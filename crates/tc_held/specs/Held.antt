@@ -71,6 +71,11 @@ pub record IsBare {S : Type 0} (s : Ghosts S) (below : S) (held : Held) : Type 0
   pub untouched : s.touched below ≡ false
   pub none : held.pieces.items ≡ []
 
+-- what was held was brought to the space: nothing is held any more, and the files stay
+pub record Brings {S : Type 0} (s : Ghosts S) (below below' : S) (held held' : Held) : Type 0 where
+  pub none : held'.pieces.items ≡ []
+  pub same : s.tells → (f : ℕ) → over held' (s.now below') f ≡ over held (s.now below) f
+
 -- a cut found no room in the log for the old bytes: nothing is held any more, and the files stay
 pub record FindsFull {S : Type 0} (s : Ghosts S) (logged : S → ℕ) (size : ℕ) (below below' : S) (held held' : Held) : Type 0 where
   pub by : s.tells → 2 ^ 62 < logged below + 2 ^ 29 + needs size

@@ -4,9 +4,9 @@ ghost use Rattle.tc_io.specs.Causes.{Rose};
 ghost use Rattle.tc_space.specs.Effects.{Caused, Changes, Outcome};
 ghost use Rattle.tc_space.specs.Frames.{Follows, Keeps};
 ghost use Rattle.tc_space.specs.Moments.{LeavesOnly, Past};
-ghost use Rattle.tc_space.specs.Ranges.{IsDataFile, Passes, Reaches};
+ghost use Rattle.tc_space.specs.Ranges.{IsDataFile, Reaches};
 ghost use Rattle.tc_undo.specs.Room.{needs};
-ghost use Rattle.tc_held.specs.Held.{FindsFull, IsBare, IsHeld, Written, over};
+ghost use Rattle.tc_held.specs.Held.{Brings, FindsFull, IsBare, IsHeld, Written, over};
 ghost use Rattle.tc_held.specs.History.{IsSound};
 
 use crate::held::{Held, behind};
@@ -83,19 +83,14 @@ impl<S: Batched> HeldSpace<S> {
         self.below.log_len() + RESERVE + needs_of(size) <= LOG_MOST
     }
 
-    // A write of so many bytes at a place passes neither the file's limit nor the log's.
-    fn fits(&self, file: u32, at: u64, size: u64) -> bool
-        requires sound { S.sound self.now.below }
-        requires held { IsHeld S.Space S.logged self.now.below self.now.held }
+    // A write of so many bytes at a place ends within the file's limit.
+    fn ends_within(&self, file: u32, at: u64, size: u64) -> bool
         requires file { IsDataFile file }
-        ensures fits { result ≡ true → (at + size ≤ S.limit self.now.below file) × (S.logged self.now.below + 2 ^ 29 + needs size ≤ 2 ^ 62) }
-        ensures lacks { result ≡ false → Passes (S.limit self.now.below file) ((2 ^ 62 < S.logged self.now.below + 2 ^ 29 + needs size) × S.log_full self.now.below) at size }
+        ensures within { result ≡ true → at + size ≤ S.limit self.now.below file }
+        ensures past { result ≡ false → S.limit self.now.below file < at + size }
     {
         let limit = self.below.limit_of(file);
-        if at > limit || size > limit - at {
-            return false;
-        }
-        self.has_room(size)
+        at <= limit && size <= limit - at
     }
 
     // Brings what is held to the space.
@@ -117,6 +112,43 @@ impl<S: Batched> HeldSpace<S> {
         self.below.write_all(self.held.pieces(), self.held.bytes())?;
         self.held.clear();
         Ok(())
+    }
+
+    // Brings what is held to the space, and gives it up.
+    fn let_go(&mut self) -> Result<(), Fault>
+        requires sound { S.sound self.old.below }
+        requires held { IsHeld S.Space S.logged self.old.below self.old.held }
+        ensures brings { OnOk result (Brings S.Space self.old.below self.new.below self.old.held self.new.held) }
+        ensures keeps { Keeps S.Space self.old.below self.new.below }
+        ensures same { self.new ≡ record self.old { below = self.new.below; held = self.new.held; good = false } }
+        ensures cause { OnErr result (Rose (S.faults self.old.below) (S.faults self.new.below)) }
+    {
+        match self.flush() {
+            Ok(()) => {
+                self.good = false;
+                Ok(())
+            }
+            Err(e) => {
+                self.good = false;
+                Err(e)
+            }
+        }
+    }
+
+    // The same where a limit is passed: the answer.
+    fn refuse(&mut self) -> SpaceErr
+        requires sound { S.sound self.old.below }
+        requires held { IsHeld S.Space S.logged self.old.below self.old.held }
+        ensures full { result ≡ SpaceErr.Full → Brings S.Space self.old.below self.new.below self.old.held self.new.held }
+        ensures fault { result ≡ SpaceErr.Fault → Rose (S.faults self.old.below) (S.faults self.new.below) }
+        ensures which { result ≡ SpaceErr.Memory → ⊥ }
+        ensures keeps { Keeps S.Space self.old.below self.new.below }
+        ensures same { self.new ≡ record self.old { below = self.new.below; held = self.new.held; good = false } }
+    {
+        match self.let_go() {
+            Ok(()) => SpaceErr::Full,
+            Err(_) => SpaceErr::Fault,
+        }
     }
 
     // Reads bytes of the space, and lays what is held over them.
@@ -331,7 +363,7 @@ impl<S: Batched> HeldSpace<S> {
 }
 
 impl<S: Batched> Space for HeldSpace<S> {
-    ghost use Rattle.std.specs.Prelude.{◌<◌, ◌+◌, ◌^◌, ◌≡◌, true, length};
+    ghost use Rattle.std.specs.Prelude.{◌<◌, ◌+◌, ◌^◌, ◌≡◌, [], true, length};
     ghost use Rattle.tc_held.specs.Held.{shown};
     ghost use Rattle.tc_held.specs.History.{IsSound, LeftFrom, files_in, moment_in};
     ghost use Rattle.tc_held.specs.Laws.{held_clean, held_earlier, held_left, held_present, held_within};
@@ -362,6 +394,8 @@ impl<S: Batched> Space for HeldSpace<S> {
     ghost overfills = { λ s f at size. 2 ^ 62 < S.logged s.below + 2 ^ 29 + needs size };
 
     ghost log_full = { λ s. S.log_full s.below };
+
+    ghost brought = { λ s. (s.held.pieces.items ≡ []) × S.brought s.below };
 
     ghost bytes_read = { λ s. s.read };
 
@@ -398,11 +432,16 @@ impl<S: Batched> Space for HeldSpace<S> {
         self.read_over(file, at, into)
     }
 
-    /// It holds the bytes that lie inside the file, and writes those behind it. Where there is no room it brings all of it to the space.
+    /// It holds the bytes that lie inside the file, and writes those behind it. Where there is no room it brings all of it to the space, also as the file's
+    /// limit is passed.
     fn write(&mut self, file: u32, at: u64, bytes: &[u8]) -> Result<(), SpaceErr> {
         self.stood = self.stood.and(&self.below, &self.held);
         self.touched = true;
-        if !self.fits(file, at, bytes.len() as u64) {
+        let size = bytes.len() as u64;
+        if !self.ends_within(file, at, size) {
+            return Err(self.refuse());
+        }
+        if !self.has_room(size) {
             self.good = false;
             return Err(SpaceErr::Full);
         }
@@ -457,5 +496,11 @@ impl<S: Batched> Space for HeldSpace<S> {
     /// It calls nothing of the space.
     fn spoil(&mut self) {
         self.good = false;
+    }
+
+    /// It brings what is held to the space.
+    fn give_up(&mut self) -> Result<(), Fault> {
+        self.stood = self.stood.and(&self.below, &self.held);
+        self.let_go()
     }
 }

@@ -127,6 +127,8 @@ impl<S: Space, O: Order> Multi for MemMulti<S, O> {
 
     ghost made = { λ r. record { sort = 0; numbers = []; code = O.CODE; leaf = 0; node = 0; column = None } };
 
+    ghost lead = { λ r. 0 };
+
     ghost stands = { λ made bytes ps. Unit {0} };
 
     ghost fills = { λ r old new ps qs. ⊥ };

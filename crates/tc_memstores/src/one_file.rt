@@ -93,6 +93,8 @@ impl Space for OneFile {
 
     ghost log_full = { λ _. ⊥ };
 
+    ghost brought = { λ _. Unit {0} };
+
     ghost bytes_read = { λ s. s.read };
 
     ghost faults = { λ s. s.faults };
@@ -164,5 +166,10 @@ impl Space for OneFile {
 
     fn spoil(&mut self) {
         self.sound = false;
+    }
+
+    fn give_up(&mut self) -> Result<(), Fault> {
+        self.sound = false;
+        Ok(())
     }
 }

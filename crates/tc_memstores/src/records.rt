@@ -127,6 +127,8 @@ impl<S: Space> Records for MemRecords<S> {
 
     ghost numbers = { λ r. [] };
 
+    ghost lead = { λ r. 0 };
+
     ghost stands = { λ sort numbers bytes m region. Unit {0} };
 
     ghost region = { λ r. r.region };

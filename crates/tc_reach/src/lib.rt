@@ -12,5 +12,5 @@ pub use changing::{write_changed, write_difference};
 pub use errors::ReadErr;
 pub use reading::read_into;
 pub use window::Window;
-pub use writing::{cut_to, give_up, write_at, write_over};
+pub use writing::{cut_to, full_in, give_up, refused_for, write_at, write_over};
 pub use zeros::{append_zeros, clear_up_to, write_zeros};

@@ -1,8 +1,9 @@
 //! Bytes of a file, written and cut.
-ghost use Rattle.std.specs.Prelude.{◌≡◌, ℕ, ◌+◌, length, take, false, OnOk, IsErrOf};
+ghost use Rattle.std.specs.Prelude.{◌≡◌, ◌⊎◌, ◌<◌, ℕ, ◌+◌, length, take, false, OnOk, IsErrOf};
 ghost use Rattle.tc_base.specs.Files.{wrote};
+ghost use Rattle.tc_io.specs.Causes.{Rose};
 ghost use Rattle.tc_space.specs.Effects.{Changes, Outcome};
-ghost use Rattle.tc_space.specs.Frames.{OnlyWrites};
+ghost use Rattle.tc_space.specs.Frames.{Brought, OnlyWrites};
 ghost use Rattle.tc_space.specs.Ranges.{IsDataFile, Passes, Reaches};
 ghost use Rattle.tc_space.specs.Refusals.{OnFault, OnlyLogIsFull};
 
@@ -17,6 +18,7 @@ pub fn write_at<S: Space>(space: &mut S, file: u32, at: u64, bytes: &[u8]) -> Re
     ensures outcome { Outcome S.sound S.flag result space.new }
     ensures writes { OnlyWrites S.Space space.old space.new }
     ensures full { IsErrOf result RecErr.Full → Passes (S.limit space.old file) (S.log_full space.new) at (length bytes.now) }
+    ensures brought { IsErrOf result RecErr.Full → S.limit space.old file < at + length bytes.now → S.brought space.new }
     ensures same { IsErrOf result RecErr.Full → S.tells → (g : ℕ) → S.now space.new g ≡ S.now space.old g }
     ensures cause { OnFault S.Space result space.old space.new }
 {
@@ -65,4 +67,35 @@ pub fn give_up<S: Space>(space: &mut S)
     ensures faults { S.faults space.new ≡ S.faults space.old }
 {
     space.spoil();
+}
+
+/// Gives up a space that has no room, with what it holds brought to its files. The answer: that it is full, or a fault where they couldn't be brought there.
+pub fn full_in<S: Space>(space: &mut S) -> RecErr
+    requires sound { S.sound space.old }
+    ensures spoiled { S.flag space.new ≡ false }
+    ensures full { result ≡ RecErr.Full → (file : ℕ) → Brought S.Space file space.old space.new }
+    ensures fault { result ≡ RecErr.Fault → Rose (S.faults space.old) (S.faults space.new) }
+    ensures writes { OnlyWrites S.Space space.old space.new }
+{
+    match space.give_up() {
+        Ok(()) => RecErr::Full,
+        Err(_) => RecErr::Fault,
+    }
+}
+
+/// Gives up a space for a cause, which is the answer; where it has no room, as `full_in` does.
+pub fn refused_for<S: Space>(space: &mut S, cause: RecErr) -> RecErr
+    requires sound { S.sound space.old }
+    ensures spoiled { S.flag space.new ≡ false }
+    ensures full { result ≡ RecErr.Full → (cause ≡ RecErr.Full) × ((file : ℕ) → Brought S.Space file space.old space.new) }
+    ensures fault { result ≡ RecErr.Fault → (cause ≡ RecErr.Fault) ⊎ Rose (S.faults space.old) (S.faults space.new) }
+    ensures writes { OnlyWrites S.Space space.old space.new }
+{
+    match cause {
+        RecErr::Full => full_in(space),
+        _ => {
+            give_up(space);
+            cause
+        }
+    }
 }

@@ -70,6 +70,12 @@ pub record GivenUp {S : Type 0} (s : Ghosts S) (old new : S) : Type 0 where
   pub keeps : Keeps s old new
   pub files : s.tells → (g : ℕ) → s.now new g ≡ s.now old g
   pub log : s.log_full old → s.log_full new
+  pub brought : s.brought old → s.brought new
+
+-- all that it tells is where it keeps it, and a file is what it was
+pub record Brought {S : Type 0} (s : Ghosts S) (file : ℕ) (old new : S) : Type 0 where
+  pub brought : s.brought new
+  pub same : s.tells → s.now new file ≡ s.now old file
 
 -- ---- what is kept in files
 

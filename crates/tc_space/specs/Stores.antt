@@ -21,28 +21,31 @@ pub record IsReady {S V M : Type 0} (s : Ghosts S) (Means : V → S → M → Ty
 abbrev pub Only : ℕ → ℕ → Type 0
 Only file g = g ≡ file
 
--- the file, its type, its numbers, the region and the count of gets stay
-pub record StaysMap {V : Type 0} (file_of sort : V → ℕ) (numbers region : V → List ℕ) (gets : V → ℕ) (old new : V) : Type 0 where
+-- the file, its type, its numbers, the region and the count of gets stay, and no more lies free in front of the first block than did
+pub record StaysMap {V : Type 0} (file_of sort : V → ℕ) (numbers region : V → List ℕ) (lead gets : V → ℕ) (old new : V) : Type 0 where
   pub file : file_of new ≡ file_of old
   pub sort_same : sort new ≡ sort old
   pub numbers_same : numbers new ≡ numbers old
   pub region_same : region new ≡ region old
+  pub leads : lead new ≤ lead old
   pub gets_same : gets new ≡ gets old
 
--- the file, its type, its numbers and the region stay, and a get is counted
-pub record CountsGet {V : Type 0} (file_of sort : V → ℕ) (numbers region : V → List ℕ) (gets : V → ℕ) (old new : V) : Type 0 where
+-- the file, its type, its numbers and the region stay, no more lies free in front of the first block, and a get is counted
+pub record CountsGet {V : Type 0} (file_of sort : V → ℕ) (numbers region : V → List ℕ) (lead gets : V → ℕ) (old new : V) : Type 0 where
   pub file : file_of new ≡ file_of old
   pub sort_same : sort new ≡ sort old
   pub numbers_same : numbers new ≡ numbers old
   pub region_same : region new ≡ region old
+  pub leads : lead new ≤ lead old
   pub counted : gets new ≡ min (gets old + 1) (2 ^ 64 - 1)
 
 -- the region has these bytes, and all else that is told stays
-pub record SetsRegion {V : Type 0} (file_of sort : V → ℕ) (numbers region : V → List ℕ) (gets : V → ℕ) (bytes : List ℕ) (old new : V) : Type 0 where
+pub record SetsRegion {V : Type 0} (file_of sort : V → ℕ) (numbers region : V → List ℕ) (lead gets : V → ℕ) (bytes : List ℕ) (old new : V) : Type 0 where
   pub file : file_of new ≡ file_of old
   pub sort_same : sort new ≡ sort old
   pub numbers_same : numbers new ≡ numbers old
   pub region_is : region new ≡ bytes
+  pub leads : lead new ≤ lead old
   pub gets_same : gets new ≡ gets old
 
 -- the options of a file once it is written in this form, and its numbers, which begin with them
@@ -54,13 +57,15 @@ abbrev pub in_form : Form → List ℕ → List ℕ
 in_form form [] = []
 in_form form (options ∷ numbers) = options_in form options ∷ numbers
 
--- of a packing: the file, its type, the region and the count of gets stay; its numbers are those of that form, and where it was refused they stay, or the space may not be used any more
-pub record PacksMap {S V T E : Type 0} (flag : S → Bool) (file_of sort : V → ℕ) (numbers region : V → List ℕ) (gets : V → ℕ) (form : Form) (result : Result T E) (old new : V) (space : S) : Type 0 where
+-- of a packing: the file, its type, the region and the count of gets stay; its numbers are those of that form, with no more free in front of the first block, and where it was refused they
+-- stay, or the space may not be used any more
+pub record PacksMap {S V T E : Type 0} (flag : S → Bool) (file_of sort : V → ℕ) (numbers region : V → List ℕ) (lead gets : V → ℕ) (form : Form) (result : Result T E) (old new : V) (space : S) : Type 0 where
   pub file : file_of new ≡ file_of old
   pub sort_same : sort new ≡ sort old
   pub region_same : region new ≡ region old
   pub gets_same : gets new ≡ gets old
   pub formed : OnOk result (numbers new ≡ in_form form (numbers old))
+  pub leads : OnOk result (lead new ≤ lead old)
   pub left : OnErr result ((flag space ≡ false) ⊎ (numbers new ≡ numbers old))
 
 -- a put gave the key a value. With Keep there was none

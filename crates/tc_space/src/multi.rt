@@ -31,6 +31,9 @@ pub trait Multi {
     /// What it was made with.
     ghost made: { Self → Made };
 
+    /// How many whole units lie free in front of the first block of its file.
+    ghost lead: { Self → ℕ };
+
     /// A file of these bytes opens to these pairs, in a list that was made so.
     ghost stands: { Made → List ℕ → List Pair → Type 0 };
 
@@ -74,7 +77,7 @@ pub trait Multi {
         ensures value { AnswersIn Self.S.Space file_of holds result (first_in key.now) self.old space.old }
         ensures reads { ReadsIn Self.S.Space file_of holds self.old self.new space.old space.new }
         ensures keeps { Keeps Self.S.Space space.old space.new }
-        ensures stays { StaysPacked file_of made tight self.old self.new }
+        ensures stays { StaysPacked file_of made lead tight self.old self.new }
         ensures steps { Ticks (gets self.old) (gets self.new) steps.old steps.new }
         ensures cause { Blames Self.S.Space result space.old space.new };
 
@@ -84,7 +87,7 @@ pub trait Multi {
         ensures value { AnswersIn Self.S.Space file_of holds result (values_in key.now) self.old space.old }
         ensures reads { ReadsIn Self.S.Space file_of holds self.old self.new space.old space.new }
         ensures keeps { Keeps Self.S.Space space.old space.new }
-        ensures stays { StaysPacked file_of made tight self.old self.new }
+        ensures stays { StaysPacked file_of made lead tight self.old self.new }
         ensures cause { Blames Self.S.Space result space.old space.new };
 
     /// Replaces the first value of a key, or joins behind it, or adds the pair where the key isn't held. Exists comes exactly with `Keep` on
@@ -102,7 +105,7 @@ pub trait Multi {
         ensures refused { RefusesIn Self.S.Space file_of holds result self.old self.new space.old space.new }
         ensures full { IsErrOf result PutErr.Full → FullPutFrom (In Self.S.Space file_of holds) fills mode (first_in key.now) (put_first Self.O.cmp mode key.now value.now) self.old space.old space.new }
         ensures keeps { Keeps Self.S.Space space.old space.new }
-        ensures stays { StaysList file_of made self.old self.new }
+        ensures stays { StaysList file_of made lead self.old self.new }
         ensures cause { Blamed Self.S.Space (IsErrOf result PutErr.Fault) space.old space.new };
 
     /// Adds a pair behind those of its key.
@@ -112,7 +115,7 @@ pub trait Multi {
         ensures refused { RefusesIn Self.S.Space file_of holds result self.old self.new space.old space.new }
         ensures full { IsErrOf result RecErr.Full → FullFrom (In Self.S.Space file_of holds) fills (put_last Self.O.cmp key.now value.now) self.old space.old space.new }
         ensures keeps { Keeps Self.S.Space space.old space.new }
-        ensures stays { StaysList file_of made self.old self.new }
+        ensures stays { StaysList file_of made lead self.old self.new }
         ensures cause { OnFault Self.S.Space result space.old space.new };
 
     /// Takes the first pair of a key out. False comes exactly where the key isn't held.
@@ -122,7 +125,7 @@ pub trait Multi {
         ensures refused { RefusesIn Self.S.Space file_of holds result self.old self.new space.old space.new }
         ensures full { IsErrOf result RecErr.Full → FullFrom (In Self.S.Space file_of holds) fills (first_out Self.O.cmp key.now) self.old space.old space.new }
         ensures keeps { Keeps Self.S.Space space.old space.new }
-        ensures stays { StaysList file_of made self.old self.new }
+        ensures stays { StaysList file_of made lead self.old self.new }
         ensures cause { OnFault Self.S.Space result space.old space.new };
 
     /// Takes all pairs of a key out. False comes exactly where the key isn't held.
@@ -132,7 +135,7 @@ pub trait Multi {
         ensures refused { RefusesIn Self.S.Space file_of holds result self.old self.new space.old space.new }
         ensures full { IsErrOf result RecErr.Full → FullFrom (In Self.S.Space file_of holds) fills (all_out Self.O.cmp key.now) self.old space.old space.new }
         ensures keeps { Keeps Self.S.Space space.old space.new }
-        ensures stays { StaysList file_of made self.old self.new }
+        ensures stays { StaysList file_of made lead self.old self.new }
         ensures cause { OnFault Self.S.Space result space.old space.new };
 
     /// The first pairs of a stretch of keys, at most `max`.
@@ -147,7 +150,7 @@ pub trait Multi {
         ensures value { AnswersIn Self.S.Space file_of holds result (inside_first max (C.side_of cut.now)) self.old space.old }
         ensures reads { ReadsIn Self.S.Space file_of holds self.old self.new space.old space.new }
         ensures keeps { Keeps Self.S.Space space.old space.new }
-        ensures stays { StaysPacked file_of made tight self.old self.new }
+        ensures stays { StaysPacked file_of made lead tight self.old self.new }
         ensures steps { Ticks (gets self.old) (gets self.new) steps.old steps.new }
         ensures cause { Blames Self.S.Space result space.old space.new };
 
@@ -162,7 +165,7 @@ pub trait Multi {
         ensures refused { RefusesIn Self.S.Space file_of holds result self.old self.new space.old space.new }
         ensures full { OnlyLogIsFull Self.S.Space result space.new }
         ensures keeps { Keeps Self.S.Space space.old space.new }
-        ensures stays { StaysList file_of made self.old self.new }
+        ensures stays { StaysList file_of made lead self.old self.new }
         ensures cause { OnFault Self.S.Space result space.old space.new };
 
     /// Takes all pairs out. What the list was made with stays. It is full only where the undo log is, or where the little that an empty list has in its file had no room.
@@ -172,7 +175,7 @@ pub trait Multi {
         ensures refused { RefusesIn Self.S.Space file_of holds result self.old self.new space.old space.new }
         ensures full { IsErrOf result RecErr.Full → FullClear Self.S.Space lacks_bare self.old space.old space.new }
         ensures keeps { Keeps Self.S.Space space.old space.new }
-        ensures stays { StaysList file_of made self.old self.new }
+        ensures stays { StaysList file_of made lead self.old self.new }
         ensures cause { OnFault Self.S.Space result space.old space.new };
 
     /// Packs the file, in the form that it has or in the large one. The pairs stay. In the form that it has it is full only where the undo log is.
@@ -183,7 +186,7 @@ pub trait Multi {
         ensures refused { RefusesIn Self.S.Space file_of holds result self.old self.new space.old space.new }
         ensures full { IsErrOf result RecErr.Full → FullPack Self.S.Space lacks_large form self.old space.old space.new }
         ensures keeps { Keeps Self.S.Space space.old space.new }
-        ensures stays { PacksList Self.S.flag file_of made form result self.old self.new space.new }
+        ensures stays { PacksList Self.S.flag file_of made lead form result self.old self.new space.new }
         ensures cause { OnFault Self.S.Space result space.old space.new };
 
     /// The pairs stand in the order of their keys.

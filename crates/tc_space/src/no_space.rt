@@ -62,6 +62,8 @@ impl Space for NoSpace {
 
     ghost log_full = { λ _. ⊥ };
 
+    ghost brought = { λ _. Unit {0} };
+
     ghost bytes_read = { λ s. s.read };
 
     ghost faults = { λ _. 0 };
@@ -119,5 +121,10 @@ impl Space for NoSpace {
 
     fn spoil(&mut self) {
         self.sound = false;
+    }
+
+    fn give_up(&mut self) -> Result<(), Fault> {
+        self.sound = false;
+        Ok(())
     }
 }

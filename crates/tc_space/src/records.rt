@@ -31,6 +31,9 @@ pub trait Records {
     /// The numbers that the head of its file fixes, its options first.
     ghost numbers: { Self → List ℕ };
 
+    /// How many whole units lie free in front of the first block of its file.
+    ghost lead: { Self → ℕ };
+
     /// A file of this type, these numbers and these bytes opens to this map and region.
     ghost stands: { ℕ → List ℕ → List ℕ → Map → List ℕ → Type 0 };
 
@@ -82,7 +85,7 @@ pub trait Records {
         ensures value { AnswersIn Self.S.Space file_of holds result (value_in key.now) self.old space.old }
         ensures reads { ReadsIn Self.S.Space file_of holds self.old self.new space.old space.new }
         ensures keeps { Keeps Self.S.Space space.old space.new }
-        ensures counts { CountsGet file_of sort numbers region gets self.old self.new }
+        ensures counts { CountsGet file_of sort numbers region lead gets self.old self.new }
         ensures tight { KeepsTight tight self.old self.new }
         ensures steps { steps.old ≤ steps.new }
         ensures cause { Blames Self.S.Space result space.old space.new };
@@ -103,7 +106,7 @@ pub trait Records {
         ensures refused { RefusesIn Self.S.Space file_of holds result self.old self.new space.old space.new }
         ensures full { IsErrOf result PutErr.Full → FullPutIn Self.S.Space file_of holds lacks mode key.now value.now self.old space.old space.new }
         ensures keeps { Keeps Self.S.Space space.old space.new }
-        ensures stays { StaysMap file_of sort numbers region gets self.old self.new }
+        ensures stays { StaysMap file_of sort numbers region lead gets self.old self.new }
         ensures steps { steps.old ≤ steps.new }
         ensures cause { Blamed Self.S.Space (IsErrOf result PutErr.Fault) space.old space.new };
 
@@ -119,7 +122,7 @@ pub trait Records {
         ensures refused { RefusesIn Self.S.Space file_of holds result self.old self.new space.old space.new }
         ensures full { OnlyLogIsFull Self.S.Space result space.new }
         ensures keeps { Keeps Self.S.Space space.old space.new }
-        ensures stays { StaysMap file_of sort numbers region gets self.old self.new }
+        ensures stays { StaysMap file_of sort numbers region lead gets self.old self.new }
         ensures steps { steps.old ≤ steps.new }
         ensures cause { OnFault Self.S.Space result space.old space.new };
 
@@ -129,14 +132,14 @@ pub trait Records {
         ensures value { AnswersIn Self.S.Space file_of holds result keys self.old space.old }
         ensures reads { ReadsIn Self.S.Space file_of holds self.old self.new space.old space.new }
         ensures keeps { Keeps Self.S.Space space.old space.new }
-        ensures stays { StaysMap file_of sort numbers region gets self.old self.new }
+        ensures stays { StaysMap file_of sort numbers region lead gets self.old self.new }
         ensures tight { KeepsTight tight self.old self.new }
         ensures steps { steps.old ≤ steps.new }
         ensures cause { Blames Self.S.Space result space.old space.new };
 
     /// Gives the region other bytes, which `settle` brings to the file.
     fn set_opaque(&mut self, bytes: &[u8; 128])
-        ensures sets { SetsRegion file_of sort numbers region gets bytes.now self.old self.new }
+        ensures sets { SetsRegion file_of sort numbers region lead gets bytes.now self.old self.new }
         ensures means { (file : List ℕ) (m : Map) → holds self.old file m → holds self.new file m }
         ensures tight { KeepsTight tight self.old self.new };
 
@@ -151,7 +154,7 @@ pub trait Records {
         ensures refused { RefusesIn Self.S.Space file_of holds result self.old self.new space.old space.new }
         ensures full { OnlyLogIsFull Self.S.Space result space.new }
         ensures keeps { Keeps Self.S.Space space.old space.new }
-        ensures stays { StaysMap file_of sort numbers region gets self.old self.new }
+        ensures stays { StaysMap file_of sort numbers region lead gets self.old self.new }
         ensures cause { OnFault Self.S.Space result space.old space.new };
 
     /// Takes all keys out, and leaves nothing free in the file. The region stays. It is full only where the undo log is.
@@ -162,7 +165,7 @@ pub trait Records {
         ensures refused { RefusesIn Self.S.Space file_of holds result self.old self.new space.old space.new }
         ensures full { OnlyLogIsFull Self.S.Space result space.new }
         ensures keeps { Keeps Self.S.Space space.old space.new }
-        ensures stays { StaysMap file_of sort numbers region gets self.old self.new }
+        ensures stays { StaysMap file_of sort numbers region lead gets self.old self.new }
         ensures cause { OnFault Self.S.Space result space.old space.new };
 
     /// Packs the file, in the form that it has or in the large one. The map and the region stay. In the form that it has it is full only where the undo log is.
@@ -173,7 +176,7 @@ pub trait Records {
         ensures refused { RefusesIn Self.S.Space file_of holds result self.old self.new space.old space.new }
         ensures full { IsErrOf result RecErr.Full → FullPack Self.S.Space lacks_large form self.old space.old space.new }
         ensures keeps { Keeps Self.S.Space space.old space.new }
-        ensures stays { PacksMap Self.S.flag file_of sort numbers region gets form result self.old self.new space.new }
+        ensures stays { PacksMap Self.S.flag file_of sort numbers region lead gets form result self.old self.new space.new }
         ensures cause { OnFault Self.S.Space result space.old space.new };
 
     /// A block that wasn't to be had isn't to be had in the space that was given up since.

@@ -1,4 +1,4 @@
-ghost use Rattle.std.specs.Prelude.{◌≡◌, ◌+◌, ◌-◌, ◌^◌, ◌≤◌, ◌⊎◌, true, false, Bool, ℕ, length, take, drop, min, is_some, OnOk, OnErr, Option, Some, is_ok, if◌then◌else◌};
+ghost use Rattle.std.specs.Prelude.{◌≡◌, ◌+◌, ◌-◌, ◌^◌, ◌≤◌, ◌⊎◌, true, false, Bool, ℕ, length, take, drop, min, is_some, OnOk, OnErr, IsErrOf, ◌<◌, Option, Some, is_ok, if◌then◌else◌};
 ghost use Rattle.tc_base.specs.Files.{Files, wrote};
 ghost use Rattle.tc_base.specs.Labels.{is_label};
 ghost use Rattle.tc_io.specs.Causes.{Rose};
@@ -53,6 +53,9 @@ pub trait Space {
     /// The undo log is so long that it may have had no room.
     ghost log_full: { Self → Type 0 };
 
+    /// All that it tells of its files now is where it keeps them.
+    ghost brought: { Self → Type 0 };
+
     /// How many bytes were asked for by reads, up to the greatest number.
     ghost bytes_read: { Self → ℕ };
 
@@ -91,6 +94,7 @@ pub trait Space {
         ensures touches { Touches touched bytes_read self.old self.new }
         ensures room { OnOk result (Passes (limit self.old file) (overfills self.old file at (length bytes.now)) at (length bytes.now) → ⊥) }
         ensures full { IsFull tells now result (LacksRoom limit overfills log_full file at (length bytes.now) self.old self.new) self.old self.new }
+        ensures brought { IsErrOf result SpaceErr.Full → limit self.old file < at + length bytes.now → brought self.new }
         ensures cause { Caused faults result self.old self.new };
 
     /// Shortens a data file to a length. It takes no memory.
@@ -141,7 +145,19 @@ pub trait Space {
         ensures touched { touched self.new ≡ touched self.old }
         ensures counted { bytes_read self.new ≡ bytes_read self.old }
         ensures faults { faults self.new ≡ faults self.old }
-        ensures log { log_full self.old → log_full self.new };
+        ensures log { log_full self.old → log_full self.new }
+        ensures brought { brought self.old → brought self.new };
+
+    /// Gives it up for want of room: what it holds is brought to where it keeps its files, unless a call of the volume fails. The kept files stay.
+    fn give_up(&mut self) -> Result<(), Fault>
+        requires sound { sound self.old }
+        ensures spoiled { flag self.new ≡ false }
+        ensures brought { OnOk result (brought self.new) }
+        ensures now { OnOk result (tells → (g : ℕ) → now self.new g ≡ now self.old g) }
+        ensures stays { Stays tells moment files_at left kept faults limit names self.old self.new }
+        ensures touched { touched self.new ≡ touched self.old }
+        ensures counted { bytes_read self.new ≡ bytes_read self.old }
+        ensures cause { OnErr result (Rose (faults self.old) (faults self.new)) };
 
     /// While it is sound a stop leaves the kept files and nothing else.
     ghost only_kept: { (s : Self) (o : Option Files) → tells → sound s → left s (moment s) o → o ≡ kept s };

@@ -60,6 +60,9 @@ pub trait Batched: Space {
     /// A log that is half full may have had no room.
     ghost half: { (s : Self) → Self.sound s → 2 ^ 61 ≤ logged s → Self.log_full s };
 
+    /// It holds nothing back.
+    ghost all: { (s : Self) → Self.brought s };
+
     /// Where there is no room for a range there is none for as many bytes.
     ghost no_room: { (s : Self) (f at size : ℕ) → Self.overfills s f at size → 2 ^ 62 < logged s + needs size };
 }

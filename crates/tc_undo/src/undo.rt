@@ -114,6 +114,8 @@ impl<V: Volume> Space for Undo<V> {
 
     ghost log_full = { λ s. V.tells → 2 ^ 61 ≤ length (reads_now (V.calls s.vol) 1) };
 
+    ghost brought = { λ s. Unit {0} };
+
     ghost bytes_read = { λ s. s.read };
 
     ghost faults = { λ s. V.faults s.vol };
@@ -226,6 +228,12 @@ impl<V: Volume> Space for Undo<V> {
     fn spoil(&mut self) {
         self.sound = false;
     }
+
+    /// It calls nothing of the volume: nothing is held back.
+    fn give_up(&mut self) -> Result<(), Fault> {
+        self.sound = false;
+        Ok(())
+    }
 }
 
 impl<V: Volume> Batched for Undo<V> {
@@ -240,6 +248,8 @@ impl<V: Volume> Batched for Undo<V> {
     ghost small = { λ s file sound is. usable_small V.tells (V.calls s.vol) s.touched s.log s.lens s.limits sound.1 file };
 
     ghost half = { λ s sound is t. usable_half V.tells (V.calls s.vol) s.touched s.log s.lens s.limits t sound.1 is };
+
+    ghost all = { λ s. tt };
 
     ghost no_room = { λ s f at size is. overfills_needs s.log.active s.log.end s.log.recorded s.lens f at size is };
 

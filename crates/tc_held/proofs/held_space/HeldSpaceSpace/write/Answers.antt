@@ -1,21 +1,62 @@
-use Rattle.std.proofs.Common.{◌∙◌, ℕ, List, ap, arith, refl, sym, ⊎_elim}
+use Rattle.std.proofs.Common.{◌≡◌, ◌∙◌, ℕ, List, ap, arith, inl, inr, refl, sym, ⊎_elim}
 use Rattle.tc_base.specs.Files.{wrote}
 use Rattle.tc_space.specs.Frames.{keeps_refl}
+use Rattle.tc_space.specs.declared.errors.SpaceErr.TheVariants.{Fault, Full, Memory}
 use Rattle.tc_held.specs.Lengths.{shown_is}
 use Rattle.tc_held.proofs.History.{on_off, rises_told, stays_told}
-use Rattle.tc_held.proofs.Shown.{reaches_over}
+use Rattle.tc_held.proofs.Shown.{over_shown, reaches_over, shown_through}
 use Rattle.tc_held.proofs.held_space.HeldSpaceSpace.write.Goals as goal
 
 pub put-requires-clause-reaches : goal.put-requires-clause-reaches
 put-requires-clause-reaches g c = let old = c.args.self.now in
     reaches_over g.S.Space g.S.Batched.logged old.below old.held c.requires.sound.held_is c.args.file c.args.at c.requires.reaches
 
-pub returns-then-not-fits-clause-stays : goal.returns-then-not-fits-clause-stays
-returns-then-not-fits-clause-stays g c =
+pub has_room-requires-clause-small : goal.has_room-requires-clause-small
+has_room-requires-clause-small g c = omega (arith, c.ends_within.ensures.within c.if-not-ends_within.false, g.met.S.Batched.small c.args.self.now.below c.args.file c.requires.sound.below_is c.requires.reaches.file)
+
+pub returns-then-not-ends_within-clause-stays : goal.returns-then-not-ends_within-clause-stays
+returns-then-not-ends_within-clause-stays g c =
+    stays_told g.S.Space (λ s. s.stood.items) (λ s. s.below) (λ s. s.held) c.args.self.now _ (ap (λ s. s.stood.items) c.refuse.ensures.same ∙ c.and.ensures) g.met.S.Space.earlier c.requires.sound.rises c.refuse.ensures.keeps
+
+pub returns-then-not-ends_within-clause-outcome : goal.returns-then-not-ends_within-clause-outcome
+returns-then-not-ends_within-clause-outcome g c = record { ok = tt; err = ap (λ s. s.good) c.refuse.ensures.same }
+
+pub returns-then-not-ends_within-clause-touches : goal.returns-then-not-ends_within-clause-touches
+returns-then-not-ends_within-clause-touches g c = record { marked = ap (λ s. s.touched) c.refuse.ensures.same; same_read = ap (λ s. s.read) c.refuse.ensures.same }
+
+pub returns-then-not-ends_within-clause-full : goal.returns-then-not-ends_within-clause-full
+returns-then-not-ends_within-clause-full g c = λ full.
+    let s = g.S.Space in
+    let old = c.args.self.now in
+    let new = c.refuse.new.self in
+    let e : c.refuse.result ≡ Full = cc in
+    let b = c.refuse.ensures.full e in
+    record {
+      by = inl (c.ends_within.ensures.past c.if-not-ends_within.true);
+      same = λ t h. shown_through old.held new.held (s.now old.below) (s.now new.below) h b.none (b.same t h ∙ over_shown s g.S.Batched.logged old.below old.held c.requires.sound.held_is t h);
+    }
+
+pub returns-then-not-ends_within-clause-brought : goal.returns-then-not-ends_within-clause-brought
+returns-then-not-ends_within-clause-brought g c = λ full past. let e : c.refuse.result ≡ Full = cc in ((c.refuse.ensures.full e).none, g.met.S.Batched.all c.refuse.new.self.below)
+
+pub returns-then-not-ends_within-clause-cause : goal.returns-then-not-ends_within-clause-cause
+returns-then-not-ends_within-clause-cause g c = ((λ is. let e : c.refuse.result ≡ Fault = cc in c.refuse.ensures.fault e), (λ is. let e : c.refuse.result ≡ Memory = cc in c.refuse.ensures.which e))
+
+pub returns-then-not-has_room-clause-stays : goal.returns-then-not-has_room-clause-stays
+returns-then-not-has_room-clause-stays g c =
     stays_told g.S.Space (λ s. s.stood.items) (λ s. s.below) (λ s. s.held) c.args.self.now _ c.and.ensures g.met.S.Space.earlier c.requires.sound.rises (keeps_refl g.S.Space c.args.self.now.below)
 
-pub returns-then-not-fits-clause-full : goal.returns-then-not-fits-clause-full
-returns-then-not-fits-clause-full g c = λ _. record { by = c.fits.ensures.lacks c.if-not-fits.true; same = λ t h. refl }
+pub returns-then-not-has_room-clause-full : goal.returns-then-not-has_room-clause-full
+returns-then-not-has_room-clause-full g c = λ _.
+    let below = c.args.self.now.below in
+    let high = c.has_room.ensures.none c.if-not-has_room.true in
+    record {
+      by = inr (high, g.met.S.Batched.half below c.requires.sound.below_is (omega (arith, high, c.ends_within.ensures.within c.if-not-ends_within.false, g.met.S.Batched.small below c.args.file c.requires.sound.below_is c.requires.reaches.file)));
+      same = λ t h. refl;
+    }
+
+pub returns-then-not-has_room-clause-brought : goal.returns-then-not-has_room-clause-brought
+returns-then-not-has_room-clause-brought g c = λ full past. absurd (omega (arith, past, c.ends_within.ensures.within c.if-not-ends_within.false))
 
 pub returns-in-Ok-clause-stays : goal.returns-in-Ok-clause-stays
 returns-in-Ok-clause-stays g c =
@@ -52,5 +93,5 @@ returns-in-Ok-clause-wrote g c = λ t.
 
 pub returns-in-Ok-clause-room : goal.returns-in-Ok-clause-room
 returns-in-Ok-clause-room g c = λ passes.
-    let room = c.fits.ensures.fits c.if-not-fits.false in
-    ⊎_elim (λ high. omega (arith, high, room.0)) (λ full. omega (arith, full, room.1)) passes
+    let room = c.has_room.ensures.room c.if-not-has_room.false in
+    ⊎_elim (λ high. omega (arith, high, c.ends_within.ensures.within c.if-not-ends_within.false)) (λ full. omega (arith, full, room)) passes
