@@ -22,6 +22,14 @@ along P h' h f' f eh ef x = subst (λ (z : Head). P z f') (sym eh) (subst (λ (n
 pub err_as : {A B E : Type 0} (e x : E) → IsErrOf {T = A} (Err e) x → IsErrOf {T = B} (Err e) x
 err_as e x is = let same : e ≡ x = cc in λ i. Err (same i)
 
+-- an error that is answered is that one
+pub err_inner : {A B : Type 0} (e x : B) → IsErrOf {T = A} (Err e) x → e ≡ x
+err_inner e x is = cc
+
+-- and the other way round
+pub err_of : {A B : Type 0} (e x : B) → e ≡ x → IsErrOf {T = A} (Err e) x
+err_of e x is = λ i. Err (is i)
+
 pub head_long : (size : ℕ) → length (free_head size) ≡ 5
 unfolding free_head
 head_long size = omega (arith, length-le_bytes 4 size)

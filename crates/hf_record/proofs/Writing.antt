@@ -14,7 +14,7 @@ use Rattle.hf_head.specs.declared.head.Head.{Head}
 use Rattle.hf_head.specs.Heads.{IsValid, is_large, unit}
 use Rattle.hf_block.specs.Heads.{free_head}
 use Rattle.hf_block.specs.Pieces.{Record, Piece, held, spell, size_of, IsWhole}
-use Rattle.hf_layout.specs.Frees.{Frees, IsBest, with_block, without, none}
+use Rattle.hf_layout.specs.Frees.{Frees, HasNone, IsBest, with_block, without, none}
 use Rattle.hf_layout.specs.Layout.{record_of, record_at, frees_of, HasBlock, IsShared, LaidOut, TakesBack, Writes}
 use Rattle.hf_layout.proofs.Chains.{front_stays}
 use Rattle.hf_layout.proofs.Places.{behind}
@@ -207,18 +207,18 @@ taken_same most u first old new place size ps before middle same aligned l (inl 
 ]
 taken_same most u first old new place size ps before middle same aligned l (inr g) cut = ap length (cut.same g.none)
 
--- the place can't be named, or the file is too long
-pub no_room : (h : Head) (u first : ℕ) (old new : Pool) (place size limit long : ℕ) (log : Type 0) (ps : List Piece) (before : List ℕ) → LaidOut u first old.size ps (frees old) none before → old.size ≤ 2 ^ 40 → old.size ≤ long → Takes (reach h) old new size place → (2 ^ 40 < new.size) ⊎ ((is_large h ≡ false) × (2 ^ 32 ≤ place / unit h)) → HasNoRoom h old.size (frees old) limit long log size
-no_room h u first old new place size limit long log ps before l low on (inl (found, t)) (inl past) = absurd (omega (arith, past, t.end, low))
-no_room h u first old new place size limit long log ps before l low on (inl (found, t)) (inr far) = absurd (let p = past h place far.1 in omega (arith, p, t.best.below, reach_small h far.0))
-no_room h u first old new place size limit long log ps before l low on (inr g) (inl past) = inl (on, inr (record { none = g.none; past = inr (omega (arith, past, g.end)) }))
-no_room h u first old new place size limit long log ps before l low on (inr g) (inr far) = inl (on, inl (record { small = far.0; none = g.none; far = (let p = past h place far.1 in omega (arith, p, g.at)) }))
+-- the place can't be named, or the file is too long; then no free block was taken, and the file is as it was
+pub no_room : (h : Head) (u first : ℕ) (old new : Pool) (place size limit long : ℕ) (still log : Type 0) (ps : List Piece) (before : List ℕ) → LaidOut u first old.size ps (frees old) none before → old.size ≤ 2 ^ 40 → old.size ≤ long → (HasNone (frees old) (reach h) size → still) → Takes (reach h) old new size place → (2 ^ 40 < new.size) ⊎ ((is_large h ≡ false) × (2 ^ 32 ≤ place / unit h)) → HasNoRoom h old.size (frees old) limit long still log size
+no_room h u first old new place size limit long still log ps before l low on still_is (inl (found, t)) (inl past) = absurd (omega (arith, past, t.end, low))
+no_room h u first old new place size limit long still log ps before l low on still_is (inl (found, t)) (inr far) = absurd (let p = past h place far.1 in omega (arith, p, t.best.below, reach_small h far.0))
+no_room h u first old new place size limit long still log ps before l low on still_is (inr g) (inl past) = inl (still_is g.none, (on, inr (record { none = g.none; past = inr (omega (arith, past, g.end)) })))
+no_room h u first old new place size limit long still log ps before l low on still_is (inr g) (inr far) = inl (still_is g.none, (on, inl (record { small = far.0; none = g.none; far = (let p = past h place far.1 in omega (arith, p, g.at)) })))
 
 -- the file grows past its limit
-pub too_long : (h : Head) (u first : ℕ) (old new : Pool) (place size limit long : ℕ) (log : Type 0) (ps : List Piece) (before : List ℕ) → LaidOut u first old.size ps (frees old) none before → Takes (reach h) old new size place → length before ≤ limit → old.size ≤ long → Passes limit log place size → HasNoRoom h old.size (frees old) limit long log size
-too_long h u first old new place size limit long log ps before l taken within on (inr full) = inr full
-too_long h u first old new place size limit long log ps before l (inl (found, t)) within on (inl past) = absurd (let inside = pool_lies_inside u first old.size ps (frees old) none before l place found t.best.there in omega (arith, inside, t.best.enough, within, past))
-too_long h u first old new place size limit long log ps before l (inr g) within on (inl past) = inl (on, inr (record { none = g.none; past = inl (omega (arith, past, g.at)) }))
+pub too_long : (h : Head) (u first : ℕ) (old new : Pool) (place size limit long : ℕ) (still log : Type 0) (ps : List Piece) (before : List ℕ) → LaidOut u first old.size ps (frees old) none before → Takes (reach h) old new size place → length before ≤ limit → old.size ≤ long → (HasNone (frees old) (reach h) size → limit < place + size → still) → Passes limit log place size → HasNoRoom h old.size (frees old) limit long still log size
+too_long h u first old new place size limit long still log ps before l taken within on still_is (inr full) = inr full
+too_long h u first old new place size limit long still log ps before l (inl (found, t)) within on still_is (inl past) = absurd (let inside = pool_lies_inside u first old.size ps (frees old) none before l place found t.best.there in omega (arith, inside, t.best.enough, within, past))
+too_long h u first old new place size limit long still log ps before l (inr g) within on still_is (inl past) = inl (still_is g.none past, (on, inr (record { none = g.none; past = inl (omega (arith, past, g.at)) })))
 
 -- ---- over the block of a record
 

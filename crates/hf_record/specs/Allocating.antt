@@ -49,12 +49,6 @@ pub record Moves (most size place : ℕ) (was : ℕ × ℕ) (old new : Pool) : T
   pub gives : Gives was.0 was.1 old middle
   pub takes : Takes most middle new size place
 
--- the free blocks from which the block of a put's record is taken, by the one that the key's record had: as they are, or with that one given back, since it
--- is too small
-abbrev pub TakesFrom : ℕ → Option (ℕ × ℕ) → Pool → Pool → Type 0
-TakesFrom size None old new = new ≡ old
-TakesFrom size (Some was) old new = (was.1 < size) × Gives was.0 was.1 old new
-
 -- the block of a put's record, by the one that the key's record had, if it had one; a free block is taken only where it begins below a place
 abbrev pub Allocates : ℕ → ℕ → ℕ → Option (ℕ × ℕ) → Pool → Pool → Type 0
 Allocates most size place None old new = Takes most old new size place

@@ -1,5 +1,6 @@
 -- The steps of a put and of an out.
 use Rattle.std.specs.Prelude.{◌≡◌, ◌⊎◌, ℕ, ◌+◌, ◌^◌, ◌≤◌, ◌<◌, ◌%◌, List, length, Some, None, if◌then◌else◌, ◌==◌, take}
+use Rattle.tc_space.specs.Frames.{Brought}
 use Rattle.tc_space.specs.declared.space.Space.{Ghosts}
 use Rattle.hf_head.specs.declared.head.Head.{Head}
 use Rattle.hf_block.specs.Pieces.{Record, Piece, IsSize, IsWhole, held, spell, size_of}
@@ -63,10 +64,10 @@ pub record Gives (at long : ℕ) (old new : Pool) : Type 0 where
 pub record IsBlockAt (h : Head) (at size : ℕ) (bytes : List ℕ) : Type 0 where
   pub is : (r : Record) → HasRecord h r at bytes → size ≡ size_of (held r)
 
--- no block of so many bytes is to be had: the blocks end within the file, which has so many bytes, and the place for it is too far, or the file grows too
--- long by it; or the undo log is full
-abbrev pub HasNoRoom : Head → ℕ → Frees → ℕ → ℕ → Type 0 → ℕ → Type 0
-HasNoRoom h end free limit long log_is_full b = ((end ≤ long) × (IsTooFar h end b free ⊎ IsTooLong h limit end b free)) ⊎ log_is_full
+-- no block of so many bytes is to be had: the blocks end within the file, which has so many bytes and is as it was, and the place for it is too far, or the file
+-- grows too long by it; or the undo log is full
+abbrev pub HasNoRoom : Head → ℕ → Frees → ℕ → ℕ → Type 0 → Type 0 → ℕ → Type 0
+HasNoRoom h end free limit long still log_is_full b = (still × ((end ≤ long) × (IsTooFar h end b free ⊎ IsTooLong h limit end b free))) ⊎ log_is_full
 
 -- the same without the log; or it is larger than a block may be
 abbrev pub IsRefusedFor : Head → ℕ → Frees → ℕ → ℕ → ℕ → Type 0
@@ -78,8 +79,8 @@ module _ {S : Type 0} (s : Ghosts S) where
   HasRoom b at room space = s.tells → IsBlockAt b.head at room (s.now space b.file)
 
   -- so it is with the free blocks that are held in memory, as the space stands
-  abbrev pub LacksPlace : Body → S → ℕ → Type 0
-  LacksPlace b space size = HasNoRoom b.head b.pool.size (frees b.pool) (s.limit space b.file) (length (s.now space b.file)) (s.log_full space) size
+  abbrev pub LacksPlace : Body → S → S → ℕ → Type 0
+  LacksPlace b old space size = HasNoRoom b.head b.pool.size (frees b.pool) (s.limit space b.file) (length (s.now space b.file)) (Brought s b.file old space) (s.log_full space) size
 
-  abbrev pub LacksRoom : Body → S → ℕ → Type 0
-  LacksRoom b space size = s.log_full space ⊎ IsRefusedFor b.head b.pool.size (frees b.pool) (s.limit space b.file) (length (s.now space b.file)) size
+  abbrev pub LacksRoom : Body → S → S → ℕ → Type 0
+  LacksRoom b old space size = s.log_full space ⊎ (Brought s b.file old space × IsRefusedFor b.head b.pool.size (frees b.pool) (s.limit space b.file) (length (s.now space b.file)) size)

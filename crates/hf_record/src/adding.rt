@@ -12,7 +12,7 @@ ghost use Rattle.hf_record.specs.Moves.{LacksPlace};
 use crate::body::Body;
 use hf_head::Head;
 use tc_base::{FILE_MOST, SMALL_STARTS};
-use tc_reach::{give_up, write_at};
+use tc_reach::{full_in, give_up, write_at};
 use tc_space::{RecErr, Space};
 
 // Whether a chain can name a place.
@@ -57,7 +57,7 @@ impl Body {
         ensures stays { StaysBody self.old self.new }
         ensures outcome { Outcome S.sound S.flag result space.new }
         ensures writes { OnlyWrites S.Space space.old space.new }
-        ensures full { IsErrOf result RecErr.Full → S.tells → LacksPlace S.Space self.old space.new (length bytes.now) }
+        ensures full { IsErrOf result RecErr.Full → S.tells → LacksPlace S.Space self.old space.old space.new (length bytes.now) }
         ensures cause { OnFault S.Space result space.old space.new }
     {
         // no file whose bytes are told has more
@@ -68,8 +68,7 @@ impl Body {
         let most = reach(&self.head);
         let place = self.pool.take(space, self.file, bytes.len() as u64, most)?;
         if !has_room(&self.head, place, self.pool.size()) {
-            give_up(space);
-            return Err(RecErr::Full);
+            return Err(full_in(space));
         }
         write_at(space, self.file, place, bytes)?;
         Ok(place)

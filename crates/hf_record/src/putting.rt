@@ -11,7 +11,7 @@ ghost use Rattle.hf_record.specs.Searching.{HasFound, IsGap};
 use crate::body::Body;
 use hf_chain::{Parent, Place, hang};
 use tc_base::second_hash;
-use tc_reach::{give_up, write_at};
+use tc_reach::{give_up, refused_for, write_at};
 use tc_space::{RecErr, Space};
 
 // Whether so many bytes from a place on end by another place.
@@ -36,15 +36,12 @@ impl Body {
         ensures stays { StaysBody self.old self.new }
         ensures refused { OnErr result (S.flag space.new ≡ false) }
         ensures writes { OnlyWrites S.Space space.old space.new }
-        ensures full { IsErrOf result RecErr.Full → S.tells → LacksRoom S.Space self.old space.new (size_in self.old key.now value.now) }
+        ensures full { IsErrOf result RecErr.Full → S.tells → LacksRoom S.Space self.old space.old space.new (size_in self.old key.now value.now) }
         ensures cause { OnFault S.Space result space.old space.new }
     {
         let bytes = match self.spell(second_hash(key), 0, 0, key, value) {
             Ok(bytes) => bytes,
-            Err(e) => {
-                give_up(space);
-                return Err(e);
-            }
+            Err(e) => return Err(refused_for(space, e)),
         };
         let place = self.add(space, bytes.as_slice())?;
         hang(space, self.file, &self.head, place, to)?;

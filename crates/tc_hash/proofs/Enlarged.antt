@@ -146,10 +146,11 @@ options_one h large = elim (cases_eq h.options 1) [
 -- ---- one put after the other
 
 module _ {S : Type 0} (s : Ghosts S) where
-  pub lacks_end : (v w : Hash S) (b : S) (end : ℕ) (key key' value value' : List ℕ) → key' ≡ key → value' ≡ value → StaysOpen v w → ((q : ℕ) → frees_in w.body.pool q ≡ None) → w.body.pool.size ≡ end → LacksRoom s w.body b (size_for w key' value') → s.log_full b ⊎ LacksEnd s v.body.head v.body.file end b key value
-  lacks_end v w b end key key' value value' ek ev stays nothing ends lacks = ⊎_elim
+  pub lacks_end : (v w : Hash S) (b : S) (end : ℕ) (key key' value value' : List ℕ) → key' ≡ key → value' ≡ value → StaysOpen v w → ((q : ℕ) → frees_in w.body.pool q ≡ None) → w.body.pool.size ≡ end → (a : S) → LacksRoom s w.body a b (size_for w key' value') → s.log_full b ⊎ LacksEnd s v.body.head v.body.file end b key value
+  lacks_end v w b end key key' value value' ek ev stays nothing ends a lacks = ⊎_elim
       (λ log. inl log)
       (λ none. inr (record {
+        brought = none.0.brought;
         free = frees_in w.body.pool;
         nothing = nothing;
         refused =
@@ -157,7 +158,7 @@ module _ {S : Type 0} (s : Ghosts S) where
             (subst (λ (k : List ℕ). IsRefusedFor v.body.head w.body.pool.size (frees_in w.body.pool) (s.limit b v.body.file) (length (s.now b v.body.file)) (block_len (width v.body.head) k value (unit v.body.head))) ek
             (subst (λ (x : List ℕ). IsRefusedFor v.body.head w.body.pool.size (frees_in w.body.pool) (s.limit b v.body.file) (length (s.now b v.body.file)) (block_len (width v.body.head) key' x (unit v.body.head))) ev
             (subst (λ (h : Head). IsRefusedFor h w.body.pool.size (frees_in w.body.pool) (s.limit b v.body.file) (length (s.now b v.body.file)) (block_len (width h) key' value' (unit h))) stays.head
-            (subst (λ (f : ℕ). IsRefusedFor w.body.head w.body.pool.size (frees_in w.body.pool) (s.limit b f) (length (s.now b f)) (size_for w key' value')) stays.map.file none))));
+            (subst (λ (f : ℕ). IsRefusedFor w.body.head w.body.pool.size (frees_in w.body.pool) (s.limit b f) (length (s.now b f)) (size_for w key' value')) stays.map.file none.1))));
       }))
       lacks
 

@@ -88,7 +88,7 @@ module _ {S : Type 0} (s : Ghosts S) where
   settled_stands v v' a b head region done m w =
       let x = done.brought w.0 m w.1 in
       subst (λ (r : List ℕ). StandsAs v.body.head.kind (numbers_of v) (s.now b v.body.file) m r) region
-      (subst (λ (h : Head). StandsAs h.kind (numbers_in h) (s.now b v.body.file) m v'.region) head (record { file = x.stands; numbers_are = ap numbers_in (sym x.stands.is.opens.spells.fields ∙ x.head) }))
+      (subst (λ (h : Head). StandsAs h.kind (numbers_in h) (s.now b v.body.file) m v'.region) head (record { file = x.stands; numbers_are = ap numbers_in (sym x.stands.is.opens.spells.fields ∙ x.head); long = (done.front w.0).long ∙ sym (ap (λ (h : Head). h.size) (sym x.stands.is.opens.spells.fields ∙ x.head)) }))
 
   -- the blocks that were listed were packed
   pub packs_blocks : (h : Head) (file : ℕ) (a b c : S) (blocks : List BlockAt) (end : ℕ) → OnlyReads s a b → OfBlocks s h file a (λ ps. AreListed h ps (s.now b file) blocks) → Packs s h file blocks b c end → OfBlocks s h file a (λ ps. IsRepacked h end ps (s.now a file) (s.now c file))

@@ -8,7 +8,7 @@ use Rattle.tc_base.specs.Maps.{Map}
 use Rattle.tc_base.specs.declared.kind.Mode.{Mode}
 use Rattle.tc_base.specs.declared.kind.Mode.TheVariants.{Over, Keep, Cat}
 use Rattle.tc_space.specs.Changes.{out_of, put_in, put_value}
-use Rattle.tc_space.specs.Frames.{OnlyReads, Others, others_then}
+use Rattle.tc_space.specs.Frames.{Brought, OnlyReads, Others, others_then}
 use Rattle.tc_space.specs.Stores.{FullPut, Only}
 use Rattle.tc_space.specs.declared.space.Space.{Ghosts}
 use Rattle.hf_head.specs.declared.head.Head.{Head}
@@ -21,7 +21,7 @@ use Rattle.hf_tree.specs.Links.{width}
 use Rattle.hf_record.specs.Allocating.{Allocates, HoldsAt, HoldsWritten, Shortens, Stands}
 use Rattle.hf_record.specs.Changing.{MapsBy, PutsAt, PutsNew, StaysBody}
 use Rattle.hf_record.specs.Costs.{Edits, FewBeside}
-use Rattle.hf_record.specs.Holding.{Has}
+use Rattle.hf_record.specs.Holding.{Has, HasMap}
 use Rattle.hf_record.specs.Filling.{reach}
 use Rattle.hf_record.specs.Moves.{Gives, HasRoom, IsRefusedFor, LacksRoom}
 use Rattle.hf_record.specs.Searching.{IsFound, IsGap}
@@ -30,7 +30,8 @@ use Rattle.hf_record.proofs.Maps.{insert_again, remove_here}
 use Rattle.hf_record.proofs.Records.{count_in, count_out, count_same, no_value, stood}
 use Rattle.hf_record.proofs.Valid.{is_valid}
 use Rattle.tc_hash.specs.declared.hash.Hash.{Hash}
-use Rattle.tc_hash.specs.Keeping.{GivesNew, GivesValue, IsPlaced, LacksBlock, LacksRecordOf, Means, StaysOpen, TakesRecord, WantsBlock, size_for}
+use Rattle.tc_hash.specs.Holding.{IsNumbered}
+use Rattle.tc_hash.specs.Keeping.{GivesNew, GivesValue, IsPlaced, HasNoBlock, LacksBlock, LacksIts, LacksRecordOf, Means, StaysOpen, TakesRecord, size_for}
 use Rattle.tc_hash.specs.Putting.{LacksFor}
 use Rattle.tc_hash.proofs.Records.{looks_again, turned, turns_after}
 
@@ -110,21 +111,10 @@ module _ {S : Type 0} (s : Ghosts S) where
   pub new_after : (key value : List ℕ) (v v' : Hash S) (a b c : S) → OnlyReads s a b → GivesNew s key value v v' b c → GivesNew s key value v v' a c
   new_after key value v v' a b c r g = record { gives = gives_after Over key value 13 v v' a b c r g.gives; place = g.place; takes = g.takes }
 
-  wants_after : (key : List ℕ) (v : Hash S) (a b c : S) (m : Map) (size : ℕ) → s.tells → OnlyReads s a b → WantsBlock s v key m b c size → WantsBlock s v key m a c size
-  wants_after key v a b c m size t r (inl big) = inl big
-  wants_after key v a b c m size t r (inr lacks) = inr (record {
-    was = lacks.was;
-    stood = subst (λ (l : List ℕ). Stands v.body.head v.body.pool.size (frees v.body.pool) m key l lacks.was) (r.files t v.body.file) lacks.stood;
-    pool = lacks.pool;
-    since = lacks.since;
-    inside = lacks.inside;
-    refused = lacks.refused;
-  })
-
   pub lacks_after : (mode : Mode) (key value : List ℕ) (v : Hash S) (a b c : S) → OnlyReads s a b → LacksBlock s mode key value v b c → LacksBlock s mode key value v a c
   lacks_after mode key value v a b c r l = record {
     spoiled = l.spoiled;
-    wants = λ m w. ⊎_elim (λ log. inl log) (λ wants. inr (wants_after key v a b c m _ w.0 r wants)) (l.wants m ((looks_again s v a b r).means m w));
+    wants = λ m w. l.wants m ((looks_again s v a b r).means m w);
   }
 
   -- the value that was given is the one that the mode makes
@@ -141,21 +131,38 @@ module _ {S : Type 0} (s : Ghosts S) where
   }
 
   pub lacks_as : (mode : Mode) (key value x : List ℕ) (v : Hash S) (a b : S) → ((m : Map) → Means s v a m → x ≡ put_value mode (get m key) value) → LacksBlock s Over key x v a b → LacksBlock s mode key value v a b
-  lacks_as mode key value x v a b each l = record { spoiled = l.spoiled; wants = λ m w. subst (λ (y : List ℕ). s.log_full b ⊎ WantsBlock s v key m a b (size_for v key y)) (each m w) (l.wants m w) }
+  lacks_as mode key value x v a b each l = record { spoiled = l.spoiled; wants = λ m w. subst (λ (y : List ℕ). s.log_full b ⊎ LacksIts s v key m b (size_for v key y)) (each m w) (l.wants m w) }
 
-  -- no block for a key that isn't held, from the free blocks that there were
-  pub lacks_fresh : (key value : List ℕ) (v : Hash S) (a b : S) → s.flag b ≡ false → ((m : Map) → Means s v a m → get m key ≡ None) → (s.tells → LacksRoom s v.body b (size_for v key value)) → LacksBlock s Over key value v a b
-  lacks_fresh key value v a b spoiled none l = record {
+  -- none is to be had in a file that is as it was, with the free blocks that are held in memory
+  no_block : (h : Hash S) (a b : S) (m : Map) (size : ℕ) → Means s h a m → s.now b h.body.file ≡ s.now a h.body.file → IsRefusedFor h.body.head h.body.pool.size (frees h.body.pool) (s.limit b h.body.file) (length (s.now b h.body.file)) size
+      → (x : HasNoBlock (s.limit b h.body.file) (s.now b h.body.file) h.body.head m size) × (x.own ≡ h.body.pool)
+  no_block h a b m size w same why =
+      let x : HasNoBlock (s.limit b h.body.file) (s.now b h.body.file) h.body.head m size = record {
+        own = h.body.pool;
+        has = subst (λ (bytes : List ℕ). HasMap h.body.head h.body.pool.size (frees h.body.pool) m bytes) (sym same) w.1.map.has;
+        numbers = subst (λ (bytes : List ℕ). IsNumbered h.body.head bytes) (sym same) w.1.numbers;
+        refused = why;
+      } in (x, refl)
+
+  -- with the map that is held
+  lacks_as_held : (key : List ℕ) (h : Hash S) (a b : S) (m : Map) (size : ℕ) → Means s h a m → Brought s h.body.file a b → IsRefusedFor h.body.head h.body.pool.size (frees h.body.pool) (s.limit b h.body.file) (length (s.now b h.body.file)) size → LacksIts s h key m b size
+  lacks_as_held key h a b m size w still why =
+      let none = no_block h a b m size w (still.same w.0) why in
+      record { brought = still.brought; held = m; kept = inl refl; none = none.0; stays = λ fresh. none.1 }
+
+  -- no block for a key that isn't held
+  pub lacks_fresh : (key value : List ℕ) (v : Hash S) (a b : S) → s.flag b ≡ false → (s.tells → LacksRoom s v.body a b (size_for v key value)) → LacksBlock s Over key value v a b
+  lacks_fresh key value v a b spoiled l = record {
     spoiled = spoiled;
-    wants = λ m w. ⊎_elim
-        (λ log. inl log)
-        (λ why. inr (⊎_elim (λ big. inl big) (λ room. inr (record { was = None; stood = none m w; pool = v.body.pool; since = refl; inside = room.0; refused = room.1 })) why))
-        (l w.0);
+    wants = λ m w. ⊎_elim (λ log. inl log) (λ why. inr (lacks_as_held key v a b m (size_for v key value) w why.0 why.1)) (l w.0);
   }
 
   -- the block would be too large
-  pub lacks_large : (mode : Mode) (key value : List ℕ) (v : Hash S) (a b : S) → s.flag b ≡ false → ((m : Map) → Means s v a m → 2 ^ 30 < size_for v key (put_value mode (get m key) value)) → LacksBlock s mode key value v a b
-  lacks_large mode key value v a b spoiled big = record { spoiled = spoiled; wants = λ m w. inr (inl (big m w)) }
+  pub lacks_large : (mode : Mode) (key value : List ℕ) (v : Hash S) (a b : S) → s.flag b ≡ false → Brought s v.body.file a b → ((m : Map) → Means s v a m → 2 ^ 30 < size_for v key (put_value mode (get m key) value)) → LacksBlock s mode key value v a b
+  lacks_large mode key value v a b spoiled still big = record {
+    spoiled = spoiled;
+    wants = λ m w. inr (lacks_as_held key v a b m (size_for v key (put_value mode (get m key) value)) w still (inl (big m w)));
+  }
 
   -- the log is full
   pub lacks_log : (mode : Mode) (key value : List ℕ) (v : Hash S) (a b : S) → s.flag b ≡ false → (s.tells → s.log_full b) → LacksBlock s mode key value v a b
@@ -281,20 +288,27 @@ module _ {S : Type 0} (s : Ghosts S) where
         };
   }
 
-  pub lacks_again : (key value : List ℕ) (at size : ℕ) (v w : Hash S) (a b c : S) → w.body.file ≡ v.body.file → s.flag c ≡ false → size < size_for v key value → ((m : Map) → Means s v a m → HoldsAt v.body.head v.body.pool.size (frees v.body.pool) m key at size (s.now a v.body.file))
-      → TakesRecord s key at size v w a b → (s.tells → LacksRoom s w.body c (size_for w key value)) → LacksBlock s Over key value v a c
-  lacks_again key value at size v w a b c same spoiled few stood t l = record {
+  -- nor behind the one that gave its block back
+  pub lacks_again : (key value : List ℕ) (at size : ℕ) (v w : Hash S) (a b c : S) → w.body.file ≡ v.body.file → s.flag c ≡ false → ((m : Map) → Means s v a m → HoldsAt v.body.head v.body.pool.size (frees v.body.pool) m key at size (s.now a v.body.file))
+      → TakesRecord s key at size v w a b → (s.tells → LacksRoom s w.body b c (size_for w key value)) → LacksBlock s Over key value v a c
+  lacks_again key value at size v w a b c same spoiled stood t l = record {
     spoiled = spoiled;
     wants = λ m h. ⊎_elim
         (λ log. inl log)
-        (λ why. inr (⊎_elim (λ big. inl big) (λ room. inr (record { was = Some (at, size); stood = stood m h; pool = w.body.pool; since = (few, t.gives); inside = room.0; refused = room.1 })) (refused why)))
+        (λ why. inr (record {
+          brought = why.0.brought;
+          held = out_of key m;
+          kept = inr refl;
+          none = moved m (no_block w b c (out_of key m) (size_for w key value) (t.writes.means m h) (why.0.same h.0) why.1).0;
+          stays = λ fresh. absurd (let r = stood m h in let e : None ≡ Some r.r.value = sym fresh ∙ (r.has.is.map key r.r.value).1 (at, r.r, r.there, r.key_is, refl) in cc);
+        }))
         (l h.0);
   }
     where
-      refused : IsRefusedFor w.body.head w.body.pool.size (frees w.body.pool) (s.limit c w.body.file) (length (s.now c w.body.file)) (size_for w key value) → IsRefusedFor v.body.head w.body.pool.size (frees w.body.pool) (s.limit c v.body.file) (length (s.now c v.body.file)) (size_for v key value)
-      refused why =
-          subst (λ (x : Head). IsRefusedFor x w.body.pool.size (frees w.body.pool) (s.limit c v.body.file) (length (s.now c v.body.file)) (block_len (width x) key value (unit x))) t.head
-          (subst (λ (f : ℕ). IsRefusedFor w.body.head w.body.pool.size (frees w.body.pool) (s.limit c f) (length (s.now c f)) (size_for w key value)) same why)
+      moved : (m : Map) → HasNoBlock (s.limit c w.body.file) (s.now c w.body.file) w.body.head (out_of key m) (size_for w key value) → HasNoBlock (s.limit c v.body.file) (s.now c v.body.file) v.body.head (out_of key m) (size_for v key value)
+      moved m none =
+          subst (λ (x : Head). HasNoBlock (s.limit c v.body.file) (s.now c v.body.file) x (out_of key m) (block_len (width x) key value (unit x))) t.head
+          (subst (λ (f : ℕ). HasNoBlock (s.limit c f) (s.now c f) w.body.head (out_of key m) (size_for w key value)) same none)
 
 pub stays_then : {S : Type 0} (u v w : Hash S) → StaysOpen u v → StaysOpen v w → StaysOpen u w
 stays_then u v w first second = record {

@@ -1,6 +1,6 @@
 -- What a hash file that is held open keeps, and what calls on its records do.
-use Rattle.std.specs.Prelude.{◌≡◌, ◌⊎◌, ℕ, ◌+◌, ◌^◌, ◌<◌, ◌≤◌, false, List, length, max, take, Option}
-use Rattle.std.proofs.Common.{inl, inr, ⊎_elim, ap, subst, sym}
+use Rattle.std.specs.Prelude.{◌≡◌, ◌⊎◌, ℕ, ◌+◌, ◌≤◌, false, List, length, max, take, Option, None}
+use Rattle.std.proofs.Common.{ap, arith, refl, subst, sym}
 use Rattle.std.specs.FinMap.{get}
 use Rattle.tc_base.specs.Maps.{Map}
 use Rattle.tc_base.specs.declared.kind.Mode.{Mode}
@@ -9,18 +9,20 @@ use Rattle.tc_space.specs.Changes.{out_of, put_in, put_value}
 use Rattle.tc_space.specs.Frames.{GivenUp, In, Reads, Refuses, Writes}
 use Rattle.tc_space.specs.Stores.{CountsGet, IsReady, Only}
 use Rattle.tc_space.specs.declared.space.Space.{Ghosts}
+use Rattle.hf_head.specs.declared.head.Head.{Head}
 use Rattle.hf_head.specs.Heads.{head_in}
 use Rattle.hf_pool.specs.declared.pool.Pool.{Pool}
 use Rattle.hf_pool.specs.Pools.{Takes, frees}
-use Rattle.hf_record.specs.Allocating.{Allocates, HoldsAt, HoldsWritten, Stands, TakesFrom}
+use Rattle.hf_record.specs.Allocating.{Allocates, HoldsAt, HoldsWritten, Stands}
 use Rattle.hf_record.specs.Asking.{Asked}
 use Rattle.hf_record.specs.Changing.{size_in}
 use Rattle.hf_record.specs.Costs.{Edits, FewBeside}
-use Rattle.hf_record.specs.Filling.{IsTooFar, IsTooLong, reach}
-use Rattle.hf_record.specs.Moves.{Gives}
+use Rattle.hf_record.specs.Filling.{reach}
+use Rattle.hf_record.specs.Holding.{HasMap}
+use Rattle.hf_record.specs.Moves.{Gives, IsRefusedFor}
 use Rattle.tc_hash.specs.declared.hash.Hash.{Hash}
-use Rattle.tc_hash.specs.Holding.{HoldsFile}
-use Rattle.tc_hash.specs.Standing.{numbers_in}
+use Rattle.tc_hash.specs.Holding.{HoldsFile, IsNumbered}
+use Rattle.tc_hash.specs.Standing.{lead_in, numbers_in}
 
 abbrev pub file_of : {S : Type 0} → Hash S → ℕ
 file_of h = h.body.file
@@ -35,6 +37,20 @@ numbers_of h = numbers_in h.body.head
 
 abbrev pub region_of : {S : Type 0} → Hash S → List ℕ
 region_of h = h.region
+
+-- how many whole units lie free in front of the first block of its file
+abbrev pub lead_of : {S : Type 0} → Hash S → ℕ
+lead_of h = lead_in h.body.head
+
+-- no more than did
+pub record LeadsNoMore {S : Type 0} (old new : Hash S) : Type 0 where
+  pub most : lead_of new ≤ lead_of old
+
+pub at_most : (a b : ℕ) → b ≡ a → b ≤ a
+at_most a b same = omega (arith, same)
+
+pub leads_refl : {S : Type 0} (h : Hash S) → LeadsNoMore h h
+leads_refl h = record { most = at_most (lead_of h) (lead_of h) refl }
 
 -- how often a value was asked for
 abbrev pub gets_of : {S : Type 0} → Hash S → ℕ
@@ -54,7 +70,7 @@ pub record StaysOpen {S : Type 0} (old new : Hash S) : Type 0 where
 
 -- a get is counted, and the file, its type, the region, the head and the free blocks stay
 pub record CountsOne {S : Type 0} (old new : Hash S) : Type 0 where
-  pub map : CountsGet file_of sort_of numbers_of region_of gets_of old new
+  pub map : CountsGet file_of sort_of numbers_of region_of lead_of gets_of old new
   pub body : new.body ≡ old.body
 
 -- the numbers of its file and their form stay
@@ -110,25 +126,28 @@ module _ {S : Type 0} (s : Ghosts S) where
 abbrev pub size_for : {S : Type 0} → Hash S → List ℕ → List ℕ → ℕ
 size_for h key value = size_in h.body key value
 
--- a key of a map that is held wanted a block of so many bytes for its record, and the free blocks, those of the file or those with the block given back that
--- the record had, too small for it, have none: the place for it is too far, or the file, in which the blocks end, grows too long by it
-pub record LacksFree {S : Type 0} (s : Ghosts S) (h : Hash S) (key : List ℕ) (m : Map) (old new : S) (size : ℕ) : Type 0 where
-  pub was : Option (ℕ × ℕ)
-  pub stood : Stands h.body.head h.body.pool.size (frees h.body.pool) m key (s.now old h.body.file) was
-  pub pool : Pool
-  pub since : TakesFrom size was h.body.pool pool
-  pub inside : pool.size ≤ length (s.now new h.body.file)
-  pub refused : IsTooFar h.body.head pool.size size (frees pool) ⊎ IsTooLong h.body.head (s.limit new h.body.file) pool.size size (frees pool)
+-- in a file of these bytes, under its head, a map is held, and beside it no block of so many bytes is to be had: one may not have so many, or no free block that a
+-- chain can name is large enough, and the place for it is too far or the file grows too long by it
+pub record HasNoBlock (limit : ℕ) (bytes : List ℕ) (head : Head) (held : Map) (size : ℕ) : Type 0 where
+  pub own : Pool
+  pub has : HasMap head own.size (frees own) held bytes
+  pub numbers : IsNumbered head bytes
+  pub refused : IsRefusedFor head own.size (frees own) limit (length bytes) size
 
--- or a block may not have so many bytes
-abbrev pub WantsBlock : {S : Type 0} → Ghosts S → Hash S → List ℕ → Map → S → S → ℕ → Type 0
-WantsBlock s h key m old new size = (2 ^ 30 < size) ⊎ LacksFree s h key m old new size
+-- so it is in a file as its space stands, with a map or with that map without a key, whose record wanted the block; a key without one left the free blocks as
+-- they were held
+pub record LacksIts {S : Type 0} (s : Ghosts S) (h : Hash S) (key : List ℕ) (m : Map) (new : S) (size : ℕ) : Type 0 where
+  pub brought : s.brought new
+  pub held : Map
+  pub kept : (held ≡ m) ⊎ (held ≡ out_of key m)
+  pub none : HasNoBlock (s.limit new h.body.file) (s.now new h.body.file) h.body.head held size
+  pub stays : get m key ≡ None → none.own ≡ h.body.pool
 
 -- the block was that of the record of a key and a value, which a key of some map that is held was to have
 pub record LacksRecordOf {S : Type 0} (s : Ghosts S) (h : Hash S) (old new : S) (key value : List ℕ) : Type 0 where
   pub held : Map
   pub means : Means s h old held
-  pub wants : WantsBlock s h key held old new (size_for h key value)
+  pub wants : LacksIts s h key held new (size_for h key value)
 
 -- a key's record was taken out, whose block of so many bytes stood there. The file is as long as before
 pub record TakesRecord {S : Type 0} (s : Ghosts S) (key : List ℕ) (at size : ℕ) (v v' : Hash S) (old new : S) : Type 0 where
@@ -173,26 +192,21 @@ pub record GivesNew {S : Type 0} (s : Ghosts S) (key value : List ℕ) (v v' : H
 -- the undo log is full, or the block for that record wasn't to be had; the space may not be used any more
 pub record LacksBlock {S : Type 0} (s : Ghosts S) (mode : Mode) (key value : List ℕ) (v : Hash S) (old new : S) : Type 0 where
   pub spoiled : s.flag new ≡ false
-  pub wants : (m : Map) → Means s v old m → s.log_full new ⊎ WantsBlock s v key m old new (size_for v key (put_value mode (get m key) value))
+  pub wants : (m : Map) → Means s v old m → s.log_full new ⊎ LacksIts s v key m new (size_for v key (put_value mode (get m key) value))
+
+-- what doesn't speak of the space
+abbrev Lacked : {S : Type 0} → Hash S → List ℕ → Map → Map → ℕ → ℕ → List ℕ → Type 0
+Lacked h key m held size limit bytes = (x : HasNoBlock limit bytes h.body.head held size) × (get m key ≡ None → x.own ≡ h.body.pool)
 
 -- so it is in a space that was given up since
 pub lacks_still : {S : Type 0} (s : Ghosts S) (h : Hash S) (old mid new : S) (key value : List ℕ) → GivenUp s mid new → LacksRecordOf s h old mid key value → LacksRecordOf s h old new key value
 lacks_still s h old mid new key value given lacks =
+    let file : ℕ = h.body.file in
     let size : ℕ = size_for h key value in
-    let same : s.now new h.body.file ≡ s.now mid h.body.file = given.files lacks.means.0 h.body.file in
-    let limit : s.limit new h.body.file ≡ s.limit mid h.body.file = ap (λ (l : ℕ → ℕ). l h.body.file) given.keeps.same_limit in
-    record {
-      held = lacks.held;
-      means = lacks.means;
-      wants = ⊎_elim
-          (λ (large : 2 ^ 30 < size). inl large)
-          (λ (f : LacksFree s h key lacks.held old mid size). inr (record {
-            was = f.was;
-            stood = f.stood;
-            pool = f.pool;
-            since = f.since;
-            inside = subst (λ (bytes : List ℕ). f.pool.size ≤ length bytes) (sym same) f.inside;
-            refused = subst (λ (n : ℕ). IsTooFar h.body.head f.pool.size size (frees f.pool) ⊎ IsTooLong h.body.head n f.pool.size size (frees f.pool)) (sym limit) f.refused;
-          }))
-          lacks.wants;
-    }
+    let was = lacks.wants in
+    let same : s.now new file ≡ s.now mid file = given.files lacks.means.0 file in
+    let limit : s.limit new file ≡ s.limit mid file = ap (λ (l : ℕ → ℕ). l file) given.keeps.same_limit in
+    let moved : Lacked h key lacks.held was.held size (s.limit new file) (s.now new file) =
+    subst (λ (n : ℕ). Lacked h key lacks.held was.held size n (s.now new file)) (sym limit)
+    (subst (λ (bytes : List ℕ). Lacked h key lacks.held was.held size (s.limit mid file) bytes) (sym same) (was.none, was.stays)) in
+    record { held = lacks.held; means = lacks.means; wants = record { brought = given.brought was.brought; held = was.held; kept = was.kept; none = moved.0; stays = moved.1 } }

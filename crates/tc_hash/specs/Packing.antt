@@ -129,6 +129,7 @@ pub record PutsPairs {S : Type 0} (s : Ghosts S) (pairs : List Pair) (v v' : Has
 
 -- no block was to be had for a record in a file that has no free blocks and whose blocks end there
 pub record LacksEnd {S : Type 0} (s : Ghosts S) (h : Head) (file end : ℕ) (space : S) (key value : List ℕ) : Type 0 where
+  pub brought : s.brought space
   pub free : Frees
   pub nothing : (q : ℕ) → free q ≡ None
   pub refused : IsRefusedFor h end free (s.limit space file) (length (s.now space file)) (block_len (width h) key value (unit h))

@@ -1,4 +1,6 @@
 //! All keys taken out.
+#![tactic(auto, using(crate::specs::Keeping::leads_refl, tc_space::specs::Frames::keeps_refl, tc_space::specs::Frames::keeps_then, tc_space::specs::Frames::only_reads_refl, tc_space::specs::Frames::only_reads_then, tc_space::specs::Frames::only_writes_refl, tc_space::specs::Frames::only_writes_then))]
+
 ghost use Rattle.std.specs.Prelude.{◌≡◌, ◌⊎◌, ◌-◌, ◌<◌, ◌≤◌, ◌++◌, length, replicate, OnOk, OnErr, IsErrOf, None};
 ghost use Rattle.std.specs.FinMap.{empty};
 ghost use Rattle.tc_space.specs.Effects.{Changes, Outcome};
@@ -9,7 +11,7 @@ ghost use Rattle.hf_head.specs.Heads.{Spells, is_large, spelled, unit};
 ghost use Rattle.tc_reach.specs.Limits.{AreZeros};
 ghost use Rattle.tc_hash.specs.Creating.{Clears, IsNew, with_region};
 ghost use Rattle.hf_record.specs.Fields.{HasFields};
-ghost use Rattle.tc_hash.specs.Keeping.{CanCall, Refused, SameMap, SameShape, Turns};
+ghost use Rattle.tc_hash.specs.Keeping.{CanCall, LeadsNoMore, Refused, SameMap, SameShape, Turns};
 
 use crate::create::{PIECE, new_head, new_pool, write_new};
 use crate::hash::Hash;
@@ -92,7 +94,8 @@ impl<S: Space> Hash<S> {
         self.front = None;
     }
 
-    /// Takes all keys out: the file is cut and made anew with the numbers and in the form that it has. It ends where its first block would begin, and none is free.
+    /// Takes all keys out: the file is cut and made anew with the numbers and in the form that it has. It ends where its first block would begin, at the least place that it
+    /// may have, and none is free.
     /// The region, which is in the head that is written, and the count of gets stay.
     /// After a refusal the space isn't sound, or nothing has changed.
     pub fn clear(&mut self, space: &mut S) -> Result<(), RecErr>
@@ -103,6 +106,7 @@ impl<S: Space> Hash<S> {
         ensures keeps { Keeps S.Space space.old space.new }
         ensures stays { SameMap self.old self.new }
         ensures shape { SameShape self.old self.new }
+        ensures lead { LeadsNoMore self.old self.new }
         ensures made { OnOk result (Clears S.Space self.old self.new space.new) }
         ensures cause { OnFault S.Space result space.old space.new }
     {

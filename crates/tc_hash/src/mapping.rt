@@ -1,6 +1,6 @@
 //! A hash file as a map over one file.
 ghost use Rattle.tc_hash.specs.Ending.{slack_in};
-ghost use Rattle.tc_hash.specs.Keeping.{LacksRecordOf, file_of, gets_of, holds, lacks_still, numbers_of, region_of, sort_of};
+ghost use Rattle.tc_hash.specs.Keeping.{LacksRecordOf, file_of, gets_of, holds, lacks_still, lead_of, numbers_of, region_of, sort_of};
 ghost use Rattle.tc_hash.specs.Packing.{IsFilledWith, LacksLarge};
 ghost use Rattle.tc_hash.specs.Repacking.{IsPackedFrom, WasPacked};
 ghost use Rattle.tc_hash.specs.Standing.{StandsAs};
@@ -19,6 +19,8 @@ impl<S: Space> Records for Hash<S> {
     ghost sort = { sort_of };
 
     ghost numbers = { numbers_of };
+
+    ghost lead = { lead_of };
 
     ghost stands = { StandsAs };
 

@@ -16,7 +16,7 @@ ghost use Rattle.tc_hash.specs.Putting.{Answers, CanCallAt, CanCallIn, IsKept, L
 use crate::hash::Hash;
 use hf_record::{Parent, Place, Search, block_of};
 use tc_base::{BLOCK_MOST, Mode, Steps};
-use tc_reach::give_up;
+use tc_reach::{full_in, give_up};
 use tc_space::{PutErr, RecErr, Space};
 
 /// What a put did.
@@ -47,7 +47,7 @@ impl<S: Space> Hash<S> {
         requires gap { IsGap S.Space self.old.body key.now space.old to.now }
         ensures put { OnOk result (GivesNew S.Space key.now value.now self.old self.new space.old space.new) }
         ensures outcome { Outcome S.sound S.flag result space.new }
-        ensures full { IsErrOf result RecErr.Full → S.tells → LacksRoom S.Space self.old.body space.new (size_for self.old key.now value.now) }
+        ensures full { IsErrOf result RecErr.Full → S.tells → LacksRoom S.Space self.old.body space.old space.new (size_for self.old key.now value.now) }
         ensures keeps { Keeps S.Space space.old space.new }
         ensures stays { StaysOpen self.old self.new }
         ensures counted { S.bytes_read space.new ≡ S.bytes_read space.old }
@@ -74,7 +74,7 @@ impl<S: Space> Hash<S> {
         requires ready { CanCall S.Space self.old space.old }
         ensures put { OnOk result (GivesNew S.Space key.now value.now self.old self.new space.old space.new) }
         ensures outcome { Outcome S.sound S.flag result space.new }
-        ensures full { IsErrOf result RecErr.Full → S.tells → LacksRoom S.Space self.old.body space.new (size_for self.old key.now value.now) }
+        ensures full { IsErrOf result RecErr.Full → S.tells → LacksRoom S.Space self.old.body space.old space.new (size_for self.old key.now value.now) }
         ensures keeps { Keeps S.Space space.old space.new }
         ensures stays { StaysOpen self.old self.new }
         ensures paid { PaidBy S.Space (step_most (length key.now)) steps.old steps.new space.old space.new }
@@ -160,8 +160,7 @@ impl<S: Space> Hash<S> {
         ensures cause { OnFault S.Space result space.old space.new }
     {
         let Some(wanted) = self.body.size_for(key, value) else {
-            give_up(space);
-            return Err(RecErr::Full);
+            return Err(full_in(space));
         };
         let room = block_of(&place.rec);
         if wanted > room {
@@ -316,10 +315,7 @@ impl<S: Space> Hash<S> {
             Put::Stored(_) => Ok(()),
             Put::Held => Err(PutErr::Exists),
             // no block is so large
-            Put::TooLong => {
-                give_up(space);
-                Err(PutErr::Full)
-            }
+            Put::TooLong => Err(PutErr::from(full_in(space))),
         }
     }
 }

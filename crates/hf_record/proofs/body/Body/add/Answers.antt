@@ -1,12 +1,15 @@
 use Rattle.std.proofs.Common.{◌≡◌, ◌∙◌, ◌⊎◌, inr, ℕ, ◌+◌, ◌/◌, ◌%◌, ◌^◌, ◌<◌, ◌≤◌, false, List, length, take, max, sym, ap, subst, arith}
 use Rattle.tc_base.specs.Files.{wrote}
 use Rattle.tc_reach.proofs.Handed.{err_handed}
+use Rattle.tc_space.specs.Frames.{Brought}
 use Rattle.tc_space.specs.Ranges.{Passes}
 use Rattle.hf_head.specs.Heads.{is_large, unit}
 use Rattle.hf_pool.specs.Pools.{frees, Lends, Takes}
+use Rattle.hf_layout.specs.Frees.{HasNone}
+use Rattle.hf_record.specs.Filling.{reach}
 use Rattle.hf_record.specs.Moves.{Added}
 use Rattle.hf_record.proofs.Differ.{beside_after, beside_wrote, edits_then, edits_wrote}
-use Rattle.hf_record.proofs.Room.{not_past}
+use Rattle.hf_record.proofs.Room.{err_inner, not_past}
 use Rattle.hf_record.proofs.Spared.{leaves_first, length_wrote}
 use Rattle.hf_record.proofs.Valid.{is_data, is_valid}
 use Rattle.hf_record.proofs.Writing.{added_taken, few_taken, no_room, part_inside, taken_front, taken_inside, taken_long, taken_same, too_long}
@@ -25,10 +28,20 @@ returns-then-not-has_room-clause-full g c = λ full t.
     let self = c.args.self.now in
     let h = self.head in
     let m = c.requires.may.held t in
-    let before : List ℕ = g.S.Space.now c.args.space.now self.file in
-    let on = taken_long c.reach-most.result (unit h) h.first self.pool c.take.new.self c.in_ok-place.place (length c.args.bytes.now) m.1.pieces before (g.S.Space.now c.take.new.space self.file) m.1.is.laid c.in_ok-place.ensures.taken (c.in_ok-place.ensures.file.bytes t) in
-    no_room h (unit h) h.first self.pool c.take.new.self c.in_ok-place.place (length c.args.bytes.now) _ _ _ m.1.pieces before m.1.is.laid (omega (arith, c.size.ensures, c.if-size-gt-FILE_MOST.false)) (omega (arith, on, ap length (c.give_up-then-not-has_room.ensures.same t self.file))) (subst (λ (n : ℕ). Takes n self.pool c.take.new.self (length c.args.bytes.now) c.in_ok-place.place) c.reach-most.ensures c.in_ok-place.ensures.taken)
+    let s = g.S.Space in
+    let before : List ℕ = s.now c.args.space.now self.file in
+    let cut = c.in_ok-place.ensures.file.bytes t in
+    let b = c.full_in.ensures.full (err_inner c.full_in.result _ full) self.file in
+    let on = taken_long c.reach-most.result (unit h) h.first self.pool c.take.new.self c.in_ok-place.place (length c.args.bytes.now) m.1.pieces before (s.now c.take.new.space self.file) m.1.is.laid c.in_ok-place.ensures.taken cut in
+    let still : HasNone (frees self.pool) (reach h) (length c.args.bytes.now) → Brought s self.file c.args.space.now c.full_in.new.space = λ none. record {
+      brought = b.brought;
+      same = λ u. b.same u ∙ cut.same (subst (λ (n : ℕ). HasNone (frees self.pool) n (length c.args.bytes.now)) (sym c.reach-most.ensures) none);
+    } in
+    no_room h (unit h) h.first self.pool c.take.new.self c.in_ok-place.place (length c.args.bytes.now) _ _ _ _ m.1.pieces before m.1.is.laid (omega (arith, c.size.ensures, c.if-size-gt-FILE_MOST.false)) (omega (arith, on, ap length (b.same t))) still (subst (λ (n : ℕ). Takes n self.pool c.take.new.self (length c.args.bytes.now) c.in_ok-place.place) c.reach-most.ensures c.in_ok-place.ensures.taken)
     (subst (λ (e : ℕ). (2 ^ 40 < e) ⊎ ((is_large h ≡ false) × (2 ^ 32 ≤ c.in_ok-place.place / unit h))) c.size-2.ensures (c.has_room.ensures.none c.if-not-has_room.true))
+
+pub returns-then-not-has_room-clause-cause : goal.returns-then-not-has_room-clause-cause
+returns-then-not-has_room-clause-cause g c = λ is. let rose = c.full_in.ensures.fault (err_inner c.full_in.result _ is) in omega (arith, rose, c.take.ensures.writes.keeps.later)
 
 pub write_at-requires-clause-reaches : goal.write_at-requires-clause-reaches
 write_at-requires-clause-reaches g c =
@@ -48,8 +61,13 @@ returns-in_err-write_at-clause-full g c = λ full t.
     let on = taken_long c.reach-most.result (unit h) h.first self.pool c.take.new.self c.in_ok-place.place (length c.args.bytes.now) m.1.pieces before (g.S.Space.now c.take.new.space self.file) m.1.is.laid c.in_ok-place.ensures.taken (c.in_ok-place.ensures.file.bytes t) in
     let later = c.write_at.ensures.writes.keeps.same_limit in
     let limits : g.S.Space.limit c.write_at.new.space self.file ≡ g.S.Space.limit c.args.space.now self.file = ap (λ (l : ℕ → ℕ). l self.file) (later ∙ c.take.ensures.writes.keeps.same_limit) in
-    too_long h (unit h) h.first self.pool c.take.new.self c.in_ok-place.place (length c.args.bytes.now) (g.S.Space.limit c.write_at.new.space self.file) _ (g.S.Space.log_full c.write_at.new.space) m.1.pieces before m.1.is.laid (subst (λ (n : ℕ). Takes n self.pool c.take.new.self (length c.args.bytes.now) c.in_ok-place.place) c.reach-most.ensures c.in_ok-place.ensures.taken)
-    (omega (arith, limits, g.met.S.Space.within c.args.space.now self.file t c.requires.may.sound (is_data self.file self.data))) (omega (arith, on, ap length (c.in_err-write_at.ensures.same is t self.file)))
+    let same = c.in_err-write_at.ensures.same is in
+    let still : HasNone (frees self.pool) (reach h) (length c.args.bytes.now) → g.S.Space.limit c.write_at.new.space self.file < c.in_ok-place.place + length c.args.bytes.now → Brought g.S.Space self.file c.args.space.now c.write_at.new.space = λ none past. record {
+      brought = c.in_err-write_at.ensures.brought is (omega (arith, past, ap (λ (l : ℕ → ℕ). l self.file) later));
+      same = λ u. same u self.file ∙ (c.in_ok-place.ensures.file.bytes u).same (subst (λ (n : ℕ). HasNone (frees self.pool) n (length c.args.bytes.now)) (sym c.reach-most.ensures) none);
+    } in
+    too_long h (unit h) h.first self.pool c.take.new.self c.in_ok-place.place (length c.args.bytes.now) (g.S.Space.limit c.write_at.new.space self.file) _ _ (g.S.Space.log_full c.write_at.new.space) m.1.pieces before m.1.is.laid (subst (λ (n : ℕ). Takes n self.pool c.take.new.self (length c.args.bytes.now) c.in_ok-place.place) c.reach-most.ensures c.in_ok-place.ensures.taken)
+    (omega (arith, limits, g.met.S.Space.within c.args.space.now self.file t c.requires.may.sound (is_data self.file self.data))) (omega (arith, on, ap length (c.in_err-write_at.ensures.same is t self.file))) still
     (subst (λ (l : ℕ → ℕ). Passes (l self.file) (g.S.Space.log_full c.write_at.new.space) c.in_ok-place.place (length c.args.bytes.now)) (sym later) (c.in_err-write_at.ensures.full is))
 
 pub returns-clause-added : goal.returns-clause-added

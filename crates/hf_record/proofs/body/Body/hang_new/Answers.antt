@@ -21,7 +21,7 @@ use Rattle.hf_record.proofs.Differ.{beside_then, edits_then}
 use Rattle.hf_record.specs.Costs.{FewBeside, FewDiffer}
 use Rattle.hf_tree.specs.Links.{width}
 use Rattle.hf_record.proofs.Puts.{may_hang, put_done, rehung}
-use Rattle.hf_record.proofs.Room.{along, err_as, not_past}
+use Rattle.hf_record.proofs.Room.{along, err_inner, err_of, not_past}
 use Rattle.hf_record.proofs.Spared.{leaves_links, leaves_then}
 use Rattle.hf_record.proofs.Valid.{is_data, is_valid}
 use Rattle.hf_record.proofs.body.Body.hang_new.Goals as goal
@@ -91,13 +91,16 @@ returns-clause-put g c =
 
 pub returns-in_err-place-clause-full : goal.returns-in_err-place-clause-full
 returns-in_err-place-clause-full g c = λ full t.
-    ⊎_elim (λ none. inr (inr none)) (λ log. inl log) (subst (λ (k : ℕ). LacksPlace g.S.Space c.args.self.now c.add.new.space k) (ap length c.as_slice.ensures ∙ c.in-Ok.ensures.bytes.long)
+    ⊎_elim (λ none. inr (none.0, inr none.1)) (λ log. inl log) (subst (λ (k : ℕ). LacksPlace g.S.Space c.args.self.now c.args.space.now c.add.new.space k) (ap length c.as_slice.ensures ∙ c.in-Ok.ensures.bytes.long)
     (c.in_err-place.ensures.full (err_handed c.from_residual.result c.in_err-place.field-0.0 _ c.from_residual.ensures.1 full) t))
 
 pub returns-in-Err-clause-full : goal.returns-in-Err-clause-full
-returns-in-Err-clause-full g c = λ full t. inr (inl (c.in-Err.ensures.full (err_as c.in-Err.e _ full)))
+returns-in-Err-clause-full g c = λ full t. let f = c.refused_for.ensures.full (err_inner c.refused_for.result _ full) in inr (f.1 c.args.self.now.file, inl (c.in-Err.ensures.full (err_of c.in-Err.e _ f.0)))
 
 pub returns-in_err-hang-clause-full : goal.returns-in_err-hang-clause-full
 returns-in_err-hang-clause-full g c = λ full t.
     let i = c.in_err-hang.ensures.full (err_handed c.from_residual-in_err-hang.result c.in_err-hang.field-0.0 _ c.from_residual-in_err-hang.ensures.1 full) in
     inl (not_past g.S.Space g.met.S.Space.within c.add.new.self.file _ _ c.add.new.space c.hang.new.space t c.in_ok-place.ensures.outcome.ok (is_data c.add.new.self.file c.add.new.self.data) (i.inside t) i.passes)
+
+pub returns-in-Err-clause-cause : goal.returns-in-Err-clause-cause
+returns-in-Err-clause-cause g c = λ is. ⊎_elim (λ was. absurd (c.in-Err.ensures.fault (err_of c.in-Err.e _ was))) (λ rose. rose) (c.refused_for.ensures.fault (err_inner c.refused_for.result _ is))

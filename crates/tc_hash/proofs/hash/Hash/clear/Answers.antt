@@ -1,4 +1,4 @@
-use Rattle.std.proofs.Common.{◌∙◌, sym, ap, subst, arith}
+use Rattle.std.proofs.Common.{◌∙◌, ◌≤◌, sym, ap, subst, arith}
 use Rattle.hf_head.specs.declared.head.Head.{Head}
 use Rattle.hf_head.specs.Heads.{is_large}
 use Rattle.hf_pool.specs.Pools.{frees}
@@ -7,6 +7,9 @@ use Rattle.hf_record.proofs.Valid.{is_data}
 use Rattle.tc_hash.specs.Creating.{IsNew, new_bytes, with_region}
 use Rattle.tc_hash.proofs.Cleared.{cleared, emptied, same_options, shows_with, some_zeros, within_log}
 use Rattle.tc_hash.proofs.Kept.{reaches}
+use Rattle.tc_hash.proofs.Numbered.{anew_leads}
+use Rattle.tc_hash.specs.Keeping.{lead_of}
+use Rattle.tc_hash.specs.Standing.{lead_in}
 use Rattle.tc_reach.proofs.Handed.{err_handed}
 use Rattle.tc_hash.proofs.hash.Hash.clear.Goals as goal
 
@@ -55,6 +58,9 @@ returns-clause-shape g c =
       buckets = ap (λ (h : Head). h.buckets) e ∙ is.buckets_is;
       options = ap (λ (h : Head). h.options) e ∙ same_options _ _ is.options_most c.args.self.now.body.valid.options is.form;
     }
+
+pub returns-clause-lead : goal.returns-clause-lead
+returns-clause-lead g c = record { most = subst (λ (x : Head). lead_in x ≤ lead_of c.args.self.now) (sym c.empty.ensures.body.1) (anew_leads c.head_anew-head.result (lead_of c.args.self.now) c.head_anew-head.ensures.new) }
 
 pub returns-in_err-write_anew-clause-full : goal.returns-in_err-write_anew-clause-full
 returns-in_err-write_anew-clause-full g c = λ full t.

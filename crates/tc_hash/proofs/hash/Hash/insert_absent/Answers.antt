@@ -1,4 +1,4 @@
-use Rattle.std.proofs.Common.{arith}
+use Rattle.std.proofs.Common.{◌∙◌, inl, inr, ⊎_elim, arith}
 use Rattle.hf_chain.proofs.Paying.{paid_none, paid_then}
 use Rattle.hf_record.proofs.Searched.{gap_so}
 use Rattle.tc_hash.proofs.Records.{can_change, still_ready}
@@ -25,3 +25,9 @@ returns-in-Ok-Here-clause-paid g c = paid_then _ _ _ _ _ _ _ c.search.ensures.pa
 
 pub returns-in-Err-clause-paid : goal.returns-in-Err-clause-paid
 returns-in-Err-clause-paid g c = paid_then _ _ _ _ _ _ _ c.search.ensures.paid (paid_none _ _ _ _ (omega (arith, c.give_up-in-Err.ensures.writes.counted)))
+
+pub returns-in-Ok-Gap-clause-full : goal.returns-in-Ok-Gap-clause-full
+returns-in-Ok-Gap-clause-full g c = λ full t. ⊎_elim
+    (λ log. inl log)
+    (λ why. inr (record { brought = why.0.brought; same = λ u. why.0.same u ∙ c.search.ensures.reads.files u c.args.self.now.body.file }, why.1))
+    (c.insert.ensures.full full t)

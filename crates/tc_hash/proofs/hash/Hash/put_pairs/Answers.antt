@@ -23,7 +23,7 @@ returns-in_err-insert_absent-clause-full g c = λ full t. ⊎_elim
       are = parted_at c.loop-i.i c.args.pairs.now c.at-pair.result.now c.at-pair.ensures;
       lacks = lacks;
     }))
-    (lacks_end g.S.Space c.args.self.now c.loop-i.self c.insert_absent.new.space _ _ _ _ _ c.as_slice.ensures c.as_slice-in-loop-i.ensures c.loop-i.invariant.stays c.loop-i.invariant.nothing c.loop-i.invariant.ends (c.in_err-insert_absent.ensures.full (err_handed c.from_residual.result c.in_err-insert_absent.field-0.0 _ c.from_residual.ensures.1 full) t))
+    (lacks_end g.S.Space c.args.self.now c.loop-i.self c.insert_absent.new.space _ _ _ _ _ c.as_slice.ensures c.as_slice-in-loop-i.ensures c.loop-i.invariant.stays c.loop-i.invariant.nothing c.loop-i.invariant.ends c.loop-i.space (c.in_err-insert_absent.ensures.full (err_handed c.from_residual.result c.in_err-insert_absent.field-0.0 _ c.from_residual.ensures.1 full) t))
 
 pub loop-i-preserved : goal.loop-i-preserved
 loop-i-preserved g c = record {
