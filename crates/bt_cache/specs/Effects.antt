@@ -1,6 +1,6 @@
 -- What a call on the cache counts, leaves and answers.
-use Rattle.std.specs.Prelude.{◌≡◌, ◌⊎◌, ℕ, ◌+◌, ◌-◌, ◌^◌, min, Bool, List, Result, OnErr, IsErrOf, if◌then◌else◌}
-use Rattle.std.proofs.Common.{◌∙◌, refl}
+use Rattle.std.specs.Prelude.{◌≡◌, ◌≤◌, ◌⊎◌, ℕ, ◌+◌, ◌-◌, ◌^◌, min, Bool, List, Result, OnErr, IsErrOf, if◌then◌else◌}
+use Rattle.std.proofs.Common.{◌∙◌, arith, refl}
 use Rattle.tc_base.specs.Maps.{Map}
 use Rattle.tc_base.specs.declared.kind.Mode.TheVariants.{Over}
 use Rattle.tc_space.specs.Changes.{out_of, put_in}
@@ -20,22 +20,23 @@ use Rattle.tc_space.specs.declared.errors.RecErr.TheVariants as rec
 
 -- ---- of the store
 
--- it is of the same file, type, numbers and region
+-- it is of the same file, type, numbers and region, and no more lies free in front of the first block than did
 pub record SameStore {S V : Type 0} (R : Stores V S) (old new : V) : Type 0 where
   pub file : R.file_of new ≡ R.file_of old
   pub sort : R.sort new ≡ R.sort old
   pub numbers : R.numbers new ≡ R.numbers old
   pub region : R.region new ≡ R.region old
+  pub lead : R.lead new ≤ R.lead old
 
 module _ {S V : Type 0} (R : Stores V S) where
   pub same_store_refl : (v : V) → SameStore R v v
-  same_store_refl v = record { file = refl; sort = refl; numbers = refl; region = refl }
+  same_store_refl v = record { file = refl; sort = refl; numbers = refl; region = refl; lead = omega arith }
 
   pub same_store_then : (u v w : V) → SameStore R u v → SameStore R v w → SameStore R u w
-  same_store_then u v w first second = record { file = second.file ∙ first.file; sort = second.sort ∙ first.sort; numbers = second.numbers ∙ first.numbers; region = second.region ∙ first.region }
+  same_store_then u v w first second = record { file = second.file ∙ first.file; sort = second.sort ∙ first.sort; numbers = second.numbers ∙ first.numbers; region = second.region ∙ first.region; lead = omega (arith, first.lead, second.lead) }
 
-  pub same_store_map : (v w : V) → StaysMap R.file_of R.sort R.numbers R.region R.gets v w → SameStore R v w
-  same_store_map v w stays = record { file = stays.file; sort = stays.sort_same; numbers = stays.numbers_same; region = stays.region_same }
+  pub same_store_map : (v w : V) → StaysMap R.file_of R.sort R.numbers R.region R.lead R.gets v w → SameStore R v w
+  same_store_map v w stays = record { file = stays.file; sort = stays.sort_same; numbers = stays.numbers_same; region = stays.region_same; lead = stays.leads }
 
 -- one more
 abbrev pub IsAsked : {S V : Type 0} → Stores V S → V → V → Type 0
@@ -75,7 +76,7 @@ pub record Looks {S V : Type 0} (s : Ghosts S) (R : Stores V S) (c c' : Cache V)
 -- whatever a call that writes answers: what is kept stays, the store's file, type, numbers, region and count of gets, and the room
 pub record Stays {S V : Type 0} (s : Ghosts S) (R : Stores V S) (c c' : Cache V) (v v' : V) (old new : S) : Type 0 where
   pub keeps : Keeps s old new
-  pub store : StaysMap R.file_of R.sort R.numbers R.region R.gets v v'
+  pub store : StaysMap R.file_of R.sort R.numbers R.region R.lead R.gets v v'
   pub room : c'.pages.cap ≡ c.pages.cap
 
 module _ {S V : Type 0} (s : Ghosts S) (R : Stores V S) where

@@ -1,7 +1,7 @@
 -- What the check is told of a store, and what it leaves of the store and its space.
 use Rattle.std.specs.Prelude.{◌≡◌, ℕ, ◌+◌, ◌*◌, ◌≤◌, List, Option, Result, IfOk, IsErrOf, length}
 use Rattle.std.specs.FinMap.{get, len}
-use Rattle.std.proofs.Common.{refl, ◌∙◌}
+use Rattle.std.proofs.Common.{arith, refl, ◌∙◌}
 use Rattle.tc_base.specs.Maps.{Map}
 use Rattle.tc_io.specs.Causes.{Rose}
 use Rattle.tc_space.specs.Frames.{In, Keeps, Reads, keeps_refl, keeps_then, reads_refl, reads_then}
@@ -12,7 +12,7 @@ use Rattle.tc_space.specs.declared.records.Records.{Ghosts as Store}
 use Rattle.tc_space.specs.declared.space.Space.{Ghosts}
 use Rattle.bt_rows.specs.declared.page.Slot.{Slot}
 
--- nothing is written: the map, the region, the file, its type and its numbers stay, and what was packed is so still
+-- nothing is written: the map, the region, the file, its type and its numbers stay, no more lies free in front of its first block, and what was packed is so still
 pub record Looks {S V : Type 0} (s : Ghosts S) (r : Store V S) (v v' : V) (old new : S) : Type 0 where
   pub reads : Reads s (In s r.file_of r.holds) v v' old new
   pub keeps : Keeps s old new
@@ -20,6 +20,7 @@ pub record Looks {S V : Type 0} (s : Ghosts S) (r : Store V S) (v v' : V) (old n
   pub sort_same : r.sort v' ≡ r.sort v
   pub numbers_same : r.numbers v' ≡ r.numbers v
   pub region_same : r.region v' ≡ r.region v
+  pub leads : r.lead v' ≤ r.lead v
   pub tight : KeepsTight r.tight v v'
 
 -- a fault comes only where a call of the volume failed
@@ -50,7 +51,7 @@ module _ {S V : Type 0} (s : Ghosts S) (r : Store V S) where
   AsksFor n v v' space = (m : Map) → In s r.file_of r.holds v space m → r.gets v' ≤ r.gets v + n * len m
 
   pub looks_refl : (v : V) (a : S) → s.sound a → Looks s r v v a a
-  looks_refl v a sound = record { reads = reads_refl s (In s r.file_of r.holds) v a sound; keeps = keeps_refl s a; file = refl; sort_same = refl; numbers_same = refl; region_same = refl; tight = λ from form bytes is. is }
+  looks_refl v a sound = record { reads = reads_refl s (In s r.file_of r.holds) v a sound; keeps = keeps_refl s a; file = refl; sort_same = refl; numbers_same = refl; region_same = refl; leads = omega arith; tight = λ from form bytes is. is }
 
   pub looks_then : (u v w : V) (a b c : S) → Looks s r u v a b → Looks s r v w b c → Looks s r u w a c
   looks_then u v w a b c first second = record {
@@ -60,5 +61,6 @@ module _ {S V : Type 0} (s : Ghosts S) (r : Store V S) where
     sort_same = second.sort_same ∙ first.sort_same;
     numbers_same = second.numbers_same ∙ first.numbers_same;
     region_same = second.region_same ∙ first.region_same;
+    leads = omega (arith, first.leads, second.leads);
     tight = λ from form bytes is. second.tight from form bytes (first.tight from form bytes is);
   }

@@ -106,7 +106,7 @@ bare_held h b column = record {
 
 -- ---- there is a first leaf
 
-none_up : (root : ℕ) (Ls : List (List NodeAt)) → LeadsUp root Ls [] → ⊥
+pub none_up : (root : ℕ) (Ls : List (List NodeAt)) → LeadsUp root Ls [] → ⊥
 none_up root [] e = clash e
   where
     clash : ◌≡◌ {A = List Slot} [] (root_slot root ∷ []) → ⊥

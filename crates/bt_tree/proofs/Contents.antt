@@ -37,13 +37,13 @@ stretch_in {X} xs ys a b zs s e = (a ++ s.0, s.1 ++ b, e ∙ ap (λ (t : List X)
 
 -- ---- the items of a row of leaves
 
-abbrev items_of : LeafAt → List Item
+abbrev pub items_of : LeafAt → List Item
 items_of l = l.leaf.items
 
-abbrev row_items : List LeafAt → List Item
+abbrev pub row_items : List LeafAt → List Item
 row_items ls = flat_map items_of ls
 
-pairs_items : (ls : List LeafAt) → pairs_of ls ≡ items_pairs (row_items ls)
+pub pairs_items : (ls : List LeafAt) → pairs_of ls ≡ items_pairs (row_items ls)
 pairs_items [] = refl
 pairs_items (l ∷ ls) = ap (λ (t : List Pair). leaf_pairs l ++ t) (pairs_items ls) ∙ sym (flat_map-append item_pairs l.leaf.items (row_items ls))
 
@@ -64,7 +64,7 @@ module _ (before : Before) (order : IsOrder before) where
   abbrev Beneath : List Item → LeafAt → Type 0
   Beneath xs m = AllByRecursion (λ x. Under before x.key m.slot.bound) xs
 
-  rows_ascend : (ls : List LeafAt) → InOrder before ls → Ascends before (row_items ls)
+  pub rows_ascend : (ls : List LeafAt) → InOrder before ls → Ascends before (row_items ls)
   rows_ascend [] o = tt
   rows_ascend (l ∷ ls) o = ascends_join l.leaf.items (row_items ls) o.0.ascends (each l.leaf.items (all_map (IsBelow before l) (Beneath l.leaf.items) ls (λ m b. b.items) o.1)) (rows_ascend ls o.2)
     where
@@ -111,10 +111,10 @@ leaf_stretch before pages root leaves levels st j k is =
 -- ---- the items of a tree
 
 module _ (cmp : List ℕ → List ℕ → Ordering) (order : IsOrder (before_by cmp)) (h : TreeHead) (height : ℕ) (column : Option (List ℕ)) (m : Map) (ps : List Pair) (p : HoldsPairs (before_by cmp) h height column (get m) ps) where
-  abbrev HaveValues : LeafAt → Type 0
+  abbrev pub HaveValues : LeafAt → Type 0
   HaveValues l = AllByRecursion HasValue l.leaf.items
 
-  have : (ls : List LeafAt) → LeavesHeld p.tree.pages ls → AllByRecursion HaveValues ls
+  pub have : (ls : List LeafAt) → LeavesHeld p.tree.pages ls → AllByRecursion HaveValues ls
   have [] held = tt
   have (l ∷ ls) held = (leaf_values m l.slot.id l.leaf (has_page h m p.tree.pages l.slot.id (leaf_page l.leaf) p.tree.head p.tree.held held.0), have ls held.1)
 

@@ -656,8 +656,8 @@ pub kept_over : {S : Type 0} (s : Ghosts S) (a b : S) → StaysOver s.tells s.mo
 kept_over s a b stays = record { steady = stays.steady; same_limit = stays.follows.same_limit; same_names = stays.follows.same_names; later = stays.follows.later }
 
 -- a space that was given up
-pub given_up : {S : Type 0} (s : Ghosts S) (a b : S) → s.flag b ≡ false → StaysOver s.tells s.moment s.files_at s.left s.kept s.faults s.limit s.names a b → (s.tells → (g : ℕ) → s.now b g ≡ s.now a g) → (s.log_full a → s.log_full b) → GivenUp s a b
-given_up s a b flag stays files log = record { flag = flag; keeps = kept_over s a b stays; files = files; log = log }
+pub given_up : {S : Type 0} (s : Ghosts S) (a b : S) → s.flag b ≡ false → StaysOver s.tells s.moment s.files_at s.left s.kept s.faults s.limit s.names a b → (s.tells → (g : ℕ) → s.now b g ≡ s.now a g) → (s.log_full a → s.log_full b) → (s.brought a → s.brought b) → GivenUp s a b
+given_up s a b flag stays files log brought = record { flag = flag; keeps = kept_over s a b stays; files = files; log = log; brought = brought }
 
 module _ {S V O : Type 0} (s : Ghosts S) (R : Stores V S) (o : Orders O) (t u v : Tree V O) (a b d : S) (looks : LooksAt s R t u a b) (stays : StaysTree t u) where
   pub put_refused : StaysStill s R u v b d → Refuses s (Beside s R) (u.cache.pages, u.store) (v.cache.pages, v.store) b d → Refuses s (Means s R o) t v a d

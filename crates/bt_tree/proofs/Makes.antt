@@ -171,7 +171,7 @@ module _ {S V : Type 0} (s : Ghosts S) (R : Stores V S) (v w : V) (old mid : S) 
           (told, record { records = m'; store = b.0.1; same = b.1; order = ap (λ (x : TreeHead). x.order) head; is = here });
       column_is = column;
       others = record { same = λ told g other. writes.others.same told g (λ is. absurd (other (is ∙ looks.file))) ∙ looks.reads.now told g };
-      made = same_store_then R v w t.store (record { file = looks.file; sort = looks.sort_same; numbers = looks.numbers_same; region = looks.region_same }) same;
+      made = same_store_then R v w t.store (record { file = looks.file; sort = looks.sort_same; numbers = looks.numbers_same; region = looks.region_same; lead = looks.leads }) same;
       head = head;
       height = height;
     }

@@ -115,7 +115,7 @@ module _ {S V : Type 0} (s : Ghosts S) (R : Stores V S) (v x w : V) (old mid new
   opened {O} o height index t order stands column store empty head high = record {
     opens = opens;
     head_is = head_is;
-    made = record { file = ap R.file_of store ∙ looks.file; sort = ap R.sort store ∙ looks.sort_same; numbers = ap R.numbers store ∙ looks.numbers_same; region = ap R.region store ∙ looks.region_same };
+    made = record { file = ap R.file_of store ∙ looks.file; sort = ap R.sort store ∙ looks.sort_same; numbers = ap R.numbers store ∙ looks.numbers_same; region = ap R.region store ∙ looks.region_same; lead = omega (arith, ap R.lead store, looks.leads) };
     asks = λ m i. omega (arith, measured m i, found, ap R.gets store);
   }
     where

@@ -44,12 +44,12 @@ use Rattle.bt_tree.proofs.Stretches.{front_rank, from_rank, fronts_inside, rank_
 
 -- ---- leaves of a tree
 
-link_at : (prev : ℕ) (front : List LeafAt) (l : LeafAt) (back : List LeafAt) → IsLinked prev (front ++ l ∷ back) → l.leaf.next ≡ first_id back
+pub link_at : (prev : ℕ) (front : List LeafAt) (l : LeafAt) (back : List LeafAt) → IsLinked prev (front ++ l ∷ back) → l.leaf.next ≡ first_id back
 link_at prev [] l back k = k.1
 link_at prev (x ∷ front) l back k = link_at x.slot.id front l back k.2
 
 -- above a row of nodes stands the root, a node
-root_node : (pages : PageMap) (root : ℕ) (L : List NodeAt) (Ls : List (List NodeAt)) → LeadsUp root Ls (map node_slot L) → NodesHeld pages L → LevelsHeld pages Ls → (n : Node) × (pages root ≡ Some (node_page n))
+pub root_node : (pages : PageMap) (root : ℕ) (L : List NodeAt) (Ls : List (List NodeAt)) → LeadsUp root Ls (map node_slot L) → NodesHeld pages L → LevelsHeld pages Ls → (n : Node) × (pages root ≡ Some (node_page n))
 root_node pages root [] [] up here held = absurd (cc)
 root_node pages root (n ∷ L) [] up here held =
     let same : n.slot ≡ root_slot root = cc in
@@ -57,7 +57,7 @@ root_node pages root (n ∷ L) [] up here held =
 root_node pages root L (M ∷ Ls) up here held = root_node pages root M Ls up.1 held.0 held.1
 
 -- a leaf behind another isn't the root
-not_root : (before : Before) (pages : PageMap) (root : ℕ) (levels : List (List NodeAt)) (front : List LeafAt) (l : LeafAt) (back : List LeafAt) → Stands before pages root (front ++ l ∷ back) levels → 0 < length front → pages l.slot.id ≡ Some (leaf_page l.leaf) → l.slot.id ≢ root
+pub not_root : (before : Before) (pages : PageMap) (root : ℕ) (levels : List (List NodeAt)) (front : List LeafAt) (l : LeafAt) (back : List LeafAt) → Stands before pages root (front ++ l ∷ back) levels → 0 < length front → pages l.slot.id ≡ Some (leaf_page l.leaf) → l.slot.id ≢ root
 not_root before pages root [] front l back st more at same =
     omega (arith, more, ap (λ (t : List Slot). length t) st.up, length-map (front ++ l ∷ back) leaf_slot, length-append front (l ∷ back))
 not_root before pages root (L ∷ Ls) front l back st more at same =
@@ -116,7 +116,7 @@ module _ (cmp : List ℕ → List ℕ → Ordering) (total : IsTotalOrder cmp) (
   from_on (Some a) None u w = absurd w
   from_on (Some a) (Some b) u w = from_rank (side a) (side b) (rank_le a b (le_of cmp total exact a b w)) u
 
-  all_front : (front : List LeafAt) (leaf : LeafAt) (back : List LeafAt) → InOrder (before_by cmp) (front ++ leaf ∷ back) → AtLeast (start_of side) leaf.slot.bound [] → AllByRecursion (λ p. is_front (side p.key) ≡ true) (pairs_of front)
+  pub all_front : (front : List LeafAt) (leaf : LeafAt) (back : List LeafAt) → InOrder (before_by cmp) (front ++ leaf ∷ back) → AtLeast (start_of side) leaf.slot.bound [] → AllByRecursion (λ p. is_front (side p.key) ≡ true) (pairs_of front)
   all_front front leaf back o low = all_leaves (λ k. is_front (side k) ≡ true) front (go front o)
     where
       go : (front : List LeafAt) → InOrder (before_by cmp) (front ++ leaf ∷ back) → AllByRecursion (λ l. AllByRecursion (λ x. is_front (side x.key) ≡ true) l.leaf.items) front
@@ -126,7 +126,7 @@ module _ (cmp : List ℕ → List ℕ → Ordering) (total : IsTotalOrder cmp) (
         go front o.2,
       )
 
-  all_from : (back : List LeafAt) → InOrder (before_by cmp) back → IsBehind (start_of side) [] (map leaf_slot back) → AllByRecursion (λ p. is_from (side p.key) ≡ true) (pairs_of back)
+  pub all_from : (back : List LeafAt) → InOrder (before_by cmp) back → IsBehind (start_of side) [] (map leaf_slot back) → AllByRecursion (λ p. is_from (side p.key) ≡ true) (pairs_of back)
   all_from back o high = all_leaves (λ k. is_from (side k) ≡ true) back (go back o high)
     where
       go : (back : List LeafAt) → InOrder (before_by cmp) back → IsBehind (start_of side) [] (map leaf_slot back) → AllByRecursion (λ l. AllByRecursion (λ x. is_from (side x.key) ≡ true) l.leaf.items) back

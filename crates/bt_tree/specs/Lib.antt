@@ -11,7 +11,11 @@ pub mod Paging
 pub mod Parting
 pub mod Ranging
 pub mod Removing
+pub mod Seeking
 pub mod Settling
+pub mod Showing
 pub mod Standing
 pub mod Trees
+pub mod Valuing
+pub mod Visiting
 pub mod Visits

@@ -1,5 +1,5 @@
 -- What bringing a tree to its file leaves.
-use Rattle.std.specs.Prelude.{◌≡◌, ℕ, List, Result}
+use Rattle.std.specs.Prelude.{◌≡◌, ◌≤◌, ℕ, List, Result}
 use Rattle.tc_base.specs.declared.kind.Form.{Form}
 use Rattle.tc_base.specs.declared.order.Order.{Ghosts as Orders}
 use Rattle.tc_base.specs.declared.seq.Pair.{Pair}
@@ -11,16 +11,17 @@ use Rattle.bt_tree.specs.Meaning.{HoldsIn, Means, file_in}
 use Rattle.bt_tree.specs.Standing.{FileStands}
 use Rattle.bt_tree.specs.Visits.{StaysTree}
 
--- whatever it answers, the numbers of the tree stay, and its store's file, type and numbers
+-- whatever it answers, the numbers of the tree stay, and its store's file, type and numbers, with no more free in front of the first block
 pub record StaysSettled {S V O : Type 0} (R : Stores V S) (t u : Tree V O) : Type 0 where
   pub file : R.file_of u.store ≡ R.file_of t.store
   pub sort : R.sort u.store ≡ R.sort t.store
   pub fixed : R.numbers u.store ≡ R.numbers t.store
+  pub lead : R.lead u.store ≤ R.lead t.store
   pub stays : StaysTree t u
 
 -- so it is of a packing, but for the form of the store's file
 pub record StaysFormed {S V O T E : Type 0} (s : Ghosts S) (R : Stores V S) (form : Form) (result : Result T E) (t u : Tree V O) (new : S) : Type 0 where
-  pub store : PacksMap s.flag R.file_of R.sort R.numbers R.region R.gets form result t.store u.store new
+  pub store : PacksMap s.flag R.file_of R.sort R.numbers R.region R.lead R.gets form result t.store u.store new
   pub stays : StaysTree t u
 
 -- its store was packed from a file with these bytes in a form, over those

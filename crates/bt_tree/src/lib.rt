@@ -21,12 +21,18 @@ mod pruning;
 mod ranging;
 mod removing;
 mod searching;
+mod seeking;
 mod settling;
+mod showing;
 mod stretching;
 mod taking;
 mod tree;
 mod unlinking;
+mod valuing;
+mod visiting;
 
 pub use laws::settled_trees_open;
 pub use making::ROOM;
+pub use seeking::Items;
+pub use showing::Taker;
 pub use tree::Tree;

@@ -26,7 +26,7 @@ fn if_grown(next: u64, before: usize, now: usize) -> u64
 
 impl<R: Records, O: Order> Tree<R, O> {
     // Goes down to the leaf where a stretch begins, and answers its id: the first pair that isn't in front of the stretch stands there, or is the first of the next leaf.
-    fn descend_to<C: Cut<O>, L>(
+    pub(crate) fn descend_to<C: Cut<O>, L>(
         &mut self,
         space: &mut R::S,
         cut: &C,

@@ -24,7 +24,7 @@ fn is_in_front<O: Order, C: Cut<O>>(cut: &C, key: &[u8]) -> bool
     }
 }
 
-fn has<O: Order, C: Cut<O>>(cut: &C, key: &[u8]) -> bool
+pub(crate) fn has<O: Order, C: Cut<O>>(cut: &C, key: &[u8]) -> bool
     ensures { result ≡ is_inside (C.side_of cut.now key.now) }
 {
     match cut.side(key) {
@@ -62,7 +62,7 @@ pub(crate) fn route_to<O: Order, C: Cut<O>>(node: &SlottedNode, cut: &C) -> usiz
 }
 
 // How many items are in front of a stretch, where they ascend, by halves.
-fn start<O: Order, C: Cut<O>>(leaf: &SlottedLeaf, cut: &C) -> usize
+pub(crate) fn start<O: Order, C: Cut<O>>(leaf: &SlottedLeaf, cut: &C) -> usize
     ensures within { result ≤ length leaf.now.items }
     ensures start { Ascends (before_by O.cmp) leaf.now.items → IsStart (C.side_of cut.now) leaf.now.items result }
 {

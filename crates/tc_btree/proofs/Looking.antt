@@ -85,10 +85,11 @@ module _ {S V O : Type 0} (s : Ghosts S) (R : Stores V S) (o : Orders O) where
   pub looked_asks : (b c : Btree V O) (most steps steps' : ℕ) (old new : S) → Asks s R o most b.tree c.tree steps steps' old new → Looked s R o b c old new
   looked_asks b c most steps steps' old new asks = record { looks = asks.looks; stays = asks.stays; reads = asks.reads }
 
-  pub looked_stays : (b c : Btree V O) (old new : S) → Looked s R o b c old new → StaysList (file_list R) (made_of R) b c
+  pub looked_stays : (b c : Btree V O) (old new : S) → Looked s R o b c old new → StaysList (file_list R) (made_of R) (λ d. R.lead d.tree.store) b c
   looked_stays b c old new looked = record {
     file = looked.looks.made.file;
     made_same = λ i. record { sort = looked.looks.made.sort i; numbers = looked.looks.made.numbers i; code = (looked.stays.head i).order; leaf = (looked.stays.head i).leaf_limit; node = (looked.stays.head i).node_limit; column = looked.stays.column i };
+    leads = looked.looks.made.lead;
   }
 
   -- ---- what is told of it

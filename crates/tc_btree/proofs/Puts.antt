@@ -34,31 +34,33 @@ values_of_item key (v ∷ vs) = refl
 -- ---- what a list was made with
 
 module _ {S V O : Type 0} (R : Stores V S) (b c : Btree V O) where
-  pub list_stays : StaysMade R b.tree c.tree → StaysList (file_list R) (made_of R) b c
+  pub list_stays : StaysMade R b.tree c.tree → StaysList (file_list R) (made_of R) (λ d. R.lead d.tree.store) b c
   list_stays m = record {
     file = m.made.file;
     made_same = λ i. record { sort = m.made.sort i; numbers = m.made.numbers i; code = m.order i; leaf = m.leaf_limit i; node = m.node_limit i; column = m.column i };
+    leads = m.made.lead;
   }
 
   made_same : R.sort c.tree.store ≡ R.sort b.tree.store → R.numbers c.tree.store ≡ R.numbers b.tree.store → StaysTree b.tree c.tree → made_of R c ≡ made_of R b
   made_same sort numbers stays = λ i. record { sort = sort i; numbers = numbers i; code = (stays.head i).order; leaf = (stays.head i).leaf_limit; node = (stays.head i).node_limit; column = stays.column i }
 
-  pub list_packed : SameStore R b.tree.store c.tree.store → StaysTree b.tree c.tree → KeepsTight R.tight b.tree.store c.tree.store → StaysPacked (file_list R) (made_of R) (λ d. R.tight d.tree.store) b c
-  list_packed same stays tight = record { file = same.file; made_same = made_same same.sort same.numbers stays; stays_tight = tight }
+  pub list_packed : SameStore R b.tree.store c.tree.store → StaysTree b.tree c.tree → KeepsTight R.tight b.tree.store c.tree.store → StaysPacked (file_list R) (made_of R) (λ d. R.lead d.tree.store) (λ d. R.tight d.tree.store) b c
+  list_packed same stays tight = record { file = same.file; made_same = made_same same.sort same.numbers stays; leads = same.lead; stays_tight = tight }
 
   -- in the form of a packing
   made_formed : (form : Form) → R.sort c.tree.store ≡ R.sort b.tree.store → R.numbers c.tree.store ≡ in_form form (R.numbers b.tree.store) → StaysTree b.tree c.tree → made_of R c ≡ made_in form (made_of R b)
   made_formed form sort numbers stays = λ i. record { sort = sort i; numbers = numbers i; code = (stays.head i).order; leaf = (stays.head i).leaf_limit; node = (stays.head i).node_limit; column = stays.column i }
 
-  pub list_formed : {T E : Type 0} (s : Ghosts S) (form : Form) (r : Result T E) (new : S) → StaysFormed s R form r b.tree c.tree new → PacksList s.flag (file_list R) (made_of R) form r b c new
+  pub list_formed : {T E : Type 0} (s : Ghosts S) (form : Form) (r : Result T E) (new : S) → StaysFormed s R form r b.tree c.tree new → PacksList s.flag (file_list R) (made_of R) (λ d. R.lead d.tree.store) form r b c new
   list_formed s form r new st = record {
     file = st.store.file;
     formed = on_ok_weaker r (λ (numbers : R.numbers c.tree.store ≡ in_form form (R.numbers b.tree.store)). made_formed form st.store.sort_same numbers st.stays) st.store.formed;
+    leads = st.store.leads;
     left = on_err_weaker r (λ (was : (s.flag new ≡ false) ⊎ (R.numbers c.tree.store ≡ R.numbers b.tree.store)). ⊎_elim (λ spoiled. inl spoiled) (λ numbers. inr (made_same st.store.sort_same numbers st.stays)) was) st.store.left;
   }
 
-  pub list_settled : StaysSettled R b.tree c.tree → StaysList (file_list R) (made_of R) b c
-  list_settled st = record { file = st.file; made_same = made_same st.sort st.fixed st.stays }
+  pub list_settled : StaysSettled R b.tree c.tree → StaysList (file_list R) (made_of R) (λ d. R.lead d.tree.store) b c
+  list_settled st = record { file = st.file; made_same = made_same st.sort st.fixed st.stays; leads = st.lead }
 
 pub list_stands : {S V O : Type 0} (R : Stores V S) (o : Orders O) (b : Btree V O) (bytes : List ℕ) (ps : List Pair) → FileStands R o (R.sort b.tree.store) (R.numbers b.tree.store) b.tree.head b.tree.height b.tree.column bytes ps → ListStands R o (made_of R b) bytes ps
 list_stands R o b bytes ps file = record { head = b.tree.head; code_is = refl; leaf_is = refl; node_is = refl; height = b.tree.height; file = file }

@@ -35,6 +35,8 @@ impl<R: Records, O: Order> Multi for Btree<R, O> {
 
     ghost made = { made_of R.Records };
 
+    ghost lead = { λ b. R.lead b.tree.store };
+
     ghost stands = { ListStands R.Records O.Order };
 
     ghost fills = { fills_list R.S.Space R.Records O.Order };

@@ -26,7 +26,7 @@ put_leaf-requires-clause-ready g c = leaf_ready g.R.S.Space g.R.Records g.O.Orde
 pub returns-in-Err-clause-full : goal.returns-in-Err-clause-full
 returns-in-Err-clause-full g c = λ is.
     lacks_lone g.R.S.Space g.R.Records g.O.Order c.args.self.now c.strip.new.self c.args.space.now c.strip.new.space c.in_ok-strip.ensures.stripped c.strip.ensures.still g.met.R.Records.lacks_still c.in_ok-strip.ensures.fills c.requires c.put_leaf.new.space c.spoil.new.self c.put_leaf.ensures.stays.keeps
-    (given_up g.R.S.Space c.put_leaf.new.space c.spoil.new.self c.spoil.ensures.spoiled c.spoil.ensures.stays c.spoil.ensures.now c.spoil.ensures.log)
+    (given_up g.R.S.Space c.put_leaf.new.space c.spoil.new.self c.spoil.ensures.spoiled c.spoil.ensures.stays c.spoil.ensures.now c.spoil.ensures.log c.spoil.ensures.brought)
     (rw (c.in_ok-leaf.ensures, c.new.ensures) at (c.in-Err.ensures.full (err_on _ _ is)))
 
 pub returns-clause-cleared : goal.returns-clause-cleared

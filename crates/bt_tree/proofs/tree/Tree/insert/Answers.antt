@@ -110,7 +110,7 @@ returns-in-Err-clause-full g c = λ is.
     (λ used. inl (runs_out g.R.S.Space g.R.Records g.O.Order g.met.O.Order.total (orders_are_strict g.O.Order.cmp g.met.O.Order.total g.met.O.Order.exact) c.args.last c.args.key.now c.args.value.now c.args.self.now c.take_pair.new.self c.args.space.now c.take_pair.new.space c.in_ok-changed.changed
     c.take_pair.ensures.looks c.take_pair.ensures.stays c.in_ok-changed.ensures.taken (λ w. not_both _ (c.leaf_fits.ensures.1 w) c.if-leaf_fits.false) used))
     (λ lacks. inr (lacks_given g.R.S.Space g.R.Records g.met.R.Records.lacks_still _ _ _ _ c.args.self.now c.args.space.now c.part.new.space c.spoil.new.self
-    (given_up g.R.S.Space c.part.new.space c.spoil.new.self c.spoil.ensures.spoiled c.spoil.ensures.stays c.spoil.ensures.now c.spoil.ensures.log)
+    (given_up g.R.S.Space c.part.new.space c.spoil.new.self c.spoil.ensures.spoiled c.spoil.ensures.stays c.spoil.ensures.now c.spoil.ensures.log c.spoil.ensures.brought)
     (lacks_piece g.R.S.Space g.R.Records g.O.Order g.met.O.Order.total (orders_are_strict g.O.Order.cmp g.met.O.Order.total g.met.O.Order.exact) c.args.last c.args.key.now c.args.value.now c.args.self.now c.take_pair.new.self c.args.space.now c.take_pair.new.space c.in_ok-changed.changed
     c.take_pair.ensures.looks c.take_pair.ensures.stays c.in_ok-changed.ensures.taken
     c.in_ok-changed.ensures.deep c.part.new.space (λ w. not_both _ (c.leaf_fits.ensures.1 w) c.if-leaf_fits.false) lacks)))

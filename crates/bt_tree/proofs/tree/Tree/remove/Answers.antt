@@ -74,7 +74,7 @@ vacate-requires g c =
 pub returns-in-Err-clause-full : goal.returns-in-Err-clause-full
 returns-in-Err-clause-full g c = λ is.
     room_given g.R.S.Space g.R.Records g.met.R.Records.lacks_still _ _ _ _ c.args.self.now c.args.space.now c.vacate.new.space c.spoil.new.self
-    (given_up g.R.S.Space c.vacate.new.space c.spoil.new.self c.spoil.ensures.spoiled c.spoil.ensures.stays c.spoil.ensures.now c.spoil.ensures.log)
+    (given_up g.R.S.Space c.vacate.new.space c.spoil.new.self c.spoil.ensures.spoiled c.spoil.ensures.stays c.spoil.ensures.now c.spoil.ensures.log c.spoil.ensures.brought)
     (vacate_full g.R.S.Space g.R.Records g.O.Order g.met.O.Order.total (orders_are_strict g.O.Order.cmp g.met.O.Order.total g.met.O.Order.exact) c.args.all c.args.key.now c.args.self.now c.give_pairs.new.self c.args.space.now c.give_pairs.new.space
     c.give_pairs.ensures.looks c.give_pairs.ensures.stays c.in-Some.lessened (rw c.in-Some.is at c.in_ok-lessened.ensures.given)
     (rw c.in-Some.is at c.in_ok-lessened.ensures.hit) c.vacate.new.space ((rw (c.prev-prev.ensures, c.next-next.ensures) at c.in-Err.ensures.full) (err_on _ _ is)))

@@ -1,4 +1,4 @@
-use Rattle.std.proofs.Common.{refl, ◌∙◌}
+use Rattle.std.proofs.Common.{arith, refl, ◌∙◌}
 use Rattle.std.proofs.lemmas.Result.{on_ok_weaker, on_err_weaker}
 use Rattle.bt_tree.proofs.Settles.{both_done, store_ready, settle_anew, settle_packs, settle_refused, settle_stands, settles}
 use Rattle.bt_tree.proofs.tree.Tree.settle.Goals as goal
@@ -33,5 +33,6 @@ returns-clause-stays g c = record {
   file = c.settle.ensures.stays.file ∙ c.set_opaque.ensures.sets.file;
   sort = c.settle.ensures.stays.sort_same ∙ c.set_opaque.ensures.sets.sort_same;
   fixed = c.settle.ensures.stays.numbers_same ∙ c.set_opaque.ensures.sets.numbers_same;
+  lead = omega (arith, c.set_opaque.ensures.sets.leads, c.settle.ensures.stays.leads);
   stays = record { head = refl; height = refl; column = refl };
 }

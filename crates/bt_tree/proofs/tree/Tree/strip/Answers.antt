@@ -26,11 +26,11 @@ pub returns-in-Err-clause-full : goal.returns-in-Err-clause-full
 returns-in-Err-clause-full g c = λ is.
     lacks_column g.R.S.Space g.R.Records g.met.R.Records.lacks_still c.args.self.now c.clear.new.self c.args.space.now c.clear.new.space c.put_column.new.space c.spoil.new.self c.requires c.in_ok-clear.ensures.cleared c.in_ok-clear.ensures.fills
     (same_store_map g.R.Records c.args.self.now.store c.clear.new.self c.clear.ensures.stays) c.clear.ensures.keeps c.put_column.ensures.keeps
-    (given_up g.R.S.Space c.put_column.new.space c.spoil.new.self c.spoil.ensures.spoiled c.spoil.ensures.stays c.spoil.ensures.now c.spoil.ensures.log)
+    (given_up g.R.S.Space c.put_column.new.space c.spoil.new.self c.spoil.ensures.spoiled c.spoil.ensures.stays c.spoil.ensures.now c.spoil.ensures.log c.spoil.ensures.brought)
     (c.in-Err.ensures.full (err_on _ _ is))
 
 pub returns-in-Err-clause-still : goal.returns-in-Err-clause-still
-returns-in-Err-clause-still g c = let given = given_up g.R.S.Space c.put_column.new.space c.spoil.new.self c.spoil.ensures.spoiled c.spoil.ensures.stays c.spoil.ensures.now c.spoil.ensures.log in record {
+returns-in-Err-clause-still g c = let given = given_up g.R.S.Space c.put_column.new.space c.spoil.new.self c.spoil.ensures.spoiled c.spoil.ensures.stays c.spoil.ensures.now c.spoil.ensures.log c.spoil.ensures.brought in record {
   keeps = keeps_then g.R.S.Space c.args.space.now c.put_column.new.space c.spoil.new.self (keeps_then g.R.S.Space c.args.space.now c.clear.new.space c.put_column.new.space c.clear.ensures.keeps c.put_column.ensures.keeps) given.keeps;
   made = same_store_then g.R.Records c.args.self.now.store c.clear.new.self c.put_column.new.store (same_store_map g.R.Records c.args.self.now.store c.clear.new.self c.clear.ensures.stays) c.put_column.ensures.same;
   head = refl;

@@ -1,0 +1,4 @@
+pub mod Lookings
+pub mod Movings
+pub mod Placings
+pub mod Settings

@@ -1,0 +1,168 @@
+-- What is taken of items that are shown, and calls that only look at a tree.
+use Rattle.std.proofs.Common.{◌≡◌, ◌≢◌, ℕ, zero, suc, ◌+◌, ◌-◌, ◌<◌, ◌≤◌, List, [], ◌∷◌, ◌++◌, Bool, true, false, Option, Some, None, length, refl, sym, ap, ◌∙◌, subst, ⊎_elim, ◌⊎◌, arith}
+use Rattle.std.specs.Prelude.{option_map, slice_get}
+use Rattle.std.specs.declared.cmp.Ordering.{Ordering}
+use Rattle.tc_base.specs.Lists.{values}
+use Rattle.tc_base.specs.declared.order.Order.{Ghosts as Orders}
+use Rattle.tc_base.specs.declared.order.Side.{Side}
+use Rattle.tc_base.specs.declared.seq.Pair.{Pair}
+use Rattle.tc_space.specs.Changes.{inside}
+use Rattle.tc_space.specs.Frames.{keeps_refl, keeps_then, reads_refl, reads_then}
+use Rattle.tc_space.specs.declared.records.Records.{Ghosts as Stores}
+use Rattle.tc_space.specs.declared.space.Space.{Ghosts}
+use Rattle.bt_cache.specs.Effects.{same_store_refl, same_store_then}
+use Rattle.bt_page.specs.declared.page.Item.{Item}
+use Rattle.bt_slots.specs.Reads.{value_in, values_in}
+use Rattle.bt_ways.specs.Changes.{AreItems, items_pairs}
+use Rattle.bt_ways.specs.Items.{item_in, item_of}
+use Rattle.bt_tree.specs.declared.tree.Tree.{Tree}
+use Rattle.bt_tree.specs.Meaning.{AnswersPairs, IsOpen, Means}
+use Rattle.bt_tree.specs.Ranging.{Scans}
+use Rattle.bt_tree.specs.Showing.{ShownOf, ShowsItem, Takes, item_first}
+use Rattle.bt_tree.specs.Visiting.{IsLastOne, IsVisited, Shown, VisitsPairs}
+use Rattle.bt_tree.proofs.Fronts.{first_of}
+use Rattle.bt_tree.specs.Visits.{Asks, stays_then}
+use Rattle.bt_tree.proofs.Contents.{no_items_of}
+use Rattle.bt_rows.specs.Orders.{IsOrder, before_by}
+use Rattle.bt_cursor.specs.Places.{Looks, end_of, last_number, nth_further, number_last, value_at}
+use Rattle.bt_cursor.specs.declared.takers.End.{End}
+
+-- ---- what is left of a tree that was looked at
+
+module _ {S V O : Type 0} (s : Ghosts S) (R : Stores V S) (o : Orders O) (t u : Tree V O) (old new : S) where
+  pub looks_of : (most steps steps' : ℕ) → Asks s R o most t u steps steps' old new → Looks s R o t u old new
+  looks_of most steps steps' a = record { reads = a.reads; keeps = a.looks.keeps; made = a.looks.made; stays = a.stays }
+
+  pub looks_scanned : (steps steps' : ℕ) → Scans s R o t u steps steps' old new → Looks s R o t u old new
+  looks_scanned steps steps' a = record { reads = a.reads; keeps = a.keeps; made = a.made; stays = a.stays }
+
+  pub open_after : IsOpen s R o t old → Looks s R o t u old new → IsOpen s R o u new
+  open_after ready looks = record { sound = looks.reads.sound; held = λ told. let h = ready.held told in (h.0, looks.reads.means h.0 h.1) }
+
+module _ {S V O : Type 0} (s : Ghosts S) (R : Stores V S) (o : Orders O) where
+  pub looks_none : (t : Tree V O) (old : S) → s.sound old → Looks s R o t t old old
+  looks_none t old sound = record { reads = reads_refl s (Means s R o) t old sound; keeps = keeps_refl s old; made = same_store_refl R t.store; stays = record { head = refl; height = refl; column = refl } }
+
+  pub looks_both : (t u v : Tree V O) (a b c : S) → Looks s R o t u a b → Looks s R o u v b c → Looks s R o t v a c
+  looks_both t u v a b c first second = record {
+    reads = reads_then s (Means s R o) t u v a b c first.reads second.reads;
+    keeps = keeps_then s a b c first.keeps second.keeps;
+    made = same_store_then R t.store u.store v.store first.made second.made;
+    stays = stays_then t u v first.stays second.stays;
+  }
+
+  -- whatever pairs it means are those of items in order
+  pub record HasItems (ps : List Pair) : Type 0 where
+    pub items : List Item
+    pub are : AreItems o.cmp items
+    pub pairs : ps ≡ items_pairs items
+
+  pub items_meant : IsOrder (before_by o.cmp) → (t : Tree V O) (old : S) (ps : List Pair) → Means s R o t old ps → HasItems ps
+  items_meant order t old ps means =
+      let k = no_items_of o.cmp order t.head t.height t.column means.1.records ps means.1.is in
+      record { items = k.all; are = k.are; pairs = k.pairs }
+
+-- ---- what is made of an item that was shown
+
+module _ {T A : Type 0} (takes : Takes T) (view : Item → A) (got : T → Option A) where
+  seen_as : (t u : T) (held : Bool) (o : Option Item) → ((t u : T) (x : Item) (more : Bool) → takes t x u more → got u ≡ Some (view x)) → got t ≡ None → ShownOf takes o held t u → got u ≡ option_map view o
+  seen_as t u held None taken none shown = ap got shown.1 ∙ none
+  seen_as t u held (Some x) taken none shown = taken t u x shown.1 shown.2
+
+  pub item_seen : {S V O : Type 0} (s : Ghosts S) (R : Stores V S) (o : Orders O) (f : List Pair → Option Item) (tree : Tree V O) (space : S) (t u : T) (held : Bool)
+      → ((t u : T) (x : Item) (more : Bool) → takes t x u more → got u ≡ Some (view x)) → got t ≡ None → ShowsItem s R o f takes tree space held t u → AnswersPairs s R o (λ ps. option_map view (f ps)) tree space (got u)
+  item_seen s R o f tree space t u held taken none shows = λ ps means. seen_as t u held (f ps) taken none (shows ps means)
+
+-- the number of a key's last value
+module _ {T : Type 0} (takes : Takes T) (number : T → ℕ) (taken : (t u : T) (x : Item) (more : Bool) → takes t x u more → number u + 1 ≡ length x.values) where
+  none_held : (key : List ℕ) (vs : List (List ℕ)) (t u : T) → ShownOf takes (item_of key vs) false t u → None ≡ number_last vs
+  none_held key [] t u shown = refl
+  none_held key (v ∷ vs) t u shown = absurd (never shown.0)
+    where
+      never : false ≡ true → ⊥
+      never e = cc
+
+  one_held : (key : List ℕ) (vs : List (List ℕ)) (t u : T) → ShownOf takes (item_of key vs) true t u → Some (number u) ≡ number_last vs
+  one_held key [] t u shown = absurd (never shown.0)
+    where
+      never : true ≡ false → ⊥
+      never e = cc
+  one_held key (v ∷ vs) t u shown = ap (λ (n : ℕ). Some n) (omega (arith, taken t u (record { key = key; values = v ∷ vs }) shown.1 shown.2))
+
+  module _ {S V O : Type 0} (s : Ghosts S) (R : Stores V S) (o : Orders O) (key : List ℕ) (tree : Tree V O) (space : S) (t u : T) where
+    pub no_last : ShowsItem s R o (item_in key) takes tree space false t u → AnswersPairs s R o (last_number key) tree space None
+    no_last shows = λ ps means. none_held key (values ps key) t u (shows ps means)
+
+    pub has_last : ShowsItem s R o (item_in key) takes tree space true t u → AnswersPairs s R o (last_number key) tree space (Some (number u))
+    has_last shows = λ ps means. one_held key (values ps key) t u (shows ps means)
+
+-- the value of a number
+module _ {T : Type 0} (takes : Takes T) (value : T → Option (List ℕ)) (n : ℕ) where
+  nth_held : (key : List ℕ) (vs : List (List ℕ)) (t u : T) (held : Bool) → ((x : Item) (more : Bool) → takes t x u more → value u ≡ slice_get x.values n) → value t ≡ None → ShownOf takes (item_of key vs) held t u → value u ≡ slice_get vs n
+  nth_held key [] t u held taken none shown = ap value shown.1 ∙ none
+  nth_held key (v ∷ vs) t u held taken none shown = taken (record { key = key; values = v ∷ vs }) shown.1 shown.2
+
+  pub nth_shown : {S V O : Type 0} (s : Ghosts S) (R : Stores V S) (o : Orders O) (key : List ℕ) (tree : Tree V O) (space : S) (t u : T) (held : Bool)
+      → ((x : Item) (more : Bool) → takes t x u more → value u ≡ slice_get x.values n) → value t ≡ None → ShowsItem s R o (item_in key) takes tree space held t u → AnswersPairs s R o (value_at key n) tree space (value u)
+  nth_shown s R o key tree space t u held taken none shows = λ ps means. nth_held key (values ps key) t u held taken none (shows ps means)
+
+-- ---- values where they lie
+
+abbrev pub end_at : List ℕ → ℕ → End
+end_at key last = record { key = key; last = last }
+
+pub values_count : (n : ℕ) (bytes : List ℕ) → length (values_in n bytes).0 ≡ n
+unfolding values_in
+values_count zero bytes = refl
+values_count (suc n) bytes = ap (λ (m : ℕ). suc m) (values_count n (value_in bytes).1)
+
+-- the key of an item that lies somewhere, and the number of its last value
+pub end_seen : (key k first : List ℕ) (more : ℕ) (further : List ℕ) → k ≡ key → Some (end_at k more) ≡ Some (end_of (record { key = key; values = first ∷ (values_in more further).0 }))
+end_seen key k first more further is =
+    let last : more ≡ length (first ∷ (values_in more further).0) - 1 = omega (arith, values_count more further) in
+    λ i. Some (end_at (is i) (last i))
+
+pub nth_is : (n i : ℕ) (bytes : List ℕ) → i < n → slice_get (values_in n bytes).0 i ≡ Some (nth_further i bytes)
+unfolding values_in
+nth_is zero i bytes lt = absurd (omega (arith, lt))
+nth_is (suc n) zero bytes lt = refl
+nth_is (suc n) (suc i) bytes lt = nth_is n i (value_in bytes).1 (omega (arith, lt))
+
+none_past : (xs : List (List ℕ)) (i : ℕ) → length xs ≤ i → slice_get xs i ≡ None
+none_past [] i le = refl
+none_past (x ∷ xs) zero le = absurd (omega (arith, le))
+none_past (x ∷ xs) (suc i) le = none_past xs i (omega (arith, le))
+
+pub nth_none : (first : List ℕ) (more n : ℕ) (further : List ℕ) → more < n → None ≡ slice_get (first ∷ (values_in more further).0) n
+nth_none first more n further lt = sym (none_past (first ∷ (values_in more further).0) n (omega (arith, lt, values_count more further)))
+
+pub nth_more : (first : List ℕ) (more n : ℕ) (further value : List ℕ) → n ≢ 0 → n ≤ more → value ≡ nth_further (n - 1) further → Some value ≡ slice_get (first ∷ (values_in more further).0) n
+nth_more first more zero further value ne le is = absurd (ne refl)
+nth_more first more (suc m) further value ne le is =
+    let same : suc m - 1 ≡ m = omega arith in
+    ap (λ (v : List ℕ). Some v) (is ∙ ap (λ (k : ℕ). nth_further k further) same) ∙ sym (nth_is more m further (omega (arith, le)))
+
+-- ---- the first item of a stretch
+
+module _ {T A : Type 0} (takes : Takes T) (view : Item → A) (got : T → Option A) (taken : (t u : T) (x : Item) (more : Bool) → takes t x u more → (got u ≡ Some (view x)) × (more ≡ false)) where
+  never : true ≡ false → ⊥
+  never e = cc
+
+  visited : (cmp : List ℕ → List ℕ → Ordering) → IsOrder (before_by cmp) → (qs : List Pair) (way steps steps' : ℕ) (t u : T) → got t ≡ None → IsVisited takes cmp qs way steps steps' t u → got u ≡ option_map view (item_first qs)
+  visited cmp order qs way steps steps' t u none v = go v.went refl v.shown
+    where
+      go : (went : List Item) → v.went ≡ went → Shown takes t went u v.more → got u ≡ option_map view (item_first qs)
+      go [] e shown =
+          let nil : qs ≡ [] = sym v.pairs ∙ ap items_pairs (λ j. e j ++ v.whole shown.1 j) in
+          ap got shown.0 ∙ none ∙ sym (ap (λ (ps : List Pair). option_map view (item_first ps)) nil)
+      go (x ∷ xs) e shown =
+          let whole : v.went ++ v.left ≡ x ∷ (xs ++ v.left) = ap (λ (z : List Item). z ++ v.left) e in
+          let first : item_first qs ≡ Some x = ap item_first (sym v.pairs ∙ ap items_pairs whole) ∙ first_of cmp order x (xs ++ v.left) (subst (AreItems cmp) whole v.are) in
+          ⊎_elim
+          (λ (on : takes t x shown.0 true × Shown takes shown.0 xs u v.more). absurd (never (taken t shown.0 x true on.0).1))
+          (λ (last : IsLastOne takes t x xs shown.0 u v.more). ap got last.same ∙ (taken t shown.0 x false last.taken).0 ∙ sym (ap (λ (o : Option Item). option_map view o) first))
+          shown.1
+
+  pub first_visited : {S V O : Type 0} (s : Ghosts S) (R : Stores V S) (o : Orders O) → IsOrder (before_by o.cmp) → (side : List ℕ → Side) (tree : Tree V O) (space : S) (steps steps' : ℕ) (t u : T) → got t ≡ None
+      → VisitsPairs s R o takes side tree space steps steps' t u → AnswersPairs s R o (λ ps. option_map view (item_first (inside side ps))) tree space (got u)
+  first_visited s R o order side tree space steps steps' t u none visits = λ ps means. visited o.cmp order (inside side ps) tree.height steps steps' t u none (visits ps means)
