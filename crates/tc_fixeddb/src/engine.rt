@@ -49,7 +49,7 @@ impl<S: Space> Storage for FixedEngine<S> {
 
     ghost fills_then = { λ e a b c d full. full };
 
-    ghost since_more = { λ a b new le. record { fills = λ c d full. full; large = λ c full. full } };
+    ghost since_more = { λ a b new le. record { fills = λ c d full. full; large = λ same c full. full } };
 
     fn kind(&self) -> Kind {
         Kind::Fixed

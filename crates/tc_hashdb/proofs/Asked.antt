@@ -44,7 +44,7 @@ module _ {S : Type 0} (s : Ghosts S) where
   pub stores : (e e' : HashEngine S) (a b : S) (mode : Mode) (key text value bytes : List ℕ) (done : Bool) → text ≡ key → bytes ≡ value → Takes s (stored_in mode text bytes) done e e' a b → Makes s (Only 0) layout_of HoldsKeys (stored mode key value) done e e' a b
   stores e e' a b mode key text value bytes done same given takes = made_up s (stored mode key value) (stored_in mode text bytes) done e e' a b takes (is_stored mode key text value bytes same given)
 
-  pub store_full : (e : HashEngine S) (a b : S) (mode : Mode) (key text value bytes : List ℕ) → text ≡ key → bytes ≡ value → LacksRoomFor s (stored_in mode text bytes) e a b → IsFull s HoldsKeys (λ x. Fills s) (stored mode key value) e a b
+  pub store_full : (e : HashEngine S) (a b : S) (mode : Mode) (key text value bytes : List ℕ) → text ≡ key → bytes ≡ value → LacksRoomFor s (stored_in mode text bytes) e a b → IsFull s HoldsKeys (λ x a b. Fills s b) (stored mode key value) e a b
   store_full e a b mode key text value bytes same given lacks = full_up s (stored mode key value) (stored_in mode text bytes) e a b lacks (is_stored mode key text value bytes same given)
 
   is_taken : (key text : List ℕ) → text ≡ key → (m : Map) → IsStep (taken key) (λ n. without n text) m
@@ -53,13 +53,13 @@ module _ {S : Type 0} (s : Ghosts S) where
   pub takes_key : (e e' : HashEngine S) (a b : S) (key text : List ℕ) (done : Bool) → text ≡ key → Takes s (λ m. without m text) done e e' a b → Makes s (Only 0) layout_of HoldsKeys (taken key) done e e' a b
   takes_key e e' a b key text done same takes = made_up s (taken key) (λ m. without m text) done e e' a b takes (is_taken key text same)
 
-  pub take_full : (e : HashEngine S) (a b : S) (key text : List ℕ) → text ≡ key → LacksRoomFor s (λ m. without m text) e a b → IsFull s HoldsKeys (λ x. Fills s) (taken key) e a b
+  pub take_full : (e : HashEngine S) (a b : S) (key text : List ℕ) → text ≡ key → LacksRoomFor s (λ m. without m text) e a b → IsFull s HoldsKeys (λ x a b. Fills s b) (taken key) e a b
   take_full e a b key text same lacks = full_up s (taken key) (λ m. without m text) e a b lacks (is_taken key text same)
 
   pub clears : (e e' : HashEngine S) (a b : S) (done : Bool) → Takes s (λ m. Some empty) done e e' a b → Makes s (Only 0) layout_of HoldsKeys all_gone done e e' a b
   clears e e' a b done takes = made_up s all_gone (λ m. Some empty) done e e' a b takes (λ m. record { is = refl })
 
-  pub clear_full : (e : HashEngine S) (a b : S) → LacksRoomFor s (λ m. Some empty) e a b → IsFull s HoldsKeys (λ x. Fills s) all_gone e a b
+  pub clear_full : (e : HashEngine S) (a b : S) → LacksRoomFor s (λ m. Some empty) e a b → IsFull s HoldsKeys (λ x a b. Fills s b) all_gone e a b
   clear_full e a b lacks = full_up s all_gone (λ m. Some empty) e a b lacks (λ m. record { is = refl })
 
   -- ---- what fails changes nothing
@@ -104,7 +104,7 @@ module _ {S : Type 0} (s : Ghosts S) where
     same = λ not. absurd cc;
   }
 
-  lacks_all : (g : Map → Map) (v : HashEngine S) (a b : S) → ((m : Map) → Means s v a m → FillsMap s a b m (g m)) → LacksRoomFor s (λ m. Some (g m)) v a b
+  lacks_all : (g : Map → Map) (v : HashEngine S) (a b : S) → ((m : Map) → Means s v a m → FillsMap s b m (g m)) → LacksRoomFor s (λ m. Some (g m)) v a b
   lacks_all g v a b full = record { by = full }
 
   all_clear : (keys texts : List (List ℕ)) → texts ≡ keys → (m : Map) → IsStep (all_cleared keys) (λ n. Some (all_out texts n)) m
@@ -113,7 +113,7 @@ module _ {S : Type 0} (s : Ghosts S) where
   pub clears_all : (e e' : HashEngine S) (a b : S) (keys texts : List (List ℕ)) → texts ≡ keys → KeepsHead e e' → Writes s (Only 0) (Means s) (all_out texts) e e' a b → Makes s (Only 0) layout_of HoldsKeys (all_cleared keys) true e e' a b
   clears_all e e' a b keys texts same head writes = made_up s (all_cleared keys) (λ m. Some (all_out texts m)) true e e' a b (wrote_all (all_out texts) e e' a b head writes) (all_clear keys texts same)
 
-  pub clear_all_full : (e : HashEngine S) (a b : S) (keys texts : List (List ℕ)) → texts ≡ keys → ((m : Map) → Means s e a m → FillsMap s a b m (all_out texts m)) → IsFull s HoldsKeys (λ x. Fills s) (all_cleared keys) e a b
+  pub clear_all_full : (e : HashEngine S) (a b : S) (keys texts : List (List ℕ)) → texts ≡ keys → ((m : Map) → Means s e a m → FillsMap s b m (all_out texts m)) → IsFull s HoldsKeys (λ x a b. Fills s b) (all_cleared keys) e a b
   clear_all_full e a b keys texts same full = full_up s (all_cleared keys) (λ m. Some (all_out texts m)) e a b (lacks_all (all_out texts) e a b full) (all_clear keys texts same)
 
   short_step : (pairs texts : List Pair) (b : Bool) → texts ≡ pairs → b ≡ list_all is_short texts → (m : Map) → all_stored pairs (hash false m) ≡ cond b (Some (hash false (all_set pairs m))) None
@@ -128,7 +128,7 @@ module _ {S : Type 0} (s : Ghosts S) where
   pub stores_all : (e e' : HashEngine S) (a b : S) (pairs texts : List Pair) (short : Bool) → texts ≡ pairs → short ≡ list_all is_short texts → short ≡ true → KeepsHead e e' → Writes s (Only 0) (Means s) (all_set pairs) e e' a b → Makes s (Only 0) layout_of HoldsKeys (all_stored pairs) true e e' a b
   stores_all e e' a b pairs texts short same is so head writes = made_up s (all_stored pairs) (λ m. Some (all_set pairs m)) true e e' a b (wrote_all (all_set pairs) e e' a b head writes) (all_store pairs texts short same is so)
 
-  pub store_all_full : (e : HashEngine S) (a b : S) (pairs texts : List Pair) (short : Bool) → texts ≡ pairs → short ≡ list_all is_short texts → short ≡ true → ((m : Map) → Means s e a m → FillsMap s a b m (all_set pairs m)) → IsFull s HoldsKeys (λ x. Fills s) (all_stored pairs) e a b
+  pub store_all_full : (e : HashEngine S) (a b : S) (pairs texts : List Pair) (short : Bool) → texts ≡ pairs → short ≡ list_all is_short texts → short ≡ true → ((m : Map) → Means s e a m → FillsMap s b m (all_set pairs m)) → IsFull s HoldsKeys (λ x a b. Fills s b) (all_stored pairs) e a b
   store_all_full e a b pairs texts short same is so full = full_up s (all_stored pairs) (λ m. Some (all_set pairs m)) e a b (lacks_all (all_set pairs) e a b full) (all_store pairs texts short same is so)
 
   -- ---- keys listed

@@ -1,7 +1,6 @@
 -- A packing keeps what is held, and a limit that it meets is one of the database.
-use Rattle.std.proofs.Common.{◌≡◌, ◌⊎◌, ◌+◌, ◌<◌, ◌≤◌, ℕ, List, length, take, sym, ap, subst, inl, inr, ⊎_elim, arith}
+use Rattle.std.proofs.Common.{◌≡◌, ◌⊎◌, ◌+◌, ◌<◌, ◌≤◌, ℕ, List, length, take, sym, ap, subst, inl, inr, ⊎_elim}
 use Rattle.std.specs.FinMap.{keys}
-use Rattle.tc_base.specs.Files.{Files}
 use Rattle.tc_base.specs.Maps.{Map}
 use Rattle.tc_base.specs.declared.seq.Pair.{Pair}
 use Rattle.tc_base.specs.declared.kind.Form.{Form}
@@ -17,7 +16,7 @@ use Rattle.hf_pool.specs.Pools.{frees}
 use Rattle.hf_tree.specs.Links.{width}
 use Rattle.hf_record.specs.Holding.{HasMap}
 use Rattle.hf_record.specs.Moves.{IsRefusedFor}
-use Rattle.ty_base.specs.Holding.{FormsLayout, Held, IsPast, IsReady}
+use Rattle.ty_base.specs.Holding.{FormsLayout, Held, IsReady}
 use Rattle.tc_hash.specs.Holding.{IsNumbered}
 use Rattle.tc_hash.specs.Keeping.{file_of, holds}
 use Rattle.tc_hash.specs.Packing.{ArePairs, Enlarges, LacksLarge as LacksIts, LacksOne, LacksPacking, MovesRecords, PacksAs, StaysNumbered, blocks_long}
@@ -25,7 +24,7 @@ use Rattle.tc_hash.specs.Repacking.{IsTightFrom}
 use Rattle.tc_hash.proofs.Repacked.{packed_tight}
 use Rattle.tc_model.specs.Contents.{Contents}
 use Rattle.tc_hashdb.specs.declared.holding.HashEngine.{HashEngine}
-use Rattle.tc_hashdb.specs.Filling.{LacksLarge, LacksLargeAt, LacksLargeOf, LacksOne as LacksOneOf}
+use Rattle.tc_hashdb.specs.Filling.{LacksLarge, LacksLargeAt, LacksOne as LacksOneOf}
 use Rattle.tc_hashdb.specs.Holding.{HoldsKeys, Means}
 use Rattle.tc_hashdb.specs.Changing.{no_more}
 use Rattle.tc_hashdb.specs.Layouts.{layout_of, lead_of}
@@ -86,7 +85,7 @@ module _ {S : Type 0} (s : Ghosts S) where
   }
 
   -- written anew in the large form it had no room
-  large_up : (e : HashEngine S) (a b : S) (m : Map) → e.hash.body.file ≡ 0 → Means s e a m → LacksIts s e.hash a b → LacksLargeAt (s.limit b 0) (length (s.now b 0)) (s.now a 0) m
+  large_up : (e : HashEngine S) (a b : S) (m : Map) → e.hash.body.file ≡ 0 → Means s e a m → LacksIts s e.hash a b → LacksLargeAt (s.limit b 0) (length (s.now b 0)) (s.brought b) (s.now a 0) m
   large_up e a b m file means lacks =
       let has = subst (λ (f : ℕ). HasMap e.hash.body.head e.hash.body.pool.size (frees e.hash.body.pool) m (s.now a f)) file (in_of s e a m means).1.map.has in
       let numbers = subst (λ (f : ℕ). IsNumbered e.hash.body.head (s.now a f)) file (in_of s e a m means).1.numbers in
@@ -100,18 +99,12 @@ module _ {S : Type 0} (s : Ghosts S) where
         has = has;
         head = x.head;
         is_new = x.is_new;
-        lacks = inr (inr (lacks_one (s.limit b 0) (length (s.now b 0)) e.hash.body.file b x.head m x.pairs (ap (λ (f : ℕ). s.limit b f) file) (ap (λ (f : ℕ). length (s.now b f)) file) (x.are m (in_of s e a m means)) x.one));
+        lacks = inr (inr (x.one.lacks.brought, lacks_one (s.limit b 0) (length (s.now b 0)) e.hash.body.file b x.head m x.pairs (ap (λ (f : ℕ). s.limit b f) file) (ap (λ (f : ℕ). length (s.now b f)) file) (x.are m (in_of s e a m means)) x.one));
       })
       lacks.anew
 
-  pub pack_full : (form : Form) (e : HashEngine S) (a b : S) → (s.tells → IsPast s a b) → (s.tells → LacksPacking form s e.hash a b) → (c : Contents) → Held s HoldsKeys e a c → s.log_full b ⊎ ((form ≡ forms.Large) × LacksLarge s a b c)
-  pack_full form e a b past full c h =
-      let m : Map = h.1.map in
-      let p = past h.0 in
-      let of : LacksIts s e.hash a b → LacksLargeOf (s.limit b 0) (length (s.now b 0)) (s.files_at b) (s.moment a) (s.moment b) m = λ lacks. record {
-        at = s.moment a;
-        since = omega arith;
-        within = p.later;
-        lacks = subst (λ (files : Files). LacksLargeAt (s.limit b 0) (length (s.now b 0)) (files 0) m) (sym p.files) (large_up e a b m h.1.holds_map.file (means_of s e a c h) lacks);
-      } in
-      ⊎_elim (λ log. inl log) (λ large. inr (large.0, subst (λ d. LacksLarge s a b d) (sym h.1.is) (of large.1))) (full h.0)
+  pub pack_full : (form : Form) (e : HashEngine S) (a b : S) → (s.tells → LacksPacking form s e.hash a b) → (c : Contents) → Held s HoldsKeys e a c → s.log_full b ⊎ ((form ≡ forms.Large) × LacksLarge s a b c)
+  pack_full form e a b full c h = ⊎_elim
+      (λ log. inl log)
+      (λ large. inr (large.0, subst (λ d. LacksLarge s a b d) (sym h.1.is) (large_up e a b h.1.map h.1.holds_map.file (means_of s e a c h) large.1)))
+      (full h.0)

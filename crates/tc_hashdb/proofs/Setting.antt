@@ -1,5 +1,5 @@
 -- Values set, one key after the other.
-use Rattle.std.proofs.Common.{◌≡◌, ◌∙◌, ℕ, List, [], ◌∷◌, ◌++◌, length, refl, sym, ap, subst, append_assoc}
+use Rattle.std.proofs.Common.{◌≡◌, ◌∙◌, ℕ, List, [], ◌∷◌, ◌++◌, refl, sym, ap, subst, append_assoc}
 use Rattle.std.proofs.lemmas.List.{append-nil}
 use Rattle.std.specs.FinMap.{entries}
 use Rattle.std.specs.List.Sorted.{IsStrictlySortedBy}
@@ -15,7 +15,7 @@ use Rattle.tc_space.specs.Stores.{IsReady, Only, ready_writes}
 use Rattle.tc_space.specs.declared.space.Space.{Ghosts}
 use Rattle.tc_hashdb.specs.declared.holding.HashEngine.{HashEngine}
 use Rattle.tc_hashdb.specs.Changing.{KeepsHead, all_set, head_refl, head_then, last_values, set_entries, set_one}
-use Rattle.tc_hashdb.specs.Filling.{FillsKey, FillsMap, key_more}
+use Rattle.tc_hashdb.specs.Filling.{FillsKey, FillsMap}
 use Rattle.tc_hashdb.specs.Holding.{Means}
 use Rattle.tc_hashdb.proofs.Several.{all_entries, fills_on, last_set, set_next}
 
@@ -63,12 +63,11 @@ module _ {S : Type 0} (s : Ghosts S) where
       (sym (append-nil h.done) ∙ (ap (λ l. h.done ++ l) (sym none) ∙ (sym h.split ∙ (is ∙ all_entries m))))
       h.writes
 
-  pub set_full : (v u : HashEngine S) (a b c : S) (all rest next : List Entry) (e : Entry) (key value : List ℕ) (n : Map) (h : SetSoFar v u a b all rest) → rest ≡ e ∷ next → key ≡ e.0 → value ≡ e.1 → all ≡ entries_on [] n → IsStrictlySortedBy lexical (keys_of all) → ((m : Map) → Means s u b m → FillsKey s b c m key value) → (m : Map) → Means s v a m → FillsMap s a c m (set_entries m (entries n))
+  pub set_full : (v u : HashEngine S) (a b c : S) (all rest next : List Entry) (e : Entry) (key value : List ℕ) (n : Map) (h : SetSoFar v u a b all rest) → rest ≡ e ∷ next → key ≡ e.0 → value ≡ e.1 → all ≡ entries_on [] n → IsStrictlySortedBy lexical (keys_of all) → ((m : Map) → Means s u b m → FillsKey s c m key value) → (m : Map) → Means s v a m → FillsMap s c m (set_entries m (entries n))
   set_full v u a b c all rest next e key value n h is key_is value_is all_is rising full m means =
-      let one = key_more s a b c (set_entries m h.done) key value (h.keeps.steady means.0).past.later (full (set_entries m h.done) (h.writes.means m means)) in
-      subst (λ l. FillsMap s a c m (set_entries m l)) (all_is ∙ all_entries n)
-      (fills_on (s.limit c 0) (length (s.now c 0)) (s.log_full c) (s.files_at c) (s.moment a) (s.moment c) all h.done next e m rising (h.split ∙ ap (λ l. h.done ++ l) is)
-      (subst (λ k. FillsKey s a c (set_entries m h.done) k e.1) key_is (subst (λ w. FillsKey s a c (set_entries m h.done) key w) value_is one)))
+      subst (λ l. FillsMap s c m (set_entries m l)) (all_is ∙ all_entries n)
+      (fills_on (s.limit c 0) (s.log_full c) (s.brought c) (s.now c 0) all h.done next e m rising (h.split ∙ ap (λ l. h.done ++ l) is)
+      (subst (λ k. FillsKey s c (set_entries m h.done) k e.1) key_is (subst (λ w. FillsKey s c (set_entries m h.done) key w) value_is (full (set_entries m h.done) (h.writes.means m means)))))
 
   -- ---- the last value of each key
 
@@ -79,8 +78,8 @@ module _ {S : Type 0} (s : Ghosts S) where
     means = λ n means. subst (λ x. Means s u b x) (ap (λ x. set_entries n (entries x)) is ∙ last_set pairs n (subst (λ x. IsStrictlySortedBy lexical (keys_of (entries x))) is rising)) (writes.means n means);
   }
 
-  pub full_last : (a c : S) (pairs : List Pair) (m n : Map) → m ≡ last_values pairs → IsStrictlySortedBy lexical (keys_of (entries m)) → FillsMap s a c n (set_entries n (entries m)) → FillsMap s a c n (all_set pairs n)
-  full_last a c pairs m n is rising full = subst (λ x. FillsMap s a c n x) (ap (λ x. set_entries n (entries x)) is ∙ last_set pairs n (subst (λ x. IsStrictlySortedBy lexical (keys_of (entries x))) is rising)) full
+  pub full_last : (c : S) (pairs : List Pair) (m n : Map) → m ≡ last_values pairs → IsStrictlySortedBy lexical (keys_of (entries m)) → FillsMap s c n (set_entries n (entries m)) → FillsMap s c n (all_set pairs n)
+  full_last c pairs m n is rising full = subst (λ x. FillsMap s c n x) (ap (λ x. set_entries n (entries x)) is ∙ last_set pairs n (subst (λ x. IsStrictlySortedBy lexical (keys_of (entries x))) is rising)) full
 
 -- the keys that an ordered map is seen to have rise
 pub rising_seen : (b : BTreeMap (List ℕ) (List ℕ)) (m : Map) → m ≡ map_seen b → IsOrdered lexical b → IsStrictlySortedBy lexical (keys_of (entries m))

@@ -14,7 +14,6 @@ use Rattle.std.proofs.lemmas.List.Sums.{fold-append}
 use Rattle.std.proofs.lemmas.Map.Keys.{sorted_head, sorted_tail}
 use Rattle.std.proofs.lemmas.Map.Lookups.{exact_bytes}
 use Rattle.std.proofs.Math.ListN.{get_or}
-use Rattle.tc_base.specs.Files.{Files}
 use Rattle.tc_base.specs.Maps.{Map}
 use Rattle.tc_base.specs.Orders.{lexical}
 use Rattle.tc_base.specs.declared.kind.Mode.TheVariants.{Over}
@@ -24,7 +23,8 @@ use Rattle.tc_model.specs.Contents.{Contents, hash}
 use Rattle.tc_model.specs.Stores.{clear, put_last, store}
 use Rattle.tc_engine.specs.Changes.{all_pushed, all_stored}
 use Rattle.tc_hashdb.specs.Changing.{all_out, all_set, is_short, last_values, out_one, set_entries, set_one}
-use Rattle.tc_hashdb.specs.Filling.{FillsBy, WantsAt}
+use Rattle.tc_hashdb.specs.Filling.{FillsBy, WantsKey}
+use Rattle.tc_hashdb.proofs.Filled.{between_out}
 
 abbrev Entry : Type 0
 Entry = List ℕ × List ℕ
@@ -160,18 +160,23 @@ pub set_next : (es : List Entry) (e : Entry) (m : Map) → set_entries m (es ++ 
 set_next es e m = fold-append (λ (n : Map) (e : Entry). set_one n e.0 e.1) m es (e ∷ [])
 
 -- those that were set, the next one, and those behind it
-pub fills_on : (limit long : ℕ) (log : Type 0) (past : ℕ → Files) (from moment : ℕ) (all es fs : List Entry) (e : Entry) (m : Map) → IsStrictlySortedBy order (keys_of all) → all ≡ es ++ e ∷ fs → log ⊎ WantsAt limit long past from moment (set_entries m es) e.0 e.1 → FillsBy limit long log past from moment m (set_entries m all)
-fills_on limit long log past from moment all es fs e m rising is (inl full) = inl full
-fills_on limit long log past from moment all es fs e m rising is (inr wants) =
+pub fills_on : (limit : ℕ) (log brought : Type 0) (bytes : List ℕ) (all es fs : List Entry) (e : Entry) (m : Map) → IsStrictlySortedBy order (keys_of all) → all ≡ es ++ e ∷ fs → log ⊎ (brought × WantsKey limit bytes (set_entries m es) e.0 e.1) → FillsBy limit log brought bytes m (set_entries m all)
+fills_on limit log brought bytes all es fs e m rising is (inl full) = inl full
+fills_on limit log brought bytes all es fs e m rising is (inr x) =
     let once : Once (es ++ e ∷ fs) = subst Once is (rising_once all rising) in
-    inr (record {
-      held = set_entries m es;
-      between = λ k. ⊎_elim (λ first. inl first) (λ last. inr (last ∙ sym (ap (λ l. get (set_entries m l) k) is))) (on_the_way es (e ∷ fs) m k once);
-      key = e.0;
-      value = e.1;
-      there = ap (λ l. get (set_entries m l) e.0) is ∙ once_over (es ++ e ∷ fs) m e.0 once ∙ ap (λ o. over o (get m e.0)) (find_at es e fs once);
-      wants = wants;
-    })
+    let on : (k : List ℕ) → (get (set_entries m es) k ≡ get m k) ⊎ (get (set_entries m es) k ≡ get (set_entries m all) k) = λ k.
+    ⊎_elim (λ first. inl first) (λ last. inr (last ∙ sym (ap (λ l. get (set_entries m l) k) is))) (on_the_way es (e ∷ fs) m k once) in
+    inr (
+      x.0,
+      record {
+        held = x.1.held;
+        key = e.0;
+        value = e.1;
+        between = between_out (set_entries m es) x.1.held m (set_entries m all) e.0 x.1.kept on;
+        there = ap (λ l. get (set_entries m l) e.0) is ∙ once_over (es ++ e ∷ fs) m e.0 once ∙ ap (λ o. over o (get m e.0)) (find_at es e fs once);
+        wants = x.1.wants;
+      },
+    )
 
 -- ---- one more
 

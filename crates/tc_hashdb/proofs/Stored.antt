@@ -25,7 +25,6 @@ use Rattle.tc_hashdb.specs.Holding.{Means}
 use Rattle.tc_hashdb.specs.Layouts.{lead_of}
 use Rattle.tc_hashdb.specs.Laying.{none_leads}
 use Rattle.tc_hashdb.proofs.Counted.{counts_out}
-use Rattle.ty_base.specs.Holding.{IsPast}
 use Rattle.tc_hashdb.proofs.Filled.{fills_up}
 use Rattle.tc_hashdb.proofs.Kept.{Counts, in_of, reads_again, shows_still, writes_again}
 
@@ -110,12 +109,12 @@ module _ {S : Type 0} (s : Ghosts S) where
   pub stored_so : (mode : Mode) (key value : List ℕ) (most : ℕ) (p : Put) (was : Option ℕ) (h h' : Hash S) (a b : S) → p ≡ put.Stored was → Answers s mode key value most p h h' a b → StoresWithin s mode key value most was h h' a b
   stored_so mode key value most p was h h' a b e x = subst (λ q. Answers s mode key value most q h h' a b) e x
 
-  pub lacks_put : (mode : Mode) (key value : List ℕ) (v : HashEngine S) (a b : S) → (s.tells → IsPast s a b) → LacksWithin s mode key value 16777216 v.hash a b → LacksRoomFor s (stored_in mode key value) v a b
-  lacks_put mode key value v a b past lacks = record {
+  pub lacks_put : (mode : Mode) (key value : List ℕ) (v : HashEngine S) (a b : S) → LacksWithin s mode key value 16777216 v.hash a b → LacksRoomFor s (stored_in mode key value) v a b
+  lacks_put mode key value v a b lacks = record {
     by = λ m means.
         let held = in_of s v a m means in
-        subst (λ n. FillsMap s a b m n) (sym (ap (λ o. unwrap_or o m) (stored_put mode m key value (λ keep. lacks.lacks.free keep m held) (lacks.fits m held))))
-        (fills_up s mode key value v.hash a b m means.1.file held (past means.0) lacks.lacks.block);
+        subst (λ n. FillsMap s b m n) (sym (ap (λ o. unwrap_or o m) (stored_put mode m key value (λ keep. lacks.lacks.free keep m held) (lacks.fits m held))))
+        (fills_up s mode key value v.hash a b m means.1.file held lacks.lacks.block);
   }
 
   -- ---- outs

@@ -96,4 +96,4 @@ module _ {S : Type 0} (s : Ghosts S) where
 
   -- a limit is reached, as the space stands, on the way to what was to be made
   pub record LacksRoomFor (f : Step) (v : HashEngine S) (old new : S) : Type 0 where
-    pub by : (m : Map) → Means s v old m → FillsMap s old new m (after f m)
+    pub by : (m : Map) → Means s v old m → FillsMap s new m (after f m)

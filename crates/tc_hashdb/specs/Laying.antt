@@ -35,7 +35,7 @@ some_layout (b ∷ bytes) some = refl
 pub same_numbers : (h g : Head) (region : List ℕ) → SameNumbers h g → g.opaque ≡ region → numbers_with g g.opaque ≡ numbers_with h region
 same_numbers h g region same shows = λ i. (same.options i ∷ same.apow i ∷ same.fpow i ∷ same.buckets i ∷ []) ++ shows i
 
-same_lead : (h g : Head) → SameNumbers h g → lead_of g ≡ lead_of h
+pub same_lead : (h g : Head) → SameNumbers h g → lead_of g ≡ lead_of h
 same_lead h g same = λ i. (same.first i - (256 + wide (same.options i == 1) * same.buckets i + (64 + 4 * 2 ^ same.fpow i))) / 2 ^ same.apow i
 
 within_unit : (first behind unit : ℕ) → behind ≤ first → first < behind + unit → first - behind < unit

@@ -1,10 +1,10 @@
 -- How a hash file is laid out.
-use Rattle.std.specs.Prelude.{ℕ, List, [], ◌∷◌, ◌++◌, ◌-◌, ◌/◌, replicate, take}
+use Rattle.std.specs.Prelude.{ℕ, List, [], ◌∷◌, ◌++◌, replicate, take}
 use Rattle.tc_base.specs.Files.{Files}
 use Rattle.hf_head.specs.declared.head.Head.{Head}
-use Rattle.hf_head.specs.Heads.{head_in, sections, unit}
+use Rattle.hf_head.specs.Heads.{head_in}
 use Rattle.tc_hash.specs.Ending.{slack_by}
-use Rattle.tc_hash.specs.Standing.{numbers_in}
+use Rattle.tc_hash.specs.Standing.{lead_in, numbers_in}
 use Rattle.ty_base.specs.Holding.{Layout}
 
 -- the numbers of a head, the options first, and a region behind them
@@ -13,7 +13,7 @@ numbers_with h region = numbers_in h ++ region
 
 -- how many whole units lie free between the sections of a file and its first block
 abbrev pub lead_of : Head → ℕ
-lead_of h = (h.first - sections h) / unit h
+lead_of h = lead_in h
 
 -- ---- the layout
 

@@ -71,13 +71,13 @@ module _ {S : Type 0} (s : Ghosts S) where
   wanted_is m None = refl
   wanted_is m (Some n) = refl
 
-  fills_up : {old space : S} (m n : Map) → FillsMap s old space m n → Fills s old space (hash false m) (hash false n)
+  fills_up : {space : S} (m n : Map) → FillsMap s space m n → Fills s space (hash false m) (hash false n)
   fills_up m n full = full
 
-  pub full_up : (change : Change) (step : Step) (e : HashEngine S) (a b : S) → LacksRoomFor s step e a b → ((m : Map) → IsStep change step m) → IsFull s HoldsKeys (λ x. Fills s) change e a b
+  pub full_up : (change : Change) (step : Step) (e : HashEngine S) (a b : S) → LacksRoomFor s step e a b → ((m : Map) → IsStep change step m) → IsFull s HoldsKeys (λ x a b. Fills s b) change e a b
   full_up change step e a b lacks is_step = record {
     by = λ c h.
         let m : Map = h.1.map in
         let is : wanted change c ≡ hash false (after step m) = ap (wanted change) h.1.is ∙ (ap (λ o. unwrap_or o (hash false m)) (is_step m).is ∙ wanted_is m (step m)) in
-        subst (λ d. Fills s a b c d) (sym is) (subst (λ d. Fills s a b d (hash false (after step m))) (sym h.1.is) (fills_up m (after step m) (lacks.by m (means_of e a c h))));
+        subst (λ d. Fills s b c d) (sym is) (subst (λ d. Fills s b d (hash false (after step m))) (sym h.1.is) (fills_up m (after step m) (lacks.by m (means_of e a c h))));
   }

@@ -4,7 +4,7 @@
 ghost use Rattle.std.proofs.Common.{inl};
 ghost use Rattle.tc_space.specs.Stores.{Only};
 ghost use Rattle.ty_base.specs.Holding.{main_no_log};
-ghost use Rattle.tc_hashdb.specs.Filling.{Fills, LacksLarge, fills_more, large_more};
+ghost use Rattle.tc_hashdb.specs.Filling.{Fills, LacksLarge, large_from};
 ghost use Rattle.tc_hashdb.specs.Holding.{HoldsKeys, Reopens};
 ghost use Rattle.tc_hashdb.specs.Informing.{Lines};
 ghost use Rattle.tc_hashdb.specs.Laws.{moved_apart};
@@ -29,9 +29,9 @@ impl<S: Space> Storage for HashEngine<S> {
 
     ghost own = { Only 0 };
 
-    ghost fills = { λ e a b c d. Fills S.Space a b c d };
+    ghost fills = { λ e a b c d. Fills S.Space b c d };
 
-    ghost fills_since = { λ a b c d. Fills S.Space a b c d };
+    ghost fills_since = { λ a b c d. Fills S.Space b c d };
 
     ghost lacks_large = { λ a b c. LacksLarge S.Space a b c };
 
@@ -51,7 +51,7 @@ impl<S: Space> Storage for HashEngine<S> {
 
     ghost fills_then = { λ e a b c d full. full };
 
-    ghost since_more = { λ a b new le. record { fills = λ c d full. fills_more _ _ _ _ _ _ _ c d le full; large = λ c lacks. large_more _ _ _ _ _ _ c le lacks } };
+    ghost since_more = { λ a b new le. record { fills = λ c d full. full; large = λ same c lacks. large_from _ _ _ _ _ c same lacks } };
 
     fn kind(&self) -> Kind {
         Kind::Hash

@@ -66,7 +66,7 @@ impl<S: Space> HashEngine<S> {
         requires ready { IsReady S.Space (Means S.Space) self.old space.old }
         ensures set { OnOk result (Writes S.Space (Only 0) (Means S.Space) (λ m. set_one m key.now value.now) self.old self.new space.old space.new) }
         ensures refused { OnErr result (S.flag space.new ≡ false) }
-        ensures full { IsErrOf result RecErr.Full → (m : Map) → Means S.Space self.old space.old m → FillsKey S.Space space.old space.new m key.now value.now }
+        ensures full { IsErrOf result RecErr.Full → (m : Map) → Means S.Space self.old space.old m → FillsKey S.Space space.new m key.now value.now }
         ensures numbers { KeepsHead self.old self.new }
         ensures keeps { Keeps S.Space space.old space.new }
         ensures cause { OnFault S.Space result space.old space.new }
@@ -94,7 +94,7 @@ impl<S: Space> HashEngine<S> {
         requires ready { IsReady S.Space (Means S.Space) self.old space.old }
         ensures set { OnOk result (Writes S.Space (Only 0) (Means S.Space) (λ m. set_entries m (entries values.now)) self.old self.new space.old space.new) }
         ensures refused { OnErr result (S.flag space.new ≡ false) }
-        ensures full { IsErrOf result RecErr.Full → (m : Map) → Means S.Space self.old space.old m → FillsMap S.Space space.old space.new m (set_entries m (entries values.now)) }
+        ensures full { IsErrOf result RecErr.Full → (m : Map) → Means S.Space self.old space.old m → FillsMap S.Space space.new m (set_entries m (entries values.now)) }
         ensures numbers { KeepsHead self.old self.new }
         ensures keeps { Keeps S.Space space.old space.new }
         ensures cause { OnFault S.Space result space.old space.new }
@@ -112,7 +112,7 @@ impl<S: Space> HashEngine<S> {
         requires ready { IsReady S.Space (Means S.Space) self.old space.old }
         ensures set { OnOk result (Writes S.Space (Only 0) (Means S.Space) (all_set pairs) self.old self.new space.old space.new) }
         ensures refused { OnErr result (Refuses S.Space (Means S.Space) self.old self.new space.old space.new) }
-        ensures full { IsErrOf result RecErr.Full → (m : Map) → Means S.Space self.old space.old m → FillsMap S.Space space.old space.new m (all_set pairs m) }
+        ensures full { IsErrOf result RecErr.Full → (m : Map) → Means S.Space self.old space.old m → FillsMap S.Space space.new m (all_set pairs m) }
         ensures numbers { KeepsHead self.old self.new }
         ensures keeps { Keeps S.Space space.old space.new }
         ensures cause { OnFault S.Space result space.old space.new }

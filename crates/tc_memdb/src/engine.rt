@@ -78,7 +78,7 @@ impl Storage for MemEngine {
 
     ghost fills_then = { λ e a b c d full. full };
 
-    ghost since_more = { λ a b new le. record { fills = λ c d full. full; large = λ c full. full } };
+    ghost since_more = { λ a b new le. record { fills = λ c d full. full; large = λ same c full. full } };
 
     fn kind(&self) -> Kind {
         self.held.kind()

@@ -153,9 +153,10 @@ abbrev pub KeepsFills : {S B : Type 0} → Ghosts S → (B → S → S → Conte
 KeepsFills {S} s fills base base' old mid = s.tells → (new : S) (c d : Contents) → fills base' mid new c d → fills base old new c d
 
 -- a limit that was met in some call since a space stood so was met since it stood as earlier
-pub record IsEarlier {S : Type 0} (fills_since : S → S → Contents → Contents → Type 0) (lacks_large : S → S → Contents → Type 0) (a b new : S) : Type 0 where
+pub record IsEarlier {S : Type 0} (now : S → Files) (fills_since : S → S → Contents → Contents → Type 0) (lacks_large : S → S → Contents → Type 0) (a b new : S) : Type 0 where
   pub fills : (c d : Contents) → fills_since b new c d → fills_since a new c d
-  pub large : (c : Contents) → lacks_large b new c → lacks_large a new c
+  -- where files are written anew, only if they were the same
+  pub large : now a ≡ now b → (c : Contents) → lacks_large b new c → lacks_large a new c
 
 -- a limit is reached between whatever contents: that of the undo log
 abbrev pub FillsAll : (Contents → Contents → Type 0) → Type 0

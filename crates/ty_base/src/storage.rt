@@ -105,5 +105,5 @@ pub trait Storage {
     ghost fills_then: { (b : Self) (old new : Self.S) (c d : Contents) → fills b old new c d → fills_since old new c d };
 
     /// And the moment from which on it was so may be an earlier one.
-    ghost since_more: { (a b new : Self.S) → Self.S.moment a ≤ Self.S.moment b → IsEarlier fills_since lacks_large a b new };
+    ghost since_more: { (a b new : Self.S) → Self.S.moment a ≤ Self.S.moment b → IsEarlier Self.S.now fills_since lacks_large a b new };
 }

@@ -1,5 +1,4 @@
 use Rattle.std.proofs.Common.{refl}
-use Rattle.ty_base.specs.Holding.{past_of}
 use Rattle.tc_hash.proofs.Stored.{from_refused}
 use Rattle.tc_hashdb.specs.Lifting.{ready_down}
 use Rattle.tc_hashdb.specs.Laying.{both_done}
@@ -24,4 +23,4 @@ pub returns-clause-refused : goal.returns-clause-refused
 returns-clause-refused g c = from_refused _ c.pack.ensures.refused (λ refused. pack_refused g.S.Space c.args.self.now (record c.args.self.now { hash = c.pack.new.self }) c.args.space.now c.pack.new.space refused c.pack.ensures.stays refl)
 
 pub returns-clause-full : goal.returns-clause-full
-returns-clause-full g c = λ full. pack_full g.S.Space c.args.form c.args.self.now c.args.space.now c.pack.new.space (λ t. past_of g.S.Space c.args.space.now c.pack.new.space t (g.met.S.Space.present c.args.space.now t) (c.pack.ensures.keeps.steady t).past) (c.pack.ensures.full full)
+returns-clause-full g c = λ full. pack_full g.S.Space c.args.form c.args.self.now c.args.space.now c.pack.new.space (c.pack.ensures.full full)

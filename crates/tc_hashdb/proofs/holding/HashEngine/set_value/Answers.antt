@@ -1,7 +1,6 @@
 use Rattle.std.proofs.Common.{refl, sym, ap, subst}
 use Rattle.std.proofs.Common.{Err}
 use Rattle.tc_base.specs.declared.kind.Mode.TheVariants.{Over}
-use Rattle.ty_base.specs.Holding.{past_of}
 use Rattle.tc_hashdb.proofs.Counted.{counts_put}
 use Rattle.tc_hashdb.proofs.Filled.{key_fills}
 use Rattle.tc_hashdb.proofs.Kept.{in_of, ready_hash, shows_still, writes_again}
@@ -25,8 +24,8 @@ returns-clause-set g c =
 pub returns-in-Err-clause-full : goal.returns-in-Err-clause-full
 returns-in-Err-clause-full g c = λ full m means.
     let given = c.given_up.ensures.full (cause_is c.given_up.result Full full) in
-    subst (λ x. FillsKey g.S.Space c.args.space.now x m c.args.key.now c.args.value.now) (sym given.1)
-    (key_fills g.S.Space Over c.args.key.now c.args.value.now c.args.self.now.hash c.args.space.now c.put_within.new.space m means.1.file (in_of g.S.Space c.args.self.now c.args.space.now m means) (past_of g.S.Space c.args.space.now c.put_within.new.space means.0 (g.met.S.Space.present c.args.space.now means.0) (c.put_within.ensures.keeps.steady means.0).past) (c.in-Err.ensures.full (ap (λ e. Err e) given.0)).lacks.block)
+    subst (λ x. FillsKey g.S.Space x m c.args.key.now c.args.value.now) (sym given.1)
+    (key_fills g.S.Space Over c.args.key.now c.args.value.now c.args.self.now.hash c.args.space.now c.put_within.new.space m means.1.file (in_of g.S.Space c.args.self.now c.args.space.now m means) (c.in-Err.ensures.full (ap (λ e. Err e) given.0)).lacks.block)
 
 pub given_up-requires : goal.given_up-requires
 given_up-requires g c = λ is. (c.in-Err.ensures.full (ap (λ e. Err e) is)).lacks.block.spoiled

@@ -1,0 +1,15 @@
+pub mod Asked
+pub mod Filled
+pub mod Keeping
+pub mod Looked
+pub mod Made
+pub mod Opened
+pub mod Readings
+pub mod Rowed
+pub mod Settled
+pub mod Severals
+pub mod Stepped
+pub mod Stored
+pub mod Sums
+pub mod Takings
+pub mod Told
