@@ -2,12 +2,12 @@
 # the folder of bash-completion as `tokyo`.
 
 # Carried out by this version.
-_tokyo_commands="pipe serve drill hash fixed --help --version"
+_tokyo_commands="pipe serve drill hash tree fixed --help --version"
 _tokyo_of_kind="create inform put out get list optimize --help"
 
 # Words to come: this version answers them with status 1, so they aren't offered. A word goes to one of the lines above, and an
 # ending to _tokyo_files, once the program carries it out.
-#   tree table
+#   table
 #   of a kind: restore; of a table: setindex search
 
 # What may be named besides files: a star is quoted, as the shell would read it as files.
@@ -16,9 +16,11 @@ _tokyo_names=("'*'" +)
 # The options of a command.
 _tokyo_options() { # KIND COMMAND
     case "$1 $2" in
-        "hash create" | "hash optimize") echo "-tl" ;;
+        "hash create" | "hash optimize" | "tree optimize") echo "-tl" ;;
+        "tree create") echo "-cd -tl" ;;
         "hash put" | "fixed put") echo "-dk -dc" ;;
-        "hash list" | "fixed list") echo "-m -pv" ;;
+        "tree put") echo "-dk -dc -dd" ;;
+        "hash list" | "tree list" | "fixed list") echo "-m -pv" ;;
     esac
 }
 
@@ -27,9 +29,10 @@ _tokyo_files() { # ENDINGS WORD
     compgen -f -X "!*.tc[$1]" -- "$2"
 }
 
-# What may stand in the place of a word behind `hash` or `fixed` and a command.
+# What may stand in the place of a word behind `hash`, `tree` or `fixed` and a command.
 _tokyo_behind_command() { # KIND COMMAND WORD
-    local at named=0
+    local at named=0 ending=${1:0:1}
+    [ "$1" != tree ] || ending=b
     for ((at = 3; at < COMP_CWORD; at++)); do
         case "${COMP_WORDS[at]}" in
             -m) [ "$named" -gt 0 ] || at=$((at + 1)) ;;
@@ -43,7 +46,7 @@ _tokyo_behind_command() { # KIND COMMAND WORD
         if [[ $3 == -* ]]; then
             compgen -W "$(_tokyo_options "$1" "$2")" -- "$3"
         else
-            _tokyo_files "${1:0:1}" "$3"
+            _tokyo_files "$ending" "$3"
         fi
     fi
 }
@@ -53,14 +56,14 @@ _tokyo() {
     COMPREPLY=()
     if [ "$COMP_CWORD" -eq 1 ]; then
         mapfile -t COMPREPLY < <(compgen -W "$_tokyo_commands" -- "$word")
-    elif [[ $command == @(hash|fixed) ]] && [ "$COMP_CWORD" -eq 2 ]; then
+    elif [[ $command == @(hash|tree|fixed) ]] && [ "$COMP_CWORD" -eq 2 ]; then
         mapfile -t COMPREPLY < <(compgen -W "$_tokyo_of_kind" -- "$word")
-    elif [[ $command == @(hash|fixed) ]]; then
+    elif [[ $command == @(hash|tree|fixed) ]]; then
         mapfile -t COMPREPLY < <(_tokyo_behind_command "$command" "${COMP_WORDS[2]}" "$word")
     elif [ "$command" = serve ] && [[ $word == -* ]]; then
         mapfile -t COMPREPLY < <(compgen -W "-host -port -lim -sid -turns" -- "$word")
     elif [ "$command" = serve ] || [ "$command $COMP_CWORD" = "pipe 2" ] || [ "$command $COMP_CWORD" = "drill 4" ]; then
-        mapfile -t COMPREPLY < <(_tokyo_files hf "$word")
+        mapfile -t COMPREPLY < <(_tokyo_files hbf "$word")
         [ -n "$word" ] || COMPREPLY+=("${_tokyo_names[@]}")
     fi
 }

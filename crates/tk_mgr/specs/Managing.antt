@@ -128,13 +128,13 @@ abbrev pub FillsTaskIn : {S : Type 0} → space.Ghosts S → (S → S → Conten
 FillsTaskIn s fills lacks_large old new task c = FillsTask (s.log_full new) (fills old new) (lacks_large old new) task c
 
 -- so it is of wider kinds
-pub task_less : (log_is_full : Type 0) (f g : Contents → Contents → Type 0) (p q : Contents → Type 0) (task : Task) (c : Contents) → ((d e : Contents) → f d e → g d e) → ((d : Contents) → p d → q d) → FillsTask log_is_full f p task c → FillsTask log_is_full g q task c
+pub task_less : (log_is_full : Type 0) (f g : Contents → Contents → Type 0) (p q : Contents → Type 0) (task : Task) (c : Contents) → ((d e : Contents) → f d e → g d e) → (packing task ≡ Some form.Large → (d : Contents) → p d → q d) → FillsTask log_is_full f p task c → FillsTask log_is_full g q task c
 task_less log_is_full f g p q task c wider large x = record {
   step = x.step;
   within = x.within;
   by = ⊎_elim
       (λ y. inl (y.0, wider (at_step task c x.step) (at_step task c (x.step + 1)) y.1))
-      (λ y. inr (⊎_elim (λ log. inl log) (λ lacks. inr (lacks.0, large (at_step task c x.step) lacks.1)) y))
+      (λ y. inr (⊎_elim (λ log. inl log) (λ lacks. inr (lacks.0, large lacks.0 (at_step task c x.step) lacks.1)) y))
       x.by;
 }
 

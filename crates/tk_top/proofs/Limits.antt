@@ -1,42 +1,116 @@
 -- A limit that was reached, by the kind of the files.
-use Rattle.std.proofs.Common.{◌^◌, ℕ, refl, subst}
+use Rattle.std.proofs.Common.{◌≡◌, ◌^◌, ◌⊎◌, inl, inr, ⊎_elim, ℕ, List, length, refl, subst}
+use Rattle.tc_base.specs.Files.{Files}
+use Rattle.tc_base.specs.Maps.{Map}
 use Rattle.tc_io.specs.Images.{now}
 use Rattle.tc_io.specs.declared.volume.Volume as volume
 use Rattle.tc_space.specs.declared.space.Space as space
 use Rattle.ud_log.specs.Undo.{recovered}
+use Rattle.tc_model.specs.Contents.{Contents, fixed, hash, table, tree}
+use Rattle.tc_hashdb.specs.Filling.{LacksLargeAt as LacksAt, LacksOne, WantsAny}
+use Rattle.tc_treedb.specs.Filling.{fills_moved}
+use Rattle.tc_treedb.specs.Shapes.{new_moved}
 use Rattle.ty_rounds.specs.Turns.{Told}
+use Rattle.tk_mgr.specs.Managing.{FillsTask, task_less}
 use Rattle.tk_mgr.specs.declared.task.Task.{Task}
 use Rattle.tk_top.specs.Making.{FilesLack}
 use Rattle.tk_top.specs.Over.{BeginsAt, FilesFull, FullFiles, MainIsBare}
-use Rattle.tk_top.specs.Stored.{lacks_of}
+use Rattle.tk_top.specs.Stored.{fills_of, lacks_large_of, lacks_of, usual_of}
 use Rattle.tk_top.specs.Tasks.{FilesFullTask, FullTask}
-use Rattle.tk_top.specs.Top.{FillsAt, FillsTaskAt, IsFull, IsFullTask, IsLacking, LacksUsual, LogIsFull, Opens}
+use Rattle.tk_top.specs.Top.{FillsAt, FillsTaskAt, IsFull, IsFullTask, IsLacking, LacksLargeAt, LacksUsual, LogIsFull, Opens, files_in}
+use Rattle.tk_top.specs.Volumes.{ShowsNow}
 use Rattle.tk_top.specs.declared.words.Shape.{Shape}
+use Rattle.tk_top.specs.declared.words.Shape.TheVariants as shapes
 use Rattle.tk_top.specs.declared.words.Stored.{Stored}
+use Rattle.tk_top.specs.declared.words.Stored.TheVariants.{Fixed, Hash, Tree}
+use Rattle.tk_top.proofs.Kept.{full_opened}
+
+-- files that were brought to where they are kept are those there
+fills_shown : (stored : Stored) (limits : ℕ → ℕ) (log brought : Type 0) (files shown : Files) → (brought → files 0 ≡ shown 0) → (c d : Contents) → fills_of stored limits log brought files c d → fills_of stored limits log (Unit {0}) shown c d
+fills_shown Hash limits log brought files shown same c d full = ⊎_elim (λ l. inl l) (λ x. inr (tt, subst (λ (bytes : List ℕ). WantsAny (limits 0) bytes c d) (same x.0) x.1)) full
+fills_shown Tree limits log brought files shown same c d full = fills_moved (limits 0) log brought (Unit {0}) (files 0) (shown 0) (λ all. tt) same c d full
+fills_shown Fixed limits log brought files shown same c d full = full
+
+large_at : (limit : ℕ) (brought : Type 0) (bytes shown first : List ℕ) (held : Map) → (brought → bytes ≡ shown) → LacksAt limit (length bytes) brought first held → LacksAt limit (length shown) (Unit {0}) first held
+large_at limit brought bytes shown first held same x = record {
+  own = x.own;
+  numbers = x.numbers;
+  small = x.small;
+  pool = x.pool;
+  has = x.has;
+  head = x.head;
+  is_new = x.is_new;
+  lacks = ⊎_elim (λ less. inl less) (λ y. inr (⊎_elim (λ wide. inl wide) (λ z. inr (tt, subst (λ (bytes : List ℕ). LacksOne limit (length bytes) x.head held) (same z.0) z.1)) y)) x.lacks;
+}
+
+large_shown : (stored : Stored) (limits : ℕ → ℕ) (brought : Type 0) (files shown first : Files) → (brought → files 0 ≡ shown 0) → (c : Contents) → lacks_large_of stored limits (λ f. length (files f)) brought first c → lacks_large_of stored limits (λ f. length (shown f)) (Unit {0}) first c
+large_shown Fixed limits brought files shown first same c lacks = lacks
+large_shown Hash limits brought files shown first same (hash a held) x = large_at (limits 0) brought (files 0) (shown 0) (first 0) held same x
+large_shown Hash limits brought files shown first same (tree a decimal ps) x = absurd x
+large_shown Hash limits brought files shown first same (fixed width most ids) x = absurd x
+large_shown Hash limits brought files shown first same (table rows indexes) x = absurd x
+large_shown Tree limits brought files shown first same (tree a decimal ps) x = record { held = x.held; pages = x.pages; lacks = large_at (limits 0) brought (files 0) (shown 0) (first 0) x.held same x.lacks }
+large_shown Tree limits brought files shown first same (hash a held) x = absurd x
+large_shown Tree limits brought files shown first same (fixed width most ids) x = absurd x
+large_shown Tree limits brought files shown first same (table rows indexes) x = absurd x
+
+-- so it is where there is no room for a file that is made
+lacks_shown : (shape : Shape) (limit : ℕ) (log brought : Type 0) (bytes shown : List ℕ) → (brought → bytes ≡ shown) → lacks_of shape limit log brought bytes → lacks_of shape limit log (Unit {0}) shown
+lacks_shown (shapes.Hash shape) limit log brought bytes shown same lacks = lacks
+lacks_shown (shapes.Tree shape) limit log brought bytes shown same lacks = new_moved limit log brought (Unit {0}) bytes shown shape (λ all. tt) same lacks
+lacks_shown (shapes.Fixed shape) limit log brought bytes shown same lacks = lacks
+
+module _ {S V : Type 0} (v : volume.Ghosts V) (s : space.Ghosts S) (under : S → V) where
+  -- a limit that was reached over a space, in its own files
+  abbrev pub FillsTold : Stored → S → Contents → Contents → Type 0
+  FillsTold stored x = fills_of stored (s.limit x) (LogIsFull v (under x)) (s.brought x) (s.now x)
+
+  abbrev pub LacksLargeTold : Stored → S → S → Contents → Type 0
+  LacksLargeTold stored z x = lacks_large_of stored (s.limit x) (λ f. length (s.now x f)) (s.brought x) (s.now z)
+
+  abbrev pub LacksTold : Shape → S → Type 0
+  LacksTold shape x = lacks_of shape (s.limit x 0) (LogIsFull v (under x)) (s.brought x) (s.now x 0)
+
+  -- so it is in the volume under it
+  lacks_under : (shape : Shape) (x : S) → (s.brought x → ShowsNow (v.calls (under x)) (s.now x)) → LacksTold shape x → lacks_of shape (s.limit x 0) (LogIsFull v (under x)) (Unit {0}) (files_in v (under x) 0)
+  lacks_under shape x shows lacks = lacks_shown shape (s.limit x 0) (LogIsFull v (under x)) (s.brought x) (s.now x 0) (files_in v (under x) 0) (λ all. (shows all).same 0) lacks
 
 module _ {S V : Type 0} (v : volume.Ghosts V) {s : space.Ghosts S} {under : S → V} where
   module _ (stored : Stored) {vol w : V} where
-    pub is_full : (a b : Told) {most : ℕ} → FilesFull s under v.tells (λ x. LacksUsual v stored (s.limit x) (under x)) (λ z x. FillsAt v stored (s.limit x) (s.moment z) (under x)) (Opens stored) most (v.calls vol) w a b → IsFull v stored most vol w a b
-    is_full a b {most} x = record {
-      limits = s.limit x.space;
-      limits_are = x.limits;
-      from = s.moment x.begin;
-      since = x.since;
-      full = subst (λ (z : V). FullFiles v.tells (MainIsBare (recovered (now (v.calls vol)))) (LacksUsual v stored (s.limit x.space) z) (FillsAt v stored (s.limit x.space) (s.moment x.begin) z) (BeginsAt v.tells (Opens stored) (v.calls vol)) a b) x.vol_is x.full;
-    }
+    pub is_full : (a b : Told) {most : ℕ} → FilesFull s under v.calls v.tells (λ x. LacksTold v s under (usual_of stored) x) (λ z x. FillsTold v s under stored x) (Opens stored) most (v.calls vol) w a b → IsFull v stored most vol w a b
+    is_full a b {most} x =
+        let limits = s.limit x.space in
+        let start = BeginsAt v.tells (Opens stored) (v.calls vol) in
+        let wider : (c d : Contents) → FillsTold v s under stored x.space c d → FillsAt v stored limits (under x.space) c d = fills_shown stored limits (LogIsFull v (under x.space)) (s.brought x.space) (s.now x.space) (files_in v (under x.space)) (λ all. (x.shows all).same 0) in
+        record {
+          limits = limits;
+          limits_are = x.limits;
+          full = subst (λ (z : V). FullFiles v.tells (MainIsBare (recovered (now (v.calls vol)))) (LacksUsual v stored limits z) (FillsAt v stored limits z) start a b) x.vol_is
+              (record { which = ⊎_elim (λ y. inl (λ t. ((y t).0, lacks_under v s under (usual_of stored) x.space x.shows (y t).1))) (λ y. inr (full_opened (FillsTold v s under stored x.space) (FillsAt v stored limits (under x.space)) start start a b (λ m h. h) (λ m h c d full. wider c d full) y)) x.full.which });
+        }
 
-    pub is_full_task : (task : Task) → FilesFullTask s under v.tells (λ x. LacksUsual v stored (s.limit x) (under x)) (λ z x. FillsTaskAt v stored (s.limit x) (s.moment z) (under x)) (Opens stored) task (2 ^ 40) (v.calls vol) w → IsFullTask v stored task vol w
-    is_full_task task x = record {
-      limits = s.limit x.space;
-      limits_are = x.limits;
-      from = s.moment x.begin;
-      since = x.since;
-      full = subst (λ (z : V). FullTask v.tells (MainIsBare (recovered (now (v.calls vol)))) (LacksUsual v stored (s.limit x.space) z) (FillsTaskAt v stored (s.limit x.space) (s.moment x.begin) z) (BeginsAt v.tells (Opens stored) (v.calls vol)) task) x.vol_is x.full;
-    }
+    pub is_full_task : (task : Task) → FilesFullTask s under v.calls v.tells (λ x. LacksTold v s under (usual_of stored) x) (λ z x t c. FillsTask (LogIsFull v (under x)) (FillsTold v s under stored x) (LacksLargeTold v s under stored z x) t c) (Opens stored) task (2 ^ 40) (v.calls vol) w → IsFullTask v stored task vol w
+    is_full_task task x =
+        let limits = s.limit x.space in
+        let log = LogIsFull v (under x.space) in
+        let shown : s.brought x.space → s.now x.space 0 ≡ files_in v (under x.space) 0 = λ all. (x.shows all).same 0 in
+        record {
+          limits = limits;
+          limits_are = x.limits;
+          full = subst (λ (z : V). FullTask v.tells (MainIsBare (recovered (now (v.calls vol)))) (LacksUsual v stored limits z) (FillsTaskAt v stored limits vol z) (BeginsAt v.tells (Opens stored) (v.calls vol)) task) x.vol_is
+              (record {
+                writes = x.full.writes;
+                which = ⊎_elim (λ y. inl (λ t. ((y t).0, lacks_under v s under (usual_of stored) x.space x.shows (y t).1))) (λ y. inr (λ first h.
+                    task_less log (FillsTold v s under stored x.space) (FillsAt v stored limits (under x.space)) (LacksLargeTold v s under stored x.begin x.space) (LacksLargeAt v stored limits vol (under x.space)) task first.contents
+                    (fills_shown stored limits log (s.brought x.space) (s.now x.space) (files_in v (under x.space)) shown)
+                    (λ packs c lacks. record { first = s.now x.begin; is = x.first h.0; lacks = large_shown stored limits (s.brought x.space) (s.now x.space) (files_in v (under x.space)) (s.now x.begin) shown c lacks })
+                    (y first h))) x.full.which;
+              });
+        }
 
-  pub is_lacking : (shape : Shape) {vol w : V} → FilesLack s under v.tells (λ x. lacks_of shape (s.limit x 0) (LogIsFull v (under x))) (2 ^ 40) (v.calls vol) w → IsLacking v shape vol w
+  pub is_lacking : (shape : Shape) {vol w : V} → FilesLack s under v.calls v.tells (λ x. LacksTold v s under shape x) (2 ^ 40) (v.calls vol) w → IsLacking v shape vol w
   is_lacking shape {vol} {w} x = record {
     limit = s.limit x.space 0;
     limit_is = λ t files are. x.limits t files are 0 refl;
-    lack = λ t. subst (λ (z : V). lacks_of shape (s.limit x.space 0) (LogIsFull v z)) x.vol_is (x.lack t);
+    lack = λ t. subst (λ (z : V). lacks_of shape (s.limit x.space 0) (LogIsFull v z) (Unit {0}) (files_in v z 0)) x.vol_is (lacks_under v s under shape x.space x.shows (x.lack t));
   }

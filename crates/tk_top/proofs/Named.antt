@@ -35,6 +35,7 @@ use Rattle.tk_top.specs.Over.{BeginsAt, IsOver, MainIsBare, StandsFor, StaysWith
 use Rattle.tk_top.specs.Serving.{Begins}
 use Rattle.tk_top.specs.Staying.{AsOpening, BreaksLog, LeavesBroken}
 use Rattle.tk_top.specs.Stops.{IsEarly}
+use Rattle.tk_top.specs.Volumes.{longer}
 
 -- what is so of any that it may be
 pub ok_any : {T E : Type 0} (r : Result T E) (P : T → Type 0) → ((x : T) → P x) → IfOk r P
@@ -53,10 +54,6 @@ at_moment (c ∷ cs) ims some = ⊎_elim (λ at_once. at_once) (λ earlier. absu
 pub at_exit : (cs : Calls) (ims : Files) → Images cs ims → ImagesSince cs (length cs) ims
 at_exit [] ims are = are
 at_exit (c ∷ cs) ims are = inl are
-
-pub longer : (cs : Calls) (t u : ℕ) (ims : Files) → t ≤ u → ImagesSince cs u ims → ImagesSince cs t ims
-longer [] t u ims le some = some
-longer (c ∷ cs) t u ims le some = ⊎_elim (λ at_once. inl at_once) (λ older. inr (omega (arith, le, older.0), longer cs t u ims le older.1)) some
 
 -- at each moment of recovery, as an opening image
 leads_back : (old new : Calls) → IsSettled old → Since (StaysSettled old) old new → (o : Option Files) → LeftSince new (length old) o → AsOpening old o

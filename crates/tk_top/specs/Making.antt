@@ -17,6 +17,7 @@ use Rattle.tk_top.specs.Over.{BeginsAt, BreaksOn}
 use Rattle.tk_top.specs.Serving.{Begins}
 use Rattle.tk_top.specs.Staying.{BreaksOver, LeavesBroken, StaysAt}
 use Rattle.tk_top.specs.Stops.{IsEarly, StopsAt, StopsOver}
+use Rattle.tk_top.specs.Volumes.{ShowsNow}
 
 -- an end of making a file: no wire, and nothing is printed
 abbrev pub JudgedMaking : End → Type 0 → (ℕ → Rule → Type 0) → Type 0 → Type 0
@@ -74,9 +75,11 @@ pub record FilesMade (tells : Type 0) (opens reopens : Files → Contents → Ty
   pub ends : IsSettled old → (first : Mark) → BeginsAt tells opens old first → StopsAt reopens (ExitsMaking reopens numbers anew end first) (IsEarly end) (with_contents first anew ∷ first ∷ []) old new
 
 -- a space of this volume that has no room for the file; each of its data files may have so many bytes, or as many as it had where that is more
-pub record FilesLack {S V : Type 0} (s : space.Ghosts S) (under : S → V) (tells : Type 0) (lacks : S → Type 0) (most : ℕ) (old : Calls) (vol : V) : Type 0 where
+pub record FilesLack {S V : Type 0} (s : space.Ghosts S) (under : S → V) (calls : V → Calls) (tells : Type 0) (lacks : S → Type 0) (most : ℕ) (old : Calls) (vol : V) : Type 0 where
   pub space : S
   pub vol_is : under space ≡ vol
+  -- what it has brought there are the files of the volume that is handed back
+  pub shows : s.brought space → ShowsNow (calls (under space)) (s.now space)
   pub limits : tells → (files : Files) → recovered (now old) ≡ Some files → (f : ℕ) → is_data f ≡ true → s.limit space f ≡ max most (length (files f))
   pub lack : tells → lacks space
 
@@ -108,4 +111,4 @@ module _ {V : Type 0} (v : volume.Ghosts V) where
 
   -- of files that may have so many bytes as any may
   abbrev pub LacksOn : {S N : Type 0} → space.Ghosts S → (S → V) → (S → N → Type 0) → N → V → V → Type 0
-  LacksOn s under lacks shape old new = FilesLack s under v.tells (λ space. lacks space shape) (2 ^ 40) (v.calls old) new
+  LacksOn s under lacks shape old new = FilesLack s under v.calls v.tells (λ space. lacks space shape) (2 ^ 40) (v.calls old) new

@@ -33,6 +33,7 @@ use Rattle.tk_top.specs.Serving.{Begins, ServesAt, PlaysAll}
 use Rattle.tk_top.specs.Events.{HadEvents, events_of}
 use Rattle.tk_top.specs.Staying.{AsOpening, BreaksLog, BreaksOver, FilesStay, IsStill, LeavesBroken}
 use Rattle.tk_top.specs.Stops.{IsEarly}
+use Rattle.tk_top.specs.Volumes.{ShowsNow}
 
 -- a run over a volume whose files, as they read, recovered to these and reopened to this mark. The files as they read are one of the images
 pub record VolumeRun (reopens : Files → Contents → Type 0) (made : Files → Type 0) (files : Files) (end : End) (turns : ℕ) (at : At) (old new : Calls) (first : Mark) (es : List Entry) (v : World) : Type 0 where
@@ -144,12 +145,13 @@ Judged WireFault stand breaks = stand
 Judged TurnsSpent stand breaks = stand
 
 -- a space of this volume that has reached a limit; each of its data files may have so many bytes, or as many as it had where that is more
-pub record FilesFull {S V : Type 0} (s : space.Ghosts S) (under : S → V) (tells : Type 0) (lacks : S → Type 0) (fills : S → S → Contents → Contents → Type 0) (opens : Files → Contents → Type 0) (most : ℕ) (old : Calls) (vol : V) (a b : Told) : Type 0 where
+pub record FilesFull {S V : Type 0} (s : space.Ghosts S) (under : S → V) (calls : V → Calls) (tells : Type 0) (lacks : S → Type 0) (fills : S → S → Contents → Contents → Type 0) (opens : Files → Contents → Type 0) (most : ℕ) (old : Calls) (vol : V) (a b : Told) : Type 0 where
   -- as it was opened, and as it ended
   pub begin : S
-  pub since : tells → length old ≤ s.moment begin
   pub space : S
   pub vol_is : under space ≡ vol
+  -- what it has brought there are the files of the volume that is handed back
+  pub shows : s.brought space → ShowsNow (calls (under space)) (s.now space)
   pub limits : tells → (files : Files) → recovered (now old) ≡ Some files → (f : ℕ) → is_data f ≡ true → s.limit space f ≡ max most (length (files f))
   pub full : FullFiles tells (MainIsBare (recovered (now old))) (lacks space) (fills begin space) (BeginsAt tells opens old) a b
 
@@ -178,4 +180,4 @@ module _ {V : Type 0} (v : volume.Ghosts V) where
   RunsOn g reopens made kind end turns at old new x y = FilesRun v.tells g (OpensTo kind reopens) reopens made end turns at (v.calls old) (v.calls new) x y
 
   abbrev pub FullOn : {S W : Type 0} → space.Ghosts S → wire.Ghosts W → (S → V) → (S → Type 0) → (S → S → Contents → Contents → Type 0) → (Files → Contents → Type 0) → ℕ → V → V → W → W → Type 0
-  FullOn s g under lacks fills opens most old new x y = FilesFull s under v.tells lacks fills opens most (v.calls old) new (g.transcript x) (g.transcript y)
+  FullOn s g under lacks fills opens most old new x y = FilesFull s under v.calls v.tells lacks fills opens most (v.calls old) new (g.transcript x) (g.transcript y)

@@ -28,6 +28,7 @@ use Rattle.tk_top.specs.Over.{BeginsAt, BreaksOn, CanStand, MainIsBare, Recover}
 use Rattle.tk_top.specs.Serving.{Begins}
 use Rattle.tk_top.specs.Staying.{AsOpening, BreaksOver, IsSilent, LeavesBroken}
 use Rattle.tk_top.specs.Stops.{IsEarly, StopsAt, StopsOver}
+use Rattle.tk_top.specs.Volumes.{ShowsNow}
 
 -- ---- which files a task is for
 
@@ -141,12 +142,14 @@ pub record FullTask (tells empty lacks : Type 0) (fills : Task → Contents → 
   pub which : (tells → empty × lacks) ⊎ ((first : Mark) → start first → fills task first.contents)
 
 -- a space of this volume that has reached a limit; each of its data files may have so many bytes, or as many as it had where that is more
-pub record FilesFullTask {S V : Type 0} (s : space.Ghosts S) (under : S → V) (tells : Type 0) (lacks : S → Type 0) (fills : S → S → Task → Contents → Type 0) (opens : Files → Contents → Type 0) (task : Task) (most : ℕ) (old : Calls) (vol : V) : Type 0 where
+pub record FilesFullTask {S V : Type 0} (s : space.Ghosts S) (under : S → V) (calls : V → Calls) (tells : Type 0) (lacks : S → Type 0) (fills : S → S → Task → Contents → Type 0) (opens : Files → Contents → Type 0) (task : Task) (most : ℕ) (old : Calls) (vol : V) : Type 0 where
   -- as it was opened, and as it ended
   pub begin : S
-  pub since : tells → length old ≤ s.moment begin
+  pub first : tells → recovered (now old) ≡ Some (s.now begin)
   pub space : S
   pub vol_is : under space ≡ vol
+  -- what it has brought there are the files of the volume that is handed back
+  pub shows : s.brought space → ShowsNow (calls (under space)) (s.now space)
   pub limits : tells → (files : Files) → recovered (now old) ≡ Some files → (f : ℕ) → is_data f ≡ true → s.limit space f ≡ max most (length (files f))
   pub full : FullTask tells (MainIsBare (recovered (now old))) (lacks space) (fills begin space) (BeginsAt tells opens old) task
 
@@ -187,4 +190,4 @@ module _ {V : Type 0} (v : volume.Ghosts V) where
 
   -- of files that may have so many bytes as any may
   abbrev pub FullTaskOn : {S : Type 0} → space.Ghosts S → (S → V) → (S → Type 0) → (S → S → Task → Contents → Type 0) → (Files → Contents → Type 0) → Task → V → V → Type 0
-  FullTaskOn s under lacks fills opens task old new = FilesFullTask s under v.tells lacks fills opens task (2 ^ 40) (v.calls old) new
+  FullTaskOn s under lacks fills opens task old new = FilesFullTask s under v.calls v.tells lacks fills opens task (2 ^ 40) (v.calls old) new

@@ -13,7 +13,6 @@ use Rattle.tc_io.specs.declared.wire.Wire as wire
 use Rattle.tc_io.specs.declared.wire.At.{At}
 use Rattle.tc_io.specs.declared.wire.Entry.{Entry}
 use Rattle.ud_log.specs.Undo.{data_of, is_data, recovered}
-use Rattle.ud_state.specs.Since.{calls_at}
 use Rattle.ud_state.specs.State.{IsSettled}
 use Rattle.tc_model.specs.Contents.{Contents, no_data}
 use Rattle.ty_world.specs.World.{Mark, World, started, world_after, AllAsked}
@@ -89,43 +88,38 @@ pub record MemoryRun {W : Type 0} (g : wire.Ghosts W) (end : End) (memory : Memo
 abbrev pub Opens : Stored → Files → Contents → Type 0
 Opens stored = OpensTo (kind_in stored) (reopens_of stored)
 
--- the files that a volume had at a moment, as they read
-abbrev pub past_of : {V : Type 0} → volume.Ghosts V → V → ℕ → Files
-past_of v w t = data_of (now (calls_at t (v.calls w)))
-
 -- its undo log has half of what it may have
 abbrev pub LogIsFull : {V : Type 0} → volume.Ghosts V → V → Type 0
 LogIsFull v w = v.tells → 2 ^ 61 ≤ length (now (v.calls w) 1)
 
--- a limit is reached between contents, of files as they are in this volume and were at the moments from one on up to now
-abbrev pub FillsAt : {V : Type 0} → volume.Ghosts V → Stored → (ℕ → ℕ) → ℕ → V → Contents → Contents → Type 0
-FillsAt v stored limits from w = fills_of stored limits (λ f. length (now (v.calls w) f)) (LogIsFull v w) (past_of v w) from (length (v.calls w))
+-- its files, as it reads
+abbrev pub files_in : {V : Type 0} → volume.Ghosts V → V → Files
+files_in v w = data_of (now (v.calls w))
 
--- so it is where they are written anew in the large form
-abbrev pub LacksLargeAt : {V : Type 0} → volume.Ghosts V → Stored → (ℕ → ℕ) → ℕ → V → Contents → Type 0
-LacksLargeAt v stored limits from w = lacks_large_of stored limits (λ f. length (now (v.calls w) f)) (past_of v w) from (length (v.calls w))
+-- a limit is reached between contents, with the files of this volume
+abbrev pub FillsAt : {V : Type 0} → volume.Ghosts V → Stored → (ℕ → ℕ) → V → Contents → Contents → Type 0
+FillsAt v stored limits w = fills_of stored limits (LogIsFull v w) (Unit {0}) (files_in v w)
+
+-- so it is where the files that a volume recovered to are written anew in the large form
+pub record LacksLargeAt {V : Type 0} (v : volume.Ghosts V) (stored : Stored) (limits : ℕ → ℕ) (vol w : V) (c : Contents) : Type 0 where
+  pub first : Files
+  pub is : recovered (now (v.calls vol)) ≡ Some first
+  pub lacks : lacks_large_of stored limits (λ f. length (files_in v w f)) (Unit {0}) first c
 
 -- there is no room for a file that an opening makes
 abbrev pub LacksUsual : {V : Type 0} → volume.Ghosts V → Stored → (ℕ → ℕ) → V → Type 0
-LacksUsual v stored limits w = lacks_of (usual_of stored) (limits 0) (LogIsFull v w)
+LacksUsual v stored limits w = lacks_of (usual_of stored) (limits 0) (LogIsFull v w) (Unit {0}) (files_in v w 0)
 
 -- and along a task
-abbrev pub FillsTaskAt : {V : Type 0} → volume.Ghosts V → Stored → (ℕ → ℕ) → ℕ → V → Task → Contents → Type 0
-FillsTaskAt v stored limits from w task c = FillsTask (LogIsFull v w) (FillsAt v stored limits from w) (LacksLargeAt v stored limits from w) task c
+abbrev pub FillsTaskAt : {V : Type 0} → volume.Ghosts V → Stored → (ℕ → ℕ) → V → V → Task → Contents → Type 0
+FillsTaskAt v stored limits vol w task c = FillsTask (LogIsFull v w) (FillsAt v stored limits w) (LacksLargeAt v stored limits vol w) task c
 
--- a moment of the run
-abbrev pub IsInRun : {V : Type 0} → volume.Ghosts V → V → ℕ → Type 0
-IsInRun v vol from = v.tells → length (v.calls vol) ≤ from
-
--- a limit was reached where the files were opened, or in the round of the last event: each data file may have so many bytes, or as many as it
--- had where that is more, and has as many as the volume that is handed back; of the undo log it is said where it has half of what it may have
+-- a limit was reached where the files were opened, or in the round of the last event: each data file may have so many bytes, or as many as it had where that is more. The
+-- files are those of the volume that is handed back, and so is the undo log, of which it is said where it has half of what it may have
 pub record IsFull {V : Type 0} (v : volume.Ghosts V) (stored : Stored) (most : ℕ) (vol vol' : V) (a b : Told) : Type 0 where
   pub limits : ℕ → ℕ
   pub limits_are : v.tells → (files : Files) → recovered (now (v.calls vol)) ≡ Some files → (f : ℕ) → is_data f ≡ true → limits f ≡ max most (length (files f))
-  -- the bytes that it speaks of were the file's at a moment of the run
-  pub from : ℕ
-  pub since : IsInRun v vol from
-  pub full : FullFiles v.tells (MainIsBare (recovered (now (v.calls vol)))) (LacksUsual v stored limits vol') (FillsAt v stored limits from vol') (BeginsAt v.tells (Opens stored) (v.calls vol)) a b
+  pub full : FullFiles v.tells (MainIsBare (recovered (now (v.calls vol)))) (LacksUsual v stored limits vol') (FillsAt v stored limits vol') (BeginsAt v.tells (Opens stored) (v.calls vol)) a b
 
 -- a run that serves the database that the files of a name keep, at an address
 pub record FileRun {V W : Type 0} (v : volume.Ghosts V) (g : wire.Ghosts W) (end : End) (name : List ℕ) (stored : Stored) (limit : ℕ) (at : At) (turns : ℕ) (vol vol' : V) (x y : W) : Type 0 where
@@ -148,14 +142,12 @@ SourceRun v g end (source.File name stored limit) at turns vol vol' x y = FileRu
 
 -- ---- commands
 
--- a limit was reached along a task: each data file may have so many bytes, or as many as it had where that is more, and has as many as the volume that is
--- handed back; of the undo log it is said where it has half of what it may have
+-- a limit was reached along a task: each data file may have so many bytes, or as many as it had where that is more. The files are those of the volume that is handed
+-- back, and so is the undo log, of which it is said where it has half of what it may have
 pub record IsFullTask {V : Type 0} (v : volume.Ghosts V) (stored : Stored) (task : Task) (vol vol' : V) : Type 0 where
   pub limits : ℕ → ℕ
   pub limits_are : v.tells → (files : Files) → recovered (now (v.calls vol)) ≡ Some files → (f : ℕ) → is_data f ≡ true → limits f ≡ max (2 ^ 40) (length (files f))
-  pub from : ℕ
-  pub since : IsInRun v vol from
-  pub full : FullTask v.tells (MainIsBare (recovered (now (v.calls vol)))) (LacksUsual v stored limits vol') (FillsTaskAt v stored limits from vol') (BeginsAt v.tells (Opens stored) (v.calls vol)) task
+  pub full : FullTask v.tells (MainIsBare (recovered (now (v.calls vol)))) (LacksUsual v stored limits vol') (FillsTaskAt v stored limits vol vol') (BeginsAt v.tells (Opens stored) (v.calls vol)) task
 
 -- a run that carries out a task on the files of a name
 pub record TaskOnFiles {V O : Type 0} (v : volume.Ghosts V) (o : sink.Ghosts O) (end : End) (name : List ℕ) (stored : Stored) (task : Task) (vol vol' : V) (p q : O) : Type 0 where
@@ -177,7 +169,7 @@ pub record TaskOnFiles {V O : Type 0} (v : volume.Ghosts V) (o : sink.Ghosts O) 
 pub record IsLacking {V : Type 0} (v : volume.Ghosts V) (shape : Shape) (vol vol' : V) : Type 0 where
   pub limit : ℕ
   pub limit_is : v.tells → (files : Files) → recovered (now (v.calls vol)) ≡ Some files → limit ≡ max (2 ^ 40) (length (files 0))
-  pub lack : v.tells → lacks_of shape limit (LogIsFull v vol')
+  pub lack : v.tells → lacks_of shape limit (LogIsFull v vol') (Unit {0}) (files_in v vol' 0)
 
 -- a run that makes the files of a name anew
 pub record MakesFiles {V : Type 0} (v : volume.Ghosts V) (end : End) (name : List ℕ) (shape : Shape) (vol vol' : V) : Type 0 where

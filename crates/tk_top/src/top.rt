@@ -21,13 +21,18 @@ use std::mem::ManuallyDrop;
 use tc_base::{FILE_MOST, Kind};
 use tc_fixeddb::FixedEngine;
 use tc_hashdb::HashEngine;
+use tc_held::HeldSpace;
 use tc_io::{At, Clock, Sink, Volume, Wire};
 use tc_memdb::MemEngine;
 use tc_space::NoSpace;
+use tc_treedb::TreeEngine;
 use tc_undo::Undo;
 use tk_mgr::{Task, manage};
 use tk_words::{CommandLine, parse};
 use ty_answers::Database;
+
+// What stands behind a database in files: what is written is held in memory until a commit, and then made at once over the undo log.
+type Kept<V> = HeldSpace<Undo<V>>;
 
 /// The status, and the volume.
 #[derive(Drop)]
@@ -89,7 +94,7 @@ fn serve_stored<V: Volume, W: Wire, K: Clock>(
     ensures { FileRun V.Volume W.Wire result.end name.now stored limit at.now turns vol result.vol wire.old wire.new }
 {
     match stored {
-        Stored::Hash => run_files::<Undo<V>, Database<HashEngine<Undo<V>>>, W, K>(
+        Stored::Hash => run_files::<Kept<V>, Database<HashEngine<Kept<V>>>, W, K>(
             alloc,
             name,
             Kind::Hash,
@@ -100,7 +105,18 @@ fn serve_stored<V: Volume, W: Wire, K: Clock>(
             clock,
             turns,
         ),
-        Stored::Fixed => run_files::<Undo<V>, Database<FixedEngine<Undo<V>>>, W, K>(
+        Stored::Tree => run_files::<Kept<V>, Database<TreeEngine<Kept<V>>>, W, K>(
+            alloc,
+            name,
+            Kind::Tree,
+            vol,
+            limit,
+            at,
+            wire,
+            clock,
+            turns,
+        ),
+        Stored::Fixed => run_files::<Kept<V>, Database<FixedEngine<Kept<V>>>, W, K>(
             alloc,
             name,
             Kind::Fixed,
@@ -163,7 +179,7 @@ fn manage_stored<V: Volume, O: Sink>(
     ensures { TaskOnFiles V.Volume O.Sink result.end name.now stored task vol result.vol out.old out.new }
 {
     match stored {
-        Stored::Hash => manage_files::<Undo<V>, Database<HashEngine<Undo<V>>>, O>(
+        Stored::Hash => manage_files::<Kept<V>, Database<HashEngine<Kept<V>>>, O>(
             alloc,
             name,
             Kind::Hash,
@@ -171,7 +187,15 @@ fn manage_stored<V: Volume, O: Sink>(
             task,
             out,
         ),
-        Stored::Fixed => manage_files::<Undo<V>, Database<FixedEngine<Undo<V>>>, O>(
+        Stored::Tree => manage_files::<Kept<V>, Database<TreeEngine<Kept<V>>>, O>(
+            alloc,
+            name,
+            Kind::Tree,
+            vol,
+            task,
+            out,
+        ),
+        Stored::Fixed => manage_files::<Kept<V>, Database<FixedEngine<Kept<V>>>, O>(
             alloc,
             name,
             Kind::Fixed,
@@ -189,10 +213,13 @@ fn make_stored<V: Volume>(alloc: Global, name: &str, shape: &Shape, vol: V) -> S
 {
     match shape {
         Shape::Hash(hash) => {
-            make_files::<Undo<V>, Database<HashEngine<Undo<V>>>>(alloc, name, vol, hash)
+            make_files::<Kept<V>, Database<HashEngine<Kept<V>>>>(alloc, name, vol, hash)
+        }
+        Shape::Tree(tree) => {
+            make_files::<Kept<V>, Database<TreeEngine<Kept<V>>>>(alloc, name, vol, tree)
         }
         Shape::Fixed(fixed) => {
-            make_files::<Undo<V>, Database<FixedEngine<Undo<V>>>>(alloc, name, vol, fixed)
+            make_files::<Kept<V>, Database<FixedEngine<Kept<V>>>>(alloc, name, vol, fixed)
         }
     }
 }
@@ -298,11 +325,11 @@ fn follow_words<V: Volume, W: Wire, O: Sink, K: Clock>(
     }
 }
 
-/// What the program does with the words behind its name. Today it serves a database in memory, or a hash or a fixed-length database in files: `pipe NAME`
-/// over the standard streams, `serve NAME` with its options but `-ulog` at an address; it makes such files with `hash create NAME` and `fixed create NAME`, and
-/// carries out the commands `put`, `out`, `get`, `list`, `inform` and `optimize` of both kinds, and `drill`. The name `*` is a map and `+` a tree in the order of bytes,
-/// both in memory, where a limit has no effect; a name that ends in `.tch` or `.tcf` is that of files, which `pipe`, `serve` and `drill` make where there are none. All other
-/// words are answered with status 1.
+/// What the program does with the words behind its name. Today it serves a database in memory, or a hash, a tree or a fixed-length database in files: `pipe NAME`
+/// over the standard streams, `serve NAME` with its options but `-ulog` at an address; it makes such files with `hash create NAME`, `tree create NAME` and `fixed create NAME`,
+/// and carries out the commands `put`, `out`, `get`, `list`, `inform` and `optimize` of these kinds, and `drill`. The name `*` is a map and `+` a tree in the order of bytes,
+/// both in memory, where a limit has no effect; a name that ends in `.tch`, `.tcb` or `.tcf` is that of files, which `pipe`, `serve` and `drill` make where there are none. All
+/// other words are answered with status 1.
 pub fn run<V: Volume, W: Wire, O: Sink, E: Sink, K: Clock>(
     alloc: Global,
     words: &Vec<String>,

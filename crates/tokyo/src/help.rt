@@ -18,6 +18,7 @@ A name is
   '*'      a hash in memory: a value to each key (quoted for the shell)
   +        a tree in memory: one value or several to each key
   x.tch    a hash database in files: a value to each key
+  x.tcb    a tree in files: one value or several to each key
   x.tcf    a fixed-length database in files: values by number
 Files that aren't there are made by serve, pipe and drill.
 
@@ -31,7 +32,7 @@ Files that aren't there are made by serve, pipe and drill.
   n        so many requests, 0 to 1000000
 
 Words that are not carried out yet: -ulog, -mhost h and -mport p of serve; names of
-trees and tables in files, x.tcb and x.tct; all commands on these; and restore.
+tables in files, x.tct; all commands on these; and restore.
 
 A status other than 0 writes its line to the standard error:
   0  it is done; of serve and pipe: the input ended, and all was answered
@@ -71,31 +72,32 @@ isn't empty, and all others where it is or isn't there. The contents stay then.
 ";
 
 const TREE: &[u8] = b"tokyo tree: commands on a tree in files, whose name ends in .tcb.
-None of them is carried out yet, nor are such files served: they end with status 1. A
-tree in memory is served by tokyo serve + and tokyo pipe +.
 
 tokyo tree create [-cd] [-tl] name [lmemb [nmemb [bnum [apow [fpow]]]]]
-tokyo tree inform name
-tokyo tree put [-dk|-dc|-dd] name key value
-tokyo tree out name key
-tokyo tree get name key
-tokyo tree list [-m n] [-pv] name
-tokyo tree optimize [-tl] name
-tokyo tree restore [-ts n] name
+                                                     makes its file
+tokyo tree inform name                               prints what it is
+tokyo tree put [-dk|-dc|-dd] name key value          gives a key its first value
+tokyo tree out name key                              takes a key's first value out
+tokyo tree get name key                              prints it, and a newline
+tokyo tree list [-m n] [-pv] name                    prints the keys, a line each
+tokyo tree optimize [-tl] name                       packs the file
+tokyo tree restore [-ts n] name                      isn't carried out yet
 
-  lmemb    records of a leaf, 4 to 256; 128
-  nmemb    children of a node, 4 to 256; 256
+  lmemb    keys of a leaf, 4 to 256; 128
+  nmemb    entries of a node, 4 to 256; 256
   bnum     buckets, 1 to 16777216; 32749
   apow     the power of 2 that records are aligned to, 4 to 16; 8
   fpow     the power of 2 of the free block pool, 0 to 20; 10
-  -cd      keys in the order of their numbers
-  -tl      the large form
-  -dk      only where the key isn't held
-  -dc      joins the value behind the key's first
+  -cd      keys in the order of their numbers, and not of their bytes
+  -tl      makes it large, or has it packed to a large one: its places have 8 bytes
+  -dk      refused where the key is held
+  -dc      joins the value behind the first of the key
   -dd      adds the value behind those of the key
-  -m       so many at most, 0 to 2147483647
-  -pv      with values
-  -ts      up to this time, in microseconds since 1970
+  -m       so many keys at most, 0 to 2147483647
+  -pv      behind each key a tab and its first value
+
+Refused, with status 2: get and out of a key that isn't held; create where the file
+isn't empty, and all others where it is or isn't there. The contents stay then.
 ";
 
 const FIXED: &[u8] = b"tokyo fixed: commands on a fixed-length database, whose name ends in .tcf.

@@ -46,7 +46,7 @@ returns-clause-full g c = λ is m h.
     let st = begun g.B.S.Space g.B.Storage.holds g.B.Storage.reopens c.args.seed c.new-run.result _ _ m c.new-run.ensures.drawn c.new-run.ensures.made c.new-run.ensures.accepted h in
     let e = g.met.B.Storage.since_more c.args.space.now c.keep_hundreds.new.space c.keep_rest.new.space (c.keep_hundreds.ensures.moments c.args.seed m st).leaves.later in
     fills_within (g.B.S.Space.log_full c.keep_rest.new.space) (g.B.Storage.fills_since c.args.space.now c.keep_rest.new.space) (g.B.Storage.lacks_large c.args.space.now c.keep_rest.new.space) c.args.seed (c.keep_hundreds.new.run.made + c.args.count % 100) _ _ (omega (arith, c.in_ok-keep_hundreds.ensures.secures.made))
-    (task_less (g.B.S.Space.log_full c.keep_rest.new.space) (g.B.Storage.fills_since c.keep_hundreds.new.space c.keep_rest.new.space) (g.B.Storage.fills_since c.args.space.now c.keep_rest.new.space) (g.B.Storage.lacks_large c.keep_hundreds.new.space c.keep_rest.new.space) (g.B.Storage.lacks_large c.args.space.now c.keep_rest.new.space) (Drill c.args.seed (c.keep_hundreds.new.run.made + c.args.count % 100)) m.contents e.fills e.large (c.keep_rest.ensures.full is c.args.seed m (c.in_ok-keep_hundreds.ensures.secures.each c.args.seed m st)))
+    (task_less (g.B.S.Space.log_full c.keep_rest.new.space) (g.B.Storage.fills_since c.keep_hundreds.new.space c.keep_rest.new.space) (g.B.Storage.fills_since c.args.space.now c.keep_rest.new.space) (g.B.Storage.lacks_large c.keep_hundreds.new.space c.keep_rest.new.space) (g.B.Storage.lacks_large c.args.space.now c.keep_rest.new.space) (Drill c.args.seed (c.keep_hundreds.new.run.made + c.args.count % 100)) m.contents e.fills (λ packs. absurd cc) (c.keep_rest.ensures.full is c.args.seed m (c.in_ok-keep_hundreds.ensures.secures.each c.args.seed m st)))
 
 -- ---- laid out like what was there
 

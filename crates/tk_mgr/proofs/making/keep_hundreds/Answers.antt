@@ -43,7 +43,7 @@ pub returns-in_err-keep_some-clause-full : goal.returns-in_err-keep_some-clause-
 returns-in_err-keep_some-clause-full g c = λ is seed m st. let i = c.loop-done.invariant in
     let e = g.met.B.Storage.since_more c.args.space.now c.loop-done.space c.keep_some.new.space (i.moments seed m st).leaves.later in
     fills_within (g.B.S.Space.log_full c.keep_some.new.space) (g.B.Storage.fills_since c.args.space.now c.keep_some.new.space) (g.B.Storage.lacks_large c.args.space.now c.keep_some.new.space) seed (c.loop-done.run.made + 100) _ _ (omega arith)
-    (task_less (g.B.S.Space.log_full c.keep_some.new.space) (g.B.Storage.fills_since c.loop-done.space c.keep_some.new.space) (g.B.Storage.fills_since c.args.space.now c.keep_some.new.space) (g.B.Storage.lacks_large c.loop-done.space c.keep_some.new.space) (g.B.Storage.lacks_large c.args.space.now c.keep_some.new.space) (Drill seed (c.loop-done.run.made + 100)) m.contents e.fills e.large (c.in_err-keep_some.ensures.full (search (rules, is)) seed m (i.secures.each seed m st)))
+    (task_less (g.B.S.Space.log_full c.keep_some.new.space) (g.B.Storage.fills_since c.loop-done.space c.keep_some.new.space) (g.B.Storage.fills_since c.args.space.now c.keep_some.new.space) (g.B.Storage.lacks_large c.loop-done.space c.keep_some.new.space) (g.B.Storage.lacks_large c.args.space.now c.keep_some.new.space) (Drill seed (c.loop-done.run.made + 100)) m.contents e.fills (λ packs. absurd cc) (c.in_err-keep_some.ensures.full (search (rules, is)) seed m (i.secures.each seed m st)))
 
 -- ---- laid out like what was there
 

@@ -23,4 +23,4 @@ pub returns-in_err-make_one-clause-full : goal.returns-in_err-make_one-clause-fu
 returns-in_err-make_one-clause-full g c = λ is seed m h.
     let e = g.met.B.Storage.since_more c.args.space.now c.loop-done.space c.make_one.new.space (c.loop-done.invariant.keeps.steady h.has.held.0).past.later in
     fills_within (g.B.S.Space.log_full c.make_one.new.space) (g.B.Storage.fills_since c.args.space.now c.make_one.new.space) (g.B.Storage.lacks_large c.args.space.now c.make_one.new.space) seed (c.loop-done.run.made + 1) _ _ (omega arith)
-    (task_less (g.B.S.Space.log_full c.make_one.new.space) (g.B.Storage.fills_since c.loop-done.space c.make_one.new.space) (g.B.Storage.fills_since c.args.space.now c.make_one.new.space) (g.B.Storage.lacks_large c.loop-done.space c.make_one.new.space) (g.B.Storage.lacks_large c.args.space.now c.make_one.new.space) (Drill seed (c.loop-done.run.made + 1)) m.contents e.fills e.large (c.in_err-make_one.ensures.full (search (rules, is)) seed m (c.loop-done.invariant.makes.each seed m h)))
+    (task_less (g.B.S.Space.log_full c.make_one.new.space) (g.B.Storage.fills_since c.loop-done.space c.make_one.new.space) (g.B.Storage.fills_since c.args.space.now c.make_one.new.space) (g.B.Storage.lacks_large c.loop-done.space c.make_one.new.space) (g.B.Storage.lacks_large c.args.space.now c.make_one.new.space) (Drill seed (c.loop-done.run.made + 1)) m.contents e.fills (λ packs. absurd cc) (c.in_err-make_one.ensures.full (search (rules, is)) seed m (c.loop-done.invariant.makes.each seed m h)))

@@ -32,9 +32,9 @@ returns-in-Err-clause-judged g c = judged_unnamed c.in-Err.ensures.unopened (g.B
 pub returns-clause-full : goal.returns-clause-full
 returns-clause-full g c = λ is. let o = c.in-Ok.ensures.opened in let end = c.serve_files-end.new.space in record {
   begin = c.in-Ok.space;
-  since = λ t. (o.over t).later;
   space = end;
   vol_is = sym c.close_over.ensures;
+  shows = g.met.S.OnVolume.shows end;
   limits = limits_so o (g.S.Space.limit end) c.serve_files-end.ensures.accounted.follows.same_limit;
   full = full_so o (OpensTo c.args.kind g.B.Storage.reopens) (g.B.Storage.fills_since c.in-Ok.space end) (g.W.Wire.transcript c.args.wire.now) (g.W.Wire.transcript c.serve_files-end.new.wire) (c.serve_files-end.ensures.full is);
 }

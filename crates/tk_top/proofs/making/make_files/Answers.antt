@@ -48,6 +48,7 @@ pub returns-clause-full : goal.returns-clause-full
 returns-clause-full g c = λ is. let o = c.in-Ok.ensures.opened in let end = c.make_opened-end.new.space in record {
   space = end;
   vol_is = sym c.close_over.ensures;
+  shows = g.met.S.OnVolume.shows end;
   limits = limits_so o (g.S.Space.limit end) c.make_opened-end.ensures.follows.same_limit;
   lack = λ t. c.make_opened-end.ensures.full is (o.over t).tells;
 }

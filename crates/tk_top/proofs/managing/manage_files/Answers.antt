@@ -36,9 +36,10 @@ returns-in-Err-clause-judged g c = task_unnamed c.in-Err.ensures.unopened (g.B.O
 pub returns-clause-full : goal.returns-clause-full
 returns-clause-full g c = λ is. let o = c.in-Ok.ensures.opened in let end = c.manage_opened-end.new.space in record {
   begin = c.in-Ok.space;
-  since = λ t. (o.over t).later;
+  first = λ t. (o.over t).files;
   space = end;
   vol_is = sym c.close_over.ensures;
+  shows = g.met.S.OnVolume.shows end;
   limits = limits_so o (g.S.Space.limit end) c.manage_opened-end.ensures.accounted.follows.same_limit;
   full = full_task_so o (OpensTo c.args.kind g.B.Storage.reopens) c.args.task (FillsTaskIn g.S.Space g.B.Storage.fills_since g.B.Storage.lacks_large c.in-Ok.space end) (c.manage_opened-end.ensures.full is);
 }

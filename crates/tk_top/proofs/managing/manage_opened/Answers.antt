@@ -7,6 +7,9 @@ use Rattle.tc_base.specs.Files.{Files}
 use Rattle.tk_mgr.specs.Managing.{ArePacked, FormedFrom, packing, said_by, task_less}
 use Rattle.tk_top.specs.Staying.{BreaksOver}
 use Rattle.tk_top.specs.Tasks.{IsMisplaced, JudgedTask, ManagesOver, ReasonOver, is_refused_by, wants_empty}
+use Rattle.std.specs.Prelude.{Some}
+use Rattle.tc_base.specs.declared.kind.Form.TheVariants as forms
+use Rattle.tk_top.specs.Serving.{Begins}
 use Rattle.tk_top.specs.declared.ends.End.{End}
 use Rattle.ty_base.specs.declared.errors.AnyErr.TheVariants as any
 use Rattle.tc_space.specs.Frames.{only_reads_refl}
@@ -68,12 +71,19 @@ returns-clause-judged g c = let s = g.B.S.Space in let opens = OpensTo c.args.ki
     }))
 
 pub returns-clause-full : goal.returns-clause-full
-returns-clause-full g c = λ is. let full = full_is c.manage.result (sym c.end_of-end.ensures ∙ is) in record {
-  writes = λ t. c.manage.ensures.writes full;
-  which = inr (λ first h.
-      let e = g.met.B.Storage.since_more c.args.space.now c.open_kept.new.space c.manage.new.space (c.open_kept.ensures.moments first h).leaves.later in
-      task_less (g.B.S.Space.log_full c.manage.new.space) (g.B.Storage.fills_since c.open_kept.new.space c.manage.new.space) (g.B.Storage.fills_since c.args.space.now c.manage.new.space) (g.B.Storage.lacks_large c.open_kept.new.space c.manage.new.space) (g.B.Storage.lacks_large c.args.space.now c.manage.new.space) c.args.task first.contents e.fills e.large (c.manage.ensures.full full first (c.in-Ok.ensures.opened.marks first h)));
-}
+returns-clause-full g c = λ is.
+    let s = g.B.S.Space in
+    let old = c.args.space.now in
+    let mid = c.open_kept.new.space in
+    let full = full_is c.manage.result (sym c.end_of-end.ensures ∙ is) in
+    let placed : s.tells → IsMisplaced c.args.task (s.now old) → ⊥ = λ t m. c.if-not-is_placed.ensures.yes (search rules) (s.now old 0) (c.len.ensures t) (subst (λ (e : Bool). is_refused_by e (s.now old 0)) (sym c.wants_empty.ensures) m) in
+    let same : (first : Mark) → Begins s (OpensTo c.args.kind g.B.Storage.reopens) old first → packing c.args.task ≡ Some forms.Large → s.now mid ≡ s.now old = λ first h packs.
+    still_same (g.B.Opens.shaped g.B.Opens.usual) (s.now old) (s.now mid) (c.in-Ok.ensures.opened.still h.0) (subst (λ (e : Bool). is_refused_by e (s.now old 0) → ⊥) (packs_there c.args.task forms.Large packs) (placed h.0)) in record {
+      writes = λ t. c.manage.ensures.writes full;
+      which = inr (λ first h.
+          let e = g.met.B.Storage.since_more c.args.space.now c.open_kept.new.space c.manage.new.space (c.open_kept.ensures.moments first h).leaves.later in
+          task_less (g.B.S.Space.log_full c.manage.new.space) (g.B.Storage.fills_since c.open_kept.new.space c.manage.new.space) (g.B.Storage.fills_since c.args.space.now c.manage.new.space) (g.B.Storage.lacks_large c.open_kept.new.space c.manage.new.space) (g.B.Storage.lacks_large c.args.space.now c.manage.new.space) c.args.task first.contents e.fills (λ packs d lacks. e.large (sym (same first h packs)) d lacks) (c.manage.ensures.full full first (c.in-Ok.ensures.opened.marks first h)));
+    }
 
 pub returns-in-Err-clause-full : goal.returns-in-Err-clause-full
 returns-in-Err-clause-full g c = λ is. let s = g.B.S.Space in let old = c.args.space.now in let e : c.in-Err.e ≡ any.Full = full_err c.in-Err.e (sym c.from.ensures ∙ is) in
