@@ -319,7 +319,8 @@ fn is_usable<S: Space>(space: &S, wanted: bool) -> Result<(), Failure> {
     Err(Failure::Line(Wrong::Not("it is otherwise")))
 }
 
-// Plays the last line on opened files: `close`, `spoil`, which gives all up, or `full` in front of a line that is refused for a limit.
+// Plays the last line on opened files: `close`, `spoil`, which gives all up, `give_up`, which brings down what is held besides, or `full` in front of a line that is
+// refused for a limit.
 fn play_last<S: Space>(space: &mut S, what: &str, line: &mut Line<'_>) -> Result<(), Failure>
     requires { S.sound space.old }
 {
@@ -327,6 +328,10 @@ fn play_last<S: Space>(space: &mut S, what: &str, line: &mut Line<'_>) -> Result
         "close" => is_usable(space, true),
         "spoil" => {
             space.spoil();
+            is_usable(space, false)
+        }
+        "give_up" => {
+            space.give_up()?;
             is_usable(space, false)
         }
         _ => {
@@ -348,7 +353,7 @@ fn play_lines<S: Space>(space: &mut S, script: &mut Script<'_>) -> Result<(), Fa
         let Some((what, mut line)) = script.next_line() else {
             return Ok(());
         };
-        if matches!(what, "close" | "spoil" | "full") {
+        if matches!(what, "close" | "spoil" | "give_up" | "full") {
             play_last(space, what, &mut line)?;
             return Ok(script.end(line)?);
         }

@@ -6,6 +6,7 @@ mod arrays;
 mod caches;
 mod commits;
 mod counted;
+mod cursors;
 mod hashes;
 mod kept;
 mod lists;

@@ -1,12 +1,14 @@
 //! Cases of trees in hash files.
 ghost use Rattle.std.specs.Prelude.{◌≤◌, IfOk};
 
+use crate::cursors::{is_of_cursors, play_cursor};
 use crate::lists::{ListOf, list_line};
 use crate::looks::{is_number, is_rule, is_second, is_value, marked_line, usable};
 use crate::maps::is_put;
 use crate::playing::{Object, play_lines};
 use crate::refusals::{refused, unopened};
 use bt_check::check_tree;
+use bt_cursor::Cursor;
 use play_text::{Line, Script, Wrong};
 use std::alloc::Global;
 use tc_base::{Blob, Lexical, Mode, Steps};
@@ -121,11 +123,12 @@ fn look_anew(alloc: Global, bytes: &[u8], what: &str, line: &mut Line<'_>) -> Re
     }
 }
 
-// A tree in a file, and the bytes that a line kept.
+// A tree in a file, a cursor in it, and the bytes that a line kept.
 #[derive(Drop)]
 struct Case {
     alloc: Global,
     held: TreeFile,
+    cursor: Cursor,
     marked: Blob,
 }
 
@@ -142,6 +145,14 @@ impl Object for Case {
             "records" | "has_region" | "record" | "rule" => {
                 look_anew(self.alloc, self.held.space.bytes(), what, line)
             }
+            _ if is_of_cursors(what) => play_cursor(
+                self.alloc,
+                self.held.list.tree(),
+                &mut self.held.space,
+                &mut self.cursor,
+                what,
+                line,
+            ),
             _ => list_line(self.alloc, &mut self.held, what, line),
         }
     }
@@ -152,6 +163,7 @@ pub fn play_tree(alloc: Global, line: &mut Line<'_>, script: &mut Script<'_>) ->
     let mut case = Case {
         alloc,
         held: created(alloc, line)?,
+        cursor: Cursor::new(alloc),
         marked: Blob::new(alloc),
     };
     play_lines(&mut case, script)

@@ -1,0 +1,220 @@
+//! Lines on a cursor of a tree, and on items that are sought in it.
+
+use crate::looks::{are_pairs, is_so, usable};
+use crate::refusals::refused;
+use bt_cursor::Cursor;
+use bt_order::Stretch;
+use bt_page::Item;
+use bt_tree::{Items, Tree};
+use play_text::{Line, Wrong};
+use std::alloc::{AllocError, Global};
+use tc_base::{Blob, Lexical, Pair, Pairs, Steps};
+use tc_hash::Hash;
+use tc_memstores::OneFile;
+
+type TreeOf = Tree<Hash<OneFile>, Lexical>;
+
+// Whether a line ends in `yes`, else `no`.
+fn is_yes(line: &mut Line<'_>) -> Result<bool, Wrong> {
+    let word = line.word();
+    if word == "yes" || word == "no" {
+        return Ok(word == "yes");
+    }
+    Err(Wrong::Unread)
+}
+
+// The pair at the cursor is that of a line, `#KEY #VALUE`, or none; and the call that moved it there said so.
+fn stands(
+    alloc: Global,
+    tree: &mut TreeOf,
+    space: &mut OneFile,
+    cursor: &mut Cursor,
+    moved: Option<bool>,
+    line: &mut Line<'_>,
+) -> Result<(), Wrong> {
+    usable(space)?;
+    let mut pairs = Pairs::new(alloc);
+    let found = cursor.pair(tree, space).map_err(refused)?;
+    let there = found.is_some();
+    if let Some(pair) = found {
+        pairs.push(pair)?;
+    }
+    if let Some(moved) = moved {
+        is_so(line, moved == there)?;
+    }
+    are_pairs(alloc, line, &pairs)
+}
+
+// A call that moves the cursor: `to_first`, `to_last`, `to_next`, `to_prev => #KEY #VALUE`, nothing where it is nowhere then.
+fn moves(
+    tree: &mut TreeOf,
+    space: &mut OneFile,
+    cursor: &mut Cursor,
+    what: &str,
+) -> Result<bool, Wrong> {
+    usable(space)?;
+    Ok(match what {
+        "to_first" => cursor.first(tree, space).map_err(refused)?,
+        "to_last" => cursor.last(tree, space).map_err(refused)?,
+        "to_next" => cursor.next(tree, space).map_err(refused)?,
+        _ => cursor.prev(tree, space).map_err(refused)?,
+    })
+}
+
+// A line on the cursor. Besides those: `jump KEY => #KEY #VALUE`, `at => #KEY #VALUE`, `set VALUE => yes|no` and `cut => yes|no`.
+fn on_cursor(
+    alloc: Global,
+    tree: &mut TreeOf,
+    space: &mut OneFile,
+    cursor: &mut Cursor,
+    what: &str,
+    line: &mut Line<'_>,
+) -> Result<(), Wrong> {
+    usable(space)?;
+    let given = line.given()?;
+    match what {
+        "at" => stands(alloc, tree, space, cursor, None, line),
+        "jump" => {
+            let moved = cursor.jump(tree, space, given.as_slice()).map_err(refused)?;
+            stands(alloc, tree, space, cursor, Some(moved), line)
+        }
+        "set" => {
+            let yes = is_yes(line)?;
+            let done = cursor.put(tree, space, given.as_slice()).map_err(refused)?;
+            is_so(line, done == yes)
+        }
+        "cut" => {
+            let yes = is_yes(line)?;
+            let done = cursor.out(tree, space).map_err(refused)?;
+            is_so(line, done == yes)
+        }
+        _ => {
+            let moved = moves(tree, space, cursor, what)?;
+            stands(alloc, tree, space, cursor, Some(moved), line)
+        }
+    }
+}
+
+// The pairs of items.
+fn add_item(alloc: Global, item: &Item, pairs: &mut Pairs) -> Result<(), AllocError> {
+    for value in item.values.as_slice() {
+        pairs.push(Pair {
+            key: Blob::from_slice(alloc, item.key.as_slice())?,
+            value: Blob::from_slice(alloc, value.as_slice())?,
+        })?;
+    }
+    Ok(())
+}
+
+fn pairs_of(alloc: Global, items: &Items) -> Result<Pairs, AllocError> {
+    let mut pairs = Pairs::new(alloc);
+    for item in items.as_slice() {
+        add_item(alloc, item, &mut pairs)?;
+    }
+    Ok(pairs)
+}
+
+fn as_items(alloc: Global, item: Option<Item>) -> Result<Items, AllocError> {
+    let mut items = Items::new(alloc);
+    if let Some(item) = item {
+        items.push(item)?;
+    }
+    Ok(items)
+}
+
+// Items that are sought: `seek KEY => #KEY #VALUE ..` from a key on, `behind KEY` from the next one on, those of one leaf; `before KEY` the last one below a key; `first_item`, `last_item`.
+fn sought(
+    alloc: Global,
+    tree: &mut TreeOf,
+    space: &mut OneFile,
+    what: &str,
+    key: &[u8],
+) -> Result<Items, Wrong> {
+    usable(space)?;
+    let mut steps: Steps<()> = Steps::new();
+    let stretch = Stretch {
+        first: key,
+        end: None,
+    };
+    Ok(match what {
+        "seek" => tree.seek(space, &stretch, &mut steps).map_err(refused)?,
+        "behind" => tree.items_behind(space, key, &mut steps).map_err(refused)?,
+        "before" => {
+            let item = tree.before(space, key, &mut steps).map_err(refused)?;
+            as_items(alloc, item)?
+        }
+        "first_item" => {
+            let item = tree.first(space).map_err(refused)?;
+            as_items(alloc, item)?
+        }
+        _ => {
+            let item = tree.last(space).map_err(refused)?;
+            as_items(alloc, item)?
+        }
+    })
+}
+
+// A value at a place among those of a key: `value_at KEY PLACE VALUE => yes|no`, and `drop_at KEY PLACE => yes|no`.
+fn at_place(
+    tree: &mut TreeOf,
+    space: &mut OneFile,
+    what: &str,
+    line: &mut Line<'_>,
+) -> Result<(), Wrong> {
+    usable(space)?;
+    let place = line.number()?;
+    let key = line.bytes_up_to(" : ")?;
+    let value = line.given()?;
+    let yes = is_yes(line)?;
+    let value = if what == "value_at" {
+        Some(value.as_slice())
+    } else {
+        None
+    };
+    let done = tree
+        .set_at(space, key.as_slice(), place, value)
+        .map_err(refused)?;
+    is_so(line, done == yes)
+}
+
+/// Whether a line is one on a cursor or on items.
+pub fn is_of_cursors(what: &str) -> bool {
+    matches!(
+        what,
+        "to_first"
+            | "to_last"
+            | "to_next"
+            | "to_prev"
+            | "jump"
+            | "at"
+            | "set"
+            | "cut"
+            | "seek"
+            | "behind"
+            | "before"
+            | "first_item"
+            | "last_item"
+            | "value_at"
+            | "drop_at"
+    )
+}
+
+/// Plays a line on a cursor or on items.
+pub fn play_cursor(
+    alloc: Global,
+    tree: &mut TreeOf,
+    space: &mut OneFile,
+    cursor: &mut Cursor,
+    what: &str,
+    line: &mut Line<'_>,
+) -> Result<(), Wrong> {
+    match what {
+        "seek" | "behind" | "before" | "first_item" | "last_item" => {
+            let key = line.given()?;
+            let items = sought(alloc, tree, space, what, key.as_slice())?;
+            are_pairs(alloc, line, &pairs_of(alloc, &items)?)
+        }
+        "value_at" | "drop_at" => at_place(tree, space, what, line),
+        _ => on_cursor(alloc, tree, space, cursor, what, line),
+    }
+}
