@@ -7,6 +7,7 @@ use Rattle.tc_io.specs.declared.volume.Volume as volume
 use Rattle.tc_space.specs.declared.space.Space as space
 use Rattle.ud_log.specs.Undo.{recovered}
 use Rattle.tc_model.specs.Contents.{Contents, fixed, hash, table, tree}
+use Rattle.tc_hash.specs.Creating.{HasNoRoom}
 use Rattle.tc_hashdb.specs.Filling.{LacksLargeAt as LacksAt, LacksOne, WantsAny}
 use Rattle.tc_treedb.specs.Filling.{fills_moved}
 use Rattle.tc_treedb.specs.Shapes.{new_moved}
@@ -25,11 +26,11 @@ use Rattle.tk_top.specs.declared.words.Stored.{Stored}
 use Rattle.tk_top.specs.declared.words.Stored.TheVariants.{Fixed, Hash, Tree}
 use Rattle.tk_top.proofs.Kept.{full_opened}
 
--- files that were brought to where they are kept are those there
-fills_shown : (stored : Stored) (limits : ℕ → ℕ) (log brought : Type 0) (files shown : Files) → (brought → files 0 ≡ shown 0) → (c d : Contents) → fills_of stored limits log brought files c d → fills_of stored limits log (Unit {0}) shown c d
-fills_shown Hash limits log brought files shown same c d full = ⊎_elim (λ l. inl l) (λ x. inr (tt, subst (λ (bytes : List ℕ). WantsAny (limits 0) bytes c d) (same x.0) x.1)) full
-fills_shown Tree limits log brought files shown same c d full = fills_moved (limits 0) log brought (Unit {0}) (files 0) (shown 0) (λ all. tt) same c d full
-fills_shown Fixed limits log brought files shown same c d full = full
+-- files that were brought to where they are kept are those there, and so it is of the undo log
+fills_shown : (stored : Stored) (limits : ℕ → ℕ) (log full brought : Type 0) (files shown : Files) → (log → full) → (brought → files 0 ≡ shown 0) → (c d : Contents) → fills_of stored limits log brought files c d → fills_of stored limits full (Unit {0}) shown c d
+fills_shown Hash limits log full brought files shown wide same c d fills = ⊎_elim (λ l. inl (wide l)) (λ x. inr (tt, subst (λ (bytes : List ℕ). WantsAny (limits 0) bytes c d) (same x.0) x.1)) fills
+fills_shown Tree limits log full brought files shown wide same c d fills = ⊎_elim (λ l. inl (wide l)) (λ x. inr x) (fills_moved (limits 0) log brought (Unit {0}) (files 0) (shown 0) (λ all. tt) same c d fills)
+fills_shown Fixed limits log full brought files shown wide same c d fills = ⊎_elim (λ passes. inl passes) (λ l. inr (wide l)) fills
 
 large_at : (limit : ℕ) (brought : Type 0) (bytes shown first : List ℕ) (held : Map) → (brought → bytes ≡ shown) → LacksAt limit (length bytes) brought first held → LacksAt limit (length shown) (Unit {0}) first held
 large_at limit brought bytes shown first held same x = record {
@@ -55,41 +56,50 @@ large_shown Tree limits brought files shown first same (fixed width most ids) x 
 large_shown Tree limits brought files shown first same (table rows indexes) x = absurd x
 
 -- so it is where there is no room for a file that is made
-lacks_shown : (shape : Shape) (limit : ℕ) (log brought : Type 0) (bytes shown : List ℕ) → (brought → bytes ≡ shown) → lacks_of shape limit log brought bytes → lacks_of shape limit log (Unit {0}) shown
-lacks_shown (shapes.Hash shape) limit log brought bytes shown same lacks = lacks
-lacks_shown (shapes.Tree shape) limit log brought bytes shown same lacks = new_moved limit log brought (Unit {0}) bytes shown shape (λ all. tt) same lacks
-lacks_shown (shapes.Fixed shape) limit log brought bytes shown same lacks = lacks
+sections_wider : (limit long : ℕ) (log full : Type 0) → (log → full) → HasNoRoom limit log long → HasNoRoom limit full long
+sections_wider limit long log full wide none = ⊎_elim (λ passes. inl passes) (λ y. inr (⊎_elim (λ far. inl far) (λ l. inr (wide l)) y)) none
 
-module _ {S V : Type 0} (v : volume.Ghosts V) (s : space.Ghosts S) (under : S → V) where
-  -- a limit that was reached over a space, in its own files
-  abbrev pub FillsTold : Stored → S → Contents → Contents → Type 0
-  FillsTold stored x = fills_of stored (s.limit x) (LogIsFull v (under x)) (s.brought x) (s.now x)
+lacks_shown : (shape : Shape) (limit : ℕ) (log full brought : Type 0) (bytes shown : List ℕ) → (log → full) → (brought → bytes ≡ shown) → lacks_of shape limit log brought bytes → lacks_of shape limit full (Unit {0}) shown
+lacks_shown (shapes.Hash shape) limit log full brought bytes shown wide same lacks = record { head = lacks.head; new = lacks.new; passes = sections_wider limit lacks.head.first log full wide lacks.passes }
+lacks_shown (shapes.Tree shape) limit log full brought bytes shown wide same lacks =
+    let there = new_moved limit log brought (Unit {0}) bytes shown shape (λ all. tt) same lacks in
+    record { head = there.head; new = there.new; passes = ⊎_elim (λ none. inl (sections_wider limit there.head.first log full wide none)) (λ lone. inr lone) there.passes }
+lacks_shown (shapes.Fixed shape) limit log full brought bytes shown wide same lacks = ⊎_elim (λ passes. inl passes) (λ l. inr (wide l)) lacks
 
-  abbrev pub LacksLargeTold : Stored → S → S → Contents → Type 0
+-- and along a task
+task_shown : (log full : Type 0) (fills : Contents → Contents → Type 0) (large : Contents → Type 0) (task : Task) (c : Contents) → (log → full) → FillsTask log fills large task c → FillsTask full fills large task c
+task_shown log full fills large task c wide x = record { step = x.step; within = x.within; by = ⊎_elim (λ y. inl y) (λ y. inr (⊎_elim (λ l. inl (wide l)) (λ lacks. inr lacks) y)) x.by }
+
+-- a limit that was reached over a space, in its own files
+module _ {S : Type 0} (s : space.Ghosts S) where
+  abbrev FillsTold : Stored → S → Contents → Contents → Type 0
+  FillsTold stored x = fills_of stored (s.limit x) (s.log_full x) (s.brought x) (s.now x)
+
+  abbrev LacksLargeTold : Stored → S → S → Contents → Type 0
   LacksLargeTold stored z x = lacks_large_of stored (s.limit x) (λ f. length (s.now x f)) (s.brought x) (s.now z)
 
-  abbrev pub LacksTold : Shape → S → Type 0
-  LacksTold shape x = lacks_of shape (s.limit x 0) (LogIsFull v (under x)) (s.brought x) (s.now x 0)
+  abbrev LacksTold : Shape → S → Type 0
+  LacksTold shape x = lacks_of shape (s.limit x 0) (s.log_full x) (s.brought x) (s.now x 0)
 
+module _ {S V : Type 0} (v : volume.Ghosts V) (s : space.Ghosts S) (under : S → V) (log_is : (x : S) → s.log_full x → LogIsFull v (under x)) where
   -- so it is in the volume under it
-  lacks_under : (shape : Shape) (x : S) → (s.brought x → ShowsNow (v.calls (under x)) (s.now x)) → LacksTold shape x → lacks_of shape (s.limit x 0) (LogIsFull v (under x)) (Unit {0}) (files_in v (under x) 0)
-  lacks_under shape x shows lacks = lacks_shown shape (s.limit x 0) (LogIsFull v (under x)) (s.brought x) (s.now x 0) (files_in v (under x) 0) (λ all. (shows all).same 0) lacks
+  lacks_under : (shape : Shape) (x : S) → (s.brought x → ShowsNow (v.calls (under x)) (s.now x)) → LacksTold s shape x → lacks_of shape (s.limit x 0) (LogIsFull v (under x)) (Unit {0}) (files_in v (under x) 0)
+  lacks_under shape x shows lacks = lacks_shown shape (s.limit x 0) (s.log_full x) (LogIsFull v (under x)) (s.brought x) (s.now x 0) (files_in v (under x) 0) (log_is x) (λ all. (shows all).same 0) lacks
 
-module _ {S V : Type 0} (v : volume.Ghosts V) {s : space.Ghosts S} {under : S → V} where
   module _ (stored : Stored) {vol w : V} where
-    pub is_full : (a b : Told) {most : ℕ} → FilesFull s under v.calls v.tells (λ x. LacksTold v s under (usual_of stored) x) (λ z x. FillsTold v s under stored x) (Opens stored) most (v.calls vol) w a b → IsFull v stored most vol w a b
+    pub is_full : (a b : Told) {most : ℕ} → FilesFull s under v.calls v.tells (λ x. LacksTold s (usual_of stored) x) (λ z x. FillsTold s stored x) (Opens stored) most (v.calls vol) w a b → IsFull v stored most vol w a b
     is_full a b {most} x =
         let limits = s.limit x.space in
         let start = BeginsAt v.tells (Opens stored) (v.calls vol) in
-        let wider : (c d : Contents) → FillsTold v s under stored x.space c d → FillsAt v stored limits (under x.space) c d = fills_shown stored limits (LogIsFull v (under x.space)) (s.brought x.space) (s.now x.space) (files_in v (under x.space)) (λ all. (x.shows all).same 0) in
+        let wider : (c d : Contents) → FillsTold s stored x.space c d → FillsAt v stored limits (under x.space) c d = fills_shown stored limits (s.log_full x.space) (LogIsFull v (under x.space)) (s.brought x.space) (s.now x.space) (files_in v (under x.space)) (log_is x.space) (λ all. (x.shows all).same 0) in
         record {
           limits = limits;
           limits_are = x.limits;
           full = subst (λ (z : V). FullFiles v.tells (MainIsBare (recovered (now (v.calls vol)))) (LacksUsual v stored limits z) (FillsAt v stored limits z) start a b) x.vol_is
-              (record { which = ⊎_elim (λ y. inl (λ t. ((y t).0, lacks_under v s under (usual_of stored) x.space x.shows (y t).1))) (λ y. inr (full_opened (FillsTold v s under stored x.space) (FillsAt v stored limits (under x.space)) start start a b (λ m h. h) (λ m h c d full. wider c d full) y)) x.full.which });
+              (record { which = ⊎_elim (λ y. inl (λ t. ((y t).0, lacks_under (usual_of stored) x.space x.shows (y t).1))) (λ y. inr (full_opened (FillsTold s stored x.space) (FillsAt v stored limits (under x.space)) start start a b (λ m h. h) (λ m h c d full. wider c d full) y)) x.full.which });
         }
 
-    pub is_full_task : (task : Task) → FilesFullTask s under v.calls v.tells (λ x. LacksTold v s under (usual_of stored) x) (λ z x t c. FillsTask (LogIsFull v (under x)) (FillsTold v s under stored x) (LacksLargeTold v s under stored z x) t c) (Opens stored) task (2 ^ 40) (v.calls vol) w → IsFullTask v stored task vol w
+    pub is_full_task : (task : Task) → FilesFullTask s under v.calls v.tells (λ x. LacksTold s (usual_of stored) x) (λ z x t c. FillsTask (s.log_full x) (FillsTold s stored x) (LacksLargeTold s stored z x) t c) (Opens stored) task (2 ^ 40) (v.calls vol) w → IsFullTask v stored task vol w
     is_full_task task x =
         let limits = s.limit x.space in
         let log = LogIsFull v (under x.space) in
@@ -100,17 +110,18 @@ module _ {S V : Type 0} (v : volume.Ghosts V) {s : space.Ghosts S} {under : S �
           full = subst (λ (z : V). FullTask v.tells (MainIsBare (recovered (now (v.calls vol)))) (LacksUsual v stored limits z) (FillsTaskAt v stored limits vol z) (BeginsAt v.tells (Opens stored) (v.calls vol)) task) x.vol_is
               (record {
                 writes = x.full.writes;
-                which = ⊎_elim (λ y. inl (λ t. ((y t).0, lacks_under v s under (usual_of stored) x.space x.shows (y t).1))) (λ y. inr (λ first h.
-                    task_less log (FillsTold v s under stored x.space) (FillsAt v stored limits (under x.space)) (LacksLargeTold v s under stored x.begin x.space) (LacksLargeAt v stored limits vol (under x.space)) task first.contents
-                    (fills_shown stored limits log (s.brought x.space) (s.now x.space) (files_in v (under x.space)) shown)
+                which = ⊎_elim (λ y. inl (λ t. ((y t).0, lacks_under (usual_of stored) x.space x.shows (y t).1))) (λ y. inr (λ first h.
+                    task_shown (s.log_full x.space) log (FillsAt v stored limits (under x.space)) (LacksLargeAt v stored limits vol (under x.space)) task first.contents (log_is x.space)
+                    (task_less (s.log_full x.space) (FillsTold s stored x.space) (FillsAt v stored limits (under x.space)) (LacksLargeTold s stored x.begin x.space) (LacksLargeAt v stored limits vol (under x.space)) task first.contents
+                    (fills_shown stored limits (s.log_full x.space) log (s.brought x.space) (s.now x.space) (files_in v (under x.space)) (log_is x.space) shown)
                     (λ packs c lacks. record { first = s.now x.begin; is = x.first h.0; lacks = large_shown stored limits (s.brought x.space) (s.now x.space) (files_in v (under x.space)) (s.now x.begin) shown c lacks })
-                    (y first h))) x.full.which;
+                    (y first h)))) x.full.which;
               });
         }
 
-  pub is_lacking : (shape : Shape) {vol w : V} → FilesLack s under v.calls v.tells (λ x. LacksTold v s under shape x) (2 ^ 40) (v.calls vol) w → IsLacking v shape vol w
+  pub is_lacking : (shape : Shape) {vol w : V} → FilesLack s under v.calls v.tells (λ x. LacksTold s shape x) (2 ^ 40) (v.calls vol) w → IsLacking v shape vol w
   is_lacking shape {vol} {w} x = record {
     limit = s.limit x.space 0;
     limit_is = λ t files are. x.limits t files are 0 refl;
-    lack = λ t. subst (λ (z : V). lacks_of shape (s.limit x.space 0) (LogIsFull v z) (Unit {0}) (files_in v z 0)) x.vol_is (lacks_under v s under shape x.space x.shows (x.lack t));
+    lack = λ t. subst (λ (z : V). lacks_of shape (s.limit x.space 0) (LogIsFull v z) (Unit {0}) (files_in v z 0)) x.vol_is (lacks_under shape x.space x.shows (x.lack t));
   }

@@ -13,10 +13,10 @@ use Rattle.ud_log.specs.Undo.{is_data, recovered}
 use Rattle.ud_state.specs.State.{IsSettled}
 use Rattle.tc_model.specs.Contents.{Contents}
 use Rattle.ty_world.specs.World.{Mark}
-use Rattle.ty_base.specs.Holding.{Layout}
+use Rattle.ty_base.specs.Holding.{Frame, Laid, Layout}
 use Rattle.ty_base.specs.Opening.{CanOpen, OpensTo}
 use Rattle.ty_rounds.specs.Kept.{AtMark, Reopens}
-use Rattle.tk_mgr.specs.Managing.{ArePacked, FormedFrom, IsFrontOf, last_mark, marks_of, packing, writes_files}
+use Rattle.tk_mgr.specs.Managing.{ArePacked, FormedFrom, IsFrontOf, last_mark, marks_of, packing, said_by, writes_files}
 use Rattle.tk_mgr.specs.Tasks.{Prints, ok_of}
 use Rattle.tk_mgr.specs.declared.errors.MgrErr.{MgrErr}
 use Rattle.tk_mgr.specs.declared.errors.MgrErr.TheVariants as mgr
@@ -175,6 +175,10 @@ module _ {S : Type 0} (s : space.Ghosts S) (reopens : Files → Contents → Typ
 
   abbrev pub FullTaskOver : (S → Type 0) → (S → S → Task → Contents → Type 0) → Kind → Task → S → S → Type 0
   FullTaskOver lacks fills kind task old new = FullTask s.tells (s.now old 0 ≡ []) (lacks new) (fills old new) (Begins s (OpensTo kind reopens) old) task
+
+-- of files laid out like them, where the task packs none, beside the same in any case
+abbrev pub ManagesLike : {S O : Type 0} → space.Ghosts S → (Files → Contents → Type 0) → (ℕ → Type 0) → (Files → Layout) → sink.Ghosts O → (Files → List ℕ → Type 0) → (Form → Files → Type 0) → Kind → Task → End → S → S → O → O → Type 0
+ManagesLike s reopens own layout g lines packed kind task end old new p q = (l : Frame) → ManagesAs s (Laid own (said_by (packing task) layout) l reopens) g lines packed kind task end old new p q
 
 -- ---- of a volume
 

@@ -5,7 +5,7 @@ ghost use Rattle.ty_base.specs.Opening.{OpensTo};
 ghost use Rattle.tk_mgr.specs.Managing.{FillsTaskIn, packing, said_by};
 ghost use Rattle.tk_top.specs.declared.ends.End.TheVariants.{Full};
 ghost use Rattle.tk_top.specs.Guarding.{GuardsTaskOn, GuardsTaskOver};
-ghost use Rattle.tk_top.specs.Tasks.{FormsOn, FormsOver, FullTaskOn, FullTaskOver, JudgedTaskOn, JudgedTaskOver, ManagesAs, ManagesOn, end_of_task, is_refused_by, wants_empty};
+ghost use Rattle.tk_top.specs.Tasks.{FormsOn, FormsOver, FullTaskOn, FullTaskOver, JudgedTaskOn, JudgedTaskOver, ManagesAs, ManagesLike, ManagesOn, end_of_task, is_refused_by, wants_empty};
 ghost use Rattle.tk_top.specs.Causes.{CausedIn, IsAccounted};
 ghost use Rattle.tk_top.specs.Naming.{NamesOnce};
 
@@ -69,7 +69,7 @@ pub fn manage_opened<B: Base + Opens + Drop, O: Sink>(
     requires sound { B.S.sound space.old }
     requires untouched { B.S.touched space.old ≡ false }
     ensures told { ManagesAs B.S.Space B.reopens O.Sink B.lines (B.packed (B.S.now space.old)) kind task result space.old space.new out.old out.new }
-    ensures laid { (l : Frame) → ManagesAs B.S.Space (Laid B.own (said_by (packing task) B.layout) l B.reopens) O.Sink B.lines (B.packed (B.S.now space.old)) kind task result space.old space.new out.old out.new }
+    ensures laid { ManagesLike B.S.Space B.reopens B.own B.layout O.Sink B.lines (B.packed (B.S.now space.old)) kind task result space.old space.new out.old out.new }
     ensures formed { FormsOver B.S.Space B.layout (OpensTo kind B.reopens) task result space.old space.new }
     ensures judged { JudgedTaskOver B.S.Space B.reopens B.breaks kind task result space.old space.new }
     ensures guards { GuardsTaskOver B.S.Space B.reopens kind task result space.old space.new out.old out.new }

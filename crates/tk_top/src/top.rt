@@ -15,6 +15,7 @@ use crate::files::run_files;
 use crate::lines::put_line;
 use crate::making::make_files;
 use crate::managing::{end_of, manage_files};
+use crate::volumes::OnVolume;
 use crate::words::{Asked, Memory, Shape, Source, Stored, what_is_asked};
 use std::alloc::Global;
 use std::mem::ManuallyDrop;
@@ -78,23 +79,23 @@ fn serve_memory<W: Wire, K: Clock>(
 }
 
 // The database that the files of a name keep, served at an address.
-fn serve_stored<V: Volume, W: Wire, K: Clock>(
+fn serve_stored<S: OnVolume, W: Wire, K: Clock>(
     alloc: Global,
     name: &str,
     stored: Stored,
-    vol: V,
+    vol: S::V,
     limit: u64,
     at: &At,
     wire: &mut W,
     clock: &mut K,
     turns: u64,
-) -> Stopped<V>
+) -> Stopped<S::V>
     requires opened { W.opened wire.old ≡ false }
     requires limit { limit ≤ 2 ^ 40 }
-    ensures { FileRun V.Volume W.Wire result.end name.now stored limit at.now turns vol result.vol wire.old wire.new }
+    ensures { FileRun S.V.Volume W.Wire result.end name.now stored limit at.now turns vol result.vol wire.old wire.new }
 {
     match stored {
-        Stored::Hash => run_files::<Kept<V>, Database<HashEngine<Kept<V>>>, W, K>(
+        Stored::Hash => run_files::<S, Database<HashEngine<S>>, W, K>(
             alloc,
             name,
             Kind::Hash,
@@ -105,7 +106,7 @@ fn serve_stored<V: Volume, W: Wire, K: Clock>(
             clock,
             turns,
         ),
-        Stored::Tree => run_files::<Kept<V>, Database<TreeEngine<Kept<V>>>, W, K>(
+        Stored::Tree => run_files::<S, Database<TreeEngine<S>>, W, K>(
             alloc,
             name,
             Kind::Tree,
@@ -116,7 +117,7 @@ fn serve_stored<V: Volume, W: Wire, K: Clock>(
             clock,
             turns,
         ),
-        Stored::Fixed => run_files::<Kept<V>, Database<FixedEngine<Kept<V>>>, W, K>(
+        Stored::Fixed => run_files::<S, Database<FixedEngine<S>>, W, K>(
             alloc,
             name,
             Kind::Fixed,
@@ -131,18 +132,18 @@ fn serve_stored<V: Volume, W: Wire, K: Clock>(
 }
 
 // What is served.
-fn serve_source<V: Volume, W: Wire, K: Clock>(
+fn serve_source<S: OnVolume, W: Wire, K: Clock>(
     alloc: Global,
     source: &Source,
     at: &At,
     turns: u64,
-    vol: V,
+    vol: S::V,
     wire: &mut W,
     clock: &mut K,
-) -> Stopped<V>
+) -> Stopped<S::V>
     requires opened { W.opened wire.old ≡ false }
-    ensures served { SourceRun V.Volume W.Wire result.end source.now at.now turns vol result.vol wire.old wire.new }
-    ensures caused { CausedIn V.faults W.faults result.end vol result.vol wire.old wire.new }
+    ensures served { SourceRun S.V.Volume W.Wire result.end source.now at.now turns vol result.vol wire.old wire.new }
+    ensures caused { CausedIn S.V.faults W.faults result.end vol result.vol wire.old wire.new }
 {
     match source {
         Source::Memory(memory) => Stopped {
@@ -153,7 +154,7 @@ fn serve_source<V: Volume, W: Wire, K: Clock>(
             name,
             stored,
             limit,
-        } => serve_stored(
+        } => serve_stored::<S, W, K>(
             alloc,
             name.as_str(),
             *stored,
@@ -168,18 +169,18 @@ fn serve_source<V: Volume, W: Wire, K: Clock>(
 }
 
 // A task on the files of a name.
-fn manage_stored<V: Volume, O: Sink>(
+fn manage_stored<S: OnVolume, O: Sink>(
     alloc: Global,
     name: &str,
     stored: Stored,
     task: Task,
-    vol: V,
+    vol: S::V,
     out: &mut O,
-) -> Stopped<V>
-    ensures { TaskOnFiles V.Volume O.Sink result.end name.now stored task vol result.vol out.old out.new }
+) -> Stopped<S::V>
+    ensures { TaskOnFiles S.V.Volume O.Sink result.end name.now stored task vol result.vol out.old out.new }
 {
     match stored {
-        Stored::Hash => manage_files::<Kept<V>, Database<HashEngine<Kept<V>>>, O>(
+        Stored::Hash => manage_files::<S, Database<HashEngine<S>>, O>(
             alloc,
             name,
             Kind::Hash,
@@ -187,7 +188,7 @@ fn manage_stored<V: Volume, O: Sink>(
             task,
             out,
         ),
-        Stored::Tree => manage_files::<Kept<V>, Database<TreeEngine<Kept<V>>>, O>(
+        Stored::Tree => manage_files::<S, Database<TreeEngine<S>>, O>(
             alloc,
             name,
             Kind::Tree,
@@ -195,7 +196,7 @@ fn manage_stored<V: Volume, O: Sink>(
             task,
             out,
         ),
-        Stored::Fixed => manage_files::<Kept<V>, Database<FixedEngine<Kept<V>>>, O>(
+        Stored::Fixed => manage_files::<S, Database<FixedEngine<S>>, O>(
             alloc,
             name,
             Kind::Fixed,
@@ -207,20 +208,14 @@ fn manage_stored<V: Volume, O: Sink>(
 }
 
 // The files of a name made anew.
-fn make_stored<V: Volume>(alloc: Global, name: &str, shape: &Shape, vol: V) -> Stopped<V>
+fn make_stored<S: OnVolume>(alloc: Global, name: &str, shape: &Shape, vol: S::V) -> Stopped<S::V>
     requires { MayBeMade shape.now }
-    ensures { MakesFiles V.Volume result.end name.now shape.now vol result.vol }
+    ensures { MakesFiles S.V.Volume result.end name.now shape.now vol result.vol }
 {
     match shape {
-        Shape::Hash(hash) => {
-            make_files::<Kept<V>, Database<HashEngine<Kept<V>>>>(alloc, name, vol, hash)
-        }
-        Shape::Tree(tree) => {
-            make_files::<Kept<V>, Database<TreeEngine<Kept<V>>>>(alloc, name, vol, tree)
-        }
-        Shape::Fixed(fixed) => {
-            make_files::<Kept<V>, Database<FixedEngine<Kept<V>>>>(alloc, name, vol, fixed)
-        }
+        Shape::Hash(hash) => make_files::<S, Database<HashEngine<S>>>(alloc, name, vol, hash),
+        Shape::Tree(tree) => make_files::<S, Database<TreeEngine<S>>>(alloc, name, vol, tree),
+        Shape::Fixed(fixed) => make_files::<S, Database<FixedEngine<S>>>(alloc, name, vol, fixed),
     }
 }
 
@@ -242,27 +237,27 @@ fn drill_memory<O: Sink>(alloc: Global, memory: Memory, seed: u64, count: u32, o
 }
 
 // What is asked for, served, made or done.
-fn carry_out<V: Volume, W: Wire, O: Sink, K: Clock>(
+fn carry_out<S: OnVolume, W: Wire, O: Sink, K: Clock>(
     alloc: Global,
     asked: Asked,
-    vol: V,
+    vol: S::V,
     wire: &mut W,
     out: &mut O,
     clock: &mut K,
-) -> Stopped<V>
+) -> Stopped<S::V>
     requires opened { W.opened wire.old ≡ false }
     requires fits { Fits asked }
-    ensures run { AskedRun V.Volume W.Wire O.Sink result.end asked vol result.vol wire.old wire.new out.old out.new }
-    ensures caused { CausedBy V.faults W.faults O.faults result.end vol result.vol wire.old wire.new out.old out.new }
+    ensures run { AskedRun S.V.Volume W.Wire O.Sink result.end asked vol result.vol wire.old wire.new out.old out.new }
+    ensures caused { CausedBy S.V.faults W.faults O.faults result.end vol result.vol wire.old wire.new out.old out.new }
 {
     match asked {
         Asked::Serve { source, at, turns } => {
-            serve_source(alloc, &source, &at, turns, vol, wire, clock)
+            serve_source::<S, W, K>(alloc, &source, &at, turns, vol, wire, clock)
         }
         Asked::Task { name, stored, task } => {
-            manage_stored(alloc, name.as_str(), stored, task, vol, out)
+            manage_stored::<S, O>(alloc, name.as_str(), stored, task, vol, out)
         }
-        Asked::Create { name, shape } => make_stored(alloc, name.as_str(), &shape, vol),
+        Asked::Create { name, shape } => make_stored::<S>(alloc, name.as_str(), &shape, vol),
         Asked::Drill {
             memory,
             seed,
@@ -275,19 +270,19 @@ fn carry_out<V: Volume, W: Wire, O: Sink, K: Clock>(
 }
 
 // What an order asks for.
-fn follow<V: Volume, W: Wire, O: Sink, K: Clock>(
+fn follow<S: OnVolume, W: Wire, O: Sink, K: Clock>(
     alloc: Global,
     order: CommandLine,
-    vol: V,
+    vol: S::V,
     wire: &mut W,
     out: &mut O,
     clock: &mut K,
-) -> Stopped<V>
+) -> Stopped<S::V>
     requires opened { W.opened wire.old ≡ false }
-    ensures { RunsAsked V.Volume W.Wire O.Sink (asked_in (Some order)) result.end vol result.vol wire.old wire.new out.old out.new }
+    ensures { RunsAsked S.V.Volume W.Wire O.Sink (asked_in (Some order)) result.end vol result.vol wire.old wire.new out.old out.new }
 {
     match what_is_asked(order) {
-        Some(asked) => carry_out(alloc, asked, vol, wire, out, clock),
+        Some(asked) => carry_out::<S, W, O, K>(alloc, asked, vol, wire, out, clock),
         None => Stopped {
             end: End::Words,
             vol,
@@ -296,16 +291,16 @@ fn follow<V: Volume, W: Wire, O: Sink, K: Clock>(
 }
 
 // What the words ask for.
-fn follow_words<V: Volume, W: Wire, O: Sink, K: Clock>(
+fn follow_words<S: OnVolume, W: Wire, O: Sink, K: Clock>(
     alloc: Global,
     words: &Vec<String>,
-    vol: V,
+    vol: S::V,
     wire: &mut W,
     out: &mut O,
     clock: &mut K,
-) -> Stopped<V>
+) -> Stopped<S::V>
     requires opened { W.opened wire.old ≡ false }
-    ensures { RunsAsked V.Volume W.Wire O.Sink (asked_of (texts words.now.items)) result.end vol result.vol wire.old wire.new out.old out.new }
+    ensures { RunsAsked S.V.Volume W.Wire O.Sink (asked_of (texts words.now.items)) result.end vol result.vol wire.old wire.new out.old out.new }
 {
     let read = match parse(alloc, words) {
         Ok(read) => read,
@@ -317,7 +312,7 @@ fn follow_words<V: Volume, W: Wire, O: Sink, K: Clock>(
         }
     };
     match read {
-        Some(order) => follow(alloc, order, vol, wire, out, clock),
+        Some(order) => follow::<S, W, O, K>(alloc, order, vol, wire, out, clock),
         None => Stopped {
             end: End::Words,
             vol,
@@ -342,7 +337,7 @@ pub fn run<V: Volume, W: Wire, O: Sink, E: Sink, K: Clock>(
     requires opened { W.opened wire.old ≡ false }
     ensures runs { (end : End) × (result.status ≡ status_of end) × Runs V.Volume W.Wire O.Sink E.Sink (texts words.now.items) end vol result.vol wire.old wire.new out.old out.new err.old err.new }
 {
-    let stopped = follow_words(alloc, words, vol, wire, out, clock);
+    let stopped = follow_words::<Kept<V>, W, O, K>(alloc, words, vol, wire, out, clock);
     let _ = put_line(stopped.end, err);
     Ran {
         status: stopped.end.status(),

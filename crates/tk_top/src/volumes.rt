@@ -1,5 +1,6 @@
 //! A space over a volume.
 ghost use Rattle.std.specs.Prelude.{◌≡◌, ◌≤◌, ◌^◌, ℕ, true, false, length, max, IfOk, IfErr, MatchResult};
+ghost use Rattle.tc_io.specs.Images.{now as reads_now};
 ghost use Rattle.ud_log.specs.Undo.{is_data};
 ghost use Rattle.tc_undo.specs.Opening.{IsRefused, OpensKept};
 ghost use Rattle.tc_undo.specs.declared.errors.UndoErr.TheVariants.{Memory};
@@ -43,6 +44,9 @@ pub trait OnVolume: Space {
 
     /// What it has brought to the volume are the volume's files.
     ghost shows: { (s : Self) → Self.brought s → ShowsNow (Self.V.calls (Self.under s)) (Self.now s) };
+
+    /// Where it says that the undo log is full, that of the volume has half of what it may have.
+    ghost log_is: { (s : Self) → Self.log_full s → Self.V.tells → 2 ^ 61 ≤ length (reads_now (Self.V.calls (Self.under s)) 1) };
 }
 
 impl<X: Volume> OnVolume for Undo<X> {
@@ -57,6 +61,8 @@ impl<X: Volume> OnVolume for Undo<X> {
     ghost is_over = { λ s. record { to = λ t. t; from = λ t. t; moment_later = omega arith; leaves = λ t ims some. record { is = images_left (X.calls s.vol) t ims some }; left_is = λ is t o le l. l.is; exit = λ ims some. record { is = images_left (X.calls s.vol) _ ims (images_now (X.calls s.vol) ims some) }; now_is = λ sound kept. refl; names_are = refl; faults_are = refl } };
 
     ghost shows = { λ s all. record { same = λ f. refl } };
+
+    ghost log_is = { λ s full. full };
 
     fn open_over(_alloc: Global, vol: X, limit: u64) -> Result<Self, Unopened<X>> {
         Undo::open(vol, limit)
@@ -82,6 +88,8 @@ impl<S: Batched + OnVolume> OnVolume for HeldSpace<S> {
     ghost is_over = { λ s. let b = S.is_over s.below in record { to = b.to; from = b.from; moment_later = omega (arith, b.moment_later); leaves = λ t ims some. record { at = t; since = omega arith; left = low_left (S.left s.below) _ t _ ims b.leaves some }; left_is = λ all t o le l. b.left_is (omega (arith, all, b.moment_later)) t o le (S.earlier s.below t (min l.at (S.moment s.below)) o (omega (arith, l.since, le, b.moment_later)) (held_opened t o l (omega (arith, all, b.moment_later)))); exit = λ ims some. record { at = S.moment s.below + length s.stood.items; since = omega arith; left = low_exit (S.left s.below) S.moment (S.moment s.below + length s.stood.items) _ s.below s.held _ (omega arith) (b.exit ims some) }; now_is = λ sound off. all_bare s.held (S.now s.below) (sound.bare off).none ∙ b.now_is sound.below_is (sound.bare off).untouched; names_are = b.names_are; faults_are = b.faults_are } };
 
     ghost shows = { λ s all. record { same = λ f. shown_bare s.held (S.now s.below) all.0 f ∙ (S.shows s.below all.1).same f } };
+
+    ghost log_is = { λ s full. S.log_is s.below full };
 
     fn open_over(alloc: Global, vol: S::V, limit: u64) -> Result<Self, Unopened<S::V>> {
         let held = match Held::new(alloc) {

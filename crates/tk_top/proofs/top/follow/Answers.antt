@@ -5,7 +5,7 @@ use Rattle.tk_top.proofs.Asking.{asked_none, asked_some}
 use Rattle.tk_top.proofs.top.follow.Goals as goal
 
 pub returns-in-Some : goal.returns-in-Some
-returns-in-Some g c = asked_some g.V.Volume g.W.Wire g.O.Sink (asked_in (Some c.args.order)) c.carry_out.result.end c.in-Some.asked c.args.vol c.carry_out.result.vol c.args.wire.now c.carry_out.new.wire c.args.out.now c.carry_out.new.out (sym c.what_is_asked.ensures.asked ∙ c.in-Some.is) c.carry_out.ensures.run c.carry_out.ensures.caused
+returns-in-Some g c = asked_some g.S.V.Volume g.W.Wire g.O.Sink (asked_in (Some c.args.order)) c.carry_out.result.end c.in-Some.asked c.args.vol c.carry_out.result.vol c.args.wire.now c.carry_out.new.wire c.args.out.now c.carry_out.new.out (sym c.what_is_asked.ensures.asked ∙ c.in-Some.is) c.carry_out.ensures.run c.carry_out.ensures.caused
 
 pub returns-in-None : goal.returns-in-None
-returns-in-None g c = asked_none g.V.Volume g.W.Wire g.O.Sink (asked_in (Some c.args.order)) c.args.vol c.args.wire.now c.args.out.now (sym c.what_is_asked.ensures.asked ∙ c.in-None.is)
+returns-in-None g c = asked_none g.S.V.Volume g.W.Wire g.O.Sink (asked_in (Some c.args.order)) c.args.vol c.args.wire.now c.args.out.now (sym c.what_is_asked.ensures.asked ∙ c.in-None.is)
