@@ -45,11 +45,11 @@ fn asked_of(alloc: Global, text: Text, held: Option<&[u8]>) -> Result<Asked, All
 }
 
 // The bytes in front of a mark, and none where `-` stands there.
-fn some_up_to(line: &mut Line<'_>, mark: &str) -> Result<Option<Pattern>, Wrong> {
+fn some_up_to(line: &mut Line, mark: &str) -> Result<Option<Pattern>, Wrong> {
     if !line.rest().trim_start().starts_with('-') {
         return Ok(Some(line.bytes_up_to(mark)?));
     }
-    if line.up_to(mark)?.trim() == "-" {
+    if line.has_up_to("-", mark)? {
         return Ok(None);
     }
     Err(Wrong::Unread)
@@ -77,7 +77,7 @@ fn asked_at(alloc: Global, bytes: &[u8], held: Option<&[u8]>) -> Result<Asked, W
 
 /// `then BYTES : HELD => REQUEST : REPLY`: what a text command asks of the database and what is replied, where its key has this value: `-` where it has none, and where nothing
 /// is asked.
-pub fn is_then(alloc: Global, line: &mut Line<'_>) -> Result<(), Wrong> {
+pub fn is_then(alloc: Global, line: &mut Line) -> Result<(), Wrong> {
     let bytes = line.bytes_up_to(" :")?;
     let held = some_up_to(line, "=>")?;
     let asked = asked_at(alloc, bytes.as_slice(), slice_of(&held))?;
@@ -95,7 +95,7 @@ fn key_at(alloc: Global, bytes: &[u8]) -> Result<Option<Key>, Wrong> {
 }
 
 /// `asks BYTES => KEY`: the key whose value a text command asks for first, `-` where it asks for none.
-pub fn asks(alloc: Global, line: &mut Line<'_>) -> Result<(), Wrong> {
+pub fn asks(alloc: Global, line: &mut Line) -> Result<(), Wrong> {
     let bytes = line.given()?;
     match key_at(alloc, bytes.as_slice())? {
         Some(key) => line.is_bytes(key.as_slice()),
@@ -111,19 +111,15 @@ fn value_behind(alloc: Global, key: &[u8], value: &[u8]) -> Result<Blob, AllocEr
 }
 
 /// `value KEY = VALUE => BYTES`: what a get replies of a key and its value, as it is written behind other bytes.
-pub fn value(alloc: Global, line: &mut Line<'_>) -> Result<Blob, Wrong> {
-    let key = line.bytes_up_to(" = ")?;
+pub fn value(alloc: Global, line: &mut Line) -> Result<Blob, Wrong> {
+    let key = line.key()?;
     let value = line.given()?;
     Ok(value_behind(alloc, key.as_slice(), value.as_slice())?)
 }
 
 /// `error quiet|loud => BYTES`: the reply where a request fails, as it is written behind other bytes.
-pub fn error(alloc: Global, line: &mut Line<'_>) -> Result<Blob, Wrong> {
-    let quiet = match line.word() {
-        "quiet" => true,
-        "loud" => false,
-        _ => return Err(Wrong::Unread),
-    };
+pub fn error(alloc: Global, line: &mut Line) -> Result<Blob, Wrong> {
+    let quiet = line.is_second("loud", "quiet")?;
     is_bare(line)?;
     let mut all = begun(alloc)?;
     write_error(quiet, &mut all)?;

@@ -22,7 +22,7 @@ struct Links {
 }
 
 // `HASH LEFT RIGHT UNIT`.
-fn links_of(line: &mut Line<'_>) -> Result<Links, Wrong>
+fn links_of(line: &mut Line) -> Result<Links, Wrong>
     ensures { IfOk result (λ links. (1 ≤ links.unit) × (links.unit ≤ 2 ^ 16)) }
 {
     let hash = line.within(0, 255)?;
@@ -76,9 +76,9 @@ fn block(alloc: Global, links: Links, key: &[u8], value: &[u8], large: bool) -> 
 }
 
 /// `record HASH LEFT RIGHT UNIT KEY = VALUE => BYTES`: a record as it is written behind other bytes, and how long it is.
-pub fn record(alloc: Global, line: &mut Line<'_>, large: bool) -> Result<Blob, Wrong> {
+pub fn record(alloc: Global, line: &mut Line, large: bool) -> Result<Blob, Wrong> {
     let links = links_of(line)?;
-    let key = line.bytes_up_to(" = ")?;
+    let key = line.key()?;
     let value = line.given()?;
     block(alloc, links, key.as_slice(), value.as_slice(), large)
 }

@@ -10,7 +10,7 @@ use tc_base::{
 };
 
 /// `spelled N => BYTES`: a varying number as it is written behind other bytes, and how long it is.
-pub fn spelled(alloc: Global, line: &mut Line<'_>) -> Result<Blob, Wrong> {
+pub fn spelled(alloc: Global, line: &mut Line) -> Result<Blob, Wrong> {
     let number = line.number()?;
     is_bare(line)?;
     let mut into = begun(alloc)?;
@@ -40,7 +40,7 @@ fn number(alloc: Global, width: usize, bytes: &[u8]) -> Result<String, AllocErro
 }
 
 /// `number WIDTH BYTES => READ`: what is read, with what stands behind it. The number has that width, its least byte first, or varies where that is 0.
-pub fn is_number(alloc: Global, line: &mut Line<'_>) -> Result<(), Wrong> {
+pub fn is_number(alloc: Global, line: &mut Line) -> Result<(), Wrong> {
     let width = line.within(0, 8)?;
     let bytes = line.given()?;
     line.is_text(number(alloc, width as usize, bytes.as_slice())?)
@@ -55,14 +55,10 @@ struct Field {
 }
 
 // The next field of a line: `le` or `be`, its place and its width.
-fn field_of(line: &mut Line<'_>) -> Result<Field, Wrong>
+fn field_of(line: &mut Line) -> Result<Field, Wrong>
     ensures { IfOk result (λ f. (1 ≤ f.width) × (f.width ≤ 8) × (f.at ≤ 1024)) }
 {
-    let least_first = match line.word() {
-        "le" => true,
-        "be" => false,
-        _ => return Err(Wrong::Unread),
-    };
+    let least_first = line.is_second("be", "le")?;
     let at = line.within(0, 1024)?;
     let width = line.within(1, 8)?;
     Ok(Field {
@@ -84,7 +80,7 @@ fn held(field: Field, bytes: &[u8]) -> u64
 }
 
 /// `field le|be PLACE WIDTH BYTES => NUMBER`: what a field holds.
-pub fn is_field(alloc: Global, line: &mut Line<'_>) -> Result<(), Wrong> {
+pub fn is_field(alloc: Global, line: &mut Line) -> Result<(), Wrong> {
     let field = field_of(line)?;
     let bytes = line.given()?;
     let bytes = bytes.as_slice();
@@ -111,7 +107,7 @@ fn set(field: Field, number: u64, bytes: &mut [u8]) -> bool
 }
 
 /// `set le|be PLACE WIDTH NUMBER BYTES => BYTES`: what bytes are once a field holds a number of up to four bytes.
-pub fn is_set(alloc: Global, line: &mut Line<'_>) -> Result<(), Wrong> {
+pub fn is_set(alloc: Global, line: &mut Line) -> Result<(), Wrong> {
     let field = field_of(line)?;
     let number = line.number()?;
     let given = line.given()?;
@@ -144,7 +140,7 @@ fn hashes(alloc: Global, buckets: u64, key: &[u8]) -> Result<String, AllocError>
 }
 
 /// `hash BUCKETS KEY => BUCKET SECOND`: where a key stands, and its second hash.
-pub fn is_hash(alloc: Global, line: &mut Line<'_>) -> Result<(), Wrong> {
+pub fn is_hash(alloc: Global, line: &mut Line) -> Result<(), Wrong> {
     let buckets = line.within(1, u64::MAX)?;
     let key = line.given()?;
     line.is_text(hashes(alloc, buckets, key.as_slice())?)

@@ -1,7 +1,7 @@
 //! Pages of trees, and the keys of their records.
 
 use bt_page::{Item, Leaf, Node, page_id, page_key, read_leaf, read_node, write_leaf, write_node};
-use play_text::{Line, Wrong};
+use play_text::{Line, Why, Wrong};
 use std::alloc::{AllocError, Global};
 use tc_base::Blob;
 
@@ -28,7 +28,7 @@ fn items_of(alloc: Global, leaf: &Leaf) -> Result<Blob, AllocError> {
 fn leaf_of(alloc: Global, bytes: &[u8]) -> Result<Leaf, Wrong> {
     match read_leaf(alloc, bytes) {
         Ok(leaf) => Ok(leaf),
-        Err(_) => Err(Wrong::Not("no leaf")),
+        Err(_) => Err(Wrong::Not(Why::NoLeaf)),
     }
 }
 
@@ -43,15 +43,15 @@ pub fn leaf_again(alloc: Global, bytes: &[u8]) -> Result<Blob, AllocError> {
 }
 
 // The links and the items of a leaf.
-fn is_leaf_of(alloc: Global, line: &mut Line<'_>, leaf: &Leaf) -> Result<(), Wrong> {
+fn is_leaf_of(alloc: Global, line: &mut Line, leaf: &Leaf) -> Result<(), Wrong> {
     if line.number()? != leaf.prev || line.number()? != leaf.next {
-        return Err(Wrong::Not("other links"));
+        return Err(Wrong::Not(Why::OtherLinks));
     }
     line.is_bytes(items_of(alloc, leaf)?.as_slice())
 }
 
 /// `leaf BYTES => PREV NEXT ITEMS`: a leaf as it is read, and written again; its items are `key:value:value `, one behind the other.
-pub fn is_leaf(alloc: Global, line: &mut Line<'_>) -> Result<(), Wrong> {
+pub fn is_leaf(alloc: Global, line: &mut Line) -> Result<(), Wrong> {
     let bytes = line.given()?;
     line.told(&bytes, leaf_again(alloc, bytes.as_slice())?.as_slice())?;
     is_leaf_of(alloc, line, &leaf_of(alloc, bytes.as_slice())?)
@@ -86,20 +86,20 @@ pub fn node_again(alloc: Global, bytes: &[u8]) -> Result<Blob, AllocError> {
 }
 
 // Why bytes are no such page.
-fn refusal(alloc: Global, page: &str, bytes: &[u8]) -> Result<String, Wrong> {
-    let read = match page {
-        "leaf" => read_leaf(alloc, bytes).err(),
-        "node" => read_node(alloc, bytes).err(),
-        _ => return Err(Wrong::Unread),
+fn refusal(alloc: Global, node: bool, bytes: &[u8]) -> Result<String, AllocError> {
+    let read = if node {
+        read_node(alloc, bytes).err()
+    } else {
+        read_leaf(alloc, bytes).err()
     };
-    Ok(format!(in alloc; "{read:?}")?)
+    format!(in alloc; "{read:?}")
 }
 
 /// `no_page leaf|node BYTES`: bytes that are no such page.
-pub fn is_page(alloc: Global, line: &mut Line<'_>) -> Result<(), Wrong> {
-    let page = line.word();
+pub fn is_page(alloc: Global, line: &mut Line) -> Result<(), Wrong> {
+    let node = line.is_second("leaf", "node")?;
     let bytes = line.bytes()?;
-    line.is_same("Some(Bad)", refusal(alloc, page, bytes.as_slice())?)
+    line.is_same("Some(Bad)", refusal(alloc, node, bytes.as_slice())?)
 }
 
 // The key of a page's record.
@@ -110,7 +110,7 @@ fn key_of(alloc: Global, id: u64) -> Result<Blob, AllocError> {
 }
 
 /// `page_key ID => BYTES`: the key of a page's record.
-pub fn is_key(alloc: Global, line: &mut Line<'_>) -> Result<(), Wrong> {
+pub fn is_key(alloc: Global, line: &mut Line) -> Result<(), Wrong> {
     let id = line.number()?;
     let wanted = line.wanted()?;
     line.told(&wanted, key_of(alloc, id)?.as_slice())

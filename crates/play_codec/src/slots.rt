@@ -3,7 +3,7 @@ ghost use Rattle.std.specs.Prelude.{◌≡◌};
 
 use bt_page::PageErr;
 use bt_slots::{SlottedLeaf, SlottedNode};
-use play_text::{Line, Wrong};
+use play_text::{Line, Why, Wrong};
 use std::alloc::{AllocError, Global};
 use tc_base::Blob;
 
@@ -41,10 +41,10 @@ fn item_added(
 fn with_item(
     alloc: Global,
     held: &mut Option<SlottedLeaf>,
-    line: &mut Line<'_>,
+    line: &mut Line,
 ) -> Result<SlottedLeaf, Wrong> {
     let place = line.small()? as usize;
-    let key = line.bytes_up_to(" = ")?;
+    let key = line.key()?;
     let value = line.bytes()?;
     item_added(alloc, taken(held)?, place, key.as_slice(), value.as_slice())
 }
@@ -70,7 +70,7 @@ fn with_value(
     alloc: Global,
     held: &mut Option<SlottedLeaf>,
     first: bool,
-    line: &mut Line<'_>,
+    line: &mut Line,
 ) -> Result<SlottedLeaf, Wrong> {
     let place = line.small()? as usize;
     let value = line.bytes()?;
@@ -100,7 +100,7 @@ fn without(
     alloc: Global,
     held: &mut Option<SlottedLeaf>,
     item: bool,
-    line: &mut Line<'_>,
+    line: &mut Line,
 ) -> Result<SlottedLeaf, Wrong> {
     let place = line.small()? as usize;
     let leaf = taken(held)?;
@@ -111,7 +111,14 @@ fn without(
 }
 
 // The items of a leaf from one place to another, linked anew.
-fn section(alloc: Global, leaf: &SlottedLeaf, line: &mut Line<'_>) -> Result<SlottedLeaf, Wrong> {
+fn section(
+    alloc: Global,
+    held: &Option<SlottedLeaf>,
+    line: &mut Line,
+) -> Result<SlottedLeaf, Wrong> {
+    let Some(leaf) = held else {
+        return Err(Wrong::Unread);
+    };
     let from = line.small()? as usize;
     let to = line.small()? as usize;
     let prev = line.number()?;
@@ -122,26 +129,28 @@ fn section(alloc: Global, leaf: &SlottedLeaf, line: &mut Line<'_>) -> Result<Slo
     Ok(leaf.section(alloc, from, to, prev, next)?)
 }
 
-// A leaf linked anew, or the items of a part of it.
+// A leaf linked anew.
 fn linked(
     alloc: Global,
-    leaf: &SlottedLeaf,
-    what: &str,
-    line: &mut Line<'_>,
+    held: &Option<SlottedLeaf>,
+    prev: bool,
+    line: &mut Line,
 ) -> Result<SlottedLeaf, Wrong> {
-    match what {
-        "section" => section(alloc, leaf, line),
-        "with_prev" => Ok(leaf.with_prev(alloc, line.number()?)?),
-        "with_next" => Ok(leaf.with_next(alloc, line.number()?)?),
-        _ => Err(Wrong::Unread),
+    let Some(leaf) = held else {
+        return Err(Wrong::Unread);
+    };
+    let link = line.number()?;
+    if prev {
+        return Ok(leaf.with_prev(alloc, link)?);
     }
+    Ok(leaf.with_next(alloc, link)?)
 }
 
 // The leaf changed as a line says.
 fn changed(
     alloc: Global,
     held: &mut Option<SlottedLeaf>,
-    line: &mut Line<'_>,
+    line: &mut Line,
 ) -> Result<SlottedLeaf, Wrong> {
     match line.word() {
         "with_item" => with_item(alloc, held, line),
@@ -149,10 +158,10 @@ fn changed(
         "with_value" => with_value(alloc, held, false, line),
         "without_item" => without(alloc, held, true, line),
         "without_first" => without(alloc, held, false, line),
-        what => match held {
-            Some(leaf) => linked(alloc, leaf, what, line),
-            None => Err(Wrong::Unread),
-        },
+        "section" => section(alloc, held, line),
+        "with_prev" => linked(alloc, held, true, line),
+        "with_next" => linked(alloc, held, false, line),
+        _ => Err(Wrong::Unread),
     }
 }
 
@@ -166,10 +175,10 @@ fn is_itself(alloc: Global, leaf: &SlottedLeaf, bytes: &[u8]) -> Result<bool, Al
 }
 
 // Bytes are no leaf.
-fn is_none(line: &mut Line<'_>, read: Result<SlottedLeaf, PageErr>) -> Result<(), Wrong> {
+fn is_none(line: &mut Line, read: Result<SlottedLeaf, PageErr>) -> Result<(), Wrong> {
     line.compares();
     match read {
-        Ok(_) => Err(Wrong::Not("a leaf")),
+        Ok(_) => Err(Wrong::Not(Why::Leaf)),
         Err(PageErr::Bad) => Ok(()),
         Err(PageErr::Memory) => Err(Wrong::Memory),
     }
@@ -187,15 +196,15 @@ fn links_of(alloc: Global, leaf: &SlottedLeaf) -> Result<String, AllocError> {
 }
 
 // Looks at the item at a place: `item PLACE COUNT KEY = FIRST`.
-fn is_item(leaf: &SlottedLeaf, line: &mut Line<'_>) -> Result<(), Wrong> {
+fn is_item(leaf: &SlottedLeaf, line: &mut Line) -> Result<(), Wrong> {
     let place = line.small()? as usize;
     let count = line.number()?;
-    let key = line.bytes_up_to(" = ")?;
+    let key = line.key()?;
     if place >= leaf.len() {
         return Err(Wrong::Unread);
     }
     if leaf.count(place) != count {
-        return Err(Wrong::Not("another count"));
+        return Err(Wrong::Not(Why::AnotherCount));
     }
     line.told(&key, leaf.key(place))?;
     line.is_bytes(leaf.first_value(place))
@@ -213,7 +222,7 @@ impl SlotsOf {
     /// Each change was looked at: the leaf's bytes were, since it was changed.
     pub fn is_told(&self) -> Result<(), Wrong> {
         if self.is_changed {
-            return Err(Wrong::Not("a change that nothing is said of"));
+            return Err(Wrong::Not(Why::AnotherChange));
         }
         Ok(())
     }
@@ -221,30 +230,29 @@ impl SlotsOf {
     // Keeps a leaf that was read from its bytes.
     fn keep(&mut self, read: Result<SlottedLeaf, PageErr>, bytes: &[u8]) -> Result<(), Wrong> {
         let Ok(leaf) = read else {
-            return Err(Wrong::Not("no leaf"));
+            return Err(Wrong::Not(Why::NoLeaf));
         };
         if !is_itself(self.alloc, &leaf, bytes)? {
-            return Err(Wrong::Not("other bytes"));
+            return Err(Wrong::Not(Why::OtherBytes));
         }
         self.leaf = Some(leaf);
         Ok(())
     }
 
     // Takes a leaf; `slots none BYTES` are bytes of none.
-    fn take(&mut self, line: &mut Line<'_>) -> Result<(), Wrong> {
+    fn take(&mut self, line: &mut Line) -> Result<(), Wrong> {
         self.is_told()?;
-        let wanted = line.word();
+        let none = line.is_second("leaf", "none")?;
         let bytes = line.bytes()?;
         let read = SlottedLeaf::read(self.alloc, Blob::from_slice(self.alloc, bytes.as_slice())?);
-        match wanted {
-            "leaf" => self.keep(read, bytes.as_slice()),
-            "none" => is_none(line, read),
-            _ => Err(Wrong::Unread),
+        if none {
+            return is_none(line, read);
         }
+        self.keep(read, bytes.as_slice())
     }
 
     // Changes the leaf.
-    fn change(&mut self, line: &mut Line<'_>) -> Result<(), Wrong> {
+    fn change(&mut self, line: &mut Line) -> Result<(), Wrong> {
         let leaf = changed(self.alloc, &mut self.leaf, line)?;
         self.leaf = Some(leaf);
         self.is_changed = true;
@@ -252,7 +260,7 @@ impl SlotsOf {
     }
 
     // Looks at the leaf.
-    fn look(&self, what: &str, line: &mut Line<'_>) -> Result<(), Wrong> {
+    fn look(&self, what: &str, line: &mut Line) -> Result<(), Wrong> {
         let Some(leaf) = &self.leaf else {
             return Err(Wrong::Unread);
         };
@@ -264,7 +272,7 @@ impl SlotsOf {
     }
 
     /// Plays a line.
-    pub fn play(&mut self, what: &str, line: &mut Line<'_>) -> Result<(), Wrong> {
+    pub fn play(&mut self, what: &str, line: &mut Line) -> Result<(), Wrong> {
         match what {
             "slots" => self.take(line),
             "change" => self.change(line),

@@ -1,7 +1,7 @@
 //! Lines of tables.
 
 use crate::answers::{asks, error, is_then, value};
-use crate::behind::{is, is_behind};
+use crate::behind::is_behind;
 use crate::blocks::{block_text, record};
 use crate::heads::{fixed_again, fixed_text, head_again, head_text, tree_text};
 use crate::numbers::{decimal, is_field, is_hash, is_number, is_set, spelled, vnum};
@@ -10,7 +10,7 @@ use crate::slots::{SlotsOf, slotted_again, slotted_text};
 use crate::telling::asked;
 use crate::texts::{awaited, is_part, is_the_end, piece, said};
 use crate::wire::{agrees_in_pieces, has_limit, is_text, is_whole, reply, request_text, wants};
-use play_text::{Line, Player, Script, Wrong, words_of};
+use play_text::{Line, Player, Script, Why, Wrong};
 use std::alloc::{AllocError, Global};
 use tc_base::Blob;
 use ty_wire::{Front, take};
@@ -63,20 +63,20 @@ fn again_of(alloc: Global, what: &str, bytes: &[u8]) -> Result<Blob, AllocError>
 }
 
 // Looks at what bytes are read as: `BYTES => TEXT`.
-fn text_line(alloc: Global, what: &str, line: &mut Line<'_>) -> Result<(), Wrong> {
+fn text_line(alloc: Global, what: &str, line: &mut Line) -> Result<(), Wrong> {
     let bytes = line.given()?;
     line.is_text(text_of(alloc, what, bytes.as_slice())?)
 }
 
 // The same of what is written again.
-fn again_line(alloc: Global, what: &str, line: &mut Line<'_>) -> Result<(), Wrong> {
+fn again_line(alloc: Global, what: &str, line: &mut Line) -> Result<(), Wrong> {
     let bytes = line.given()?;
     line.told(&bytes, again_of(alloc, what, bytes.as_slice())?.as_slice())?;
     line.is_text(text_of(alloc, what, bytes.as_slice())?)
 }
 
 // What is said of bytes as bytes: `BYTES => TEXT`.
-fn said_line(alloc: Global, what: &str, line: &mut Line<'_>) -> Result<(), Wrong> {
+fn said_line(alloc: Global, what: &str, line: &mut Line) -> Result<(), Wrong> {
     let bytes = line.given()?;
     let found = match what {
         "said" => said(alloc, bytes.as_slice()),
@@ -86,7 +86,7 @@ fn said_line(alloc: Global, what: &str, line: &mut Line<'_>) -> Result<(), Wrong
 }
 
 // What is written behind other bytes.
-fn behind_of(alloc: Global, what: &str, line: &mut Line<'_>) -> Result<Blob, Wrong> {
+fn behind_of(alloc: Global, what: &str, line: &mut Line) -> Result<Blob, Wrong> {
     match what {
         "spelled" => spelled(alloc, line),
         "record" => record(alloc, line, false),
@@ -98,7 +98,7 @@ fn behind_of(alloc: Global, what: &str, line: &mut Line<'_>) -> Result<Blob, Wro
 }
 
 // Looks at it: `.. => BYTES`.
-fn behind_line(alloc: Global, what: &str, line: &mut Line<'_>) -> Result<(), Wrong> {
+fn behind_line(alloc: Global, what: &str, line: &mut Line) -> Result<(), Wrong> {
     let all = behind_of(alloc, what, line)?;
     is_behind(line, &all)
 }
@@ -115,22 +115,22 @@ fn holds(alloc: Global, what: &str, bytes: &[u8]) -> Result<bool, AllocError> {
 }
 
 // Looks at bytes of which something is so; of no bytes that says nothing.
-fn test_line(alloc: Global, what: &str, line: &mut Line<'_>) -> Result<(), Wrong> {
+fn test_line(alloc: Global, what: &str, line: &mut Line) -> Result<(), Wrong> {
     let bytes = line.bytes()?;
     if bytes.is_empty() {
-        return Err(Wrong::Not("says nothing"));
+        return Err(Wrong::Not(Why::Silent));
     }
-    is(line, holds(alloc, what, bytes.as_slice())?)
+    line.is_so(holds(alloc, what, bytes.as_slice())?)
 }
 
 // Looks at words and what they ask for.
-fn is_order(alloc: Global, line: &mut Line<'_>) -> Result<(), Wrong> {
-    let words = words_of(alloc, line.up_to(" => ")?)?;
+fn is_order(alloc: Global, line: &mut Line) -> Result<(), Wrong> {
+    let words = line.words_up_to(" => ")?;
     line.is_text(asked(alloc, &words)?)
 }
 
 // Looks at a line on the wire, or on words.
-fn wire_line(alloc: Global, what: &str, line: &mut Line<'_>) -> Result<(), Wrong> {
+fn wire_line(alloc: Global, what: &str, line: &mut Line) -> Result<(), Wrong> {
     match what {
         "limit" => has_limit(alloc, line),
         "wants" => wants(line),
@@ -143,7 +143,7 @@ fn wire_line(alloc: Global, what: &str, line: &mut Line<'_>) -> Result<(), Wrong
 }
 
 // Looks at a line of a form of its own.
-fn other_line(alloc: Global, what: &str, line: &mut Line<'_>) -> Result<(), Wrong> {
+fn other_line(alloc: Global, what: &str, line: &mut Line) -> Result<(), Wrong> {
     match what {
         "number" => is_number(alloc, line),
         "field" => is_field(alloc, line),
@@ -173,12 +173,7 @@ fn is_read(what: &str) -> bool {
 }
 
 // Looks at a line; what is said of a leaf is said of the one of its case.
-fn line_of(
-    alloc: Global,
-    slots: &mut SlotsOf,
-    what: &str,
-    line: &mut Line<'_>,
-) -> Result<(), Wrong> {
+fn line_of(alloc: Global, slots: &mut SlotsOf, what: &str, line: &mut Line) -> Result<(), Wrong> {
     if is_read(what) {
         return text_line(alloc, what, line);
     }
@@ -198,7 +193,7 @@ impl Player for Tables {
     fn play(&mut self, script: &mut Script<'_>) -> Result<(), Wrong> {
         let mut slots = SlotsOf::new(self.alloc);
         for _ in 0..script.len() {
-            if let Some((what, mut line)) = script.next_line() {
+            if let Some((what, mut line)) = script.next_line()? {
                 line_of(self.alloc, &mut slots, what, &mut line)?;
                 script.end(line)?;
             }

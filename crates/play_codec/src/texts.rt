@@ -4,7 +4,7 @@ ghost use Rattle.ty_memc.specs.Fronts.{IsPieceRead};
 ghost use Rattle.ty_memc.specs.Reading.{text_at};
 
 use crate::commands::text_of;
-use play_text::Wrong;
+use play_text::{Why, Wrong};
 use std::alloc::{AllocError, Global};
 use tc_base::Blob;
 use ty_memc::{
@@ -59,18 +59,18 @@ pub fn command_at(alloc: Global, bytes: &[u8]) -> Result<Text, Wrong>
     match take_text(bytes) {
         Front::Whole(n) => {
             if n != bytes.len() {
-                return Err(Wrong::Not("bytes stand behind it"));
+                return Err(Wrong::Not(Why::Behind));
             }
             Ok(read_text(alloc, bytes)?)
         }
-        Front::Part | Front::Bad => Err(Wrong::Not("not whole")),
+        Front::Part | Front::Bad => Err(Wrong::Not(Why::NotWhole)),
     }
 }
 
 /// `said BYTES => TEXT`: a text command, whole with its last byte, and what it says.
 pub fn said(alloc: Global, bytes: &[u8]) -> Result<Blob, Wrong> {
     if !becomes(alloc, bytes, Front::Whole(bytes.len()))? {
-        return Err(Wrong::Not("not whole with its last byte"));
+        return Err(Wrong::Not(Why::NotWholeYet));
     }
     let text = command_at(alloc, bytes)?;
     let told = text_of(alloc, &text);
@@ -123,7 +123,7 @@ fn is_whole_at_last(bytes: &[u8]) -> bool {
 fn piece_at(alloc: Global, bytes: &[u8]) -> Result<Piece, Wrong> {
     match looked(bytes).0 {
         Front::Whole(_) => Ok(read_piece(alloc, bytes)?),
-        Front::Part | Front::Bad => Err(Wrong::Not("not whole")),
+        Front::Part | Front::Bad => Err(Wrong::Not(Why::NotWhole)),
     }
 }
 
@@ -141,7 +141,7 @@ fn piece_text(alloc: Global, piece: &Piece) -> Result<Blob, AllocError> {
 /// `piece BYTES => TEXT`: a request, which `'updates'` or `'reads'`, or a text command; it is whole with its last byte.
 pub fn piece(alloc: Global, bytes: &[u8]) -> Result<Blob, Wrong> {
     if !is_whole_at_last(bytes) {
-        return Err(Wrong::Not("not whole with its last byte"));
+        return Err(Wrong::Not(Why::NotWholeYet));
     }
     let piece = piece_at(alloc, bytes)?;
     let told = piece_text(alloc, &piece);

@@ -2,8 +2,8 @@
 ghost use Rattle.std.specs.Prelude.{◌≡◌, ◌<◌, IfOk};
 ghost use Rattle.ty_wire.specs.Spelling.{HasSpelling};
 
-use crate::behind::{begun, is, is_bare};
-use play_text::{Line, Wrong};
+use crate::behind::{begun, is_bare};
+use play_text::{Line, Why, Wrong};
 use std::alloc::{AllocError, Global};
 use tc_base::{Blob, Blobs, Pair, Pairs, Reply, Request};
 use ty_look::{Seen, look};
@@ -70,10 +70,10 @@ fn is_most(alloc: Global, front: &[u8], most: u32) -> Result<bool, AllocError> {
 }
 
 /// `limit NUMBER BYTES`: the most that a size or a count behind these bytes may be.
-pub fn has_limit(alloc: Global, line: &mut Line<'_>) -> Result<(), Wrong> {
+pub fn has_limit(alloc: Global, line: &mut Line) -> Result<(), Wrong> {
     let most = line.small()?;
     let bytes = line.bytes()?;
-    is(line, is_most(alloc, bytes.as_slice(), most)?)
+    line.is_so(is_most(alloc, bytes.as_slice(), most)?)
 }
 
 // What a look at bytes finds, and how many it needs at least.
@@ -84,11 +84,11 @@ fn looked(bytes: &[u8]) -> (Front, usize) {
 }
 
 /// `wants NUMBER BYTES`: how many bytes a part needs at least.
-pub fn wants(line: &mut Line<'_>) -> Result<(), Wrong> {
+pub fn wants(line: &mut Line) -> Result<(), Wrong> {
     let wanted = line.number()?;
     let bytes = line.bytes()?;
     let (found, least) = looked(bytes.as_slice());
-    is(line, found == Front::Part && least as u64 == wanted)
+    line.is_so(found == Front::Part && least as u64 == wanted)
 }
 
 // Whether `look` at bytes that come in such pieces answers at each step what `take` answers.
@@ -168,13 +168,13 @@ fn texts_of(request: &Request) -> Option<Texts<'_>> {
 }
 
 // Looks at the texts of a request.
-fn has_texts(request: &Request, line: &mut Line<'_>) -> Result<(), Wrong> {
+fn has_texts(request: &Request, line: &mut Line) -> Result<(), Wrong> {
     let wanted = line.number()?;
     let Some(texts) = texts_of(request) else {
         return Err(Wrong::Unread);
     };
     if texts.count as u64 != wanted {
-        return Err(Wrong::Not("another number of texts"));
+        return Err(Wrong::Not(Why::AnotherNumber));
     }
     line.is_bytes(texts.last)
 }
@@ -184,17 +184,17 @@ fn request_of(alloc: Global, bytes: &[u8]) -> Result<Request, Wrong> {
     match take(bytes) {
         Front::Whole(n) => {
             if n != bytes.len() {
-                return Err(Wrong::Not("bytes stand behind it"));
+                return Err(Wrong::Not(Why::Behind));
             }
             Ok(read_request(alloc, bytes)?)
         }
-        Front::Part | Front::Bad => Err(Wrong::Not("not whole")),
+        Front::Part | Front::Bad => Err(Wrong::Not(Why::NotWhole)),
     }
 }
 
 /// `text BYTES => COUNT TEXT`: how many keys or arguments a request has, and the last of them, which is nothing where there is none. Of a shift it is its value alone, of an
 /// extension its key.
-pub fn is_text(alloc: Global, line: &mut Line<'_>) -> Result<(), Wrong> {
+pub fn is_text(alloc: Global, line: &mut Line) -> Result<(), Wrong> {
     let bytes = line.given()?;
     let request = request_of(alloc, bytes.as_slice())?;
     let answer = has_texts(&request, line);
@@ -237,7 +237,7 @@ fn value_of_first(alloc: Global) -> Result<Reply, AllocError>
 }
 
 // A reply by name: a number, one that has parts, or one that has none.
-fn reply_of(alloc: Global, line: &mut Line<'_>) -> Result<Reply, Wrong>
+fn reply_of(alloc: Global, line: &mut Line) -> Result<Reply, Wrong>
     ensures { IfOk result HasSpelling }
 {
     match line.word() {
@@ -267,11 +267,20 @@ fn plain_reply(name: &str) -> Result<Reply, Wrong>
     }
 }
 
-/// `reply NAME => BYTES`: a reply as it is written behind other bytes.
-pub fn reply(alloc: Global, line: &mut Line<'_>) -> Result<Blob, Wrong> {
-    let reply = reply_of(alloc, line)?;
-    is_bare(line)?;
+// A reply as it is written behind other bytes.
+fn written(alloc: Global, reply: &Reply) -> Result<Blob, AllocError>
+    requires { HasSpelling reply.now }
+{
     let mut all = begun(alloc)?;
-    write_reply(&reply, &mut all)?;
+    write_reply(reply, &mut all)?;
     Ok(all)
+}
+
+/// `reply NAME => BYTES`: a reply as it is written behind other bytes.
+pub fn reply(alloc: Global, line: &mut Line) -> Result<Blob, Wrong> {
+    let reply = reply_of(alloc, line)?;
+    let all = written(alloc, &reply);
+    drop(reply);
+    is_bare(line)?;
+    Ok(all?)
 }

@@ -1,9 +1,9 @@
 //! Cases of fixed-length files.
 
-use crate::looks::{bytes_line, is_number, is_so, is_value, usable};
+use crate::looks::{bytes_line, is_number, is_value, usable};
 use crate::playing::{Object, play_lines};
 use crate::refusals::{faulted, refused};
-use play_text::{Line, Script, Wrong, number_of};
+use play_text::{Line, Script, Why, Wrong, number_of};
 use std::alloc::{AllocError, Global};
 use tc_base::Blob;
 use tc_fixed::Fixed;
@@ -22,7 +22,7 @@ impl Held {
     fn put(&mut self, id: u64, value: &[u8]) -> Result<(), Wrong> {
         usable(&self.space)?;
         if id == 0 || id > self.fixed.max_id() || value.len() > self.fixed.width() as usize {
-            return Err(Wrong::Not("a limit was reached"));
+            return Err(Wrong::Not(Why::Limit));
         }
         self.fixed.put(&mut self.space, id, value).map_err(refused)
     }
@@ -38,7 +38,7 @@ impl Held {
                 Ok(Some(Blob::from_vec(bytes)))
             }
             Ok(None) => Ok(None),
-            Err(_) => Err(Wrong::Not("a fault")),
+            Err(_) => Err(Wrong::Not(Why::Fault)),
         }
     }
 
@@ -68,7 +68,7 @@ impl Held {
 }
 
 // A line that asks for the value of an id: `get ID = VALUE`.
-fn get_line(held: &mut Held, line: &mut Line<'_>) -> Result<(), Wrong> {
+fn get_line(held: &mut Held, line: &mut Line) -> Result<(), Wrong> {
     let id = line.number()?;
     let found = held.value(id)?;
     let wanted = line.wanted()?;
@@ -76,37 +76,37 @@ fn get_line(held: &mut Held, line: &mut Line<'_>) -> Result<(), Wrong> {
 }
 
 // A line that asks for an id which isn't held: `none ID`.
-fn none_line(held: &mut Held, line: &mut Line<'_>) -> Result<(), Wrong> {
+fn none_line(held: &mut Held, line: &mut Line) -> Result<(), Wrong> {
     let id = line.number()?;
     let length = held.long(id)?;
-    is_so(line, length.is_none())?;
+    line.is_so(length.is_none())?;
     let found = held.value(id)?;
     is_value(line, None, &found)
 }
 
 // A line that asks for the length of a value: `length ID N`.
-fn length_line(held: &mut Held, line: &mut Line<'_>) -> Result<(), Wrong> {
+fn length_line(held: &mut Held, line: &mut Line) -> Result<(), Wrong> {
     let id = line.number()?;
     let wanted = line.number()?;
     let found = held.long(id)?;
-    is_so(line, found == Some(wanted))
+    line.is_so(found == Some(wanted))
 }
 
 // A line that puts: `put ID => VALUE`.
-fn put_line(held: &mut Held, line: &mut Line<'_>) -> Result<(), Wrong> {
+fn put_line(held: &mut Held, line: &mut Line) -> Result<(), Wrong> {
     let id = line.number()?;
     let value = line.wanted()?;
     held.put(id, value.as_slice())
 }
 
 // A line that takes an id out: `out ID`, or `no_out ID` where it isn't held.
-fn out_line(held: &mut Held, what: &str, line: &mut Line<'_>) -> Result<(), Wrong> {
+fn out_line(held: &mut Held, what: &str, line: &mut Line) -> Result<(), Wrong> {
     let taken = held.out(line.number()?)?;
-    is_so(line, taken == (what == "out"))
+    line.is_so(taken == (what == "out"))
 }
 
 // A number at most, or `all` for any.
-fn most_of(line: &mut Line<'_>) -> Result<Option<u64>, Wrong> {
+fn most_of(line: &mut Line) -> Result<Option<u64>, Wrong> {
     match line.word() {
         "all" => Ok(None),
         word => match number_of(word) {
@@ -127,7 +127,7 @@ fn ids_text(held: &mut Held, first: u64, last: u64, most: Option<u64>) -> Result
 }
 
 // A line that lists ids: `ids FIRST LAST MOST ID ID ..`, from one id to another, at most so many; `all` for any number.
-fn ids_line(held: &mut Held, line: &mut Line<'_>) -> Result<(), Wrong> {
+fn ids_line(held: &mut Held, line: &mut Line) -> Result<(), Wrong> {
     let first = line.number()?;
     let last = line.number()?;
     let most = most_of(line)?;
@@ -146,7 +146,7 @@ fn numbers(alloc: Global, fixed: &Fixed<OneFile>) -> Result<String, AllocError> 
 }
 
 // A line on the whole: `numbers LEAST GREATEST COUNT SIZE`, `most_id N`, `clear`, `settle`; and those on its bytes.
-fn whole_line(held: &mut Held, what: &str, line: &mut Line<'_>) -> Result<(), Wrong> {
+fn whole_line(held: &mut Held, what: &str, line: &mut Line) -> Result<(), Wrong> {
     match what {
         "numbers" => line.is_text(numbers(held.alloc, &held.fixed)?),
         "most_id" => is_number(held.alloc, line, held.fixed.max_id()),
@@ -157,7 +157,7 @@ fn whole_line(held: &mut Held, what: &str, line: &mut Line<'_>) -> Result<(), Wr
 }
 
 impl Object for Held {
-    fn play(&mut self, what: &str, line: &mut Line<'_>) -> Result<(), Wrong> {
+    fn play(&mut self, what: &str, line: &mut Line) -> Result<(), Wrong> {
         match what {
             "get" => get_line(self, line),
             "none" => none_line(self, line),
@@ -171,7 +171,7 @@ impl Object for Held {
 }
 
 // A new file of no values: `array WIDTH LIMIT`.
-fn created(alloc: Global, line: &mut Line<'_>) -> Result<Held, Wrong> {
+fn created(alloc: Global, line: &mut Line) -> Result<Held, Wrong> {
     let width = line.within(1, 1_048_576)?;
     let limit = line.within(512, 1 << 40)?;
     let mut space = OneFile::of(Vec::new(alloc));
@@ -184,10 +184,6 @@ fn created(alloc: Global, line: &mut Line<'_>) -> Result<Held, Wrong> {
 }
 
 /// Plays a case of a fixed-length file.
-pub fn play_array(
-    alloc: Global,
-    line: &mut Line<'_>,
-    script: &mut Script<'_>,
-) -> Result<(), Wrong> {
+pub fn play_array(alloc: Global, line: &mut Line, script: &mut Script<'_>) -> Result<(), Wrong> {
     play_lines(&mut created(alloc, line)?, script)
 }

@@ -13,14 +13,12 @@ use tc_base::{Blob, Mode, PAGE_END, Steps};
 use tc_memstores::{MemRecords, OneFile};
 use tc_space::Records;
 
-type Store = MemRecords<OneFile>;
-
 // A cache and its records.
 #[derive(Drop)]
-struct Held {
+struct Held<R> {
     alloc: Global,
-    cache: Cache<Store>,
-    store: Store,
+    cache: Cache<R>,
+    store: R,
     space: OneFile,
 }
 
@@ -31,7 +29,7 @@ struct Found {
     steps: u64,
 }
 
-impl Held {
+impl<R: Records<S = OneFile>> Held<R> {
     // Puts a record past the cache.
     fn put(&mut self, key: &[u8], bytes: &[u8]) -> Result<bool, Wrong> {
         usable(&self.space)?;
@@ -126,7 +124,11 @@ impl Held {
 }
 
 // A page put: a leaf below 2^48, else a node.
-fn put_page(held: &mut Held, id: u64, bytes: Blob) -> Result<(), Wrong> {
+fn put_page<R: Records<S = OneFile>>(
+    held: &mut Held<R>,
+    id: u64,
+    bytes: Blob,
+) -> Result<(), Wrong> {
     if id < PAGE_END {
         return match SlottedLeaf::read(held.alloc, bytes) {
             Ok(leaf) => held.put_leaf(id, leaf),
@@ -140,7 +142,7 @@ fn put_page(held: &mut Held, id: u64, bytes: Blob) -> Result<(), Wrong> {
 }
 
 // A line that puts a page: `page ID BYTES`.
-fn page_line(held: &mut Held, line: &mut Line<'_>) -> Result<(), Wrong> {
+fn page_line<R: Records<S = OneFile>>(held: &mut Held<R>, line: &mut Line) -> Result<(), Wrong> {
     let id = line.number()?;
     let bytes = line.bytes()?;
     let bytes = Blob::from_slice(held.alloc, bytes.as_slice())?;
@@ -148,15 +150,19 @@ fn page_line(held: &mut Held, line: &mut Line<'_>) -> Result<(), Wrong> {
 }
 
 // A line that puts a record past the cache: `record KEY = BYTES`.
-fn record_line(held: &mut Held, line: &mut Line<'_>) -> Result<(), Wrong> {
-    let key = line.bytes_up_to(" = ")?;
+fn record_line<R: Records<S = OneFile>>(held: &mut Held<R>, line: &mut Line) -> Result<(), Wrong> {
+    let key = line.key()?;
     let bytes = line.bytes()?;
     held.put(key.as_slice(), bytes.as_slice())?;
     Ok(())
 }
 
 // A line that asks for a page: `leaf ID FOUND STEPS` and `taken` for the leaf before it, `node` for its heir, each with the steps to it.
-fn ask(held: &mut Held, what: &str, line: &mut Line<'_>) -> Result<(), Wrong> {
+fn ask<R: Records<S = OneFile>>(
+    held: &mut Held<R>,
+    what: &str,
+    line: &mut Line,
+) -> Result<(), Wrong> {
     let id = line.number()?;
     let found = match what {
         "leaf" => held.leaf(id),
@@ -168,8 +174,8 @@ fn ask(held: &mut Held, what: &str, line: &mut Line<'_>) -> Result<(), Wrong> {
     line.is_text(format!(in held.alloc; "{number} {steps}")?)
 }
 
-impl Object for Held {
-    fn play(&mut self, what: &str, line: &mut Line<'_>) -> Result<(), Wrong> {
+impl<R: Records<S = OneFile>> Object for Held<R> {
+    fn play(&mut self, what: &str, line: &mut Line) -> Result<(), Wrong> {
         match what {
             "record" => record_line(self, line),
             "page" => page_line(self, line),
@@ -184,23 +190,34 @@ impl Object for Held {
     }
 }
 
-// No pages: `cache ROOM`, for so many of them.
-fn created(alloc: Global, line: &mut Line<'_>) -> Result<Held, Wrong> {
+// No pages over a store: `cache ROOM`, for so many of them.
+fn created<R: Records<S = OneFile> + Drop>(
+    alloc: Global,
+    store: R,
+    line: &mut Line,
+) -> Result<Held<R>, Wrong> {
     let room = line.within(1, u64::from(u32::MAX))?;
     let cache = Cache::new(alloc, room as usize)?;
     Ok(Held {
         alloc,
         cache,
-        store: MemRecords::new(alloc, 0),
+        store,
         space: OneFile::of(Vec::new(alloc)),
     })
 }
 
-/// Plays a case of a cache.
-pub fn play_cache(
+// Plays lines on pages over a store.
+fn play_over<R: Records<S = OneFile> + Drop>(
     alloc: Global,
-    line: &mut Line<'_>,
+    store: R,
+    line: &mut Line,
     script: &mut Script<'_>,
 ) -> Result<(), Wrong> {
-    play_lines(&mut created(alloc, line)?, script)
+    play_lines(&mut created(alloc, store, line)?, script)
+}
+
+/// Plays a case of a cache.
+pub fn play_cache(alloc: Global, line: &mut Line, script: &mut Script<'_>) -> Result<(), Wrong> {
+    let store: MemRecords<OneFile> = MemRecords::new(alloc, 0);
+    play_over(alloc, store, line, script)
 }

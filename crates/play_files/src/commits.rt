@@ -1,13 +1,13 @@
 //! Cases of files with commits, over a volume in memory that counts its syncs.
-ghost use Rattle.std.specs.Prelude.{◌≡◌, ◌≤◌, true, false, IfOk, OnOk};
+ghost use Rattle.std.specs.Prelude.{◌≡◌, ◌≤◌, ◌^◌, true, false, IfOk, OnOk};
 ghost use Rattle.tc_space.specs.Ranges.{IsDataFile};
 
 use crate::counted::Counted;
-use crate::looks::{is_number, is_so, name_of};
+use crate::looks::{is_number, name_of};
 use crate::memory::Memory;
 use crate::refusals::unwritten;
 use play_stops::choices;
-use play_text::{Line, Script, Wrong};
+use play_text::{Line, Pattern, Script, Why, Wrong};
 use std::alloc::{AllocError, Global};
 use tc_base::{Fault, Label};
 use tc_fakes::MemVolume;
@@ -54,7 +54,7 @@ impl From<Failure> for Wrong {
 }
 
 /// A data file: 0, or 2 to 18.
-pub fn data_file(line: &mut Line<'_>) -> Result<u32, Wrong>
+pub fn data_file(line: &mut Line) -> Result<u32, Wrong>
     ensures { IfOk result (λ file. IsDataFile file) }
 {
     let file = line.within(0, 18)?;
@@ -90,7 +90,7 @@ fn cut<S: Space>(space: &mut S, file: u32, len: u64) -> Result<(), SpaceErr>
 
 /// Commits, which calls nothing where nothing was written, and makes the copy of a line: `LABEL`. Answers whether it was made; where it wasn't, the files may be used
 /// as before.
-pub fn copy<S: Space>(space: &mut S, line: &mut Line<'_>) -> Result<bool, Failure>
+pub fn copy<S: Space>(space: &mut S, line: &mut Line) -> Result<bool, Failure>
     requires { S.sound space.old }
     ensures { OnOk result (S.sound space.new) }
 {
@@ -102,7 +102,7 @@ pub fn copy<S: Space>(space: &mut S, line: &mut Line<'_>) -> Result<bool, Failur
 }
 
 // `put FILE PLACE BYTES`.
-fn put_line<S: Space>(space: &mut S, line: &mut Line<'_>) -> Result<(), Failure>
+fn put_line<S: Space>(space: &mut S, line: &mut Line) -> Result<(), Failure>
     requires { S.sound space.old }
     ensures { OnOk result (S.sound space.new) }
 {
@@ -113,7 +113,7 @@ fn put_line<S: Space>(space: &mut S, line: &mut Line<'_>) -> Result<(), Failure>
 }
 
 // `cut FILE LENGTH`.
-fn cut_line<S: Space>(space: &mut S, line: &mut Line<'_>) -> Result<(), Failure>
+fn cut_line<S: Space>(space: &mut S, line: &mut Line) -> Result<(), Failure>
     requires { S.sound space.old }
     ensures { OnOk result (S.sound space.new) }
 {
@@ -123,7 +123,7 @@ fn cut_line<S: Space>(space: &mut S, line: &mut Line<'_>) -> Result<(), Failure>
 }
 
 // Looks at up to 64 bytes of a file: `get FILE PLACE BYTES`.
-fn get_line<S: Space>(space: &mut S, line: &mut Line<'_>) -> Result<(), Failure>
+fn get_line<S: Space>(space: &mut S, line: &mut Line) -> Result<(), Failure>
     requires { S.sound space.old }
     ensures { OnOk result (S.sound space.new) }
 {
@@ -134,14 +134,14 @@ fn get_line<S: Space>(space: &mut S, line: &mut Line<'_>) -> Result<(), Failure>
     let n = wanted.as_slice().len().min(64);
     let len = space.len(file);
     if at > len || n as u64 > len - at {
-        return Err(Failure::Line(Wrong::Not("the file is shorter")));
+        return Err(Failure::Line(Wrong::Not(Why::Shorter)));
     }
     space.read(file, at, &mut found[..n])?;
     Ok(line.told(&wanted, &found[..n])?)
 }
 
 /// Plays a line on files: `put FILE PLACE BYTES`, `cut FILE LENGTH`, `get FILE PLACE BYTES`, `commit`, `copy LABEL`.
-pub fn change<S: Space>(space: &mut S, what: &str, line: &mut Line<'_>) -> Result<(), Failure>
+pub fn change<S: Space>(space: &mut S, what: &str, line: &mut Line) -> Result<(), Failure>
     requires { S.sound space.old }
     ensures { OnOk result (S.sound space.new) }
 {
@@ -152,7 +152,7 @@ pub fn change<S: Space>(space: &mut S, what: &str, line: &mut Line<'_>) -> Resul
         "commit" => Ok(space.commit()?),
         "copy" => {
             let made = copy(space, line)?;
-            Ok(is_so(line, made)?)
+            Ok(line.is_so(made)?)
         }
         _ => Err(Failure::Line(Wrong::Unread)),
     }
@@ -166,9 +166,39 @@ fn bound(vol: MemVolume) -> Result<Vol, Wrong>
 {
     let mut vol = vol;
     let Ok(()) = vol.bind("a") else {
-        return Err(Wrong::Not("a fault"));
+        return Err(Wrong::Not(Why::Fault));
     };
     Ok(Counted { vol, syncs: 0 })
+}
+
+/// Recovers a volume in memory, and answers what that answers; none where it can't be bound.
+pub fn recovered(vol: &mut MemVolume) -> Option<Result<(), RecoverErr>> {
+    match vol.bind("a") {
+        Ok(()) => Some(recover(vol)),
+        Err(_) => None,
+    }
+}
+
+// A file of a volume has these bytes: `FILE BYTES`.
+fn has_file(vol: &MemVolume, line: &mut Line) -> Result<(), Wrong> {
+    let file = Files::file(line)?;
+    line.is_bytes(vol.bytes(file))
+}
+
+// A volume is recovered, and a file of it then has these bytes.
+fn is_recovered_to(
+    vol: &mut MemVolume,
+    file: u32,
+    wanted: &Pattern,
+    line: &mut Line,
+) -> Result<(), Wrong>
+    requires { file ≤ 18 }
+{
+    let Some(answer) = recovered(vol) else {
+        return Err(Wrong::Not(Why::Fault));
+    };
+    line.is_so(answer.is_ok())?;
+    line.told(wanted, vol.bytes(file))
 }
 
 /// Files in a volume, the limit of their lengths, and how many syncs the last opening and all behind it took.
@@ -197,21 +227,21 @@ impl Files {
     }
 
     // Opens the files, plays lines up to the last of them, and closes them; with a memory in which writes are held, if the line asks for one.
-    fn open(&mut self, line: &mut Line<'_>, script: &mut Script<'_>) -> Result<(), Wrong> {
+    fn open(&mut self, line: &mut Line, script: &mut Script<'_>) -> Result<(), Wrong> {
         let held = match Memory::of(line)? {
             Some(memory) => Some(memory.take(self.alloc)?),
             None => None,
         };
         let vol = bound(self.take()?)?;
-        match Undo::open(vol, self.limit.min(1 << 40)) {
-            Ok(space) => {
-                let (space, played) = play_opened(space, held, script);
-                self.keep(space.close());
+        let (vol, played) = play_volume(vol, self.limit.min(1 << 40), held, script);
+        match played {
+            Some(played) => {
+                self.keep(vol);
                 Ok(played?)
             }
-            Err(refused) => {
-                self.vol = refused.vol.vol;
-                Err(Wrong::Not("the files aren't opened"))
+            None => {
+                self.vol = vol.vol;
+                Err(Wrong::Not(Why::Unopened))
             }
         }
     }
@@ -231,7 +261,7 @@ impl Files {
     }
 
     // A file that there is.
-    fn file(line: &mut Line<'_>) -> Result<u32, Wrong>
+    fn file(line: &mut Line) -> Result<u32, Wrong>
         ensures { IfOk result (λ file. file ≤ 18) }
     {
         let file = line.within(0, 18)?;
@@ -239,29 +269,27 @@ impl Files {
     }
 
     // Looks at a file: `file FILE BYTES`.
-    fn is_file(&self, line: &mut Line<'_>) -> Result<(), Wrong> {
-        let file = Files::file(line)?;
-        line.is_bytes(self.vol.bytes(file))
+    fn is_file(&self, line: &mut Line) -> Result<(), Wrong> {
+        has_file(&self.vol, line)
     }
 
     // Looks at a file of the copy under a label: `copied LABEL FILE BYTES`.
-    fn is_copied(&self, line: &mut Line<'_>) -> Result<(), Wrong> {
+    fn is_copied(&self, line: &mut Line) -> Result<(), Wrong> {
         let copy = self.vol.copy(line.word().as_bytes())?;
-        let file = Files::file(line)?;
-        line.is_bytes(copy.bytes(file))
+        let found = has_file(&copy, line);
+        drop(copy);
+        found
     }
 
     // Looks at all that a stop may leave of a file once it is recovered: `stopped FILE BYTES`.
-    fn is_left(&self, line: &mut Line<'_>) -> Result<(), Wrong> {
+    fn is_left(&self, line: &mut Line) -> Result<(), Wrong> {
         let file = Files::file(line)?;
         let wanted = line.bytes()?;
         for choice in choices().iter() {
             let mut image = self.vol.image(choice)?;
-            let Ok(()) = image.bind("a") else {
-                return Err(Wrong::Not("a fault"));
-            };
-            is_so(line, recover(&mut image).is_ok())?;
-            line.told(&wanted, image.bytes(file))?;
+            let left = is_recovered_to(&mut image, file, &wanted, line);
+            drop(image);
+            left?;
         }
         Ok(())
     }
@@ -270,15 +298,15 @@ impl Files {
     fn is_recovered(&mut self) -> Result<(), Wrong> {
         match self.recover()? {
             None => Ok(()),
-            Some(_) => Err(Wrong::Not("it is refused")),
+            Some(_) => Err(Wrong::Not(Why::Refused)),
         }
     }
 
     // Looks at the rule by which a recovery is refused: `broken U1`.
-    fn is_broken(&mut self, line: &mut Line<'_>) -> Result<(), Wrong> {
+    fn is_broken(&mut self, line: &mut Line) -> Result<(), Wrong> {
         match self.recover()? {
             Some(RecoverErr::Broken(rule)) => line.is_text(name_of(self.alloc, rule)?),
-            _ => Err(Wrong::Not("no broken rule")),
+            _ => Err(Wrong::Not(Why::NoRule)),
         }
     }
 
@@ -287,7 +315,7 @@ impl Files {
     pub fn play(
         &mut self,
         what: &str,
-        line: &mut Line<'_>,
+        line: &mut Line,
         script: &mut Script<'_>,
     ) -> Result<(), Wrong> {
         match what {
@@ -316,12 +344,12 @@ fn is_usable<S: Space>(space: &S, wanted: bool) -> Result<(), Failure> {
     if space.is_sound() == wanted {
         return Ok(());
     }
-    Err(Failure::Line(Wrong::Not("it is otherwise")))
+    Err(Failure::Line(Wrong::Not(Why::Otherwise)))
 }
 
 // Plays the last line on opened files: `close`, `spoil`, which gives all up, `give_up`, which brings down what is held besides, or `full` in front of a line that is
 // refused for a limit.
-fn play_last<S: Space>(space: &mut S, what: &str, line: &mut Line<'_>) -> Result<(), Failure>
+fn play_last<S: Space>(space: &mut S, what: &str, line: &mut Line) -> Result<(), Failure>
     requires { S.sound space.old }
 {
     match what {
@@ -335,12 +363,12 @@ fn play_last<S: Space>(space: &mut S, what: &str, line: &mut Line<'_>) -> Result
             is_usable(space, false)
         }
         _ => {
-            let what = line.word();
+            let what = line.own_word()?;
             let refused = matches!(
-                change(space, what, line),
+                change(space, what.as_str(), line),
                 Err(Failure::Space(SpaceErr::Full))
             );
-            Ok(is_so(line, refused && !space.is_sound())?)
+            Ok(line.is_so(refused && !space.is_sound())?)
         }
     }
 }
@@ -350,7 +378,7 @@ fn play_lines<S: Space>(space: &mut S, script: &mut Script<'_>) -> Result<(), Fa
     requires { S.sound space.old }
 {
     for _ in 0..script.len() {
-        let Some((what, mut line)) = script.next_line() else {
+        let Some((what, mut line)) = script.next_line()? else {
             return Ok(());
         };
         if matches!(what, "close" | "spoil" | "give_up" | "full") {
@@ -383,5 +411,24 @@ fn play_opened<S: Batched>(
             let played = play_lines(&mut space, script);
             (space.into_below(), played)
         }
+    }
+}
+
+// Opens the files of a volume, plays lines on them up to the last, and closes them. Hands the volume back with what came of it; with none where the files aren't opened.
+fn play_volume<V: Volume>(
+    vol: V,
+    limit: u64,
+    held: Option<Held>,
+    script: &mut Script<'_>,
+) -> (V, Option<Result<(), Failure>>)
+    requires bound { V.bound vol ≡ true }
+    requires limit { limit ≤ 2 ^ 40 }
+{
+    match Undo::open(vol, limit) {
+        Ok(space) => {
+            let (space, played) = play_opened(space, held, script);
+            (space.close(), Some(played))
+        }
+        Err(refused) => (refused.vol, None),
     }
 }

@@ -1,6 +1,6 @@
 //! Lines on a cursor of a tree, and on items that are sought in it.
 
-use crate::looks::{are_pairs, is_so, usable};
+use crate::looks::{are_pairs, usable};
 use crate::refusals::refused;
 use bt_cursor::Cursor;
 use bt_order::Stretch;
@@ -8,29 +8,23 @@ use bt_page::Item;
 use bt_tree::{Items, Tree};
 use play_text::{Line, Wrong};
 use std::alloc::{AllocError, Global};
-use tc_base::{Blob, Lexical, Pair, Pairs, Steps};
-use tc_hash::Hash;
+use tc_base::{Blob, Order, Pair, Pairs, Steps};
 use tc_memstores::OneFile;
-
-type TreeOf = Tree<Hash<OneFile>, Lexical>;
+use tc_space::Records;
 
 // Whether a line ends in `yes`, else `no`.
-fn is_yes(line: &mut Line<'_>) -> Result<bool, Wrong> {
-    let word = line.word();
-    if word == "yes" || word == "no" {
-        return Ok(word == "yes");
-    }
-    Err(Wrong::Unread)
+fn is_yes(line: &mut Line) -> Result<bool, Wrong> {
+    line.is_second("no", "yes")
 }
 
 // The pair at the cursor is that of a line, `#KEY #VALUE`, or none; and the call that moved it there said so.
-fn stands(
+fn stands<R: Records<S = OneFile>, O: Order>(
     alloc: Global,
-    tree: &mut TreeOf,
+    tree: &mut Tree<R, O>,
     space: &mut OneFile,
     cursor: &mut Cursor,
     moved: Option<bool>,
-    line: &mut Line<'_>,
+    line: &mut Line,
 ) -> Result<(), Wrong> {
     usable(space)?;
     let mut pairs = Pairs::new(alloc);
@@ -40,14 +34,14 @@ fn stands(
         pairs.push(pair)?;
     }
     if let Some(moved) = moved {
-        is_so(line, moved == there)?;
+        line.is_so(moved == there)?;
     }
     are_pairs(alloc, line, &pairs)
 }
 
 // A call that moves the cursor: `to_first`, `to_last`, `to_next`, `to_prev => #KEY #VALUE`, nothing where it is nowhere then.
-fn moves(
-    tree: &mut TreeOf,
+fn moves<R: Records<S = OneFile>, O: Order>(
+    tree: &mut Tree<R, O>,
     space: &mut OneFile,
     cursor: &mut Cursor,
     what: &str,
@@ -62,13 +56,13 @@ fn moves(
 }
 
 // A line on the cursor. Besides those: `jump KEY => #KEY #VALUE`, `at => #KEY #VALUE`, `set VALUE => yes|no` and `cut => yes|no`.
-fn on_cursor(
+fn on_cursor<R: Records<S = OneFile>, O: Order>(
     alloc: Global,
-    tree: &mut TreeOf,
+    tree: &mut Tree<R, O>,
     space: &mut OneFile,
     cursor: &mut Cursor,
     what: &str,
-    line: &mut Line<'_>,
+    line: &mut Line,
 ) -> Result<(), Wrong> {
     usable(space)?;
     let given = line.given()?;
@@ -81,12 +75,12 @@ fn on_cursor(
         "set" => {
             let yes = is_yes(line)?;
             let done = cursor.put(tree, space, given.as_slice()).map_err(refused)?;
-            is_so(line, done == yes)
+            line.is_so(done == yes)
         }
         "cut" => {
             let yes = is_yes(line)?;
             let done = cursor.out(tree, space).map_err(refused)?;
-            is_so(line, done == yes)
+            line.is_so(done == yes)
         }
         _ => {
             let moved = moves(tree, space, cursor, what)?;
@@ -123,9 +117,9 @@ fn as_items(alloc: Global, item: Option<Item>) -> Result<Items, AllocError> {
 }
 
 // Items that are sought: `seek KEY => #KEY #VALUE ..` from a key on, `behind KEY` from the next one on, those of one leaf; `before KEY` the last one below a key; `first_item`, `last_item`.
-fn sought(
+fn sought<R: Records<S = OneFile>, O: Order>(
     alloc: Global,
-    tree: &mut TreeOf,
+    tree: &mut Tree<R, O>,
     space: &mut OneFile,
     what: &str,
     key: &[u8],
@@ -155,11 +149,11 @@ fn sought(
 }
 
 // A value at a place among those of a key: `value_at KEY PLACE VALUE => yes|no`, and `drop_at KEY PLACE => yes|no`.
-fn at_place(
-    tree: &mut TreeOf,
+fn at_place<R: Records<S = OneFile>, O: Order>(
+    tree: &mut Tree<R, O>,
     space: &mut OneFile,
     what: &str,
-    line: &mut Line<'_>,
+    line: &mut Line,
 ) -> Result<(), Wrong> {
     usable(space)?;
     let place = line.number()?;
@@ -174,7 +168,7 @@ fn at_place(
     let done = tree
         .set_at(space, key.as_slice(), place, value)
         .map_err(refused)?;
-    is_so(line, done == yes)
+    line.is_so(done == yes)
 }
 
 /// Whether a line is one on a cursor or on items.
@@ -200,13 +194,13 @@ pub fn is_of_cursors(what: &str) -> bool {
 }
 
 /// Plays a line on a cursor or on items.
-pub fn play_cursor(
+pub fn play_cursor<R: Records<S = OneFile>, O: Order>(
     alloc: Global,
-    tree: &mut TreeOf,
+    tree: &mut Tree<R, O>,
     space: &mut OneFile,
     cursor: &mut Cursor,
     what: &str,
-    line: &mut Line<'_>,
+    line: &mut Line,
 ) -> Result<(), Wrong> {
     match what {
         "seek" | "behind" | "before" | "first_item" | "last_item" => {

@@ -1,6 +1,6 @@
 //! Cases of hash files.
 
-use crate::looks::{is_number, is_second, is_so, marked_line, usable};
+use crate::looks::{is_number, marked_line, usable};
 use crate::maps::{MapOf, map_line};
 use crate::playing::{Object, play_lines};
 use crate::refusals::{refused, unopened};
@@ -22,18 +22,18 @@ fn long(held: &mut Held, key: &[u8]) -> Result<Option<u64>, Wrong> {
 }
 
 // A line that asks for the length of a value: `length KEY = N`.
-fn length_line(held: &mut Held, line: &mut Line<'_>) -> Result<(), Wrong> {
-    let key = line.bytes_up_to(" = ")?;
+fn length_line(held: &mut Held, line: &mut Line) -> Result<(), Wrong> {
+    let key = line.key()?;
     let wanted = line.number()?;
     let found = long(held, key.as_slice())?;
-    is_so(line, found == Some(wanted))
+    line.is_so(found == Some(wanted))
 }
 
 // A line that asks for the length of none: `no_length KEY`.
-fn no_length_line(held: &mut Held, line: &mut Line<'_>) -> Result<(), Wrong> {
+fn no_length_line(held: &mut Held, line: &mut Line) -> Result<(), Wrong> {
     let key = line.bytes()?;
     let found = long(held, key.as_slice())?;
-    is_so(line, found.is_none())
+    line.is_so(found.is_none())
 }
 
 // The file opens.
@@ -56,7 +56,7 @@ struct Case {
 
 // A line: `length KEY = N`, `no_length KEY`, `size N` for the length of its blocks, `opens`; those on its bytes, and on maps.
 impl Object for Case {
-    fn play(&mut self, what: &str, line: &mut Line<'_>) -> Result<(), Wrong> {
+    fn play(&mut self, what: &str, line: &mut Line) -> Result<(), Wrong> {
         self.held.begin(what);
         match what {
             "length" => length_line(&mut self.held, line),
@@ -73,19 +73,15 @@ impl Object for Case {
 }
 
 // A new file of no records, with a unit of 16 and a pool of 68 bytes: `hash BUCKETS small|large`.
-fn created(
-    alloc: Global,
-    space: &mut OneFile,
-    line: &mut Line<'_>,
-) -> Result<Hash<OneFile>, Wrong> {
+fn created(alloc: Global, space: &mut OneFile, line: &mut Line) -> Result<Hash<OneFile>, Wrong> {
     let buckets = line.within(1, 1 << 38)?;
-    let large = is_second(line, "small", "large")?;
+    let large = line.is_second("small", "large")?;
     usable(space)?;
     Hash::create(alloc, space, 0, 0, 4, 0, buckets, large).map_err(refused)
 }
 
 /// Plays a case of a hash file.
-pub fn play_hash(alloc: Global, line: &mut Line<'_>, script: &mut Script<'_>) -> Result<(), Wrong> {
+pub fn play_hash(alloc: Global, line: &mut Line, script: &mut Script<'_>) -> Result<(), Wrong> {
     let mut space = OneFile::of(Vec::new(alloc));
     let hash = created(alloc, &mut space, line)?;
     let mut case = Case {

@@ -1,7 +1,7 @@
 //! Lines on any map and any list of pairs in a file in memory.
 
-use crate::looks::{is_number, is_so, is_value};
-use play_text::{Line, Wrong};
+use crate::looks::{is_number, is_value};
+use play_text::{Line, Why, Wrong};
 use std::alloc::Global;
 use tc_base::{Blob, Form, Mode};
 
@@ -30,41 +30,41 @@ pub trait Kept {
 }
 
 // A line that puts: `put KEY = VALUE` over what is there, `keep` where nothing is, `held` where something is, `cat` behind it.
-fn put_line<K: Kept>(kept: &mut K, what: &str, line: &mut Line<'_>) -> Result<(), Wrong> {
+fn put_line<K: Kept>(kept: &mut K, what: &str, line: &mut Line) -> Result<(), Wrong> {
     let mode = match what {
         "put" => Mode::Over,
         "cat" => Mode::Cat,
         _ => Mode::Keep,
     };
-    let key = line.bytes_up_to(" = ")?;
+    let key = line.key()?;
     let value = line.bytes()?;
     let done = kept.put(key.as_slice(), value.as_slice(), mode)?;
     if mode != Mode::Keep {
         return Ok(());
     }
-    is_so(line, done == (what == "keep"))
+    line.is_so(done == (what == "keep"))
 }
 
 // A line that asks for a key: `get KEY = VALUE`.
-fn get_line<K: Kept>(kept: &mut K, line: &mut Line<'_>) -> Result<(), Wrong> {
-    let key = line.bytes_up_to(" = ")?;
+fn get_line<K: Kept>(kept: &mut K, line: &mut Line) -> Result<(), Wrong> {
+    let key = line.key()?;
     let value = line.bytes()?;
     let found = kept.get(key.as_slice())?;
     is_value(line, Some(&value), &found)
 }
 
 // A line that asks for a key which isn't held: `none KEY`.
-fn none_line<K: Kept>(kept: &mut K, line: &mut Line<'_>) -> Result<(), Wrong> {
+fn none_line<K: Kept>(kept: &mut K, line: &mut Line) -> Result<(), Wrong> {
     let key = line.bytes()?;
     let found = kept.get(key.as_slice())?;
     is_value(line, None, &found)
 }
 
 // A line that takes a key out: `out KEY`, or `no_out KEY` where it isn't held.
-fn out_line<K: Kept>(kept: &mut K, what: &str, line: &mut Line<'_>) -> Result<(), Wrong> {
+fn out_line<K: Kept>(kept: &mut K, what: &str, line: &mut Line) -> Result<(), Wrong> {
     let key = line.bytes()?;
     let taken = kept.out(key.as_slice())?;
-    is_so(line, taken == (what == "out"))
+    line.is_so(taken == (what == "out"))
 }
 
 // The file packed in this form, and what is held in memory brought to it.
@@ -74,10 +74,10 @@ fn pack<K: Kept>(kept: &mut K, form: Form) -> Result<(), Wrong> {
 }
 
 // The steps of the last search are those of a line; there was a search.
-fn are_steps(alloc: Global, line: &mut Line<'_>, steps: Option<u64>) -> Result<(), Wrong> {
+fn are_steps(alloc: Global, line: &mut Line, steps: Option<u64>) -> Result<(), Wrong> {
     match steps {
         Some(steps) => is_number(alloc, line, steps),
-        None => Err(Wrong::Not("nothing was searched")),
+        None => Err(Wrong::Not(Why::NoSearch)),
     }
 }
 
@@ -86,7 +86,7 @@ fn whole_line<K: Kept>(
     alloc: Global,
     kept: &mut K,
     what: &str,
-    line: &mut Line<'_>,
+    line: &mut Line,
 ) -> Result<(), Wrong> {
     match what {
         "steps" => are_steps(alloc, line, kept.steps()),
@@ -104,7 +104,7 @@ pub fn kept_line<K: Kept>(
     alloc: Global,
     kept: &mut K,
     what: &str,
-    line: &mut Line<'_>,
+    line: &mut Line,
 ) -> Result<(), Wrong> {
     match what {
         "put" | "keep" | "held" | "cat" => put_line(kept, what, line),

@@ -1,7 +1,7 @@
 //! Lines on any list of pairs in a file in memory.
 
 use crate::kept::{Kept, kept_line};
-use crate::looks::{are_pairs, are_texts, is_so, usable};
+use crate::looks::{are_pairs, are_texts, usable};
 use crate::maps::is_put;
 use crate::refusals::refused;
 use bt_order::Stretch;
@@ -119,18 +119,18 @@ fn range<M: Multi<S = OneFile>>(
 fn range_line<M: Multi<S = OneFile>>(
     alloc: Global,
     held: &mut ListOf<M>,
-    line: &mut Line<'_>,
+    line: &mut Line,
 ) -> Result<(), Wrong> {
     let most = line.number()?;
     let first = line.bytes_up_to(" .. ")?;
-    let end = line.bytes_up_to(" = ")?;
+    let end = line.key()?;
     let found = range(held, first.as_slice(), end.as_slice(), most)?;
     are_pairs(alloc, line, &found)
 }
 
 // A line that puts a pair as the last of its key: `add KEY = VALUE`.
-fn add_line<M: Multi<S = OneFile>>(held: &mut ListOf<M>, line: &mut Line<'_>) -> Result<(), Wrong> {
-    let key = line.bytes_up_to(" = ")?;
+fn add_line<M: Multi<S = OneFile>>(held: &mut ListOf<M>, line: &mut Line) -> Result<(), Wrong> {
+    let key = line.key()?;
     let value = line.bytes()?;
     add(held, key.as_slice(), value.as_slice())
 }
@@ -139,9 +139,9 @@ fn add_line<M: Multi<S = OneFile>>(held: &mut ListOf<M>, line: &mut Line<'_>) ->
 fn all_line<M: Multi<S = OneFile>>(
     alloc: Global,
     held: &mut ListOf<M>,
-    line: &mut Line<'_>,
+    line: &mut Line,
 ) -> Result<(), Wrong> {
-    let key = line.bytes_up_to(" = ")?;
+    let key = line.key()?;
     let found = all(held, key.as_slice())?;
     are_texts(alloc, line, &found)
 }
@@ -150,11 +150,11 @@ fn all_line<M: Multi<S = OneFile>>(
 fn out_line<M: Multi<S = OneFile>>(
     held: &mut ListOf<M>,
     what: &str,
-    line: &mut Line<'_>,
+    line: &mut Line,
 ) -> Result<(), Wrong> {
     let key = line.bytes()?;
     let taken = out_all(held, key.as_slice())?;
-    is_so(line, taken == (what == "out_all"))
+    line.is_so(taken == (what == "out_all"))
 }
 
 /// Plays a line on a list of pairs.
@@ -162,7 +162,7 @@ pub fn list_line<M: Multi<S = OneFile>>(
     alloc: Global,
     held: &mut ListOf<M>,
     what: &str,
-    line: &mut Line<'_>,
+    line: &mut Line,
 ) -> Result<(), Wrong> {
     match what {
         "add" => add_line(held, line),

@@ -2,7 +2,7 @@
 ghost use Rattle.std.specs.Prelude.{◌≡◌, true, OnOk};
 
 use crate::refusals::unopened;
-use play_text::{Line, Pattern, Wrong};
+use play_text::{Line, Pattern, Why, Wrong};
 use std::alloc::{AllocError, Global};
 use tc_base::{Blob, Blobs, Pairs, Rule};
 use tc_memstores::OneFile;
@@ -15,28 +15,18 @@ pub fn usable(space: &OneFile) -> Result<(), Wrong>
     if space.is_sound() {
         Ok(())
     } else {
-        Err(Wrong::Not("a fault"))
+        Err(Wrong::Not(Why::Fault))
     }
 }
 
 /// A number is that of a line, which has no more.
-pub fn is_number(alloc: Global, line: &mut Line<'_>, found: u64) -> Result<(), Wrong> {
+pub fn is_number(alloc: Global, line: &mut Line, found: u64) -> Result<(), Wrong> {
     line.is_text(format!(in alloc; "{found}")?)
-}
-
-/// A test came out as a line says.
-pub fn is_so(line: &mut Line<'_>, found: bool) -> Result<(), Wrong> {
-    line.compares();
-    if found {
-        Ok(())
-    } else {
-        Err(Wrong::Not("it is otherwise"))
-    }
 }
 
 /// A value is that of a line, or there is none where none is wanted.
 pub fn is_value(
-    line: &mut Line<'_>,
+    line: &mut Line,
     wanted: Option<&Pattern>,
     found: &Option<Blob>,
 ) -> Result<(), Wrong> {
@@ -45,15 +35,6 @@ pub fn is_value(
         None => None,
     };
     line.told_if(wanted, found)
-}
-
-/// A word of a line is one of two; whether it is the second.
-pub fn is_second(line: &mut Line<'_>, first: &str, second: &str) -> Result<bool, Wrong> {
-    let word = line.word();
-    if word == first || word == second {
-        return Ok(word == second);
-    }
-    Err(Wrong::Unread)
 }
 
 // Texts, each behind its size in four bytes.
@@ -66,7 +47,7 @@ fn sized(alloc: Global, texts: &Blobs) -> Result<Pattern, AllocError> {
 }
 
 /// Texts are those of a line, each behind its size in four bytes.
-pub fn are_texts(alloc: Global, line: &mut Line<'_>, texts: &Blobs) -> Result<(), Wrong> {
+pub fn are_texts(alloc: Global, line: &mut Line, texts: &Blobs) -> Result<(), Wrong> {
     line.is_bytes(sized(alloc, texts)?.as_slice())
 }
 
@@ -81,12 +62,12 @@ fn sized_pairs(alloc: Global, pairs: &Pairs) -> Result<Pattern, AllocError> {
 }
 
 /// Keys and values in turn are those of a line.
-pub fn are_pairs(alloc: Global, line: &mut Line<'_>, pairs: &Pairs) -> Result<(), Wrong> {
+pub fn are_pairs(alloc: Global, line: &mut Line, pairs: &Pairs) -> Result<(), Wrong> {
     line.is_bytes(sized_pairs(alloc, pairs)?.as_slice())
 }
 
 // The bytes of a file from a place in it on are those of a line, of which there is one at least.
-fn are_bytes(line: &mut Line<'_>, file: &[u8]) -> Result<(), Wrong> {
+fn are_bytes(line: &mut Line, file: &[u8]) -> Result<(), Wrong> {
     let place = line.within(0, file.len() as u64)? as usize;
     let wanted = line.bytes()?;
     if wanted.is_empty() {
@@ -97,12 +78,7 @@ fn are_bytes(line: &mut Line<'_>, file: &[u8]) -> Result<(), Wrong> {
 }
 
 /// A line on the bytes of a file: `bytes PLACE BYTES`, `ends N` for its length.
-pub fn bytes_line(
-    alloc: Global,
-    file: &[u8],
-    what: &str,
-    line: &mut Line<'_>,
-) -> Result<(), Wrong> {
+pub fn bytes_line(alloc: Global, file: &[u8], what: &str, line: &mut Line) -> Result<(), Wrong> {
     match what {
         "bytes" => are_bytes(line, file),
         "ends" => is_number(alloc, line, file.len() as u64),
@@ -116,14 +92,14 @@ pub fn marked_line(
     file: &[u8],
     marked: &mut Blob,
     what: &str,
-    line: &mut Line<'_>,
+    line: &mut Line,
 ) -> Result<(), Wrong> {
     match what {
         "mark" => {
             *marked = Blob::from_slice(alloc, file)?;
             Ok(())
         }
-        "same" => is_so(line, marked.as_slice() == file),
+        "same" => line.is_so(marked.as_slice() == file),
         _ => bytes_line(alloc, file, what, line),
     }
 }
@@ -146,6 +122,6 @@ fn rule_text(alloc: Global, opened: Option<OpenErr>) -> Result<String, Wrong> {
 }
 
 /// The file and the rule that an opening names are those of a line.
-pub fn is_rule(alloc: Global, line: &mut Line<'_>, opened: Option<OpenErr>) -> Result<(), Wrong> {
+pub fn is_rule(alloc: Global, line: &mut Line, opened: Option<OpenErr>) -> Result<(), Wrong> {
     line.is_text(rule_text(alloc, opened)?)
 }

@@ -103,7 +103,7 @@ pub fn map_line<R: Records<S = OneFile>>(
     alloc: Global,
     held: &mut MapOf<R>,
     what: &str,
-    line: &mut Line<'_>,
+    line: &mut Line,
 ) -> Result<(), Wrong> {
     match what {
         "keys" => {

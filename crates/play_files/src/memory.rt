@@ -13,7 +13,7 @@ pub struct Memory {
 
 impl Memory {
     /// What the rest of a line asks for where it begins with `held`: `held PIECES BYTES`.
-    pub fn of(line: &mut Line<'_>) -> Result<Option<Memory>, Wrong> {
+    pub fn of(line: &mut Line) -> Result<Option<Memory>, Wrong> {
         if !line.rest().trim_start().starts_with("held ") {
             return Ok(None);
         }

@@ -21,7 +21,7 @@ pub struct Objects {
 fn play_commits(alloc: Global, script: &mut Script<'_>) -> Result<(), Wrong> {
     let mut files = Files::new(alloc)?;
     for _ in 0..script.len() {
-        let Some((what, mut line)) = script.next_line() else {
+        let Some((what, mut line)) = script.next_line()? else {
             return Ok(());
         };
         files.play(what, &mut line, script)?;
@@ -34,7 +34,7 @@ fn play_commits(alloc: Global, script: &mut Script<'_>) -> Result<(), Wrong> {
 fn play_of(
     alloc: Global,
     what: &str,
-    line: &mut Line<'_>,
+    line: &mut Line,
     script: &mut Script<'_>,
 ) -> Result<(), Wrong> {
     match what {
@@ -60,7 +60,7 @@ impl Objects {
 
 impl Player for Objects {
     fn play(&mut self, script: &mut Script<'_>) -> Result<(), Wrong> {
-        let Some((what, mut line)) = script.next_line() else {
+        let Some((what, mut line)) = script.next_line()? else {
             return Ok(());
         };
         play_of(self.alloc, what, &mut line, script)?;

@@ -1,12 +1,12 @@
 //! Cases of blocks that are listed, and of a pool of free ones.
 
-use crate::looks::{bytes_line, is_number, is_so, name_of, usable};
+use crate::looks::{bytes_line, is_number, name_of, usable};
 use crate::playing::{Object, play_lines};
 use crate::refusals::{refused, unlisted, unwritten};
 use hf_block::{Blocks, WalkErr, walk};
 use hf_head::Head;
 use hf_pool::Pool;
-use play_text::{Line, Script, Wrong};
+use play_text::{Line, Script, Why, Wrong};
 use std::alloc::{AllocError, Global};
 use tc_base::Blob;
 use tc_memstores::OneFile;
@@ -74,7 +74,7 @@ fn blocks_text(alloc: Global, bytes: &[u8]) -> Result<String, Wrong> {
 }
 
 /// Looks at blocks: `blocks BYTES => PLACE SIZE used|free ..`, or the rule that they break.
-pub fn are_blocks(alloc: Global, line: &mut Line<'_>) -> Result<(), Wrong> {
+pub fn are_blocks(alloc: Global, line: &mut Line) -> Result<(), Wrong> {
     let given = line.given()?;
     let bytes = file_of(alloc, given.as_slice())?;
     line.is_text(blocks_text(alloc, &bytes)?)
@@ -94,7 +94,7 @@ impl Held {
         usable(&self.space)?;
         let pool = &mut self.pool;
         if size == 0 || size % pool.unit() != 0 || pool.size() > u64::MAX - size {
-            return Err(Wrong::Not("a limit was reached"));
+            return Err(Wrong::Not(Why::Limit));
         }
         pool.take(&mut self.space, 0, size, most).map_err(refused)
     }
@@ -104,10 +104,10 @@ impl Held {
         usable(&self.space)?;
         let pool = &mut self.pool;
         if size == 0 || size >= 1 << 32 || at > pool.size() || size > pool.size() - at {
-            return Err(Wrong::Not("a limit was reached"));
+            return Err(Wrong::Not(Why::Limit));
         }
         if at % pool.unit() != 0 || size % pool.unit() != 0 || !pool.meets_none(at, size) {
-            return Err(Wrong::Not("a limit was reached"));
+            return Err(Wrong::Not(Why::Limit));
         }
         pool.give(&mut self.space, 0, at, size).map_err(refused)
     }
@@ -120,7 +120,7 @@ impl Held {
 }
 
 // A block taken at a place, and a record written into it: `SIZE PLACE RECORD`.
-fn take_line(held: &mut Held, most: u64, line: &mut Line<'_>) -> Result<(), Wrong> {
+fn take_line(held: &mut Held, most: u64, line: &mut Line) -> Result<(), Wrong> {
     let size = line.number()?;
     let wanted = line.number()?;
     line.compares();
@@ -133,20 +133,20 @@ fn take_line(held: &mut Held, most: u64, line: &mut Line<'_>) -> Result<(), Wron
 }
 
 // A block taken so, which begins below a place: `PLACE SIZE PLACE RECORD`.
-fn below_line(held: &mut Held, line: &mut Line<'_>) -> Result<(), Wrong> {
+fn below_line(held: &mut Held, line: &mut Line) -> Result<(), Wrong> {
     let most = line.number()?;
     take_line(held, most, line)
 }
 
 // A block given back: `PLACE SIZE`.
-fn give_line(held: &mut Held, line: &mut Line<'_>) -> Result<(), Wrong> {
+fn give_line(held: &mut Held, line: &mut Line) -> Result<(), Wrong> {
     let at = line.number()?;
     let size = line.number()?;
     held.give(at, size)
 }
 
 // A line that changes the pool: `take SIZE PLACE RECORD`, `below PLACE SIZE PLACE RECORD`, `give PLACE SIZE`, `trim`; or `written`, that the file has its section.
-fn change(held: &mut Held, what: &str, line: &mut Line<'_>) -> Result<(), Wrong> {
+fn change(held: &mut Held, what: &str, line: &mut Line) -> Result<(), Wrong> {
     match what {
         "take" => take_line(held, u64::MAX, line),
         "below" => below_line(held, line),
@@ -184,19 +184,19 @@ fn is_same(alloc: Global, pool: &Pool, other: &Pool) -> Result<bool, AllocError>
 }
 
 // Looks whether a walk finds the pool again.
-fn is_found(alloc: Global, pool: &Pool, bytes: &[u8], line: &mut Line<'_>) -> Result<(), Wrong> {
+fn is_found(alloc: Global, pool: &Pool, bytes: &[u8], line: &mut Line) -> Result<(), Wrong> {
     match found(alloc, bytes, pool.size()) {
-        Ok(again) => is_so(line, is_same(alloc, pool, &again)?),
+        Ok(again) => line.is_so(is_same(alloc, pool, &again)?),
         Err(e) => Err(unlisted(e)),
     }
 }
 
 // A line: `section BYTES` is what the pool lists, `pairs BYTES` the same without zeros, `changed` or `unchanged` whether that may differ from what was written, `size N` where the blocks end, `bytes PLACE BYTES` what stands in the file, `walked` that a walk finds the pool again.
 impl Object for Held {
-    fn play(&mut self, what: &str, line: &mut Line<'_>) -> Result<(), Wrong> {
+    fn play(&mut self, what: &str, line: &mut Line) -> Result<(), Wrong> {
         match what {
-            "changed" => is_so(line, self.pool.has_changed()),
-            "unchanged" => is_so(line, !self.pool.has_changed()),
+            "changed" => line.is_so(self.pool.has_changed()),
+            "unchanged" => line.is_so(!self.pool.has_changed()),
             "pairs" => line.is_bytes(pairs(self.alloc, &self.pool)?.as_slice()),
             "section" => line.is_bytes(section(self.alloc, &self.pool)?.as_slice()),
             "size" => is_number(self.alloc, line, self.pool.size()),
@@ -208,7 +208,7 @@ impl Object for Held {
 }
 
 // The pool of a file: `pool BYTES`, its blocks.
-fn opened(alloc: Global, line: &mut Line<'_>) -> Result<Held, Wrong> {
+fn opened(alloc: Global, line: &mut Line) -> Result<Held, Wrong> {
     let blocks = line.bytes()?;
     let bytes = file_of(alloc, blocks.as_slice())?;
     match found(alloc, &bytes, bytes.len() as u64) {
@@ -222,6 +222,6 @@ fn opened(alloc: Global, line: &mut Line<'_>) -> Result<Held, Wrong> {
 }
 
 /// Plays a case of a pool.
-pub fn play_pool(alloc: Global, line: &mut Line<'_>, script: &mut Script<'_>) -> Result<(), Wrong> {
+pub fn play_pool(alloc: Global, line: &mut Line, script: &mut Script<'_>) -> Result<(), Wrong> {
     play_lines(&mut opened(alloc, line)?, script)
 }

@@ -1,7 +1,7 @@
 //! What a line is told of a refused call.
 
 use hf_block::WalkErr;
-use play_text::Wrong;
+use play_text::{Why, Wrong};
 use tc_base::Fault;
 use tc_space::{OpenErr, RecErr, SpaceErr};
 
@@ -9,11 +9,7 @@ fn wrong(is_full: bool, is_memory: bool) -> Wrong {
     if is_memory {
         return Wrong::Memory;
     }
-    Wrong::Not(if is_full {
-        "a limit was reached"
-    } else {
-        "a fault"
-    })
+    Wrong::Not(if is_full { Why::Limit } else { Why::Fault })
 }
 
 /// Of a call on what is kept in a file.
@@ -29,7 +25,7 @@ pub fn unwritten(e: SpaceErr) -> Wrong {
 /// Of an opening.
 pub fn unopened(e: OpenErr) -> Wrong {
     match e {
-        OpenErr::Broken { .. } => Wrong::Not("a broken file"),
+        OpenErr::Broken { .. } => Wrong::Not(Why::BrokenFile),
         _ => wrong(false, e == OpenErr::Memory),
     }
 }
@@ -37,7 +33,7 @@ pub fn unopened(e: OpenErr) -> Wrong {
 /// Of a walk over blocks.
 pub fn unlisted(e: WalkErr) -> Wrong {
     match e {
-        WalkErr::Broken(_) => Wrong::Not("broken blocks"),
+        WalkErr::Broken(_) => Wrong::Not(Why::BrokenBlocks),
         _ => wrong(false, e == WalkErr::Memory),
     }
 }

@@ -1,7 +1,7 @@
 //! Transactions and copies that are stopped or fail at each call of the volume, and recovery that is stopped or fails at each of its calls.
-ghost use Rattle.std.specs.Prelude.{◌≡◌, false, OnOk};
+ghost use Rattle.std.specs.Prelude.{◌≡◌, true, false, OnOk};
 
-use crate::commits::{Failure, change, copy, data_file};
+use crate::commits::{Failure, change, copy, data_file, recovered};
 use crate::memory::Memory;
 use play_stops::{Seen, Trouble, WHOLE, are_same, choices};
 use play_text::{Line, Pattern, Script, Wrong};
@@ -10,7 +10,7 @@ use tc_fakes::{Choice, MemVolume};
 use tc_held::{Held, HeldSpace};
 use tc_io::Volume;
 use tc_space::Space;
-use tc_undo::{Batched, RecoverErr, Undo, recover};
+use tc_undo::{Batched, RecoverErr, Undo};
 
 // What two files have.
 #[derive(Drop)]
@@ -34,7 +34,7 @@ struct Trial<'a> {
     alloc: Global,
     lines: Script<'a>,
     kept: Vec<Kept>,
-    label: &'a str,
+    label: String,
     trouble: Trouble,
     memory: Option<Memory>,
 }
@@ -75,19 +75,13 @@ const MOST: u64 = 400;
 
 // Recovers a volume; false where it is refused.
 fn recovers(vol: &mut MemVolume) -> bool {
-    match vol.bind("a") {
-        Ok(()) => recover(vol).is_ok(),
-        Err(_) => false,
-    }
+    matches!(recovered(vol), Some(Ok(())))
 }
 
 // Whether a log breaks the first rule.
 fn is_unusable(vol: &mut MemVolume) -> bool {
-    if vol.bind("a").is_err() {
-        return false;
-    }
-    match recover(vol) {
-        Err(RecoverErr::Broken(rule)) => rule.letter == b'U' && rule.number == 1,
+    match recovered(vol) {
+        Some(Err(RecoverErr::Broken(rule))) => rule.letter == b'U' && rule.number == 1,
         _ => false,
     }
 }
@@ -96,7 +90,7 @@ fn is_unusable(vol: &mut MemVolume) -> bool {
 fn step<S: Space>(
     space: &mut S,
     what: &str,
-    line: &mut Line<'_>,
+    line: &mut Line,
     done: &mut Progress,
 ) -> Result<(), Failure>
     requires { S.sound space.old }
@@ -134,7 +128,7 @@ fn transact<S: Space>(
     requires { S.sound space.old }
 {
     for _ in 0..lines.len() {
-        let Some((what, mut line)) = lines.next_line() else {
+        let Some((what, mut line)) = lines.next_line()? else {
             return Ok(());
         };
         if what == "trial" {
@@ -163,24 +157,39 @@ impl<'t, 'a> Course<'t, 'a> {
 
     // Whether what a stop leaves of a volume, by these choices, is recovered to that.
     fn reopens(&mut self, vol: &MemVolume, choices: &[Choice]) -> Result<bool, AllocError> {
-        for mut image in self.recovered.unseen(vol, choices)? {
-            if !recovers(&mut image) || !self.holds(&image) {
+        for image in self.recovered.unseen(vol, choices)? {
+            if !self.is_recovered(image) {
                 return Ok(false);
             }
         }
         Ok(true)
     }
 
-    // The same of what is left where recovery of a volume runs into trouble, at each of its calls.
+    // Whether a volume is recovered to that.
+    fn is_recovered(&self, vol: MemVolume) -> bool {
+        let mut vol = vol;
+        let is_so = recovers(&mut vol) && self.holds(&vol);
+        drop(vol);
+        is_so
+    }
+
+    // Whether what is left where recovery of a volume runs into trouble at a call is recovered to that, and whether it ran into none.
+    fn reopens_at(&mut self, vol: &MemVolume, call: u64) -> Result<(bool, bool), AllocError> {
+        let mut copy = self.trial.copy_in_trouble(vol, call)?;
+        let is_whole = recovers(&mut copy) && copy.calls() < call;
+        let reopened = self.reopens(&copy, &choices()[..2]);
+        drop(copy);
+        Ok((reopened?, is_whole))
+    }
+
+    // The same at each of its calls.
     fn reopens_twice(&mut self, vol: &MemVolume) -> Result<bool, AllocError> {
         for call in 1..MOST {
-            let mut copy = vol.image(&WHOLE)?;
-            self.trial.trouble.meet(self.trial.alloc, &mut copy, call)?;
-            let whole = recovers(&mut copy) && copy.calls() < call;
-            if !self.reopens(&copy, &choices()[..2])? {
+            let (reopened, is_whole) = self.reopens_at(vol, call)?;
+            if !reopened {
                 return Ok(false);
             }
-            if whole {
+            if is_whole {
                 return Ok(true);
             }
         }
@@ -226,25 +235,71 @@ impl<'a> Trial<'a> {
         Ok(are_same(vol, &wanted))
     }
 
-    // Whether what a stop leaves of the copy is the last whole one or, where one isn't whole, that one or none that can be opened.
+    // Whether what a stop left of the copy is the last whole one or, where one isn't whole, that one or none that can be opened.
+    fn is_left(&self, image: &mut MemVolume, done: Progress) -> Result<bool, AllocError> {
+        if self.is_copy(image, done.copied)? {
+            return Ok(true);
+        }
+        if done.copying.is_none() {
+            return Ok(false);
+        }
+        Ok(self.is_copy(image, done.copying)? || is_unusable(image))
+    }
+
+    // Whether what a stop leaves of a copy by a choice is that.
+    fn stands(
+        &self,
+        copy: &MemVolume,
+        choice: &Choice,
+        done: Progress,
+    ) -> Result<bool, AllocError> {
+        let mut image = copy.image(choice)?;
+        let stands = self.is_left(&mut image, done);
+        drop(image);
+        stands
+    }
+
+    // The same by each choice.
+    fn all_stand(&self, copy: &MemVolume, done: Progress) -> Result<bool, AllocError> {
+        for choice in choices().iter() {
+            if !self.stands(copy, choice, done)? {
+                return Ok(false);
+            }
+        }
+        Ok(true)
+    }
+
+    // The same of the copy in a volume.
     fn copies_stand(&self, vol: &MemVolume, done: Progress) -> Result<bool, AllocError> {
         if self.label.is_empty() {
             return Ok(true);
         }
         let copy = vol.copy(self.label.as_bytes())?;
-        for choice in choices().iter() {
-            let mut image = copy.image(choice)?;
-            if self.is_copy(&image, done.copied)? {
-                continue;
-            }
-            if done.copying.is_none() {
-                return Ok(false);
-            }
-            if !self.is_copy(&image, done.copying)? && !is_unusable(&mut image) {
-                return Ok(false);
-            }
+        let stand = self.all_stand(&copy, done);
+        drop(copy);
+        stand
+    }
+
+    // A copy of a volume on which trouble is met at a call.
+    fn copy_in_trouble(&self, vol: &MemVolume, call: u64) -> Result<MemVolume, AllocError> {
+        let mut copy = vol.image(&WHOLE)?;
+        self.trouble.meet(self.alloc, &mut copy, call)?;
+        Ok(copy)
+    }
+
+    // A volume of what was kept at first, on which trouble is met at a call.
+    fn ready(&self, call: u64) -> Result<MemVolume, AllocError> {
+        let mut vol = self.volume(0)?;
+        self.trouble.meet(self.alloc, &mut vol, call)?;
+        Ok(vol)
+    }
+
+    // The memory in which writes are held, if they are.
+    fn held(&self) -> Result<Option<Held>, AllocError> {
+        match self.memory {
+            Some(memory) => Ok(Some(memory.take(self.alloc)?)),
+            None => Ok(None),
         }
-        Ok(true)
     }
 
     // Plays the transactions on files that were opened, and hands them back.
@@ -272,28 +327,40 @@ impl<'a> Trial<'a> {
         }
     }
 
-    // A volume on which the transactions ran into trouble at a call, or didn't.
-    fn troubled(&self, call: u64, done: &mut Progress) -> Result<MemVolume, Wrong> {
-        let held = match self.memory {
-            Some(memory) => Some(memory.take(self.alloc)?),
-            None => None,
-        };
-        let mut vol = self.volume(0)?;
-        self.trouble.meet(self.alloc, &mut vol, call)?;
-        if vol.bind("a").is_err() {
-            return Ok(vol);
-        }
+    // Opens files of a volume, plays the transactions on them, and closes them. Hands the volume back with what came of it; with none where the files aren't opened.
+    fn transacted_on<V: Volume>(
+        &self,
+        vol: V,
+        held: Option<Held>,
+        done: &mut Progress,
+    ) -> (V, Option<Result<(), Failure>>)
+        requires { V.bound vol ≡ true }
+    {
         match Undo::open(vol, 1 << 20) {
-            Err(refused) => Ok(refused.vol),
             Ok(space) => {
                 let (space, played) = self.transacted(space, held, done);
-                done.is_through = played.is_ok();
-                let vol = space.close();
-                match played {
-                    Err(Failure::Line(wrong)) => Err(wrong),
-                    _ => Ok(vol),
-                }
+                (space.close(), Some(played))
             }
+            Err(refused) => (refused.vol, None),
+        }
+    }
+
+    // A volume on which the transactions ran into trouble at a call, or didn't.
+    fn troubled(&self, call: u64, done: &mut Progress) -> Result<MemVolume, Wrong> {
+        let held = self.held()?;
+        let mut vol = self.ready(call)?;
+        let Ok(()) = vol.bind("a") else {
+            drop(held);
+            return Ok(vol);
+        };
+        let (vol, played) = self.transacted_on(vol, held, done);
+        done.is_through = matches!(played, Some(Ok(())));
+        match played {
+            Some(Err(Failure::Line(wrong))) => {
+                drop(vol);
+                Err(wrong)
+            }
+            _ => Ok(vol),
         }
     }
 
@@ -305,6 +372,16 @@ impl<'a> Trial<'a> {
             && self.holds(vol, done.ended)
     }
 
+    // Whether a volume has what it is to have, also behind more trouble, and so its copies.
+    fn is_well(
+        &self,
+        course: &mut Course<'_, 'a>,
+        vol: &MemVolume,
+        done: Progress,
+    ) -> Result<bool, AllocError> {
+        Ok(course.survives(vol)? && self.copies_stand(vol, done)?)
+    }
+
     // Each call goes wrong in turn, until none does. Answers the call at which something else came.
     fn first_lost(&self) -> Result<Option<u64>, Wrong> {
         let mut course = Course::new(self, NONE);
@@ -314,24 +391,23 @@ impl<'a> Trial<'a> {
             if done != course.done {
                 course = Course::new(self, done);
             }
-            if !course.survives(&vol)? || !self.copies_stand(&vol, done)? {
+            let is_well = self.is_well(&mut course, &vol, done);
+            let (calls, is_whole) = (vol.calls(), self.is_whole(&vol, done));
+            drop(vol);
+            if !is_well? {
                 return Ok(Some(call));
             }
-            if vol.calls() < call {
-                return Ok(if self.is_whole(&vol, done) {
-                    None
-                } else {
-                    Some(call)
-                });
+            if calls < call {
+                return Ok(if is_whole { None } else { Some(call) });
             }
         }
         Ok(Some(MOST))
     }
 
     // Takes what two files have: `kept FILE BYTES = FILE BYTES`.
-    fn keep(&mut self, line: &mut Line<'_>) -> Result<(), Wrong> {
+    fn keep(&mut self, line: &mut Line) -> Result<(), Wrong> {
         let one = data_file(line)?;
-        let first = line.bytes_up_to(" = ")?;
+        let first = line.key()?;
         let other = data_file(line)?;
         let second = line.bytes()?;
         self.kept.push(Kept {
@@ -342,16 +418,16 @@ impl<'a> Trial<'a> {
     }
 
     // Takes the label of a line `copy LABEL`, which is that of all of them.
-    fn take_label(&mut self, label: &'a str) -> Result<(), Wrong> {
-        if !self.label.is_empty() && self.label != label {
+    fn take_label(&mut self, label: &str) -> Result<(), Wrong> {
+        if !self.label.is_empty() && self.label.as_str() != label {
             return Err(Wrong::Unread);
         }
-        self.label = label;
+        self.label = String::from_str(self.alloc, label)?;
         Ok(())
     }
 
     // Takes a line in front of the trial, which plays those that change files.
-    fn take(&mut self, what: &str, line: &mut Line<'a>) -> Result<(), Wrong> {
+    fn take(&mut self, what: &str, line: &mut Line) -> Result<(), Wrong> {
         match what {
             "kept" => self.keep(line),
             "copy" => self.take_label(line.word()),
@@ -364,7 +440,7 @@ impl<'a> Trial<'a> {
     }
 
     // Tries all calls, `trial stops` or `trial faults`.
-    fn try_all(&mut self, line: &mut Line<'_>) -> Result<(), Wrong> {
+    fn try_all(&mut self, line: &mut Line) -> Result<(), Wrong> {
         self.trouble = match line.word() {
             "stops" => Trouble::Stop,
             "faults" => Trouble::Fault,
@@ -381,22 +457,18 @@ impl<'a> Trial<'a> {
 
 /// Plays a case of transactions in trouble: `trial stops|faults` behind lines of transactions, in which `kept FILE BYTES = FILE BYTES` says what two files have at first and behind each commit.
 /// What a stop leaves of the copies is looked at too. Writes are held where the first line goes on with `held PIECES BYTES`.
-pub fn play_trial(
-    alloc: Global,
-    line: &mut Line<'_>,
-    script: &mut Script<'_>,
-) -> Result<(), Wrong> {
+pub fn play_trial(alloc: Global, line: &mut Line, script: &mut Script<'_>) -> Result<(), Wrong> {
     let memory = Memory::of(line)?;
     let mut trial = Trial {
         alloc,
         lines: *script,
         kept: Vec::new(alloc),
-        label: "",
+        label: String::new(alloc),
         trouble: Trouble::Stop,
         memory,
     };
     for _ in 0..script.len() {
-        let Some((what, mut line)) = script.next_line() else {
+        let Some((what, mut line)) = script.next_line()? else {
             return Ok(());
         };
         if what == "trial" {

@@ -12,10 +12,8 @@ use tc_btree::Btree;
 use tc_memstores::{MemMulti, MemRecords, OneFile};
 use tc_space::{OpenErr, Records, Space};
 
-type Store = MemRecords<OneFile>;
-
 // A region of other bytes: `region BYTES`.
-fn given_region(line: &mut Line<'_>) -> Result<[u8; 128], Wrong> {
+fn given_region(line: &mut Line) -> Result<[u8; 128], Wrong> {
     let bytes = line.bytes()?;
     let all = bytes.as_slice();
     let mut region = [0; 128];
@@ -27,7 +25,7 @@ fn given_region(line: &mut Line<'_>) -> Result<[u8; 128], Wrong> {
 }
 
 // The region of a tree with limits 4 and 4: `tree ORDER ROOT LAST LEAVES NODES PAIRS`.
-fn tree_region(line: &mut Line<'_>) -> Result<[u8; 128], Wrong> {
+fn tree_region(line: &mut Line) -> Result<[u8; 128], Wrong> {
     let mut region = [0; 128];
     region[0] = line.within(0, 255)? as u8;
     set_le(&mut region, 8, 4, 4);
@@ -41,11 +39,11 @@ fn tree_region(line: &mut Line<'_>) -> Result<[u8; 128], Wrong> {
 }
 
 // A line on records in memory.
-fn look(
+fn look<R: Records<S = OneFile>>(
     alloc: Global,
-    held: &mut MapOf<Store>,
+    held: &mut MapOf<R>,
     what: &str,
-    line: &mut Line<'_>,
+    line: &mut Line,
 ) -> Result<(), Wrong> {
     match what {
         "tree" => {
@@ -63,12 +61,12 @@ fn look(
 }
 
 // The tree that the records are; an order other than that of bytes is a fault.
-fn opened(
+fn opened<R: Records<S = OneFile> + Drop>(
     alloc: Global,
-    store: Store,
+    store: R,
     space: &mut OneFile,
     index: bool,
-) -> Result<Btree<Store, Lexical>, OpenErr> {
+) -> Result<Btree<R, Lexical>, OpenErr> {
     let opaque = store.opaque();
     if opaque[0] != 0 || !space.is_sound() {
         return Err(OpenErr::Fault);
@@ -87,7 +85,7 @@ struct ListCase {
 }
 
 impl Object for ListCase {
-    fn play(&mut self, what: &str, line: &mut Line<'_>) -> Result<(), Wrong> {
+    fn play(&mut self, what: &str, line: &mut Line) -> Result<(), Wrong> {
         self.held.begin(what);
         list_line(self.alloc, &mut self.held, what, line)
     }
@@ -95,13 +93,13 @@ impl Object for ListCase {
 
 // A tree that records are.
 #[derive(Drop)]
-struct TreeCase {
+struct TreeCase<R> {
     alloc: Global,
-    held: ListOf<Btree<Store, Lexical>>,
+    held: ListOf<Btree<R, Lexical>>,
 }
 
-impl Object for TreeCase {
-    fn play(&mut self, what: &str, line: &mut Line<'_>) -> Result<(), Wrong> {
+impl<R: Records<S = OneFile>> Object for TreeCase<R> {
+    fn play(&mut self, what: &str, line: &mut Line) -> Result<(), Wrong> {
         self.held.begin(what);
         match what {
             "height" => is_number(self.alloc, line, self.held.list.tree().height()),
@@ -111,11 +109,11 @@ impl Object for TreeCase {
 }
 
 // Opens the tree, `opens plain|index RULE`, and plays what is left of the case on it.
-fn play_opened(
+fn play_opened<R: Records<S = OneFile> + Drop>(
     alloc: Global,
-    store: Store,
+    store: R,
     mut space: OneFile,
-    line: &mut Line<'_>,
+    line: &mut Line,
     script: &mut Script<'_>,
 ) -> Result<(), Wrong> {
     let index = is_index(line)?;
@@ -129,16 +127,15 @@ fn play_opened(
     }
 }
 
-/// Plays a case of records in memory: `map FILE`.
-pub fn play_records(
+// Plays lines on a map, up to one that opens the tree that it is.
+fn play_map<R: Records<S = OneFile> + Drop>(
     alloc: Global,
-    line: &mut Line<'_>,
+    map: R,
     script: &mut Script<'_>,
 ) -> Result<(), Wrong> {
-    let store: Store = MemRecords::new(alloc, line.small()?);
-    let mut held = MapOf::new(store, OneFile::of(Vec::new(alloc)));
+    let mut held = MapOf::new(map, OneFile::of(Vec::new(alloc)));
     for _ in 0..script.len() {
-        let Some((what, mut line)) = script.next_line() else {
+        let Some((what, mut line)) = script.next_line()? else {
             return Ok(());
         };
         if what == "opens" {
@@ -152,12 +149,14 @@ pub fn play_records(
     Ok(())
 }
 
+/// Plays a case of records in memory: `map FILE`.
+pub fn play_records(alloc: Global, line: &mut Line, script: &mut Script<'_>) -> Result<(), Wrong> {
+    let store: MemRecords<OneFile> = MemRecords::new(alloc, line.small()?);
+    play_map(alloc, store, script)
+}
+
 /// Plays a case of a list of pairs in memory: `list FILE`.
-pub fn play_pairs(
-    alloc: Global,
-    line: &mut Line<'_>,
-    script: &mut Script<'_>,
-) -> Result<(), Wrong> {
+pub fn play_pairs(alloc: Global, line: &mut Line, script: &mut Script<'_>) -> Result<(), Wrong> {
     let list = MemMulti::new(alloc, line.small()?);
     let held = ListOf::new(list, OneFile::of(Vec::new(alloc)));
     play_lines(&mut ListCase { alloc, held }, script)

@@ -3,7 +3,7 @@ ghost use Rattle.std.specs.Prelude.{◌≤◌, IfOk};
 
 use crate::cursors::{is_of_cursors, play_cursor};
 use crate::lists::{ListOf, list_line};
-use crate::looks::{is_number, is_rule, is_second, is_value, marked_line, usable};
+use crate::looks::{is_number, is_rule, is_value, marked_line, usable};
 use crate::maps::is_put;
 use crate::playing::{Object, play_lines};
 use crate::refusals::{refused, unopened};
@@ -11,7 +11,7 @@ use bt_check::check_tree;
 use bt_cursor::Cursor;
 use play_text::{Line, Script, Wrong};
 use std::alloc::Global;
-use tc_base::{Blob, Lexical, Mode, Steps};
+use tc_base::{Blob, Lexical, Mode, Order, Steps};
 use tc_btree::Btree;
 use tc_hash::Hash;
 use tc_memstores::OneFile;
@@ -22,8 +22,8 @@ type Store = Hash<OneFile>;
 type TreeFile = ListOf<Btree<Store, Lexical>>;
 
 /// Whether a tree is an index: `plain|index`.
-pub fn is_index(line: &mut Line<'_>) -> Result<bool, Wrong> {
-    is_second(line, "plain", "index")
+pub fn is_index(line: &mut Line) -> Result<bool, Wrong> {
+    line.is_second("plain", "index")
 }
 
 /// The first rule of trees that records break: `plain|index FILE RULE`.
@@ -31,7 +31,7 @@ pub fn breaks<R: Records<S = OneFile>>(
     alloc: Global,
     store: &mut R,
     space: &mut OneFile,
-    line: &mut Line<'_>,
+    line: &mut Line,
 ) -> Result<(), Wrong> {
     let index = is_index(line)?;
     usable(space)?;
@@ -40,7 +40,7 @@ pub fn breaks<R: Records<S = OneFile>>(
 }
 
 // A limit on keys or entries, from 4 to 256.
-fn limit(line: &mut Line<'_>) -> Result<u32, Wrong>
+fn limit(line: &mut Line) -> Result<u32, Wrong>
     ensures { IfOk result (λ n. (4 ≤ n) × (n ≤ 256)) }
 {
     let limit = line.within(4, 256)?;
@@ -80,10 +80,10 @@ fn planted(
 }
 
 // A tree of no pairs in such a file: `tree LEAF NODE`, with `column` behind it where the record is there.
-fn created(alloc: Global, line: &mut Line<'_>) -> Result<TreeFile, Wrong> {
+fn created(alloc: Global, line: &mut Line) -> Result<TreeFile, Wrong> {
     let leaf = limit(line)?;
     let node = limit(line)?;
-    let column = is_second(line, "", "column")?;
+    let column = line.is_second("", "column")?;
     let mut space = OneFile::of(Vec::new(alloc));
     let store = file(alloc, &mut space, column)?;
     let tree = planted(alloc, store, &mut space, leaf, node)?;
@@ -91,15 +91,23 @@ fn created(alloc: Global, line: &mut Line<'_>) -> Result<TreeFile, Wrong> {
 }
 
 // A record of a file.
-fn record(store: &mut Store, space: &mut OneFile, key: &[u8]) -> Result<Option<Blob>, Wrong> {
+fn record<R: Records<S = OneFile>>(
+    store: &mut R,
+    space: &mut OneFile,
+    key: &[u8],
+) -> Result<Option<Blob>, Wrong> {
     usable(space)?;
     let mut steps: Steps<()> = Steps::new();
     store.get(space, key, &mut steps).map_err(refused)
 }
 
 // A record of a file: `record KEY = VALUE`.
-fn is_record(store: &mut Store, space: &mut OneFile, line: &mut Line<'_>) -> Result<(), Wrong> {
-    let key = line.bytes_up_to(" = ")?;
+fn is_record<R: Records<S = OneFile>>(
+    store: &mut R,
+    space: &mut OneFile,
+    line: &mut Line,
+) -> Result<(), Wrong> {
+    let key = line.key()?;
     let value = line.bytes()?;
     let found = record(store, space, key.as_slice())?;
     is_value(line, Some(&value), &found)
@@ -111,30 +119,41 @@ fn opened(alloc: Global, space: &mut OneFile) -> Result<Store, Wrong> {
     Hash::open(alloc, space, 0, 1).map_err(unopened)
 }
 
-// A line on a file that is opened anew: how many `records` it has, a `record`, its region, `has_region BYTES`, or the `rule` of trees that it breaks.
-fn look_anew(alloc: Global, bytes: &[u8], what: &str, line: &mut Line<'_>) -> Result<(), Wrong> {
-    let mut space = OneFile::new(alloc, bytes)?;
-    let mut store = opened(alloc, &mut space)?;
+// A line on the records of a file that was opened anew: how many `records` it has, a `record`, its region, `has_region BYTES`, or the `rule` of trees that it breaks.
+fn look_in<R: Records<S = OneFile>>(
+    alloc: Global,
+    store: &mut R,
+    space: &mut OneFile,
+    what: &str,
+    line: &mut Line,
+) -> Result<(), Wrong> {
     match what {
         "records" => is_number(alloc, line, store.count()),
         "has_region" => line.is_bytes(&store.opaque()),
-        "record" => is_record(&mut store, &mut space, line),
-        _ => breaks(alloc, &mut store, &mut space, line),
+        "record" => is_record(store, space, line),
+        _ => breaks(alloc, store, space, line),
     }
+}
+
+// Such a line, on a file of these bytes.
+fn look_anew(alloc: Global, bytes: &[u8], what: &str, line: &mut Line) -> Result<(), Wrong> {
+    let mut space = OneFile::new(alloc, bytes)?;
+    let mut store = opened(alloc, &mut space)?;
+    look_in(alloc, &mut store, &mut space, what, line)
 }
 
 // A tree in a file, a cursor in it, and the bytes that a line kept.
 #[derive(Drop)]
-struct Case {
+struct Case<R, O> {
     alloc: Global,
-    held: TreeFile,
+    held: ListOf<Btree<R, O>>,
     cursor: Cursor,
     marked: Blob,
 }
 
 // A line: the `height`; those on the file's bytes, on what the file is once it is opened anew, and on lists.
-impl Object for Case {
-    fn play(&mut self, what: &str, line: &mut Line<'_>) -> Result<(), Wrong> {
+impl<R: Records<S = OneFile>, O: Order> Object for Case<R, O> {
+    fn play(&mut self, what: &str, line: &mut Line) -> Result<(), Wrong> {
         self.held.begin(what);
         match what {
             "height" => is_number(self.alloc, line, self.held.list.tree().height()),
@@ -159,7 +178,7 @@ impl Object for Case {
 }
 
 /// Plays a case of a tree in a hash file.
-pub fn play_tree(alloc: Global, line: &mut Line<'_>, script: &mut Script<'_>) -> Result<(), Wrong> {
+pub fn play_tree(alloc: Global, line: &mut Line, script: &mut Script<'_>) -> Result<(), Wrong> {
     let mut case = Case {
         alloc,
         held: created(alloc, line)?,

@@ -3,9 +3,9 @@ ghost use Rattle.std.specs.Prelude.{OnOk};
 ghost use Rattle.ty_ulog.specs.Log.{IsUpdate};
 
 use crate::failures::Failure;
-use crate::looks::{id_of, is_number, is_record, is_so, is_taken, step_text, take_text};
+use crate::looks::{id_of, is_number, is_record, is_taken, step_text, take_text};
 use crate::rounds::{Round, are_updates};
-use play_text::{Line, Wrong};
+use play_text::{Line, Why, Wrong};
 use std::alloc::Global;
 use tc_fakes::StepClock;
 use tc_space::Space;
@@ -38,14 +38,14 @@ impl Played {
     }
 
     // Writes the records of the round: `OWN`.
-    fn write_round<S: Space>(&mut self, space: &mut S, line: &mut Line<'_>) -> Result<(), Failure>
+    fn write_round<S: Space>(&mut self, space: &mut S, line: &mut Line) -> Result<(), Failure>
         requires { S.sound space.old }
         ensures { OnOk result (S.sound space.new) }
     {
         let own = id_of(line)?;
         let requests = self.round.requests();
         if !are_updates(self.alloc, requests)? {
-            return Err(Failure::Line(Wrong::Not("one of them doesn't update")));
+            return Err(Failure::Line(Wrong::Not(Why::NoUpdate)));
         }
         self.log
             .append_updates(space, &mut self.clock, own, requests)?;
@@ -61,7 +61,7 @@ impl Played {
     {
         let last = self.log.last();
         if r.before != last || r.stamp <= last {
-            return Err(Failure::Line(Wrong::Not("it doesn't come next")));
+            return Err(Failure::Line(Wrong::Not(Why::NotNext)));
         }
         self.log.append(space, r)?;
         self.link.hold(r.stamp);
@@ -69,7 +69,7 @@ impl Played {
     }
 
     // The next step of the link; what is to be taken is: `STEP`.
-    fn step<S: Space>(&mut self, space: &mut S, line: &mut Line<'_>) -> Result<(), Failure>
+    fn step<S: Space>(&mut self, space: &mut S, line: &mut Line) -> Result<(), Failure>
         requires { S.sound space.old }
         ensures { OnOk result (S.sound space.new) }
     {
@@ -82,7 +82,7 @@ impl Played {
     }
 
     // The place of the first record with a greater timestamp: `STAMP PLACE`.
-    fn is_after<S: Space>(&self, space: &mut S, line: &mut Line<'_>) -> Result<(), Failure>
+    fn is_after<S: Space>(&self, space: &mut S, line: &mut Line) -> Result<(), Failure>
         requires { S.sound space.old }
         ensures { OnOk result (S.sound space.new) }
     {
@@ -92,7 +92,7 @@ impl Played {
     }
 
     // The bytes of the log from a place on: `PLACE BYTES`.
-    fn are_bytes<S: Space>(&self, space: &mut S, line: &mut Line<'_>) -> Result<(), Failure>
+    fn are_bytes<S: Space>(&self, space: &mut S, line: &mut Line) -> Result<(), Failure>
         requires { S.sound space.old }
         ensures { OnOk result (S.sound space.new) }
     {
@@ -103,7 +103,7 @@ impl Played {
     }
 
     // What the feed is given next: `BYTES`.
-    fn are_fed<S: Space>(&mut self, space: &mut S, line: &mut Line<'_>) -> Result<(), Failure>
+    fn are_fed<S: Space>(&mut self, space: &mut S, line: &mut Line) -> Result<(), Failure>
         requires { S.sound space.old }
         ensures { OnOk result (S.sound space.new) }
     {
@@ -113,14 +113,14 @@ impl Played {
     }
 
     // Bytes come into the round where they are an updating request: `BYTES`.
-    fn adds(&mut self, line: &mut Line<'_>, updates: bool) -> Result<(), Failure> {
+    fn adds(&mut self, line: &mut Line, updates: bool) -> Result<(), Failure> {
         let bytes = line.bytes()?;
         let added = self.round.add(bytes.as_slice())?;
-        is_so(line, added == updates)
+        Ok(line.is_so(added == updates)?)
     }
 
     // A line that doesn't ask for the file.
-    fn play_apart(&mut self, what: &str, line: &mut Line<'_>) -> Result<(), Failure> {
+    fn play_apart(&mut self, what: &str, line: &mut Line) -> Result<(), Failure> {
         match what {
             "update" => self.adds(line, true),
             "no_update" => self.adds(line, false),
@@ -146,7 +146,7 @@ impl Played {
         &mut self,
         space: &mut S,
         what: &str,
-        line: &mut Line<'_>,
+        line: &mut Line,
     ) -> Result<(), Failure>
         requires { S.sound space.old }
         ensures { OnOk result (S.sound space.new) }

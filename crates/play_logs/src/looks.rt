@@ -4,37 +4,27 @@ ghost use Rattle.ty_ulog.specs.declared.record.Record.{Record};
 ghost use Rattle.ty_ulog.specs.Records.{Fits, IsReadAs};
 
 use crate::failures::Failure;
-use play_text::{Line, Wrong};
+use play_text::{Line, Why, Wrong};
 use std::alloc::{AllocError, Global};
 use tc_base::Blob;
 use tc_space::OpenErr;
 use ty_slave::Step;
 use ty_ulog::{RecTake, Record, put_record, read_record, take_record};
 
-/// A test came out as a line says.
-pub fn is_so(line: &mut Line<'_>, found: bool) -> Result<(), Failure> {
-    line.compares();
-    if found {
-        Ok(())
-    } else {
-        Err(Failure::Line(Wrong::Not("it is otherwise")))
-    }
-}
-
 /// A number is that of a line, which has no more.
-pub fn is_number(alloc: Global, line: &mut Line<'_>, found: u64) -> Result<(), Failure> {
+pub fn is_number(alloc: Global, line: &mut Line, found: u64) -> Result<(), Failure> {
     Ok(line.is_text(format!(in alloc; "{found}")?)?)
 }
 
 /// The id of a server.
-pub fn id_of(line: &mut Line<'_>) -> Result<u16, Failure> {
+pub fn id_of(line: &mut Line) -> Result<u16, Failure> {
     Ok(line.within(0, 65_535)? as u16)
 }
 
 /// The file and the rule that an opening names are those of a line, as `2 G1`.
-pub fn is_rule(alloc: Global, line: &mut Line<'_>, opened: Option<OpenErr>) -> Result<(), Failure> {
+pub fn is_rule(alloc: Global, line: &mut Line, opened: Option<OpenErr>) -> Result<(), Failure> {
     let Some(OpenErr::Broken { file, rule }) = opened else {
-        return Err(Failure::Line(Wrong::Not("no broken rule")));
+        return Err(Failure::Line(Wrong::Not(Why::NoRule)));
     };
     let text = format!(in alloc; "{file} {}{}", char::from(rule.letter), rule.number)?;
     Ok(line.is_text(text)?)
@@ -64,7 +54,7 @@ pub fn take_text(alloc: Global, taken: RecTake) -> Result<String, AllocError> {
 }
 
 /// What stands at the front of bytes: `BYTES => part`, `bad` or `whole SIZE`.
-pub fn is_taken(alloc: Global, line: &mut Line<'_>) -> Result<(), Failure> {
+pub fn is_taken(alloc: Global, line: &mut Line) -> Result<(), Failure> {
     let taken = take_record(line.given()?.as_slice());
     Ok(line.is_text(take_text(alloc, taken)?)?)
 }
@@ -85,14 +75,14 @@ fn record_of(alloc: Global, bytes: &[u8]) -> Result<Record, Failure>
     ensures { IfOk result (λ r. Fits r) }
 {
     if !is_whole(bytes) {
-        return Err(Failure::Line(Wrong::Not("no whole record")));
+        return Err(Failure::Line(Wrong::Not(Why::NoRecord)));
     }
     let r = read_record(alloc, bytes)?;
     Ok(r)
 }
 
 /// Bytes are one record with these numbers, which is written as them again: `BYTES => STAMP BEFORE SERVER MASTER`.
-pub fn is_record(alloc: Global, line: &mut Line<'_>) -> Result<(), Failure> {
+pub fn is_record(alloc: Global, line: &mut Line) -> Result<(), Failure> {
     let bytes = line.given()?;
     let r = record_of(alloc, bytes.as_slice())?;
     let mut again = Blob::new(alloc);

@@ -4,7 +4,7 @@ ghost use Rattle.std.specs.Prelude.{◌≡◌, true, IfOk};
 use crate::failures::Failure;
 use crate::logs::Played;
 use crate::looks::is_rule;
-use play_text::{Line, Player, Script, Wrong};
+use play_text::{Line, Player, Script, Why, Wrong};
 use std::alloc::Global;
 use tc_fakes::{MemVolume, StepClock};
 use tc_io::Volume;
@@ -43,7 +43,7 @@ fn play_lines<S: Space>(
     let log = Ulog::open(alloc, space)?;
     let mut played = Played::new(alloc, log, clock);
     for _ in 0..script.len() {
-        let Some((what, mut line)) = script.next_line() else {
+        let Some((what, mut line)) = script.next_line()? else {
             return Ok(());
         };
         played.play(space, what, &mut line)?;
@@ -53,21 +53,21 @@ fn play_lines<S: Space>(
 }
 
 // An opened log: `FIRST STEP BYTES`, the clock's first answer, how far it goes on, and file 2.
-fn play_log(alloc: Global, line: &mut Line<'_>, script: &mut Script<'_>) -> Result<(), Failure> {
+fn play_log(alloc: Global, line: &mut Line, script: &mut Script<'_>) -> Result<(), Failure> {
     let first = line.number()?;
     let step = line.number()?;
     let vol = volume(alloc, line.bytes()?.as_slice())?;
     let Ok(mut space) = Undo::open(vol, LIMIT) else {
-        return Err(Failure::Line(Wrong::Not("the files aren't opened")));
+        return Err(Failure::Line(Wrong::Not(Why::Unopened)));
     };
     play_lines(alloc, &mut space, StepClock::new(first, step), script)
 }
 
 // A log that isn't opened: `BYTES => FILE RULE`.
-fn is_broken(alloc: Global, line: &mut Line<'_>) -> Result<(), Failure> {
+fn is_broken(alloc: Global, line: &mut Line) -> Result<(), Failure> {
     let vol = volume(alloc, line.given()?.as_slice())?;
     let Ok(mut space) = Undo::open(vol, LIMIT) else {
-        return Err(Failure::Line(Wrong::Not("the files aren't opened")));
+        return Err(Failure::Line(Wrong::Not(Why::Unopened)));
     };
     let opened = Ulog::open(alloc, &mut space).err();
     is_rule(alloc, line, opened)
@@ -77,7 +77,7 @@ fn is_broken(alloc: Global, line: &mut Line<'_>) -> Result<(), Failure> {
 fn play_of(
     alloc: Global,
     what: &str,
-    line: &mut Line<'_>,
+    line: &mut Line,
     script: &mut Script<'_>,
 ) -> Result<(), Failure> {
     match what {
@@ -95,7 +95,7 @@ impl Logs {
 
 impl Player for Logs {
     fn play(&mut self, script: &mut Script<'_>) -> Result<(), Wrong> {
-        let Some((what, mut line)) = script.next_line() else {
+        let Some((what, mut line)) = script.next_line()? else {
             return Ok(());
         };
         play_of(self.alloc, what, &mut line, script)?;

@@ -2,7 +2,7 @@
 
 use crate::plan::Plan;
 use crate::transcript::has_opened;
-use play_text::{Line, Wrong, shown, told};
+use play_text::{Line, Why, Wrong, shown, told};
 use std::alloc::{AllocError, Global};
 use tc_fakes::{MemSink, MemVolume, MemWire, StepClock};
 use tk_top::run;
@@ -18,8 +18,9 @@ pub struct Outcome {
 
 /// A run over a volume, and the volume behind it.
 pub fn ran(alloc: Global, plan: &Plan, vol: MemVolume) -> Result<(Outcome, MemVolume), AllocError> {
-    let mut wire = plan.wire()?;
-    let mut out = plan.sink()?;
+    let ends = plan.ends()?;
+    let mut wire = ends.0;
+    let mut out = ends.1;
     let mut err = MemSink::new(alloc);
     let mut clock = StepClock::new(7, 0);
     let ran = run(
@@ -49,7 +50,7 @@ impl Outcome {
     }
 
     /// It ended with the status of a line, never for want of memory, and connection 0 was sent what the plan says.
-    pub fn ended(&self, alloc: Global, plan: &Plan, line: &mut Line<'_>) -> Result<(), Wrong> {
+    pub fn ended(&self, alloc: Global, plan: &Plan, line: &mut Line) -> Result<(), Wrong> {
         let status = line.number()?;
         line.compares();
         if u64::from(self.status) != status {
@@ -70,26 +71,26 @@ impl Outcome {
     }
 
     /// The connection of a line, which opened.
-    pub fn conn(&self, line: &mut Line<'_>) -> Result<u32, Wrong> {
+    pub fn conn(&self, line: &mut Line) -> Result<u32, Wrong> {
         let conn = line.small()?;
         if has_opened(self.wire.log(), conn) {
             return Ok(conn);
         }
-        Err(Wrong::Not("it never opened"))
+        Err(Wrong::Not(Why::NeverOpened))
     }
 
     // Whether a connection is closed.
-    fn is_closed(&self, line: &mut Line<'_>, closed: bool) -> Result<(), Wrong> {
+    fn is_closed(&self, line: &mut Line, closed: bool) -> Result<(), Wrong> {
         let conn = self.conn(line)?;
         line.compares();
         if self.wire.is_closed(conn) == closed {
             return Ok(());
         }
-        Err(Wrong::Not("it is the other way"))
+        Err(Wrong::Not(Why::OtherWay))
     }
 
     /// Looks at a line that says what came of it.
-    pub fn is(&self, what: &str, line: &mut Line<'_>) -> Result<(), Wrong> {
+    pub fn is(&self, what: &str, line: &mut Line) -> Result<(), Wrong> {
         match what {
             "closed" => self.is_closed(line, true),
             "open" => self.is_closed(line, false),

@@ -1,7 +1,7 @@
 //! What a run is given: its words and what happens on its wire.
 ghost use Rattle.std.specs.Prelude.{◌≡◌, false, IfOk};
 
-use play_text::{Line, Pattern, Wrong};
+use play_text::{Line, Pattern, Why, Wrong};
 use std::alloc::{AllocError, Global};
 use tc_base::Blob;
 use tc_fakes::{MemSink, MemWire};
@@ -35,7 +35,7 @@ pub struct Plan {
 }
 
 /// How a send is answered, where so many bytes are taken if all are.
-pub fn sent_of(line: &mut Line<'_>, all: usize) -> Result<Sent, Wrong> {
+pub fn sent_of(line: &mut Line, all: usize) -> Result<Sent, Wrong> {
     match line.word() {
         "all" => Ok(Sent::Took(all)),
         "later" => Ok(Sent::NotYet),
@@ -46,13 +46,13 @@ pub fn sent_of(line: &mut Line<'_>, all: usize) -> Result<Sent, Wrong> {
 }
 
 // How many bytes are taken, of which there is one at least.
-fn took_of(line: &mut Line<'_>) -> Result<Sent, Wrong> {
+fn took_of(line: &mut Line) -> Result<Sent, Wrong> {
     let bytes = line.within(1, u64::from(u32::MAX))?;
     Ok(Sent::Took(bytes as usize))
 }
 
 // What happens on a connection.
-fn step_of(alloc: Global, what: &str, line: &mut Line<'_>, piece: usize) -> Result<Step, Wrong> {
+fn step_of(alloc: Global, what: &str, line: &mut Line, piece: usize) -> Result<Step, Wrong> {
     match what {
         "ended" => Ok(Step::Ended(line.small()?)),
         "quiet" => Ok(Step::Quiet),
@@ -132,7 +132,7 @@ impl Plan {
     // Takes words: what was done with those before is forgotten.
     fn begin(&mut self, words: Vec<String>) -> Result<(), Wrong> {
         if self.waits {
-            return Err(Wrong::Not("nothing ran"));
+            return Err(Wrong::Not(Why::NothingRan));
         }
         *self = Plan::new(self.alloc);
         self.words = words;
@@ -140,7 +140,7 @@ impl Plan {
     }
 
     // Connections open.
-    fn open(&mut self, line: &mut Line<'_>) -> Result<(), Wrong> {
+    fn open(&mut self, line: &mut Line) -> Result<(), Wrong> {
         let (first, last) = line.numbers()?;
         for conn in first..=last {
             let conn = u32::try_from(conn).ok().ok_or(Wrong::Unread)?;
@@ -150,7 +150,7 @@ impl Plan {
     }
 
     // Takes what connection 0 asks, behind what it asked so far, and what it is owed for it.
-    fn ask(&mut self, line: &mut Line<'_>) -> Result<(), Wrong> {
+    fn ask(&mut self, line: &mut Line) -> Result<(), Wrong> {
         let asked = line.given()?;
         let owed = line.bytes()?;
         match &mut self.owed {
@@ -165,7 +165,7 @@ impl Plan {
     }
 
     // Takes a line that says which calls of an object fail.
-    fn take_fails(line: &mut Line<'_>, fails: &mut Vec<u64>) -> Result<(), Wrong> {
+    fn take_fails(line: &mut Line, fails: &mut Vec<u64>) -> Result<(), Wrong> {
         let (first, last) = line.numbers()?;
         for number in first..=last {
             fails.push(number)?;
@@ -174,7 +174,7 @@ impl Plan {
     }
 
     /// Takes a line.
-    pub fn take(&mut self, what: &str, line: &mut Line<'_>) -> Result<(), Wrong> {
+    pub fn take(&mut self, what: &str, line: &mut Line) -> Result<(), Wrong> {
         match what {
             "words" => self.begin(line.words()?)?,
             "opened" => self.open(line)?,
@@ -190,8 +190,8 @@ impl Plan {
         Ok(())
     }
 
-    /// A wire with these steps.
-    pub fn wire(&self) -> Result<MemWire, AllocError>
+    // A wire with these steps.
+    fn wire(&self) -> Result<MemWire, AllocError>
         ensures { IfOk result (λ w. w.opened ≡ false) }
     {
         let mut wire = MemWire::new(self.alloc)?;
@@ -202,10 +202,19 @@ impl Plan {
         Ok(wire)
     }
 
-    /// A sink that takes what is printed.
-    pub fn sink(&self) -> Result<MemSink, AllocError> {
+    // A sink that takes what is printed.
+    fn sink(&self) -> Result<MemSink, AllocError> {
         let mut sink = MemSink::new(self.alloc);
         sink.fail_at(self.refuses.clone()?);
         Ok(sink)
+    }
+
+    /// A wire with these steps, and a sink that takes what is printed.
+    pub fn ends(&self) -> Result<(MemWire, MemSink), AllocError>
+        ensures { IfOk result (λ ends. ends.0.opened ≡ false) }
+    {
+        let sink = self.sink()?;
+        let wire = self.wire()?;
+        Ok((wire, sink))
     }
 }

@@ -6,7 +6,7 @@ use crate::plan::Plan;
 use crate::transcript::{is_call, next_told, sent_besides};
 use crate::trials::{Trial, try_all};
 use play_stops::{Trouble, WHOLE, are_same};
-use play_text::{Line, Pattern, Player, Script, Wrong, told};
+use play_text::{Line, Pattern, Player, Script, Why, Wrong, told};
 use std::alloc::{AllocError, Global};
 use std::mem;
 use tc_fakes::MemVolume;
@@ -50,7 +50,7 @@ impl Told {
 }
 
 // A file that there is.
-fn file_of(line: &mut Line<'_>) -> Result<u32, Wrong>
+fn file_of(line: &mut Line) -> Result<u32, Wrong>
     ensures { IfOk result (λ file. file ≤ 18) }
 {
     let file = line.within(0, 18)?;
@@ -72,7 +72,7 @@ impl Runs {
     }
 
     // Bytes at a place of a file, all of them in it, become others.
-    fn poke(&mut self, file: u32, line: &mut Line<'_>) -> Result<(), Wrong>
+    fn poke(&mut self, file: u32, line: &mut Line) -> Result<(), Wrong>
         requires { file ≤ 18 }
     {
         let mut all = Vec::from_slice(self.alloc, self.vol.bytes(file))?;
@@ -87,7 +87,7 @@ impl Runs {
     }
 
     // A file ends at a place in it.
-    fn cut(&mut self, file: u32, line: &mut Line<'_>) -> Result<(), Wrong>
+    fn cut(&mut self, file: u32, line: &mut Line) -> Result<(), Wrong>
         requires { file ≤ 18 }
     {
         let mut all = Vec::from_slice(self.alloc, self.vol.bytes(file))?;
@@ -97,7 +97,7 @@ impl Runs {
     }
 
     // Takes a line that makes files.
-    fn make(&mut self, what: &str, line: &mut Line<'_>) -> Result<(), Wrong> {
+    fn make(&mut self, what: &str, line: &mut Line) -> Result<(), Wrong> {
         self.made = true;
         let file = file_of(line)?;
         match what {
@@ -109,7 +109,7 @@ impl Runs {
 
     // Runs over the volume, and keeps what it was and is.
     fn go(&mut self) -> Result<Outcome, AllocError> {
-        self.before = self.vol.image(&WHOLE)?;
+        drop(mem::replace(&mut self.before, self.vol.image(&WHOLE)?));
         let vol = mem::replace(&mut self.vol, MemVolume::new(self.alloc)?);
         let (outcome, vol) = ran(self.alloc, &self.plan, vol)?;
         self.vol = vol;
@@ -117,12 +117,13 @@ impl Runs {
     }
 
     // Runs, and looks at its status and at what connection 0 is owed, where it asked.
-    fn run(&mut self, line: &mut Line<'_>) -> Result<(), Wrong> {
+    fn run(&mut self, line: &mut Line) -> Result<(), Wrong> {
         self.is_all_told()?;
         (self.made, self.plan.waits) = (false, false);
         let outcome = self.go()?;
-        outcome.ended(self.alloc, &self.plan, line)?;
-        self.outcome = Some(outcome);
+        let ended = outcome.ended(self.alloc, &self.plan, line);
+        drop(mem::replace(&mut self.outcome, Some(outcome)));
+        ended?;
         self.told = Told::new(self.alloc);
         if self.plan.owed.is_some() {
             self.told.sent.push(0)?;
@@ -141,7 +142,7 @@ impl Runs {
     // The run of which a line speaks was made.
     fn has_run(&self) -> Result<(), Wrong> {
         if self.outcome.is_none() || self.waits() {
-            return Err(Wrong::Not("nothing ran"));
+            return Err(Wrong::Not(Why::NothingRan));
         }
         Ok(())
     }
@@ -149,7 +150,7 @@ impl Runs {
     // All that was made ready for a run or a trial was used.
     fn is_all_run(&self) -> Result<(), Wrong> {
         if self.waits() || self.trial.waits {
-            return Err(Wrong::Not("nothing ran behind it"));
+            return Err(Wrong::Not(Why::NothingRanBehind));
         }
         Ok(())
     }
@@ -183,32 +184,32 @@ impl Runs {
             return self.is_all_sent(outcome);
         }
         if next_told(outcome.wire.log(), self.told.calls).is_some() {
-            return Err(Wrong::Not("the wire was asked more"));
+            return Err(Wrong::Not(Why::More));
         }
         Ok(())
     }
 
     // Looks at a line that says what files are left: the bytes of one, all as they were, or any log.
-    fn is_left(&mut self, what: &str, line: &mut Line<'_>) -> Result<(), Wrong> {
+    fn is_left(&mut self, what: &str, line: &mut Line) -> Result<(), Wrong> {
         if what != "file" {
             self.told.log = true;
         }
         match what {
             "file" => self.is_file(line),
-            "kept" if !are_same(&self.vol, &self.before) => Err(Wrong::Not("a file is another")),
+            "kept" if !are_same(&self.vol, &self.before) => Err(Wrong::Not(Why::AnotherFile)),
             _ => Ok(()),
         }
     }
 
     // Looks at the bytes of a file.
-    fn is_file(&mut self, line: &mut Line<'_>) -> Result<(), Wrong> {
+    fn is_file(&mut self, line: &mut Line) -> Result<(), Wrong> {
         let file = file_of(line)?;
         self.told.log = self.told.log || file == 1;
         line.is_bytes(self.vol.bytes(file))
     }
 
     // Looks at a line that says what the wire was asked next, or that it was asked nothing.
-    fn is_asked(&mut self, line: &mut Line<'_>) -> Result<(), Wrong> {
+    fn is_asked(&mut self, line: &mut Line) -> Result<(), Wrong> {
         let Some(outcome) = &self.outcome else {
             return Err(Wrong::Unread);
         };
@@ -217,14 +218,14 @@ impl Runs {
             if line.word() == "nothing" && log.is_empty() {
                 return Ok(());
             }
-            return Err(Wrong::Not("nothing more"));
+            return Err(Wrong::Not(Why::Nothing));
         };
         self.told.calls = place.saturating_add(1);
         is_call(self.alloc, line, entry)
     }
 
     // Looks at a line that says how many calls the volume had.
-    fn is_called(&self, line: &mut Line<'_>) -> Result<(), Wrong> {
+    fn is_called(&self, line: &mut Line) -> Result<(), Wrong> {
         let calls = self.vol.calls();
         if calls == line.number()? {
             return Ok(());
@@ -233,7 +234,7 @@ impl Runs {
     }
 
     // Looks at a line that says what came of the last run.
-    fn is(&mut self, what: &str, line: &mut Line<'_>) -> Result<(), Wrong> {
+    fn is(&mut self, what: &str, line: &mut Line) -> Result<(), Wrong> {
         self.told.out = self.told.out || what == "out";
         self.told.err = self.told.err || what == "err";
         match &self.outcome {
@@ -243,7 +244,7 @@ impl Runs {
     }
 
     // Looks at a line that says what was sent to a connection.
-    fn is_sent(&mut self, line: &mut Line<'_>) -> Result<(), Wrong> {
+    fn is_sent(&mut self, line: &mut Line) -> Result<(), Wrong> {
         let Some(outcome) = &self.outcome else {
             return Err(Wrong::Unread);
         };
@@ -253,9 +254,9 @@ impl Runs {
     }
 
     // Tries a run with trouble at each call. No line behind it speaks of an earlier run.
-    fn try_run(&mut self, trouble: Trouble, line: &mut Line<'_>) -> Result<(), Wrong> {
+    fn try_run(&mut self, trouble: Trouble, line: &mut Line) -> Result<(), Wrong> {
         self.is_all_told()?;
-        self.outcome = None;
+        drop(self.outcome.take());
         (self.made, self.plan.waits, self.trial.waits) = (false, false, false);
         self.trial.calls = line.number()?;
         line.compares();
@@ -265,7 +266,7 @@ impl Runs {
 
 impl Runs {
     // Looks at a line that speaks of the last run.
-    fn look(&mut self, what: &str, line: &mut Line<'_>) -> Result<(), Wrong> {
+    fn look(&mut self, what: &str, line: &mut Line) -> Result<(), Wrong> {
         self.has_run()?;
         match what {
             "file" | "kept" | "log" => self.is_left(what, line),
@@ -277,7 +278,7 @@ impl Runs {
     }
 
     // Plays a line.
-    fn line(&mut self, what: &str, line: &mut Line<'_>) -> Result<(), Wrong> {
+    fn line(&mut self, what: &str, line: &mut Line) -> Result<(), Wrong> {
         match what {
             "load" | "poke" | "cut" => self.make(what, line),
             "run" => self.run(line),
@@ -301,9 +302,10 @@ impl Runs {
 
 impl Player for Runs {
     fn play(&mut self, script: &mut Script<'_>) -> Result<(), Wrong> {
-        *self = Runs::new(self.alloc)?;
+        let fresh = Runs::new(self.alloc)?;
+        drop(mem::replace(self, fresh));
         for _ in 0..script.len() {
-            if let Some((what, mut line)) = script.next_line() {
+            if let Some((what, mut line)) = script.next_line()? {
                 self.line(what, &mut line)?;
                 script.end(line)?;
             }

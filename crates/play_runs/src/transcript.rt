@@ -59,14 +59,14 @@ fn other(alloc: Global, entry: &Entry) -> Result<(), Wrong> {
 }
 
 // Whether an address is that of the line.
-fn is_address(line: &mut Line<'_>, host: &[u8], port: u16) -> Result<bool, Wrong> {
+fn is_address(line: &mut Line, host: &[u8], port: u16) -> Result<bool, Wrong> {
     Ok(line.word().as_bytes() == host && line.number()? == u64::from(port))
 }
 
 // Whether a send is that of the line: its connection, its answer and its bytes.
 fn is_send(
     alloc: Global,
-    line: &mut Line<'_>,
+    line: &mut Line,
     conn: u32,
     bytes: &[u8],
     answer: Sent,
@@ -81,8 +81,9 @@ fn is_send(
 }
 
 /// Whether a call is that of a line: `pipe`, `serve HOST PORT`, `send CONN ANSWER BYTES`, `close CONN`.
-pub fn is_call(alloc: Global, line: &mut Line<'_>, entry: &Entry) -> Result<(), Wrong> {
-    let fits = match (line.word(), entry) {
+pub fn is_call(alloc: Global, line: &mut Line, entry: &Entry) -> Result<(), Wrong> {
+    let what = line.own_word()?;
+    let fits = match (what.as_str(), entry) {
         ("pipe", Entry::Open { at: At::Pipe }) => true,
         (
             "serve",

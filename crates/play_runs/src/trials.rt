@@ -3,8 +3,8 @@
 use crate::outcome::{Outcome, ran};
 use crate::plan::Plan;
 use play_stops::{Seen, Trouble, WHOLE, choices};
-use play_text::{Line, Pattern, Wrong, shown};
-use std::alloc::Global;
+use play_text::{Line, Pattern, Why, Wrong, shown};
+use std::alloc::{AllocError, Global};
 use tc_fakes::MemVolume;
 
 /// The words of the run that opens what is left, what it is asked and answered, and how many calls of the volume are more than a run makes.
@@ -32,7 +32,7 @@ impl Trial {
     }
 
     /// Takes a line.
-    pub fn take(&mut self, what: &str, line: &mut Line<'_>) -> Result<(), Wrong> {
+    pub fn take(&mut self, what: &str, line: &mut Line) -> Result<(), Wrong> {
         match what {
             "again" => self.again = line.words()?,
             "asks" => self.asks = line.bytes()?,
@@ -63,7 +63,7 @@ fn lost(alloc: Global, outcome: &Outcome) -> Result<(), Wrong> {
 }
 
 // There were as many calls as no run may make.
-const ENDLESS: Wrong = Wrong::Not("a run makes as many calls");
+const ENDLESS: Wrong = Wrong::Not(Why::Calls);
 
 impl<'a> Course<'a> {
     fn new(
@@ -84,16 +84,24 @@ impl<'a> Course<'a> {
         }
     }
 
-    // A volume, opened again, has the old contents or the new ones; where the run had ended well, the new ones.
-    fn holds(&self, vol: MemVolume) -> Result<(), Wrong> {
-        let (outcome, _) = ran(self.alloc, self.again, vol)?;
+    // What a run sent has the old contents or the new ones; where the run before had ended well, the new ones.
+    fn is_held(&self, outcome: &Outcome) -> Result<(), Wrong> {
         let found = outcome.wire.sent(0);
         let kept = self.trial.after.fits(found) || (!self.ended && self.trial.before.fits(found));
         if outcome.status == 0 && kept {
             Ok(())
         } else {
-            lost(self.alloc, &outcome)
+            lost(self.alloc, outcome)
         }
+    }
+
+    // A volume, opened again, has those contents.
+    fn holds(&self, vol: MemVolume) -> Result<(), Wrong> {
+        let (outcome, left) = ran(self.alloc, self.again, vol)?;
+        drop(left);
+        let held = self.is_held(&outcome);
+        drop(outcome);
+        held
     }
 
     // What a second stop leaves of a volume does.
@@ -104,28 +112,64 @@ impl<'a> Course<'a> {
         Ok(())
     }
 
-    // The same of what is left by a run that opens a volume and meets trouble, at each of its calls.
+    // The same of what is left by a run that opens a volume and meets trouble at a call. Answers whether the run made fewer calls.
+    fn reopens_at(&mut self, vol: &MemVolume, call: u64) -> Result<bool, Wrong> {
+        let copy = troubled(self.alloc, self.trouble, vol, call)?;
+        let left = left_by(self.alloc, self.again, copy)?;
+        let is_last = left.calls() < call;
+        let reopened = self.reopens(&left);
+        drop(left);
+        reopened?;
+        Ok(is_last)
+    }
+
+    // The same at each of its calls.
     fn reopens_twice(&mut self, vol: &MemVolume) -> Result<(), Wrong> {
         for call in 1..=self.trial.calls {
-            let mut copy = vol.image(&WHOLE)?;
-            self.trouble.meet(self.alloc, &mut copy, call)?;
-            let (_, left) = ran(self.alloc, self.again, copy)?;
-            self.reopens(&left)?;
-            if left.calls() < call {
+            if self.reopens_at(vol, call)? {
                 return Ok(());
             }
         }
         Err(ENDLESS)
     }
 
-    // What a first stop leaves of a volume does, also where the run that opens it meets such trouble.
+    // A volume does what it is to, also where the run that opens it meets such trouble.
+    fn stands(&mut self, vol: MemVolume) -> Result<(), Wrong> {
+        match self.reopens_twice(&vol) {
+            Ok(()) => self.holds(vol),
+            Err(wrong) => {
+                drop(vol);
+                Err(wrong)
+            }
+        }
+    }
+
+    // What a first stop leaves of a volume does.
     fn survives(&mut self, vol: &MemVolume) -> Result<(), Wrong> {
         for image in self.troubled.unseen(vol, &choices())? {
-            self.reopens_twice(&image)?;
-            self.holds(image)?;
+            self.stands(image)?;
         }
         Ok(())
     }
+}
+
+// A copy of a volume on which trouble is met at a call.
+fn troubled(
+    alloc: Global,
+    trouble: Trouble,
+    vol: &MemVolume,
+    call: u64,
+) -> Result<MemVolume, AllocError> {
+    let mut copy = vol.image(&WHOLE)?;
+    trouble.meet(alloc, &mut copy, call)?;
+    Ok(copy)
+}
+
+// What a run leaves of a volume.
+fn left_by(alloc: Global, plan: &Plan, vol: MemVolume) -> Result<MemVolume, AllocError> {
+    let (outcome, left) = ran(alloc, plan, vol)?;
+    drop(outcome);
+    Ok(left)
 }
 
 // A run that met trouble ends with 3 and sends nothing.
@@ -150,6 +194,41 @@ fn is_done(
     course.survives(left)
 }
 
+// How a run ended that was to meet trouble at a call, and what it left, are as they are to be.
+fn judged(
+    plan: &Plan,
+    course: &mut Course<'_>,
+    outcome: &Outcome,
+    left: &MemVolume,
+    call: u64,
+) -> Result<(), Wrong> {
+    let alloc = course.alloc;
+    if outcome.status == 0 {
+        outcome.is_answered(alloc, plan)?;
+        let mut ended = Course::new(alloc, course.trial, course.again, course.trouble, true);
+        return is_done(&mut ended, outcome, left, call);
+    }
+    is_met(alloc, outcome)?;
+    course.survives(left)
+}
+
+// Tries a run that is to meet trouble at a call. Answers whether it met none.
+fn try_at(
+    plan: &Plan,
+    files: &MemVolume,
+    course: &mut Course<'_>,
+    call: u64,
+) -> Result<bool, Wrong> {
+    let vol = troubled(course.alloc, course.trouble, files, call)?;
+    let (outcome, left) = ran(course.alloc, plan, vol)?;
+    let is_last = outcome.status == 0;
+    let judged = judged(plan, course, &outcome, &left, call);
+    drop(outcome);
+    drop(left);
+    judged?;
+    Ok(is_last)
+}
+
 /// Each call goes wrong in turn, until none does.
 pub fn try_all(
     alloc: Global,
@@ -159,21 +238,14 @@ pub fn try_all(
     trouble: Trouble,
 ) -> Result<(), Wrong> {
     if trial.asks.is_empty() {
-        return Err(Wrong::Not("nothing is asked"));
+        return Err(Wrong::Not(Why::NothingAsked));
     }
     let again = Plan::asking(alloc, trial.again.clone()?, trial.asks.as_slice())?;
     let mut course = Course::new(alloc, trial, &again, trouble, false);
     for call in 1..=trial.calls {
-        let mut vol = files.image(&WHOLE)?;
-        trouble.meet(alloc, &mut vol, call)?;
-        let (outcome, left) = ran(alloc, plan, vol)?;
-        if outcome.status == 0 {
-            outcome.is_answered(alloc, plan)?;
-            let mut course = Course::new(alloc, trial, &again, trouble, true);
-            return is_done(&mut course, &outcome, &left, call);
+        if try_at(plan, files, &mut course, call)? {
+            return Ok(());
         }
-        is_met(alloc, &outcome)?;
-        course.survives(&left)?;
     }
     Err(ENDLESS)
 }

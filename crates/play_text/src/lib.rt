@@ -11,6 +11,7 @@ mod playing;
 mod reports;
 mod scripts;
 mod terms;
+mod whys;
 mod wrongs;
 
 pub use files::play_inputs;
@@ -21,4 +22,5 @@ pub use patterns::Pattern;
 pub use playing::{Player, play_cases};
 pub use reports::Report;
 pub use scripts::Script;
+pub use whys::Why;
 pub use wrongs::{Wrong, shown, told};

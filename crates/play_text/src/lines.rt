@@ -5,58 +5,86 @@ use crate::names::Names;
 use crate::numbers::{number_of, numbers_of};
 use crate::patterns::Pattern;
 use crate::terms::{at_blank, read_bytes};
+use crate::whys::Why;
 use crate::wrongs::{Wrong, is_same, shown, told};
 use std::alloc::{AllocError, Global};
 
-/// What is left of a line, the names that it may have, and whether it compared something.
+/// A line, how much of it was read, the names that it has, and whether it compared something.
 #[derive(Drop)]
-pub struct Line<'a> {
+pub struct Line {
     alloc: Global,
-    names: &'a Names,
-    rest: &'a str,
+    names: Names,
+    text: String,
+    at: usize,
     has_compared: bool,
 }
 
-impl<'a> Line<'a> {
-    pub(crate) fn new(alloc: Global, names: &'a Names, rest: &'a str) -> Line<'a> {
-        Line {
+// A text from a place on.
+fn behind(text: &str, at: usize) -> &str {
+    match text.split_at_checked(at) {
+        Some((_, rest)) => rest,
+        None => "",
+    }
+}
+
+impl Line {
+    pub(crate) fn new(alloc: Global, names: &Names, text: &str) -> Result<Line, AllocError> {
+        Ok(Line {
             alloc,
-            names,
-            rest,
+            names: names.used_in(alloc, text)?,
+            text: String::from_str(alloc, text)?,
+            at: 0,
             has_compared: false,
-        }
+        })
     }
 
     /// All that is left, as it stands there.
-    pub fn rest(&self) -> &'a str {
-        self.rest
+    pub fn rest(&self) -> &str {
+        behind(self.text.as_str(), self.at)
     }
 
     // Nothing is left.
     pub(crate) fn is_over(&self) -> Result<(), Wrong> {
-        if self.rest.is_empty() {
+        let rest = self.rest();
+        if rest.is_empty() {
             return Ok(());
         }
-        Err(Wrong::Left(String::from_str(self.alloc, self.rest)?))
+        Err(Wrong::Differs(format!(in self.alloc; "`{rest}` is left")?))
     }
 
-    // Takes all that is left, as it stands there.
-    fn take(&mut self) -> &'a str {
-        let rest = self.rest;
-        self.rest = "";
-        rest
+    // So many bytes are left.
+    fn leave(&mut self, left: usize) {
+        self.at = self.text.len().saturating_sub(left);
     }
 
     /// Passes over all that is left, which another play of the line reads.
     pub fn skip(&mut self) {
-        self.rest = "";
+        self.leave(0);
     }
 
     /// The next word; an empty one at the end.
-    pub fn word(&mut self) -> &'a str {
-        let (word, rest) = at_blank(self.rest);
-        self.rest = rest;
+    pub fn word(&mut self) -> &str {
+        let (word, rest) = at_blank(behind(self.text.as_str(), self.at));
+        self.at = self.text.len().saturating_sub(rest.len());
         word
+    }
+
+    /// The same, which stays while more of the line is read.
+    pub fn own_word(&mut self) -> Result<String, Wrong> {
+        let alloc = self.alloc;
+        Ok(String::from_str(alloc, self.word())?)
+    }
+
+    /// The next word is one of two; whether it is the second.
+    pub fn is_second(&mut self, first: &str, second: &str) -> Result<bool, Wrong> {
+        let word = self.word();
+        if word == second {
+            return Ok(true);
+        }
+        if word == first {
+            return Ok(false);
+        }
+        Err(Wrong::Unread)
     }
 
     /// The next word as a number.
@@ -87,29 +115,53 @@ impl<'a> Line<'a> {
 
     /// All that is left, as bytes.
     pub fn bytes(&mut self) -> Result<Pattern, Wrong> {
-        let rest = self.take();
-        read_bytes(self.alloc, self.names, rest)
+        let all = read_bytes(self.alloc, &self.names, self.rest())?;
+        self.skip();
+        Ok(all)
     }
 
-    /// What stands in front of a mark, which is left behind.
-    pub fn up_to(&mut self, mark: &str) -> Result<&'a str, Wrong> {
-        let Some((front, rest)) = self.rest.split_once(mark) else {
+    /// The bytes in front of a mark, which is left behind.
+    pub fn bytes_up_to(&mut self, mark: &str) -> Result<Pattern, Wrong> {
+        let Some((front, rest)) = self.rest().split_once(mark) else {
             return Err(Wrong::Unread);
         };
-        self.rest = rest;
-        Ok(front)
+        let left = rest.len();
+        let bytes = read_bytes(self.alloc, &self.names, front)?;
+        self.leave(left);
+        Ok(bytes)
     }
 
-    /// The bytes in front of a mark.
-    pub fn bytes_up_to(&mut self, mark: &str) -> Result<Pattern, Wrong> {
-        let front = self.up_to(mark)?;
-        read_bytes(self.alloc, self.names, front)
+    /// The bytes in front of `=`, which has a blank on either side.
+    pub fn key(&mut self) -> Result<Pattern, Wrong> {
+        self.bytes_up_to(" = ")
+    }
+
+    /// The words in front of a mark, which is left behind.
+    pub fn words_up_to(&mut self, mark: &str) -> Result<Vec<String>, Wrong> {
+        let Some((front, rest)) = self.rest().split_once(mark) else {
+            return Err(Wrong::Unread);
+        };
+        let left = rest.len();
+        let words = words_of(self.alloc, front)?;
+        self.leave(left);
+        Ok(words)
+    }
+
+    /// Whether it is this word that stands in front of a mark, which is left behind.
+    pub fn has_up_to(&mut self, word: &str, mark: &str) -> Result<bool, Wrong> {
+        let Some((front, rest)) = self.rest().split_once(mark) else {
+            return Err(Wrong::Unread);
+        };
+        let (left, has) = (rest.len(), front.trim() == word);
+        self.leave(left);
+        Ok(has)
     }
 
     /// The bytes in front of `=>`.
     pub fn given(&mut self) -> Result<Pattern, Wrong> {
         let given = self.bytes_up_to("=>")?;
-        self.rest = self.rest.trim_start();
+        let left = self.rest().trim_start().len();
+        self.leave(left);
         Ok(given)
     }
 
@@ -124,12 +176,13 @@ impl<'a> Line<'a> {
 
     /// All that is left, as words with a blank between them: two blanks have an empty word between them.
     pub fn words(&mut self) -> Result<Vec<String>, AllocError> {
-        let rest = self.take();
-        words_of(self.alloc, rest)
+        let words = words_of(self.alloc, self.rest())?;
+        self.skip();
+        Ok(words)
     }
 }
 
-impl<'a> Line<'a> {
+impl Line {
     /// Notes that it compares something.
     pub fn compares(&mut self) {
         self.has_compared = true;
@@ -138,6 +191,16 @@ impl<'a> Line<'a> {
     // Whether it compared something.
     pub(crate) fn has_compared(&self) -> bool {
         self.has_compared
+    }
+
+    /// A test came out as it is to.
+    pub fn is_so(&mut self, found: bool) -> Result<(), Wrong> {
+        self.compares();
+        if found {
+            Ok(())
+        } else {
+            Err(Wrong::Not(Why::Otherwise))
+        }
     }
 
     /// Bytes are as they are to be.
@@ -152,7 +215,7 @@ impl<'a> Line<'a> {
         match (wanted, found) {
             (Some(wanted), Some(found)) => self.told(wanted, found),
             (None, None) => Ok(()),
-            (Some(_), None) => Err(Wrong::Not("there is none")),
+            (Some(_), None) => Err(Wrong::Not(Why::NothingThere)),
             (None, Some(found)) => Err(Wrong::Differs(shown(self.alloc, found)?)),
         }
     }
@@ -171,8 +234,10 @@ impl<'a> Line<'a> {
 
     /// A text is all that is left.
     pub fn is_text(&mut self, found: String) -> Result<(), Wrong> {
-        let wanted = self.take();
-        self.is_same(wanted, found)
+        self.compares();
+        let same = is_same(self.rest(), found);
+        self.skip();
+        same
     }
 }
 

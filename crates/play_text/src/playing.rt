@@ -5,6 +5,7 @@ use crate::names::Names;
 use crate::reports::Report;
 use crate::scripts::Script;
 use crate::terms::read_bytes;
+use crate::whys::Why;
 use crate::wrongs::Wrong;
 use std::alloc::{AllocError, Global};
 
@@ -64,7 +65,7 @@ impl<'n, 'a> Reading<'n, 'a> {
             return Ok(());
         };
         if let Some(mark) = case.unused() {
-            return report.fail(case.name(), mark, &Wrong::Not("no line has it"));
+            return report.fail(case.name(), mark, &Wrong::Not(Why::Mark));
         }
         for play in 0..case.plays() {
             play_once(self.alloc, player, self.names, &case, play, report)?;

@@ -31,7 +31,8 @@ impl Report {
     /// A line of a case failed.
     pub fn fail(&mut self, case: &str, line: &str, wrong: &Wrong) -> Result<(), AllocError> {
         self.failed = self.failed.saturating_add(1);
-        let text = format!(in self.alloc; "failed: {case}: {line}: {wrong}\n")?;
+        let why = wrong.text();
+        let text = format!(in self.alloc; "failed: {case}: {line}: {why}\n")?;
         self.lines.push_str(text.as_str())
     }
 

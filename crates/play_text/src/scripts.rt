@@ -2,6 +2,8 @@
 
 use crate::lines::Line;
 use crate::names::Names;
+use crate::terms::at_blank;
+use crate::whys::Why;
 use crate::wrongs::Wrong;
 use std::alloc::Global;
 
@@ -34,16 +36,18 @@ impl<'a> Script<'a> {
     }
 
     /// The first word of the next line, and the rest of it, which `end` takes once it was played.
-    pub fn next_line(&mut self) -> Option<(&'a str, Line<'a>)> {
-        let text = self.lines.get(self.at)?;
+    pub fn next_line(&mut self) -> Result<Option<(&'a str, Line)>, Wrong> {
+        let Some(text) = self.lines.get(self.at) else {
+            return Ok(None);
+        };
         self.at = self.at.saturating_add(1);
-        let mut line = Line::new(self.alloc, self.names, text.as_str());
-        let what = line.word();
-        Some((what, line))
+        let (what, rest) = at_blank(text.as_str());
+        let line = Line::new(self.alloc, self.names, rest)?;
+        Ok(Some((what, line)))
     }
 
     /// Ends a line that was played: no word of it is left.
-    pub fn end(&mut self, line: Line<'_>) -> Result<(), Wrong> {
+    pub fn end(&mut self, line: Line) -> Result<(), Wrong> {
         line.is_over()?;
         self.ended = self.ended.saturating_add(1);
         self.has_compared = self.has_compared || line.has_compared();
@@ -53,13 +57,13 @@ impl<'a> Script<'a> {
     // All lines were played to their ends, and one of them compared something.
     pub(crate) fn is_played(&self) -> Result<(), Wrong> {
         if self.at < self.lines.len() {
-            return Err(Wrong::Not("a line behind it isn't played"));
+            return Err(Wrong::Not(Why::Unplayed));
         }
         if self.ended < self.at {
-            return Err(Wrong::Not("a line isn't played to its end"));
+            return Err(Wrong::Not(Why::Unended));
         }
         if !self.has_compared {
-            return Err(Wrong::Not("nothing is compared"));
+            return Err(Wrong::Not(Why::NothingCompared));
         }
         Ok(())
     }

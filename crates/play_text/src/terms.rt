@@ -106,8 +106,8 @@ fn add_digits(alloc: Global, digits: &str, into: &mut Pattern) -> Result<(), Wro
 
 // Adds the bytes of a word.
 fn add_word(alloc: Global, names: &Names, word: &str, into: &mut Pattern) -> Result<(), Wrong> {
-    if let Some(name) = word.strip_prefix('$') {
-        let named = names.get(name).ok_or(Wrong::Unread)?;
+    if word.starts_with('$') {
+        let named = names.get(word).ok_or(Wrong::Unread)?;
         return Ok(into.append_times(named, 1)?);
     }
     if let Some((width, number)) = word.split_once('<') {

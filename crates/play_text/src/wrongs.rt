@@ -1,27 +1,32 @@
 //! Why a line of a case fails.
 
 use crate::patterns::Pattern;
+use crate::whys::Why;
 use std::alloc::{AllocError, AllocFailed, Global};
-use thiserror::Error;
 
 /// Why a line fails.
-#[derive(Debug, Drop, Error)]
+#[derive(Drop)]
 pub enum Wrong {
-    /// Something else came than stands there.
-    #[error("{0}")]
+    /// Something else came than stands there, or words are left behind what was read.
     Differs(String),
     /// It isn't as it is to be.
-    #[error("{0}")]
-    Not(&'static str),
+    Not(Why),
     /// It can't be read.
-    #[error("it can't be read")]
     Unread,
-    /// Words stand behind what was read.
-    #[error("`{0}` is left")]
-    Left(String),
     /// There is no memory.
-    #[error("no memory")]
     Memory,
+}
+
+impl Wrong {
+    /// What is printed of it.
+    pub fn text(&self) -> &str {
+        match self {
+            Wrong::Differs(text) => text.as_str(),
+            Wrong::Not(why) => (*why).text(),
+            Wrong::Unread => "it can't be read",
+            Wrong::Memory => "no memory",
+        }
+    }
 }
 
 impl From<AllocError> for Wrong {

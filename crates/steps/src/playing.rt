@@ -33,10 +33,8 @@ fn putdup<M: Multi>(list: &mut M, space: &mut M::S, step: &Step<'_>) -> Result<b
     requires { IsReady M.S.Space (In M.S.Space M.file_of M.holds) list.old space.old }
     ensures { OnOk result (IsReady M.S.Space (In M.S.Space M.file_of M.holds) list.new space.new) }
 {
-    match list.putdup(space, step.key, step.value) {
-        Ok(()) => Ok(true),
-        Err(e) => Err(e),
-    }
+    list.putdup(space, step.key, step.value)?;
+    Ok(true)
 }
 
 // The first pair of a key taken out, or all of them; false where there is none.
@@ -44,15 +42,10 @@ fn out<M: Multi>(list: &mut M, space: &mut M::S, step: &Step<'_>, all: bool) -> 
     requires { IsReady M.S.Space (In M.S.Space M.file_of M.holds) list.old space.old }
     ensures { OnOk result (IsReady M.S.Space (In M.S.Space M.file_of M.holds) list.new space.new) }
 {
-    let taken = if all {
-        list.out_all(space, step.key)
-    } else {
-        list.out(space, step.key)
-    };
-    match taken {
-        Ok(taken) => Ok(taken),
-        Err(e) => Err(e),
+    if all {
+        return Ok(list.out_all(space, step.key)?);
     }
+    Ok(list.out(space, step.key)?)
 }
 
 // The values of a key.
@@ -65,10 +58,7 @@ fn find<M: Multi>(
     requires { IsReady M.S.Space (In M.S.Space M.file_of M.holds) list.old space.old }
     ensures { OnOk result (IsReady M.S.Space (In M.S.Space M.file_of M.holds) list.new space.new) }
 {
-    let values = match list.all(space, step.key) {
-        Ok(values) => values,
-        Err(e) => return Err(e),
-    };
+    let values = list.all(space, step.key)?;
     Ok(add_texts(&values, into)?)
 }
 
@@ -87,10 +77,7 @@ fn range<M: Multi>(
         first: step.key,
         end: Some(step.value),
     };
-    let pairs = match list.range(space, &stretch, step.number, &mut steps) {
-        Ok(pairs) => pairs,
-        Err(e) => return Err(e),
-    };
+    let pairs = list.range(space, &stretch, step.number, &mut steps)?;
     Ok(add_pairs(&pairs, into)?)
 }
 
@@ -125,10 +112,7 @@ fn play<M: Multi>(
     if step.kind == b'r' {
         return range(list, space, step, into);
     }
-    let changed = match changed(list, space, step) {
-        Ok(changed) => changed,
-        Err(e) => return Err(e),
-    };
+    let changed = changed(list, space, step)?;
     Ok(add_flag(changed, into)?)
 }
 
@@ -150,9 +134,7 @@ pub fn play_on<M: Multi>(
         if step.kind == b'c' {
             return Ok(true);
         }
-        if let Err(e) = play(list, space, &step, into) {
-            return Err(e);
-        }
+        play(list, space, &step, into)?;
     }
     Ok(false)
 }
@@ -168,11 +150,10 @@ pub fn play_all<M: Multi>(
     ensures { OnOk result (IsReady M.S.Space (In M.S.Space M.file_of M.holds) list.new space.new) }
 {
     for _ in 0..script.left() {
-        match play_on(list, space, script, into) {
-            Ok(true) => add_number(list.count(), into)?,
-            Ok(false) => return Ok(()),
-            Err(e) => return Err(e),
+        if !play_on(list, space, script, into)? {
+            return Ok(());
         }
+        add_number(list.count(), into)?;
     }
     Ok(())
 }

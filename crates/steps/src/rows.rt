@@ -33,7 +33,12 @@ fn bare(alloc: Global, space: &mut OneFile) -> Result<Store, Error> {
 }
 
 // The value of a key.
-fn put(store: &mut Store, space: &mut OneFile, key: &[u8], value: &[u8]) -> Result<(), Error> {
+fn put<R: Records<S = OneFile>>(
+    store: &mut R,
+    space: &mut OneFile,
+    key: &[u8],
+    value: &[u8],
+) -> Result<(), Error> {
     usable(space)?;
     let mut steps: Steps<()> = Steps::new();
     match store.put(space, key, value, Mode::Over, &mut steps) {
@@ -43,7 +48,7 @@ fn put(store: &mut Store, space: &mut OneFile, key: &[u8], value: &[u8]) -> Resu
 }
 
 // The region.
-fn set_region(store: &mut Store, bytes: &[u8]) -> Result<(), Error> {
+fn set_region<R: Records<S = OneFile>>(store: &mut R, bytes: &[u8]) -> Result<(), Error> {
     if bytes.len() != 128 {
         return Err(anyhow!("a region has 128 bytes"));
     }
@@ -54,7 +59,11 @@ fn set_region(store: &mut Store, bytes: &[u8]) -> Result<(), Error> {
 }
 
 // The records of a file, and its region, which ends them.
-fn fill(store: &mut Store, space: &mut OneFile, script: &mut Script<'_>) -> Result<(), Error> {
+fn fill<R: Records<S = OneFile>>(
+    store: &mut R,
+    space: &mut OneFile,
+    script: &mut Script<'_>,
+) -> Result<(), Error> {
     for _ in 0..script.left() {
         let Some(step) = script.step() else {
             return Ok(());
@@ -68,11 +77,11 @@ fn fill(store: &mut Store, space: &mut OneFile, script: &mut Script<'_>) -> Resu
 }
 
 // The tree that the records are, where its order is the one that was asked for.
-fn opened<O: Order>(
+fn opened<R: Records<S = OneFile> + Drop, O: Order>(
     alloc: Global,
-    store: Store,
+    store: R,
     space: &mut OneFile,
-) -> Result<Btree<Store, O>, Error> {
+) -> Result<Btree<R, O>, Error> {
     let opaque = store.opaque();
     if opaque[0] != O::CODE {
         return Err(anyhow!("another order"));
@@ -85,8 +94,8 @@ fn opened<O: Order>(
 }
 
 // Makes the steps up to the next `c`, and answers whether there is one, of which it adds what `look` does.
-fn play_one<O: Order>(
-    tree: &mut Btree<Store, O>,
+fn play_one<R: Records<S = OneFile>, O: Order>(
+    tree: &mut Btree<R, O>,
     space: &mut OneFile,
     script: &mut Script<'_>,
     into: &mut Blob,
@@ -105,18 +114,30 @@ fn play_one<O: Order>(
     }
 }
 
-/// Puts records into a file in memory, `w`, gives it a region, `h`, and opens the tree that it then has, which must keep all rules. The steps that are left are made on the tree as `play_hash` makes them.
-pub fn play_rows<O: Order>(alloc: Global, bytes: &[u8], into: &mut Blob) -> Result<(), Error> {
-    let mut space = OneFile::of(Vec::new(alloc));
-    let mut store = bare(alloc, &mut space)?;
+// Puts the records of a script into a store, gives it its region, opens the tree that it then has, and makes the steps that are left.
+fn play_store<R: Records<S = OneFile> + Drop, O: Order>(
+    alloc: Global,
+    store: R,
+    space: &mut OneFile,
+    bytes: &[u8],
+    into: &mut Blob,
+) -> Result<(), Error> {
+    let mut store = store;
     let mut script = Script::new(bytes);
-    fill(&mut store, &mut space, &mut script)?;
-    let mut tree = opened::<O>(alloc, store, &mut space)?;
+    fill(&mut store, space, &mut script)?;
+    let mut tree = opened::<R, O>(alloc, store, space)?;
     for _ in 0..bytes.len() {
-        usable(&space)?;
-        if !play_one(&mut tree, &mut space, &mut script, into)? {
+        usable(space)?;
+        if !play_one(&mut tree, space, &mut script, into)? {
             return Ok(());
         }
     }
     Ok(())
+}
+
+/// Puts records into a file in memory, `w`, gives it a region, `h`, and opens the tree that it then has, which must keep all rules. The steps that are left are made on the tree as `play_hash` makes them.
+pub fn play_rows<O: Order>(alloc: Global, bytes: &[u8], into: &mut Blob) -> Result<(), Error> {
+    let mut space = OneFile::of(Vec::new(alloc));
+    let store = bare(alloc, &mut space)?;
+    play_store::<Store, O>(alloc, store, &mut space, bytes, into)
 }

@@ -125,6 +125,7 @@ fn take_effect(
         return refuse(r, reply);
     };
     if !fits(&e.answer) {
+        drop(e);
         return refuse(r, reply);
     }
     write_reply(&e.answer, reply)?;
@@ -197,6 +198,7 @@ fn step(
     };
     let answer = Reply::Value { value };
     if !fits(&answer) {
+        drop(answer);
         return refuse(&Request::IterNext, reply);
     }
     write_reply(&answer, reply)?;

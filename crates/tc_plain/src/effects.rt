@@ -6,16 +6,17 @@ ghost use Rattle.tc_model.specs.Apply as model;
 ghost use Rattle.tc_model.specs.Apply.{effect, called, keys_from, at_most, length_reply, updates};
 ghost use Rattle.tc_model.specs.Misc.{updates_call};
 ghost use Rattle.tc_model.specs.Stores as stores;
-ghost use Rattle.tc_plain.specs.Views.{contents_of, effect_seen};
+ghost use Rattle.tc_model.specs.Meaning.{done};
+ghost use Rattle.tc_plain.specs.Views.{contents_of, effect_seen, outcome_seen};
 ghost use Rattle.tc_plain.specs.Bodies.{is_change};
 
 use crate::contents::{Data, kind_of};
-use crate::meaning::done;
+use crate::meaning::{Outcome, done};
 use crate::reads::{all_keys, count, first_pairs, held, size_of};
 use crate::stores::{add, emptied, out, shift, store};
 use std::alloc::{AllocError, Global};
 use tc_base::{Blob, Blobs, Key, Mode, Reply, Request};
-use tc_model::{read_misc, stat_lines};
+use tc_model::{Misc, read_misc, stat_lines};
 use ty_wire::{is_updating, is_updating_call};
 
 /// The contents after a request, and its reply.
@@ -112,6 +113,15 @@ fn updates_call(name: &Blob, args: &Blobs) -> bool
     is_updating_call(name.as_slice(), args.as_slice())
 }
 
+// What a misc request makes of contents, once it was made.
+fn done_of(alloc: Global, m: Misc, old: Data) -> Result<Option<Outcome>, AllocError>
+    ensures { IfOk result (λ o. option_map outcome_seen o ≡ done m (contents_of old)) }
+{
+    let outcome = done(alloc, &m, old);
+    drop(m);
+    outcome
+}
+
 // An odd number of options asks for the omission of the update log, and fails an updating request.
 fn called(
     alloc: Global,
@@ -123,12 +133,14 @@ fn called(
     ensures { IfOk result (λ o. option_map effect_seen o ≡ called name.now options args.now (contents_of old)) }
 {
     if options % 2 == 1 && updates_call(name, args) {
+        drop(old);
         return Ok(None);
     }
     let Some(m) = read_misc(alloc, name.as_slice(), args, kind_of(&old))? else {
+        drop(old);
         return Ok(None);
     };
-    match done(alloc, &m, old)? {
+    match done_of(alloc, m, old)? {
         Some(outcome) => Ok(Some(Effect {
             after: outcome.after,
             answer: Reply::List {
@@ -139,67 +151,53 @@ fn called(
     }
 }
 
+// What a request that reads is answered.
+fn answer_of(alloc: Global, r: &Request, old: &Data) -> Result<Option<Reply>, AllocError>
+    ensures { IfOk result (λ o. is_change r.now ≡ false → option_map (λ a. (contents_of old.now, a)) o ≡ effect r.now (contents_of old.now)) }
+{
+    match r {
+        Request::Get { key } => match held(alloc, old, key.as_slice())? {
+            Some(value) => Ok(Some(Reply::Value { value })),
+            None => Ok(None),
+        },
+        Request::MGet { keys } => {
+            let pairs = first_pairs(alloc, old, keys.as_slice())?;
+            Ok(Some(Reply::Pairs { pairs }))
+        }
+        Request::Vsiz { key } => length_answer(alloc, old, key.as_slice()),
+        Request::FwmKeys { prefix, maximum } => {
+            let items = keys_answer(alloc, old, prefix, *maximum)?;
+            Ok(Some(Reply::List { items }))
+        }
+        Request::Sync => Ok(Some(Reply::Done)),
+        Request::Optimize { .. } => Ok(Some(Reply::Done)),
+        Request::Rnum => {
+            let number = count(old);
+            Ok(Some(Reply::Eight { number }))
+        }
+        Request::Size => {
+            let number = size_of(alloc, old)?;
+            Ok(Some(Reply::Eight { number }))
+        }
+        Request::Stat => {
+            let size = size_of(alloc, old)?;
+            let value = stat_lines(alloc, kind_of(old), count(old), size)?;
+            Ok(Some(Reply::Value { value }))
+        }
+        _ => Ok(None),
+    }
+}
+
 // The requests that read.
 fn answer(alloc: Global, r: &Request, old: Data) -> Result<Option<Effect>, AllocError>
     ensures { IfOk result (λ o. is_change r.now ≡ false → option_map effect_seen o ≡ effect r.now (contents_of old)) }
 {
-    match r {
-        Request::Get { key } => match held(alloc, &old, key.as_slice())? {
-            Some(value) => Ok(Some(Effect {
-                after: old,
-                answer: Reply::Value { value },
-            })),
-            None => Ok(None),
-        },
-        Request::MGet { keys } => {
-            let pairs = first_pairs(alloc, &old, keys.as_slice())?;
-            Ok(Some(Effect {
-                after: old,
-                answer: Reply::Pairs { pairs },
-            }))
+    match answer_of(alloc, r, &old)? {
+        Some(answer) => Ok(Some(Effect { after: old, answer })),
+        None => {
+            drop(old);
+            Ok(None)
         }
-        Request::Vsiz { key } => match length_answer(alloc, &old, key.as_slice())? {
-            Some(answer) => Ok(Some(Effect { after: old, answer })),
-            None => Ok(None),
-        },
-        Request::FwmKeys { prefix, maximum } => {
-            let items = keys_answer(alloc, &old, prefix, *maximum)?;
-            Ok(Some(Effect {
-                after: old,
-                answer: Reply::List { items },
-            }))
-        }
-        Request::Sync => Ok(Some(Effect {
-            after: old,
-            answer: Reply::Done,
-        })),
-        Request::Optimize { .. } => Ok(Some(Effect {
-            after: old,
-            answer: Reply::Done,
-        })),
-        Request::Rnum => {
-            let number = count(&old);
-            Ok(Some(Effect {
-                after: old,
-                answer: Reply::Eight { number },
-            }))
-        }
-        Request::Size => {
-            let number = size_of(alloc, &old)?;
-            Ok(Some(Effect {
-                after: old,
-                answer: Reply::Eight { number },
-            }))
-        }
-        Request::Stat => {
-            let size = size_of(alloc, &old)?;
-            let value = stat_lines(alloc, kind_of(&old), count(&old), size)?;
-            Ok(Some(Effect {
-                after: old,
-                answer: Reply::Value { value },
-            }))
-        }
-        _ => Ok(None),
     }
 }
 

@@ -217,6 +217,15 @@ pub fn found(alloc: Global, q: &Query, rows: &KeyMap<Pairs>) -> Result<FoundRows
     arrange(alloc, q, matching(alloc, q, rows)?)
 }
 
+// The same of a query that isn't needed any more.
+fn found_of(alloc: Global, q: Query, rows: &KeyMap<Pairs>) -> Result<FoundRows, AllocError>
+    ensures { IfOk result (λ fs. fs ≡ search.found q rows.now) }
+{
+    let rows_found = found(alloc, &q, rows);
+    drop(q);
+    rows_found
+}
+
 fn keys_found(alloc: Global, rows: &[FoundRow]) -> Result<Blobs, AllocError>
     ensures { IfOk result (λ items. items ≡ map (λ f. f.0) rows.now) }
 {
@@ -296,13 +305,16 @@ fn searched(alloc: Global, old: Data, conditions: &Blobs) -> Result<Option<Outco
     ensures { IfOk result (λ o. option_map outcome_seen o ≡ meaning (misc.Search conditions.now) (contents_of old)) }
 {
     let Some(q) = read_query(alloc, conditions)? else {
+        drop(old);
         return Ok(None);
     };
     let Data::Table { rows, indexes } = old else {
+        drop(q);
         return Ok(None);
     };
-    let rows_found = found(alloc, &q, &rows)?;
-    Ok(Some(done_with(alloc, q.deed, rows, indexes, rows_found.as_slice())?))
+    let deed = q.deed;
+    let rows_found = found_of(alloc, q, &rows)?;
+    Ok(Some(done_with(alloc, deed, rows, indexes, rows_found.as_slice())?))
 }
 
 // Stores the row of a call's columns.
@@ -316,6 +328,7 @@ fn put_columns(
     ensures { IfOk result (λ o. means.changes (option_map contents_of o) ≡ meaning (misc.PutRow mode key.now columns.now) (contents_of old)) }
 {
     let Some(row) = row_of_call(alloc, columns.as_slice())? else {
+        drop(old);
         return Ok(None);
     };
     store_row(alloc, mode, old, key.as_slice(), row)
@@ -362,7 +375,10 @@ fn change(alloc: Global, m: &Misc, old: Data) -> Result<Option<Outcome>, AllocEr
         Misc::Search { conditions } => searched(alloc, old, conditions),
         _ => match asked(alloc, m, &old)? {
             Some(items) => Ok(Some(Outcome { after: old, items })),
-            None => Ok(None),
+            None => {
+                drop(old);
+                Ok(None)
+            }
         },
     }
 }
@@ -373,6 +389,7 @@ pub(crate) fn done(alloc: Global, m: &Misc, old: Data) -> Result<Option<Outcome>
     ensures { IfOk result (λ o. option_map outcome_seen o ≡ done m.now (contents_of old)) }
 {
     if !has_short_keys(m) {
+        drop(old);
         return Ok(None);
     }
     change(alloc, m, old)

@@ -1,5 +1,5 @@
 //! What is stored in contents, kind by kind. Each gives the contents after, or none where it fails.
-ghost use Rattle.std.specs.Prelude.{◌≡◌, IfOk, option_map, unwrap_or};
+ghost use Rattle.std.specs.Prelude.{◌≡◌, IfOk, option_and_then, option_map, unwrap_or};
 ghost use Rattle.tc_model.specs.Contents.{emptied, is_narrow, is_table};
 ghost use Rattle.tc_model.specs.Maps.{with_value, without};
 ghost use Rattle.tc_model.specs.Stores.{put, store, store_row, put_row, with_row, shift, add, with_sum, out, clear, put_last};
@@ -151,6 +151,7 @@ fn store_text(
     ensures { Makes result (store_text mode (contents_of old) key.now text.now) }
 {
     let Some(row) = row_of_text(alloc, text)? else {
+        drop(old);
         return Ok(None);
     };
     store_row(alloc, mode, old, key, row)
@@ -200,6 +201,32 @@ fn is_table(old: &Data) -> bool
     }
 }
 
+// The value that put, putkeep and putcat put where values aren't rows; none where putkeep fails.
+fn value_put(
+    alloc: Global,
+    mode: Mode,
+    old: &Data,
+    key: &[u8],
+    value: &[u8],
+) -> Result<Option<Blob>, AllocError>
+    ensures { IfOk result (λ o. option_and_then (put (contents_of old.now) key.now) o ≡ store_value mode (contents_of old.now) key.now value.now) }
+{
+    match mode {
+        Mode::Over => Ok(Some(Blob::from_slice(alloc, value)?)),
+        Mode::Keep => {
+            if is_held(alloc, old, key)? {
+                return Ok(None);
+            }
+            Ok(Some(Blob::from_slice(alloc, value)?))
+        }
+        Mode::Cat => {
+            let mut joined = value_of(alloc, old, key)?;
+            joined.append(value)?;
+            Ok(Some(joined))
+        }
+    }
+}
+
 // What put, putkeep and putcat store where values aren't rows.
 fn store_value(
     alloc: Global,
@@ -210,20 +237,11 @@ fn store_value(
 ) -> Result<Option<Data>, AllocError>
     ensures { Makes result (store_value mode (contents_of old) key.now value.now) }
 {
-    match mode {
-        Mode::Over => put(alloc, old, key, Blob::from_slice(alloc, value)?),
-        Mode::Keep => {
-            if is_held(alloc, &old, key)? {
-                return Ok(None);
-            }
-            put(alloc, old, key, Blob::from_slice(alloc, value)?)
-        }
-        Mode::Cat => {
-            let mut joined = value_of(alloc, &old, key)?;
-            joined.append(value)?;
-            put(alloc, old, key, joined)
-        }
-    }
+    let Some(value) = value_put(alloc, mode, &old, key, value)? else {
+        drop(old);
+        return Ok(None);
+    };
+    put(alloc, old, key, value)
 }
 
 /// What put, putkeep and putcat store; on a table the value is a row text.
@@ -243,8 +261,26 @@ pub fn store(
     store_value(alloc, mode, old, key, value)
 }
 
-/// Stores the last bytes of the old value and the new one joined; on a table it fails.
+// The last bytes of the old value and the new one joined; none on a table.
 #[tactic(auto, using(crate::proofs::Storing::shifted, crate::proofs::Storing::unshifted))]
+fn value_shifted(
+    alloc: Global,
+    old: &Data,
+    key: &[u8],
+    value: &[u8],
+    width: u32,
+) -> Result<Option<Blob>, AllocError>
+    ensures { IfOk result (λ o. option_and_then (put (contents_of old.now) key.now) o ≡ shift (contents_of old.now) key.now value.now width) }
+{
+    if is_table(old) {
+        return Ok(None);
+    }
+    let mut joined = value_of(alloc, old, key)?;
+    joined.append(value)?;
+    Ok(Some(Blob::from_slice(alloc, last_of(joined.as_slice(), width as usize))?))
+}
+
+/// Stores the last bytes of the old value and the new one joined; on a table it fails.
 pub fn shift(
     alloc: Global,
     old: Data,
@@ -254,13 +290,11 @@ pub fn shift(
 ) -> Result<Option<Data>, AllocError>
     ensures { Makes result (shift (contents_of old) key.now value.now width) }
 {
-    if is_table(&old) {
+    let Some(value) = value_shifted(alloc, &old, key, value, width)? else {
+        drop(old);
         return Ok(None);
-    }
-    let mut joined = value_of(alloc, &old, key)?;
-    joined.append(value)?;
-    let kept = Blob::from_slice(alloc, last_of(joined.as_slice(), width as usize))?;
-    put(alloc, old, key, kept)
+    };
+    put(alloc, old, key, value)
 }
 
 /// The sum that addint gives, and the contents with it in four bytes.
@@ -273,6 +307,7 @@ fn with_sum(
     ensures { IfOk result (λ o. option_map (λ x. (x.0, contents_of x.1)) o ≡ with_sum (contents_of old) key.now number) }
 {
     let Some(number) = sum_of(&held(alloc, &old, key)?, number) else {
+        drop(old);
         return Ok(None);
     };
     let Some(after) = put(alloc, old, key, spelled(alloc, number)?)? else {
@@ -303,6 +338,7 @@ pub fn add(
     ensures { IfOk result (λ o. option_map (λ x. (x.0, contents_of x.1)) o ≡ add (contents_of old) key.now number) }
 {
     if is_narrow(&old) {
+        drop(old);
         return Ok(None);
     }
     with_sum(alloc, old, key, number)
@@ -385,7 +421,10 @@ fn clear_key(alloc: Global, old: Data, key: &[u8]) -> Result<Data, AllocError>
 {
     let kept = old.copied(alloc)?;
     match out(alloc, old, key)? {
-        Some(after) => Ok(after),
+        Some(after) => {
+            drop(kept);
+            Ok(after)
+        }
         None => Ok(kept),
     }
 }

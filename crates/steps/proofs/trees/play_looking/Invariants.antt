@@ -1,5 +1,5 @@
 use Rattle.std.proofs.Common.{◌≡◌, true}
-use Rattle.steps.proofs.trees.play_hash.Given as goal
+use Rattle.steps.proofs.trees.play_looking.Given as goal
 
 abbrev pub invariant-loop : goal.invariant-loop
 invariant-loop g l = l.space.sound ≡ true

@@ -1,0 +1,7 @@
+pub mod Arguments
+pub mod Blanks
+pub mod Drafting
+pub mod Including
+pub mod Placing
+pub mod Ranking
+pub mod Steps
