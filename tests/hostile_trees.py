@@ -5,6 +5,10 @@ from hash_files import spelled_number
 from tree_files import NODES, page_key
 
 
+# between `a` and `c`
+BOUND = b"b" * 2**24
+
+
 def step(kind, key=b"", value=b"", number=0):
     return kind + struct.pack(">III", number, len(key), len(value)) + key + value
 
@@ -44,12 +48,12 @@ def tower(count):
 
 
 def fork(count):
-    """A root above two towers: the pair at `a` stands in the first, the one at `b` in the second."""
+    """A root above two towers: the pair at `a` stands in the first, the one at `c` in the second. Both are bounded by a key of 16 MiB, so that to copy it for each node takes longer than a test may."""
     first, heir = chain(count, 1)
     second, other = chain(count, 2, count + 1)
     root = NODES + 2 * count + 1
-    rows = {**first, **second, page_key(root): node(heir, (b"b", other))}
-    rows[b"1"], rows[b"2"] = leaf(0, 2, (b"a", [b"x"])), leaf(1, 0, (b"b", [b"y"]))
+    rows = {**first, **second, page_key(root): node(heir, (BOUND, other))}
+    rows[b"1"], rows[b"2"] = leaf(0, 2, (b"a", [b"x"])), leaf(1, 0, (b"c", [b"y"]))
     return rows, region(root, 1, 2, 2, 2 * count + 1, 2)
 
 
