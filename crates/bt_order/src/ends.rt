@@ -2,7 +2,7 @@
 use tc_base::{Cut, Order, Side};
 
 /// The keys above one, of either order.
-#[derive(Clone, Copy, Debug)]
+#[derive(Clone, Copy)]
 pub struct Above<'a> {
     pub key: &'a [u8],
 }

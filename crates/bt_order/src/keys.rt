@@ -7,7 +7,7 @@ use crate::sides::begun;
 use tc_base::{Blob, Cut, Lexical, Order, Side};
 
 /// All keys, of either order.
-#[derive(Clone, Copy, Debug)]
+#[derive(Clone, Copy)]
 pub struct All;
 
 impl<O: Order> Cut<O> for All {
@@ -24,7 +24,7 @@ impl<O: Order> Cut<O> for All {
 }
 
 /// The keys from one on, and before another where one is named, of either order.
-#[derive(Debug, Drop)]
+#[derive(Drop)]
 pub struct KeyCut {
     pub from: Blob,
     pub to: Option<Blob>,
@@ -63,7 +63,7 @@ fn end_of(to: &Option<Blob>) -> Option<&[u8]>
 }
 
 /// The keys from one on, and before another where one is named, of either order: a `KeyCut` that borrows its ends.
-#[derive(Clone, Copy, Debug)]
+#[derive(Clone, Copy)]
 pub struct Stretch<'a> {
     pub first: &'a [u8],
     pub end: Option<&'a [u8]>,
@@ -94,7 +94,7 @@ impl<'a, O: Order> Cut<O> for Stretch<'a> {
 }
 
 /// The keys that begin with some bytes, of the lexical order.
-#[derive(Clone, Copy, Debug)]
+#[derive(Clone, Copy)]
 pub struct PrefixCut<'a> {
     pub prefix: &'a [u8],
 }

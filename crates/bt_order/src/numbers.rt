@@ -2,7 +2,7 @@
 use tc_base::{Cut, Decimal, Side, number_of, value_part};
 
 /// The keys whose number is from one to another, both included, of the decimal order; in units of 10^-9. None where `high` is below `low`.
-#[derive(Clone, Copy, Debug)]
+#[derive(Clone, Copy)]
 pub struct NumberCut {
     pub low: i128,
     pub high: i128,

@@ -3,7 +3,7 @@ use crate::sides::{begun, beside};
 use tc_base::{Blob, Cut, Lexical, Side, value_part};
 
 /// The keys whose value part is a value, of the lexical order. None where the value has a zero byte.
-#[derive(Debug, Drop)]
+#[derive(Drop)]
 pub struct ValueCut {
     pub value: Blob,
 }
@@ -29,7 +29,7 @@ impl Cut<Lexical> for ValueCut {
 }
 
 /// The keys whose value part begins with some bytes, of the lexical order. None where these have a zero byte.
-#[derive(Debug, Drop)]
+#[derive(Drop)]
 pub struct BeginCut {
     pub prefix: Blob,
 }

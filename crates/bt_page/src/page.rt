@@ -2,14 +2,14 @@
 use tc_base::{Blob, Blobs, Seq};
 
 /// A key and its values in order of arrival, one at least.
-#[derive(Debug, Drop)]
+#[derive(Drop)]
 pub struct Item {
     pub key: Blob,
     pub values: Blobs,
 }
 
 /// A page of keys and values.
-#[derive(Debug, Drop)]
+#[derive(Drop)]
 pub struct Leaf {
     /// The id of the leaf before it, 0 for none.
     pub prev: u64,
@@ -19,7 +19,7 @@ pub struct Leaf {
 }
 
 /// A page below a node, and the least key that may stand under it.
-#[derive(Debug, Drop)]
+#[derive(Drop)]
 pub struct NodeEntry {
     /// The id of that page.
     pub child: u64,
@@ -27,7 +27,7 @@ pub struct NodeEntry {
 }
 
 /// A page above others.
-#[derive(Debug, Drop)]
+#[derive(Drop)]
 pub struct Node {
     /// The id of the page under which the keys below the first entry's stand.
     pub heir: u64,

@@ -28,7 +28,7 @@ pub enum Block {
 }
 
 /// Where a block stands in a file.
-#[derive(Clone, Copy, Debug, PartialEq, Eq)]
+#[derive(Clone, Copy, PartialEq, Eq)]
 pub struct BlockAt {
     /// The place of its first byte.
     pub place: u64,

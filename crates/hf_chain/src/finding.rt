@@ -23,7 +23,7 @@ use tc_reach::read_into;
 use tc_space::Space;
 
 /// Where a search found the record of its key.
-#[derive(Clone, Copy, Debug, Drop, PartialEq, Eq)]
+#[derive(Clone, Copy, Drop, PartialEq, Eq)]
 pub struct Place {
     /// Where the record begins.
     pub at: u64,
@@ -34,7 +34,7 @@ pub struct Place {
 }
 
 /// How a search ended.
-#[derive(Clone, Copy, Debug, Drop, PartialEq, Eq)]
+#[derive(Clone, Copy, Drop, PartialEq, Eq)]
 pub enum Search {
     /// At the record of the key.
     Here(Place),

@@ -19,7 +19,7 @@ use tc_reach::{ReadErr, Window};
 use tc_space::Space;
 
 /// What the head of a record says.
-#[derive(Clone, Copy, Debug, Drop, PartialEq, Eq)]
+#[derive(Clone, Copy, Drop, PartialEq, Eq)]
 pub struct RecHead {
     /// The second hash of its key.
     pub hash: u8,

@@ -6,7 +6,7 @@ use crate::layout::{MAGIC, has_magic, put_number, put_width};
 use tc_base::{FILE_LIMIT_LEAST, FILE_MOST, WIDTH_MOST, get_le};
 
 /// The head of a fixed-length file (type 2).
-#[derive(Clone, Copy, Debug, PartialEq, Eq)]
+#[derive(Clone, Copy, PartialEq, Eq)]
 pub struct FixedHead {
     /// The number of records.
     pub records: u64,

@@ -6,7 +6,7 @@ use crate::layout::{MAGIC, has_magic, put_number};
 use tc_base::{BUCKETS_MOST, FILE_MOST, get_le};
 
 /// The head of a hash file (type 0), a tree file (type 1) or a table file (type 3).
-#[derive(Clone, Copy, Debug, PartialEq, Eq)]
+#[derive(Clone, Copy, PartialEq, Eq)]
 pub struct Head {
     /// The type: 0, 1 or 3.
     pub kind: u8,

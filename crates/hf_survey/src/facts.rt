@@ -16,7 +16,7 @@ use tc_reach::{ReadErr, Window};
 use tc_space::Space;
 
 /// What the rules ask of a record.
-#[derive(Clone, Copy, Debug, Drop, PartialEq, Eq)]
+#[derive(Clone, Copy, Drop, PartialEq, Eq)]
 pub struct Fact {
     /// Its place.
     pub place: u64,
@@ -52,7 +52,7 @@ fn front_in(key: &[u8]) -> [u8; 16]
 }
 
 /// What is told of a key.
-#[derive(Clone, Copy, Debug, Drop, PartialEq, Eq)]
+#[derive(Clone, Copy, Drop, PartialEq, Eq)]
 pub struct Marks {
     /// Its bucket.
     pub bucket: u64,

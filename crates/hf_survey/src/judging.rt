@@ -16,7 +16,7 @@ use tc_base::Fault;
 use tc_space::Space;
 
 /// What is found of records that were reached.
-#[derive(Clone, Copy, Debug, PartialEq, Eq)]
+#[derive(Clone, Copy, PartialEq, Eq)]
 pub enum Verdict {
     /// Each is in its key's bucket, has its key's second hash, and is above the one that it hangs left of and below the one that it
     /// hangs right of.

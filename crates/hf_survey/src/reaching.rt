@@ -20,7 +20,7 @@ use tc_reach::{ReadErr, Window};
 use tc_space::Space;
 
 /// A record that was reached. Records go by number, from 1; 0 is none.
-#[derive(Clone, Copy, Debug, Drop, PartialEq, Eq)]
+#[derive(Clone, Copy, Drop, PartialEq, Eq)]
 pub struct Item {
     pub number: u64,
     /// The bucket that it was reached from.

@@ -1,5 +1,5 @@
 /// What names a record: the entry of a bucket, or a chain of the record at a place.
-#[derive(Clone, Copy, Debug, Drop, PartialEq, Eq)]
+#[derive(Clone, Copy, Drop, PartialEq, Eq)]
 pub enum Parent {
     /// The entry of that bucket.
     Bucket(u64),
@@ -10,7 +10,7 @@ pub enum Parent {
 }
 
 /// Where the search for a key ends.
-#[derive(Clone, Copy, Debug, Drop, PartialEq, Eq)]
+#[derive(Clone, Copy, Drop, PartialEq, Eq)]
 pub enum Found {
     /// The record of the key, and what names it.
     Here { at: u64, from: Parent },

@@ -17,12 +17,12 @@ use std::marker::Model;
 
 /// A byte string under which a value stands. Its order is that of bytes. A key of up to 46 bytes lies in the map itself, and of a longer
 /// one the numbers of its first 16, so that a search of the map seldom looks at other memory.
-#[derive(Debug, Drop)]
+#[derive(Drop)]
 pub struct Key {
     body: Body,
 }
 
-#[derive(Debug, Drop)]
+#[derive(Drop)]
 enum Body {
     Short(Short),
     Long(Long),

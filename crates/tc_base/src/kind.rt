@@ -1,5 +1,5 @@
 /// What a put does on a key that is held.
-#[derive(Clone, Copy, Debug, PartialEq, Eq)]
+#[derive(Clone, Copy, PartialEq, Eq)]
 pub enum Mode {
     /// The new value takes the old one's place.
     Over,
@@ -10,7 +10,7 @@ pub enum Mode {
 }
 
 /// How a file is packed.
-#[derive(Clone, Copy, Debug, PartialEq, Eq)]
+#[derive(Clone, Copy, PartialEq, Eq)]
 pub enum Form {
     /// In the form that it has.
     Keep,
@@ -19,7 +19,7 @@ pub enum Form {
 }
 
 /// The kinds of database: four in files, two in memory.
-#[derive(Clone, Copy, Debug, PartialEq, Eq)]
+#[derive(Clone, Copy, PartialEq, Eq)]
 pub enum Kind {
     Hash,
     Tree,

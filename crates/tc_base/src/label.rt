@@ -6,7 +6,7 @@ ghost use Rattle.tc_base.specs.Labels.{is_label, is_label_byte};
 use crate::limits::LABEL_MOST;
 
 /// The label of a copy: 1 to 64 lower-case letters, digits or `_`. It takes no memory.
-#[derive(Clone, Copy, Debug)]
+#[derive(Clone, Copy)]
 pub struct Label {
     bytes: [u8; LABEL_MOST],
     len: usize,

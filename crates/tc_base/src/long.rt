@@ -8,7 +8,7 @@ use crate::fronts::number_at;
 use std::marker::Model;
 
 // A key beside the numbers of its first 16 bytes.
-#[derive(Debug, Drop)]
+#[derive(Drop)]
 pub struct Long {
     first: u64,
     second: u64,

@@ -29,7 +29,7 @@ pub trait Order {
 }
 
 /// Where a key stands beside a stretch.
-#[derive(Clone, Copy, Debug, PartialEq, Eq)]
+#[derive(Clone, Copy, PartialEq, Eq)]
 pub enum Side {
     Before,
     Inside,

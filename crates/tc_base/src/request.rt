@@ -4,7 +4,7 @@ use crate::key::Key;
 use crate::seq::{Blobs, Keys, Pairs};
 
 /// What a client asks for, in the order of the protocol's table.
-#[derive(Debug, Drop)]
+#[derive(Drop)]
 pub enum Request {
     /// Sets the value of a key.
     Put {
@@ -120,7 +120,7 @@ pub enum Request {
 }
 
 /// What a client is answered.
-#[derive(Debug, Drop)]
+#[derive(Drop)]
 pub enum Reply {
     /// The request failed and changed nothing.
     Fail,

@@ -7,7 +7,7 @@ use std::alloc::{AllocError, Global};
 use std::marker::Model;
 
 /// A list that grows at its end.
-#[derive(Debug, Drop)]
+#[derive(Drop)]
 pub struct Seq<T> {
     items: Vec<T>,
 }
@@ -81,7 +81,7 @@ pub type Blobs = Seq<Blob>;
 pub type Keys = Seq<Key>;
 
 /// A key and its value.
-#[derive(Debug, Drop)]
+#[derive(Drop)]
 pub struct Pair {
     pub key: Blob,
     pub value: Blob,

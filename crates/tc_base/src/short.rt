@@ -11,7 +11,7 @@ use std::marker::Model;
 pub const SHORT_MOST: usize = 46;
 
 // A key of few bytes, with zeros behind it.
-#[derive(Debug, Drop)]
+#[derive(Drop)]
 pub struct Short {
     len: u8,
     bytes: [u8; 46],

@@ -4,7 +4,7 @@ ghost use Rattle.std.specs.Prelude.{◌≡◌, ◌+◌, ◌-◌, ◌^◌, ℕ, m
 use std::marker::{Model, PhantomData};
 
 /// How many steps were taken; a contract sees the number. It stays at the greatest u64. `L` says whose steps they are.
-#[derive(Debug, Drop)]
+#[derive(Drop)]
 pub struct Steps<L> {
     count: u64,
     of: PhantomData<L>,

@@ -5,7 +5,7 @@ use std::alloc::{AllocError, Global};
 use tc_base::Blob;
 
 /// What a call made of a file.
-#[derive(Debug, Drop)]
+#[derive(Drop)]
 pub enum Change {
     Loaded(Blob),
     Written(u64, Blob),
@@ -14,7 +14,7 @@ pub enum Change {
 }
 
 /// A change of one of the 19 files.
-#[derive(Debug, Drop)]
+#[derive(Drop)]
 pub struct Call {
     pub file: u32,
     pub change: Change,

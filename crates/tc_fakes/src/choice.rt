@@ -1,7 +1,7 @@
 //! A choice of what a stop leaves.
 
 /// What a stop leaves of calls that no sync followed.
-#[derive(Clone, Copy, Debug)]
+#[derive(Clone, Copy)]
 pub struct Choice {
     /// How many bytes of a write are kept, at most: so many of those over old ones, and so many of those behind.
     pub keep: u64,

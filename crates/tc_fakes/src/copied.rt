@@ -11,7 +11,7 @@ use std::alloc::{AllocError, Global};
 use tc_base::Blob;
 
 /// A change of a file of the copy under a label.
-#[derive(Debug, Drop)]
+#[derive(Drop)]
 pub struct CopyCall {
     pub label: Blob,
     pub call: Call,

@@ -8,7 +8,7 @@ ghost use Rattle.tc_fakes.specs.declared.peers.Peer.{Peer};
 use std::alloc::{AllocError, Global};
 
 /// A connection and the bytes that its sends took.
-#[derive(Debug, Drop)]
+#[derive(Drop)]
 pub struct Peer {
     pub conn: u32,
     pub taken: Vec<u8>,

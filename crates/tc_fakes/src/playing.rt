@@ -7,7 +7,7 @@ ghost use Rattle.tc_fakes.specs.Play.{Gives, IsDialledFrom, IsNextFrom, May, lin
 use tc_io::{Act, Dialled, Ev};
 
 /// What one act gives.
-#[derive(Clone, Copy, Debug, PartialEq, Eq)]
+#[derive(Clone, Copy, PartialEq, Eq)]
 pub enum Play {
     Skip,
     Keep,

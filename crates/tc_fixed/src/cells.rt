@@ -10,7 +10,7 @@ use std::alloc::AllocError;
 use tc_base::{get_le, set_le};
 
 /// What the front of a cell tells.
-#[derive(Clone, Copy, Debug, PartialEq, Eq)]
+#[derive(Clone, Copy, PartialEq, Eq)]
 pub enum Look {
     /// It has no value.
     Absent,

@@ -7,7 +7,7 @@ ghost use Rattle.tc_model.specs.Arrays as Arrays;
 ghost use Rattle.tc_fixed.specs.Tallies.{Counts, IsSmall, SizeWith, CountsWith, CountsWithout};
 
 /// What is counted of the ids and values held.
-#[derive(Clone, Copy, Debug, PartialEq, Eq)]
+#[derive(Clone, Copy, PartialEq, Eq)]
 pub struct Tally {
     /// How many ids are held.
     pub records: u64,

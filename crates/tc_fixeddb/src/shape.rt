@@ -1,7 +1,7 @@
 //! The numbers of a fixed-length file.
 
 /// The numbers of a fixed-length file that is made anew.
-#[derive(Clone, Copy, Debug, PartialEq, Eq)]
+#[derive(Clone, Copy, PartialEq, Eq)]
 pub struct FixedShape {
     /// The most bytes of a value, from 1 to 1,048,576.
     pub width: u32,

@@ -1,7 +1,7 @@
 use tc_base::Blob;
 
 /// One event of a script that `MemWire` plays.
-#[derive(Debug, Drop)]
+#[derive(Drop)]
 pub enum Act {
     /// A connection of this number opens.
     Opened(u32),

@@ -6,7 +6,7 @@ ghost use Rattle.tc_maps.specs.Entries.{all_of};
 use crate::values::Values;
 
 /// The number of pairs, and the bytes of all their keys and values.
-#[derive(Clone, Copy, Debug)]
+#[derive(Clone, Copy)]
 pub struct Totals {
     pub pairs: u64,
     pub bytes: u64,

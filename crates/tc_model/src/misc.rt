@@ -1,7 +1,7 @@
 use tc_base::{Blob, Blobs, Mode, Pairs};
 
 /// A misc request, by its name, the kind of the database and the number of its arguments. Texts of numbers are kept as they came.
-#[derive(Debug, Drop)]
+#[derive(Drop)]
 pub enum Misc {
     /// Stores a value.
     Put {

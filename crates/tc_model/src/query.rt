@@ -1,14 +1,14 @@
 use tc_base::{Blob, Seq};
 
 /// By what the pairs of an index are ordered.
-#[derive(Clone, Copy, Debug, PartialEq, Eq)]
+#[derive(Clone, Copy, PartialEq, Eq)]
 pub enum IndexKind {
     Lexical,
     Decimal,
 }
 
 /// A condition on a column; an empty column is the primary key.
-#[derive(Debug, Drop)]
+#[derive(Drop)]
 pub struct Cond {
     pub column: Blob,
     /// Its number in the table of operators.
@@ -20,14 +20,14 @@ pub struct Cond {
 }
 
 /// The order of what is found: by a column, in the way 0 to 3.
-#[derive(Debug, Drop)]
+#[derive(Drop)]
 pub struct Sort {
     pub column: Blob,
     pub way: u8,
 }
 
 /// What is done with what is found.
-#[derive(Clone, Copy, Debug, PartialEq, Eq)]
+#[derive(Clone, Copy, PartialEq, Eq)]
 pub enum Deed {
     /// Its primary keys are answered.
     Keys,
@@ -40,7 +40,7 @@ pub enum Deed {
 }
 
 /// A search of a table. Without a maximum there is no limit.
-#[derive(Debug, Drop)]
+#[derive(Drop)]
 pub struct Query {
     pub conds: Seq<Cond>,
     pub sort: Option<Sort>,

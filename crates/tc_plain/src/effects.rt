@@ -164,7 +164,7 @@ fn answer_of(alloc: Global, r: &Request, old: &Data) -> Result<Option<Reply>, Al
             let pairs = first_pairs(alloc, old, keys.as_slice())?;
             Ok(Some(Reply::Pairs { pairs }))
         }
-        Request::Vsiz { key } => length_answer(alloc, old, key.as_slice()),
+        Request::Vsiz { key } => Ok(length_answer(alloc, old, key.as_slice())?),
         Request::FwmKeys { prefix, maximum } => {
             let items = keys_answer(alloc, old, prefix, *maximum)?;
             Ok(Some(Reply::List { items }))

@@ -237,11 +237,11 @@ fn store_value(
 ) -> Result<Option<Data>, AllocError>
     ensures { Makes result (store_value mode (contents_of old) key.now value.now) }
 {
-    let Some(value) = value_put(alloc, mode, &old, key, value)? else {
+    let Some(stored) = value_put(alloc, mode, &old, key, value)? else {
         drop(old);
         return Ok(None);
     };
-    put(alloc, old, key, value)
+    put(alloc, old, key, stored)
 }
 
 /// What put, putkeep and putcat store; on a table the value is a row text.
@@ -290,11 +290,11 @@ pub fn shift(
 ) -> Result<Option<Data>, AllocError>
     ensures { Makes result (shift (contents_of old) key.now value.now width) }
 {
-    let Some(value) = value_shifted(alloc, &old, key, value, width)? else {
+    let Some(stored) = value_shifted(alloc, &old, key, value, width)? else {
         drop(old);
         return Ok(None);
     };
-    put(alloc, old, key, value)
+    put(alloc, old, key, stored)
 }
 
 /// The sum that addint gives, and the contents with it in four bytes.

@@ -7,7 +7,7 @@ use crate::space::Space;
 use tc_base::Fault;
 
 /// A space whose files are empty and stay so: the limit of each file is 0, and a write of bytes is refused as full.
-#[derive(Debug, Drop)]
+#[derive(Drop)]
 pub struct NoSpace {
     sound: bool,
     touched: bool,

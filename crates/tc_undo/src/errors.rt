@@ -31,7 +31,7 @@ pub enum UndoErr {
 }
 
 /// The volume that wasn't opened, as it stands, and why.
-#[derive(Debug, Drop)]
+#[derive(Drop)]
 pub struct Unopened<V> {
     pub vol: V,
     pub why: UndoErr,

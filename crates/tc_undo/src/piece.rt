@@ -1,7 +1,7 @@
 //! One of several writes that are made as one.
 
 /// Bytes for a data file: the file, the place, and where they lie in the bytes of all of them.
-#[derive(Clone, Copy, Debug)]
+#[derive(Clone, Copy)]
 pub struct Piece {
     pub file: u32,
     pub at: u64,

@@ -12,7 +12,7 @@ use tc_io::Volume;
 use ud_log::{is_formed, read_again, read_head};
 
 /// The numbers of an entry, and where it begins.
-#[derive(Clone, Copy, Debug)]
+#[derive(Clone, Copy)]
 pub struct Back {
     file: u32,
     at: u64,

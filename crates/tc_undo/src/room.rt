@@ -8,7 +8,7 @@ use ud_log::place;
 
 /// What is known of the log between calls: whether a transaction is open, the log's length, the lengths that it records, and
 /// which data files changed in it.
-#[derive(Clone, Copy, Debug)]
+#[derive(Clone, Copy)]
 pub struct Log {
     pub active: bool,
     pub end: u64,

@@ -17,7 +17,7 @@ use tc_io::Volume;
 use ud_log::{are_short, begins_well, file_at, is_formed, place, read_again, read_head, read_lens};
 
 /// An entry that the scan met: where the next one begins, and whether each so far ends inside its file.
-#[derive(Clone, Copy, Debug)]
+#[derive(Clone, Copy)]
 pub struct Seen {
     next: u64,
     fine: bool,
@@ -25,7 +25,7 @@ pub struct Seen {
 
 /// What recovery finds in the log: whether it undoes something, the lengths that the data files get or have, and where the
 /// last whole entry ends.
-#[derive(Clone, Copy, Debug)]
+#[derive(Clone, Copy)]
 pub struct Found {
     pub undoes: bool,
     pub lens: [u64; 18],

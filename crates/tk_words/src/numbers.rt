@@ -5,7 +5,7 @@ ghost use Rattle.tc_base.specs.Decimal.{is_digit, decimal};
 ghost use Rattle.tk_words.specs.Numbers.{are_digits, number};
 
 /// The numbers from `least` to `most`.
-#[derive(Clone, Copy, Debug, PartialEq, Eq)]
+#[derive(Clone, Copy, PartialEq, Eq)]
 pub(crate) struct Range {
     pub least: u64,
     pub most: u64,

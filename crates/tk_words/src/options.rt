@@ -10,7 +10,7 @@ use std::alloc::{AllocError, Global};
 use tc_base::{Blob, Pair};
 
 /// What stands behind an option.
-#[derive(Clone, Copy, Debug, PartialEq, Eq)]
+#[derive(Clone, Copy, PartialEq, Eq)]
 pub(crate) enum Takes {
     Nothing,
     Text,

@@ -8,7 +8,7 @@ use std::marker::Model;
 use tc_base::{Blob, Blobs, Kind, Pair};
 
 /// The name of a database, which a contract sees as its bytes.
-#[derive(Debug, Drop)]
+#[derive(Drop)]
 pub struct DbName {
     text: String,
 }
@@ -44,7 +44,7 @@ impl DbName {
 }
 
 /// What a put does on a key that is held.
-#[derive(Clone, Copy, Debug, PartialEq, Eq)]
+#[derive(Clone, Copy, PartialEq, Eq)]
 pub enum PutWord {
     /// The new value takes the old one's place.
     Over,
@@ -57,7 +57,7 @@ pub enum PutWord {
 }
 
 /// What the words ask for.
-#[derive(Debug, Drop)]
+#[derive(Drop)]
 pub enum CommandLine {
     /// Serves standard input and output.
     Pipe {

@@ -8,7 +8,7 @@ use std::alloc::AllocError;
 use tc_base::Blob;
 
 /// By which replies a change is answered.
-#[derive(Clone, Copy, Debug, PartialEq, Eq)]
+#[derive(Clone, Copy, PartialEq, Eq)]
 pub enum Voice {
     /// One byte.
     Plain,

@@ -17,14 +17,14 @@ use ty_base::Base;
 use ty_wire::write_reply;
 
 /// Whom a `repl` asks to be fed: the update records above a timestamp, for a server of this number.
-#[derive(Clone, Copy, Debug, PartialEq, Eq)]
+#[derive(Clone, Copy, PartialEq, Eq)]
 pub struct Feed {
     pub above: u64,
     pub server: u32,
 }
 
 /// What is left to do behind a request that was served.
-#[derive(Debug, Drop)]
+#[derive(Drop)]
 pub struct Served {
     /// Whether there is anything to commit: it updated the contents, or packs the files.
     pub commits: bool,
@@ -102,7 +102,9 @@ pub fn answer<B: Base>(
     ensures cause { OnFault B.S.Space result space.old space.new }
 {
     if if_updating(&request, replica) {
-        write_reply(&refusal(&request), reply)?;
+        let refused = refusal(&request);
+        drop(request);
+        write_reply(&refused, reply)?;
         return Ok(Applied {
             ok: false,
             updated: false,

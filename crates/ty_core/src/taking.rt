@@ -14,7 +14,7 @@ use ty_wire::{is_updating, read_request};
 pub const ROOM_KEPT: usize = 65_536;
 
 /// A request, and its bytes where they were asked for and it may update.
-#[derive(Debug, Drop)]
+#[derive(Drop)]
 pub struct Taken {
     pub request: Request,
     pub copied: Option<Blob>,

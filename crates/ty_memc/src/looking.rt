@@ -11,7 +11,7 @@ use tc_base::NotWhole;
 use ty_wire::Front;
 
 /// Where a value begins that a storing line announced, and how many bytes it has.
-#[derive(Clone, Copy, Debug, PartialEq, Eq)]
+#[derive(Clone, Copy, PartialEq, Eq)]
 pub struct Value {
     pub at: usize,
     pub size: usize,

@@ -2,7 +2,7 @@
 use tc_base::{Blob, Key, Keys, Request};
 
 /// How a storing command treats a key that is held or isn't.
-#[derive(Clone, Copy, Debug, PartialEq, Eq)]
+#[derive(Clone, Copy, PartialEq, Eq)]
 pub enum Word {
     /// Stores in any case.
     Set,
@@ -15,7 +15,7 @@ pub enum Word {
 }
 
 /// What a text command asks for. A key has 1 to 250 bytes, a value at most 16,777,216. Where it is quiet no reply is wanted.
-#[derive(Debug, Drop)]
+#[derive(Drop)]
 pub enum Text {
     /// Stores a value, as the word says.
     Store {
@@ -51,7 +51,7 @@ pub enum Text {
 }
 
 /// What is done of a text command, with the value of its key in hand.
-#[derive(Debug, Drop)]
+#[derive(Drop)]
 pub enum Then {
     /// This is replied, and nothing is asked of the database.
     Say { reply: Blob },
@@ -60,7 +60,7 @@ pub enum Then {
 }
 
 /// What stands at the front of a connection's bytes: a request, or a text command.
-#[derive(Debug, Drop)]
+#[derive(Drop)]
 pub enum Piece {
     /// Its bytes begin with `C8`.
     Request { request: Request },

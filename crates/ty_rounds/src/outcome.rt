@@ -7,7 +7,7 @@ use tc_space::RecErr;
 use thiserror::Error;
 
 /// How a turn went.
-#[derive(Clone, Copy, Debug, PartialEq, Eq)]
+#[derive(Clone, Copy, PartialEq, Eq)]
 pub enum Outcome {
     /// There may be another.
     Went,

@@ -12,7 +12,7 @@ use ty_ulog::{RecTake, Record, RecordRef, is_update, look_record, take_record};
 const KEPT_ROOM: usize = 65_536;
 
 /// What one step over a link's bytes came to.
-#[derive(Debug, Drop)]
+#[derive(Drop)]
 pub enum Step {
     /// No whole id, or no whole record behind it, is held.
     Part,

@@ -12,7 +12,7 @@ use tc_base::Fault;
 use tc_space::Space;
 
 /// Gives the records above a timestamp, each byte once, as they come to stand in the log.
-#[derive(Clone, Copy, Debug)]
+#[derive(Clone, Copy)]
 pub struct Feed {
     above: u64,
     // where its next byte stands; none before the log has a record above the timestamp

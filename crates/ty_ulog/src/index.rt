@@ -14,14 +14,14 @@ use tc_base::Seq;
 pub const MARK_STEP: u64 = 524_288;
 
 /// A place at which a record begins, and the last timestamp in front of it.
-#[derive(Clone, Copy, Debug)]
+#[derive(Clone, Copy)]
 pub struct Mark {
     pub place: u64,
     pub last: u64,
 }
 
 /// Marks in the order of their places: at most 16 bytes for each half MiB of the log.
-#[derive(Debug, Drop)]
+#[derive(Drop)]
 pub struct Index {
     marks: Seq<Mark>,
 }

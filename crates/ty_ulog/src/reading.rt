@@ -12,7 +12,7 @@ use tc_base::{NotWhole, REQUEST_MOST, read_bytes, read_size};
 use ty_wire::{Read, long_of, word_of};
 
 /// What stands at the front of bytes.
-#[derive(Clone, Copy, Debug, PartialEq, Eq)]
+#[derive(Clone, Copy, PartialEq, Eq)]
 pub enum RecTake {
     /// A whole record of that many bytes.
     Whole(usize),

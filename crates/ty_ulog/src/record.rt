@@ -9,7 +9,7 @@ use tc_base::Blob;
 pub const ULOG_FILE: u32 = 2;
 
 /// What one updating request that succeeded leaves for others to repeat.
-#[derive(Debug, Drop)]
+#[derive(Drop)]
 pub struct Record {
     /// Its timestamp, in microseconds where the clock tells the time; the log's timestamps ascend.
     pub stamp: u64,
@@ -24,7 +24,7 @@ pub struct Record {
 }
 
 /// A record whose request lies where it was read.
-#[derive(Clone, Copy, Debug)]
+#[derive(Clone, Copy)]
 pub struct RecordRef<'a> {
     pub stamp: u64,
     pub before: u64,

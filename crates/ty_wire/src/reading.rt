@@ -20,7 +20,7 @@ use std::alloc::{AllocError, Global};
 use tc_base::{KEY_MOST, NotWhole, REQUEST_MOST, Request, VALUE_MOST, read_bytes, read_size};
 
 /// What stands at the front of bytes.
-#[derive(Clone, Copy, Debug, PartialEq, Eq)]
+#[derive(Clone, Copy, PartialEq, Eq)]
 pub enum Front {
     /// A whole request of that many bytes.
     Whole(usize),

@@ -6,7 +6,7 @@ ghost use Rattle.ud_log.specs.Log.{number, lengths};
 use crate::spell::{DATA_FILES, HEADER};
 
 /// The numbers at the front of an entry.
-#[derive(Clone, Copy, Debug, PartialEq, Eq)]
+#[derive(Clone, Copy, PartialEq, Eq)]
 pub struct EntryFront {
     pub file: u32,
     pub at: u64,

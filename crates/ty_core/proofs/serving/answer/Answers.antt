@@ -14,7 +14,7 @@ pub returns-then-if_updating-clause-applied : goal.returns-then-if_updating-clau
 returns-then-if_updating-clause-applied g c = λ d h. record {
   contents = d;
   holds = h;
-  applies = refused_applies c.args.replica c.args.request d _ _ _ (sym c.if_updating.ensures ∙ c.if-if_updating.true) (c.in_ok-write_reply.ensures.ok ∙ ap (λ (a : Reply). c.args.reply.now ++ reply_bytes a) c.refusal.ensures);
+  applies = refused_applies c.args.replica c.args.request d _ _ _ (sym c.if_updating.ensures ∙ c.if-if_updating.true) (c.in_ok-write_reply.ensures.ok ∙ ap (λ (a : Reply). c.args.reply.now ++ reply_bytes a) c.refusal-refused.ensures);
 }
 
 pub returns-then-if_updating-clause-leaves : goal.returns-then-if_updating-clause-leaves
