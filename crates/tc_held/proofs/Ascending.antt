@@ -111,6 +111,15 @@ ascend_insert (p ∷ front) rest x asc before behind = (
   ascend_insert front rest x asc.1 (All-tail (λ (q : Piece). InFront q x) p front before) behind,
 )
 
+-- the others, without it
+pub all_without : (P : Piece → Type 0) (front rest : List Piece) (y : Piece) → All P (front ++ y ∷ rest) → All P (front ++ rest)
+all_without P [] rest y all = All-tail P y rest all
+all_without P (a ∷ front) rest y all = All-cons P a (front ++ rest) (All-head P a (front ++ y ∷ rest) all) (all_without P front rest y (All-tail P a (front ++ y ∷ rest) all))
+
+pub ascend_without : (front rest : List Piece) (x : Piece) → Ascend (front ++ x ∷ rest) → Ascend (front ++ rest)
+ascend_without [] rest x asc = asc.1
+ascend_without (p ∷ front) rest x asc = (all_without (InFront p) front rest x asc.0, ascend_without front rest x asc.1)
+
 pub all_front : (P : Piece → Type 0) (front rest : List Piece) → All P (front ++ rest) → All P front
 all_front P [] rest all = All-nil P
 all_front P (a ∷ front) rest all = All-cons P a front (All-head P a (front ++ rest) all) (all_front P front rest (All-tail P a (front ++ rest) all))
@@ -137,7 +146,7 @@ module _ (f at : ℕ) (ps : List Piece) (i : ℕ) (p : Piece) (parts : Parts f a
   pub covers_next : p.file ≡ f → p.at ≤ at → Covers f at p
   covers_next same begins = record { file = same; begins = begins; ends = next_behind.places same }
 
-  pub begins_next : (p.file ≡ f → at < p.at) → BeginsBehind f at p
+  pub begins_next : (p.file ≡ f → at < p.at) → BeginsBehind f (at + 1) p
   begins_next far = record { files = next_behind.files; places = λ same. omega (arith, far same) }
 
 pub next_is : (P : Piece → Type 0) (ps : List Piece) (i : ℕ) (p : Piece) → IsAt ps i p → P p → NextIs P ps i

@@ -8,7 +8,7 @@ use Rattle.tc_space.specs.Effects.{FollowsIn, Stays}
 use Rattle.tc_space.specs.Frames.{Follows, Keeps}
 use Rattle.tc_space.specs.Moments.{LeavesOnly, Past, Steady}
 use Rattle.tc_space.specs.declared.space.Space.{Ghosts}
-use Rattle.tc_held.specs.Held.{shown}
+use Rattle.tc_held.specs.Held.{over}
 use Rattle.tc_held.specs.History.{IsNoLater, LeftFrom, Rises, files_in, moment_in, stood_at, stood_from}
 use Rattle.tc_held.specs.Laws.{now_low, stood_now}
 use Rattle.tc_held.specs.declared.held.Held.{Held}
@@ -117,8 +117,8 @@ module _ {S T : Type 0} (s : Ghosts S) (past : T → List (S × Held)) (below : 
     past_told was = record {
       later = let later = was.later in omega (arith, later, one_more);
       same = λ t le.
-          ap (λ (q : S × Held). shown q.1 (s.files_at (below b) (s.moment q.0))) (as_stood was.later t le)
-          ∙ ap (λ (fs : Files). shown (stood_of a t).1 fs) (was.same (s.moment (stood_of a t).0) (low_at s (past a) (below a) (held a) all t));
+          ap (λ (q : S × Held). over q.1 (s.files_at (below b) (s.moment q.0))) (as_stood was.later t le)
+          ∙ ap (λ (fs : Files). over (stood_of a t).1 fs) (was.same (s.moment (stood_of a t).0) (low_at s (past a) (below a) (held a) all t));
     }
 
   -- the space below went on to a later moment, so this one does

@@ -1,24 +1,28 @@
 -- What is held over a space becomes more, or goes there.
-use Rattle.std.proofs.Common.{◌≡◌, ⊎_elim, ℕ, ◌+◌, ◌-◌, ◌^◌, ◌≤◌, min, List, [], ◌∷◌, ◌++◌, length, take, drop, refl, sym, ◌∙◌, ap, subst, arith, All, length-append}
+use Rattle.std.proofs.Common.{◌≡◌, ◌≢◌, inl, inr, ⊎_elim, ℕ, zero, suc, ◌+◌, ◌^◌, ◌≤◌, max, List, [], ◌∷◌, ◌++◌, length, take, drop, set, true, refl, sym, ◌∙◌, ap, subst, arith, All}
 use Rattle.std.proofs.lemmas.Bool.{cases_eq}
-use Rattle.std.proofs.lemmas.List.{length-take, places, same_lists, take_all, take-append-drop}
-use Rattle.std.proofs.lemmas.List.Elements.{All-nil, All-weaker}
+use Rattle.std.proofs.lemmas.List.{get_or-set_other, get_or-set_same, length-set, length-take, take_all, take-append-drop}
+use Rattle.std.proofs.lemmas.List.Elements.{All-nil}
 use Rattle.tc_base.specs.Files.{Files, wrote}
+use Rattle.tc_space.specs.Ranges.{IsDataFile}
 use Rattle.tc_space.specs.declared.space.Space.{Ghosts}
+use Rattle.ud_log.specs.Undo.{is_data, length_of, place_of}
+use Rattle.ud_log.proofs.Logs.{data_below, place_low, place_one}
+use Rattle.ud_state.specs.State.{AreLens}
+use Rattle.ud_state.proofs.Changing.{length_write}
 use Rattle.tc_undo.specs.Guards.{IsSmall}
 use Rattle.tc_undo.specs.Pieces.{Fits, LiesIn, Reached, laid, needs_all, reached}
 use Rattle.tc_undo.specs.Room.{needs}
 use Rattle.tc_undo.specs.declared.piece.Piece.{Piece}
 use Rattle.tc_undo.proofs.Putting.{laid_here, laid_there}
-use Rattle.tc_held.specs.Lengths.{insides, laid_long, over_bare, over_long}
-use Rattle.tc_held.specs.Pieces.{EndsBelow}
-use Rattle.tc_held.specs.Held.{AreTidy, EndsIn, IsHeld, IsTidy, Takes, Written, over}
+use Rattle.tc_held.specs.Lengths.{over_bare}
+use Rattle.tc_held.specs.Pieces.{EndsBelow, HasBytes}
+use Rattle.tc_held.specs.Held.{AreTidy, IsHeld, IsTidy, Takes, Written, over}
 use Rattle.tc_held.specs.declared.held.Held.{Held}
 use Rattle.tc_held.proofs.Laying.{wrote_more}
-use Rattle.tc_held.proofs.Tails.{laid_tail, reached_inside, wrote_end}
 
 tidy_empty : AreTidy [] []
-tidy_empty = record { small = All-nil IsSmall; lie = All-nil (LiesIn []); ascend = tt; few = omega arith; spent = omega arith }
+tidy_empty = record { small = All-nil IsSmall; lie = All-nil (LiesIn []); full = All-nil HasBytes; ascend = tt; few = omega arith; spent = omega arith }
 
 pub tidy_bare : (held : Held) → held.pieces.items ≡ [] → held.bytes.items ≡ [] → IsTidy held
 tidy_bare held none bare = subst (λ (b : List ℕ). AreTidy b held.pieces.items) (sym bare) (subst (λ (l : List Piece). AreTidy [] l) (sym none) tidy_empty)
@@ -84,7 +88,7 @@ module _ {S : Type 0} (s : Ghosts S) (logged : S → ℕ) where
   held_bare below held tidy none low = record {
     tidy = tidy;
     limits = subst (λ (l : List Piece). All (EndsBelow (s.limit below)) l) (sym none) (All-nil (EndsBelow (s.limit below)));
-    ends = λ t. subst (λ (l : List Piece). All (EndsIn (s.now below)) l) (sym none) (All-nil (EndsIn (s.now below)));
+    reaches = λ t f. subst (λ (l : List Piece). reached held.bytes.items l f (s.now below f)) (sym none) tt;
     room = omega (arith, low, ap needs_all none);
   }
 
@@ -102,56 +106,21 @@ module _ {S : Type 0} (s : Ghosts S) (logged : S → ℕ) where
     all_fit = λ k d low. record { data_file = (is.tidy.small k d low).data_file; below = is.limits k d low; inside = is.tidy.lie k d low }
 
     pub all_reached : s.tells → Reached bytes ps (s.now below)
-    all_reached t = record { each = λ f isd. reached_inside bytes ps f (length (s.now below f)) (s.now below f) refl is.tidy.lie (insides (s.now below) ps f (is.ends t)) }
-
-    pub reached_at : s.tells → (f : ℕ) → reached bytes ps f (s.now below f)
-    reached_at t f = reached_inside bytes ps f (length (s.now below f)) (s.now below f) refl is.tidy.lie (insides (s.now below) ps f (is.ends t))
-
-    as_long : s.tells → (f : ℕ) → length (over held (s.now below) f) ≡ length (s.now below f)
-    as_long = over_long s logged below held is
+    all_reached t = record { each = λ f isd. is.reaches t f }
 
     -- ---- more is held
 
-    module _ (file at : ℕ) (x : List ℕ) (held' : Held) (takes : Takes file at x held held') (low : at + length x ≤ s.limit below file) (inside : s.tells → at + length x ≤ length (s.now below file)) where
+    module _ (file at : ℕ) (x : List ℕ) (held' : Held) (takes : Takes file at x held held') (low : at + length x ≤ s.limit below file) (begins : s.tells → at ≤ length (over held (s.now below) file)) where
       pub held_takes : logged below + 2 ^ 28 ≤ 2 ^ 62 → IsHeld s logged below held'
       held_takes room = record {
         tidy = takes.tidy;
         limits = takes.below (s.limit below) is.limits low;
-        ends = λ t. takes.below (λ f. length (s.now below f)) (is.ends t) (inside t);
+        reaches = λ t. takes.reaches (s.now below) (is.reaches t) (begins t);
         room = omega (arith, room, takes.tidy.spent, takes.tidy.few);
       }
 
       pub over_takes : s.tells → Written file at x (over held (s.now below)) (over held' (s.now below))
-      over_takes t = takes.written (s.now below) (is.ends t) (inside t)
-
-    -- ---- bytes went to the end of a file below, under what is held
-
-    module _ (below' : S) (file at : ℕ) (new : List ℕ) (made : s.tells → Written file at new (s.now below) (s.now below')) (at_end : s.tells → at ≡ length (s.now below file)) where
-      grown_here : s.tells → s.now below' file ≡ s.now below file ++ new
-      grown_here t = (made t).here ∙ ap (λ k. wrote k new (s.now below file)) (at_end t) ∙ wrote_end new (s.now below file)
-
-      pub over_behind : s.tells → Written file at new (over held (s.now below)) (over held (s.now below'))
-      over_behind t = record {
-        here =
-            ap (λ (l : List ℕ). laid bytes ps file l) (grown_here t)
-            ∙ laid_tail bytes ps file (length (s.now below file)) (s.now below file) new refl is.tidy.lie (insides (s.now below) ps file (is.ends t))
-            ∙ sym (ap (λ k. wrote k new (over held (s.now below) file)) (at_end t ∙ sym (as_long t file)) ∙ wrote_end new (over held (s.now below) file));
-        others = λ g other. ap (λ (l : List ℕ). laid bytes ps g l) ((made t).others g other);
-      }
-
-      longer : s.tells → (f : ℕ) → length (s.now below f) ≤ length (s.now below' f)
-      longer t f = ⊎_elim
-          (λ same. subst (λ h. length (s.now below h) ≤ length (s.now below' h)) (sym same) (omega (arith, ap (λ (l : List ℕ). length l) (grown_here t), length-append (s.now below file) new)))
-          (λ other. omega (arith, ap (λ (l : List ℕ). length l) ((made t).others f other)))
-          (cases_eq f file)
-
-      pub held_behind : s.limit below' ≡ s.limit below → logged below' ≤ logged below + needs (length new) → logged below + 2 ^ 28 + needs (length new) ≤ 2 ^ 62 → IsHeld s logged below' held
-      held_behind same spent room = record {
-        tidy = is.tidy;
-        limits = subst (λ (l : ℕ → ℕ). All (EndsBelow l) ps) (sym same) is.limits;
-        ends = λ t. All-weaker (EndsIn (s.now below)) (EndsIn (s.now below')) (λ (p : Piece) ends. omega (arith, ends, longer t p.file)) ps (is.ends t);
-        room = omega (arith, spent, room, needs_most);
-      }
+      over_takes t = takes.written (s.now below) (is.reaches t) (begins t)
 
     -- ---- the space stays as it is
 
@@ -159,44 +128,37 @@ module _ {S : Type 0} (s : Ghosts S) (logged : S → ℕ) where
     held_same below' limit now log = record {
       tidy = is.tidy;
       limits = subst (λ (l : ℕ → ℕ). All (EndsBelow l) ps) (sym limit) is.limits;
-      ends = λ t. All-weaker (EndsIn (s.now below)) (EndsIn (s.now below')) (λ (p : Piece) ends. omega (arith, ends, ap (λ (l : List ℕ). length l) (now t p.file))) ps (is.ends t);
+      reaches = λ t f. subst (λ (l : List ℕ). reached bytes ps f l) (sym (now t f)) (is.reaches t f);
       room = omega (arith, log, is.room);
     }
 
-    -- ---- the first bytes are held
+-- what is left begins where that ends which was written
+pub written_long : (file at : ℕ) (x : List ℕ) (a b : Files) → at ≤ length (a file) → Written file at x a b → length (b file) ≡ max (length (a file)) (at + length x)
+written_long file at x a b begins w = ap (λ (l : List ℕ). length l) w.here ∙ length_write at x (a file) begins
 
-    module _ (file at : ℕ) (bs : List ℕ) (there inside done : ℕ) (held' : Held) (there_is : s.tells → there ≡ length (s.now below file)) (begins : s.tells → at ≤ length (over held (s.now below) file)) (inside_is : inside ≡ min (length bs) (there - at)) (most : done ≤ length (take inside bs))
-        (takes : Takes file at (take done (take inside bs)) held held') (low : at + length bs ≤ s.limit below file) where
-      abbrev first : List ℕ
-      first = take done (take inside bs)
+pub written_reaches : (file at done : ℕ) (bs : List ℕ) (a b : Files) → done ≤ length bs → at ≤ length (a file) → Written file at (take done bs) a b → at + done ≤ length (b file)
+written_reaches file at done bs a b le begins w = omega (arith, written_long file at (take done bs) a b begins w, length-take done bs, le)
 
-      le : done ≤ inside
-      le = omega (arith, most, length-take inside bs)
+-- ---- how long the files are
 
-      first_long : length first ≡ done
-      first_long = length-take done (take inside bs) ∙ omega (arith, most)
+-- once one of them changed
+pub lens_set : (lens : List ℕ) (old new : Files) (file i n : ℕ) → is_data file ≡ true → i ≡ place_of file → n ≡ length (new file) → ((g : ℕ) → g ≢ file → new g ≡ old g) → AreLens lens old → AreLens (set lens i n) new
+lens_set lens old new file i n isd place is others are = subst (λ k. AreLens (set lens k n) new) (sym place) (record {
+  long = length-set lens (place_of file) n ∙ are.long;
+  at = λ g isg. ⊎_elim
+      (λ same. subst (λ h. length_of (set lens (place_of file) n) h ≡ length (new h)) (sym same) (get_or-set_same lens (place_of file) n 0 (omega (arith, are.long, place_low file isd)) ∙ is))
+      (λ other. get_or-set_other lens (place_of file) (place_of g) n 0 (λ e. other (place_one g file isg isd e)) ∙ are.at g isg ∙ ap (λ (l : List ℕ). length l) (sym (others g other)))
+      (cases_eq g file);
+})
 
-      first_in : s.tells → at + length first ≤ length (s.now below file)
-      first_in t = omega (arith, first_long, le, inside_is, there_is t, begins t, as_long t file)
+-- of files that are the same
+pub lens_same : (lens : List ℕ) (old new : Files) → ((g : ℕ) → new g ≡ old g) → AreLens lens old → AreLens lens new
+lens_same lens old new same are = record { long = are.long; at = λ g isg. are.at g isg ∙ ap (λ (l : List ℕ). length l) (sym (same g)) }
 
-      first_low : at + length first ≤ s.limit below file
-      first_low = omega (arith, first_long, le, inside_is, low)
-
-      pub first_held : logged below + 2 ^ 28 ≤ 2 ^ 62 → IsHeld s logged below held'
-      first_held room = held_takes file at first held' takes first_low first_in room
-
-      same_first : first ≡ take done bs
-      same_first = same_lists _ _ (grind (arith, places, le)) (λ k d h. grind (arith, places, le))
-
-      pub first_written : s.tells → Written file at (take done bs) (over held (s.now below)) (over held' (s.now below))
-      first_written t = subst (λ (l : List ℕ). Written file at l (over held (s.now below)) (over held' (s.now below))) same_first (over_takes file at first held' takes first_low first_in t)
-
-      -- what is left begins where it ends
-      pub first_reaches : logged below + 2 ^ 28 ≤ 2 ^ 62 → (t : s.tells) → at + done ≤ length (over held' (s.now below) file)
-      first_reaches room t = omega (arith, first_in t, first_long, long_of (first_held room))
-        where
-          long_of : IsHeld s logged below held' → length (over held' (s.now below) file) ≡ length (s.now below file)
-          long_of is' = laid_long held'.bytes.items held'.pieces.items file (length (s.now below file)) (s.now below file) refl is'.tidy.lie (insides (s.now below) held'.pieces.items file (is'.ends t))
+pub of_data : (f : ℕ) → is_data f ≡ true → IsDataFile f
+of_data zero is = inl refl
+of_data (suc zero) is = absurd cc
+of_data (suc (suc k)) is = inr (omega arith, data_below (suc (suc k)) is)
 
 pub needs_less : (m n : ℕ) → m ≤ n → needs m ≤ needs n
 needs_less m n le = omega (arith, le)

@@ -1,20 +1,23 @@
 -- What pieces make of a file when one comes between them, or gets other bytes.
-use Rattle.std.proofs.Common.{◌≡◌, ◌⊎◌, inl, inr, ⊎_elim, ℕ, ◌+◌, ◌*◌, ◌≤◌, List, [], ◌∷◌, ◌++◌, length, refl, sym, ◌∙◌, ap, subst, arith, All, length-append, if◌then◌else◌, ◌==◌}
+use Rattle.std.proofs.Common.{◌≡◌, ◌⊎◌, inl, inr, ⊎_elim, ℕ, ◌+◌, ◌*◌, ◌≤◌, List, [], ◌∷◌, ◌++◌, length, refl, sym, ◌∙◌, ap, arith, All, length-append, if◌then◌else◌, ◌==◌}
 use Rattle.std.proofs.lemmas.Bool.{cases_eq}
 use Rattle.std.proofs.lemmas.List.{places, same_lists}
 use Rattle.std.proofs.lemmas.List.Elements.{All-head, All-tail, All-weaker}
 use Rattle.tc_base.specs.Files.{wrote}
-use Rattle.tc_undo.specs.Pieces.{LiesIn, laid, laid_one, needs_all, part}
+use Rattle.ud_log.proofs.Places.{length-wrote}
+use Rattle.ud_state.proofs.Changing.{length_write}
+use Rattle.tc_undo.specs.Pieces.{LiesIn, laid, laid_one, needs_all, part, reached}
 use Rattle.tc_undo.specs.Room.{needs}
 use Rattle.tc_undo.specs.declared.piece.Piece.{Piece}
 use Rattle.tc_undo.proofs.Putting.{laid_here, laid_there}
-use Rattle.tc_held.specs.Lengths.{IsInside, laid_long, one_long, part_size}
-use Rattle.tc_held.specs.Pieces.{InFront, Misses}
-use Rattle.tc_held.proofs.Ascending.{all_front, all_rest}
+use Rattle.tc_held.specs.Lengths.{part_size}
+use Rattle.tc_held.specs.Pieces.{BeginsBehind, InFront}
+use Rattle.tc_held.proofs.Ascending.{all_rest}
 
 -- ---- writes
 
-wrote_apart : (at q : ℕ) (x y old : List ℕ) → at + length x ≤ q → q + length y ≤ length old → wrote at x (wrote q y old) ≡ wrote q y (wrote at x old)
+-- a write in front of another
+wrote_apart : (at q : ℕ) (x y old : List ℕ) → at + length x ≤ q → q ≤ length old → wrote q y (wrote at x old) ≡ wrote at x (wrote q y old)
 unfolding wrote
 wrote_apart at q x y old apart within = same_lists _ _ (grind (arith, places)) (λ k d low. grind (arith, places))
 
@@ -32,6 +35,16 @@ pub wrote_none : (at : ℕ) (old : List ℕ) → wrote at [] old ≡ old
 unfolding wrote
 wrote_none at old = same_lists _ _ (grind (arith, places)) (λ i d low. grind (arith, places))
 
+-- more bytes are there for what is as long
+wrote_longer : (at : ℕ) (x y old older : List ℕ) → length x ≡ length y → length old ≤ length older → length (wrote at x old) ≤ length (wrote at y older)
+unfolding wrote
+wrote_longer at x y old older same le = grind (arith, places)
+
+-- a write makes nothing shorter
+wrote_grows : (at : ℕ) (x old : List ℕ) → length old ≤ length (wrote at x old)
+unfolding wrote
+wrote_grows at x old = grind (arith, places)
+
 -- ---- what a piece has
 
 part_longer : (bytes more : List ℕ) (p : Piece) → LiesIn bytes p → part (bytes ++ more) p ≡ part bytes p
@@ -40,6 +53,10 @@ part_longer bytes more p lies = same_lists _ _ (grind (arith, places)) (λ k d l
 -- of a piece whose bytes were added last
 part_added : (bytes put : List ℕ) (p : Piece) → p.from ≡ length bytes → p.size ≡ length put → part (bytes ++ put) p ≡ put
 part_added bytes put p from size = same_lists _ _ (grind (arith, places)) (λ k d low. grind (arith, places))
+
+-- of a piece that became longer by them
+part_lengthened : (bytes put : List ℕ) (p : Piece) → p.from + p.size ≡ length bytes → part (bytes ++ put) (record { file = p.file; at = p.at; from = p.from; size = p.size + length put }) ≡ part bytes p ++ put
+part_lengthened bytes put p last = same_lists _ _ (grind (arith, places)) (λ k d low. grind (arith, places))
 
 part_before : (bytes x : List ℕ) (from : ℕ) (q : Piece) → from + length x ≤ length bytes → q.from + q.size ≤ from → part (wrote from x bytes) q ≡ part bytes q
 unfolding wrote
@@ -73,31 +90,63 @@ laid_append : (bytes : List ℕ) (ps qs : List Piece) (f : ℕ) (old : List ℕ)
 laid_append bytes [] qs f old = refl
 laid_append bytes (p ∷ ps) qs f old = laid_append bytes ps qs f (laid_one bytes p f old)
 
--- ---- a write that pieces miss
+-- ---- pieces begin inside a file as those in front of them leave it
 
-module _ (bytes : List ℕ) (p : Piece) (f at : ℕ) (x old : List ℕ) (lies : LiesIn bytes p) (inside : IsInside f (length old) p) (misses : Misses f at (at + length x) p) (within : at + length x ≤ length old) where
-  abbrev its : List ℕ
-  its = part bytes p
+reached_front : (bytes : List ℕ) (ps qs : List Piece) (f : ℕ) (old : List ℕ) → reached bytes (ps ++ qs) f old → reached bytes ps f old
+reached_front bytes [] qs f old r = tt
+reached_front bytes (p ∷ ps) qs f old r = (r.0, reached_front bytes ps qs f (laid_one bytes p f old) r.1)
 
-  moved : p.file ≡ f → wrote p.at its (wrote at x old) ≡ wrote at x (wrote p.at its old)
-  moved is = ⊎_elim
-      (λ before. wrote_apart p.at at its x old (omega (arith, before, part_size bytes p lies)) within)
-      (λ behind. sym (wrote_apart at p.at x its old behind (omega (arith, inside.ends is, part_size bytes p lies))))
-      (misses.each is)
+reached_rest : (bytes : List ℕ) (ps qs : List Piece) (f : ℕ) (old : List ℕ) → reached bytes (ps ++ qs) f old → reached bytes qs f (laid bytes ps f old)
+reached_rest bytes [] qs f old r = r
+reached_rest bytes (p ∷ ps) qs f old r = reached_rest bytes ps qs f (laid_one bytes p f old) r.1
 
-  one_apart : laid_one bytes p f (wrote at x old) ≡ wrote at x (laid_one bytes p f old)
-  one_apart = ⊎_elim
-      (λ is. laid_here bytes p f (wrote at x old) is ∙ moved is ∙ ap (λ (l : List ℕ). wrote at x l) (sym (laid_here bytes p f old is)))
-      (λ other. laid_there bytes p f (wrote at x old) other ∙ ap (λ (l : List ℕ). wrote at x l) (sym (laid_there bytes p f old other)))
-      (cases_eq p.file f)
+reached_both : (bytes : List ℕ) (ps qs : List Piece) (f : ℕ) (old : List ℕ) → reached bytes ps f old → reached bytes qs f (laid bytes ps f old) → reached bytes (ps ++ qs) f old
+reached_both bytes [] qs f old first second = second
+reached_both bytes (p ∷ ps) qs f old first second = (first.0, reached_both bytes ps qs f (laid_one bytes p f old) first.1 second)
 
-laid_apart : (bytes : List ℕ) (ps : List Piece) (f at n : ℕ) (x old : List ℕ) → length old ≡ n → All (LiesIn bytes) ps → All (IsInside f n) ps → All (Misses f at (at + length x)) ps → at + length x ≤ n → laid bytes ps f (wrote at x old) ≡ wrote at x (laid bytes ps f old)
-laid_apart bytes [] f at n x old is lie inside miss within = refl
-laid_apart bytes (p ∷ ps) f at n x old is lie inside miss within =
-    let lies = All-head (LiesIn bytes) p ps lie in
-    let here = subst (λ k. IsInside f k p) (sym is) (All-head (IsInside f n) p ps inside) in
-    ap (λ (l : List ℕ). laid bytes ps f l) (one_apart bytes p f at x old lies here (All-head (Misses f at (at + length x)) p ps miss) (omega (arith, within, is)))
-    ∙ laid_apart bytes ps f at n x (laid_one bytes p f old) (one_long bytes p f old lies here ∙ is) (All-tail (LiesIn bytes) p ps lie) (All-tail (IsInside f n) p ps inside) (All-tail (Misses f at (at + length x)) p ps miss) within
+one_longer : (a b : List ℕ) (p : Piece) (f : ℕ) (old older : List ℕ) → LiesIn a p → LiesIn b p → length old ≤ length older → length (laid_one a p f old) ≤ length (laid_one b p f older)
+one_longer a b p f old older in_a in_b le = ⊎_elim
+    (λ is. omega (arith, ap (λ (l : List ℕ). length l) (laid_here a p f old is), ap (λ (l : List ℕ). length l) (laid_here b p f older is), wrote_longer p.at (part a p) (part b p) old older (part_size a p in_a ∙ sym (part_size b p in_b)) le))
+    (λ other. omega (arith, ap (λ (l : List ℕ). length l) (laid_there a p f old other), ap (λ (l : List ℕ). length l) (laid_there b p f older other), le))
+    (cases_eq p.file f)
+
+-- a piece makes no file shorter
+pub one_more : (bytes : List ℕ) (p : Piece) (f : ℕ) (old : List ℕ) → (p.file ≡ f → p.at ≤ length old) → length old ≤ length (laid_one bytes p f old)
+one_more bytes p f old begins = ⊎_elim
+    (λ is. omega (arith, ap (λ (l : List ℕ). length l) (laid_here bytes p f old is), length_write p.at (part bytes p) old (begins is)))
+    (λ other. omega (arith, ap (λ (l : List ℕ). length l) (laid_there bytes p f old other)))
+    (cases_eq p.file f)
+
+-- of a file that is longer, and with other bytes
+pub reached_as : (a b : List ℕ) (ps : List Piece) (f : ℕ) (old older : List ℕ) → All (LiesIn a) ps → All (LiesIn b) ps → length old ≤ length older → reached a ps f old → reached b ps f older
+reached_as a b [] f old older in_a in_b le r = tt
+reached_as a b (p ∷ ps) f old older in_a in_b le r = (
+  λ is. omega (arith, r.0 is, le),
+  reached_as a b ps f (laid_one a p f old) (laid_one b p f older) (All-tail (LiesIn a) p ps in_a) (All-tail (LiesIn b) p ps in_b)
+      (one_longer a b p f old older (All-head (LiesIn a) p ps in_a) (All-head (LiesIn b) p ps in_b) le) r.1,
+)
+
+-- a place in front of pieces that is inside the file with them is inside it without them
+begins_front : (bytes : List ℕ) (ps : List Piece) (f at : ℕ) (old : List ℕ) → All (BeginsBehind f at) ps → reached bytes ps f old → at ≤ length (laid bytes ps f old) → at ≤ length old
+begins_front bytes [] f at old behind r low = low
+begins_front bytes (p ∷ ps) f at old behind r low = ⊎_elim
+    (λ is. omega (arith, r.0 is, (All-head (BeginsBehind f at) p ps behind).places is))
+    (λ other. omega (arith, ap (λ (l : List ℕ). length l) (laid_there bytes p f old other), begins_front bytes ps f at (laid_one bytes p f old) (All-tail (BeginsBehind f at) p ps behind) r.1 low))
+    (cases_eq p.file f)
+
+-- ---- a write in front of pieces
+
+one_apart : (bytes : List ℕ) (p : Piece) (f at : ℕ) (x old : List ℕ) → BeginsBehind f (at + length x) p → (p.file ≡ f → p.at ≤ length old) → laid_one bytes p f (wrote at x old) ≡ wrote at x (laid_one bytes p f old)
+one_apart bytes p f at x old behind begins = ⊎_elim
+    (λ is. laid_here bytes p f (wrote at x old) is ∙ wrote_apart at p.at x (part bytes p) old (behind.places is) (begins is) ∙ ap (λ (l : List ℕ). wrote at x l) (sym (laid_here bytes p f old is)))
+    (λ other. laid_there bytes p f (wrote at x old) other ∙ ap (λ (l : List ℕ). wrote at x l) (sym (laid_there bytes p f old other)))
+    (cases_eq p.file f)
+
+laid_apart : (bytes : List ℕ) (ps : List Piece) (f at : ℕ) (x old : List ℕ) → All (BeginsBehind f (at + length x)) ps → reached bytes ps f old → laid bytes ps f (wrote at x old) ≡ wrote at x (laid bytes ps f old)
+laid_apart bytes [] f at x old behind r = refl
+laid_apart bytes (p ∷ ps) f at x old behind r =
+    ap (λ (l : List ℕ). laid bytes ps f l) (one_apart bytes p f at x old (All-head (BeginsBehind f (at + length x)) p ps behind) r.0)
+    ∙ laid_apart bytes ps f at x (laid_one bytes p f old) (All-tail (BeginsBehind f (at + length x)) p ps behind) r.1
 
 -- ---- a piece between others
 
@@ -113,19 +162,31 @@ module _ (bytes x : List ℕ) (front rest : List Piece) (q : Piece) (from : q.fr
       laid_append more front (q ∷ rest) f old ∙ ap (λ (l : List ℕ). laid more rest f l) (laid_there more q f mid other)
       ∙ sym (laid_append more front rest f old) ∙ laid_longer bytes x (front ++ rest) f old lie
 
-  module _ (n : ℕ) (is : q.file ≡ f) (long : length old ≡ n) (inside : All (IsInside f n) (front ++ rest)) (miss : All (Misses f q.at (q.at + length x)) rest) (within : q.at + length x ≤ n) where
-    lie_more : (ps : List Piece) → All (LiesIn bytes) ps → All (LiesIn more) ps
-    lie_more ps all = All-weaker (LiesIn bytes) (LiesIn more) (λ (p : Piece) lies. omega (arith, lies, length-append bytes x)) ps all
+  lie_more : (ps : List Piece) → All (LiesIn bytes) ps → All (LiesIn more) ps
+  lie_more ps all = All-weaker (LiesIn bytes) (LiesIn more) (λ (p : Piece) lies. omega (arith, lies, length-append bytes x)) ps all
 
-    mid_long : length mid ≡ n
-    mid_long = laid_long more front f n old long (lie_more front (all_front (LiesIn bytes) front rest lie)) (all_front (IsInside f n) front rest inside)
+  module _ (r : reached bytes (front ++ rest) f old) where
+    reached_more : reached more (front ++ rest) f old
+    reached_more = reached_as bytes more (front ++ rest) f old old lie (lie_more (front ++ rest) lie) (omega arith) r
 
-    pub between_here : laid more (front ++ q ∷ rest) f old ≡ wrote q.at x (laid bytes (front ++ rest) f old)
-    between_here =
+    rest_more : reached more rest f mid
+    rest_more = reached_rest more front rest f old reached_more
+
+    pub between_here : q.file ≡ f → All (BeginsBehind f (q.at + length x)) rest → laid more (front ++ q ∷ rest) f old ≡ wrote q.at x (laid bytes (front ++ rest) f old)
+    between_here is behind =
         laid_append more front (q ∷ rest) f old
         ∙ ap (λ (l : List ℕ). laid more rest f l) (laid_here more q f mid is ∙ ap (λ (l : List ℕ). wrote q.at l mid) (part_added bytes x q from size))
-        ∙ laid_apart more rest f q.at n x mid mid_long (lie_more rest (all_rest (LiesIn bytes) front rest lie)) (all_rest (IsInside f n) front rest inside) miss within
+        ∙ laid_apart more rest f q.at x mid behind rest_more
         ∙ ap (λ (l : List ℕ). wrote q.at x l) (sym (laid_append more front rest f old) ∙ laid_longer bytes x (front ++ rest) f old lie)
+
+    pub between_reached : (q.file ≡ f → All (BeginsBehind f q.at) rest) → (q.file ≡ f → q.at ≤ length (laid bytes (front ++ rest) f old)) → reached more (front ++ q ∷ rest) f old
+    between_reached behind begins =
+        let begins_mid : q.file ≡ f → q.at ≤ length mid = λ is.
+        begins_front more rest f q.at mid (behind is) rest_more
+        (omega (arith, begins is, ap (λ (l : List ℕ). length l) (sym (laid_append more front rest f old) ∙ laid_longer bytes x (front ++ rest) f old lie))) in
+        let in_rest = lie_more rest (all_rest (LiesIn bytes) front rest lie) in
+        reached_both more front (q ∷ rest) f old (reached_front more front rest f old reached_more)
+        (begins_mid, reached_as more more rest f mid (laid_one more q f mid) in_rest in_rest (one_more more q f mid begins_mid) rest_more)
 
 -- ---- other bytes for a piece
 
@@ -161,30 +222,90 @@ module _ (bytes x : List ℕ) (front rest : List Piece) (p : Piece) (k : ℕ) (l
       parted ∙ ap (λ (l : List ℕ). laid bytes rest f l) (laid_there other p f below isnt ∙ sym (laid_there bytes p f below isnt))
       ∙ sym (laid_append bytes front (p ∷ rest) f old)
 
-  module _ (n : ℕ) (is : p.file ≡ f) (long : length old ≡ n) (inside : All (IsInside f n) (front ++ p ∷ rest)) (within : p.at + p.size ≤ n) where
-    below_long : length below ≡ n
-    below_long = laid_long bytes front f n old long (all_front (LiesIn bytes) front (p ∷ rest) lie) (all_front (IsInside f n) front (p ∷ rest) inside)
+  pub changed_reached : (ps : List Piece) → All (LiesIn bytes) ps → reached bytes ps f old → reached other ps f old
+  changed_reached ps all r =
+      let long : length other ≡ length bytes = length-wrote (p.from + k) x bytes (omega (arith, fits, its_lies)) in
+      reached_as bytes other ps f old old all (All-weaker (LiesIn bytes) (LiesIn other) (λ (q : Piece) lies. omega (arith, lies, long)) ps all) (omega arith) r
+
+  module _ (is : p.file ≡ f) (r : reached bytes (front ++ p ∷ rest) f old) where
+    rest_reached : reached bytes (p ∷ rest) f below
+    rest_reached = reached_rest bytes front (p ∷ rest) f old r
 
     abbrev with_it : List ℕ
     with_it = laid_one bytes p f below
 
-    with_long : length with_it ≡ n
-    with_long = one_long bytes p f below its_lies (record { ends = λ _. omega (arith, within, below_long) }) ∙ below_long
-
     one_changed : laid_one other p f below ≡ wrote (p.at + k) x with_it
     one_changed =
         laid_here other p f below is ∙ ap (λ (l : List ℕ). wrote p.at l below) (part_changed bytes x k p its_lies fits)
-        ∙ wrote_over p.at k x (part bytes p) below (omega (arith, fits, part_size bytes p its_lies)) (omega (arith, within, below_long))
+        ∙ wrote_over p.at k x (part bytes p) below (omega (arith, fits, part_size bytes p its_lies)) (rest_reached.0 is)
         ∙ ap (λ (l : List ℕ). wrote (p.at + k) x l) (sym (laid_here bytes p f below is))
 
-    rest_misses : All (Misses f (p.at + k) (p.at + k + length x)) rest
-    rest_misses = All-weaker (InFront p) (Misses f (p.at + k) (p.at + k + length x)) (λ (q : Piece) fr. record { each = λ same. inr (omega (arith, fits, fr.places (is ∙ sym same))) }) rest behind
+    rest_behind : All (BeginsBehind f (p.at + k + length x)) rest
+    rest_behind = All-weaker (InFront p) (BeginsBehind f (p.at + k + length x)) (λ (q : Piece) fr. record { files = omega (arith, fr.files, is); places = λ same. omega (arith, fits, fr.places (is ∙ sym same)) }) rest behind
 
     pub changed_here : laid other (front ++ p ∷ rest) f old ≡ wrote (p.at + k) x (laid bytes (front ++ p ∷ rest) f old)
     changed_here =
         parted ∙ ap (λ (l : List ℕ). laid bytes rest f l) one_changed
-        ∙ laid_apart bytes rest f (p.at + k) n x with_it with_long (All-tail (LiesIn bytes) p rest (all_rest (LiesIn bytes) front (p ∷ rest) lie)) (All-tail (IsInside f n) p rest (all_rest (IsInside f n) front (p ∷ rest) inside)) rest_misses (omega (arith, fits, within))
+        ∙ laid_apart bytes rest f (p.at + k) x with_it rest_behind rest_reached.1
         ∙ ap (λ (l : List ℕ). wrote (p.at + k) x l) (sym (laid_append bytes front (p ∷ rest) f old))
+
+-- ---- a piece that becomes longer, whose bytes are the last
+
+module _ (bytes x : List ℕ) (front rest : List Piece) (p : Piece) (last : p.from + p.size ≡ length bytes) (lie : All (LiesIn bytes) (front ++ p ∷ rest)) (f : ℕ) (old : List ℕ) where
+  abbrev longer : Piece
+  longer = record { file = p.file; at = p.at; from = p.from; size = p.size + length x }
+
+  abbrev all_bytes : List ℕ
+  all_bytes = bytes ++ x
+
+  abbrev first : List ℕ
+  first = laid all_bytes front f old
+
+  lies_it : LiesIn bytes p
+  lies_it = All-head (LiesIn bytes) p rest (all_rest (LiesIn bytes) front (p ∷ rest) lie)
+
+  lie_all : (ps : List Piece) → All (LiesIn bytes) ps → All (LiesIn all_bytes) ps
+  lie_all ps all = All-weaker (LiesIn bytes) (LiesIn all_bytes) (λ (q : Piece) lies. omega (arith, lies, length-append bytes x)) ps all
+
+  it_same : laid_one bytes p f first ≡ laid_one all_bytes p f first
+  it_same = laid_one_same bytes all_bytes p f first (sym (part_longer bytes x p lies_it))
+
+  longer_here : p.file ≡ f → p.at ≤ length first → laid_one all_bytes longer f first ≡ wrote (p.at + p.size) x (laid_one all_bytes p f first)
+  longer_here is begins =
+      laid_here all_bytes longer f first is ∙ ap (λ (l : List ℕ). wrote p.at l first) (part_lengthened bytes x p last)
+      ∙ sym (wrote_more p.at (part bytes p) x first begins) ∙ ap (λ n. wrote (p.at + n) x (wrote p.at (part bytes p) first)) (part_size bytes p lies_it)
+      ∙ ap (λ (l : List ℕ). wrote (p.at + p.size) x l) (sym (laid_here bytes p f first is) ∙ it_same)
+
+  back : laid all_bytes rest f (laid_one all_bytes p f first) ≡ laid bytes (front ++ p ∷ rest) f old
+  back = sym (laid_append all_bytes front (p ∷ rest) f old) ∙ laid_longer bytes x (front ++ p ∷ rest) f old lie
+
+  pub longer_there : (p.file ≡ f → ⊥) → laid all_bytes (front ++ longer ∷ rest) f old ≡ laid bytes (front ++ p ∷ rest) f old
+  longer_there other =
+      laid_append all_bytes front (longer ∷ rest) f old ∙ ap (λ (l : List ℕ). laid all_bytes rest f l) (laid_there all_bytes longer f first other ∙ sym (laid_there all_bytes p f first other)) ∙ back
+
+  module _ (r : reached bytes (front ++ p ∷ rest) f old) where
+    reached_all : reached all_bytes (front ++ p ∷ rest) f old
+    reached_all = reached_as bytes all_bytes (front ++ p ∷ rest) f old old lie (lie_all (front ++ p ∷ rest) lie) (omega arith) r
+
+    rest_all : reached all_bytes (p ∷ rest) f first
+    rest_all = reached_rest all_bytes front (p ∷ rest) f old reached_all
+
+    pub longer_made : p.file ≡ f → All (BeginsBehind f (p.at + p.size + length x)) rest → laid all_bytes (front ++ longer ∷ rest) f old ≡ wrote (p.at + p.size) x (laid bytes (front ++ p ∷ rest) f old)
+    longer_made is behind =
+        laid_append all_bytes front (longer ∷ rest) f old ∙ ap (λ (l : List ℕ). laid all_bytes rest f l) (longer_here is (rest_all.0 is))
+        ∙ laid_apart all_bytes rest f (p.at + p.size) x (laid_one all_bytes p f first) behind rest_all.1 ∙ ap (λ (l : List ℕ). wrote (p.at + p.size) x l) back
+
+    as_long : length (laid_one all_bytes p f first) ≤ length (laid_one all_bytes longer f first)
+    as_long = ⊎_elim
+        (λ is. omega (arith, ap (λ (l : List ℕ). length l) (longer_here is (rest_all.0 is)), wrote_grows (p.at + p.size) x (laid_one all_bytes p f first)))
+        (λ other. omega (arith, ap (λ (l : List ℕ). length l) (laid_there all_bytes longer f first other), ap (λ (l : List ℕ). length l) (laid_there all_bytes p f first other)))
+        (cases_eq p.file f)
+
+    pub longer_reached : reached all_bytes (front ++ longer ∷ rest) f old
+    longer_reached =
+        let in_rest = lie_all rest (All-tail (LiesIn bytes) p rest (all_rest (LiesIn bytes) front (p ∷ rest) lie)) in
+        reached_both all_bytes front (longer ∷ rest) f old (reached_front all_bytes front (p ∷ rest) f old reached_all)
+        (rest_all.0, reached_as all_bytes all_bytes rest f (laid_one all_bytes p f first) (laid_one all_bytes longer f first) in_rest in_rest as_long rest_all.1)
 
 -- ---- what the log needs
 
@@ -194,3 +315,6 @@ needs_between (p ∷ front) rest q = omega (arith, needs_between front rest q)
 
 pub needs_few : (n : ℕ) → needs n ≤ 21 * n
 needs_few n = omega arith
+
+pub needs_more : (m n : ℕ) → needs (m + n) ≤ needs m + 21 * n
+needs_more m n = omega arith

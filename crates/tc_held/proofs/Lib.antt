@@ -5,6 +5,4 @@ pub mod Holding
 pub mod Laying
 pub mod Moments
 pub mod Showing
-pub mod Shown
 pub mod Taking
-pub mod Tails

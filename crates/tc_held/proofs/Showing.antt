@@ -140,6 +140,12 @@ some_last bytes ps f at old into i lie asc inside next some =
     (All-weaker (BeginsBehind f (at + length into)) (Misses f at (at + length into)) (λ (p : Piece) is. miss_behind f at (at + length into) p is) (drop i ps) (begin_rest f (at + length into) ps i asc next inside))
     (subst (λ (l : List Piece). LaysSome bytes ps f at old into l) (sym (append-nil (drop i ps))) some))
 
--- bytes that were read show the file
-pub shows_read : (into : List ℕ) (at n : ℕ) (old : List ℕ) → n ≡ length into → into ≡ take n (drop at old) → Shows into at old
-shows_read into at n old long is = record { each = λ k low high. ap (λ (l : List ℕ). get_or l k 0) is ∙ get_or-take n (drop at old) k 0 (omega (arith, low, long)) ∙ get_or-drop at old k 0 }
+-- bytes of which those inside the file were read show it
+pub shows_read : (into : List ℕ) (at n : ℕ) (old : List ℕ) → (length old ≤ at + n) ⊎ (length into ≤ n) → take n into ≡ take n (drop at old) → Shows into at old
+shows_read into at n old whole is = record { each = λ k low high. place k (few k low high) }
+  where
+    few : (k : ℕ) → k < length into → at + k < length old → k < n
+    few k low high = ⊎_elim (λ ends. omega (arith, ends, high)) (λ all. omega (arith, all, low)) whole
+
+    place : (k : ℕ) → k < n → get_or into k 0 ≡ get_or old (at + k) 0
+    place k low = sym (get_or-take n into k 0 low) ∙ ap (λ (l : List ℕ). get_or l k 0) is ∙ get_or-take n (drop at old) k 0 low ∙ get_or-drop at old k 0

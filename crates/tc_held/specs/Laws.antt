@@ -4,25 +4,25 @@ use Rattle.std.proofs.Common.{sym, ◌∙◌, ap, subst, arith}
 use Rattle.std.proofs.lemmas.Bool.{le-ltb}
 use Rattle.tc_base.specs.Files.{Files}
 use Rattle.tc_space.specs.declared.space.Space.{Ghosts}
-use Rattle.tc_held.specs.Held.{IsBare, shown}
+use Rattle.tc_held.specs.Held.{IsBare, IsHeld, over}
 use Rattle.tc_held.specs.History.{LeftFrom, moment_in, stood_at, stood_from}
 use Rattle.tc_held.specs.declared.held.Held.{Held}
-use Rattle.tc_held.specs.Lengths.{shown_bare, shown_long}
+use Rattle.tc_held.specs.Lengths.{all_bare, laid_most}
 
 -- at the present moment they are as they are now
-pub held_present : {S : Type 0} (moment : S → ℕ) (files_at : ℕ → Files) (now : Files) (below : S) (held : Held) (n : ℕ) (x : S × Held) → files_at (moment below) ≡ now → shown (if nat_lt n n then x else (below, held)).1 (files_at (moment (if nat_lt n n then x else (below, held)).0)) ≡ shown held now
+pub held_present : {S : Type 0} (moment : S → ℕ) (files_at : ℕ → Files) (now : Files) (below : S) (held : Held) (n : ℕ) (x : S × Held) → files_at (moment below) ≡ now → over (if nat_lt n n then x else (below, held)).1 (files_at (moment (if nat_lt n n then x else (below, held)).0)) ≡ over held now
 held_present {S} moment files_at now below held n x is =
-    ap (λ (b : Bool). shown (if b then x else (below, held)).1 (files_at (moment (if b then x else (below, held)).0))) (le-ltb n n (omega arith))
-    ∙ ap (λ (fs : Files). shown held fs) is
-
--- no file is longer than the one below
-pub held_within : (now : Files) (held : Held) (file most : ℕ) → length (now file) ≤ most → length (shown held now file) ≤ most
-held_within now held file most low = omega (arith, shown_long held now file, low)
+    ap (λ (b : Bool). over (if b then x else (below, held)).1 (files_at (moment (if b then x else (below, held)).0))) (le-ltb n n (omega arith))
+    ∙ ap (λ (fs : Files). over held fs) is
 
 module _ {S : Type 0} {s : Ghosts S} where
   -- where nothing was written, nothing is held
-  pub held_clean : (below : S) (held : Held) → IsBare s below held → (s.touched below ≡ false → s.kept below ≡ Some (s.now below)) → s.kept below ≡ Some (shown held (s.now below))
-  held_clean below held bare clean = clean bare.untouched ∙ ap (λ (fs : Files). Some fs) (sym (λ i f. shown_bare held (s.now below) bare.none f i))
+  pub held_clean : (below : S) (held : Held) → IsBare s below held → (s.touched below ≡ false → s.kept below ≡ Some (s.now below)) → s.kept below ≡ Some (over held (s.now below))
+  held_clean below held bare clean = clean bare.untouched ∙ ap (λ (fs : Files). Some fs) (sym (all_bare held (s.now below) bare.none))
+
+  -- no file is longer than its limit
+  pub held_within : {logged : S → ℕ} (below : S) (held : Held) (file : ℕ) → IsHeld s logged below held → length (s.now below file) ≤ s.limit below file → length (over held (s.now below) file) ≤ s.limit below file
+  held_within below held file is low = laid_most held.bytes.items held.pieces.items (s.limit below) file (s.now below file) low is.tidy.lie is.limits
 
   pub held_earlier : {past : List (S × Held)} {below : S} {held : Held} (t u : ℕ) (o : Option Files) → t ≤ u → LeftFrom s past below held u o → LeftFrom s past below held t o
   held_earlier t u o le l = record { at = l.at; since = omega (arith, le, l.since); left = l.left }

@@ -1,5 +1,5 @@
 -- Pieces in the order of their places, apart from each other.
-use Rattle.std.specs.Prelude.{◌≡◌, ◌⊎◌, ℕ, ◌+◌, ◌<◌, ◌≤◌, List, [], ◌∷◌, length, take, drop, get_or, All}
+use Rattle.std.specs.Prelude.{◌≡◌, ◌⊎◌, ℕ, ◌+◌, ◌-◌, ◌<◌, ◌≤◌, List, [], ◌∷◌, length, take, drop, get_or, All}
 use Rattle.tc_undo.specs.declared.piece.Piece.{Piece}
 
 -- a piece is in front of another, and their bytes are apart
@@ -52,10 +52,22 @@ pub record Misses (f from to : ℕ) (p : Piece) : Type 0 where
 abbrev pub blank : Piece
 blank = record { file = 0; at = 0; from = 0; size = 0 }
 
+-- a piece has bytes
+pub record HasBytes (p : Piece) : Type 0 where
+  pub some : 1 ≤ p.size
+
 -- this is the piece at an index
 pub record IsAt (ps : List Piece) (i : ℕ) (p : Piece) : Type 0 where
   pub inside : i < length ps
   pub is : p ≡ get_or ps i blank
+
+-- the piece in front of an index, which ends at a place of a file and whose bytes are the last
+pub record EndsHere (bytes : List ℕ) (ps : List Piece) (i f at : ℕ) (p : Piece) : Type 0 where
+  pub front : 1 ≤ i
+  pub is : IsAt ps (i - 1) p
+  pub file : p.file ≡ f
+  pub ends : p.at + p.size ≡ at
+  pub last : p.from + p.size ≡ length bytes
 
 -- the piece at an index, if there are so many, is such a one
 abbrev pub NextIs : (Piece → Type 0) → List Piece → ℕ → Type 0

@@ -1,5 +1,5 @@
 //! Where pieces that ascend are parted by a place of a file.
-ghost use Rattle.std.specs.Prelude.{◌≡◌, ◌+◌, ◌<◌, ◌≤◌, true, false, All};
+ghost use Rattle.std.specs.Prelude.{◌≡◌, ◌+◌, ◌^◌, ◌<◌, ◌≤◌, true, false, All};
 ghost use Rattle.tc_undo.specs.Guards.{IsSmall};
 ghost use Rattle.tc_held.specs.Pieces.{Ascend, BeginsBehind, EndsBefore, EndsBehind, Parts};
 
@@ -44,10 +44,23 @@ pub fn begins_before(piece: Piece, file: u32, at: u64) -> bool
     piece.file == file && piece.at <= at
 }
 
+/// The piece ends at a place of a file, and its bytes are the last of so many.
+pub fn ends_here(piece: Piece, file: u32, at: u64, bytes: usize) -> bool
+    requires small { IsSmall piece }
+    requires low { piece.from + piece.size ≤ 2 ^ 23 }
+    ensures { result ≡ true → (piece.file ≡ file) × (piece.at + piece.size ≡ at) × (piece.from + piece.size ≡ bytes) }
+{
+    if piece.file != file || piece.from + piece.size != bytes {
+        return false;
+    }
+    piece.at + piece.size as u64 == at
+}
+
 /// How many of so many bytes from a place of a file on lie in front of a piece that begins behind it.
 pub fn gap(piece: Piece, file: u32, at: u64, size: usize) -> usize
-    requires { BeginsBehind file at piece }
+    requires { BeginsBehind file (at + 1) piece }
     ensures most { result ≤ size }
+    ensures some { 1 ≤ size → 1 ≤ result }
     ensures behind { BeginsBehind file (at + result) piece }
 {
     if piece.file != file {

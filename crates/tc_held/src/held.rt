@@ -1,11 +1,11 @@
 //! Pieces that are held, and their bytes.
-ghost use Rattle.std.specs.Prelude.{◌≡◌, ◌+◌, ◌-◌, ◌^◌, ◌<◌, ◌≤◌, [], true, false, length, take, drop, get_or, IfOk, MatchOption};
+ghost use Rattle.std.specs.Prelude.{◌≡◌, ◌+◌, ◌-◌, ◌^◌, ◌<◌, ◌≤◌, [], true, false, length, take, drop, get_or, set, min, IfOk, IfSome, MatchOption};
 ghost use Rattle.tc_base.specs.Files.{wrote};
 ghost use Rattle.ud_log.specs.Undo.{is_data};
-ghost use Rattle.tc_held.specs.Pieces.{BeginsBehind, Covers, IsAt, NextIs, Parts};
-ghost use Rattle.tc_held.specs.Held.{IsTidy, Lays, Takes};
+ghost use Rattle.tc_held.specs.Pieces.{BeginsBehind, Covers, EndsHere, IsAt, NextIs, Parts};
+ghost use Rattle.tc_held.specs.Held.{HasRoomFor, IsTidy, Lays, Takes};
 
-use crate::finding::{begins_before, find, gap};
+use crate::finding::{begins_before, ends_here, find, gap};
 use crate::overlay::lay_from;
 use std::alloc::{AllocError, Global};
 use tc_undo::Piece;
@@ -32,6 +32,13 @@ fn put_at(into: &mut [u8], at: usize, bytes: &[u8])
     into[at..at + bytes.len()].copy_from_slice(bytes);
 }
 
+fn set_at(pieces: &mut [Piece], i: usize, piece: Piece)
+    requires { i < length pieces.old }
+    ensures { pieces.new ≡ set pieces.old i piece }
+{
+    pieces[i] = piece;
+}
+
 pub(crate) fn behind(bytes: &[u8], at: usize) -> &[u8]
     requires { at ≤ length bytes.now }
     ensures { result.now ≡ drop at bytes.now }
@@ -42,14 +49,16 @@ pub(crate) fn behind(bytes: &[u8], at: usize) -> &[u8]
 impl Held {
     /// Holds nothing, with room for 8,192 pieces and 8,388,608 bytes, which is taken now.
     pub fn new(alloc: Global) -> Result<Held, AllocError>
-        ensures { IfOk result (λ h. (h.pieces.items ≡ []) × (h.bytes.items ≡ [])) }
+        ensures none { IfOk result (λ h. (h.pieces.items ≡ []) × (h.bytes.items ≡ [])) }
+        ensures room { IfOk result (HasRoomFor (2 ^ 13) (2 ^ 23)) }
     {
         Held::with_room(alloc, MOST_PIECES, MOST_BYTES)
     }
 
     /// The same with room for at most so many pieces and bytes.
     pub fn with_room(alloc: Global, pieces: usize, bytes: usize) -> Result<Held, AllocError>
-        ensures { IfOk result (λ h. (h.pieces.items ≡ []) × (h.bytes.items ≡ [])) }
+        ensures none { IfOk result (λ h. (h.pieces.items ≡ []) × (h.bytes.items ≡ [])) }
+        ensures room { IfOk result (HasRoomFor (min pieces (2 ^ 13)) (min bytes (2 ^ 23))) }
     {
         let slots = pieces.min(MOST_PIECES);
         let room = bytes.min(MOST_BYTES);
@@ -99,7 +108,7 @@ impl Held {
         find(self.pieces.as_slice(), file, at)
     }
 
-    /// There is room for so many bytes from a place of a file on, whatever of them is held.
+    /// There is room for so many bytes from a place of a file on: one piece has them all, or there is as much as if none of them were held.
     pub fn has_room(&self, file: u32, at: u64, size: usize) -> bool
         requires tidy { IsTidy self.now }
         requires small { at + size ≤ 2 ^ 40 }
@@ -150,13 +159,20 @@ impl Held {
         n
     }
 
+    // There is room for so many bytes more.
+    fn has_bytes(&self, size: usize) -> bool
+        requires tidy { IsTidy self.now }
+        ensures { result ≡ true → length self.now.bytes.items + size ≤ 2 ^ 23 }
+    {
+        size <= self.room.min(MOST_BYTES).saturating_sub(self.bytes.len())
+    }
+
     // There is room for one more piece, of so many bytes.
     fn has_place(&self, size: usize) -> bool
         requires tidy { IsTidy self.now }
         ensures { result ≡ true → length self.now.bytes.items + size ≤ 2 ^ 23 }
     {
-        let left = self.room.min(MOST_BYTES).saturating_sub(self.bytes.len());
-        size <= left && self.pieces.len() < self.slots
+        self.has_bytes(size) && self.pieces.len() < self.slots
     }
 
     // Holds a piece more at an index. Answers how many bytes it took: all, or none where there is no room.
@@ -164,6 +180,7 @@ impl Held {
         requires tidy { IsTidy self.old }
         requires file { is_data file ≡ true }
         requires small { at + length data.now ≤ 2 ^ 40 }
+        requires some { 1 ≤ length data.now }
         requires parts { Parts file at self.old.pieces.items i }
         requires next { NextIs (BeginsBehind file (at + length data.now)) self.old.pieces.items i }
         ensures most { result ≤ length data.now }
@@ -187,23 +204,81 @@ impl Held {
         data.len()
     }
 
+    // The piece in front of an index, if it ends at a place of a file and its bytes are the last.
+    fn piece_before(&self, i: usize, file: u32, at: u64) -> Option<Piece>
+        requires tidy { IsTidy self.now }
+        ensures { IfSome result (EndsHere self.now.bytes.items self.now.pieces.items i file at) }
+    {
+        if i == 0 {
+            return None;
+        }
+        let piece = self.piece(i - 1)?;
+        if !ends_here(piece, file, at, self.bytes.len()) {
+            return None;
+        }
+        Some(piece)
+    }
+
+    // Lengthens a piece in front of an index by bytes behind it. Answers how many: all, or none where there is no room.
+    fn lengthen(&mut self, i: usize, piece: Piece, file: u32, at: u64, data: &[u8]) -> usize
+        requires tidy { IsTidy self.old }
+        requires ends { EndsHere self.old.bytes.items self.old.pieces.items i file at piece }
+        requires small { at + length data.now ≤ 2 ^ 40 }
+        requires next { NextIs (BeginsBehind file (at + length data.now)) self.old.pieces.items i }
+        ensures most { result ≤ length data.now }
+        ensures takes { Takes file at (take result data.now) self.old self.new }
+    {
+        if !self.has_bytes(data.len()) {
+            return 0;
+        }
+        let Ok(()) = self.bytes.extend_from_slice(data) else {
+            return 0;
+        };
+        let longer = Piece {
+            file: piece.file,
+            at: piece.at,
+            from: piece.from,
+            size: piece.size + data.len(),
+        };
+        set_at(&mut self.pieces, i - 1, longer);
+        data.len()
+    }
+
+    // Holds bytes that no piece has, in the piece in front of an index or in one more there. Answers how many: all, or none where there is no room.
+    fn add(&mut self, i: usize, file: u32, at: u64, data: &[u8]) -> usize
+        requires tidy { IsTidy self.old }
+        requires file { is_data file ≡ true }
+        requires small { at + length data.now ≤ 2 ^ 40 }
+        requires some { 1 ≤ length data.now }
+        requires parts { Parts file at self.old.pieces.items i }
+        requires next { NextIs (BeginsBehind file (at + length data.now)) self.old.pieces.items i }
+        ensures most { result ≤ length data.now }
+        ensures takes { Takes file at (take result data.now) self.old self.new }
+    {
+        match self.piece_before(i, file, at) {
+            Some(piece) => self.lengthen(i, piece, file, at, data),
+            None => self.insert(i, file, at, data),
+        }
+    }
+
     // Holds bytes from a place of a file on, as far as one piece has them or none does. Answers how many, 0 where there is no room.
     fn put_some(&mut self, file: u32, at: u64, data: &[u8]) -> usize
         requires tidy { IsTidy self.old }
         requires file { is_data file ≡ true }
         requires small { at + length data.now ≤ 2 ^ 40 }
+        requires some { 1 ≤ length data.now }
         ensures most { result ≤ length data.now }
         ensures takes { Takes file at (take result data.now) self.old self.new }
     {
         let i = self.find(file, at);
         let Some(next) = self.piece(i) else {
-            return self.insert(i, file, at, data);
+            return self.add(i, file, at, data);
         };
         if begins_before(next, file, at) {
             return self.change(i, next, file, at, data);
         }
         let n = gap(next, file, at, data.len());
-        self.insert(i, file, at, &data[..n])
+        self.add(i, file, at, &data[..n])
     }
 
     /// Holds bytes for a data file from a place on. Answers how many: all, or those for which there was room.

@@ -2,9 +2,10 @@
 ghost use Rattle.std.specs.Prelude.{◌≡◌, ◌+◌, ◌-◌, ◌^◌, ◌≤◌, ◌<◌, ◌⊎◌, [], ℕ, true, false, length, take, drop, Some, OnOk, OnErr, IsErrOf};
 ghost use Rattle.tc_io.specs.Causes.{Rose};
 ghost use Rattle.tc_space.specs.Effects.{Caused, Changes, Outcome};
-ghost use Rattle.tc_space.specs.Frames.{Follows, Keeps};
+ghost use Rattle.tc_space.specs.Frames.{Follows, Keeps, OnlyReads};
 ghost use Rattle.tc_space.specs.Moments.{LeavesOnly, Past};
 ghost use Rattle.tc_space.specs.Ranges.{IsDataFile, Reaches};
+ghost use Rattle.ud_state.specs.State.{AreLens};
 ghost use Rattle.tc_undo.specs.Room.{needs};
 ghost use Rattle.tc_held.specs.Held.{Brings, FindsFull, IsBare, IsHeld, Written, over};
 ghost use Rattle.tc_held.specs.History.{IsSound};
@@ -14,6 +15,7 @@ use crate::stood::Stood;
 use tc_base::Fault;
 use tc_space::{Space, SpaceErr};
 use tc_undo::{Batched, Piece};
+use ud_log::{file_at, place};
 
 /// The most bytes of a log.
 const LOG_MOST: u64 = 1 << 62;
@@ -24,12 +26,12 @@ const RESERVE: u64 = 1 << 29;
 /// The most bytes of a data file.
 const MOST_LEN: u64 = 1 << 40;
 
-/// Files over a space. What is written inside them is held in memory, and brought to the space in one call by a commit, a cut, or a write for
-/// which there is no room; what makes a file longer goes to the space at once, under what is held.
+/// Files over a space. What is written is held in memory, and brought to the space in one call by a commit, a cut, a write for which there is no room or that passes a limit, or as the space is given up.
 #[derive(Drop)]
 pub struct HeldSpace<S: Batched> {
     below: S,
     held: Held,
+    lens: [u64; 18],
     stood: Stood<S, Held>,
     good: bool,
     touched: bool,
@@ -44,21 +46,58 @@ fn needs_of(size: u64) -> u64
     size + 20 * ((size + 4095) / 4096)
 }
 
+// How long the data files are.
+fn lens_of<S: Space>(space: &S) -> [u64; 18]
+    requires { S.sound space.now }
+    ensures { S.tells → AreLens result (S.now space.now) }
+{
+    let mut lens = [0; 18];
+    for i in 0..18 {
+        lens[i] = space.len(file_at(i));
+    }
+    lens
+}
+
+// Fills the front with the bytes of a file from a place on.
+fn look_front<S: Batched>(
+    space: &mut S,
+    file: u32,
+    at: u64,
+    long: usize,
+    into: &mut [u8],
+) -> Result<(), Fault>
+    requires sound { S.sound space.old }
+    requires file { IsDataFile file }
+    requires room { long ≤ length into.old }
+    requires inside { S.tells → 0 < long → at + long ≤ length (S.now space.old file) }
+    ensures bytes { OnOk result (S.tells → take long into.new ≡ take long (drop at (S.now space.old file))) }
+    ensures reads { OnlyReads S.Space space.old space.new }
+    ensures logged { S.logged space.new ≡ S.logged space.old }
+    ensures cause { OnErr result (Rose (S.faults space.old) (S.faults space.new)) }
+{
+    if long == 0 {
+        return Ok(());
+    }
+    space.look(file, at, &mut into[..long])
+}
+
 impl<S: Batched> HeldSpace<S> {
     /// Holds nothing yet over a space in which nothing was written since its last commit.
     pub fn new(below: S, held: Held) -> HeldSpace<S>
         requires sound { S.sound below }
         requires untouched { S.touched below ≡ false }
-        ensures sound { IsSound S.Space S.logged result.good result.touched result.stood.items result.below result.held }
+        ensures sound { IsSound S.Space S.logged result.good result.touched result.lens result.stood.items result.below result.held }
         ensures begins { (result.touched ≡ false) × (result.read ≡ 0) × (result.below ≡ below) }
         ensures empty { result.held.pieces.items ≡ [] }
         ensures first { result.stood.items ≡ [] }
     {
         let mut held = held;
         held.clear();
+        let lens = lens_of(&below);
         HeldSpace {
             below,
             held,
+            lens,
             stood: Stood::new(),
             good: true,
             touched: false,
@@ -151,7 +190,7 @@ impl<S: Batched> HeldSpace<S> {
         }
     }
 
-    // Reads bytes of the space, and lays what is held over them.
+    // Reads those bytes that lie inside a file of the space, and lays what is held over all.
     fn read_over(&mut self, file: u32, at: u64, into: &mut [u8]) -> Result<(), Fault>
         requires sound { S.sound self.old.below }
         requires held { IsHeld S.Space S.logged self.old.below self.old.held }
@@ -165,7 +204,9 @@ impl<S: Batched> HeldSpace<S> {
         ensures same { self.new ≡ record self.old { below = self.new.below } }
         ensures cause { OnErr result (Rose (S.faults self.old.below) (S.faults self.new.below)) }
     {
-        self.below.look(file, at, into)?;
+        let there = self.below.len(file).saturating_sub(at);
+        let long = there.min(into.len() as u64) as usize;
+        look_front(&mut self.below, file, at, long, into)?;
         self.held.lay(file, at, into);
         Ok(())
     }
@@ -233,32 +274,7 @@ impl<S: Batched> HeldSpace<S> {
         Ok(())
     }
 
-    // Brings bytes to the end of a file of the space, under what is held.
-    fn put_behind(&mut self, file: u32, at: u64, bytes: &[u8]) -> Result<(), Fault>
-        requires sound { S.sound self.old.below }
-        requires held { IsHeld S.Space S.logged self.old.below self.old.held }
-        requires file { IsDataFile file }
-        requires below { at + length bytes.now ≤ S.limit self.old.below file }
-        requires room { S.logged self.old.below + 2 ^ 28 + needs (length bytes.now) ≤ 2 ^ 62 }
-        requires end { S.tells → at ≡ length (S.now self.old.below file) }
-        ensures held { OnOk result (IsHeld S.Space S.logged self.new.below self.new.held) }
-        ensures wrote { OnOk result (S.tells → Written file at bytes.now (over self.old.held (S.now self.old.below)) (over self.new.held (S.now self.new.below))) }
-        ensures keeps { Keeps S.Space self.old.below self.new.below }
-        ensures outcome { Outcome S.sound S.flag result self.new.below }
-        ensures same { self.new ≡ record self.old { below = self.new.below; held = self.new.held } }
-        ensures cause { OnErr result (Rose (S.faults self.old.below) (S.faults self.new.below)) }
-    {
-        let piece = Piece {
-            file,
-            at,
-            from: 0,
-            size: bytes.len(),
-        };
-        self.below.write_all(&[piece], bytes)?;
-        Ok(())
-    }
-
-    // Holds those bytes that lie inside a file of the space, as far as there is room. Answers how many.
+    // Holds bytes for a file, as far as there is room. Answers how many.
     fn hold(&mut self, file: u32, at: u64, bytes: &[u8]) -> usize
         requires sound { S.sound self.old.below }
         requires held { IsHeld S.Space S.logged self.old.below self.old.held }
@@ -268,39 +284,15 @@ impl<S: Batched> HeldSpace<S> {
         ensures most { result ≤ length bytes.now }
         ensures held { IsHeld S.Space S.logged self.new.below self.new.held }
         ensures wrote { S.tells → Written file at (take result bytes.now) (over self.old.held (S.now self.old.below)) (over self.new.held (S.now self.new.below)) }
-        ensures reaches { S.tells → at + result ≤ length (over self.new.held (S.now self.new.below) file) }
         ensures sound { S.sound self.new.below }
         ensures keeps { Keeps S.Space self.old.below self.new.below }
         ensures logged { S.logged self.new.below ≡ S.logged self.old.below }
         ensures same { self.new ≡ record self.old { held = self.new.held } }
     {
-        let there = self.below.len(file);
-        let size = bytes.len() as u64;
-        let inside = size.min(there.saturating_sub(at)) as usize;
-        self.held.put(file, at, &bytes[..inside])
+        self.held.put(file, at, bytes)
     }
 
-    // Brings bytes to the space that aren't held: those behind a file's end under what is held, others behind it.
-    fn put_rest(&mut self, file: u32, at: u64, bytes: &[u8]) -> Result<(), Fault>
-        requires sound { S.sound self.old.below }
-        requires held { IsHeld S.Space S.logged self.old.below self.old.held }
-        requires reaches { Reaches S.tells (over self.old.held (S.now self.old.below)) file at }
-        requires below { at + length bytes.now ≤ S.limit self.old.below file }
-        requires room { S.logged self.old.below + 2 ^ 28 + needs (length bytes.now) ≤ 2 ^ 62 }
-        ensures held { OnOk result (IsHeld S.Space S.logged self.new.below self.new.held) }
-        ensures wrote { OnOk result (S.tells → Written file at bytes.now (over self.old.held (S.now self.old.below)) (over self.new.held (S.now self.new.below))) }
-        ensures keeps { Keeps S.Space self.old.below self.new.below }
-        ensures outcome { Outcome S.sound S.flag result self.new.below }
-        ensures same { self.new ≡ record self.old { below = self.new.below; held = self.new.held } }
-        ensures cause { OnErr result (Rose (S.faults self.old.below) (S.faults self.new.below)) }
-    {
-        if at == self.below.len(file) {
-            return self.put_behind(file, at, bytes);
-        }
-        self.put_through(file, at, bytes)
-    }
-
-    // Holds what lies inside a file of the space, and brings what is left there.
+    // Holds bytes for a file, and brings those to the space for which there is no room.
     fn put_some(&mut self, file: u32, at: u64, bytes: &[u8]) -> Result<(), Fault>
         requires sound { S.sound self.old.below }
         requires held { IsHeld S.Space S.logged self.old.below self.old.held }
@@ -318,7 +310,7 @@ impl<S: Batched> HeldSpace<S> {
         if done == bytes.len() {
             return Ok(());
         }
-        self.put_rest(file, at + done as u64, behind(bytes, done))?;
+        self.put_through(file, at + done as u64, behind(bytes, done))?;
         Ok(())
     }
 
@@ -364,14 +356,14 @@ impl<S: Batched> HeldSpace<S> {
 
 impl<S: Batched> Space for HeldSpace<S> {
     ghost use Rattle.std.specs.Prelude.{◌<◌, ◌+◌, ◌^◌, ◌≡◌, [], true, length};
-    ghost use Rattle.tc_held.specs.Held.{shown};
+    ghost use Rattle.tc_held.specs.Held.{over};
     ghost use Rattle.tc_held.specs.History.{IsSound, LeftFrom, files_in, moment_in};
     ghost use Rattle.tc_held.specs.Laws.{held_clean, held_earlier, held_left, held_present, held_within};
     ghost use Rattle.tc_undo.specs.Room.{needs};
 
     ghost tells = { S.tells };
 
-    ghost now = { λ s. shown s.held (S.now s.below) };
+    ghost now = { λ s. over s.held (S.now s.below) };
 
     ghost kept = { λ s. S.kept s.below };
 
@@ -381,7 +373,7 @@ impl<S: Batched> Space for HeldSpace<S> {
 
     ghost left = { λ s. LeftFrom S.Space s.stood.items s.below s.held };
 
-    ghost sound = { λ s. IsSound S.Space S.logged s.good s.touched s.stood.items s.below s.held };
+    ghost sound = { λ s. IsSound S.Space S.logged s.good s.touched s.lens s.stood.items s.below s.held };
 
     ghost flag = { λ s. s.good };
 
@@ -407,7 +399,7 @@ impl<S: Batched> Space for HeldSpace<S> {
 
     ghost clean = { λ s t sound is. held_clean s.below s.held (sound.bare is) (S.clean s.below t sound.below_is) };
 
-    ghost within = { λ s file t sound is. held_within (S.now s.below) s.held file _ (S.within s.below file t sound.below_is is) };
+    ghost within = { λ s file t sound is. held_within s.below s.held file sound.held_is (S.within s.below file t sound.below_is is) };
 
     ghost earlier = { λ s t u o le left. held_earlier t u o le left };
 
@@ -420,20 +412,19 @@ impl<S: Batched> Space for HeldSpace<S> {
         self.good
     }
 
-    /// The length in the space: what is held makes no file longer.
+    /// It calls nothing of the space.
     fn len(&self, file: u32) -> u64 {
-        self.below.len(file)
+        self.lens[place(file)]
     }
 
-    /// One read of the space; what is held of these bytes, found by halves, is laid over them.
+    /// One read of the space at most; what is held of these bytes, found by halves, is laid over them.
     fn read(&mut self, file: u32, at: u64, into: &mut [u8]) -> Result<(), Fault> {
         self.stood = self.stood.and(&self.below, &self.held);
         self.read = self.read.saturating_add(into.len() as u64);
         self.read_over(file, at, into)
     }
 
-    /// It holds the bytes that lie inside the file, and writes those behind it. Where there is no room it brings all of it to the space, also as the file's
-    /// limit is passed.
+    /// It holds the bytes. Where there is no room it brings all of it to the space, also as the file's limit is passed.
     fn write(&mut self, file: u32, at: u64, bytes: &[u8]) -> Result<(), SpaceErr> {
         self.stood = self.stood.and(&self.below, &self.held);
         self.touched = true;
@@ -446,7 +437,11 @@ impl<S: Batched> Space for HeldSpace<S> {
             return Err(SpaceErr::Full);
         }
         match self.put(file, at, bytes) {
-            Ok(()) => Ok(()),
+            Ok(()) => {
+                let i = place(file);
+                self.lens[i] = self.lens[i].max(at + size);
+                Ok(())
+            }
             Err(_) => {
                 self.good = false;
                 Err(SpaceErr::Fault)
@@ -458,13 +453,17 @@ impl<S: Batched> Space for HeldSpace<S> {
     fn cut(&mut self, file: u32, len: u64) -> Result<(), SpaceErr> {
         self.stood = self.stood.and(&self.below, &self.held);
         self.touched = true;
-        let size = self.below.len(file).saturating_sub(len).min(MOST_LEN);
+        let i = place(file);
+        let size = self.lens[i].saturating_sub(len).min(MOST_LEN);
         if !self.has_room(size) {
             self.good = false;
             return Err(SpaceErr::Full);
         }
         match self.cut_below(file, len) {
-            Ok(()) => Ok(()),
+            Ok(()) => {
+                self.lens[i] = self.lens[i].min(len);
+                Ok(())
+            }
             Err(e) => {
                 self.good = false;
                 Err(e)

@@ -28,4 +28,4 @@ returns-clause-takes c =
     let long : length old.bytes.items ≡ c.len.result = omega (arith, c.len.ensures, old.bytes.ok.0) in
     takes_as c.args.file c.args.at x _ old.bytes.items _ _ old.pieces.items _ _ (take_all (length x) x (omega arith)) c.in-Ok.ensures.items c.in-Ok-insert.ensures.items
     (subst (λ k. TakesAll c.args.file c.args.at x old.bytes.items old.pieces.items (old.bytes.items ++ x) (take i old.pieces.items ++ record { file = c.args.file; at = c.args.at; from = k; size = length x } ∷ drop i old.pieces.items)) long
-    (takes_at c.args.file c.args.at x old.bytes.items old.pieces.items i c.requires.tidy c.requires.file c.requires.small (c.has_place.ensures c.if-not-has_place.false) c.requires.parts c.requires.next))
+    (takes_at c.args.file c.args.at x old.bytes.items old.pieces.items i c.requires.tidy c.requires.file c.requires.some c.requires.small (c.has_place.ensures c.if-not-has_place.false) c.requires.parts c.requires.next))

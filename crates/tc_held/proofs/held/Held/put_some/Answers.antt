@@ -3,8 +3,8 @@ use Rattle.tc_held.specs.Pieces.{BeginsBehind, NextIs}
 use Rattle.tc_held.proofs.Ascending.{begins_next, covers_next, next_is, next_none}
 use Rattle.tc_held.proofs.held.Held.put_some.Goals as goal
 
-pub insert-requires-clause-next : goal.insert-requires-clause-next
-insert-requires-clause-next c = next_none (BeginsBehind c.args.file (c.args.at + length c.args.data.now)) c.args.self.now.pieces.items c.find-i.result c.in_default.ensures
+pub add-requires-clause-next : goal.add-requires-clause-next
+add-requires-clause-next c = next_none (BeginsBehind c.args.file (c.args.at + length c.args.data.now)) c.args.self.now.pieces.items c.find-i.result c.in_default.ensures
 
 pub change-requires-clause-covers : goal.change-requires-clause-covers
 change-requires-clause-covers c =
@@ -14,8 +14,11 @@ change-requires-clause-covers c =
 pub gap-n-requires : goal.gap-n-requires
 gap-n-requires c = begins_next c.args.file c.args.at c.args.self.now.pieces.items c.find-i.result _ c.find-i.ensures c.in-Some.ensures (c.begins_before.ensures.behind c.if-begins_before.false)
 
-pub insert-requires-2-clause-next : goal.insert-requires-2-clause-next
-insert-requires-2-clause-next c =
+pub add-requires-2-clause-next : goal.add-requires-2-clause-next
+add-requires-2-clause-next c =
     let long : length (take c.gap-n.result c.args.data.now) ≡ c.gap-n.result = length-take c.gap-n.result c.args.data.now ∙ omega (arith, c.gap-n.ensures.most) in
     subst (λ k. NextIs (BeginsBehind c.args.file (c.args.at + k)) c.args.self.now.pieces.items c.find-i.result) (sym long)
     (next_is (BeginsBehind c.args.file (c.args.at + c.gap-n.result)) c.args.self.now.pieces.items c.find-i.result _ c.in-Some.ensures c.gap-n.ensures.behind)
+
+pub add-requires-2-clause-some : goal.add-requires-2-clause-some
+add-requires-2-clause-some c = omega (arith, c.requires.some, c.gap-n.ensures.some, c.gap-n.ensures.most, length-take c.gap-n.result c.args.data.now)

@@ -1,6 +1,6 @@
 use Rattle.std.proofs.Common.{length, ℕ, List, ap, arith, length-drop}
 use Rattle.tc_held.specs.Held.{over}
-use Rattle.tc_held.proofs.Holding.{needs_less, written_all, written_rest}
+use Rattle.tc_held.proofs.Holding.{needs_less, written_all, written_reaches, written_rest}
 use Rattle.tc_held.proofs.held_space.HeldSpace.put_some.Goals as goal
 
 pub hold-done-requires-clause-room : goal.hold-done-requires-clause-room
@@ -13,16 +13,23 @@ returns-then-done-bytes-clause-wrote g c = λ t.
     let new = c.hold-done.new.self in
     written_all c.args.file c.args.at c.hold-done.result c.args.bytes.now (over old.held (s.now old.below)) (over new.held (s.now new.below)) c.if-done-bytes.true (c.hold-done.ensures.wrote t)
 
-pub put_rest-requires-clause-reaches : goal.put_rest-requires-clause-reaches
-put_rest-requires-clause-reaches g c = record { file = c.requires.reaches.file; inside = λ t. c.hold-done.ensures.reaches t }
+pub put_through-requires-clause-reaches : goal.put_through-requires-clause-reaches
+put_through-requires-clause-reaches g c = record {
+  file = c.requires.reaches.file;
+  inside = λ t.
+      let s = g.S.Space in
+      let old = c.args.self.now in
+      let mid = c.hold-done.new.self in
+      written_reaches c.args.file c.args.at c.hold-done.result c.args.bytes.now (over old.held (s.now old.below)) (over mid.held (s.now mid.below)) c.hold-done.ensures.most (c.requires.reaches.inside t) (c.hold-done.ensures.wrote t);
+}
 
-pub put_rest-requires-clause-below : goal.put_rest-requires-clause-below
-put_rest-requires-clause-below g c =
+pub put_through-requires-clause-below : goal.put_through-requires-clause-below
+put_through-requires-clause-below g c =
     let same = ap (λ (limit : ℕ → ℕ). limit c.args.file) c.hold-done.ensures.keeps.same_limit in
     omega (arith, c.requires.below, c.hold-done.ensures.most, same, ap (λ (l : List ℕ). length l) c.behind.ensures, length-drop c.hold-done.result c.args.bytes.now)
 
-pub put_rest-requires-clause-room : goal.put_rest-requires-clause-room
-put_rest-requires-clause-room g c =
+pub put_through-requires-clause-room : goal.put_through-requires-clause-room
+put_through-requires-clause-room g c =
     let fewer = needs_less (length c.behind.result.now) (length c.args.bytes.now) (omega (arith, ap (λ (l : List ℕ). length l) c.behind.ensures, length-drop c.hold-done.result c.args.bytes.now)) in
     omega (arith, c.requires.room, fewer, c.hold-done.ensures.logged)
 
@@ -31,5 +38,5 @@ returns-clause-wrote g c = λ t.
     let s = g.S.Space in
     let old = c.args.self.now in
     let mid = c.hold-done.new.self in
-    let new = c.put_rest.new.self in
-    written_rest c.args.file c.args.at c.hold-done.result c.args.bytes.now c.behind.result.now (over old.held (s.now old.below)) (over mid.held (s.now mid.below)) (over new.held (s.now new.below)) c.hold-done.ensures.most c.behind.ensures (c.requires.reaches.inside t) (c.hold-done.ensures.wrote t) (c.in_ok-put_rest.ensures.wrote t)
+    let new = c.put_through.new.self in
+    written_rest c.args.file c.args.at c.hold-done.result c.args.bytes.now c.behind.result.now (over old.held (s.now old.below)) (over mid.held (s.now mid.below)) (over new.held (s.now new.below)) c.hold-done.ensures.most c.behind.ensures (c.requires.reaches.inside t) (c.hold-done.ensures.wrote t) (c.in_ok-put_through.ensures.wrote t)

@@ -1,8 +1,7 @@
 use Rattle.std.proofs.Common.{◌≡◌, ◌∙◌, ℕ, [], ap}
 use Rattle.std.proofs.lemmas.Result.{on_ok_weaker}
-use Rattle.tc_held.specs.Held.{Brings, shown}
+use Rattle.tc_held.specs.Held.{Brings, over}
 use Rattle.tc_held.proofs.History.{stays_told}
-use Rattle.tc_held.proofs.Shown.{over_shown, shown_through}
 use Rattle.tc_held.proofs.held_space.HeldSpaceSpace.give_up.Goals as goal
 
 pub returns-clause-stays : goal.returns-clause-stays
@@ -26,7 +25,7 @@ returns-clause-now g c =
     let new = c.let_go.new.self in
     on_ok_weaker
     {P = Brings s old.below new.below old.held new.held}
-    {Q = s.tells → (h : ℕ) → shown new.held (s.now new.below) h ≡ shown old.held (s.now old.below) h}
+    {Q = s.tells → (h : ℕ) → over new.held (s.now new.below) h ≡ over old.held (s.now old.below) h}
     c.let_go.result
-    (λ b t h. shown_through old.held new.held (s.now old.below) (s.now new.below) h b.none (b.same t h ∙ over_shown s g.S.Batched.logged old.below old.held c.requires.sound.held_is t h))
+    (λ b t h. b.same t h)
     c.let_go.ensures.brings

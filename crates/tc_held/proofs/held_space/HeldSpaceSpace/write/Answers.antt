@@ -1,15 +1,15 @@
-use Rattle.std.proofs.Common.{◌≡◌, ◌∙◌, ℕ, List, ap, arith, inl, inr, refl, sym, ⊎_elim}
-use Rattle.tc_base.specs.Files.{wrote}
+use Rattle.std.proofs.Common.{◌≡◌, ◌∙◌, ℕ, List, length, get_or, ap, arith, inl, inr, refl, subst, sym, ⊎_elim}
 use Rattle.tc_space.specs.Frames.{keeps_refl}
 use Rattle.tc_space.specs.declared.errors.SpaceErr.TheVariants.{Fault, Full, Memory}
-use Rattle.tc_held.specs.Lengths.{shown_is}
+use Rattle.ud_state.specs.State.{AreLens}
+use Rattle.tc_undo.specs.Usable.{data_file}
+use Rattle.tc_held.specs.Held.{over}
 use Rattle.tc_held.proofs.History.{on_off, rises_told, stays_told}
-use Rattle.tc_held.proofs.Shown.{over_shown, reaches_over, shown_through}
+use Rattle.tc_held.proofs.Holding.{lens_set, written_long}
 use Rattle.tc_held.proofs.held_space.HeldSpaceSpace.write.Goals as goal
 
-pub put-requires-clause-reaches : goal.put-requires-clause-reaches
-put-requires-clause-reaches g c = let old = c.args.self.now in
-    reaches_over g.S.Space g.S.Batched.logged old.below old.held c.requires.sound.held_is c.args.file c.args.at c.requires.reaches
+pub place-i-requires : goal.place-i-requires
+place-i-requires g c = data_file c.args.file c.requires.reaches.file
 
 pub has_room-requires-clause-small : goal.has_room-requires-clause-small
 has_room-requires-clause-small g c = omega (arith, c.ends_within.ensures.within c.if-not-ends_within.false, g.met.S.Batched.small c.args.self.now.below c.args.file c.requires.sound.below_is c.requires.reaches.file)
@@ -26,15 +26,8 @@ returns-then-not-ends_within-clause-touches g c = record { marked = ap (λ s. s.
 
 pub returns-then-not-ends_within-clause-full : goal.returns-then-not-ends_within-clause-full
 returns-then-not-ends_within-clause-full g c = λ full.
-    let s = g.S.Space in
-    let old = c.args.self.now in
-    let new = c.refuse.new.self in
     let e : c.refuse.result ≡ Full = cc in
-    let b = c.refuse.ensures.full e in
-    record {
-      by = inl (c.ends_within.ensures.past c.if-not-ends_within.true);
-      same = λ t h. shown_through old.held new.held (s.now old.below) (s.now new.below) h b.none (b.same t h ∙ over_shown s g.S.Batched.logged old.below old.held c.requires.sound.held_is t h);
-    }
+    record { by = inl (c.ends_within.ensures.past c.if-not-ends_within.true); same = (c.refuse.ensures.full e).same }
 
 pub returns-then-not-ends_within-clause-brought : goal.returns-then-not-ends_within-clause-brought
 returns-then-not-ends_within-clause-brought g c = λ full past. let e : c.refuse.result ≡ Full = cc in ((c.refuse.ensures.full e).none, g.met.S.Batched.all c.refuse.new.self.below)
@@ -72,6 +65,18 @@ returns-in-Ok-clause-outcome g c = record {
     good_is = ap (λ s. s.good) c.put.ensures.same ∙ c.requires.sound.good_is;
     below_is = c.in-Ok.ensures.outcome.ok;
     held_is = c.in-Ok.ensures.held;
+    lens_are = λ t.
+        let s = g.S.Space in
+        let old = c.args.self.now in
+        let new = c.put.new.self in
+        let f = c.args.file in
+        let isd = data_file f c.requires.reaches.file in
+        let was = over old.held (s.now old.below) in
+        let now = over new.held (s.now new.below) in
+        let w = c.in-Ok.ensures.wrote t in
+        let are : AreLens new.lens was = subst (λ (l : List ℕ). AreLens l was) (sym (ap (λ x. x.lens) c.put.ensures.same)) (c.requires.sound.lens_are t) in
+        let item : get_or new.lens c.place-i.result 0 ≡ length (was f) = ap (λ k. get_or new.lens k 0) c.place-i.ensures.place ∙ are.at f isd in
+        lens_set new.lens was now f c.place-i.result c.max.result isd c.place-i.ensures.place (omega (arith, c.max.ensures, item, written_long f c.args.at c.args.bytes.now was now (c.requires.reaches.inside t) w)) w.others are;
     bare = λ off. absurd (on_off (ap (λ s. s.touched) c.put.ensures.same) off);
     rises = rises_told g.S.Space (λ s. s.stood.items) (λ s. s.below) (λ s. s.held) c.args.self.now c.put.new.self (ap (λ s. s.stood.items) c.put.ensures.same ∙ c.and.ensures) (λ t. (c.put.ensures.keeps.steady t).leaves.later) c.requires.sound.rises;
   };
@@ -80,16 +85,8 @@ returns-in-Ok-clause-outcome g c = record {
 
 pub returns-in-Ok-clause-wrote : goal.returns-in-Ok-clause-wrote
 returns-in-Ok-clause-wrote g c = λ t.
-    let s = g.S.Space in
-    let old = c.args.self.now in
-    let new = c.put.new.self in
     let w = c.in-Ok.ensures.wrote t in
-    record {
-      here = shown_is s g.S.Batched.logged new.below new.held c.in-Ok.ensures.held t c.args.file ∙ w.here
-          ∙ ap (λ (l : List ℕ). wrote c.args.at c.args.bytes.now l) (sym (shown_is s g.S.Batched.logged old.below old.held c.requires.sound.held_is t c.args.file));
-      others = λ h other. shown_is s g.S.Batched.logged new.below new.held c.in-Ok.ensures.held t h ∙ w.others h other
-          ∙ sym (shown_is s g.S.Batched.logged old.below old.held c.requires.sound.held_is t h);
-    }
+    record { here = w.here; others = w.others }
 
 pub returns-in-Ok-clause-room : goal.returns-in-Ok-clause-room
 returns-in-Ok-clause-room g c = λ passes.
