@@ -1,36 +1,78 @@
 -- Pages by their keys.
 use Rattle.std.proofs.Common.{◌≡◌, ◌≢◌, ℕ, zero, suc, ◌+◌, ◌<◌, ◌≤◌, ◌^◌, ◌⊎◌, Bool, true, false, List, [], ◌∷◌, length, get_or, Option, Some, None, refl, sym, ap, subst, ◌∙◌, inl, inr, ⊎_elim, arith, length-append}
-use Rattle.std.specs.Prelude.{◌&&◌, ◌==◌, if◌then◌else◌}
-use Rattle.std.specs.List.{flat_map}
-use Rattle.tc_base.specs.Vnum.{vnum}
-use Rattle.tc_base.proofs.Vnums.{reads}
+use Rattle.std.specs.Prelude.{◌&&◌, ◌==◌, ◌↔◌, IfNone, IfSome, IsTrue, if◌then◌else◌}
 use Rattle.bt_page.specs.declared.page.Leaf.{Leaf}
-use Rattle.bt_page.specs.Pages.{two, item_bytes, leaf_bytes, LeafFits}
+use Rattle.bt_page.specs.declared.page.Node.{Node}
+use Rattle.bt_page.specs.Limits.{NodeWithin}
+use Rattle.bt_page.specs.Pages.{leaf_bytes, node_bytes, LeafFits, NodeFits}
+use Rattle.bt_page.proofs.AtFronts.{leaf_only, node_only}
 use Rattle.bt_page.specs.Spelled.{Spells}
 use Rattle.bt_rows.specs.declared.head.TreeHead.{TreeHead}
 use Rattle.bt_rows.specs.declared.page.Page.{Page}
+use Rattle.bt_rows.specs.declared.page.Page.TheVariants.{Leaf as leaf_page, Node as node_page}
 use Rattle.bt_rows.specs.Pages.{Map, PageMap, IsGiven, IsPage, IsHeldAs, AreHeld}
 use Rattle.bt_check.specs.declared.collecting.Collected.{Collected}
 use Rattle.bt_check.specs.declared.collecting.Found.{Found}
 use Rattle.bt_check.specs.declared.collecting.Found.TheVariants.{Page as found_page, Column, Nothing}
 use Rattle.bt_rows.specs.Rows.{held}
-use Rattle.bt_rows.specs.Rules.{B1, B2, B5, IsPageAt, IsWithin, column}
-use Rattle.bt_page.specs.Keys.{key_of}
+use Rattle.bt_rows.specs.Rules.{B1, B2, B5, IsPageAt, IsWithin, LeafLimits, column}
+use Rattle.bt_page.specs.Keys.{key_of, node_offset}
 use Rattle.std.specs.Ordering.{nat_cmp}
 use Rattle.std.specs.BTreeSet.{BTreeSet, contains}
 use Rattle.std.proofs.lemmas.Bool.{cases_eq, ne_eqb, eq-eqb, and_parts}
 use Rattle.bt_check.specs.Collected.{has, IsOnePage, IsFound, IsNoted, IsCollected}
 use Rattle.bt_check.specs.Keys.{IsListed, IsHeldKey}
+use Rattle.bt_check.specs.ReadPages.{IsParsed, IsReadAs, leaf_or_none, node_or_none}
 use Rattle.bt_page.proofs.IdKeys.{key_free}
 use Rattle.bt_rows.proofs.Held.{given_small, decided, column_free}
 
-pub vnum_most : (n : ℕ) → n < 2 ^ 64 → length (vnum n) ≤ 10
-unfolding vnum
-vnum_most n h = (reads 9 n [] (omega (arith, h))).most
+-- ---- pages one by one
 
-pub leaf_size : (bytes : List ℕ) (l : Leaf) → Spells LeafFits leaf_bytes bytes l → length bytes ≡ length (vnum l.prev) + length (vnum l.next) + length (flat_map item_bytes l.items)
-unfolding leaf_bytes
-leaf_size bytes l s = omega (arith, ap (λ (t : List ℕ). length t) s.is, length-append (two l.prev l.next) (flat_map item_bytes l.items), length-append (vnum l.prev) (vnum l.next))
+pub leaf_judged : (h : TreeHead) (id : ℕ) (bytes : List ℕ) (l : Leaf) (within : Bool) → id < node_offset → Spells LeafFits leaf_bytes bytes l → IsTrue within ↔ LeafLimits h id l → IsOnePage h id bytes within
+leaf_judged h id bytes l within lt s iff = record { page = leaf_page l; is = (lt, s); only = only_leaf; inside = iff.0; outside = λ e w. let bad = sym e ∙ iff.1 w in cc }
+  where
+    only_leaf : (p : Page) → IsPage id bytes p → p ≡ leaf_page l
+    only_leaf (leaf_page m) is = ap (λ (k : Leaf). leaf_page k) (leaf_only bytes l m s is.1)
+    only_leaf (node_page m) is = absurd (omega (arith, lt, is.0))
+
+pub node_judged : (h : TreeHead) (id : ℕ) (bytes : List ℕ) (n : Node) (within : Bool) → node_offset ≤ id → Spells NodeFits node_bytes bytes n → IsTrue within ↔ NodeWithin h.node_limit n → IsOnePage h id bytes within
+node_judged h id bytes n within le s iff = record { page = node_page n; is = (le, s); only = only_node; inside = iff.0; outside = λ e w. let bad = sym e ∙ iff.1 w in cc }
+  where
+    only_node : (p : Page) → IsPage id bytes p → p ≡ node_page n
+    only_node (leaf_page m) is = absurd (omega (arith, le, is.0))
+    only_node (node_page m) is = ap (λ (k : Node). node_page k) (node_only bytes n m s is.1)
+
+pub no_leaf : (id : ℕ) (bytes : List ℕ) → id < node_offset → ((l : Leaf) → Spells LeafFits leaf_bytes bytes l → ⊥) → (p : Page) → IsPage id bytes p → ⊥
+no_leaf id bytes lt none (leaf_page l) is = none l is.1
+no_leaf id bytes lt none (node_page n) is = omega (arith, lt, is.0)
+
+pub no_node : (id : ℕ) (bytes : List ℕ) → node_offset ≤ id → ((n : Node) → Spells NodeFits node_bytes bytes n → ⊥) → (p : Page) → IsPage id bytes p → ⊥
+no_node id bytes le none (leaf_page l) is = omega (arith, le, is.0)
+no_node id bytes le none (node_page n) is = none n is.1
+
+-- what is read of bytes under the id of a leaf, or of a node
+pub leaf_parsed : (id : ℕ) (bytes : List ℕ) (r : Option Leaf) → id < node_offset → IfSome r (λ l. Spells LeafFits leaf_bytes bytes l) → IfNone r ((l : Leaf) → Spells LeafFits leaf_bytes bytes l → ⊥) → IsParsed id bytes (leaf_or_none r)
+leaf_parsed id bytes None lt found none = no_leaf id bytes lt none
+leaf_parsed id bytes (Some l) lt found none = ((lt, found), only_leaf)
+  where
+    only_leaf : (p : Page) → IsPage id bytes p → p ≡ leaf_page l
+    only_leaf (leaf_page m) is = ap (λ (k : Leaf). leaf_page k) (leaf_only bytes l m found is.1)
+    only_leaf (node_page m) is = absurd (omega (arith, lt, is.0))
+
+pub node_parsed : (id : ℕ) (bytes : List ℕ) (r : Option Node) → node_offset ≤ id → IfSome r (λ n. Spells NodeFits node_bytes bytes n) → IfNone r ((n : Node) → Spells NodeFits node_bytes bytes n → ⊥) → IsParsed id bytes (node_or_none r)
+node_parsed id bytes None le found none = no_node id bytes le none
+node_parsed id bytes (Some n) le found none = ((le, found), only_node)
+  where
+    only_node : (p : Page) → IsPage id bytes p → p ≡ node_page n
+    only_node (leaf_page m) is = absurd (omega (arith, le, is.0))
+    only_node (node_page m) is = ap (λ (k : Node). node_page k) (node_only bytes n m found is.1)
+
+-- what stands under a key is read as the page that its bytes are
+pub read_some : (id : ℕ) (o : Option (List ℕ)) (bytes : List ℕ) (p : Option Page) → o ≡ Some bytes → IsParsed id bytes p → IsReadAs id o p
+read_some id o bytes p e parsed = subst (λ (t : Option (List ℕ)). IsReadAs id t p) (sym e) parsed
+
+pub read_none : (id : ℕ) (o : Option (List ℕ)) → o ≡ None → IsReadAs id o None
+read_none id o e = subst (λ (t : Option (List ℕ)). IsReadAs id t None) (sym e) tt
 
 -- ---- keys one by one
 
@@ -221,6 +263,10 @@ no_page h index m key bytes id b g is at none other e (inl p) =
     let these : other ≡ bytes = let both = sym e ∙ at in cc in
     none p.page (subst (λ (i : ℕ). IsPage i bytes p.page) same (subst (λ (l : List ℕ). IsPage p.id l p.page) these p.is))
 no_page h index m key bytes id b g is at none other e (inr col) = column_free id (given_small h id b g) (sym col.1 ∙ is)
+
+-- the bytes of a key that were judged are those that it has
+pub page_found : (h : TreeHead) (m : Map) (key bytes : List ℕ) (id : ℕ) (within : Bool) → m key ≡ Some bytes → IsOnePage h id bytes within → (other : List ℕ) → m key ≡ Some other → IsOnePage h id other within
+page_found h m key bytes id within at one other e = let these : bytes ≡ other = let both = sym at ∙ e in cc in subst (λ (l : List ℕ). IsOnePage h id l within) these one
 
 -- what was found of an item is found of the key in its place
 pub found_at : (h : TreeHead) (index : Bool) (m n : Map) (keys items : List (List ℕ)) (i : ℕ) (key item : List ℕ) (f f' : Found) → n ≡ m → items ≡ keys → i < length items → key ≡ item → item ≡ get_or items i item → f ≡ f' → IsFound h index n key f → IsFound h index m (get_or keys i []) f'

@@ -2,6 +2,7 @@ pub mod Collects
 pub mod Listed
 pub mod Mapped
 pub mod Orders
+pub mod Rests
 pub mod Seen
 pub mod Sets
 pub mod Unbroken

@@ -1,11 +1,11 @@
 -- Leaves that were seen.
-use Rattle.std.proofs.Common.{◌≡◌, ◌↔◌, ℕ, suc, ◌+◌, ◌-◌, ◌<◌, ◌≤◌, List, [], ◌∷◌, ◌++◌, Bool, true, false, Option, Some, None, leb, length, map, take, get_or, refl, sym, ap, ◌∙◌, subst, ⊎_elim, arith, length-append}
+use Rattle.std.proofs.Common.{◌≡◌, ◌↔◌, ℕ, suc, ◌+◌, ◌-◌, ◌<◌, ◌≤◌, List, [], ◌∷◌, ◌++◌, Bool, true, false, Option, Some, None, leb, length, map, refl, sym, ap, ◌∙◌, subst, ⊎_elim, arith, length-append}
 use Rattle.std.specs.Prelude.{IsTrue, ◌&&◌, not, option_to_list}
 use Rattle.std.specs.Option.{option_eq}
 use Rattle.std.proofs.Math.Dec.{eqb}
 use Rattle.std.specs.List.{flat_map}
 use Rattle.std.proofs.lemmas.Bool.{le-leb, lt-leb, cases_lt, eqb-true}
-use Rattle.std.proofs.lemmas.List.{append-nil, take_more}
+use Rattle.std.proofs.lemmas.List.{append-nil}
 use Rattle.std.proofs.lemmas.Grind.{flat_map-append}
 use Rattle.bt_rows.specs.declared.head.TreeHead.{TreeHead}
 use Rattle.bt_rows.specs.declared.page.LeafAt.{LeafAt}
@@ -17,9 +17,10 @@ use Rattle.bt_rows.specs.Pages.{PageMap}
 use Rattle.bt_rows.specs.Rows.{first_id, last_id, held, leaf_at, leaves_among}
 use Rattle.bt_check.proofs.Walked.{among-append, there_front, there_last}
 use Rattle.bt_rows.specs.Rules.{InLeaf, IsBelow, InOrder, IsLinked, B7, pairs_of, leaf_pairs, item_pairs}
-use Rattle.bt_check.specs.Leaves.{IsBehind, IsTied, IsClosed, AreTied, less, last_leaf, IsSeen, Sees}
+use Rattle.bt_check.specs.Leaves.{IsBehind, IsTied, IsClosed, AreTied, last_at, less, last_leaf, IsSeen, Sees}
 use Rattle.bt_check.specs.Walks.{AreThere}
 use Rattle.bt_check.specs.declared.leaves.Seen.{Seen}
+use Rattle.bt_check.specs.declared.rows.Placed.{Placed}
 use Rattle.bt_check.proofs.Orders.{IsTransitive, all_below, order_end, order_front, order_last, order_two}
 
 -- ---- numbers
@@ -107,7 +108,7 @@ module _ (before : Before) (trans : IsTransitive before) where
       less_zero p = let e : leb 0 p ≡ true = le-leb 0 p (omega arith) in rw e (ap (λ (k : ℕ). Some k) (omega arith))
 
   pub seen_more : (h : TreeHead) (ls : List LeafAt) (m : LeafAt) (old new : Seen) → IsSeen before h ls old
-      → new.last ≡ Some m → (IsTrue new.ordered ↔ (IsTrue old.ordered × IsBehind before old.last m)) → (IsTrue new.linked ↔ (IsTrue old.linked × IsTied h old.last m)) → new.left ≡ less old.left (length (leaf_pairs m)) → IsSeen before h (ls ++ m ∷ []) new
+      → last_at new.last ≡ Some m → (IsTrue new.ordered ↔ (IsTrue old.ordered × IsBehind before (last_at old.last) m)) → (IsTrue new.linked ↔ (IsTrue old.linked × IsTied h (last_at old.last) m)) → new.left ≡ less old.left (length (leaf_pairs m)) → IsSeen before h (ls ++ m ∷ []) new
   seen_more h ls m old new s is o t n = record {
     last_is = is ∙ sym (last_end None ls m);
     in_order = (
@@ -123,7 +124,7 @@ module _ (before : Before) (trans : IsTransitive before) where
   }
 
 -- what stands in one place more was seen
-pub seen_at : (before : Before) (h : TreeHead) (pages : PageMap) (front : List Slot) (s : Slot) (there : Option LeafAt) (old new : Seen) → Sees before h (option_to_list there) old new → (held pages s.id ≡ 1 → option_to_list there ≡ leaf_at s (pages s.id))
+pub seen_at : (before : Before) (h : TreeHead) (pages : PageMap) (front : List Slot) (s : Slot) (there : Option Placed) (old new : Seen) → Sees before h (option_to_list (last_at there)) old new → (held pages s.id ≡ 1 → option_to_list (last_at there) ≡ leaf_at s (pages s.id))
     → (AreThere pages front → IsSeen before h (leaves_among pages front) old) → AreThere pages (front ++ s ∷ []) → IsSeen before h (leaves_among pages (front ++ s ∷ [])) new
 seen_at before h pages front s there old new sees is so_far are =
     subst (λ (ls : List LeafAt). IsSeen before h ls new)
@@ -178,18 +179,9 @@ pub count_none : (o : Option ℕ) → o ≡ less o 0
 count_none None = refl
 count_none (Some k) = let e : leb 0 k ≡ true = le-leb 0 k (omega arith) in rw e (ap (λ (n : ℕ). Some n) (omega arith))
 
-values_count : (key : List ℕ) (values : List (List ℕ)) → length (map (pair_of key) values) ≡ length values
+pub values_count : (key : List ℕ) (values : List (List ℕ)) → length (map (pair_of key) values) ≡ length values
 values_count key [] = refl
 values_count key (v ∷ vs) = ap suc (values_count key vs)
-
-pub count_more : (o : Option ℕ) (items : List Item) (i : ℕ) (x : Item) (rest rest' : Option ℕ) (n : ℕ) → i < length items → x ≡ get_or items i x → rest ≡ less o (length (flat_map item_pairs (take i items))) → rest' ≡ less rest n → n ≡ length x.values
-    → rest' ≡ less o (length (flat_map item_pairs (take (i + 1) items)))
-count_more o items i x rest rest' n lt is so next many =
-    let front : take (i + 1) items ≡ take i items ++ x ∷ [] = take_more items i x lt ∙ ap (λ (y : Item). take i items ++ y ∷ []) (sym is) in
-    let one : length (flat_map item_pairs (x ∷ [])) ≡ n = ap (λ t. length t) (append-nil (item_pairs x)) ∙ values_count x.key x.values ∙ sym many in
-    let sum : length (flat_map item_pairs (take i items)) + n ≡ length (flat_map item_pairs (take (i + 1) items)) =
-    sym (ap (λ t. length (flat_map item_pairs t)) front ∙ ap (λ t. length t) (flat_map-append item_pairs (take i items) (x ∷ [])) ∙ length-append (flat_map item_pairs (take i items)) (flat_map item_pairs (x ∷ [])) ∙ ap (λ (k : ℕ). length (flat_map item_pairs (take i items)) + k) one) in
-    next ∙ ap (λ (r : Option ℕ). less r n) so ∙ less_less o (length (flat_map item_pairs (take i items))) n ∙ ap (less o) sum
 
 pub and_iff : (a b : Bool) (P : Type 0) → IsTrue b ↔ P → IsTrue (a && b) ↔ (IsTrue a × P)
 and_iff true b P h = (λ e. (refl, h.0 e), λ p. h.1 p.1)

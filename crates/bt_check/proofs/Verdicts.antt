@@ -18,7 +18,7 @@ use Rattle.bt_rows.specs.Rules.{B1, B3, B7, pairs_of}
 use Rattle.bt_rows.specs.Standing.{PagesStand, TreeStands, leaves_of}
 use Rattle.bt_rows.proofs.Held.{the_pages, are_held}
 use Rattle.bt_check.specs.Collected.{has, IsCollected}
-use Rattle.bt_check.specs.Leaves.{IsSeen, IsClosed}
+use Rattle.bt_check.specs.Leaves.{last_at, IsSeen, IsClosed}
 use Rattle.bt_check.specs.Walks.{IsHigh, IsWalked}
 use Rattle.bt_check.specs.Verdicts.{Breaks, IsFirstBroken, LeavesHold, LeavesBreak, Gathered, HasPlaces, broken_at, open_of, rule_b}
 use Rattle.bt_check.specs.declared.leaves.Seen.{Seen}
@@ -76,7 +76,7 @@ module _ (before : Before) (h : TreeHead) (ls : List LeafAt) (x : Seen) (v : IsS
   pub tied_fails : x.ordered ≡ true → x.linked ≡ false → LeavesBreak before h ls (rule_b 7)
   tied_fails o e = inr (v.in_order.0 o, inl (refl, λ b. let bad = sym e ∙ v.tied.1 (rule_from h ls b).0 in cc))
 
-  module _ (closed : Bool) (iff : IsTrue closed ↔ IsClosed h x.last) where
+  module _ (closed : Bool) (iff : IsTrue closed ↔ IsClosed h (last_at x.last)) where
     pub closed_fails : x.ordered ≡ true → closed ≡ false → LeavesBreak before h ls (rule_b 7)
     closed_fails o e = inr (v.in_order.0 o, inl (refl, λ b. let bad = sym e ∙ iff.1 (subst (IsClosed h) (sym v.last_is) (rule_from h ls b).1) in cc))
 

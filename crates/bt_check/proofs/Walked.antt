@@ -89,6 +89,18 @@ spread_node h m pages s old new n r a one read is e =
     let here : pages s.id ≡ Some (node_page n) = p.1 ∙ sym (read_is h m pages s.id r p.0 a p.1 read) ∙ is in
     e ∙ ap (λ o. old ++ children_at s o) (sym here)
 
+-- a leaf that is read is the one at its place, and nothing else stands there
+pub leaf_there : (h : TreeHead) (m : Map) (pages : PageMap) (s : Slot) (l : Leaf) (r : Option Page) → AreHeld h m pages → held pages s.id ≡ 1 → IsReadAs s.id (m (key_of s.id)) r → r ≡ Some (leaf_page l) → record { slot = s; leaf = l } ∷ [] ≡ leaf_at s (pages s.id)
+leaf_there h m pages s l r a one read is =
+    let p = page_of pages s.id one in
+    ap (leaf_at s) (sym (p.1 ∙ sym (read_is h m pages s.id r p.0 a p.1 read) ∙ is))
+
+pub none_there : (h : TreeHead) (m : Map) (pages : PageMap) (s : Slot) (r : Option Page) → AreHeld h m pages → held pages s.id ≡ 1 → IsReadAs s.id (m (key_of s.id)) r → r ≡ None → [] ≡ leaf_at s (pages s.id)
+none_there h m pages s r a one read is = let p = page_of pages s.id one in absurd (let bad = sym is ∙ read_is h m pages s.id r p.0 a p.1 read in cc)
+
+pub node_there : (h : TreeHead) (m : Map) (pages : PageMap) (s : Slot) → AreHeld h m pages → held pages s.id ≡ 1 → node_offset ≤ s.id → [] ≡ leaf_at s (pages s.id)
+node_there h m pages s a one le = let p = page_of pages s.id one in let n = node_above h m pages s.id p.0 a p.1 le in sym (ap (leaf_at s) n.1)
+
 -- ---- places of leaves
 
 pub kept_leaf : (s : Slot) → s.id < node_offset → leaf_places (s ∷ []) ≡ s ∷ []

@@ -1,5 +1,5 @@
 -- What the keys of a map are, one by one.
-use Rattle.std.specs.Prelude.{◌≡◌, ℕ, ◌⊎◌, List, Bool, true, false, Some, ◌==◌, ◌&&◌, if◌then◌else◌}
+use Rattle.std.specs.Prelude.{◌≡◌, ℕ, ◌⊎◌, List, Bool, true, false, Option, Some, None, ◌==◌, ◌&&◌, if◌then◌else◌}
 use Rattle.std.specs.Ordering.{nat_cmp}
 use Rattle.std.specs.BTreeSet.{BTreeSet, contains}
 use Rattle.std.specs.FinMap.{get}
@@ -29,6 +29,11 @@ pub record IsOnePage (h : TreeHead) (id : ℕ) (bytes : List ℕ) (within : Bool
   pub only : (p : Page) → IsPage id bytes p → p ≡ page
   pub inside : within ≡ true → IsWithin h id (Some page)
   pub outside : within ≡ false → IsWithin h id (Some page) → ⊥
+
+-- the bytes were told to be one page, within the limits or not, or none
+abbrev pub IsJudged : TreeHead → ℕ → List ℕ → Option Bool → Type 0
+IsJudged h id bytes None = (p : Page) → IsPage id bytes p → ⊥
+IsJudged h id bytes (Some within) = IsOnePage h id bytes within
 
 -- what a key that is held was found to be
 abbrev pub IsFound : TreeHead → Bool → Map → List ℕ → Found → Type 0

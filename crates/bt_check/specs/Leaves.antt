@@ -1,5 +1,5 @@
 -- Leaves that were seen, one by one.
-use Rattle.std.specs.Prelude.{◌≡◌, ◌↔◌, ℕ, ◌-◌, List, [], ◌∷◌, ◌++◌, Option, Some, None, ⊤, IsTrue, length, nat_le, option_to_list, if◌then◌else◌}
+use Rattle.std.specs.Prelude.{◌≡◌, ◌↔◌, ℕ, ◌-◌, List, [], ◌∷◌, ◌++◌, Option, Some, None, ⊤, IsTrue, length, nat_le, option_map, option_to_list, if◌then◌else◌}
 use Rattle.std.specs.List.{AllByRecursion}
 use Rattle.tc_base.specs.Maps.{Map as Stored}
 use Rattle.bt_page.specs.declared.page.Item.{Item}
@@ -12,6 +12,14 @@ use Rattle.bt_rows.specs.Rules.{AtLeast, InLeaf, InOrder, IsBelow, Under, pairs_
 use Rattle.bt_check.specs.ReadPages.{OfPages}
 use Rattle.bt_check.specs.Walks.{AreThere}
 use Rattle.bt_check.specs.declared.leaves.Seen.{Seen}
+use Rattle.bt_check.specs.declared.rows.Placed.{Placed}
+
+-- what is kept of a leaf at its place is that leaf
+abbrev pub at_place : Placed → LeafAt
+at_place p = record { slot = p.slot; leaf = p.leaf }
+
+abbrev pub last_at : Option Placed → Option LeafAt
+last_at last = option_map at_place last
 
 -- all keys against a bound
 abbrev pub AreAbove : Before → Option (List ℕ) → List Item → Type 0
@@ -51,7 +59,7 @@ AreTied h o (l ∷ ls) = IsTied h o l × AreTied h (Some l) ls
 
 -- what was seen of leaves
 pub record IsSeen (before : Before) (h : TreeHead) (ls : List LeafAt) (s : Seen) : Type 0 where
-  pub last_is : s.last ≡ last_leaf None ls
+  pub last_is : last_at s.last ≡ last_leaf None ls
   pub in_order : IsTrue s.ordered ↔ InOrder before ls
   pub tied : IsTrue s.linked ↔ AreTied h None ls
   pub rest : s.left ≡ less (Some h.pairs) (length (pairs_of ls))
@@ -65,8 +73,8 @@ abbrev pub OfSeen : TreeHead → Seen → (Before → List LeafAt → Type 0) �
 OfSeen h s Is = (before : Before) (ls : List LeafAt) → IsSeen before h ls s → Is before ls
 
 -- the leaf in a place, if one stands there
-abbrev pub IsLeafIn : Slot → Option LeafAt → Stored → Type 0
-IsLeafIn s there m = OfPages m (λ pages. held pages s.id ≡ 1 → option_to_list there ≡ leaf_at s (pages s.id))
+abbrev pub IsLeafIn : Slot → Option Placed → Stored → Type 0
+IsLeafIn s there m = OfPages m (λ pages. held pages s.id ≡ 1 → option_to_list (last_at there) ≡ leaf_at s (pages s.id))
 
 -- the leaves in these places were seen
 abbrev pub SeesAll : Before → TreeHead → List Slot → Seen → Stored → Type 0

@@ -1,22 +1,21 @@
 //! The pages of a store, by its keys.
-ghost use Rattle.std.specs.Prelude.{◌≡◌, ◌≤◌, ◌+◌, ◌↔◌, Some, length, IfOk, IfSome, IsTrue, OnOk};
+ghost use Rattle.std.specs.Prelude.{◌≡◌, ◌≤◌, ◌+◌, ◌↔◌, length, IfOk, IfSome, IsTrue, OnOk};
 ghost use Rattle.std.specs.BTreeSet.{btree_set_len};
 ghost use Rattle.tc_space.specs.Refusals.{OnFault};
-ghost use Rattle.bt_page.specs.Pages.{leaf_bytes, LeafFits};
-ghost use Rattle.bt_page.specs.Spelled.{Spells};
-ghost use Rattle.bt_rows.specs.Pages.{IsPage};
-ghost use Rattle.bt_rows.specs.Rules.{B1, IsWithin, LeafLimits};
-ghost use Rattle.bt_check.specs.Collected.{IsFoundAt, IsNoted};
+ghost use Rattle.bt_page.specs.Limits.{NodeWithin};
+ghost use Rattle.bt_rows.specs.Rules.{B1, LeafLimits};
+ghost use Rattle.bt_check.specs.Collected.{IsFoundAt, IsJudged, IsNoted};
 ghost use Rattle.bt_check.specs.Looks.{Gives, Looks, MayLook};
 ghost use Rattle.bt_check.specs.Verdicts.{GathersAll};
 
 use crate::ids::add;
-use crate::pages::{find, given_id, parse};
-use bt_page::{LEAF_MOST, Leaf};
-use bt_rows::{Page, TreeHead};
+use crate::pages::{find, given_id};
+use bt_page::LEAF_MOST;
+use bt_rows::TreeHead;
+use bt_slots::{BareLeaf, BareNode};
 use std::alloc::{AllocError, Global};
 use std::collections::BTreeSet;
-use tc_base::{Blobs, vnum_len};
+use tc_base::{Blob, Blobs, PAGE_END};
 use tc_space::{RecErr, Records};
 
 /// What a key is.
@@ -55,11 +54,10 @@ impl Collected {
 }
 
 // Whether a leaf is within the limits.
-fn leaf_within(head: &TreeHead, id: u64, leaf: &Leaf, bytes: &[u8]) -> bool
-    requires { Spells LeafFits leaf_bytes bytes.now leaf.now }
+fn leaf_within(head: &TreeHead, id: u64, leaf: &BareLeaf) -> bool
     ensures { IsTrue result ↔ LeafLimits head.now id leaf.now }
 {
-    let keys = leaf.items.len();
+    let keys = leaf.len();
     if keys > head.leaf_limit as usize {
         return false;
     }
@@ -69,23 +67,34 @@ fn leaf_within(head: &TreeHead, id: u64, leaf: &Leaf, bytes: &[u8]) -> bool
     if keys == 1 {
         return true;
     }
-    bytes.len() <= LEAF_MOST + (vnum_len(leaf.prev) + vnum_len(leaf.next))
+    leaf.items().len() <= LEAF_MOST
 }
 
-// Whether a page is within the limits.
-fn is_within(head: &TreeHead, id: u64, page: &Page, bytes: &[u8]) -> bool
-    requires { IsPage id bytes.now page.now }
-    ensures { IsTrue result ↔ IsWithin head.now id (Some page.now) }
+// Whether a node is within the limits.
+fn node_within(head: &TreeHead, node: &BareNode) -> bool
+    ensures { IsTrue result ↔ NodeWithin head.now.node_limit node.now }
 {
-    match page {
-        Page::Node(node) => node.entries.len() <= head.node_limit as usize,
-        Page::Leaf(leaf) => leaf_within(head, id, leaf, bytes),
+    node.len() <= head.node_limit as usize
+}
+
+// Whether bytes are a page that is within the limits or not; None where they are none.
+fn judge(head: &TreeHead, id: u64, bytes: Blob) -> Option<bool>
+    ensures { IsJudged head.now id bytes result }
+{
+    if id < PAGE_END {
+        let Some(leaf) = BareLeaf::read(bytes) else {
+            return None;
+        };
+        return Some(leaf_within(head, id, &leaf));
     }
+    let Some(node) = BareNode::read(bytes) else {
+        return None;
+    };
+    Some(node_within(head, &node))
 }
 
 // What a key that is held is.
 fn look<R: Records>(
-    alloc: Global,
     store: &mut R,
     space: &mut R::S,
     head: &TreeHead,
@@ -109,10 +118,10 @@ fn look<R: Records>(
     let Some(bytes) = find(store, space, key)? else {
         return Ok(Found::Nothing);
     };
-    let Some(page) = parse(alloc, id, bytes.as_slice())? else {
+    let Some(within) = judge(head, id, bytes) else {
         return Ok(Found::Nothing);
     };
-    Ok(Found::Page(id, is_within(head, id, &page, bytes.as_slice())))
+    Ok(Found::Page(id, within))
 }
 
 /// The pages of a store with these keys, where it holds pages alone, and `column` in an index file.
@@ -137,7 +146,7 @@ pub(crate) fn collect<R: Records>(
         within: true,
     };
     for key in keys.as_slice() {
-        let found = look(alloc, store, space, head, index, key.as_slice())?;
+        let found = look(store, space, head, index, key.as_slice())?;
         if !collected.note(found)? {
             return Ok(None);
         }

@@ -5,13 +5,14 @@ ghost use Rattle.tc_space.specs.Refusals.{OnFault};
 ghost use Rattle.bt_rows.specs.Orders.{before_by};
 ghost use Rattle.bt_rows.specs.Rules.{item_pairs};
 ghost use Rattle.bt_check.specs.Looks.{Gives, Looks, MayLook};
-ghost use Rattle.bt_check.specs.Leaves.{IsBehind, IsClosed, IsLeafIn, IsTied, Sees, SeesAll, less};
+ghost use Rattle.bt_check.specs.Leaves.{IsBehind, IsClosed, IsLeafIn, IsTied, Sees, SeesAll, at_place, last_at, less};
 ghost use Rattle.bt_check.specs.Verdicts.{Judges};
 
 use crate::ordering::{in_leaf, is_below};
-use crate::pages::read_page;
-use bt_page::Item;
-use bt_rows::{LeafAt, Page, Slot, TreeHead};
+use crate::pages::read_leaf;
+use crate::rows::Placed;
+use bt_rows::{Slot, TreeHead};
+use bt_slots::{BareLeaf, next_item};
 use std::alloc::Global;
 use tc_base::{Order, PAGE_END, Seq};
 use tc_space::{RecErr, Records};
@@ -19,7 +20,7 @@ use tc_space::{RecErr, Records};
 /// What was seen of leaves.
 #[derive(Drop)]
 pub(crate) struct Seen {
-    pub last: Option<LeafAt>,
+    pub last: Option<Placed>,
     pub ordered: bool,
     pub linked: bool,
     /// How many pairs are still to come, None where there are too many.
@@ -35,19 +36,22 @@ fn less(left: Option<u64>, n: u64) -> Option<u64>
     if n <= k { Some(k - n) } else { None }
 }
 
-// What is left behind the values of items.
-fn count_off(left: Option<u64>, items: &[Item]) -> Option<u64>
-    ensures { result ≡ less left (length (flat_map item_pairs items.now)) }
+// What is left behind the values of a leaf's items.
+fn count_off(left: Option<u64>, leaf: &BareLeaf) -> Option<u64>
+    ensures { result ≡ less left (length (flat_map item_pairs leaf.now.items)) }
 {
-    let mut rest = left;
-    for item in items {
-        rest = less(rest, item.values.len() as u64);
+    let mut left = left;
+    let mut rest = leaf.items();
+    for i in 0..leaf.len() {
+        let (item, behind) = next_item(rest);
+        left = less(less(left, 1), item.more);
+        rest = behind;
     }
-    rest
+    left
 }
 
-fn is_behind<O: Order>(last: &Option<LeafAt>, m: &LeafAt) -> bool
-    ensures { IsTrue result ↔ IsBehind (before_by O.cmp) last.now m.now }
+fn is_behind<O: Order>(last: &Option<Placed>, m: &Placed) -> bool
+    ensures { IsTrue result ↔ IsBehind (before_by O.cmp) (last_at last.now) (at_place m.now) }
 {
     match last {
         None => in_leaf::<O>(m),
@@ -55,35 +59,35 @@ fn is_behind<O: Order>(last: &Option<LeafAt>, m: &LeafAt) -> bool
     }
 }
 
-fn is_tied(head: &TreeHead, last: &Option<LeafAt>, m: &LeafAt) -> bool
-    ensures { IsTrue result ↔ IsTied head.now last.now m.now }
+fn is_tied(head: &TreeHead, last: &Option<Placed>, m: &Placed) -> bool
+    ensures { IsTrue result ↔ IsTied head.now (last_at last.now) (at_place m.now) }
 {
     match last {
-        None => m.leaf.prev == 0 && head.first == m.slot.id,
-        Some(l) => m.leaf.prev == l.slot.id && l.leaf.next == m.slot.id,
+        None => m.leaf.prev() == 0 && head.first == m.slot.id,
+        Some(l) => m.leaf.prev() == l.slot.id && l.leaf.next() == m.slot.id,
     }
 }
 
-fn is_closed(head: &TreeHead, last: &Option<LeafAt>) -> bool
-    ensures { IsTrue result ↔ IsClosed head.now last.now }
+fn is_closed(head: &TreeHead, last: &Option<Placed>) -> bool
+    ensures { IsTrue result ↔ IsClosed head.now (last_at last.now) }
 {
     match last {
         None => head.first == 0 && head.last == 0,
-        Some(l) => l.leaf.next == 0 && head.last == l.slot.id,
+        Some(l) => l.leaf.next() == 0 && head.last == l.slot.id,
     }
 }
 
 impl Seen {
     // Takes a leaf behind those that were seen, if there is one.
-    fn see<O: Order>(&mut self, head: &TreeHead, there: Option<LeafAt>)
-        ensures { Sees (before_by O.cmp) head.now (option_to_list there) self.old self.new }
+    fn see<O: Order>(&mut self, head: &TreeHead, there: Option<Placed>)
+        ensures { Sees (before_by O.cmp) head.now (option_to_list (last_at there)) self.old self.new }
     {
         let Some(m) = there else {
             return;
         };
         self.ordered = self.ordered & is_behind::<O>(&self.last, &m);
         self.linked = self.linked & is_tied(head, &self.last, &m);
-        self.left = count_off(self.left, m.leaf.items.as_slice());
+        self.left = count_off(self.left, &m.leaf);
         self.last = Some(m);
     }
 }
@@ -94,7 +98,7 @@ fn leaf_in<R: Records>(
     store: &mut R,
     space: &mut R::S,
     slot: Slot,
-) -> Result<Option<LeafAt>, RecErr>
+) -> Result<Option<Placed>, RecErr>
     requires { MayLook R.S.Space R.Records store.old space.old }
     ensures leaf { Gives R.S.Space R.Records result store.old space.old (IsLeafIn slot) }
     ensures looks { Looks R.S.Space R.Records store.old store.new space.old space.new }
@@ -104,11 +108,10 @@ fn leaf_in<R: Records>(
     if slot.id >= PAGE_END {
         return Ok(None);
     }
-    let page = read_page(alloc, store, space, slot.id)?;
-    let Some(Page::Leaf(leaf)) = page else {
+    let Some(leaf) = read_leaf(alloc, store, space, slot.id)? else {
         return Ok(None);
     };
-    Ok(Some(LeafAt { slot, leaf }))
+    Ok(Some(Placed { slot, leaf }))
 }
 
 /// Sees the leaves in these places, one at a time.

@@ -2,54 +2,76 @@
 ghost use Rattle.std.specs.Prelude.{◌≡◌, ◌↔◌, ◌<◌, IsTrue, length};
 ghost use Rattle.bt_rows.specs.Orders.{before_by};
 ghost use Rattle.bt_rows.specs.Rules.{Ascends, BoundUnder, InLeaf, IsBelow};
-ghost use Rattle.bt_check.specs.Leaves.{AreAbove, AreUnder};
+ghost use Rattle.bt_check.specs.Leaves.{AreAbove, AreUnder, at_place};
 
-use bt_page::Item;
-use bt_rows::LeafAt;
+use crate::rows::Placed;
+use bt_slots::{BareLeaf, next_item};
 use std::cmp::Ordering;
 use tc_base::{Blob, Order};
 
-fn is_before<O: Order>(a: &Blob, b: &Blob) -> bool
+fn is_before<O: Order>(a: &[u8], b: &[u8]) -> bool
     ensures { result ≡ before_by O.cmp a.now b.now }
 {
-    O::order(a.as_slice(), b.as_slice()) == Ordering::Less
+    O::order(a, b) == Ordering::Less
 }
 
-fn ascends<O: Order>(items: &[Item]) -> bool
-    ensures { IsTrue result ↔ Ascends (before_by O.cmp) items.now }
+fn is_under<O: Order>(key: &[u8], bound: &Blob) -> bool
+    ensures { result ≡ before_by O.cmp key.now bound.now }
 {
-    for i in 1..items.len() {
-        if !is_before::<O>(&items[i - 1].key, &items[i].key) {
+    is_before::<O>(key, bound.as_slice())
+}
+
+fn ascends<O: Order>(leaf: &BareLeaf) -> bool
+    ensures { IsTrue result ↔ Ascends (before_by O.cmp) leaf.now.items }
+{
+    let count = leaf.len();
+    if count == 0 {
+        return true;
+    }
+    let (first, behind) = next_item(leaf.items());
+    let mut last = first.key;
+    let mut rest = behind;
+    for i in 1..count {
+        let (item, behind) = next_item(rest);
+        if !is_before::<O>(last, item.key) {
             return false;
         }
+        last = item.key;
+        rest = behind;
     }
     true
 }
 
-fn all_above<O: Order>(bound: &Option<Blob>, items: &[Item]) -> bool
-    ensures { IsTrue result ↔ AreAbove (before_by O.cmp) bound.now items.now }
+fn all_above<O: Order>(bound: &Option<Blob>, leaf: &BareLeaf) -> bool
+    ensures { IsTrue result ↔ AreAbove (before_by O.cmp) bound.now leaf.now.items }
 {
     let Some(bound) = bound else {
         return true;
     };
-    for item in items {
-        if is_before::<O>(&item.key, bound) {
+    let mut rest = leaf.items();
+    for i in 0..leaf.len() {
+        let (item, behind) = next_item(rest);
+        if is_under::<O>(item.key, bound) {
             return false;
         }
+        rest = behind;
     }
     true
 }
 
-fn all_under<O: Order>(items: &[Item], bound: &Option<Blob>) -> bool
-    ensures { IsTrue result ↔ AreUnder (before_by O.cmp) bound.now items.now }
+fn all_under<O: Order>(leaf: &BareLeaf, bound: &Option<Blob>) -> bool
+    ensures { IsTrue result ↔ AreUnder (before_by O.cmp) bound.now leaf.now.items }
 {
     let Some(bound) = bound else {
-        return items.is_empty();
+        return leaf.len() == 0;
     };
-    for item in items {
-        if !is_before::<O>(&item.key, bound) {
+    let mut rest = leaf.items();
+    for i in 0..leaf.len() {
+        let (item, behind) = next_item(rest);
+        if !is_under::<O>(item.key, bound) {
             return false;
         }
+        rest = behind;
     }
     true
 }
@@ -60,19 +82,18 @@ fn bound_under<O: Order>(a: &Option<Blob>, b: &Option<Blob>) -> bool
     match (a, b) {
         (_, None) => false,
         (None, Some(_)) => true,
-        (Some(a), Some(b)) => is_before::<O>(a, b),
+        (Some(a), Some(b)) => is_under::<O>(a.as_slice(), b),
     }
 }
 
-pub(crate) fn in_leaf<O: Order>(l: &LeafAt) -> bool
-    ensures { IsTrue result ↔ InLeaf (before_by O.cmp) l.now }
+pub(crate) fn in_leaf<O: Order>(l: &Placed) -> bool
+    ensures { IsTrue result ↔ InLeaf (before_by O.cmp) (at_place l.now) }
 {
-    ascends::<O>(l.leaf.items.as_slice()) && all_above::<O>(&l.slot.bound, l.leaf.items.as_slice())
+    ascends::<O>(&l.leaf) && all_above::<O>(&l.slot.bound, &l.leaf)
 }
 
-pub(crate) fn is_below<O: Order>(l: &LeafAt, m: &LeafAt) -> bool
-    ensures { IsTrue result ↔ IsBelow (before_by O.cmp) l.now m.now }
+pub(crate) fn is_below<O: Order>(l: &Placed, m: &Placed) -> bool
+    ensures { IsTrue result ↔ IsBelow (before_by O.cmp) (at_place l.now) (at_place m.now) }
 {
-    bound_under::<O>(&l.slot.bound, &m.slot.bound)
-        && all_under::<O>(l.leaf.items.as_slice(), &m.slot.bound)
+    bound_under::<O>(&l.slot.bound, &m.slot.bound) && all_under::<O>(&l.leaf, &m.slot.bound)
 }

@@ -1,15 +1,16 @@
 //! Pages of a store.
-ghost use Rattle.std.specs.Prelude.{◌≡◌, ◌↔◌, ◌≤◌, ◌+◌, ℕ, IfOk, IfSome, IfNone, IsTrue};
+ghost use Rattle.std.specs.Prelude.{◌≡◌, ◌↔◌, ◌<◌, ◌≤◌, ◌+◌, ℕ, IfSome, IfNone, IsTrue};
 ghost use Rattle.tc_space.specs.Refusals.{OnFault};
-ghost use Rattle.bt_page.specs.Keys.{key_of};
+ghost use Rattle.bt_page.specs.Keys.{key_of, node_offset};
 ghost use Rattle.bt_rows.specs.Pages.{IsGiven};
 ghost use Rattle.bt_rows.specs.Rules.{B1};
 ghost use Rattle.bt_check.specs.Looks.{Gives, IsValueOf, Looks, MayLook};
-ghost use Rattle.bt_check.specs.ReadPages.{IsParsed, IsReadOf};
+ghost use Rattle.bt_check.specs.ReadPages.{IsReadOf, leaf_or_none, node_or_none};
 
-use bt_page::{PageErr, page_id, page_key, read_leaf, read_node};
-use bt_rows::{Page, TreeHead};
-use std::alloc::{AllocError, Global};
+use bt_page::{page_id, page_key};
+use bt_rows::TreeHead;
+use bt_slots::{BareLeaf, BareNode};
+use std::alloc::Global;
 use tc_base::{Blob, PAGE_END, Steps};
 use tc_space::{RecErr, Records};
 
@@ -37,24 +38,6 @@ pub(crate) fn given_id(head: &TreeHead, key: &[u8]) -> Option<u64>
     if is_given(head, id) { Some(id) } else { None }
 }
 
-/// The page that bytes are.
-pub(crate) fn parse(alloc: Global, id: u64, bytes: &[u8]) -> Result<Option<Page>, AllocError>
-    ensures { IfOk result (IsParsed id bytes.now) }
-{
-    if id < PAGE_END {
-        return match read_leaf(alloc, bytes) {
-            Ok(leaf) => Ok(Some(Page::Leaf(leaf))),
-            Err(PageErr::Bad) => Ok(None),
-            Err(PageErr::Memory) => Err(AllocError),
-        };
-    }
-    match read_node(alloc, bytes) {
-        Ok(node) => Ok(Some(Page::Node(node))),
-        Err(PageErr::Bad) => Ok(None),
-        Err(PageErr::Memory) => Err(AllocError),
-    }
-}
-
 /// The value of a key.
 pub(crate) fn find<R: Records>(
     store: &mut R,
@@ -71,23 +54,60 @@ pub(crate) fn find<R: Records>(
     store.get(space, key, &mut steps)
 }
 
-/// The page of an id.
-pub(crate) fn read_page<R: Records>(
+// The bytes of the page of an id.
+fn page_bytes<R: Records>(
     alloc: Global,
     store: &mut R,
     space: &mut R::S,
     id: u64,
-) -> Result<Option<Page>, RecErr>
+) -> Result<Option<Blob>, RecErr>
     requires { MayLook R.S.Space R.Records store.old space.old }
-    ensures read { Gives R.S.Space R.Records result store.old space.old (IsReadOf id) }
+    ensures value { Gives R.S.Space R.Records result store.old space.old (IsValueOf (key_of id)) }
     ensures looks { Looks R.S.Space R.Records store.old store.new space.old space.new }
     ensures asks { R.gets store.new ≤ R.gets store.old + 1 }
     ensures cause { OnFault R.S.Space result space.old space.new }
 {
     let mut key = Blob::new(alloc);
     page_key(id, &mut key)?;
-    let Some(bytes) = find(store, space, key.as_slice())? else {
+    find(store, space, key.as_slice())
+}
+
+/// The leaf of an id.
+pub(crate) fn read_leaf<R: Records>(
+    alloc: Global,
+    store: &mut R,
+    space: &mut R::S,
+    id: u64,
+) -> Result<Option<BareLeaf>, RecErr>
+    requires id { id < node_offset }
+    requires ready { MayLook R.S.Space R.Records store.old space.old }
+    ensures read { Gives R.S.Space R.Records result store.old space.old (λ l. IsReadOf id (leaf_or_none l)) }
+    ensures looks { Looks R.S.Space R.Records store.old store.new space.old space.new }
+    ensures asks { R.gets store.new ≤ R.gets store.old + 1 }
+    ensures cause { OnFault R.S.Space result space.old space.new }
+{
+    let Some(bytes) = page_bytes(alloc, store, space, id)? else {
         return Ok(None);
     };
-    Ok(parse(alloc, id, bytes.as_slice())?)
+    Ok(BareLeaf::read(bytes))
+}
+
+/// The node of an id.
+pub(crate) fn read_node<R: Records>(
+    alloc: Global,
+    store: &mut R,
+    space: &mut R::S,
+    id: u64,
+) -> Result<Option<BareNode>, RecErr>
+    requires id { node_offset ≤ id }
+    requires ready { MayLook R.S.Space R.Records store.old space.old }
+    ensures read { Gives R.S.Space R.Records result store.old space.old (λ n. IsReadOf id (node_or_none n)) }
+    ensures looks { Looks R.S.Space R.Records store.old store.new space.old space.new }
+    ensures asks { R.gets store.new ≤ R.gets store.old + 1 }
+    ensures cause { OnFault R.S.Space result space.old space.new }
+{
+    let Some(bytes) = page_bytes(alloc, store, space, id)? else {
+        return Ok(None);
+    };
+    Ok(BareNode::read(bytes))
 }

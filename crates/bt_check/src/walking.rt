@@ -2,33 +2,42 @@
 ghost use Rattle.std.specs.Prelude.{◌≡◌, ◌↔◌, ◌⊎◌, ◌++◌, ◌+◌, ◌<◌, ◌≤◌, ◌∷◌, [], true, false, length, OnOk, IfOk, IsTrue};
 ghost use Rattle.std.specs.BTreeSet.{btree_set_len};
 ghost use Rattle.tc_space.specs.Refusals.{OnFault};
+ghost use Rattle.bt_page.specs.Keys.{node_offset};
 ghost use Rattle.bt_rows.specs.Rows.{children_of, root_slot};
 ghost use Rattle.bt_check.specs.Looks.{AsksOrKeeps, Gives, Looks, MayLook};
 ghost use Rattle.bt_check.specs.Walks.{IsNextRow, IsStuck, IsTakenOut, LeavesRoom, Spreads, Walks, leaf_places};
 
 use crate::ids::{is_empty, take};
-use crate::pages::read_page;
+use crate::pages::read_node;
 use crate::rows::Walked;
-use bt_page::Node;
-use bt_rows::{Page, Slot};
+use bt_rows::Slot;
+use bt_slots::{BareNode, next_entry};
 use std::alloc::{AllocError, Global};
 use std::collections::BTreeSet;
 use tc_base::{Blob, PAGE_END, Seq};
 use tc_space::{RecErr, Records};
 
 // Adds what a node names.
-fn name_all(bound: Option<Blob>, node: Node, next: &mut Seq<Slot>) -> Result<(), AllocError>
-    ensures { OnOk result (next.new ≡ next.old ++ children_of bound node) }
+fn name_all(
+    alloc: Global,
+    bound: Option<Blob>,
+    node: &BareNode,
+    next: &mut Seq<Slot>,
+) -> Result<(), AllocError>
+    ensures { OnOk result (next.new ≡ next.old ++ children_of bound node.now) }
 {
     next.push(Slot {
         bound,
-        id: node.heir,
+        id: node.heir(),
     })?;
-    for entry in node.entries.into_vec() {
+    let mut rest = node.entries();
+    for i in 0..node.len() {
+        let (child, key, behind) = next_entry(rest);
         next.push(Slot {
-            bound: Some(entry.key),
-            id: entry.child,
+            bound: Some(Blob::from_slice(alloc, key)?),
+            id: child,
         })?;
+        rest = behind;
     }
     Ok(())
 }
@@ -41,17 +50,17 @@ fn spread<R: Records>(
     slot: Slot,
     next: &mut Seq<Slot>,
 ) -> Result<(), RecErr>
-    requires { MayLook R.S.Space R.Records store.old space.old }
+    requires node { node_offset ≤ slot.id }
+    requires ready { MayLook R.S.Space R.Records store.old space.old }
     ensures next { Gives R.S.Space R.Records result store.old space.old (λ _. Spreads slot next.old next.new) }
     ensures looks { Looks R.S.Space R.Records store.old store.new space.old space.new }
     ensures asks { R.gets store.new ≤ R.gets store.old + 1 }
     ensures cause { OnFault R.S.Space result space.old space.new }
 {
-    let page = read_page(alloc, store, space, slot.id)?;
-    let Some(Page::Node(node)) = page else {
+    let Some(node) = read_node(alloc, store, space, slot.id)? else {
         return Ok(());
     };
-    name_all(slot.bound, node, next)?;
+    name_all(alloc, slot.bound, &node, next)?;
     Ok(())
 }
 

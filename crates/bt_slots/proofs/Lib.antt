@@ -1,3 +1,4 @@
+pub mod BareReads
 pub mod Changes
 pub mod Leaves
 pub mod NodePlaces

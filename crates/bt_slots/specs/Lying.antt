@@ -2,11 +2,16 @@
 use Rattle.std.specs.Prelude.{◌≡◌, ℕ, suc, ◌+◌, ◌-◌, List, [], ◌∷◌, ◌++◌, take, drop, Option, Some, None}
 use Rattle.bt_page.specs.Pages.{value_bytes}
 use Rattle.bt_page.specs.declared.page.Item.{Item}
+use Rattle.bt_page.specs.declared.page.NodeEntry.{NodeEntry}
 use Rattle.bt_slots.specs.Reads.{values_in}
 
 -- the item of a key, a first value, and so many further ones in these bytes
 abbrev pub seen : List ℕ → List ℕ → ℕ → List ℕ → Item
 seen key first more further = record { key = key; values = first ∷ (values_in more further).0 }
+
+-- the entry of a page and a key
+abbrev pub entry_of : ℕ → List ℕ → NodeEntry
+entry_of child key = record { child = child; key = key }
 
 -- what is behind so many values
 abbrev pub behind_values : ℕ → List ℕ → List ℕ

@@ -1,4 +1,4 @@
-//! Where the items or entries of a page begin.
+//! Where the items or entries of a page begin, and how many they are.
 ghost use Rattle.std.specs.Prelude.{◌≡◌, ℕ, ◌-◌, ◌≤◌, ◌<◌, ◌^◌, ◌++◌, ◌∷◌, List, [], length, take, drop, IfOk, IsErrOf, OnErr};
 ghost use Rattle.std.specs.List.{AllByRecursion, flat_map};
 ghost use Rattle.tc_base.specs.Vnum.{vnum};
@@ -10,7 +10,7 @@ ghost use Rattle.bt_page.specs.declared.page.Leaf.{Leaf as the_leaf};
 ghost use Rattle.bt_page.specs.declared.page.Node.{Node as the_node};
 ghost use Rattle.bt_slots.specs.Slots.{AreStarts, IsLeafIn, IsNodeIn};
 
-use crate::fronts::cut;
+use crate::fronts::{cut, rest_from};
 use bt_page::PageErr;
 use std::alloc::{AllocError, Global};
 use tc_base::{read_number, read_three, read_two};
@@ -181,6 +181,31 @@ pub(crate) fn item_starts(alloc: Global, bytes: &[u8]) -> Result<Vec<usize>, Pag
     starts_of_items(alloc, bytes.len(), items)
 }
 
+// How many items the bytes are.
+fn count_items(bytes: &[u8]) -> Result<usize, PageErr>
+    ensures found { IfOk result (λ n. (xs : List the_item) × (n ≡ length xs) × AllByRecursion ItemFits xs × (bytes.now ≡ flat_map item_bytes xs)) }
+    ensures bad { OnErr result ((xs : List the_item) → AllByRecursion ItemFits xs → bytes.now ≡ flat_map item_bytes xs → ⊥) }
+{
+    let mut count: usize = 0;
+    let mut rest = rest_from(bytes, 0);
+    while !rest.is_empty() {
+        rest = behind_item(rest)?;
+        count += 1;
+    }
+    Ok(count)
+}
+
+/// How many items the leaf has that the bytes are. Bad where they are no leaf's. It takes no memory.
+pub(crate) fn leaf_count(bytes: &[u8]) -> Result<usize, PageErr>
+    ensures found { IfOk result (λ n. (l : the_leaf) × (n ≡ length l.items) × Spells LeafFits leaf_bytes bytes.now l) }
+    ensures bad { OnErr result ((l : the_leaf) → Spells LeafFits leaf_bytes bytes.now l → ⊥) }
+{
+    let Ok((_prev, _next, items)) = read_two(bytes) else {
+        return Err(PageErr::Bad);
+    };
+    count_items(items)
+}
+
 // Where each entry begins in bytes that stand up to this place.
 fn starts_of_entries(alloc: Global, end: usize, entries: &[u8]) -> Result<Vec<usize>, PageErr>
     requires { length entries.now ≤ end }
@@ -208,4 +233,29 @@ pub(crate) fn entry_starts(alloc: Global, bytes: &[u8]) -> Result<Vec<usize>, Pa
         return Err(PageErr::Bad);
     };
     starts_of_entries(alloc, bytes.len(), entries)
+}
+
+// How many entries the bytes are.
+fn count_entries(bytes: &[u8]) -> Result<usize, PageErr>
+    ensures found { IfOk result (λ n. (xs : List the_entry) × (n ≡ length xs) × AllByRecursion EntryFits xs × (bytes.now ≡ flat_map entry_bytes xs)) }
+    ensures bad { OnErr result ((xs : List the_entry) → AllByRecursion EntryFits xs → bytes.now ≡ flat_map entry_bytes xs → ⊥) }
+{
+    let mut count: usize = 0;
+    let mut rest = rest_from(bytes, 0);
+    while !rest.is_empty() {
+        rest = behind_entry(rest)?;
+        count += 1;
+    }
+    Ok(count)
+}
+
+/// How many entries the node has that the bytes are. Bad where they are no node's. It takes no memory.
+pub(crate) fn node_count(bytes: &[u8]) -> Result<usize, PageErr>
+    ensures found { IfOk result (λ n. (m : the_node) × (n ≡ length m.entries) × Spells NodeFits node_bytes bytes.now m) }
+    ensures bad { OnErr result ((m : the_node) → Spells NodeFits node_bytes bytes.now m → ⊥) }
+{
+    let Ok((_heir, entries)) = read_number(bytes) else {
+        return Err(PageErr::Bad);
+    };
+    count_entries(entries)
 }
