@@ -93,7 +93,7 @@ module _ {S V O : Type 0} (s : Ghosts S) (R : Stores V S) (o : Orders O) (total 
         (sym (from_own o.cmp total strict at k.items k.are n (sym (told ps means ∙ ap (last_number at.key) k.pairs) ∙ e) le))
 
     -- the tree was looked at meanwhile
-    module _ (u : Tree V O) (new : S) (looks : Looks s R o t u old new) (end : Option End) where
+    module _ (most : ℕ) (u : Tree V O) (new : S) (looks : Looks s R o most t u old new) (end : Option End) where
       pub next_key : number_behind at.number last ≡ None → AnswersPairs s R o (ends_above o.cmp at.key) u new end → Answers (next_place o.cmp (Some at)) (first_value end)
       next_key e answers = λ ps means.
           let k = items_meant s R o strict t old ps means in

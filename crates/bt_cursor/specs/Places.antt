@@ -1,21 +1,20 @@
 -- Places in a list of pairs: a key, and the number of its values in front of one.
-use Rattle.std.specs.Prelude.{ℕ, zero, suc, ◌+◌, ◌-◌, List, [], ◌∷◌, ◌++◌, filter, length, slice_get, min, nat_lt, Option, None, Some, option_map, option_and_then, if◌then◌else◌}
+use Rattle.std.specs.Prelude.{◌⊎◌, ℕ, zero, suc, ◌+◌, ◌-◌, ◌^◌, ◌≤◌, List, [], ◌∷◌, ◌++◌, filter, length, slice_get, min, nat_lt, Option, None, Some, option_map, option_and_then, if◌then◌else◌}
 use Rattle.std.specs.Ordering.{is_ge, is_gt, is_lt, nat_cmp, ordering_then}
 use Rattle.std.specs.declared.cmp.Ordering.{Ordering}
 use Rattle.tc_base.specs.Lists.{above, pair, values}
 use Rattle.tc_base.specs.declared.order.Order.{Ghosts as Orders}
 use Rattle.tc_base.specs.declared.seq.Pair.{Pair}
-use Rattle.tc_space.specs.Frames.{Keeps, Reads}
+use Rattle.tc_space.specs.Frames.{Reads}
 use Rattle.tc_space.specs.declared.records.Records.{Ghosts as Stores}
 use Rattle.tc_space.specs.declared.space.Space.{Ghosts}
 use Rattle.bt_page.specs.declared.page.Item.{Item}
 use Rattle.bt_slots.specs.Lying.{behind_values}
 use Rattle.bt_slots.specs.Reads.{value_in}
-use Rattle.bt_cache.specs.Effects.{SameStore}
 use Rattle.bt_tree.specs.declared.tree.Tree.{Tree}
 use Rattle.bt_tree.specs.Meaning.{Means}
 use Rattle.bt_tree.specs.Showing.{item_before, item_first, item_last}
-use Rattle.bt_tree.specs.Visits.{StaysTree}
+use Rattle.bt_tree.specs.Visits.{LooksAt, StaysTree}
 use Rattle.bt_cursor.specs.declared.cursor.Place.{Place}
 use Rattle.bt_cursor.specs.declared.takers.End.{End}
 
@@ -118,9 +117,17 @@ number_in_front number None = None
 number_in_front zero (Some last) = None
 number_in_front (suc n) (Some last) = Some (min n last)
 
--- the tree is only looked at, and its pairs stay
-pub record Looks {S V O : Type 0} (s : Ghosts S) (R : Stores V S) (o : Orders O) (t u : Tree V O) (old new : S) : Type 0 where
+-- a store was asked for so many pages at most, unless more can't be counted
+abbrev pub AsksFor : {S V : Type 0} → Stores V S → ℕ → V → V → Type 0
+AsksFor R most v w = (R.gets w ≤ R.gets v + most) ⊎ (2 ^ 64 - 1 ≤ most)
+
+-- nothing is written, the pairs of the tree stay, and its store is asked for so many pages at most
+pub record Looks {S V O : Type 0} (s : Ghosts S) (R : Stores V S) (o : Orders O) (most : ℕ) (t u : Tree V O) (old new : S) : Type 0 where
   pub reads : Reads s (Means s R o) t u old new
-  pub keeps : Keeps s old new
-  pub made : SameStore R t.store u.store
+  pub looks : LooksAt s R t u old new
   pub stays : StaysTree t u
+  pub asked : AsksFor R most t.store u.store
+
+-- so many at most where pairs are meant
+abbrev pub AsksFew : {S V O : Type 0} → Ghosts S → Stores V S → Orders O → ℕ → Tree V O → Tree V O → S → Type 0
+AsksFew s R o most t u old = (ps : List Pair) → Means s R o t old ps → AsksFor R most t.store u.store

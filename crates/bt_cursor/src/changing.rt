@@ -1,12 +1,12 @@
 //! A cursor's pair given another value, or taken out.
-ghost use Rattle.std.specs.Prelude.{◌≡◌, ◌<◌, ◌≤◌, ℕ, None, IfOk, OnErr, Some, true, false};
+ghost use Rattle.std.specs.Prelude.{◌≡◌, ◌+◌, ◌*◌, ◌<◌, ◌≤◌, ℕ, None, IfOk, OnErr, Some, true, false};
 ghost use Rattle.tc_space.specs.Frames.{Keeps};
 ghost use Rattle.tc_space.specs.Refusals.{Blames, OnFault};
 ghost use Rattle.bt_cache.specs.Effects.{OnFull};
 ghost use Rattle.bt_tree.specs.Inserting.{StaysMade};
 ghost use Rattle.bt_tree.specs.Meaning.{AnswersPairs, IsOpen, RefusesPairs};
 ghost use Rattle.bt_cursor.specs.Places.{Looks, place_from};
-ghost use Rattle.bt_cursor.specs.Setting.{FillsAt, OutsAt, PutsAt, TakesAt};
+ghost use Rattle.bt_cursor.specs.Setting.{FillsAt, OutsAt, PagesAt, PutsAt, TakesAt};
 
 use crate::cursor::{Cursor, Place, first_value, same_key};
 use crate::looking::{above, last_of};
@@ -35,7 +35,7 @@ fn stays_or_next<R: Records, O: Order>(
 ) -> Result<Option<Place>, RecErr>
     requires { IsOpen R.S.Space R.Records O.Order tree.old space.old }
     ensures value { IfOk result (AnswersPairs R.S.Space R.Records O.Order (place_from O.cmp place.now) tree.old space.old) }
-    ensures looks { Looks R.S.Space R.Records O.Order tree.old tree.new space.old space.new }
+    ensures looks { Looks R.S.Space R.Records O.Order (2 * tree.old.height + tree.old.head.pairs) tree.old tree.new space.old space.new }
     ensures cause { Blames R.S.Space result space.old space.new }
 {
     let key = place.key.as_slice();
@@ -58,6 +58,7 @@ fn out_of<R: Records, O: Order>(
     requires { IsOpen R.S.Space R.Records O.Order tree.old space.old }
     ensures out { IfOk result (λ next. TakesAt R.S.Space R.Records O.Order (Some place.now) next tree.old tree.new space.old space.new) }
     ensures refused { RefusesPairs R.S.Space R.Records O.Order result tree.old tree.new space.old space.new }
+    ensures pages { PagesAt R.S.Space R.Records O.Order (Some place.now) None result tree.old tree.new space.old space.new }
     ensures full { OnFull result (FillsAt R.S.Space R.Records O.Order (Some place.now) None tree.old space.old space.new) }
     ensures keeps { Keeps R.S.Space space.old space.new }
     ensures made { StaysMade R.Records tree.old tree.new }
@@ -85,6 +86,7 @@ fn out_from<R: Records, O: Order>(
     requires { IsOpen R.S.Space R.Records O.Order tree.old space.old }
     ensures out { IfOk result (λ next. TakesAt R.S.Space R.Records O.Order (at.now) next tree.old tree.new space.old space.new) }
     ensures refused { RefusesPairs R.S.Space R.Records O.Order result tree.old tree.new space.old space.new }
+    ensures pages { PagesAt R.S.Space R.Records O.Order (at.now) None result tree.old tree.new space.old space.new }
     ensures full { OnFull result (FillsAt R.S.Space R.Records O.Order (at.now) None tree.old space.old space.new) }
     ensures keeps { Keeps R.S.Space space.old space.new }
     ensures made { StaysMade R.Records tree.old tree.new }
@@ -108,6 +110,7 @@ impl Cursor {
         ensures put { IfOk result (λ there. PutsAt R.S.Space R.Records O.Order self.old.at (Some value.now) there tree.old tree.new space.old space.new) }
         ensures stays { self.new ≡ self.old }
         ensures refused { RefusesPairs R.S.Space R.Records O.Order result tree.old tree.new space.old space.new }
+        ensures pages { PagesAt R.S.Space R.Records O.Order self.old.at (Some value.now) result tree.old tree.new space.old space.new }
         ensures full { OnFull result (FillsAt R.S.Space R.Records O.Order self.old.at (Some value.now) tree.old space.old space.new) }
         ensures keeps { Keeps R.S.Space space.old space.new }
         ensures made { StaysMade R.Records tree.old tree.new }
@@ -130,6 +133,7 @@ impl Cursor {
         ensures out { IfOk result (λ there. OutsAt R.S.Space R.Records O.Order self.old.at there self.new.at tree.old tree.new space.old space.new) }
         ensures stays { OnErr result (self.new ≡ self.old) }
         ensures refused { RefusesPairs R.S.Space R.Records O.Order result tree.old tree.new space.old space.new }
+        ensures pages { PagesAt R.S.Space R.Records O.Order self.old.at None result tree.old tree.new space.old space.new }
         ensures full { OnFull result (FillsAt R.S.Space R.Records O.Order self.old.at None tree.old space.old space.new) }
         ensures keeps { Keeps R.S.Space space.old space.new }
         ensures made { StaysMade R.Records tree.old tree.new }

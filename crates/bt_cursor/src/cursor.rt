@@ -1,9 +1,9 @@
 //! A cursor.
-ghost use Rattle.std.specs.Prelude.{◌≡◌, None, IfOk, OnErr, option_map, is_some, Some};
+ghost use Rattle.std.specs.Prelude.{◌≡◌, ◌+◌, ◌*◌, None, IfOk, OnErr, OnOk, option_map, is_some, Some};
 ghost use Rattle.tc_base.specs.Lists.{from_on};
 ghost use Rattle.tc_space.specs.Refusals.{Blames};
 ghost use Rattle.bt_tree.specs.Meaning.{AnswersPairs, IsOpen};
-ghost use Rattle.bt_cursor.specs.Places.{Looks, first_place, last_place, next_place, pair_at, prev_place, number_behind, number_in_front};
+ghost use Rattle.bt_cursor.specs.Places.{AsksFew, Looks, first_place, last_place, next_place, pair_at, prev_place, number_behind, number_in_front};
 ghost use Rattle.bt_cursor.specs.Moving.{MovesTo};
 
 use crate::looking::{above, below, end_of, first_in, first_of, last_of, nth_of};
@@ -15,7 +15,7 @@ use tc_base::{Blob, Order, Pair};
 use tc_space::{RecErr, Records};
 
 /// A key, and the number of its values in front of one.
-#[derive(Debug, Drop)]
+#[derive(Drop)]
 pub struct Place {
     pub key: Blob,
     pub number: u64,
@@ -24,6 +24,8 @@ pub struct Place {
 /// A place in a tree's list of pairs, or nowhere. A step to another value of the same key passes over the values in front of it in its page, and copies none.
 ///
 /// A change of the tree by another call leaves the cursor's key and number. After a refusal the cursor stands where it stood.
+///
+/// Where pairs are meant and it isn't refused, a call that only moves it asks the store for at most twice as many pages as the tree is high, and two.
 #[derive(Drop)]
 pub struct Cursor {
     pub(crate) alloc: Global,
@@ -106,7 +108,8 @@ fn next_of<R: Records, O: Order>(
 ) -> Result<Option<Place>, RecErr>
     requires { IsOpen R.S.Space R.Records O.Order tree.old space.old }
     ensures value { IfOk result (AnswersPairs R.S.Space R.Records O.Order (next_place O.cmp (Some place.now)) tree.old space.old) }
-    ensures looks { Looks R.S.Space R.Records O.Order tree.old tree.new space.old space.new }
+    ensures looks { Looks R.S.Space R.Records O.Order (2 * tree.old.height + tree.old.head.pairs) tree.old tree.new space.old space.new }
+    ensures few { OnOk result (AsksFew R.S.Space R.Records O.Order (2 * tree.old.height + 2) tree.old tree.new space.old) }
     ensures cause { Blames R.S.Space result space.old space.new }
 {
     let key = place.key.as_slice();
@@ -127,7 +130,7 @@ fn prev_of<R: Records, O: Order>(
 ) -> Result<Option<Place>, RecErr>
     requires { IsOpen R.S.Space R.Records O.Order tree.old space.old }
     ensures value { IfOk result (AnswersPairs R.S.Space R.Records O.Order (prev_place O.cmp (Some place.now)) tree.old space.old) }
-    ensures looks { Looks R.S.Space R.Records O.Order tree.old tree.new space.old space.new }
+    ensures looks { Looks R.S.Space R.Records O.Order (2 * tree.old.height + 1) tree.old tree.new space.old space.new }
     ensures cause { Blames R.S.Space result space.old space.new }
 {
     let key = place.key.as_slice();
@@ -148,7 +151,8 @@ fn next_from<R: Records, O: Order>(
 ) -> Result<Option<Place>, RecErr>
     requires { IsOpen R.S.Space R.Records O.Order tree.old space.old }
     ensures value { IfOk result (AnswersPairs R.S.Space R.Records O.Order (next_place O.cmp at.now) tree.old space.old) }
-    ensures looks { Looks R.S.Space R.Records O.Order tree.old tree.new space.old space.new }
+    ensures looks { Looks R.S.Space R.Records O.Order (2 * tree.old.height + tree.old.head.pairs) tree.old tree.new space.old space.new }
+    ensures few { OnOk result (AsksFew R.S.Space R.Records O.Order (2 * tree.old.height + 2) tree.old tree.new space.old) }
     ensures cause { Blames R.S.Space result space.old space.new }
 {
     match at {
@@ -166,7 +170,7 @@ fn prev_from<R: Records, O: Order>(
 ) -> Result<Option<Place>, RecErr>
     requires { IsOpen R.S.Space R.Records O.Order tree.old space.old }
     ensures value { IfOk result (AnswersPairs R.S.Space R.Records O.Order (prev_place O.cmp at.now) tree.old space.old) }
-    ensures looks { Looks R.S.Space R.Records O.Order tree.old tree.new space.old space.new }
+    ensures looks { Looks R.S.Space R.Records O.Order (2 * tree.old.height + 1) tree.old tree.new space.old space.new }
     ensures cause { Blames R.S.Space result space.old space.new }
 {
     match at {
@@ -184,7 +188,7 @@ fn pair_of<R: Records, O: Order>(
 ) -> Result<Option<Pair>, RecErr>
     requires { IsOpen R.S.Space R.Records O.Order tree.old space.old }
     ensures value { IfOk result (AnswersPairs R.S.Space R.Records O.Order (pair_at (Some place.now)) tree.old space.old) }
-    ensures looks { Looks R.S.Space R.Records O.Order tree.old tree.new space.old space.new }
+    ensures looks { Looks R.S.Space R.Records O.Order tree.old.height tree.old tree.new space.old space.new }
     ensures cause { Blames R.S.Space result space.old space.new }
 {
     let key = place.key.as_slice();
@@ -204,7 +208,7 @@ fn pair_from<R: Records, O: Order>(
 ) -> Result<Option<Pair>, RecErr>
     requires { IsOpen R.S.Space R.Records O.Order tree.old space.old }
     ensures value { IfOk result (AnswersPairs R.S.Space R.Records O.Order (pair_at at.now) tree.old space.old) }
-    ensures looks { Looks R.S.Space R.Records O.Order tree.old tree.new space.old space.new }
+    ensures looks { Looks R.S.Space R.Records O.Order tree.old.height tree.old tree.new space.old space.new }
     ensures cause { Blames R.S.Space result space.old space.new }
 {
     match at {
@@ -249,7 +253,7 @@ impl Cursor {
         requires { IsOpen R.S.Space R.Records O.Order tree.old space.old }
         ensures moved { IfOk result (MovesTo R.S.Space R.Records O.Order first_place tree.old space.old self.new.at) }
         ensures stays { OnErr result (self.new ≡ self.old) }
-        ensures looks { Looks R.S.Space R.Records O.Order tree.old tree.new space.old space.new }
+        ensures looks { Looks R.S.Space R.Records O.Order 1 tree.old tree.new space.old space.new }
         ensures cause { Blames R.S.Space result space.old space.new }
     {
         let end = first_of(self.alloc, tree, space)?;
@@ -265,7 +269,7 @@ impl Cursor {
         requires { IsOpen R.S.Space R.Records O.Order tree.old space.old }
         ensures moved { IfOk result (MovesTo R.S.Space R.Records O.Order last_place tree.old space.old self.new.at) }
         ensures stays { OnErr result (self.new ≡ self.old) }
-        ensures looks { Looks R.S.Space R.Records O.Order tree.old tree.new space.old space.new }
+        ensures looks { Looks R.S.Space R.Records O.Order 1 tree.old tree.new space.old space.new }
         ensures cause { Blames R.S.Space result space.old space.new }
     {
         let end = end_of(self.alloc, tree, space)?;
@@ -282,7 +286,8 @@ impl Cursor {
         requires { IsOpen R.S.Space R.Records O.Order tree.old space.old }
         ensures moved { IfOk result (MovesTo R.S.Space R.Records O.Order (λ ps. first_place (from_on O.cmp key.now ps)) tree.old space.old self.new.at) }
         ensures stays { OnErr result (self.new ≡ self.old) }
-        ensures looks { Looks R.S.Space R.Records O.Order tree.old tree.new space.old space.new }
+        ensures looks { Looks R.S.Space R.Records O.Order (tree.old.height + tree.old.head.pairs) tree.old tree.new space.old space.new }
+        ensures few { OnOk result (AsksFew R.S.Space R.Records O.Order (tree.old.height + 2) tree.old tree.new space.old) }
         ensures cause { Blames R.S.Space result space.old space.new }
     {
         let cut = Stretch {
@@ -302,7 +307,8 @@ impl Cursor {
         requires { IsOpen R.S.Space R.Records O.Order tree.old space.old }
         ensures moved { IfOk result (MovesTo R.S.Space R.Records O.Order (next_place O.cmp self.old.at) tree.old space.old self.new.at) }
         ensures stays { OnErr result (self.new ≡ self.old) }
-        ensures looks { Looks R.S.Space R.Records O.Order tree.old tree.new space.old space.new }
+        ensures looks { Looks R.S.Space R.Records O.Order (2 * tree.old.height + tree.old.head.pairs) tree.old tree.new space.old space.new }
+        ensures few { OnOk result (AsksFew R.S.Space R.Records O.Order (2 * tree.old.height + 2) tree.old tree.new space.old) }
         ensures cause { Blames R.S.Space result space.old space.new }
     {
         let next = next_from(self.alloc, &self.at, tree, space)?;
@@ -318,7 +324,7 @@ impl Cursor {
         requires { IsOpen R.S.Space R.Records O.Order tree.old space.old }
         ensures moved { IfOk result (MovesTo R.S.Space R.Records O.Order (prev_place O.cmp self.old.at) tree.old space.old self.new.at) }
         ensures stays { OnErr result (self.new ≡ self.old) }
-        ensures looks { Looks R.S.Space R.Records O.Order tree.old tree.new space.old space.new }
+        ensures looks { Looks R.S.Space R.Records O.Order (2 * tree.old.height + 1) tree.old tree.new space.old space.new }
         ensures cause { Blames R.S.Space result space.old space.new }
     {
         let prev = prev_from(self.alloc, &self.at, tree, space)?;
@@ -334,7 +340,7 @@ impl Cursor {
         requires { IsOpen R.S.Space R.Records O.Order tree.old space.old }
         ensures value { IfOk result (AnswersPairs R.S.Space R.Records O.Order (pair_at self.old.at) tree.old space.old) }
         ensures stays { self.new ≡ self.old }
-        ensures looks { Looks R.S.Space R.Records O.Order tree.old tree.new space.old space.new }
+        ensures looks { Looks R.S.Space R.Records O.Order tree.old.height tree.old tree.new space.old space.new }
         ensures cause { Blames R.S.Space result space.old space.new }
     {
         pair_from(self.alloc, &self.at, tree, space)

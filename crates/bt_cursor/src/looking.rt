@@ -1,9 +1,9 @@
 //! Places that are found in a tree.
-ghost use Rattle.std.specs.Prelude.{◌≡◌, None, IfOk};
+ghost use Rattle.std.specs.Prelude.{◌≡◌, ◌+◌, None, IfOk, OnOk};
 ghost use Rattle.tc_space.specs.Changes.{inside};
 ghost use Rattle.tc_space.specs.Refusals.{Blames};
 ghost use Rattle.bt_tree.specs.Meaning.{AnswersPairs, IsOpen};
-ghost use Rattle.bt_cursor.specs.Places.{Looks, end_first, end_last, ends_above, ends_before, last_number, value_at};
+ghost use Rattle.bt_cursor.specs.Places.{AsksFew, Looks, end_first, end_last, ends_above, ends_before, last_number, value_at};
 
 use crate::takers::{End, Ends, Last, Nth};
 use bt_order::Above;
@@ -20,7 +20,7 @@ pub(crate) fn last_of<R: Records, O: Order>(
 ) -> Result<Option<u64>, RecErr>
     requires { IsOpen R.S.Space R.Records O.Order tree.old space.old }
     ensures value { IfOk result (AnswersPairs R.S.Space R.Records O.Order (last_number key.now) tree.old space.old) }
-    ensures looks { Looks R.S.Space R.Records O.Order tree.old tree.new space.old space.new }
+    ensures looks { Looks R.S.Space R.Records O.Order tree.old.height tree.old tree.new space.old space.new }
     ensures cause { Blames R.S.Space result space.old space.new }
 {
     let mut steps: Steps<R> = Steps::new();
@@ -41,7 +41,7 @@ pub(crate) fn nth_of<R: Records, O: Order>(
 ) -> Result<Option<Blob>, RecErr>
     requires { IsOpen R.S.Space R.Records O.Order tree.old space.old }
     ensures value { IfOk result (AnswersPairs R.S.Space R.Records O.Order (value_at key.now number) tree.old space.old) }
-    ensures looks { Looks R.S.Space R.Records O.Order tree.old tree.new space.old space.new }
+    ensures looks { Looks R.S.Space R.Records O.Order tree.old.height tree.old tree.new space.old space.new }
     ensures cause { Blames R.S.Space result space.old space.new }
 {
     let mut steps: Steps<R> = Steps::new();
@@ -69,7 +69,8 @@ pub(crate) fn first_in<R: Records, O: Order, C: Cut<O>>(
 ) -> Result<Option<End>, RecErr>
     requires { IsOpen R.S.Space R.Records O.Order tree.old space.old }
     ensures value { IfOk result (AnswersPairs R.S.Space R.Records O.Order (λ ps. end_first (inside (C.side_of cut.now) ps)) tree.old space.old) }
-    ensures looks { Looks R.S.Space R.Records O.Order tree.old tree.new space.old space.new }
+    ensures looks { Looks R.S.Space R.Records O.Order (tree.old.height + tree.old.head.pairs) tree.old tree.new space.old space.new }
+    ensures few { OnOk result (AsksFew R.S.Space R.Records O.Order (tree.old.height + 2) tree.old tree.new space.old) }
     ensures cause { Blames R.S.Space result space.old space.new }
 {
     let mut steps: Steps<R> = Steps::new();
@@ -87,7 +88,8 @@ pub(crate) fn above<R: Records, O: Order>(
 ) -> Result<Option<End>, RecErr>
     requires { IsOpen R.S.Space R.Records O.Order tree.old space.old }
     ensures value { IfOk result (AnswersPairs R.S.Space R.Records O.Order (ends_above O.cmp key.now) tree.old space.old) }
-    ensures looks { Looks R.S.Space R.Records O.Order tree.old tree.new space.old space.new }
+    ensures looks { Looks R.S.Space R.Records O.Order (tree.old.height + tree.old.head.pairs) tree.old tree.new space.old space.new }
+    ensures few { OnOk result (AsksFew R.S.Space R.Records O.Order (tree.old.height + 2) tree.old tree.new space.old) }
     ensures cause { Blames R.S.Space result space.old space.new }
 {
     first_in(alloc, tree, space, &Above { key })
@@ -102,7 +104,7 @@ pub(crate) fn below<R: Records, O: Order>(
 ) -> Result<Option<End>, RecErr>
     requires { IsOpen R.S.Space R.Records O.Order tree.old space.old }
     ensures value { IfOk result (AnswersPairs R.S.Space R.Records O.Order (ends_before O.cmp key.now) tree.old space.old) }
-    ensures looks { Looks R.S.Space R.Records O.Order tree.old tree.new space.old space.new }
+    ensures looks { Looks R.S.Space R.Records O.Order (tree.old.height + 1) tree.old tree.new space.old space.new }
     ensures cause { Blames R.S.Space result space.old space.new }
 {
     let mut steps: Steps<R> = Steps::new();
@@ -119,7 +121,7 @@ pub(crate) fn first_of<R: Records, O: Order>(
 ) -> Result<Option<End>, RecErr>
     requires { IsOpen R.S.Space R.Records O.Order tree.old space.old }
     ensures value { IfOk result (AnswersPairs R.S.Space R.Records O.Order end_first tree.old space.old) }
-    ensures looks { Looks R.S.Space R.Records O.Order tree.old tree.new space.old space.new }
+    ensures looks { Looks R.S.Space R.Records O.Order 1 tree.old tree.new space.old space.new }
     ensures cause { Blames R.S.Space result space.old space.new }
 {
     let mut steps: Steps<R> = Steps::new();
@@ -136,7 +138,7 @@ pub(crate) fn end_of<R: Records, O: Order>(
 ) -> Result<Option<End>, RecErr>
     requires { IsOpen R.S.Space R.Records O.Order tree.old space.old }
     ensures value { IfOk result (AnswersPairs R.S.Space R.Records O.Order end_last tree.old space.old) }
-    ensures looks { Looks R.S.Space R.Records O.Order tree.old tree.new space.old space.new }
+    ensures looks { Looks R.S.Space R.Records O.Order 1 tree.old tree.new space.old space.new }
     ensures cause { Blames R.S.Space result space.old space.new }
 {
     let mut steps: Steps<R> = Steps::new();

@@ -1,14 +1,12 @@
 -- Entries put into the nodes above a place, page by page.
-use Rattle.std.proofs.Common.{◌≡◌, ℕ, zero, suc, ◌+◌, ◌-◌, ◌<◌, ◌≤◌, ◌/◌, List, [], ◌∷◌, ◌++◌, Option, Some, None, length, take, drop, refl, sym, ap, ◌∙◌, subst, arith, append_assoc, length-append, ◌⊎◌, inl, inr, ⊎_elim}
-use Rattle.std.proofs.lemmas.List.{append-nil, take-append-drop, take_all, drop_more, length-drop}
+use Rattle.std.proofs.Common.{◌≡◌, ℕ, suc, ◌+◌, ◌-◌, ◌<◌, ◌≤◌, ◌/◌, List, [], ◌∷◌, ◌++◌, Option, Some, None, length, take, drop, refl, sym, ap, ◌∙◌, subst, arith, length-append, ◌⊎◌, inl, inr, ⊎_elim}
+use Rattle.std.proofs.lemmas.List.{take-append-drop, take_all, drop_more, length-drop}
 use Rattle.std.specs.Prelude.{slice_get}
-use Rattle.std.proofs.lemmas.Bool.{cases_eq}
 use Rattle.std.specs.List.{AllByRecursion, slice_index_or}
 use Rattle.tc_space.specs.Frames.{keeps_refl, keeps_then, others_then}
 use Rattle.tc_space.specs.Stores.{Only}
 use Rattle.tc_space.specs.declared.records.Records.{Ghosts as Stores}
 use Rattle.tc_space.specs.declared.space.Space.{Ghosts}
-use Rattle.bt_page.specs.Keys.{node_offset}
 use Rattle.bt_page.specs.Limits.{NodeWithin}
 use Rattle.bt_page.specs.declared.page.NodeEntry.{NodeEntry}
 use Rattle.bt_page.specs.declared.page.Node.{Node}
@@ -16,20 +14,21 @@ use Rattle.bt_rows.specs.declared.head.TreeHead.{TreeHead}
 use Rattle.bt_rows.specs.declared.page.Page.{Page}
 use Rattle.bt_rows.specs.declared.page.Page.TheVariants.{Node as node_page}
 use Rattle.bt_rows.specs.Pages.{PageMap, IsGiven}
-use Rattle.bt_rows.specs.Rules.{B1}
 use Rattle.bt_cache.specs.Effects.{SameStore, same_store_refl, same_store_then}
-use Rattle.bt_ways.specs.Climbs.{ClimbsWith, OnlyNodes}
+use Rattle.bt_ways.specs.Climbs.{ClimbsWith}
 use Rattle.bt_ways.specs.Laws.{spliced}
 use Rattle.bt_ways.specs.Writes.{put_at}
-use Rattle.bt_ways.proofs.Climbing.{node_parts, node_takes, root_grows}
-use Rattle.bt_ways.proofs.Keys.{all_map, all_part}
+use Rattle.bt_ways.proofs.Climbing.{node_parts, node_takes}
+use Rattle.bt_ways.proofs.Keys.{all_map}
 use Rattle.bt_ways.proofs.HeldWays.{WayAbove, way_node, way_parted, way_same}
 use Rattle.bt_ways.proofs.Spots.{got_at}
 use Rattle.bt_tree.specs.declared.tree.Tree.{Tree}
-use Rattle.bt_tree.specs.Climbing.{CanClimb, Divided, FillsWay, Grows, HasWay, IsAmong, IsFullWay, IsKnownNode, IsNodeOf, IsOneOrNext, IsSection, IsWayId, IsWayOf, LacksNodeIds, LacksWayNode, ShowsWay, StoodIn, TurnsClimbed, TurnsDivided, WritesKnown, entry_key, last_below, way_most}
+use Rattle.bt_tree.specs.Climbing.{CanClimb, Divided, Grows, HasWay, IsAmong, IsKnownNode, IsNodeOf, IsOneOrNext, IsSection, IsWayId, IsWayOf, LacksWayNode, ShowsWay, StoodIn, TurnsClimbed, TurnsDivided, WritesKnown, entry_key, way_most}
 use Rattle.bt_tree.specs.Meaning.{file_in}
-use Rattle.bt_tree.specs.Paging.{ComesAnew, ComesFrom, FillsIds, HasNodeAt, IsNext, IsNodeId, IsOwn, IsPageOf, IsShown, LacksSeen, LacksThis, NodesUsedUp, Peeks, PutsAt, Shows, StaysStill}
-use Rattle.bt_tree.proofs.Pagings.{Gives, IsMoved, anew_over, anew_put, anew_then, came_own, came_stood, fills_node, fills_none, fills_on, fills_then, looked_shows, more_shows, moved_column, moved_head, moved_height, moved_pages, moved_store, next_more, node_fresh, node_given, noted_shows, old_or, others_at, own_more, put_all, put_here, put_other, same_store_at, seen_after, seen_still, shown_given, some_node, stood_at}
+use Rattle.bt_tree.specs.Paging.{ComesAnew, FillsIds, HasNodeAt, IsNext, IsNodeId, IsOwn, IsPageOf, IsShown, LacksSeen, LacksThis, Peeks, PutsAt, Shows, StaysStill}
+use Rattle.bt_tree.proofs.Pagings.{Gives, IsMoved, anew_over, anew_then, came_own, came_stood, fills_none, fills_on, fills_then, looked_shows, more_shows, moved_column, moved_head, moved_height, moved_pages, moved_store, next_more, node_given, old_or, others_at, own_more, put_all, same_store_at, seen_after, seen_still, shown_given, some_node, stood_at}
+use Rattle.bt_tree.proofs.Entries.{among_back, among_front, among_join, keys_cut, keys_in, nodes_stay, put_either, section_back, section_front, section_whole, way_back, way_more}
+use Rattle.bt_tree.proofs.Divisions.{gives_root, half_back, half_front, one_known}
 
 -- a list is what is in front of a place, the one there and what is behind it
 pub cut_around : (xs front back : List NodeEntry) (i n child : ℕ) (key : List ℕ) → i < length xs → n ≡ length xs → ((e : NodeEntry) → slice_get xs i ≡ Some e → child ≡ e.child) → ((e : NodeEntry) → slice_get xs i ≡ Some e → key ≡ e.key)
@@ -48,14 +47,6 @@ cut_around xs front back i n child key lt en ec ek ef eb =
 pub took_same : (n m : Node) (place : ℕ) (xs ys : List NodeEntry) → m ≡ record { heir = n.heir; entries = spliced n.entries place xs } → xs ≡ ys → m ≡ record { heir = n.heir; entries = spliced n.entries place ys }
 took_same n m place xs ys is same = is ∙ ap (λ (zs : List NodeEntry). record { heir = n.heir; entries = spliced n.entries place zs }) same
 
--- one id of a node more
-pub gives_node : (h : TreeHead) → h.node_ids + 1 < node_offset → Gives h (record h { node_ids = h.node_ids + 1 })
-gives_node h small = record { order = refl; leaf_limit = refl; node_limit = refl; leaves = omega arith; nodes = omega arith; leaves_small = λ lt. lt; nodes_small = λ lt. small }
-
--- another root
-pub gives_root : (h : TreeHead) (root : ℕ) → Gives h (record h { root = root })
-gives_root h root = record { order = refl; leaf_limit = refl; node_limit = refl; leaves = omega arith; nodes = omega arith; leaves_small = λ lt. lt; nodes_small = λ lt. lt }
-
 pub noted_root : {V O : Type 0} (t u : Tree V O) → u ≡ record t { head = record t.head { node_ids = t.head.node_ids + 1 } } → u.head.root ≡ t.head.root
 noted_root {V} {O} t u noted = ap (λ (x : Tree V O). x.head.root) noted
 
@@ -68,271 +59,6 @@ spliced_long entries place added =
     let parts : length (take place entries) + length (drop place entries) ≡ length entries = sym (length-append (take place entries) (drop place entries)) ∙ ap length (take-append-drop place entries) in
     omega (arith, all, parts)
 
--- ---- keys of entries
-
-pub among_front : {X : Type 0} (f : X → List ℕ) (key : List ℕ) (xs ys : List X) → IsAmong f key xs → IsAmong f key (xs ++ ys)
-among_front f key [] ys a = absurd a
-among_front f key (x ∷ xs) ys (inl e) = inl e
-among_front f key (x ∷ xs) ys (inr a) = inr (among_front f key xs ys a)
-
-pub among_back : {X : Type 0} (f : X → List ℕ) (key : List ℕ) (xs ys : List X) → IsAmong f key ys → IsAmong f key (xs ++ ys)
-among_back f key [] ys a = a
-among_back f key (x ∷ xs) ys a = inr (among_back f key xs ys a)
-
-pub among_join : {X : Type 0} (f : X → List ℕ) (key : List ℕ) (xs ys : List X) → IsAmong f key (xs ++ ys) → IsAmong f key xs ⊎ IsAmong f key ys
-among_join f key [] ys a = inr a
-among_join f key (x ∷ xs) ys (inl e) = inl (inl e)
-among_join {X} f key (x ∷ xs) ys (inr a) = ⊎_elim (λ (l : IsAmong f key xs). inl (inr l)) (λ (r : IsAmong f key ys). inr r) (among_join f key xs ys a)
-
--- each has a key among them all
-pub keys_in : (xs es : List NodeEntry) → AllByRecursion (λ e. IsAmong entry_key e.key (xs ++ es)) es
-keys_in xs [] = tt
-keys_in xs (e ∷ es) = (
-  among_back entry_key e.key xs (e ∷ es) (inl refl),
-  subst (λ (t : List NodeEntry). AllByRecursion (λ d. IsAmong entry_key d.key t) es) (append_assoc xs (e ∷ []) es) (keys_in (xs ++ e ∷ []) es),
-)
-
-pub keys_cut : (entries front back : List NodeEntry) (up : NodeEntry) → entries ≡ front ++ up ∷ back
-    → AllByRecursion (λ e. IsAmong entry_key e.key entries) front × (IsAmong entry_key up.key entries × AllByRecursion (λ e. IsAmong entry_key e.key entries) back)
-keys_cut entries front back up cut =
-    let all : AllByRecursion (λ e. IsAmong entry_key e.key entries) (front ++ up ∷ back) = subst (λ (t : List NodeEntry). AllByRecursion (λ e. IsAmong entry_key e.key entries) t) cut (keys_in [] entries) in
-    let parts = all_part (λ (e : NodeEntry). IsAmong entry_key e.key entries) front (up ∷ back) all in
-    (parts.0, parts.1)
-
--- ---- sections of the places below a node
-
-pub section_whole : (heir : ℕ) (entries : List NodeEntry) → IsSection heir entries (record { heir = heir; entries = entries })
-section_whole heir entries = record { front = []; back = []; are = sym (append-nil entries); heir_is = refl }
-
-pub section_front : (heir : ℕ) (entries front back : List NodeEntry) (up : NodeEntry) → entries ≡ front ++ up ∷ back → IsSection heir entries (record { heir = heir; entries = front })
-section_front heir entries front back up cut = record { front = []; back = up ∷ back; are = cut; heir_is = refl }
-
-below_up : (heir : ℕ) (front : List NodeEntry) (up : NodeEntry) → last_below heir (front ++ up ∷ []) ≡ up.child
-below_up heir [] up = refl
-below_up heir (e ∷ es) up = below_up e.child es up
-
-pub section_back : (heir : ℕ) (entries front back : List NodeEntry) (up : NodeEntry) → entries ≡ front ++ up ∷ back → IsSection heir entries (record { heir = up.child; entries = back })
-section_back heir entries front back up cut = record {
-  front = front ++ up ∷ [];
-  back = [];
-  are = cut ∙ ap (λ (t : List NodeEntry). front ++ up ∷ t) (sym (append-nil back)) ∙ sym (append_assoc front (up ∷ []) (back ++ []));
-  heir_is = sym (below_up heir front up);
-}
-
--- ---- pages that agree along a way
-
-pub way_back : (limit most : ℕ) (old new : PageMap) (root : ℕ) (path : List (ℕ × ℕ)) (added : List NodeEntry) (n : Node) → AllByRecursion (λ (step : ℕ × ℕ). new step.0 ≡ old step.0) path → IsWayOf limit most new root path added n → IsWayOf limit most old root path added n
-way_back limit most old new root [] added n same is = is
-way_back limit most old new root (step ∷ path) added n same is = (is.0, sym same.0 ∙ is.1, ⊎_elim (λ own. inl own) (λ up. inr (up.0, up.1, up.2, up.3, way_back limit most old new root path (up.0 ∷ []) n same.1 up.4)) is.2)
-
--- and where more ids may be given
-pub way_more : (limit a b : ℕ) (pages : PageMap) (root : ℕ) (path : List (ℕ × ℕ)) (added : List NodeEntry) (n : Node) → a ≤ b → IsWayOf limit a pages root path added n → IsWayOf limit b pages root path added n
-way_more limit a b pages root [] added n le is = is
-way_more limit a b pages root (step ∷ path) added n le is = (is.0, is.1, ⊎_elim (λ own. inl own) (λ up. inr (up.0, up.1, up.2, (up.3.0, omega (arith, up.3.1, le)), way_more limit a b pages root path (up.0 ∷ []) n le up.4)) is.2)
-
-pub full_back : (limit : ℕ) (old new : PageMap) (more n : ℕ) (path : List (ℕ × ℕ)) → AllByRecursion (λ (step : ℕ × ℕ). new step.0 ≡ old step.0) path → IsFullWay limit new more n path → IsFullWay limit old more n path
-full_back limit old new more zero path same full = tt
-full_back limit old new more (suc n) [] same full = full
-full_back limit old new more (suc n) (step ∷ path) same full = (full.0, sym same.0 ∙ full.1, full.2, full_back limit old new 1 n path same.1 full.3)
-
--- ---- a node in two
-
-pub half_front : (entries front back : List NodeEntry) (up : NodeEntry) → entries ≡ front ++ up ∷ back → length front ≡ length entries / 2 → length front ≤ length entries / 2
-half_front entries front back up cut half = omega (arith, half)
-
-pub half_back : (entries front back : List NodeEntry) (up : NodeEntry) → entries ≡ front ++ up ∷ back → length front ≡ length entries / 2 → length back ≤ length entries / 2
-half_back entries front back up cut half = let total : length entries ≡ length front + suc (length back) = ap length cut ∙ length-append front (up ∷ back) in omega (arith, total, half)
-
--- the next id of a node wasn't given
-not_node : (h : TreeHead) (id : ℕ) → B1 h → id ≡ node_offset + (h.node_ids + 1) → IsGiven h id → ⊥
-not_node h id head is (inl g) = omega (arith, g.1, is, head.leaf_ids)
-not_node h id head is (inr g) = omega (arith, g.1, is)
-
--- what has no page once one came had none before
-pub put_was : (pages : PageMap) (id j : ℕ) (page : Page) → put_at id page pages j ≡ None → pages j ≡ None
-put_was pages id j page none = ⊎_elim (λ (same : j ≡ id). absurd (clash (sym (put_here pages id page) ∙ ap (put_at id page pages) (sym same) ∙ none)))
-    (λ (other : j ≡ id → ⊥). sym (put_other pages id page j other) ∙ none)
-    (cases_eq j id)
-  where
-    clash : Some page ≡ None → ⊥
-    clash e = cc
-
--- where nodes alone were written no page goes
-pub nodes_stay : (limit : ℕ) (old new : PageMap) → OnlyNodes limit old new → ComesFrom old new
-nodes_stay limit old new only j none = ⊎_elim
-    (λ (same : new j ≡ old j). sym same ∙ none)
-    (λ node. absurd (clash node.0 (sym none ∙ node.1)))
-    (only j)
-  where
-    clash : (n : Node) → ◌≡◌ {A = Option Page} None (Some (node_page n)) → ⊥
-    clash n e = cc
-
--- a page once one was put
-pub put_where : (pages : PageMap) (id j : ℕ) (page p : Page) → put_at id page pages j ≡ Some p → ((j ≡ id) × (p ≡ page)) ⊎ (pages j ≡ Some p)
-put_where pages id j page p is = ⊎_elim
-    (λ (here : j ≡ id). inl (here, same (sym is ∙ ap (put_at id page pages) here ∙ put_here pages id page)))
-    (λ (other : j ≡ id → ⊥). inr (sym (put_other pages id page j other) ∙ is))
-    (cases_eq j id)
-  where
-    same : Some p ≡ Some page → p ≡ page
-    same e = cc
-
-pub put_either : (pages : PageMap) (id j : ℕ) (page p : Page) → put_at id page pages j ≡ Some p → (p ≡ page) ⊎ (pages j ≡ Some p)
-put_either pages id j page p is = ⊎_elim
-    (λ (same : j ≡ id). inl (one (sym is ∙ ap (put_at id page pages) same ∙ put_here pages id page)))
-    (λ (other : j ≡ id → ⊥). inr (sym (put_other pages id page j other) ∙ is))
-    (cases_eq j id)
-  where
-    one : Some p ≡ Some page → p ≡ page
-    one e = cc
-
--- where one such node was written, each page is an old one or such a node
-pub one_known : (limit most root : ℕ) (path : List (ℕ × ℕ)) (added : List NodeEntry) (pages : PageMap) (id : ℕ) (n : Node) → IsKnownNode limit most root path added pages (node_page n) → WritesKnown limit most root path added pages (put_at id (node_page n) pages)
-one_known limit most root path added pages id n known j p is = ⊎_elim
-    (λ (here : p ≡ node_page n). inr (subst (λ (q : Page). IsKnownNode limit most root path added pages q) (sym here) known))
-    (λ (old : pages j ≡ Some p). inl old)
-    (put_either pages id j (node_page n) p is)
-
--- the second of two halves, and the first
-upper_node : (below : ℕ) (entries front back : List NodeEntry) (heir : ℕ) (up : NodeEntry) → entries ≡ front ++ up ∷ back → length front ≡ length entries / 2 → heir ≡ up.child
-    → (p : Page) → p ≡ node_page (record { heir = heir; entries = back }) → IsNodeOf (length entries / 2) below entries p
-upper_node below entries front back heir up cut half under p e = (
-  record { heir = heir; entries = back },
-  e,
-  half_back entries front back up cut half,
-  (keys_cut entries front back up cut).1.1,
-  subst (λ (n : ℕ). IsSection below entries (record { heir = n; entries = back })) (sym under) (section_back below entries front back up cut),
-)
-
-lower_node : (below : ℕ) (entries front back : List NodeEntry) (heir : ℕ) (up : NodeEntry) → entries ≡ front ++ up ∷ back → length front ≡ length entries / 2 → heir ≡ below
-    → (p : Page) → p ≡ node_page (record { heir = heir; entries = front }) → IsNodeOf (length entries / 2) below entries p
-lower_node below entries front back heir up cut half under p e = (
-  record { heir = heir; entries = front },
-  e,
-  half_front entries front back up cut half,
-  (keys_cut entries front back up cut).0,
-  subst (λ (n : ℕ). IsSection below entries (record { heir = n; entries = front })) (sym under) (section_front below entries front back up cut),
-)
-
--- the next id
-next_own : (h : TreeHead) (second i : ℕ) → second ≡ node_offset + (h.node_ids + 1) → i ≡ second → IsNext h 0 1 i
-next_own h second i given e = inr (omega (arith, given, e), omega (arith, given, e))
-
-module _ {S V O : Type 0} (s : Ghosts S) (R : Stores V S) where
-  pub divided : (t u v w : Tree V O) (a b d : S) (id second heir : ℕ) (entries front back : List NodeEntry) (up : NodeEntry) (above : List NodeEntry)
-      → t.head.node_ids + 1 < node_offset → u ≡ record t { head = record t.head { node_ids = t.head.node_ids + 1 } } → second ≡ node_offset + (t.head.node_ids + 1)
-      → entries ≡ front ++ up ∷ back → length front ≡ length entries / 2 → above ≡ record { child = second; key = up.key } ∷ []
-      → PutsAt s R second (node_page (record { heir = up.child; entries = back })) u v a b
-      → PutsAt s R id (node_page (record { heir = heir; entries = front })) v w b d → R.file_of v.store ≡ R.file_of u.store → v.head ≡ u.head → w.head ≡ v.head
-      → TurnsDivided s R id (record { heir = heir; entries = entries }) above t w a d
-  divided t u v w a b d id second heir entries front back up above small noted given cut half is first later file vhead whead = record {
-    sound = later.sound;
-    means = λ pages h.
-        let k : Shows s R u a pages = more_shows s R t u a (ap (λ (x : Tree V O). x.store) noted) (ap (λ (x : Tree V O). x.cache.pages) noted) (ap (λ (x : Tree V O). x.column) noted)
-        (subst (λ (x : TreeHead). Gives t.head x) (sym (ap (λ (x : Tree V O). x.head) noted)) (gives_node t.head small)) pages h in (
-          put_at id (node_page (record { heir = heir; entries = front })) (put_at second (node_page (record { heir = up.child; entries = back })) pages),
-          later.means (put_at second (node_page (record { heir = up.child; entries = back })) pages) (first.means pages k),
-          (
-            record {
-              second = second;
-              front = front;
-              up = up;
-              back = back;
-              next_id = given;
-              fresh = node_fresh t.head h.1.records pages second h.1.head h.1.held (omega (arith, given));
-              cut = cut;
-              half = half;
-              are = refl;
-              above_is = is;
-            },
-            λ there. anew_then t.head t.head pages (put_at second (node_page (record { heir = up.child; entries = back })) pages) _ (λ j g. g)
-                (anew_put t.head pages second (node_page (record { heir = up.child; entries = back })) (λ g none. not_node t.head second h.1.head given g))
-                (anew_put t.head (put_at second (node_page (record { heir = up.child; entries = back })) pages) id (node_page (record { heir = heir; entries = front })) (λ g none. there (put_was pages second id (node_page (record { heir = up.child; entries = back })) none))),
-            fills_on t.head w.head (put_at second (node_page (record { heir = up.child; entries = back })) pages) (put_at id (node_page (record { heir = heir; entries = front })) (put_at second (node_page (record { heir = up.child; entries = back })) pages)) (λ j none. put_was (put_at second (node_page (record { heir = up.child; entries = back })) pages) id j (node_page (record { heir = heir; entries = front })) none)
-                (fills_node t.head w.head pages second (node_page (record { heir = up.child; entries = back })) (ap (λ (x : TreeHead). x.leaf_ids) from) (ap (λ (x : TreeHead). x.node_ids) from) given),
-          ),
-        );
-    others = others_then s (Only (file_in R t)) a b d (others_at s _ _ a b at first.others) (others_at s _ _ b d (file ∙ at) later.others);
-  }
-    where
-      at : R.file_of u.store ≡ R.file_of t.store
-      at = ap (λ (x : Tree V O). R.file_of x.store) noted
-
-      from : w.head ≡ record t.head { node_ids = t.head.node_ids + 1 }
-      from = whead ∙ vhead ∙ ap (λ (x : Tree V O). x.head) noted
-
-  -- ---- no room for one of its nodes
-
-  module _ where
-    pub lacks_upper : (t u : Tree V O) (a b : S) (id second below : ℕ) (entries front back : List NodeEntry) {heir : ℕ} (up : NodeEntry) {k : TreeHead} → second ≡ node_offset + (t.head.node_ids + 1) → u ≡ record t { head = k } → Gives t.head k → entries ≡ front ++ up ∷ back → length front ≡ length entries / 2 → heir ≡ up.child
-        → LacksThis s R second (node_page (record { heir = heir; entries = back })) u a b → LacksSeen s R (Shows s R t a) (IsOneOrNext id t.head) (λ pages p. IsNodeOf (length entries / 2) below entries p) t a b
-    lacks_upper t u a b id second below entries front back {heir} up given noted gives cut half under l =
-        seen_still s R (Shows s R u a) (Shows s R t a) (λ pages i. i ≡ second) (IsOneOrNext id t.head) (λ pages p. p ≡ node_page (record { heir = heir; entries = back })) (λ pages p. IsNodeOf (length entries / 2) below entries p) t u a a b (keeps_refl s a)
-        (same_store_at s R t.store u.store (ap (λ (x : Tree V O). x.store) noted)) (ap (λ (x : Tree V O). x.column) noted) (λ pages h. noted_shows s R t u a noted gives pages h) (λ pages h i e. inr (next_own t.head second i given e)) (λ p pages h e. upper_node below entries front back heir up cut half under p e) l
-
-    pub lacks_lower : (t u v : Tree V O) (a b d : S) (id second below : ℕ) (entries front back : List NodeEntry) {heir child : ℕ} (up : NodeEntry) {k : TreeHead} → second ≡ node_offset + (t.head.node_ids + 1) → u ≡ record t { head = k } → Gives t.head k → entries ≡ front ++ up ∷ back → length front ≡ length entries / 2 → heir ≡ below
-        → child ≡ up.child → PutsAt s R second (node_page (record { heir = child; entries = back })) u v a b → StaysStill s R u v a b
-        → LacksThis s R id (node_page (record { heir = heir; entries = front })) v b d → LacksSeen s R (Shows s R t a) (IsOneOrNext id t.head) (λ pages p. IsNodeOf (length entries / 2) below entries p) t a d
-    lacks_lower t u v a b d id second below entries front back {heir} {child} up given noted gives cut half under over put still l =
-        seen_after s R (Shows s R v b) (Shows s R t a) (λ pages i. i ≡ id) (IsOneOrNext id t.head) (λ pages p. p ≡ node_page (record { heir = heir; entries = front })) (λ pages p. IsNodeOf (length entries / 2) below entries p) t v a b d still.keeps
-        (same_store_then R t.store u.store v.store (same_store_at s R t.store u.store (ap (λ (x : Tree V O). x.store) noted)) still.made) (still.column ∙ ap (λ (x : Tree V O). x.column) noted)
-        (λ pages h. record {
-          seen = (put_at second (node_page (record { heir = child; entries = back })) pages, put.means pages (noted_shows s R t u a noted gives pages h));
-          own = λ i e. inl e;
-          was = λ j p is. ⊎_elim
-              (λ (here : (j ≡ second) × (p ≡ node_page (record { heir = child; entries = back }))). inr (inr (next_own t.head second j given here.0), upper_node below entries front back child up cut half over p here.1))
-              (λ (old : pages j ≡ Some p). inl old)
-              (put_where pages second j (node_page (record { heir = child; entries = back })) p is);
-          fine = λ p e. lower_node below entries front back heir up cut half under p e;
-        }) l
-
-    -- nor for a new root
-    pub lacks_root : (t u : Tree V O) (a b : S) (id heir : ℕ) (added : List NodeEntry) {k : TreeHead} → id ≡ node_offset + (t.head.node_ids + 1) → u ≡ record t { head = k } → Gives t.head k → length added ≤ 2 → heir ≡ t.head.root
-        → LacksThis s R id (node_page (record { heir = heir; entries = added })) u a b → LacksSeen s R (Shows s R t a) (IsOwn t.head 0 1) (λ pages p. IsNodeOf 2 t.head.root added p) t a b
-    lacks_root t u a b id heir added given noted gives few old_root l =
-        seen_still s R (Shows s R u a) (Shows s R t a) (λ pages i. i ≡ id) (IsOwn t.head 0 1) (λ pages p. p ≡ node_page (record { heir = heir; entries = added })) (λ pages p. IsNodeOf 2 t.head.root added p) t u a a b (keeps_refl s a)
-        (same_store_at s R t.store u.store (ap (λ (x : Tree V O). x.store) noted)) (ap (λ (x : Tree V O). x.column) noted) (λ pages h. noted_shows s R t u a noted gives pages h) (λ pages h i e. inr (next_own t.head id i given e))
-        (λ p pages h e. (record { heir = heir; entries = added }, e, few, keys_in [] added, subst (λ (n : ℕ). IsSection n added (record { heir = heir; entries = added })) old_root (section_whole heir added))) l
-
-  -- ---- a new root
-
-  pub grown : (t u v w : Tree V O) (a b : S) (id heir : ℕ) (added : List NodeEntry) → t.path ≡ [] → length added ≤ 2
-      → t.head.node_ids + 1 < node_offset → u ≡ record t { head = record t.head { node_ids = t.head.node_ids + 1 } } → id ≡ node_offset + (t.head.node_ids + 1) → heir ≡ t.head.root
-      → PutsAt s R id (node_page (record { heir = heir; entries = added })) u v a b
-      → w.store ≡ v.store → w.cache.pages ≡ v.cache.pages → w.column ≡ v.column → w.head ≡ record v.head { root = id } → w.height ≡ t.height + 1 → v.head ≡ u.head
-      → TurnsClimbed s R added t w a b
-  grown t u v w a b id heir added none few small noted given old_root put store cache column head height vhead = record {
-    sound = put.sound;
-    means = λ pages h.
-        let k : Shows s R u a pages = more_shows s R t u a (ap (λ (x : Tree V O). x.store) noted) (ap (λ (x : Tree V O). x.cache.pages) noted) (ap (λ (x : Tree V O). x.column) noted)
-        (subst (λ (x : TreeHead). Gives t.head x) (sym (ap (λ (x : Tree V O). x.head) noted)) (gives_node t.head small)) pages h.0 in
-        let fresh : pages id ≡ None = node_fresh t.head h.0.1.records pages id h.0.1.head h.0.1.held (omega (arith, given)) in
-        let within : length added ≤ t.head.node_limit = omega (arith, few, h.0.1.head.node_limit.0) in (
-          put_at id (node_page (record { heir = heir; entries = added })) pages,
-          more_shows s R v w b store cache column (subst (λ (x : TreeHead). Gives v.head x) (sym head) (gives_root v.head id)) (put_at id (node_page (record { heir = heir; entries = added })) pages) (put.means pages k),
-          (
-            subst (λ (p : List (ℕ × ℕ)). ClimbsWith t.head.node_limit pages (put_at id (node_page (record { heir = heir; entries = added })) pages) t.height w.height t.head.root w.head.root p added) (sym none)
-                (subst (λ (n : ℕ). ClimbsWith t.head.node_limit pages (put_at id (node_page (record { heir = heir; entries = added })) pages) t.height n t.head.root w.head.root [] added) (omega (arith, height))
-                (subst (λ (n : ℕ). ClimbsWith t.head.node_limit pages (put_at id (node_page (record { heir = heir; entries = added })) pages) t.height (suc t.height) t.head.root n [] added) (sym (ap (λ (x : TreeHead). x.root) head))
-                (subst (λ (n : ℕ). ClimbsWith t.head.node_limit pages (put_at id (node_page (record { heir = n; entries = added })) pages) t.height (suc t.height) t.head.root id [] added) (sym old_root)
-                (root_grows t.head.node_limit pages t.height t.head.root id added fresh within)))),
-            anew_put t.head pages id (node_page (record { heir = heir; entries = added })) (λ g none. not_node t.head id h.0.1.head given g),
-            one_known t.head.node_limit (way_most t.head t.path) t.head.root t.path added pages id (record { heir = heir; entries = added }) (
-              record { heir = heir; entries = added },
-              refl,
-              within,
-              all_map (λ (x : NodeEntry). IsAmong entry_key x.key added) (λ (x : NodeEntry). IsAmong entry_key x.key added ⊎ StoodIn pages x.key) added (λ x k. inl k) (keys_in [] added),
-              subst (λ (p : List (ℕ × ℕ)). IsWayOf t.head.node_limit (way_most t.head t.path) pages t.head.root p added (record { heir = heir; entries = added })) (sym none) (subst (λ (n : ℕ). IsSection n added (record { heir = heir; entries = added })) old_root (section_whole heir added)),
-            ),
-            fills_node t.head w.head pages id (node_page (record { heir = heir; entries = added })) (ap (λ (x : TreeHead). x.leaf_ids) from) (ap (λ (x : TreeHead). x.node_ids) from) given,
-          ),
-        );
-    others = others_at s _ _ a b (ap (λ (x : Tree V O). R.file_of x.store) noted) put.others;
-  }
-    where
-      from : w.head ≡ record t.head { root = id; node_ids = t.head.node_ids + 1 }
-      from = head ∙ ap (λ (x : TreeHead). record x { root = id }) (vhead ∙ ap (λ (x : Tree V O). x.head) noted)
-
 -- ---- the lowest node of a way
 
 pub record AtStep (limit : ℕ) (pages : PageMap) (root id place : ℕ) (path : List (ℕ × ℕ)) : Type 0 where
@@ -344,10 +70,6 @@ pub at_step : (limit : ℕ) (pages : PageMap) (root id place : ℕ) (path rest :
 at_step limit pages root id place path rest e k =
     let n = way_node pages root id place rest k.crumbs k.place (sym e ∙ k.along) k.way in
     record { node = n.0; is = n.1; within = k.within id n.0 n.1 }
-
--- past the root one comes
-pub full_end : (h : TreeHead) (pages : PageMap) (path : List (ℕ × ℕ)) (more : ℕ) → path ≡ [] → NodesUsedUp h → LacksNodeIds h pages path more
-full_end h pages path more none used = (suc zero, omega (arith, used), subst (λ (p : List (ℕ × ℕ)). IsFullWay h.node_limit pages more (suc zero) p) (sym none) refl)
 
 -- where it is a node, it is within its limit
 abbrev InLimit : ℕ → ℕ → Option Page → Type 0
@@ -504,14 +226,6 @@ module _ {S V O : Type 0} (s : Ghosts S) (R : Stores V S) where
       where
         stood : IsAmong entry_key key node.entries → StoodIn pages key
         stood among = record { id = id; node = node; is = here pages h; among = among }
-
-    -- it has no room for the entries
-    pub full_step : t.head.node_limit < length (spliced node.entries place added) → NodesUsedUp v.head → FillsWay s R added t a
-    full_step over used pages h = (
-      suc zero,
-      omega (arith, used, ap (λ (y : TreeHead). y.node_ids) vhead),
-      subst (λ (p : List (ℕ × ℕ)). IsFullWay t.head.node_limit pages (length added) (suc zero) p) (sym e) (node, here pages h, omega (arith, over, spliced_long node.entries place added), tt),
-    )
 
     -- a section of it, with the entries put in
     in_way : (pages : PageMap) → ShowsWay s R t a pages → (n : Node) → IsSection node.heir (spliced node.entries place added) n → IsWayOf t.head.node_limit (way_most t.head t.path) pages t.head.root t.path added n
@@ -672,21 +386,6 @@ module _ {S V O : Type 0} (s : Ghosts S) (R : Stores V S) where
             above_way pages mid h div n.0 n.4,
           )
 
-      -- nor is there an id for what comes above
-      pub full_above : length above ≡ 1 → FillsWay s R above w d → FillsWay s R added t a
-      full_above one full pages h =
-          let k = turns.means pages (read_shows pages h.0) in
-          let n = full k.0 (k.1, on_way pages k.0 h k.2.0) in
-          let limit : w.head.node_limit ≡ t.head.node_limit = wlimit ∙ ap (λ (y : TreeHead). y.node_limit) vhead in
-          let f1 : IsFullWay w.head.node_limit k.0 1 n.0 w.path = subst (λ (m : ℕ). IsFullWay w.head.node_limit k.0 m n.0 w.path) one n.2 in
-          let f2 : IsFullWay w.head.node_limit k.0 1 n.0 path = subst (λ (p : List (ℕ × ℕ)). IsFullWay w.head.node_limit k.0 1 n.0 p) (wpath ∙ vpath) f1 in
-          let f3 : IsFullWay t.head.node_limit k.0 1 n.0 path = subst (λ (m : ℕ). IsFullWay m k.0 1 n.0 path) limit f2 in (
-            suc n.0,
-            omega (arith, n.1, grows.nodes_most, ap (λ (y : TreeHead). y.node_ids) vhead),
-            subst (λ (p : List (ℕ × ℕ)). IsFullWay t.head.node_limit pages (length added) (suc n.0) p) (sym e)
-                (node, here pages h, omega (arith, over, spliced_long node.entries place added), full_back t.head.node_limit pages k.0 1 n.0 path (apart pages k.0 h k.2.0) f3),
-          )
-
       mid_written : (pages mid : PageMap) → ShowsWay s R t a pages → Divided v.head.node_ids id (record { heir = node.heir; entries = spliced node.entries place added }) above pages mid → WritesKnown t.head.node_limit (way_most t.head t.path) t.head.root t.path added pages mid
       mid_written pages mid h div j p is =
           let left : Node = record { heir = node.heir; entries = div.front } in
@@ -789,7 +488,7 @@ module _ {S V O : Type 0} (s : Ghosts S) (R : Stores V S) where
             ready = on_ready g.ready;
             few = omega (arith, one);
             rest = λ x f climb. g.rest x f (climbed_on x f climb);
-            full = λ f l. g.full f (⊎_elim (λ (used : FillsWay s R above w d). inl (full_above one used)) (λ (lacks : LacksSeen s R (ShowsWay s R w d) (IsOwn w.head 0 (suc (length w.path))) (IsKnownNode w.head.node_limit (way_most w.head w.path) w.head.root w.path above) w d f). inr (lacks_above f lacks)) l);
+            full = λ f l. g.full f (lacks_above f l);
             grows = record {
               keeps = keeps_then s z a d g.grows.keeps (keeps_then s a b d peeks.looks.keeps grows.keeps);
               made = same_store_then R q.store t.store w.store g.grows.made (same_store_then R t.store v.store w.store vmade grows.made);

@@ -42,6 +42,13 @@ use Rattle.bt_tree.proofs.Pages.{has_page, found_leaf}
 use Rattle.bt_ways.proofs.Rising.{keys_ascend}
 use Rattle.bt_ways.proofs.Walks.{Walk, AtNode, walk_start, walk_node, walk_step, walk_end}
 
+-- the same error
+pub err_same : {T E : Type 0} (e f : E) → ◌≡◌ {A = Result T E} (Err e) (Err f) → e ≡ f
+err_same e f h = cc
+
+pub err_is : {T E : Type 0} (e f : E) → e ≡ f → ◌≡◌ {A = Result T E} (Err e) (Err f)
+err_is e f same = ap Err same
+
 -- the same error of another call
 pub err_on : {T U E : Type 0} (e f : E) → ◌≡◌ {A = Result T E} (Err e) (Err f) → ◌≡◌ {A = Result U E} (Err e) (Err f)
 err_on e f h = let same : e ≡ f = cc in ap Err same

@@ -29,8 +29,8 @@ use Rattle.bt_ways.specs.Writes.{drop_at}
 use Rattle.bt_ways.proofs.Counts.{drops}
 use Rattle.bt_tree.specs.declared.tree.Tree.{Tree}
 use Rattle.bt_tree.specs.Meaning.{file_in}
-use Rattle.bt_tree.specs.Paging.{IsLeafId, IsNodeId, IsShown, Rewrites, Seen, Shows, StaysStill, Stood}
-use Rattle.bt_tree.specs.Removing.{IsRemnant, LacksRemnant, LacksRoom, Narrows, StaysNumbered}
+use Rattle.bt_tree.specs.Paging.{IsLeafId, IsNodeId, IsShown, LacksRoom, Rewrites, Seen, Shows, StaysStill, Stood}
+use Rattle.bt_tree.specs.Removing.{IsRemnant, LacksRemnant, Narrows, StaysNumbered}
 use Rattle.bt_tree.specs.Trees.{HasKeys}
 use Rattle.bt_tree.proofs.Pagings.{ComesOf, Gives, keys_moved, lacks_after, leaf_given, more_shows, node_given, shown_beside}
 

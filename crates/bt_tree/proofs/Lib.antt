@@ -4,14 +4,17 @@ pub mod Contents
 pub mod Cuts
 pub mod Descents
 pub mod Dividers
+pub mod Divisions
 pub mod Droppings
 pub mod EndLeaves
 pub mod EndPairs
 pub mod Ends
+pub mod Entries
 pub mod Finds
 pub mod Fronts
 pub mod Heights
 pub mod Inserts
+pub mod Issues
 pub mod Kepts
 pub mod Makes
 pub mod Opens
@@ -19,8 +22,11 @@ pub mod Outs
 pub mod Pages
 pub mod Pagings
 pub mod Partings
+pub mod Pieces
 pub mod Prunings
+pub mod Puttings
 pub mod Ranges
+pub mod Remaking
 pub mod Removes
 pub mod Revalues
 pub mod Revaluings
@@ -30,5 +36,6 @@ pub mod Settles
 pub mod Shows
 pub mod Sorted
 pub mod Stretches
+pub mod Tellings
 pub mod Unlinkings
 pub mod Visitings

@@ -41,7 +41,7 @@ use Rattle.bt_tree.specs.Paging.{IsLeafId, IsShown, LacksThis, PutsAt, Seen, Sho
 use Rattle.bt_tree.specs.Removing.{AtLast, GivesInLeaf, HasLast, IsLeftPage, IsLessPage, IsLone, IsRefusedRoom, IsRemnant, LacksLast, LowersRoot, Narrows, ShowsLast, TurnsVacated, Vacated, Vacates}
 use Rattle.bt_tree.specs.Trees.{HoldsPairs}
 use Rattle.bt_tree.specs.Visits.{LooksAt, StaysTree}
-use Rattle.bt_tree.proofs.Climbings.{put_either, put_was}
+use Rattle.bt_tree.proofs.Entries.{put_either, put_was}
 use Rattle.bt_tree.proofs.Contents.{changed_items, no_items_of, page_items}
 use Rattle.bt_tree.proofs.Droppings.{SameIds, leaf_id_shown, room_after, same_shows}
 use Rattle.bt_tree.proofs.Inserts.{means_looked}

@@ -31,7 +31,7 @@ use Rattle.bt_tree.specs.declared.tree.Tree.{Tree}
 use Rattle.bt_tree.specs.Climbing.{CanClimb, HasWay, IsAmong, NodesWithin, ShowsWay, StoodIn, entry_key}
 use Rattle.bt_tree.specs.Paging.{HasNodeAt, IsNodeId, IsPageOf, IsShown, LacksThis, Peeks, PutsAt, Rewrites, Shows, StaysStill, Stood}
 use Rattle.bt_tree.specs.Removing.{HasRows, InRows, IsHeir, IsLone, IsLowered, IsRemnant, LacksCut, Narrows, ShowsHeir, ShowsRows, Sinks, StaysNumbered, TurnsCut, TurnsSunk}
-use Rattle.bt_tree.proofs.Climbings.{keys_in, put_either}
+use Rattle.bt_tree.proofs.Entries.{keys_in, put_either}
 use Rattle.bt_tree.proofs.Droppings.{SameIds, all_same, narrows_same, node_id_shown, remnant_after, same_shows}
 use Rattle.bt_tree.proofs.Pagings.{IsMoved, looked_shows, moved_column, moved_head, moved_height, moved_pages, moved_store, others_at, same_store_at, seen_still, stood_at}
 

@@ -60,9 +60,7 @@ module _ {S V O : Type 0} (s : Ghosts S) (R : Stores V S) where
   pub scans_of : (o : Orders O) (t u : Tree V O) (steps steps' : ℕ) (old new : S) → Passes s R t u steps steps' old new → Scans s R o t u steps steps' old new
   scans_of o t u steps steps' old new p = record {
     reads = tree_reads s R o t u old new p.looks.reads p.stays;
-    keeps = p.looks.keeps;
-    made = p.looks.made;
-    tight = p.looks.tight;
+    looks = p.looks;
     ticks = p.ticks;
     stays = p.stays;
   }

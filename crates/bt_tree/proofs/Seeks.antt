@@ -1,5 +1,5 @@
 -- Items as copies, from where a stretch begins on.
-use Rattle.std.proofs.Common.{◌≡◌, ◌≢◌, ◌⊎◌, ℕ, zero, suc, ◌+◌, ◌-◌, ◌<◌, ◌≤◌, ◌^◌, List, [], ◌∷◌, ◌++◌, Bool, true, false, Option, Some, None, length, take, drop, refl, sym, ap, ◌∙◌, subst, inl, ⊎_elim, arith, append_assoc, length-append}
+use Rattle.std.proofs.Common.{◌≡◌, ◌≢◌, ◌⊎◌, ℕ, ◌+◌, ◌-◌, ◌<◌, ◌≤◌, ◌^◌, List, [], ◌∷◌, ◌++◌, Bool, true, false, Option, Some, None, length, take, drop, refl, sym, ap, ◌∙◌, subst, inl, ⊎_elim, arith, append_assoc, length-append}
 use Rattle.std.specs.Prelude.{slice_get}
 use Rattle.std.specs.FinMap.{get}
 use Rattle.std.specs.List.{AllByRecursion}
@@ -43,7 +43,8 @@ use Rattle.bt_tree.specs.Showing.{ShownOf, ShowsItem, Takes}
 use Rattle.bt_tree.specs.Trees.{HoldsPairs}
 use Rattle.bt_tree.specs.Visits.{Asks}
 use Rattle.bt_tree.proofs.Descents.{leaf_values}
-use Rattle.bt_tree.proofs.Fronts.{id_given, leaf_has, some_here}
+use Rattle.bt_tree.proofs.Contents.{items_of, pairs_items, row_items}
+use Rattle.bt_tree.proofs.Fronts.{id_given, leaf_has, rows_are, some_here}
 use Rattle.bt_tree.proofs.Kepts.{keeps_all, keeps_none, no_pairs}
 use Rattle.bt_tree.proofs.Scans.{all_from, all_front, link_at}
 
@@ -76,11 +77,9 @@ not_both sides.Before e f = cc
 not_both sides.Inside e f = cc
 not_both sides.After e f = cc
 
-drop_ascends : (before : Before) (n : ℕ) (xs : List Item) → Ascends before xs → Ascends before (drop n xs)
-drop_ascends before zero [] a = a
-drop_ascends before zero (x ∷ xs) a = a
-drop_ascends before (suc n) [] a = a
-drop_ascends before (suc n) (x ∷ xs) a = drop_ascends before n xs a.1
+behind_ascends : (before : Before) (xs ys : List Item) → Ascends before (xs ++ ys) → Ascends before ys
+behind_ascends before [] ys a = a
+behind_ascends before (x ∷ xs) ys a = behind_ascends before xs ys a.1
 
 module _ (side : List ℕ → Side) where
   abbrev test : Pair → Bool
@@ -121,12 +120,23 @@ module _ (cmp : List ℕ → List ℕ → Ordering) (total : IsTotalOrder cmp) (
     some = leaf_values m l.slot.id l.leaf (leaf_has cmp strict h height column m ps is front l back parts);
   }
 
-  -- some of a leaf's
-  copies_are : (l : Leaf) (items : List Item) (next : ℕ) → AreItems cmp l.items → CopiesFrom side l items next → AreItems cmp items
-  copies_are l items next are k = subst (AreItems cmp) (sym k.are) (record {
-    ascends = drop_ascends (before_by cmp) k.place l.items are.ascends;
-    some = (all_part HasValue (take k.place l.items) (drop k.place l.items) (subst (AllByRecursion HasValue) (sym (take-append-drop k.place l.items)) are.some)).1;
-  })
+  -- some of a leaf's, and all behind them
+  rest_are : (front : List LeafAt) (l : LeafAt) (back : List LeafAt) → is.tree.leaves ≡ front ++ l ∷ back → (items : List Item) (next : ℕ) → CopiesFrom side l.leaf items next → AreItems cmp (items ++ row_items back)
+  rest_are front l back parts items next k =
+      let skipped : List Item = row_items front ++ take k.place l.leaf.items in
+      let split : l.leaf.items ≡ take k.place l.leaf.items ++ items = sym (take-append-drop k.place l.leaf.items) ∙ ap (λ (xs : List Item). take k.place l.leaf.items ++ xs) (sym k.are) in
+      let whole : row_items is.tree.leaves ≡ skipped ++ (items ++ row_items back) =
+      ap row_items parts
+      ∙ flat_map-append items_of front (l ∷ back)
+      ∙ ap (λ (xs : List Item). row_items front ++ (xs ++ row_items back)) split
+      ∙ ap (λ (xs : List Item). row_items front ++ xs) (append_assoc (take k.place l.leaf.items) items (row_items back))
+      ∙ sym (append_assoc (row_items front) (take k.place l.leaf.items) (items ++ row_items back)) in
+      let all : AreItems cmp (skipped ++ (items ++ row_items back)) = subst (AreItems cmp) whole (rows_are cmp strict h height column m ps is) in
+      record { ascends = behind_ascends (before_by cmp) skipped (items ++ row_items back) all.ascends; some = (all_part HasValue skipped (items ++ row_items back) all.some).1 }
+
+  -- their pairs
+  rest_pairs : (items : List Item) (back : List LeafAt) → items_pairs (items ++ row_items back) ≡ items_pairs items ++ pairs_of back
+  rest_pairs items back = flat_map-append item_pairs items (row_items back) ∙ ap (λ (qs : List Pair). items_pairs items ++ qs) (sym (pairs_items back))
 
   module _ (path : List (ℕ × ℕ)) (id : ℕ) (f : Found (start_of side) h.root [] is.tree.leaves is.tree.levels path id) where
     in_order : InOrder (before_by cmp) (f.front ++ f.leaf ∷ f.back)
@@ -165,11 +175,13 @@ module _ (cmp : List ℕ → List ℕ → Ordering) (total : IsTotalOrder cmp) (
               let given : 1 ≤ l.slot.id = id_given cmp strict h height column m ps is (f.front ++ f.leaf ∷ []) l back (f.parts ∙ ap (λ (t : List LeafAt). f.front ++ f.leaf ∷ t) e ∙ sym (append_assoc f.front (f.leaf ∷ []) (l ∷ back))) in
               absurd (omega (arith, given, sym end ∙ k.on ∙ link ∙ ap (λ (ls : List LeafAt). first_id ls) e))
 
-      pub sought_here : (0 < length items) ⊎ (next ≡ 0) → AreItems cmp items × AreFirstOf items (pairs_from side ps)
-      sought_here why = (
-        copies_are f.leaf.leaf items next (items_are f.front f.leaf f.back f.parts) k,
-        record { behind = pairs_of f.back; pairs = sym from_pairs; some = λ none. ⊎_elim (λ some. absurd (omega (arith, some, ap length none))) (λ end. ends none end) why },
-      )
+      pub sought_here : (0 < length items) ⊎ (next ≡ 0) → AreFirstOf cmp items (pairs_from side ps)
+      sought_here why = record {
+        left = row_items f.back;
+        are = rest_are f.front f.leaf f.back f.parts items next k;
+        pairs = rest_pairs items f.back ∙ sym from_pairs;
+        some = λ none. ⊎_elim (λ some. absurd (omega (arith, some, ap length none))) (λ end. ends none end) why;
+      }
 
       -- the next leaf
       pub record HasNext : Type 0 where
@@ -202,19 +214,18 @@ module _ (cmp : List ℕ → List ℕ → Ordering) (total : IsTotalOrder cmp) (
         onward_ascends = (items_are (f.front ++ f.leaf ∷ []) n.leaf n.behind parts).ascends
 
         -- it has an item, and none of its is in front of the stretch
-        pub sought_onward : (more : List Item) (after : ℕ) → items ≡ [] → CopiesFrom side onward more after → AreItems cmp more × AreFirstOf more (pairs_from side ps)
+        pub sought_onward : (more : List Item) (after : ℕ) → items ≡ [] → CopiesFrom side onward more after → AreFirstOf cmp more (pairs_from side ps)
         sought_onward more after none k' =
             let are = items_are (f.front ++ f.leaf ∷ []) n.leaf n.behind parts in
             let from : AllByRecursion (λ p. is_from (side p.key) ≡ true) (leaf_pairs n.leaf ++ pairs_of n.behind) = subst (λ (ls : List LeafAt). AllByRecursion (λ p. is_from (side p.key) ≡ true) (pairs_of ls)) n.are back_from in
             let whole : items_pairs more ≡ leaf_pairs n.leaf = sym (leaf_from side onward more after k') ∙ all_are side (leaf_pairs n.leaf) (all_part (λ p. is_from (side p.key) ≡ true) (leaf_pairs n.leaf) (pairs_of n.behind) from).0 in
-            let some : 0 < length onward.items = some_here cmp strict h height column m ps is (f.front ++ f.leaf ∷ []) n.leaf n.behind parts (omega (arith, ap length parts, length-append (f.front ++ f.leaf ∷ []) (n.leaf ∷ n.behind), length-append f.front (f.leaf ∷ []))) in (
-              copies_are onward more after are k',
-              record {
-                behind = pairs_of n.behind;
-                pairs = (λ j. whole j ++ pairs_of n.behind) ∙ sym (from_pairs ∙ (λ j. items_pairs (none j) ++ pairs_of (n.are j)));
-                some = λ e. absurd (omega (arith, some, ap length (no_pairs onward.items are.some (sym whole ∙ ap items_pairs e))));
-              },
-            )
+            let some : 0 < length onward.items = some_here cmp strict h height column m ps is (f.front ++ f.leaf ∷ []) n.leaf n.behind parts (omega (arith, ap length parts, length-append (f.front ++ f.leaf ∷ []) (n.leaf ∷ n.behind), length-append f.front (f.leaf ∷ []))) in
+            record {
+              left = row_items n.behind;
+              are = rest_are (f.front ++ f.leaf ∷ []) n.leaf n.behind parts more after k';
+              pairs = rest_pairs more n.behind ∙ (λ j. whole j ++ pairs_of n.behind) ∙ sym (from_pairs ∙ (λ j. items_pairs (none j) ++ pairs_of (n.are j)));
+              some = λ e. absurd (omega (arith, some, ap length (no_pairs onward.items are.some (sym whole ∙ ap items_pairs e))));
+            }
 
 -- ---- whatever a store tells
 

@@ -37,7 +37,7 @@ use Rattle.bt_tree.specs.declared.tree.Tree.{Tree}
 use Rattle.bt_tree.specs.Climbing.{CanClimb, HasWay, NodesWithin, ShowsWay, StoodIn}
 use Rattle.bt_tree.specs.Paging.{ComesNone, HasLeafAt, IsLeafId, IsPageOf, IsShown, LacksThis, Peeks, PutsAt, Rewrites, Shows, Stood}
 use Rattle.bt_tree.specs.Removing.{AtLast, Cuts, HasLast, HasLink, HasLinks, HasRows, InRows, IsRemnant, LacksCut, LacksLast, LacksLink, LacksLinks, Narrows, ShowsLast, ShowsLink, ShowsLinks, SinksTo, StaysBeside, StaysNumbered, TurnsCut, TurnsLinked, TurnsSunk, TurnsUnlinked, TurnsVacated, Vacated, WritesRemnants, first_after, last_after, without_linked}
-use Rattle.bt_tree.proofs.Climbings.{put_either}
+use Rattle.bt_tree.proofs.Entries.{put_either}
 use Rattle.bt_tree.proofs.Droppings.{SameIds, given_same, leaf_id_shown, narrow_ids, node_id_shown, none_at_zero, remnant_after, same_shows}
 use Rattle.bt_tree.proofs.Pagings.{looked_shows, old_or, others_at, seen_after, seen_still, stood_at, stood_was}
 use Rattle.bt_tree.proofs.Prunings.{dropped_was, node_some}

@@ -21,7 +21,7 @@ use Rattle.bt_ways.specs.Ways.{Crumb, path_of}
 use Rattle.bt_ways.specs.Writes.{put_at}
 use Rattle.bt_tree.specs.declared.tree.Tree.{Tree}
 use Rattle.bt_tree.specs.Meaning.{file_in}
-use Rattle.bt_tree.specs.Paging.{ComesAnew, FillsIds, IsNext, IsOwn, LacksSeen, NodesUsedUp, Shows, Turns}
+use Rattle.bt_tree.specs.Paging.{ComesAnew, FillsIds, IsNext, IsOwn, LacksSeen, Shows, Turns}
 
 abbrev pub NodesWithin : ℕ → PageMap → Type 0
 NodesWithin limit pages = (id : ℕ) (n : Node) → pages id ≡ Some (node_page n) → NodeWithin limit n
@@ -148,14 +148,18 @@ module _ {S V O : Type 0} (s : Ghosts S) (R : Stores V S) where
   abbrev pub TurnsClimbed : List NodeEntry → Tree V O → Tree V O → S → S → Type 0
   TurnsClimbed added t u old new = Turns s (Only (file_in R t)) (ShowsWay s R) (Shows s R) (Climbs t u added) t u old new
 
-  -- ids are used up, or the store has no room for a section of so many of these entries at most, under such an id
+  -- the store has no room for a section of so many of these entries at most, under such an id
   abbrev pub LacksNodeOf : (PageMap → ℕ → Type 0) → ℕ → ℕ → List NodeEntry → Tree V O → S → S → Type 0
-  LacksNodeOf Own most heir entries t old new = NodesUsedUp t.head ⊎ LacksSeen s R (Shows s R t old) Own (λ pages p. IsNodeOf most heir entries p) t old new
+  LacksNodeOf Own most heir entries t old new = LacksSeen s R (Shows s R t old) Own (λ pages p. IsNodeOf most heir entries p) t old new
 
-  -- fewer ids of nodes are left than come where these entries climb the noted way
-  abbrev pub FillsWay : List NodeEntry → Tree V O → S → Type 0
-  FillsWay added t old = (pages : PageMap) → ShowsWay s R t old pages → LacksNodeIds t.head pages t.path (length added)
-
-  -- or the store has no room for a node that they make
+  -- it has none for a node that these entries make where they climb the noted way
   abbrev pub LacksWayNode : List NodeEntry → Tree V O → S → S → Type 0
-  LacksWayNode added t old new = FillsWay added t old ⊎ LacksSeen s R (ShowsWay s R t old) (IsOwn t.head 0 (suc (length t.path))) (IsKnownNode t.head.node_limit (way_most t.head t.path) t.head.root t.path added) t old new
+  LacksWayNode added t old new = LacksSeen s R (ShowsWay s R t old) (IsOwn t.head 0 (suc (length t.path))) (IsKnownNode t.head.node_limit (way_most t.head t.path) t.head.root t.path added) t old new
+
+  -- where a node stands under an id, it has no room for so many entries more
+  abbrev pub IsFullAt : ℕ → ℕ → Tree V O → S → Type 0
+  IsFullAt id more t space = (pages : PageMap) (n : Node) → Shows s R t space pages → pages id ≡ Some (node_page n) → t.head.node_limit < length n.entries + more
+
+  -- so many nodes come at least, where so many entries climb the noted way
+  abbrev pub ComeAlong : ℕ → ℕ → Tree V O → S → Type 0
+  ComeAlong more nodes t space = (pages : PageMap) → ShowsWay s R t space pages → IsFullWay t.head.node_limit pages more nodes t.path

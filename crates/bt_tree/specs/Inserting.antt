@@ -21,7 +21,7 @@ use Rattle.bt_tree.specs.declared.tree.Tree.{Tree}
 use Rattle.bt_tree.specs.Climbing.{IsAmong, StoodIn}
 use Rattle.bt_tree.specs.Meaning.{Changes, Means, Meant}
 use Rattle.bt_tree.specs.Parting.{ClimbsIn, IsStretch, LacksIds}
-use Rattle.bt_tree.specs.Paging.{ComesAnew, FillsIds, IsOwn, LacksPage, Shows}
+use Rattle.bt_tree.specs.Paging.{ComesAnew, FillsIds, IsOwn, LacksRoom, Shows, TellsNumbers}
 use Rattle.bt_tree.specs.Trees.{IsTree}
 
 -- in the leaf where a key belongs a pair came in; the leaf isn't written yet
@@ -126,10 +126,11 @@ module _ {S V O : Type 0} (s : Ghosts S) (R : Stores V S) (o : Orders O) (last :
   abbrev pub IsWritten : (t : Tree V O) (old : S) → Meant s R o t old → Page → Type 0
   IsWritten t old w p = IsPutPage o.cmp t.head w.1.1.is.tree.pages w.0 (inserted o.cmp last key value w.0) p × IsMorePage o.cmp last key value w.1.1.is.tree p
 
-  -- the leaf is to be parted, and fewer ids are left than pages come
-  abbrev pub UsesUp : Tree V O → S → Type 0
-  UsesUp t old = (ps : List Pair) (h : Means s R o t old ps) → RunsOut o.cmp last key value h.1.is.tree
+  -- the file is that of the tree as it was, and tells its numbers; a leaf is to be parted, and fewer ids are left than pages come
+  abbrev pub UsesUp : Tree V O → S → S → Type 0
+  UsesUp t old new = TellsNumbers s R t old new × ((ps : List Pair) (h : Means s R o t old ps) → RunsOut o.cmp last key value h.1.is.tree)
 
-  -- so it is, or the store, which holds the pages of the tree before and such pages alone, has no room for a page of the tree before or after, under an id that has a page or is one of the next
+  -- so it is, or the store, which holds the pages of the tree before and such pages alone, has no room for a page of the tree before or after, under an id that has a page or is one of the next, or the undo
+  -- log is full
   abbrev pub IsFull : Tree V O → S → S → Type 0
-  IsFull t old new = UsesUp t old ⊎ LacksPage s R (Meant s R o t old) (λ w i. IsOwn t.head 2 t.height w.1.1.is.tree.pages i) (λ w. w.1.1.is.tree.pages) (IsWritten t old) t old new
+  IsFull t old new = UsesUp t old new ⊎ LacksRoom s R (Meant s R o t old) (λ w i. IsOwn t.head 2 t.height w.1.1.is.tree.pages i) (λ w. w.1.1.is.tree.pages) (IsWritten t old) t old new

@@ -2,7 +2,7 @@
 use Rattle.std.specs.Prelude.{◌≡◌, ◌⊎◌, ℕ, ◌+◌, ◌<◌, ◌≤◌, List, Option, Some, None, Result}
 use Rattle.std.specs.FinMap.{get}
 use Rattle.tc_base.specs.Maps.{Map}
-use Rattle.std.proofs.Common.{inl, inr, ⊎_elim}
+use Rattle.std.proofs.Common.{inl, inr, ⊎_elim, subst, sym}
 use Rattle.tc_space.specs.Frames.{GivenUp, In, Keeps, Others, Writes, keeps_then}
 use Rattle.tc_space.specs.Stores.{IsReady, Only}
 use Rattle.tc_space.specs.declared.records.Records.{Ghosts as Stores}
@@ -14,10 +14,11 @@ use Rattle.bt_page.specs.declared.page.Node.{Node}
 use Rattle.bt_rows.specs.declared.head.TreeHead.{TreeHead}
 use Rattle.bt_rows.specs.declared.page.Page.{Page}
 use Rattle.bt_rows.specs.declared.page.Page.TheVariants.{Leaf as leaf_page, Node as node_page}
+use Rattle.bt_rows.specs.Heads.{head_of}
 use Rattle.bt_rows.specs.Pages.{PageMap, AreHeld, IsGiven, IsPage}
 use Rattle.bt_rows.specs.Rules.{B1, column as column_key}
 use Rattle.bt_cache.specs.Effects.{LacksKey, Looks, RefusesBeside, SameStore}
-use Rattle.bt_cache.specs.Held.{AreSame, Holds}
+use Rattle.bt_cache.specs.Held.{AreSame, Beside, Holds}
 use Rattle.bt_ways.specs.Writes.{put_at}
 use Rattle.bt_tree.specs.declared.tree.Tree.{Tree}
 use Rattle.bt_tree.specs.Meaning.{file_in}
@@ -57,10 +58,6 @@ ComesFrom old new = (id : ℕ) → new id ≡ None → old id ≡ None
 -- no page comes
 abbrev pub ComesNone : PageMap → PageMap → Type 0
 ComesNone old new = (id : ℕ) → old id ≡ None → new id ≡ None
-
--- ids of nodes are used up
-abbrev pub NodesUsedUp : TreeHead → Type 0
-NodesUsedUp h = node_offset ≤ h.node_ids + 1
 
 -- the tree's numbers and way stay, and its store's file, type and region; what is kept stays
 pub record StaysStill {S V O : Type 0} (s : Ghosts S) (R : Stores V S) (t u : Tree V O) (old new : S) : Type 0 where
@@ -109,6 +106,39 @@ module _ {S V O : Type 0} (s : Ghosts S) (R : Stores V S) where
   -- the space may not be used any more, or nothing has changed
   abbrev pub RefusesPages : {T E : Type 0} → Result T E → Tree V O → Tree V O → S → S → Type 0
   RefusesPages result t u old new = RefusesBeside s R result t.cache u.cache t.store u.store old new
+
+-- ---- the numbers in the file
+
+module _ {S V O : Type 0} (s : Ghosts S) (R : Stores V S) where
+  -- in its file the store has the map that was held with the pages in memory, and its region tells the tree's numbers
+  pub record BringsNumbers (t : Tree V O) (old new : S) : Type 0 where
+    pub store : V
+    pub region : List ℕ
+    pub numbers : head_of region ≡ t.head
+    pub holds : (m : Map) → Beside s R (t.cache.pages, t.store) old m → R.holds store (s.now new (file_in R t)) m
+    pub stands : (m : Map) → Beside s R (t.cache.pages, t.store) old m → R.stands (R.sort t.store) (R.numbers t.store) (s.now new (file_in R t)) m region
+
+  -- besides, all of the file is where it is kept
+  abbrev pub TellsNumbers : Tree V O → S → S → Type 0
+  TellsNumbers t old new = s.brought new × BringsNumbers t old new
+
+  -- so it is, or the undo log is full
+  abbrev pub TellsFull : Tree V O → S → S → Type 0
+  TellsFull t old new = TellsNumbers t old new ⊎ (s.tells → s.log_full new)
+
+  -- over the same bytes
+  pub brings_over : (t : Tree V O) (old mid new : S) → (s.tells → s.now new (file_in R t) ≡ s.now mid (file_in R t)) → BringsNumbers t old mid → BringsNumbers t old new
+  brings_over t old mid new same b = record {
+    store = b.store;
+    region = b.region;
+    numbers = b.numbers;
+    holds = λ m h. subst (λ (bytes : List ℕ). R.holds b.store bytes m) (sym (same h.0.0)) (b.holds m h);
+    stands = λ m h. subst (λ (bytes : List ℕ). R.stands (R.sort t.store) (R.numbers t.store) bytes m b.region) (sym (same h.0.0)) (b.stands m h);
+  }
+
+  -- in a space that was given up since
+  pub tells_given : (t : Tree V O) (old mid new : S) → GivenUp s mid new → TellsNumbers t old mid → TellsNumbers t old new
+  tells_given t old mid new given tells = (given.brought tells.0, brings_over t old mid new (λ told. given.files told (file_in R t)) tells.1)
 
 -- ---- when the store has no room for a page
 
@@ -190,3 +220,12 @@ module _ {S V O : Type 0} (s : Ghosts S) (R : Stores V S) (still : (v : V) (a b 
       by = λ m h. ⊎_elim (λ log. inl (given.log log)) (λ lacks. inr (still l.store l.moment mid new _ _ given lacks)) (l.by.by m h);
     };
   }
+
+-- it has no room for such a page, or the undo log is full
+abbrev pub LacksRoom : {S V O : Type 0} → Ghosts S → Stores V S → (W : Type 0) → (W → ℕ → Type 0) → (W → PageMap) → (W → Page → Type 0) → Tree V O → S → S → Type 0
+LacksRoom s R W Own At Fine t old new = LacksPage s R W Own At Fine t old new ⊎ (s.tells → s.log_full new)
+
+-- so it is in a space that was given up since
+pub room_given : {S V O : Type 0} (s : Ghosts S) (R : Stores V S) (still : (v : V) (a b c : S) (key value : List ℕ) → GivenUp s b c → R.lacks v a b key value → R.lacks v a c key value)
+    → (W : Type 0) (Own : W → ℕ → Type 0) (At : W → PageMap) (Fine : W → Page → Type 0) (t : Tree V O) (old mid new : S) → GivenUp s mid new → LacksRoom s R W Own At Fine t old mid → LacksRoom s R W Own At Fine t old new
+room_given s R still W Own At Fine t old mid new given room = ⊎_elim (λ l. inl (lacks_given s R still W Own At Fine t old mid new given l)) (λ log. inr (λ told. given.log (log told))) room

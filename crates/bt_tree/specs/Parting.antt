@@ -26,9 +26,9 @@ use Rattle.bt_ways.specs.Writes.{put_at}
 use Rattle.bt_tree.specs.declared.tree.Tree.{Tree}
 use Rattle.bt_tree.specs.declared.parting.Laid.{Laid}
 use Rattle.bt_tree.specs.declared.parting.Parted.{Parted}
-use Rattle.bt_tree.specs.Climbing.{CanClimb, IsAmong, IsWayOf, LacksNodeIds, StoodIn, way_most}
+use Rattle.bt_tree.specs.Climbing.{CanClimb, IsAmong, IsWayOf, LacksNodeIds, ShowsWay, StoodIn, way_most}
 use Rattle.bt_tree.specs.Meaning.{file_in}
-use Rattle.bt_tree.specs.Paging.{ComesAnew, FillsIds, IsOwn, LacksSeen, Shows, Turns}
+use Rattle.bt_tree.specs.Paging.{ComesAnew, FillsIds, IsOwn, LacksSeen, Shows, TellsNumbers, Turns}
 
 -- with these leaves at their ids, the last one last
 abbrev pub put_laid : List Laid → PageMap → PageMap
@@ -141,23 +141,23 @@ pub record LacksIds (h : TreeHead) (pages : PageMap) (path : List (ℕ × ℕ)) 
   pub used : (node_offset ≤ h.leaf_ids + more) ⊎ LacksNodeIds h pages path more
 
 -- the leaf became several within the limits, whose entries have climbed
-pub record IsParted {V O : Type 0} (t u : Tree V O) (id : ℕ) (leaf : Leaf) (old new : PageMap) : Type 0 where
+pub record IsParted {V O : Type 0} (h : TreeHead) (height : ℕ) (path : List (ℕ × ℕ)) (u : Tree V O) (id : ℕ) (leaf : Leaf) (old new : PageMap) : Type 0 where
   pub items : List Item
   pub parts : List Part
   pub whole : leaf.items ≡ all_items items parts
   pub some : 0 < length items
   pub have : AllByRecursion HasItems parts
-  pub within : ItemsWithin t.head.leaf_limit items
-  pub are_within : AllByRecursion (λ p. ItemsWithin t.head.leaf_limit p.items) parts
+  pub within : ItemsWithin h.leaf_limit items
+  pub are_within : AllByRecursion (λ p. ItemsWithin h.leaf_limit p.items) parts
   pub fresh : AreFresh old parts
-  pub anew : ComesAnew t.head old new
-  pub filled : FillsIds t.head u.head new
-  pub written : (j : ℕ) (p : Page) → new j ≡ Some p → (old j ≡ Some p) ⊎ IsPiece t.head t.path leaf.items leaf.next old p
+  pub anew : ComesAnew h old new
+  pub filled : FillsIds h u.head new
+  pub written : (j : ℕ) (p : Page) → new j ≡ Some p → (old j ≡ Some p) ⊎ IsPiece h path leaf.items leaf.next old p
   pub given : AllByRecursion (λ p. 1 ≤ p.id) parts
-  pub last : u.head.last ≡ (if leaf.next == 0 then last_part id parts else t.head.last)
+  pub last : u.head.last ≡ (if leaf.next == 0 then last_part id parts else h.last)
   pub climbs : (s : Slot) (back : List LeafAt) → s.id ≡ id → LeavesHeld old back → leaf.next ≡ first_id back → (leaf.next ≡ 0 → back ≡ [])
-      → ClimbsWith t.head.node_limit (with_parts old (parted s leaf.prev leaf.next items parts) (relinked (last_id 0 (parted s leaf.prev leaf.next items parts)) back)) new
-      t.height u.height t.head.root u.head.root t.path (map part_entry parts)
+      → ClimbsWith h.node_limit (with_parts old (parted s leaf.prev leaf.next items parts) (relinked (last_id 0 (parted s leaf.prev leaf.next items parts)) back)) new
+      height u.height h.root u.head.root path (map part_entry parts)
 
 -- whatever it answers: so many ids of nodes are given at most, two of leaves and one row, under another root and another last leaf; all else that is told of the tree stays
 pub record Widens {S V O : Type 0} (s : Ghosts S) (R : Stores V S) (nodes : ℕ) (t u : Tree V O) (old new : S) : Type 0 where
@@ -182,16 +182,24 @@ module _ {S V O : Type 0} (s : Ghosts S) (R : Stores V S) where
   HasLeaf id next t space = IsReady s (ShowsLeaf s R id next) t space
 
   abbrev pub TurnsParted : ℕ → Leaf → Tree V O → Tree V O → S → S → Type 0
-  TurnsParted id leaf t u old new = Turns s (Only (file_in R t)) (ShowsLeaf s R id leaf.next) (Shows s R) (IsParted t u id leaf) t u old new
-
-  -- fewer ids are left than pages come
-  abbrev pub LacksId : ℕ → Leaf → Tree V O → S → Type 0
-  LacksId id leaf t old = (pages : PageMap) → ShowsLeaf s R id leaf.next t old pages → LacksIds t.head pages t.path leaf.items
+  TurnsParted id leaf t u old new = Turns s (Only (file_in R t)) (ShowsLeaf s R id leaf.next) (Shows s R) (IsParted t.head t.height t.path u id leaf) t u old new
 
   -- the store has no room for one of these leaves
   abbrev pub LacksLaid : List Laid → Tree V O → S → S → Type 0
   LacksLaid leaves t old new = LacksSeen s R (Shows s R t old) (λ pages i. IsLaidId leaves i) (λ pages p. IsLaid leaves p) t old new
 
-  -- ids are used up, or it has none for a page of the leaf's items, of the leaf behind, or of a node along the way
+  -- the store has none for a page of the leaf's items, of the leaf behind, or of a node along the way
   abbrev pub LacksPiece : ℕ → Leaf → Tree V O → S → S → Type 0
-  LacksPiece id leaf t old new = LacksId id leaf t old ⊎ LacksSeen s R (ShowsLeaf s R id leaf.next t old) (IsOwn t.head 2 (suc (length t.path))) (IsPiece t.head t.path leaf.items leaf.next) t old new
+  LacksPiece id leaf t old new = LacksSeen s R (ShowsLeaf s R id leaf.next t old) (IsOwn t.head 2 (suc (length t.path))) (IsPiece t.head t.path leaf.items leaf.next) t old new
+
+  -- these items are parted, and fewer ids are left than pages come along the noted way
+  abbrev pub LacksId : List Item → Tree V O → S → Type 0
+  LacksId items t old = (pages : PageMap) → ShowsWay s R t old pages → LacksIds t.head pages t.path items
+
+  -- the file is that of the tree as it was, and tells its numbers, and ids are used up
+  abbrev pub RunsOver : Leaf → Tree V O → S → S → Type 0
+  RunsOver leaf t old new = TellsNumbers s R t old new × LacksId leaf.items t old
+
+  -- so it is, or the store lacks room for such a page, or the undo log is full
+  abbrev pub LacksPart : ℕ → Leaf → Tree V O → S → S → Type 0
+  LacksPart id leaf t old new = RunsOver leaf t old new ⊎ (LacksPiece id leaf t old new ⊎ (s.tells → s.log_full new))

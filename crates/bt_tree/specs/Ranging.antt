@@ -9,8 +9,8 @@ use Rattle.tc_base.specs.declared.order.Side.{Side}
 use Rattle.tc_base.specs.declared.order.Side.TheVariants as side
 use Rattle.tc_base.specs.declared.seq.Pair.{Pair}
 use Rattle.tc_space.specs.Changes.{inside, is_inside}
-use Rattle.tc_space.specs.Frames.{Keeps, Reads}
-use Rattle.tc_space.specs.Stores.{KeepsTight, Ticks}
+use Rattle.tc_space.specs.Frames.{Reads}
+use Rattle.tc_space.specs.Stores.{Ticks}
 use Rattle.tc_space.specs.declared.records.Records.{Ghosts as Stores}
 use Rattle.tc_space.specs.declared.space.Space.{Ghosts}
 use Rattle.bt_page.specs.Pages.{HasValue}
@@ -20,20 +20,17 @@ use Rattle.bt_rows.specs.declared.page.LeafAt.{LeafAt}
 use Rattle.bt_rows.specs.Orders.{Before, before_by}
 use Rattle.bt_rows.specs.Rules.{Ascends, item_pairs, leaf_pairs}
 use Rattle.bt_rows.specs.declared.page.Page.TheVariants.{Leaf as leaf_page}
-use Rattle.bt_cache.specs.Effects.{SameStore}
 use Rattle.bt_cache.specs.Held.{Beside, HasPage}
 use Rattle.bt_tree.specs.declared.tree.Tree.{Tree}
 use Rattle.bt_tree.specs.Meaning.{Means}
-use Rattle.bt_tree.specs.Visits.{StaysTree}
+use Rattle.bt_tree.specs.Visits.{LooksAt, StaysTree}
 
 -- ---- what is seen from outside
 
 -- nothing is written, the pairs stay, what was packed is so still, and the counter rises by at least as much as the store was asked
 pub record Scans {S V O : Type 0} (s : Ghosts S) (R : Stores V S) (o : Orders O) (t u : Tree V O) (steps steps' : ℕ) (old new : S) : Type 0 where
   pub reads : Reads s (Means s R o) t u old new
-  pub keeps : Keeps s old new
-  pub made : SameStore R t.store u.store
-  pub tight : KeepsTight R.tight t.store u.store
+  pub looks : LooksAt s R t u old new
   pub ticks : Ticks (R.gets t.store) (R.gets u.store) steps steps'
   pub stays : StaysTree t u
 

@@ -5,8 +5,7 @@ use Rattle.std.specs.declared.cmp.Ordering.{Ordering}
 use Rattle.tc_base.specs.declared.order.Order.{Ghosts as Orders}
 use Rattle.tc_base.specs.declared.seq.Pair.{Pair}
 use Rattle.tc_space.specs.Changes.{has_pair}
-use Rattle.std.proofs.Common.{inl, inr, ⊎_elim}
-use Rattle.tc_space.specs.Frames.{GivenUp, Keeps}
+use Rattle.tc_space.specs.Frames.{Keeps}
 use Rattle.tc_space.specs.Stores.{IsReady, Only, TakesOut}
 use Rattle.tc_space.specs.declared.records.Records.{Ghosts as Stores}
 use Rattle.tc_space.specs.declared.space.Space.{Ghosts}
@@ -32,7 +31,7 @@ use Rattle.bt_tree.specs.declared.tree.Tree.{Tree}
 use Rattle.bt_tree.specs.Climbing.{ShowsWay, StoodIn}
 use Rattle.bt_tree.specs.Inserting.{IsPutPage}
 use Rattle.bt_tree.specs.Meaning.{Means, Meant, file_in}
-use Rattle.bt_tree.specs.Paging.{ComesNone, LacksPage, Seen, Shows, Stood, Turns, lacks_given}
+use Rattle.bt_tree.specs.Paging.{ComesNone, LacksRoom, Seen, Shows, Stood, Turns}
 use Rattle.bt_tree.specs.Trees.{IsTree}
 
 -- ---- what stays, whatever a call answers
@@ -50,17 +49,6 @@ pub record Narrows {S V O : Type 0} (s : Ghosts S) (R : Stores V S) (t u : Tree 
   pub column : u.column ≡ t.column
   pub head : u.head ≡ record t.head { root = u.head.root; first = u.head.first; last = u.head.last }
   pub rows : u.height ≤ t.height
-
--- ---- when the store has no room
-
--- it has no room for such a page, or the undo log is full, as a page is to be taken out
-abbrev pub LacksRoom : {S V O : Type 0} → Ghosts S → Stores V S → (W : Type 0) → (W → ℕ → Type 0) → (W → PageMap) → (W → Page → Type 0) → Tree V O → S → S → Type 0
-LacksRoom s R W Own At Fine t old new = LacksPage s R W Own At Fine t old new ⊎ (s.tells → s.log_full new)
-
--- so it is in a space that was given up since
-pub room_given : {S V O : Type 0} (s : Ghosts S) (R : Stores V S) (still : (v : V) (a b c : S) (key value : List ℕ) → GivenUp s b c → R.lacks v a b key value → R.lacks v a c key value)
-    → (W : Type 0) (Own : W → ℕ → Type 0) (At : W → PageMap) (Fine : W → Page → Type 0) (t : Tree V O) (old mid new : S) → GivenUp s mid new → LacksRoom s R W Own At Fine t old mid → LacksRoom s R W Own At Fine t old new
-room_given s R still W Own At Fine t old mid new given room = ⊎_elim (λ l. inl (lacks_given s R still W Own At Fine t old mid new given l)) (λ log. inr (λ told. given.log (log told))) room
 
 -- ---- a leaf that goes
 

@@ -1,5 +1,6 @@
 -- Items as copies, from some place on.
 use Rattle.std.specs.Prelude.{◌≡◌, ℕ, List, [], ◌++◌, drop, filter}
+use Rattle.std.specs.declared.cmp.Ordering.{Ordering}
 use Rattle.tc_base.specs.Maps.{Map}
 use Rattle.tc_base.specs.declared.order.Order.{Ghosts as Orders}
 use Rattle.tc_base.specs.declared.order.Side.{Side}
@@ -21,15 +22,16 @@ use Rattle.bt_tree.specs.Ranging.{IsStart, is_from}
 abbrev pub pairs_from : (List ℕ → Side) → List Pair → List Pair
 pairs_from side ps = filter (λ p. is_from (side p.key)) ps
 
--- items whose pairs are the first of these, and some where there are any
-pub record AreFirstOf (items : List Item) (ps : List Pair) : Type 0 where
-  pub behind : List Pair
-  pub pairs : items_pairs items ++ behind ≡ ps
+-- the first of the items that stand for these pairs, each key once, with all its values; some where there are any
+pub record AreFirstOf (cmp : List ℕ → List ℕ → Ordering) (items : List Item) (ps : List Pair) : Type 0 where
+  pub left : List Item
+  pub are : AreItems cmp (items ++ left)
+  pub pairs : items_pairs (items ++ left) ≡ ps
   pub some : items ≡ [] → ps ≡ []
 
--- so are these of the pairs that a tree means and that aren't in front of a stretch, each key once, with all its values
+-- so they are of the pairs that a tree means and that aren't in front of a stretch
 abbrev pub SeeksPairs : {S V O : Type 0} → Ghosts S → Stores V S → Orders O → (List ℕ → Side) → Tree V O → S → List Item → Type 0
-SeeksPairs s R o side tree space items = (ps : List Pair) → Means s R o tree space ps → AreItems o.cmp items × AreFirstOf items (pairs_from side ps)
+SeeksPairs s R o side tree space items = (ps : List Pair) → Means s R o tree space ps → AreFirstOf o.cmp items (pairs_from side ps)
 
 -- the items of a leaf that aren't in front of a stretch, and the next leaf
 pub record CopiesFrom (side : List ℕ → Side) (l : Leaf) (items : List Item) (next : ℕ) : Type 0 where

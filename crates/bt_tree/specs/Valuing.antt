@@ -1,5 +1,5 @@
 -- One value among those of a key, which is another or goes.
-use Rattle.std.specs.Prelude.{◌≡◌, ◌⊎◌, ⊤, ℕ, ◌+◌, ◌<◌, ◌≤◌, List, Bool, false, true, Option, None, Some, length, nat_lt, set, slice_get}
+use Rattle.std.specs.Prelude.{◌≡◌, ◌⊎◌, ⊤, ℕ, ◌+◌, ◌<◌, ◌≤◌, List, Bool, false, true, Option, None, Some, Result, OnErr, length, nat_lt, set, slice_get}
 use Rattle.std.specs.declared.cmp.Ordering.{Ordering}
 use Rattle.tc_base.specs.Lists.{values, with_values}
 use Rattle.tc_base.specs.declared.order.Order.{Ghosts as Orders}
@@ -20,11 +20,11 @@ use Rattle.bt_ways.specs.Items.{IsLeafFor}
 use Rattle.bt_ways.specs.Ways.{Found}
 use Rattle.bt_tree.specs.declared.inserting.Changed.{Changed}
 use Rattle.bt_tree.specs.declared.tree.Tree.{Tree}
-use Rattle.bt_tree.specs.Inserting.{IsPutPage}
+use Rattle.bt_tree.specs.Inserting.{Gains, IsPutPage, WritesPages}
 use Rattle.bt_tree.specs.Meaning.{Means, Meant, file_in}
-use Rattle.bt_tree.specs.Paging.{IsOwn, Shows}
+use Rattle.bt_tree.specs.Paging.{IsOwn, LacksRoom, Shows, TellsNumbers}
 use Rattle.bt_tree.specs.Parting.{ClimbsIn, LacksIds}
-use Rattle.bt_tree.specs.Removing.{IsLess, LacksRoom}
+use Rattle.bt_tree.specs.Removing.{AddsNone, IsLess, LowersRoot}
 use Rattle.bt_tree.specs.Trees.{IsTree}
 
 -- the value at a place among those of a key is another, or goes
@@ -75,6 +75,11 @@ pub record GivesFew {V O : Type 0} (leaves nodes rows : ℕ) (t u : Tree V O) : 
   pub nodes_most : u.head.node_ids ≤ t.head.node_ids + nodes
   pub rows_most : u.height ≤ t.height + rows
 
+-- so it is whatever a call answers; and where it was refused the space may not be used any more, or no id is given and no row comes
+pub record GivesFewIds {S V O T E : Type 0} (s : Ghosts S) (leaves nodes rows : ℕ) (result : Result T E) (t u : Tree V O) (new : S) : Type 0 where
+  pub most : GivesFew leaves nodes rows t u
+  pub kept : OnErr result ((s.flag new ≡ false) ⊎ AddsNone t u)
+
 -- the leaf where a key belongs has no room for what is to be made of its pairs
 pub record IsCrowdedBy (cmp : List ℕ → List ℕ → Ordering) (key : List ℕ) (f : List Pair → List Pair) {h : TreeHead} {height : ℕ} {m : List ℕ → Option (List ℕ)} (tree : IsTree (before_by cmp) h height m) : Type 0 where
   pub path : List (ℕ × ℕ)
@@ -100,14 +105,24 @@ module _ {S V O : Type 0} (s : Ghosts S) (R : Stores V S) (o : Orders O) (key : 
   abbrev pub SetsAt : Bool → Tree V O → Tree V O → S → S → Type 0
   SetsAt there t u old new = TakesOut s (Only (file_in R t)) (Means s R o) (has_nth key place) (valued o.cmp key place value) there t u old new
 
+  -- pages come, at most two leaves, a node in each row and a row, since the leaf where the key belongs has no room for what is to be made of its pairs
+  abbrev pub PartsAt : Tree V O → Tree V O → S → Type 0
+  PartsAt t u old = Gains 2 t.height 1 t u × ((ps : List Pair) (h : Means s R o t old ps) → IsCrowdedBy o.cmp key (valued o.cmp key place value) h.1.is.tree)
+
+  -- no page comes, or the leaf is parted; each that isn't as it was is one that the change may write; and where a leaf goes, the root has more below it than its heir
+  pub record ChangesPages (t u : Tree V O) (old new : S) : Type 0 where
+    pub adds : AddsNone t u ⊎ PartsAt t u old
+    pub written : WritesPages s R o (valued o.cmp key place value) t u old new
+    pub root : LowersRoot s R o t u old new
+
   -- where there is such a value, a page of the tree before or after
   abbrev pub IsSetPage : (t : Tree V O) (old : S) → Meant s R o t old → Page → Type 0
   IsSetPage t old w p = IsPutPage o.cmp t.head w.1.1.is.tree.pages w.0 (valued o.cmp key place value w.0) p × IsSetMore o.cmp key (valued o.cmp key place value) w.1.1.is.tree p × (has_nth key place w.0 ≡ true)
 
-  -- the leaf is parted, and fewer ids are left than pages come
-  abbrev pub SetsTooMuch : Tree V O → S → Type 0
-  SetsTooMuch t old = (ps : List Pair) (h : Means s R o t old ps) → (c : IsCrowdedBy o.cmp key (valued o.cmp key place value) h.1.is.tree) × LacksIds t.head h.1.is.tree.pages c.path c.items
+  -- the file is that of the tree as it was, and tells its numbers; a leaf is to be parted, and fewer ids are left than pages come
+  abbrev pub SetsTooMuch : Tree V O → S → S → Type 0
+  SetsTooMuch t old new = TellsNumbers s R t old new × ((ps : List Pair) (h : Means s R o t old ps) → (c : IsCrowdedBy o.cmp key (valued o.cmp key place value) h.1.is.tree) × LacksIds t.head h.1.is.tree.pages c.path c.items)
 
   -- so it is, or the store, which holds the pages of the tree before and such pages alone, has no room for a page of the tree before or after, under an id that has a page or is one of the next, or the undo log is full
   abbrev pub IsSetFull : Tree V O → S → S → Type 0
-  IsSetFull t old new = SetsTooMuch t old ⊎ LacksRoom s R (Meant s R o t old) (λ w i. IsOwn t.head 2 t.height w.1.1.is.tree.pages i) (λ w. w.1.1.is.tree.pages) (IsSetPage t old) t old new
+  IsSetFull t old new = SetsTooMuch t old new ⊎ LacksRoom s R (Meant s R o t old) (λ w i. IsOwn t.head 2 t.height w.1.1.is.tree.pages i) (λ w. w.1.1.is.tree.pages) (IsSetPage t old) t old new

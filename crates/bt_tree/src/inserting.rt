@@ -67,7 +67,7 @@ impl<R: Records, O: Order> Tree<R, O> {
     /// Puts a pair: with `last` behind the values of its key, else in the place of the first of them; a key that isn't held comes in with it. At most the leaf where the
     /// key belongs is written, unless it grows beyond its limits: then it is parted, with at most two further leaves, one further node in each row and a new root.
     /// No more ids than those are given, whatever it answers. After a refusal the space isn't sound, or nothing has changed, and no id is given. `Full` is the store's, or
-    /// comes where a leaf is to be parted and fewer ids are left than pages come.
+    /// comes where a leaf is to be parted and fewer ids are left than pages come: the file is then that of the tree as it was, and tells its numbers.
     pub fn insert(
         &mut self,
         space: &mut R::S,

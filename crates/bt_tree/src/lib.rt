@@ -10,6 +10,7 @@ mod descending;
 mod dropping;
 mod finding;
 mod inserting;
+mod issuing;
 mod laws;
 mod making;
 mod numbers;

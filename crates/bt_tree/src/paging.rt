@@ -103,31 +103,33 @@ impl<R: Records, O: Order> Tree<R, O> {
         self.cache.put_node(&mut self.store, space, id, node)
     }
 
-    /// The next id of a leaf, which no page has. An `Err`, which is Full, changes nothing.
+    /// The next id of a leaf, which no page has. An `Err`, which is Memory, changes nothing.
     pub(crate) fn leaf_id(&mut self) -> Result<u64, RecErr>
         ensures given { IfOk result (λ id. id ≡ self.old.head.leaf_ids + 1) }
         ensures small { IfOk result (λ id. id < node_offset) }
         ensures noted { OnOk result (self.new ≡ with_leaf_ids (self.old.head.leaf_ids + 1) self.old) }
-        ensures err { OnErr result ((self.new ≡ self.old) × (node_offset ≤ self.old.head.leaf_ids + 1)) }
-        ensures cause { IsErrOf result RecErr.Fault → ⊥ }
+        ensures err { OnErr result (self.new ≡ self.old) }
+        ensures cause { (IsErrOf result RecErr.Fault → ⊥) × (IsErrOf result RecErr.Full → ⊥) }
     {
+        // it doesn't come where `has_ids` found enough
         if self.head.leaf_ids >= PAGE_END - 1 {
-            return Err(RecErr::Full);
+            return Err(RecErr::Memory);
         }
         self.head.leaf_ids += 1;
         Ok(self.head.leaf_ids)
     }
 
-    /// The next id of a node, which no page has, with the 2^48 added to it. An `Err`, which is Full, changes nothing.
+    /// The next id of a node, which no page has, with the 2^48 added to it. An `Err`, which is Memory, changes nothing.
     pub(crate) fn node_id(&mut self) -> Result<u64, RecErr>
         ensures given { IfOk result (λ id. id ≡ node_offset + (self.old.head.node_ids + 1)) }
         ensures small { OnOk result (self.old.head.node_ids + 1 < node_offset) }
         ensures noted { OnOk result (self.new ≡ with_node_ids (self.old.head.node_ids + 1) self.old) }
-        ensures err { OnErr result ((self.new ≡ self.old) × (node_offset ≤ self.old.head.node_ids + 1)) }
-        ensures cause { IsErrOf result RecErr.Fault → ⊥ }
+        ensures err { OnErr result (self.new ≡ self.old) }
+        ensures cause { (IsErrOf result RecErr.Fault → ⊥) × (IsErrOf result RecErr.Full → ⊥) }
     {
+        // it doesn't come where `has_ids` found enough
         if self.head.node_ids >= PAGE_END - 1 {
-            return Err(RecErr::Full);
+            return Err(RecErr::Memory);
         }
         self.head.node_ids += 1;
         Ok(PAGE_END + self.head.node_ids)

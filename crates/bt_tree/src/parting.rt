@@ -8,7 +8,7 @@ ghost use Rattle.bt_ways.specs.Changes.{IsOver};
 ghost use Rattle.bt_ways.specs.Parts.{first_key};
 ghost use Rattle.bt_tree.specs.Numbers.{with_last, with_leaf_ids};
 ghost use Rattle.bt_tree.specs.Paging.{HasLeafAt, IsLeafId, IsShown, Peeks, Rewrites, StaysStill};
-ghost use Rattle.bt_tree.specs.Parting.{AddsAll, AreHalves, AreThirds, HasLeaf, IsThird, LacksLaid, LacksPiece, TurnsParted, Widens, put_laid, third_ids};
+ghost use Rattle.bt_tree.specs.Parting.{AddsAll, AreHalves, AreThirds, HasLeaf, IsThird, LacksLaid, LacksPart, LacksPiece, TurnsParted, Widens, put_laid, third_ids};
 
 use crate::cutting::cut_places;
 use crate::tree::Tree;
@@ -111,8 +111,7 @@ impl<R: Records, O: Order> Tree<R, O> {
         ensures noted { self.new ≡ with_leaf_ids self.new.head.leaf_ids self.old }
         ensures least { self.old.head.leaf_ids ≤ self.new.head.leaf_ids }
         ensures most { self.new.head.leaf_ids ≤ self.old.head.leaf_ids + 2 }
-        ensures full { OnFull result (node_offset ≤ third_ids self.old.head.leaf_ids leaf i j) }
-        ensures cause { IsErrOf result RecErr.Fault → ⊥ }
+        ensures cause { (IsErrOf result RecErr.Fault → ⊥) × (IsErrOf result RecErr.Full → ⊥) }
     {
         let second_id = self.leaf_id()?;
         if j == leaf.len() {
@@ -174,9 +173,8 @@ impl<R: Records, O: Order> Tree<R, O> {
         Ok(())
     }
 
-    /// Writes the leaf of an id as two or three, since its items are above its limits: it, the new ones, the one behind with another before it, and then what climbs. All that takes memory beside the
-    /// nodes comes before the first write. After a refusal some of it may have been written.
-    pub(crate) fn part<L>(
+    // Writes the leaf of an id as two or three: it, the new ones, the one behind with another before it, and then what climbs. All that takes memory beside the nodes comes before the first write.
+    fn spread<L>(
         &mut self,
         space: &mut R::S,
         id: u64,
@@ -201,5 +199,31 @@ impl<R: Records, O: Order> Tree<R, O> {
         self.follow(next, last);
         self.lay(space, leaves)?;
         self.climb(space, parted.added, steps)
+    }
+
+    /// Writes the leaf of an id as two or three, since its items are above its limits, with what climbs above them. Where fewer ids are left than pages come nothing is written but the numbers of the
+    /// tree, and the space is given up. After another refusal some of it may have been written.
+    pub(crate) fn part<L>(
+        &mut self,
+        space: &mut R::S,
+        id: u64,
+        leaf: SlottedLeaf,
+        place: usize,
+        steps: &mut Steps<L>,
+    ) -> Result<(), RecErr>
+        requires ready { HasLeaf R.S.Space R.Records id leaf.next self.old space.old }
+        requires inside { place < length leaf.items }
+        requires over { R.S.tells → IsOver self.old.head.leaf_limit leaf.items place }
+        requires rows { self.old.height < 2 ^ 64 - 1 }
+        ensures parted { OnOk result (TurnsParted R.S.Space R.Records id leaf self.old self.new space.old space.new) }
+        ensures full { OnFull result (LacksPart R.S.Space R.Records id leaf self.old space.old space.new) }
+        ensures widens { Widens R.S.Space R.Records (suc (length self.old.path)) self.old self.new space.old space.new }
+        ensures cause { OnFault R.S.Space result space.old space.new }
+    {
+        let has = self.has_ids(space, &leaf, place, steps)?;
+        if !has {
+            return Err(self.refuse(space));
+        }
+        self.spread(space, id, leaf, place, steps)
     }
 }

@@ -1,11 +1,11 @@
 //! The way down to a leaf.
-ghost use Rattle.std.specs.Prelude.{◌≡◌, [], ◌∷◌, ◌++◌, ℕ, List, reverse, OnOk, MatchOption};
+ghost use Rattle.std.specs.Prelude.{◌≡◌, [], ◌∷◌, ◌++◌, ℕ, List, reverse, IfOk, OnOk, MatchOption};
 
 use std::alloc::{AllocError, Global};
 use std::marker::Model;
 
 /// The nodes above a place, each by its id and with which of the pages below it was taken. A contract sees the lowest first.
-#[derive(Debug, Drop)]
+#[derive(Drop)]
 pub(crate) struct Path {
     steps: Vec<(u64, usize)>,
 }
@@ -23,6 +23,14 @@ impl Path {
         Path {
             steps: Vec::new(alloc),
         }
+    }
+
+    /// The same way, which leaves this one as it is.
+    pub(crate) fn copy(&self, alloc: Global) -> Result<Path, AllocError>
+        ensures { IfOk result (λ p. p ≡ self.now) }
+    {
+        let steps = Vec::from_slice(alloc, &self.steps)?;
+        Ok(Path { steps })
     }
 
     /// Takes all steps out, and keeps the room for others.

@@ -91,7 +91,7 @@ impl<R: Records, O: Order> Tree<R, O> {
         })
     }
 
-    /// Items one behind the other, from the first that isn't in front of a stretch on, as copies: those of one leaf. None exactly where there is no such item.
+    /// Items one behind the other, each with all its values, from the first that isn't in front of a stretch on, as copies. How many of them isn't told; none exactly where there is no such item.
     /// It reads the way to the first of them, and one more leaf at most. `Full` doesn't come.
     pub fn seek<C: Cut<O>, L>(
         &mut self,

@@ -3,6 +3,7 @@ ghost use Rattle.std.specs.Prelude.{◌≡◌, ◌≤◌, OnOk};
 ghost use Rattle.tc_base.specs.Endian.{le_bytes, le_number};
 ghost use Rattle.tc_base.specs.Files.{wrote};
 ghost use Rattle.tc_space.specs.Changes.{same};
+ghost use Rattle.tc_io.specs.Causes.{Rose};
 ghost use Rattle.tc_space.specs.Frames.{Keeps};
 ghost use Rattle.tc_space.specs.Refusals.{OnFault, OnlyLogIsFull};
 ghost use Rattle.tc_space.specs.Stores.{FullPack};
@@ -10,12 +11,14 @@ ghost use Rattle.bt_rows.specs.Heads.{head_of};
 ghost use Rattle.bt_cache.specs.Effects.{OnFull};
 ghost use Rattle.bt_tree.specs.Inserting.{AddsAnew};
 ghost use Rattle.bt_tree.specs.Meaning.{Changes, IsOpen, RefusesPairs};
+ghost use Rattle.bt_tree.specs.Paging.{BringsNumbers, IsShown, StaysStill, TellsFull};
 ghost use Rattle.bt_tree.specs.Settling.{BringsPacked, BringsPairs, StaysFormed, StaysSettled, TightTree};
 ghost use Rattle.bt_tree.specs.Standing.{region_bytes};
 
 use crate::tree::Tree;
 use bt_rows::TreeHead;
 use tc_base::{Form, Order, set_le};
+use tc_reach::full_in;
 use tc_space::{RecErr, Records};
 
 // Writes a number into the eight bytes at a place.
@@ -72,6 +75,39 @@ impl<R: Records, O: Order> Tree<R, O> {
         let opaque = region_of(&self.head);
         self.store.set_opaque(&opaque);
         self.store.settle(space)
+    }
+
+    // Brings the numbers of the tree to the file. The region is then as it was.
+    fn bring(&mut self, space: &mut R::S) -> Result<(), RecErr>
+        requires { IsShown R.S.Space R.Records self.old space.old }
+        ensures sound { OnOk result (R.S.sound space.new) }
+        ensures brings { OnOk result (BringsNumbers R.S.Space R.Records self.old space.old space.new) }
+        ensures full { OnlyLogIsFull R.S.Space result space.new }
+        ensures still { StaysStill R.S.Space R.Records self.old self.new space.old space.new }
+        ensures cause { OnFault R.S.Space result space.old space.new }
+    {
+        let was = self.store.opaque();
+        let told = region_of(&self.head);
+        self.store.set_opaque(&told);
+        if let Err(e) = self.store.settle(space) {
+            self.store.set_opaque(&was);
+            return Err(e);
+        }
+        self.store.set_opaque(&was);
+        Ok(())
+    }
+
+    /// Gives the space up where a limit of the tree is reached, and answers why. `Full` comes with the tree's numbers in its file, or where the undo log is full.
+    pub(crate) fn refuse(&mut self, space: &mut R::S) -> RecErr
+        requires { IsShown R.S.Space R.Records self.old space.old }
+        ensures full { result ≡ RecErr.Full → TellsFull R.S.Space R.Records self.old space.old space.new }
+        ensures still { StaysStill R.S.Space R.Records self.old self.new space.old space.new }
+        ensures cause { result ≡ RecErr.Fault → Rose (R.S.faults space.old) (R.S.faults space.new) }
+    {
+        if let Err(e) = self.bring(space) {
+            return e;
+        }
+        full_in(space)
     }
 
     /// Packs the store, in the form that it has or in the large one; the pairs stay. In the form that it has it is full only where the undo log is. After a refusal the

@@ -3,13 +3,13 @@ ghost use Rattle.std.specs.Prelude.{◌≡◌, ◌+◌, ◌-◌, ◌<◌, length
 ghost use Rattle.tc_space.specs.Frames.{Keeps};
 ghost use Rattle.tc_space.specs.Refusals.{Blames, OnFault};
 ghost use Rattle.bt_cache.specs.Effects.{OnFull};
-ghost use Rattle.bt_tree.specs.Inserting.{StaysMade, WritesPages};
+ghost use Rattle.bt_tree.specs.Inserting.{StaysMade};
 ghost use Rattle.bt_tree.specs.Meaning.{IsOpen, RefusesPairs};
 ghost use Rattle.bt_tree.specs.Paging.{HasLeafAt, IsShown, Peeks};
 ghost use Rattle.bt_slots.specs.Lying.{values_with_nth};
 ghost use Rattle.bt_slots.specs.Slots.{HasValuesAt};
 ghost use Rattle.bt_tree.specs.Numbers.{with_pairs};
-ghost use Rattle.bt_tree.specs.Valuing.{GivesFew, IsSetFull, PlacesIn, RevaluesLeaf, SetsAt, TellsPlace, gone, valued};
+ghost use Rattle.bt_tree.specs.Valuing.{ChangesPages, GivesFewIds, IsSetFull, PlacesIn, RevaluesLeaf, SetsAt, TellsPlace, gone};
 ghost use Rattle.bt_tree.specs.Visits.{LooksAt, StaysTree};
 
 use crate::cutting::leaf_fits;
@@ -125,8 +125,8 @@ impl<R: Records, O: Order> Tree<R, O> {
     fn drop_first(&mut self, space: &mut R::S, key: &[u8]) -> Result<bool, RecErr>
         requires { IsOpen R.S.Space R.Records O.Order self.old space.old }
         ensures set { IfOk result (λ there. SetsAt R.S.Space R.Records O.Order key.now 0 None there self.old self.new space.old space.new) }
-        ensures gains { GivesFew 2 self.old.height 1 self.old self.new }
-        ensures pages { OnOk result (WritesPages R.S.Space R.Records O.Order (valued O.cmp key.now 0 None) self.old self.new space.old space.new) }
+        ensures gains { GivesFewIds R.S.Space 2 self.old.height 1 result self.old self.new space.new }
+        ensures pages { OnOk result (ChangesPages R.S.Space R.Records O.Order key.now 0 None self.old self.new space.old space.new) }
         ensures refused { RefusesPairs R.S.Space R.Records O.Order result self.old self.new space.old space.new }
         ensures full { OnFull result (IsSetFull R.S.Space R.Records O.Order key.now 0 None self.old space.old space.new) }
         ensures keeps { Keeps R.S.Space space.old space.new }
@@ -147,8 +147,8 @@ impl<R: Records, O: Order> Tree<R, O> {
         requires open { IsOpen R.S.Space R.Records O.Order self.old space.old }
         requires behind { option_map (λ v. v.now) value ≡ None → 0 < place }
         ensures set { IfOk result (λ there. SetsAt R.S.Space R.Records O.Order key.now place (option_map (λ v. v.now) value.entry) there self.old self.new space.old space.new) }
-        ensures gains { GivesFew 2 self.old.height 1 self.old self.new }
-        ensures pages { OnOk result (WritesPages R.S.Space R.Records O.Order (valued O.cmp key.now place (option_map (λ v. v.now) value.entry)) self.old self.new space.old space.new) }
+        ensures gains { GivesFewIds R.S.Space 2 self.old.height 1 result self.old self.new space.new }
+        ensures pages { OnOk result (ChangesPages R.S.Space R.Records O.Order key.now place (option_map (λ v. v.now) value.entry) self.old self.new space.old space.new) }
         ensures refused { RefusesPairs R.S.Space R.Records O.Order result self.old self.new space.old space.new }
         ensures full { OnFull result (IsSetFull R.S.Space R.Records O.Order key.now place (option_map (λ v. v.now) value.entry) self.old space.old space.new) }
         ensures keeps { Keeps R.S.Space space.old space.new }
@@ -176,7 +176,8 @@ impl<R: Records, O: Order> Tree<R, O> {
     }
 
     /// Gives the value at a place among those of a key, counted from 0, another one, or with None takes it out. False comes exactly where there is no such value, and then nothing is
-    /// written. It writes what `insert` and `remove` do. After a refusal the space isn't sound, or nothing has changed.
+    /// written. It writes what `insert` and `remove` do: pages come only where the leaf where the key belongs has no room for what is made of its pairs, and then no more than by a put.
+    /// Where a leaf goes, a root with its heir alone gives way to it. After a refusal the space isn't sound, or nothing has changed, and no id is given.
     pub fn set_at(
         &mut self,
         space: &mut R::S,
@@ -186,8 +187,8 @@ impl<R: Records, O: Order> Tree<R, O> {
     ) -> Result<bool, RecErr>
         requires { IsOpen R.S.Space R.Records O.Order self.old space.old }
         ensures set { IfOk result (λ there. SetsAt R.S.Space R.Records O.Order key.now place (option_map (λ v. v.now) value.entry) there self.old self.new space.old space.new) }
-        ensures gains { GivesFew 2 self.old.height 1 self.old self.new }
-        ensures pages { OnOk result (WritesPages R.S.Space R.Records O.Order (valued O.cmp key.now place (option_map (λ v. v.now) value.entry)) self.old self.new space.old space.new) }
+        ensures gains { GivesFewIds R.S.Space 2 self.old.height 1 result self.old self.new space.new }
+        ensures pages { OnOk result (ChangesPages R.S.Space R.Records O.Order key.now place (option_map (λ v. v.now) value.entry) self.old self.new space.old space.new) }
         ensures refused { RefusesPairs R.S.Space R.Records O.Order result self.old self.new space.old space.new }
         ensures full { OnFull result (IsSetFull R.S.Space R.Records O.Order key.now place (option_map (λ v. v.now) value.entry) self.old space.old space.new) }
         ensures keeps { Keeps R.S.Space space.old space.new }

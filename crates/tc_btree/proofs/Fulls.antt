@@ -26,7 +26,8 @@ use Rattle.bt_tree.specs.Paging.{IsOwn, Stood}
 use Rattle.bt_tree.specs.Removing.{IsLeftPage, IsRefusedRoom}
 use Rattle.bt_tree.specs.Trees.{HoldsPairs, IsTree}
 use Rattle.bt_tree.proofs.Droppings.{room_after}
-use Rattle.bt_tree.proofs.Pagings.{ComesOf, lacks_after}
+use Rattle.bt_tree.proofs.Pagings.{ComesOf}
+use Rattle.bt_tree.proofs.Tellings.{tells_looked}
 use Rattle.tc_btree.specs.Filling.{IsListPage, fills_list}
 use Rattle.tc_btree.specs.Meaning.{file_list, holds_list}
 use Rattle.tc_btree.specs.Putting.{Looked}
@@ -77,12 +78,13 @@ module _ {S V O : Type 0} (s : Ghosts S) (R : Stores V S) (o : Orders O) where
         key = key;
         value = value;
         makes = makes;
-        used = a.same.out last key value (used ps a.now);
+        tells = tells_looked s R b.tree c.tree old mid new looked.looks looked.stays.head used.0;
+        used = a.same.out last key value (used.1 ps a.now);
       }))
       (λ lacks. inr (
         means,
-        inl (lacks_after s R (Meant s R o c.tree mid) (Means s R o b.tree old ps) (λ w i. IsOwn c.tree.head 2 c.tree.height w.1.1.is.tree.pages i) (λ h i. IsOwn b.tree.head 2 b.tree.height h.1.is.tree.pages i) (λ w. w.1.1.is.tree.pages) (λ h. h.1.is.tree.pages) (IsWritten s R o last key value c.tree mid) (IsListPage s R o b.tree old ps qs)
-            b.tree c.tree old mid new looked.looks.keeps looked.looks.made looked.stays.column (λ h. listed h) lacks),
+        room_after s R (Meant s R o c.tree mid) (Means s R o b.tree old ps) (λ w i. IsOwn c.tree.head 2 c.tree.height w.1.1.is.tree.pages i) (λ h i. IsOwn b.tree.head 2 b.tree.height h.1.is.tree.pages i) (λ w. w.1.1.is.tree.pages) (λ h. h.1.is.tree.pages) (IsWritten s R o last key value c.tree mid) (IsListPage s R o b.tree old ps qs)
+            b.tree c.tree old mid new looked.looks.keeps looked.looks.made looked.stays.column (λ h. listed h) lacks,
       ))
       full
     where

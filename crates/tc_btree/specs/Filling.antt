@@ -10,14 +10,15 @@ use Rattle.bt_ways.specs.Changes.{inserted, removed}
 use Rattle.bt_tree.specs.declared.tree.Tree.{Tree}
 use Rattle.bt_tree.specs.Inserting.{IsMorePage, IsPutPage, RunsOut}
 use Rattle.bt_tree.specs.Meaning.{Means}
-use Rattle.bt_tree.specs.Paging.{IsOwn}
-use Rattle.bt_tree.specs.Removing.{IsLessPage, LacksRoom}
+use Rattle.bt_tree.specs.Paging.{IsOwn, LacksRoom, TellsNumbers}
+use Rattle.bt_tree.specs.Removing.{IsLessPage}
 use Rattle.tc_btree.specs.declared.btree.Btree.{Btree}
 
 module _ {S V O : Type 0} (s : Ghosts S) (R : Stores V S) (o : Orders O) where
-  -- the tree means the pairs before; its leaf where a key belongs has no room for the pair that comes in, and fewer ids are left than pages come where it is parted
-  pub record IsParted (t : Tree V O) (old : S) (ps qs : List Pair) : Type 0 where
+  -- the tree means the pairs before, and its file is that of the tree then and tells its numbers; the leaf where a key belongs has no room for the pair that comes in, and fewer ids are left than pages come where it is parted
+  pub record IsParted (t : Tree V O) (old new : S) (ps qs : List Pair) : Type 0 where
     pub means : Means s R o t old ps
+    pub tells : TellsNumbers s R t old new
     pub last : Bool
     pub key : List ℕ
     pub value : List ℕ
@@ -50,4 +51,4 @@ module _ {S V O : Type 0} (s : Ghosts S) (R : Stores V S) (o : Orders O) where
 
   -- a leaf is to be parted and ids are used up; or the tree means the pairs before, and so it is
   abbrev pub fills_list : Btree V O → S → S → List Pair → List Pair → Type 0
-  fills_list b old new ps qs = IsParted b.tree old ps qs ⊎ (Means s R o b.tree old ps × LacksListed b.tree old new ps qs)
+  fills_list b old new ps qs = IsParted b.tree old new ps qs ⊎ (Means s R o b.tree old ps × LacksListed b.tree old new ps qs)

@@ -15,7 +15,7 @@ use Rattle.hf_tree.specs.declared.parent.Parent.{Parent}
 use Rattle.hf_record.specs.Searching.{IsFound, IsGap}
 use Rattle.hf_pool.specs.Pools.{frees}
 use Rattle.hf_record.specs.Allocating.{HoldsAt}
-use Rattle.hf_record.specs.Moves.{HasRoom}
+use Rattle.hf_record.specs.Moves.{HasRoom, LacksRoom}
 use Rattle.hf_record.proofs.Differ.{edits_after}
 use Rattle.hf_record.proofs.Records.{is_there, no_value, stood}
 use Rattle.hf_record.proofs.Searched.{found_len}
@@ -26,7 +26,7 @@ use Rattle.tc_hash.specs.declared.put.Put.TheVariants as put
 use Rattle.tc_hash.specs.Keeping.{GivesValue, LacksBlock, Means, TakesRecord, file_of, size_for}
 use Rattle.tc_hash.specs.Putting.{Answers, IsKept, IsValueTooLong, LacksFor, LacksWithin, PutsValue, StoresWithin, TakesLen}
 use Rattle.tc_hash.proofs.Records.{looks_again, means_after, turns_after}
-use Rattle.tc_hash.proofs.Stored.{gives_after, gives_as, gives_more, lacks_after, lacks_as, lacks_large, put_fresh}
+use Rattle.tc_hash.proofs.Stored.{gives_after, gives_as, gives_more, lacks_after, lacks_as, lacks_fresh, lacks_large, put_fresh}
 
 -- the bytes of a value with more behind it
 pub joined_long : (mode : Mode) (was : ℕ) (o : Option (List ℕ)) (value : List ℕ) → mode ≡ Cat → Some was ≡ option_map length o → length (put_value mode o value) ≡ was + length value
@@ -68,6 +68,9 @@ module _ {S : Type 0} (s : Ghosts S) (mode : Mode) (key value : List ℕ) (most 
       free = λ keep m w. none m w;
       looks = looks_again s v a a (only_reads_refl s a sound);
     }
+
+    pub lacks_there : s.flag b ≡ false → (s.tells → LacksRoom s v.body a b (size_for v key value)) → LacksBlock s Over key value v a b
+    lacks_there spoiled l = lacks_fresh s key value v a b spoiled none l
 
     pub lacks_new : length value ≤ most → LacksBlock s Over key value v a b → LacksWithin s mode key value most v a b
     lacks_new few l = record {

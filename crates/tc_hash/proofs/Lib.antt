@@ -10,6 +10,7 @@ pub mod Fronted
 pub mod Kept
 pub mod Keyed
 pub mod KeysRead
+pub mod Least
 pub mod Listing
 pub mod Numbered
 pub mod OneMap

@@ -10,7 +10,7 @@ use Rattle.tc_hash.specs.declared.hash.Hash.{Hash}
 use Rattle.hf_head.specs.declared.head.Head.{Head}
 use Rattle.hf_head.specs.Heads.{sections, unit}
 use Rattle.tc_hash.specs.Creating.{IsNew}
-use Rattle.tc_hash.specs.Keeping.{LeadsNoMore, SameMap, SameShape, StaysOpen, at_most, file_of, gets_of, lead_of, numbers_of, region_of, sort_of}
+use Rattle.tc_hash.specs.Keeping.{SameMap, SameShape, StaysOpen, at_most, file_of, gets_of, lead_of, numbers_of, region_of, sort_of}
 use Rattle.tc_hash.specs.Packing.{LeavesHead, PacksAs, StaysNumbered, options_for}
 use Rattle.tc_hash.specs.Standing.{lead_in, numbers_in}
 use Rattle.tc_hash.proofs.Stored.{from_done, from_refused}
@@ -26,13 +26,13 @@ stays_map v w stays = record {
 }
 
 -- of a file that is made anew with the numbers that it has
-pub shaped_map : {S : Type 0} (v w : Hash S) → SameMap v w → SameShape v w → LeadsNoMore v w → StaysMap file_of sort_of numbers_of region_of lead_of gets_of v w
-shaped_map v w same shape leads = record {
+pub shaped_map : {S : Type 0} (v w : Hash S) → SameMap v w → SameShape v w → StaysMap file_of sort_of numbers_of region_of lead_of gets_of v w
+shaped_map v w same shape = record {
   file = same.file;
   sort_same = same.sort_same;
   numbers_same = λ i. shape.options i ∷ shape.apow i ∷ shape.fpow i ∷ shape.buckets i ∷ [];
   region_same = same.region_same;
-  leads = leads.most;
+  leads = shape.leads.most;
   gets_same = same.gets_same;
 }
 

@@ -57,6 +57,8 @@ enlarges_on f h end stands stands' from on anew = record {
   small = anew.small;
   is_new = anew.is_new;
   map = anew.map;
+  pool = anew.pool;
+  had = anew.had;
   stand = on anew.map anew.stand;
   fills = anew.fills;
 }
@@ -122,6 +124,8 @@ module _ {S : Type 0} (s : Ghosts S) where
               small = anew.small;
               is_new = anew.writes.is_new;
               map = m;
+              pool = v.body.pool;
+              had = has;
               stand = held.map.has;
               fills = anew.writes.fills m w;
             }))

@@ -15,6 +15,7 @@ use Rattle.hf_head.specs.declared.head.Head.{Head}
 use Rattle.hf_head.specs.Heads.{IsValid, unit}
 use Rattle.hf_block.specs.Written.{block_len}
 use Rattle.hf_chain.specs.declared.finding.Place.{Place}
+use Rattle.hf_pool.specs.declared.pool.Pool.{Pool}
 use Rattle.hf_pool.specs.Pools.{frees, Takes}
 use Rattle.hf_tree.specs.declared.parent.Parent.{Parent}
 use Rattle.hf_tree.specs.Links.{width}
@@ -31,7 +32,7 @@ use Rattle.hf_record.proofs.Records.{count_in, count_out, count_same, no_value, 
 use Rattle.hf_record.proofs.Valid.{is_valid}
 use Rattle.tc_hash.specs.declared.hash.Hash.{Hash}
 use Rattle.tc_hash.specs.Holding.{IsNumbered}
-use Rattle.tc_hash.specs.Keeping.{GivesNew, GivesValue, IsPlaced, HasNoBlock, LacksBlock, LacksIts, LacksRecordOf, Means, StaysOpen, TakesRecord, size_for}
+use Rattle.tc_hash.specs.Keeping.{GivesNew, GivesValue, IsPlaced, HasNoBlock, LacksBlock, LacksIts, LacksRecordOf, Means, StaysOpen, TakesRecord, WantsAsHeld, WantsFrom, WantsLarger, size_for}
 use Rattle.tc_hash.specs.Putting.{LacksFor}
 use Rattle.tc_hash.proofs.Records.{looks_again, turned, turns_after}
 
@@ -111,10 +112,18 @@ module _ {S : Type 0} (s : Ghosts S) where
   pub new_after : (key value : List ℕ) (v v' : Hash S) (a b c : S) → OnlyReads s a b → GivesNew s key value v v' b c → GivesNew s key value v v' a c
   new_after key value v v' a b c r g = record { gives = gives_after Over key value 13 v v' a b c r g.gives; place = g.place; takes = g.takes }
 
+  its_after : (key : List ℕ) (v : Hash S) (a b c : S) (m : Map) (size : ℕ) → s.tells → OnlyReads s a b → LacksIts s v key m b c size → LacksIts s v key m a c size
+  its_after key v a b c m size t r its = record {
+    brought = its.brought;
+    held = its.held;
+    none = its.none;
+    since = subst (λ (bytes : List ℕ). WantsFrom v key m bytes size its.held its.none.own) (r.files t v.body.file) its.since;
+  }
+
   pub lacks_after : (mode : Mode) (key value : List ℕ) (v : Hash S) (a b c : S) → OnlyReads s a b → LacksBlock s mode key value v b c → LacksBlock s mode key value v a c
   lacks_after mode key value v a b c r l = record {
     spoiled = l.spoiled;
-    wants = λ m w. l.wants m ((looks_again s v a b r).means m w);
+    wants = λ m w. ⊎_elim (λ log. inl log) (λ its. inr (its_after key v a b c m (size_for v key (put_value mode (get m key) value)) w.0 r its)) (l.wants m ((looks_again s v a b r).means m w));
   }
 
   -- the value that was given is the one that the mode makes
@@ -131,11 +140,15 @@ module _ {S : Type 0} (s : Ghosts S) where
   }
 
   pub lacks_as : (mode : Mode) (key value x : List ℕ) (v : Hash S) (a b : S) → ((m : Map) → Means s v a m → x ≡ put_value mode (get m key) value) → LacksBlock s Over key x v a b → LacksBlock s mode key value v a b
-  lacks_as mode key value x v a b each l = record { spoiled = l.spoiled; wants = λ m w. subst (λ (y : List ℕ). s.log_full b ⊎ LacksIts s v key m b (size_for v key y)) (each m w) (l.wants m w) }
+  lacks_as mode key value x v a b each l = record { spoiled = l.spoiled; wants = λ m w. subst (λ (y : List ℕ). s.log_full b ⊎ LacksIts s v key m a b (size_for v key y)) (each m w) (l.wants m w) }
 
-  -- none is to be had in a file that is as it was, with the free blocks that are held in memory
+  -- none is to be had in a file beside a map, with these free blocks
+  abbrev HasNoneOf : S → Pool → Map → Head → ℕ → ℕ → Type 0
+  HasNoneOf b pool m head file size = (x : HasNoBlock (s.limit b file) (s.now b file) head m size) × (x.own ≡ pool)
+
+  -- in one that is as it was, with those that are held in memory
   no_block : (h : Hash S) (a b : S) (m : Map) (size : ℕ) → Means s h a m → s.now b h.body.file ≡ s.now a h.body.file → IsRefusedFor h.body.head h.body.pool.size (frees h.body.pool) (s.limit b h.body.file) (length (s.now b h.body.file)) size
-      → (x : HasNoBlock (s.limit b h.body.file) (s.now b h.body.file) h.body.head m size) × (x.own ≡ h.body.pool)
+      → HasNoneOf b h.body.pool m h.body.head h.body.file size
   no_block h a b m size w same why =
       let x : HasNoBlock (s.limit b h.body.file) (s.now b h.body.file) h.body.head m size = record {
         own = h.body.pool;
@@ -144,24 +157,25 @@ module _ {S : Type 0} (s : Ghosts S) where
         refused = why;
       } in (x, refl)
 
-  -- with the map that is held
-  lacks_as_held : (key : List ℕ) (h : Hash S) (a b : S) (m : Map) (size : ℕ) → Means s h a m → Brought s h.body.file a b → IsRefusedFor h.body.head h.body.pool.size (frees h.body.pool) (s.limit b h.body.file) (length (s.now b h.body.file)) size → LacksIts s h key m b size
-  lacks_as_held key h a b m size w still why =
+  -- with the map and the free blocks that are held
+  lacks_as_held : (key : List ℕ) (h : Hash S) (a b : S) (m : Map) (size : ℕ) → Means s h a m → (get m key ≡ None) ⊎ (2 ^ 30 < size) → Brought s h.body.file a b → IsRefusedFor h.body.head h.body.pool.size (frees h.body.pool) (s.limit b h.body.file) (length (s.now b h.body.file)) size
+      → LacksIts s h key m a b size
+  lacks_as_held key h a b m size w so still why =
       let none = no_block h a b m size w (still.same w.0) why in
-      record { brought = still.brought; held = m; kept = inl refl; none = none.0; stays = λ fresh. none.1 }
+      record { brought = still.brought; held = m; none = none.0; since = inl (record { why = so; map = refl; pool = none.1 }) }
 
   -- no block for a key that isn't held
-  pub lacks_fresh : (key value : List ℕ) (v : Hash S) (a b : S) → s.flag b ≡ false → (s.tells → LacksRoom s v.body a b (size_for v key value)) → LacksBlock s Over key value v a b
-  lacks_fresh key value v a b spoiled l = record {
+  pub lacks_fresh : (key value : List ℕ) (v : Hash S) (a b : S) → s.flag b ≡ false → ((m : Map) → Means s v a m → get m key ≡ None) → (s.tells → LacksRoom s v.body a b (size_for v key value)) → LacksBlock s Over key value v a b
+  lacks_fresh key value v a b spoiled fresh l = record {
     spoiled = spoiled;
-    wants = λ m w. ⊎_elim (λ log. inl log) (λ why. inr (lacks_as_held key v a b m (size_for v key value) w why.0 why.1)) (l w.0);
+    wants = λ m w. ⊎_elim (λ log. inl log) (λ why. inr (lacks_as_held key v a b m (size_for v key value) w (inl (fresh m w)) why.0 why.1)) (l w.0);
   }
 
   -- the block would be too large
   pub lacks_large : (mode : Mode) (key value : List ℕ) (v : Hash S) (a b : S) → s.flag b ≡ false → Brought s v.body.file a b → ((m : Map) → Means s v a m → 2 ^ 30 < size_for v key (put_value mode (get m key) value)) → LacksBlock s mode key value v a b
   lacks_large mode key value v a b spoiled still big = record {
     spoiled = spoiled;
-    wants = λ m w. inr (lacks_as_held key v a b m (size_for v key (put_value mode (get m key) value)) w still (inl (big m w)));
+    wants = λ m w. inr (lacks_as_held key v a b m (size_for v key (put_value mode (get m key) value)) w (inr (big m w)) still (inl (big m w)));
   }
 
   -- the log is full
@@ -289,29 +303,38 @@ module _ {S : Type 0} (s : Ghosts S) where
   }
 
   -- nor behind the one that gave its block back
-  pub lacks_again : (key value : List ℕ) (at size : ℕ) (v w : Hash S) (a b c : S) → w.body.file ≡ v.body.file → s.flag c ≡ false → ((m : Map) → Means s v a m → HoldsAt v.body.head v.body.pool.size (frees v.body.pool) m key at size (s.now a v.body.file))
+  pub lacks_again : (key value : List ℕ) (at size : ℕ) (v w : Hash S) (a b c : S) → w.body.file ≡ v.body.file → s.flag c ≡ false → size < size_for v key value → ((m : Map) → Means s v a m → HoldsAt v.body.head v.body.pool.size (frees v.body.pool) m key at size (s.now a v.body.file))
       → TakesRecord s key at size v w a b → (s.tells → LacksRoom s w.body b c (size_for w key value)) → LacksBlock s Over key value v a c
-  lacks_again key value at size v w a b c same spoiled stood t l = record {
+  lacks_again key value at size v w a b c same spoiled few stood t l = record {
     spoiled = spoiled;
     wants = λ m h. ⊎_elim
         (λ log. inl log)
-        (λ why. inr (record {
+        (λ why.
+        let none = moved (out_of key m) (no_block w b c (out_of key m) (size_for w key value) (t.writes.means m h) (why.0.same h.0) why.1) in
+        inr (record {
           brought = why.0.brought;
           held = out_of key m;
-          kept = inr refl;
-          none = moved m (no_block w b c (out_of key m) (size_for w key value) (t.writes.means m h) (why.0.same h.0) why.1).0;
-          stays = λ fresh. absurd (let r = stood m h in let e : None ≡ Some r.r.value = sym fresh ∙ (r.has.is.map key r.r.value).1 (at, r.r, r.there, r.key_is, refl) in cc);
+          none = none.0;
+          since = inr (record { at = at; room = size; stood = stood m h; few = few; map = refl; gives = subst (λ (p : Pool). Gives at size v.body.pool p) (sym none.1) t.gives });
         }))
         (l h.0);
   }
     where
-      moved : (m : Map) → HasNoBlock (s.limit c w.body.file) (s.now c w.body.file) w.body.head (out_of key m) (size_for w key value) → HasNoBlock (s.limit c v.body.file) (s.now c v.body.file) v.body.head (out_of key m) (size_for v key value)
+      moved : (m : Map) → HasNoneOf c w.body.pool m w.body.head w.body.file (size_for w key value) → HasNoneOf c w.body.pool m v.body.head v.body.file (size_for v key value)
       moved m none =
-          subst (λ (x : Head). HasNoBlock (s.limit c v.body.file) (s.now c v.body.file) x (out_of key m) (block_len (width x) key value (unit x))) t.head
-          (subst (λ (f : ℕ). HasNoBlock (s.limit c f) (s.now c f) w.body.head (out_of key m) (size_for w key value)) same none)
+          subst (λ (x : Head). HasNoneOf c w.body.pool m x v.body.file (block_len (width x) key value (unit x))) t.head
+          (subst (λ (f : ℕ). HasNoneOf c w.body.pool m w.body.head f (size_for w key value)) same none)
 
 pub stays_then : {S : Type 0} (u v w : Hash S) → StaysOpen u v → StaysOpen v w → StaysOpen u w
 stays_then u v w first second = record {
   map = record { file = second.map.file ∙ first.map.file; sort_same = second.map.sort_same ∙ first.map.sort_same; region_same = second.map.region_same ∙ first.map.region_same; gets_same = second.map.gets_same ∙ first.map.gets_same };
   head = second.head ∙ first.head;
 }
+
+-- a key without a record wants its block as the file is held
+pub its_fresh : {S : Type 0} (s : Ghosts S) (h : Hash S) (key : List ℕ) (m : Map) (a b : S) (size : ℕ) (its : LacksIts s h key m a b size) → get m key ≡ None → WantsAsHeld h key m size its.held its.none.own
+its_fresh s h key m a b size its fresh = ⊎_elim
+    (λ (is : WantsAsHeld h key m size its.held its.none.own). is)
+    (λ (larger : WantsLarger h key m (s.now a h.body.file) size its.held its.none.own).
+    absurd (let x = larger.stood in let e : None ≡ Some x.r.value = sym fresh ∙ (x.has.is.map key x.r.value).1 (larger.at, x.r, x.there, x.key_is, refl) in cc))
+    its.since

@@ -13,8 +13,8 @@ use Rattle.hf_pool.specs.Trims.{Trimmed}
 use Rattle.hf_record.specs.declared.body.Body.{Body}
 use Rattle.tc_hash.specs.declared.hash.Hash.{Hash}
 use Rattle.tc_space.specs.declared.space.Space.{Ghosts}
-use Rattle.tc_hash.specs.Keeping.{SameMap, ShowsRegion}
-use Rattle.tc_hash.specs.Packing.{EndsInRecord, IsPacked, IsTight, LacksAnew, LacksLarge, MovesRecords, Packs, PacksAs, WritesLarge, options_for}
+use Rattle.tc_hash.specs.Keeping.{SameMap, ShowsRegion, StaysOpen}
+use Rattle.tc_hash.specs.Packing.{EndsInRecord, IsPacked, IsTight, LacksAnew, LacksLarge, MovesRecords, Packs, PacksAs, StaysNumbered, WritesLarge, options_for}
 use Rattle.tc_hash.specs.Repacking.{IsTightFrom}
 use Rattle.tc_hash.specs.Settling.{Brought, head_now}
 
@@ -83,6 +83,15 @@ module _ {S : Type 0} (s : Ghosts S) (f : Form) (v v' : Hash S) (a b : S) where
     fills = inr (record { asked = asked; small = is_small v.body.head small; writes = writes });
     region = λ t shows. writes.region t;
   }
+
+-- where the head stays its numbers do
+pub numbered_open : {S : Type 0} (v w : Hash S) → StaysOpen v w → StaysNumbered v w
+numbered_open v w stays = record {
+  map = stays.map;
+  apow = ap (λ (h : Head). h.apow) stays.head;
+  fpow = ap (λ (h : Head). h.fpow) stays.head;
+  buckets = ap (λ (h : Head). h.buckets) stays.head;
+}
 
 -- a settled file ends in the block of a record, where it has one
 pub ends_of : (h : Head) (end : ℕ) (old new : Frees) (old_end records : ℕ) (region : List ℕ) (m : Map) (bytes : List ℕ) → Brought h end new records region m bytes → length bytes ≡ end → Trimmed old new old_end end → EndsInRecord bytes

@@ -1,5 +1,5 @@
 -- What a hash file that is held open keeps, and what calls on its records do.
-use Rattle.std.specs.Prelude.{◌≡◌, ◌⊎◌, ℕ, ◌+◌, ◌≤◌, false, List, length, max, take, Option, None}
+use Rattle.std.specs.Prelude.{◌≡◌, ◌⊎◌, ℕ, ◌+◌, ◌^◌, ◌<◌, ◌≤◌, false, List, length, max, take, Option, None}
 use Rattle.std.proofs.Common.{ap, arith, refl, subst, sym}
 use Rattle.std.specs.FinMap.{get}
 use Rattle.tc_base.specs.Maps.{Map}
@@ -73,13 +73,14 @@ pub record CountsOne {S : Type 0} (old new : Hash S) : Type 0 where
   pub map : CountsGet file_of sort_of numbers_of region_of lead_of gets_of old new
   pub body : new.body ≡ old.body
 
--- the numbers of its file and their form stay
+-- the numbers of its file and their form stay, and no more units lie free in front of its first block
 pub record SameShape {S : Type 0} (old new : Hash S) : Type 0 where
   pub kind : new.body.head.kind ≡ old.body.head.kind
   pub apow : new.body.head.apow ≡ old.body.head.apow
   pub fpow : new.body.head.fpow ≡ old.body.head.fpow
   pub buckets : new.body.head.buckets ≡ old.body.head.buckets
   pub options : new.body.head.options ≡ old.body.head.options
+  pub leads : LeadsNoMore old new
 
 -- the head that stands in front of the file has the region that is held. So it is once the file was opened, made or settled, and as long as no other region is set
 abbrev pub ShowsRegion : {S : Type 0} → Hash S → List ℕ → Type 0
@@ -134,20 +135,37 @@ pub record HasNoBlock (limit : ℕ) (bytes : List ℕ) (head : Head) (held : Map
   pub numbers : IsNumbered head bytes
   pub refused : IsRefusedFor head own.size (frees own) limit (length bytes) size
 
--- so it is in a file as its space stands, with a map or with that map without a key, whose record wanted the block; a key without one left the free blocks as
--- they were held
-pub record LacksIts {S : Type 0} (s : Ghosts S) (h : Hash S) (key : List ℕ) (m : Map) (new : S) (size : ℕ) : Type 0 where
+-- a key of a map wanted a block of so many bytes beside the map and the free blocks that are held: it has no record, or no block may have so many
+pub record WantsAsHeld {S : Type 0} (h : Hash S) (key : List ℕ) (m : Map) (size : ℕ) (held : Map) (own : Pool) : Type 0 where
+  pub why : (get m key ≡ None) ⊎ (2 ^ 30 < size)
+  pub map : held ≡ m
+  pub pool : own ≡ h.body.pool
+
+-- it has one, in a block that is too small: it was taken out, and that block given back
+pub record WantsLarger {S : Type 0} (h : Hash S) (key : List ℕ) (m : Map) (bytes : List ℕ) (size : ℕ) (held : Map) (own : Pool) : Type 0 where
+  pub at : ℕ
+  pub room : ℕ
+  pub stood : HoldsAt h.body.head h.body.pool.size (frees h.body.pool) m key at room bytes
+  pub few : room < size
+  pub map : held ≡ out_of key m
+  pub gives : Gives at room h.body.pool own
+
+-- one or the other, in a file that had these bytes
+abbrev pub WantsFrom : {S : Type 0} → Hash S → List ℕ → Map → List ℕ → ℕ → Map → Pool → Type 0
+WantsFrom h key m bytes size held own = WantsAsHeld h key m size held own ⊎ WantsLarger h key m bytes size held own
+
+-- a key of a map that is held wanted the block so, and in its file, as it was brought to where it is kept, there is none
+pub record LacksIts {S : Type 0} (s : Ghosts S) (h : Hash S) (key : List ℕ) (m : Map) (old new : S) (size : ℕ) : Type 0 where
   pub brought : s.brought new
   pub held : Map
-  pub kept : (held ≡ m) ⊎ (held ≡ out_of key m)
   pub none : HasNoBlock (s.limit new h.body.file) (s.now new h.body.file) h.body.head held size
-  pub stays : get m key ≡ None → none.own ≡ h.body.pool
+  pub since : WantsFrom h key m (s.now old h.body.file) size held none.own
 
 -- the block was that of the record of a key and a value, which a key of some map that is held was to have
 pub record LacksRecordOf {S : Type 0} (s : Ghosts S) (h : Hash S) (old new : S) (key value : List ℕ) : Type 0 where
   pub held : Map
   pub means : Means s h old held
-  pub wants : LacksIts s h key held new (size_for h key value)
+  pub wants : LacksIts s h key held old new (size_for h key value)
 
 -- a key's record was taken out, whose block of so many bytes stood there. The file is as long as before
 pub record TakesRecord {S : Type 0} (s : Ghosts S) (key : List ℕ) (at size : ℕ) (v v' : Hash S) (old new : S) : Type 0 where
@@ -192,21 +210,22 @@ pub record GivesNew {S : Type 0} (s : Ghosts S) (key value : List ℕ) (v v' : H
 -- the undo log is full, or the block for that record wasn't to be had; the space may not be used any more
 pub record LacksBlock {S : Type 0} (s : Ghosts S) (mode : Mode) (key value : List ℕ) (v : Hash S) (old new : S) : Type 0 where
   pub spoiled : s.flag new ≡ false
-  pub wants : (m : Map) → Means s v old m → s.log_full new ⊎ LacksIts s v key m new (size_for v key (put_value mode (get m key) value))
+  pub wants : (m : Map) → Means s v old m → s.log_full new ⊎ LacksIts s v key m old new (size_for v key (put_value mode (get m key) value))
 
 -- what doesn't speak of the space
-abbrev Lacked : {S : Type 0} → Hash S → List ℕ → Map → Map → ℕ → ℕ → List ℕ → Type 0
-Lacked h key m held size limit bytes = (x : HasNoBlock limit bytes h.body.head held size) × (get m key ≡ None → x.own ≡ h.body.pool)
+abbrev Lacked : {S : Type 0} → Hash S → List ℕ → Map → List ℕ → Map → ℕ → ℕ → List ℕ → Type 0
+Lacked h key m before held size limit bytes = (x : HasNoBlock limit bytes h.body.head held size) × WantsFrom h key m before size held x.own
 
 -- so it is in a space that was given up since
 pub lacks_still : {S : Type 0} (s : Ghosts S) (h : Hash S) (old mid new : S) (key value : List ℕ) → GivenUp s mid new → LacksRecordOf s h old mid key value → LacksRecordOf s h old new key value
 lacks_still s h old mid new key value given lacks =
     let file : ℕ = h.body.file in
     let size : ℕ = size_for h key value in
+    let before : List ℕ = s.now old file in
     let was = lacks.wants in
     let same : s.now new file ≡ s.now mid file = given.files lacks.means.0 file in
     let limit : s.limit new file ≡ s.limit mid file = ap (λ (l : ℕ → ℕ). l file) given.keeps.same_limit in
-    let moved : Lacked h key lacks.held was.held size (s.limit new file) (s.now new file) =
-    subst (λ (n : ℕ). Lacked h key lacks.held was.held size n (s.now new file)) (sym limit)
-    (subst (λ (bytes : List ℕ). Lacked h key lacks.held was.held size (s.limit mid file) bytes) (sym same) (was.none, was.stays)) in
-    record { held = lacks.held; means = lacks.means; wants = record { brought = given.brought was.brought; held = was.held; kept = was.kept; none = moved.0; stays = moved.1 } }
+    let moved : Lacked h key lacks.held before was.held size (s.limit new file) (s.now new file) =
+    subst (λ (n : ℕ). Lacked h key lacks.held before was.held size n (s.now new file)) (sym limit)
+    (subst (λ (bytes : List ℕ). Lacked h key lacks.held before was.held size (s.limit mid file) bytes) (sym same) (was.none, was.since)) in
+    record { held = lacks.held; means = lacks.means; wants = record { brought = given.brought was.brought; held = was.held; none = moved.0; since = moved.1 } }

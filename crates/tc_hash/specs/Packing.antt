@@ -19,7 +19,7 @@ use Rattle.hf_tree.specs.Keys.{Key}
 use Rattle.hf_tree.specs.Standing.{AllHang}
 use Rattle.tc_hash.specs.declared.hash.Hash.{Hash}
 use Rattle.tc_hash.specs.Creating.{IsNew}
-use Rattle.tc_hash.specs.Keeping.{KeepsHead, Means, SameMap, ShowsRegion, Turns}
+use Rattle.tc_hash.specs.Keeping.{CanCall, KeepsHead, Means, SameMap, ShowsRegion, Turns}
 use Rattle.hf_record.specs.declared.body.Body.{Body}
 use Rattle.hf_record.specs.Moves.{IsRefusedFor}
 
@@ -153,6 +153,11 @@ pub record MakesLarge {S : Type 0} (s : Ghosts S) (v v' : Hash S) (old new : S) 
   pub nothing : (q : ℕ) → frees v'.body.pool q ≡ None
   pub ends : v'.body.pool.size ≡ v'.body.head.first
   pub region : s.tells → ShowsRegion v' (s.now new v'.body.file)
+
+-- it may be called, and these are the pairs of whatever map is held
+pub record MayEnlarge {S : Type 0} (s : Ghosts S) (pairs : List Pair) (h : Hash S) (space : S) : Type 0 where
+  pub ready : CanCall s h space
+  pub are : (m : Map) → Means s h space m → ArePairs m (keys m) pairs
 
 -- a file was written anew in the large form, with the records that it had in the least blocks
 pub record WritesLarge {S : Type 0} (s : Ghosts S) (v v' : Hash S) (old new : S) : Type 0 where

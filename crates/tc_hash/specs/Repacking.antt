@@ -6,10 +6,12 @@ use Rattle.tc_base.specs.declared.kind.Form.{Form}
 use Rattle.tc_base.specs.declared.kind.Form.TheVariants as form
 use Rattle.hf_head.specs.declared.head.Head.{Head}
 use Rattle.hf_block.specs.Pieces.{Piece}
+use Rattle.hf_pool.specs.declared.pool.Pool.{Pool}
+use Rattle.hf_pool.specs.Pools.{frees}
 use Rattle.hf_tree.specs.Links.{HasBlocks}
 use Rattle.hf_tree.specs.Standing.{StandsFor}
 use Rattle.hf_record.specs.declared.body.Body.{Body}
-use Rattle.hf_record.specs.Holding.{Has}
+use Rattle.hf_record.specs.Holding.{Has, HasMap}
 use Rattle.tc_hash.specs.declared.hash.Hash.{Hash}
 use Rattle.tc_hash.specs.Creating.{IsNew}
 use Rattle.tc_hash.specs.Holding.{IsNumbered}
@@ -27,7 +29,8 @@ pub record MovesFrom (h : Head) (end : ℕ) (from bytes : List ℕ) : Type 0 whe
   pub was : HasPieces h pieces from
   pub fills : FillsFront h end pieces bytes
 
--- a file has the head of one that is made anew in the large form with the numbers of another, which was small. Up to an end the records of its map fill it in their least blocks
+-- a file has the head of one that is made anew in the large form with the numbers of another, which was small. Up to an end the records of the map that the other held fill it in
+-- their least blocks, and it holds that map
 pub record EnlargesFrom (f : Form) (h : Head) (end : ℕ) (stands : Map → Type 0) (from : List ℕ) : Type 0 where
   pub asked : f ≡ form.Large
   pub own : Head
@@ -35,6 +38,8 @@ pub record EnlargesFrom (f : Form) (h : Head) (end : ℕ) (stands : Map → Type
   pub small : own.options ≡ 1 → ⊥
   pub is_new : IsNew own.kind own.apow own.fpow own.buckets true h
   pub map : Map
+  pub pool : Pool
+  pub had : HasMap own pool.size (frees pool) map from
   pub stand : stands map
   pub fills : FillsLeast h end map
 

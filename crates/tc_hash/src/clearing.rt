@@ -11,7 +11,7 @@ ghost use Rattle.hf_head.specs.Heads.{Spells, is_large, spelled, unit};
 ghost use Rattle.tc_reach.specs.Limits.{AreZeros};
 ghost use Rattle.tc_hash.specs.Creating.{Clears, IsNew, with_region};
 ghost use Rattle.hf_record.specs.Fields.{HasFields};
-ghost use Rattle.tc_hash.specs.Keeping.{CanCall, LeadsNoMore, Refused, SameMap, SameShape, Turns};
+ghost use Rattle.tc_hash.specs.Keeping.{CanCall, Refused, SameMap, SameShape, Turns};
 
 use crate::create::{PIECE, new_head, new_pool, write_new};
 use crate::hash::Hash;
@@ -106,7 +106,6 @@ impl<S: Space> Hash<S> {
         ensures keeps { Keeps S.Space space.old space.new }
         ensures stays { SameMap self.old self.new }
         ensures shape { SameShape self.old self.new }
-        ensures lead { LeadsNoMore self.old self.new }
         ensures made { OnOk result (Clears S.Space self.old self.new space.new) }
         ensures cause { OnFault S.Space result space.old space.new }
     {

@@ -1,6 +1,5 @@
 //! A file written anew in the large form.
 ghost use Rattle.std.specs.Prelude.{◌≡◌, ◌⊎◌, ℕ, None, true, OnOk, OnErr, IfOk, IsErrOf};
-ghost use Rattle.std.specs.FinMap.{keys};
 ghost use Rattle.tc_base.specs.Maps.{Map};
 ghost use Rattle.tc_space.specs.Changes.{same};
 ghost use Rattle.tc_space.specs.Effects.{Outcome};
@@ -11,8 +10,8 @@ ghost use Rattle.hf_record.specs.Changing.{CanChange};
 ghost use Rattle.hf_record.specs.Fields.{HasFields};
 ghost use Rattle.hf_record.specs.Holding.{Has};
 ghost use Rattle.tc_hash.specs.Creating.{IsNew};
-ghost use Rattle.tc_hash.specs.Keeping.{CanCall, Means, Refused, StaysOpen, Turns};
-ghost use Rattle.tc_hash.specs.Packing.{AddsPair, ArePairs, LacksAnew, LacksOne, LacksSections, LeavesHead, MakesLarge, PutsPairs, StaysNumbered, WritesLarge};
+ghost use Rattle.tc_hash.specs.Keeping.{CanCall, Refused, StaysOpen, Turns};
+ghost use Rattle.tc_hash.specs.Packing.{AddsPair, ArePairs, LacksAnew, LacksOne, LacksSections, LeavesHead, MakesLarge, MayEnlarge, PutsPairs, StaysNumbered, WritesLarge};
 
 use crate::clearing::{head_with, write_anew};
 use crate::create::{PIECE, new_head, new_pool};
@@ -116,8 +115,7 @@ impl<S: Space> Hash<S> {
 
     // Writes the file anew in the large form, with these pairs. After a refusal the space isn't sound, or nothing has changed.
     fn write_large(&mut self, space: &mut S, pairs: &Pairs) -> Result<(), RecErr>
-        requires ready { CanCall S.Space self.old space.old }
-        requires pairs { (m : Map) → Means S.Space self.old space.old m → ArePairs m (keys m) pairs.now }
+        requires { MayEnlarge S.Space pairs.now self.old space.old }
         ensures packed { OnOk result (Turns S.Space same self.old self.new space.old space.new) }
         ensures refused { OnErr result (Refused S.Space self.old self.new space.old space.new) }
         ensures full { IsErrOf result RecErr.Full → S.tells → S.log_full space.new ⊎ LacksAnew S.Space self.old space.old space.new }
@@ -132,8 +130,8 @@ impl<S: Space> Hash<S> {
         Ok(())
     }
 
-    /// Writes the file anew in the large form, with the same records in ascending order of their keys and without free blocks. All records are held in
-    /// memory for it. After a refusal the space isn't sound, or nothing has changed.
+    /// Writes the file anew in the large form, with the same records in the least blocks and without free ones. After a refusal the space isn't sound, or
+    /// nothing has changed.
     pub(crate) fn enlarge(&mut self, space: &mut S) -> Result<(), RecErr>
         requires { CanCall S.Space self.old space.old }
         ensures packed { OnOk result (Turns S.Space same self.old self.new space.old space.new) }

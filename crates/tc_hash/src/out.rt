@@ -37,8 +37,8 @@ impl<S: Space> Hash<S> {
     }
 
     /// Takes a key out, and answers how many bytes its value had; none exactly where it isn't held. The block of its record is given back, and no more than two
-    /// links are written besides. The key is searched once, and its record's head is read once: no more bytes are read than those of the steps. It is full only
-    /// where the undo log is. After a refusal the space isn't sound, or nothing has changed; where it is full it isn't sound.
+    /// links are written besides. No more bytes are read than those of the steps. It is full only where the undo log is. After a refusal the space isn't sound, or
+    /// nothing has changed; where it is full it isn't sound.
     pub fn out<L>(
         &mut self,
         space: &mut S,

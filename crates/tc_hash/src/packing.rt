@@ -7,7 +7,7 @@ ghost use Rattle.tc_space.specs.Stores.{Only};
 ghost use Rattle.hf_head.specs.Heads.{unit};
 ghost use Rattle.hf_pool.specs.Pools.{frees};
 ghost use Rattle.hf_record.specs.Fields.{HasFields};
-ghost use Rattle.tc_hash.specs.Keeping.{CanCall, Refused, Turns};
+ghost use Rattle.tc_hash.specs.Keeping.{CanCall, Refused, StaysOpen, Turns};
 ghost use Rattle.tc_hash.specs.Listed.{CanList, OfBlocks};
 ghost use Rattle.tc_hash.specs.Packing.{IsRepacked, LacksPacking, LeavesHead, MovesRecords, Packs, PacksAs, StaysNumbered};
 
@@ -63,8 +63,7 @@ impl<S: Space> Hash<S> {
         ensures refused { OnErr result (Refused S.Space self.old self.new space.old space.new) }
         ensures full { OnlyLogIsFull S.Space result space.new }
         ensures keeps { Keeps S.Space space.old space.new }
-        ensures stays { StaysNumbered self.old self.new }
-        ensures head { self.new.body.head ≡ self.old.body.head }
+        ensures stays { StaysOpen self.old self.new }
         ensures packs { OnOk result (Packs self.old.body.head.options self.new) }
         ensures moves { OnOk result (MovesRecords S.Space self.old self.new space.old space.new) }
         ensures cause { OnFault S.Space result space.old space.new }
@@ -88,11 +87,10 @@ impl<S: Space> Hash<S> {
         }
     }
 
-    /// Packs the file: no free block is left. In the form that it has, the blocks of all records are moved to the front, in ascending place, and trees keep
-    /// their shape; it takes memory for each block, and none for keys and values. So the blocks end behind the bytes that those of the records have. A small file is
-    /// written anew in the large form, with its records in the least blocks and in ascending order of their keys, which are all held in memory for it; a large one
-    /// stays large, and its blocks are moved. `settle` brings the end of the blocks to the file. After
-    /// a refusal the space isn't sound, or nothing has changed.
+    /// Packs the file: no free block is left. In the form that it has, the blocks of all records are moved to the front, in ascending place. So the blocks end
+    /// behind the bytes that those of the records have. A small file is written anew in the large form, with its records in the least blocks. It is full then
+    /// where one has no room behind those of lesser keys, or what stands in front of them has none. A large one stays large, and its blocks are moved. `settle`
+    /// brings the end of the blocks to the file. After a refusal the space isn't sound, or nothing has changed.
     pub fn pack(&mut self, space: &mut S, form: Form) -> Result<(), RecErr>
         requires { CanCall S.Space self.old space.old }
         ensures packed { OnOk result (Turns S.Space same self.old self.new space.old space.new) }

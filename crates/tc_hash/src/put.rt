@@ -20,7 +20,7 @@ use tc_reach::{full_in, give_up};
 use tc_space::{PutErr, RecErr, Space};
 
 /// What a put did.
-#[derive(Clone, Copy, Debug, Drop, PartialEq, Eq)]
+#[derive(Clone, Copy, Drop, PartialEq, Eq)]
 pub enum Put {
     /// The key has the value. Before, it had one of so many bytes, if it had one.
     Stored(Option<u64>),
@@ -260,7 +260,7 @@ impl<S: Space> Hash<S> {
     }
 
     /// Gives a key a value of at most so many bytes, and answers what it did: `Held` comes exactly with `Keep` on a held key, `TooLong` exactly where the
-    /// value, with `Cat` behind the one that the key has, would have more and isn't that of a key to be kept. The key is searched once, and again only where its record moves to a larger block.
+    /// value, with `Cat` behind the one that the key has, would have more and isn't that of a key to be kept.
     ///
     /// The record stands in the least block that holds it. It is written over the old one where that one's block is large enough, whose rest is given back;
     /// else that block is given back whole and another is taken: the least free one that is large enough, at the lowest place among equals, or, where none

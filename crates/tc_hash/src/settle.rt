@@ -127,8 +127,8 @@ impl<S: Space> Hash<S> {
     }
 
     /// Brings what is held in memory to the file: free blocks at its end are dropped, the head and the pool section are written, of each the bytes that
-    /// differ from those that were read or written last, and the file is cut to its size. Then the file stands for the map. It reads what stands in front of the
-    /// blocks, once; a settled file isn't read again before it is packed or cleared. After a refusal the space isn't sound, or nothing was written.
+    /// differ from those that were read or written last, and the file is cut to its size. Then the file stands for the map. A
+    /// file that was settled, and neither packed nor cleared since, isn't read. After a refusal the space isn't sound, or nothing was written.
     pub fn settle(&mut self, space: &mut S) -> Result<(), RecErr>
         requires { CanCall S.Space self.old space.old }
         ensures settled { OnOk result (Settles S.Space self.old self.new space.old space.new) }

@@ -51,7 +51,7 @@ fn add_key<S: Space>(
     Ok(())
 }
 
-// The keys of the records of a list of blocks. Each record's head and key are read once, many at a time.
+// The keys of the records of a list of blocks.
 fn read_keys<S: Space>(
     alloc: Global,
     space: &mut S,
@@ -115,7 +115,7 @@ fn list_keys<S: Space>(
 }
 
 impl<S: Space> Hash<S> {
-    /// The keys, in ascending order of their bytes. It reads each block's head and each key, many at a time, and changes nothing.
+    /// The keys, in ascending order of their bytes. It changes nothing.
     pub fn keys<L>(&mut self, space: &mut S, steps: &mut Steps<L>) -> Result<Blobs, RecErr>
         requires { CanCall S.Space self.old space.old }
         ensures value { IfOk result (λ all. (m : Map) → Means S.Space self.old space.old m → all ≡ keys m) }

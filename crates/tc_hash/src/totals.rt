@@ -52,7 +52,7 @@ fn add_bytes<S: Space>(
     }
 }
 
-// The bytes of the keys and values of the records of a list of blocks. Each record's head is read once, many at a time.
+// The bytes of the keys and values of the records of a list of blocks.
 fn read_bytes<S: Space>(
     alloc: Global,
     space: &mut S,
@@ -91,7 +91,7 @@ fn sum_bytes<S: Space>(alloc: Global, space: &mut S, file: u32, head: &Head) -> 
 }
 
 impl<S: Space> Hash<S> {
-    /// The bytes of all keys and values. It reads each block's head, many at a time, and changes nothing.
+    /// The bytes of all keys and values. It changes nothing.
     pub fn bytes(&mut self, space: &mut S) -> Result<u64, RecErr>
         requires { CanCall S.Space self.old space.old }
         ensures value { IfOk result (λ n. (m : Map) → Means S.Space self.old space.old m → n ≡ bytes_in m) }

@@ -166,14 +166,15 @@ fills_on limit log brought bytes all es fs e m rising is (inr x) =
     let once : Once (es ++ e ∷ fs) = subst Once is (rising_once all rising) in
     let on : (k : List ℕ) → (get (set_entries m es) k ≡ get m k) ⊎ (get (set_entries m es) k ≡ get (set_entries m all) k) = λ k.
     ⊎_elim (λ first. inl first) (λ last. inr (last ∙ sym (ap (λ l. get (set_entries m l) k) is))) (on_the_way es (e ∷ fs) m k once) in
+    let there : get (set_entries m all) e.0 ≡ Some e.1 = ap (λ l. get (set_entries m l) e.0) is ∙ once_over (es ++ e ∷ fs) m e.0 once ∙ ap (λ o. over o (get m e.0)) (find_at es e fs once) in
     inr (
       x.0,
       record {
         held = x.1.held;
         key = e.0;
         value = e.1;
-        between = between_out (set_entries m es) x.1.held m (set_entries m all) e.0 x.1.kept on;
-        there = ap (λ l. get (set_entries m l) e.0) is ∙ once_over (es ++ e ∷ fs) m e.0 once ∙ ap (λ o. over o (get m e.0)) (find_at es e fs once);
+        between = between_out (set_entries m es) x.1.held m (set_entries m all) e.0 e.1 x.1.kept there on;
+        there = there;
         wants = x.1.wants;
       },
     )

@@ -29,18 +29,25 @@ pub record WantsBlock (limit : ℕ) (bytes : List ℕ) (held : Map) (key value :
   pub fields : HasFields head
   pub none : HasNoBlock limit bytes head held (block_len (width head) key value (unit head))
 
--- so it is with a map, or with that map without the key
+-- so it is with a map, or with that map without the key, which didn't have this value
 pub record WantsKey (limit : ℕ) (bytes : List ℕ) (m : Map) (key value : List ℕ) : Type 0 where
   pub held : Map
-  pub kept : (held ≡ m) ⊎ (held ≡ out_of key m)
+  pub kept : (held ≡ m) ⊎ ((held ≡ out_of key m) × (get m key ≡ Some value → ⊥))
   pub wants : WantsBlock limit bytes held key value
 
--- so it is where each key has what it has before or after, but the one whose record wants the block, which may have nothing; the record is one of those after
+-- it is the one whose record wants the block, has nothing, and has another value after than before
+pub record IsTakenOut (before after held : Map) (key k : List ℕ) : Type 0 where
+  pub own : k ≡ key
+  pub none : get held k ≡ None
+  pub changes : get before k ≡ get after k → ⊥
+
+-- so it is where each key has what it has before or after, but the one whose record wants the block, which may have nothing where what it has changes; the record is one
+-- of those after
 pub record WantsRecord (limit : ℕ) (bytes : List ℕ) (before after : Map) : Type 0 where
   pub held : Map
   pub key : List ℕ
   pub value : List ℕ
-  pub between : (k : List ℕ) → (get held k ≡ get before k) ⊎ ((get held k ≡ get after k) ⊎ ((k ≡ key) × (get held k ≡ None)))
+  pub between : (k : List ℕ) → (get held k ≡ get before k) ⊎ ((get held k ≡ get after k) ⊎ IsTakenOut before after held key k)
   pub there : get after key ≡ Some value
   pub wants : WantsBlock limit bytes held key value
 

@@ -1,7 +1,7 @@
 //! The numbers of a hash file.
 
 /// The numbers of a hash file that is made anew.
-#[derive(Clone, Copy, Debug, PartialEq, Eq)]
+#[derive(Clone, Copy, PartialEq, Eq)]
 pub struct HashShape {
     /// The number of buckets, from 1 to 2^38.
     pub buckets: u64,

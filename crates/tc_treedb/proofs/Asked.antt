@@ -194,7 +194,7 @@ module _ {S : Type 0} (s : Ghosts S) where
       (record {
         sound = sound;
         others = others_refl s (Only 0) a;
-        numbers = record { same = refl; lead = at_most (lead_kept e.kept) (lead_kept e.kept) refl };
+        numbers = record { same = refl; lead = at_most (lead_kept e.kept) (lead_kept e.kept) refl; limits = record { order = refl; leaf = refl; node = refl } };
         made = λ yes. absurd cc;
         fails = λ no_one m h. refl;
         same = λ no_one. reads_refl s (Means s) e.kept a sound;

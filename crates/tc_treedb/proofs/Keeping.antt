@@ -1,6 +1,6 @@
 -- Calls on a tree as calls on what an engine keeps, whichever order it has.
-use Rattle.std.proofs.Common.{◌≡◌, ◌∙◌, inl, inr, ⊎_elim, ℕ, ◌+◌, ◌<◌, ◌≤◌, Bool, false, List, [], length, take, sym, ap, subst, arith}
-use Rattle.std.specs.Prelude.{Option, Some, None, IfOk, IfSome, OnErr, OnOk, Result, Ok, Err, is_some}
+use Rattle.std.proofs.Common.{◌≡◌, ◌∙◌, inl, inr, ⊎_elim, ℕ, ◌+◌, ◌<◌, ◌≤◌, Bool, false, List, [], length, take, refl, sym, ap, subst, arith}
+use Rattle.std.specs.Prelude.{◌⊎◌, Option, Some, None, IfOk, IfSome, OnErr, OnOk, Result, Ok, Err, is_some}
 use Rattle.std.specs.FinMap.{get, keys}
 use Rattle.std.specs.declared.cmp.Ordering.{Ordering}
 use Rattle.tc_base.specs.Maps.{Map}
@@ -18,28 +18,35 @@ use Rattle.hf_head.specs.declared.head.Head.{Head}
 use Rattle.hf_head.specs.Heads.{head_in, unit}
 use Rattle.hf_record.specs.Moves.{IsRefusedFor}
 use Rattle.hf_tree.specs.Links.{width}
+use Rattle.bt_page.specs.Keys.{key_of}
 use Rattle.bt_rows.specs.Heads.{head_of}
 use Rattle.bt_rows.specs.Orders.{Before, before_by}
+use Rattle.bt_rows.specs.Pages.{IsGiven, IsHeldAs}
 use Rattle.bt_rows.specs.Standing.{TreeStands, tree_pairs}
 use Rattle.bt_rows.specs.declared.head.TreeHead.{TreeHead}
+use Rattle.bt_rows.specs.declared.page.Page.{Page}
 use Rattle.bt_tree.specs.Clearing.{LacksCleared}
 use Rattle.bt_tree.specs.Inserting.{StaysMade}
 use Rattle.bt_tree.specs.Meaning.{AnswersPairs, Changes, HoldsIn, IsOpen, Means as MeansTree, RefusesPairs, file_in}
+use Rattle.bt_tree.specs.Removing.{AddsNone}
 use Rattle.bt_tree.specs.Settling.{BringsPacked, BringsPairs, StaysFormed, StaysSettled, TightTree}
 use Rattle.bt_tree.specs.Standing.{FileStands, region_bytes}
 use Rattle.bt_tree.specs.Trees.{HoldsPairs as HoldsTree}
+use Rattle.bt_tree.specs.Visits.{StaysTree}
 use Rattle.bt_tree.specs.declared.tree.Tree.{Tree}
 use Rattle.tc_hash.specs.declared.hash.Hash.{Hash}
+use Rattle.tc_hash.proofs.OneMap.{one_map}
+use Rattle.tc_hash.proofs.Stored.{from_done}
 use Rattle.tc_hash.specs.Ending.{slack_in}
 use Rattle.tc_hash.specs.Keeping.{holds, lead_of, numbers_of}
 use Rattle.tc_hash.specs.Packing.{ArePairs, LacksLarge as LacksIts, LacksOne, blocks_long}
 use Rattle.tc_hash.specs.Repacking.{IsPackedFrom, WasPacked}
 use Rattle.tc_hash.specs.Standing.{StandsAs}
 use Rattle.tc_hashdb.specs.Filling.{LacksLargeAt, LacksOne as LacksOneOf}
-use Rattle.tc_treedb.specs.Changing.{CountsTo, FillsAlong, Step, Takes}
+use Rattle.tc_treedb.specs.Changing.{CountsTo, FillsAlong, GivesPages, StaysGrown, Step, Takes}
 use Rattle.tc_treedb.specs.Filling.{FillsLists, LacksLargeLists}
 use Rattle.tc_treedb.specs.Holding.{Held, HoldsKept, Means, code_of}
-use Rattle.tc_treedb.specs.Kept.{BringsKept, BringsTight, CountsKept, FillsTo, Finds, FormsKept, KeepsHead, LacksFormed, Makes, PacksKept, TrimsKept, lead_kept}
+use Rattle.tc_treedb.specs.Kept.{BringsKept, BringsTight, CountsKept, FewMore, FillsTo, Finds, FormsKept, GivesRecords, GrowsKept, KeepsHead, LacksFormed, LessKept, LooksKept, Makes, NoneMore, OfTrees, PacksKept, SameLimits, SameTree, StaysKept, TrimsKept, head_kept, height_of, lead_kept}
 use Rattle.tc_treedb.specs.Laying.{kept_layout, slack_layout}
 use Rattle.tc_treedb.specs.Reading.{LooksAt, bytes_in}
 use Rattle.tc_treedb.specs.declared.kept.Kept.{Kept}
@@ -49,6 +56,12 @@ use Rattle.tc_treedb.proofs.Stored.{made_looked}
 
 pub leads_by : (r r' h h' k k' : ℕ) → r' ≤ r → r ≡ h → r' ≡ h' → k ≡ h → k' ≡ h' → k' ≤ k
 leads_by r r' h h' k k' less was now kept kept' = omega (arith, less, was, now, kept, kept')
+
+-- where no record is held no page is
+no_page : (id : ℕ) (bytes : Option (List ℕ)) (p : Option Page) → IsHeldAs id bytes p → bytes ≡ None → p ≡ None
+no_page id None None held none = refl
+no_page id None (Some p) held none = absurd held
+no_page id (Some x) p held none = absurd cc
 
 -- ---- a file written anew in the large form
 
@@ -167,9 +180,6 @@ module _ {S O : Type 0} (s : Ghosts S) (R : Stores (Hash S) S) (o : Orders O) (d
   pub reads_as : (t u : T) (a b : S) → Same t u → Reads s Pairs t u a b → Reads s (Means s) (wrap t) (wrap u) a b
   reads_as t u a b made reads = record { now = reads.now; touched = reads.touched; sound = reads.sound; means = λ m h. out_tree t u a b m m.1 h made (reads.means m.1 (in_tree t a m h)) }
 
-  pub reads_kept : (t u : T) (a b : S) → LooksAt s R o t u a b → Reads s (Means s) (wrap t) (wrap u) a b
-  reads_kept t u a b l = reads_as t u a b (of_made t u (made_looked s R o t u a b l)) l.reads
-
   decimal_is : (t : T) (a : S) (m : Held) → Means s (wrap t) a m → m.0 ≡ decimal
   decimal_is t a m h = (f.kind.out t (s.now a 0) m h.1).0
 
@@ -187,10 +197,59 @@ module _ {S O : Type 0} (s : Ghosts S) (R : Stores (Hash S) S) (o : Orders O) (d
   leads_kept : (t u : T) → R.lead u.store ≤ R.lead t.store → lead_kept (wrap u) ≤ lead_kept (wrap t)
   leads_kept t u less = leads_by (R.lead t.store) (R.lead u.store) (lead_of t.store) (lead_of u.store) (lead_kept (wrap t)) (lead_kept (wrap u)) less (f.store.lead t.store) (f.store.lead u.store) (f.kind.lead t) (f.kind.lead u)
 
+  -- what is said of the numbers and the rows of two trees is so of those that are kept
+  as_kept : (P : TreeHead → TreeHead → ℕ → ℕ → Type 0) (t u : T) → P t.head u.head t.height u.height → OfTrees P (wrap t) (wrap u)
+  as_kept P t u p =
+      subst (λ (h : TreeHead). P h (head_kept (wrap u)) (height_of (wrap t)) (height_of (wrap u))) (sym (f.kind.head t))
+      (subst (λ (k : TreeHead). P t.head k (height_of (wrap t)) (height_of (wrap u))) (sym (f.kind.head u))
+      (subst (λ (n : ℕ). P t.head u.head n (height_of (wrap u))) (sym (f.kind.high t))
+      (subst (λ (n : ℕ). P t.head u.head t.height n) (sym (f.kind.high u)) p)))
+
   pub keeps_head : (t u : T) → StaysMade R t u → KeepsHead (wrap t) (wrap u)
   keeps_head t u made = record {
     same = f.kind.numbers u ∙ (sym (f.store.numbers u.store) ∙ (made.made.numbers ∙ (f.store.numbers t.store ∙ sym (f.kind.numbers t))));
     lead = leads_kept t u made.made.lead;
+    limits = as_kept (λ h k n m. SameLimits h k) t u (record { order = made.order; leaf = made.leaf_limit; node = made.node_limit });
+  }
+
+  pub same_kept : (t u : T) → StaysTree t u → OfTrees SameTree (wrap t) (wrap u)
+  same_kept t u st = as_kept SameTree t u (record { head = st.head; high = st.height })
+
+  pub less_kept : (t u : T) → StaysMade R t u → AddsNone t u → LessKept (wrap t) (wrap u)
+  less_kept t u made ids = record { head = keeps_head t u made; ids = as_kept NoneMore t u (record { leaf_ids = ids.leaf_ids; node_ids = ids.node_ids; rows_most = ids.rows }) }
+
+  -- each id that a put gave is that of a record
+  pages_kept : (t u : T) (a b : S) → IsReady s (Means s) (wrap t) a → StaysMade R t u → GivesPages s R o t u a b → GivesRecords s (wrap t) (wrap u) b
+  pages_kept t u a b ready made gives told id now was m has none =
+      let h = ready.held told in
+      let k = (f.kind.out t (s.now a 0) h.0 h.1.1).1 in
+      let file : u.store.body.file ≡ 0 = sym (f.store.file u.store) ∙ (made.made.file ∙ (f.store.file t.store ∙ k.file)) in
+      let w = gives h.0.1 (in_tree t a h.0 h.1) in
+      let held : holds u.store (s.now b u.store.body.file) w.1.1.records = subst (λ (n : ℕ). holds u.store (s.now b n) w.1.1.records) (f.store.file u.store) (f.store.into u.store (s.now b (R.file_of u.store)) w.1.1.records w.1.1.store) in
+      let here : holds u.store (s.now b u.store.body.file) m = subst (λ (n : ℕ). holds u.store (s.now b n) m) (sym file) (f.kind.records u (s.now b 0) m has) in
+      let one : m ≡ w.1.1.records = one_map s u.store b m w.1.1.records (told, here) (told, held) in
+      let given : IsGiven u.head id = subst (λ (x : TreeHead). IsGiven x id) (f.kind.head u) now in
+      w.2 id given (λ before. was (subst (λ (x : TreeHead). IsGiven x id) (sym (f.kind.head t)) before))
+      (no_page id (get w.1.1.records (key_of id)) (w.0 id) (w.1.1.held.given id given) (ap (λ (x : Map). get x (key_of id)) (sym one) ∙ none))
+
+  pub grows_kept : {A E : Type 0} (r : Result A E) (t u : T) (a b : S) → IsReady s (Means s) (wrap t) a → StaysGrown s R o r t u a b → GrowsKept s r (wrap t) (wrap u) b
+  grows_kept r t u a b ready g = record {
+    head = keeps_head t u g.made;
+    ids = let more = g.ids.most in as_kept FewMore t u (record { leaves_least = more.leaves_least; leaves_most = more.leaves_most; nodes_least = more.nodes_least; nodes_most = more.nodes_most; rows_least = more.rows_least; rows_most = more.rows_most });
+    none = none_kept r g.ids.kept;
+    pages = from_done r g.pages (λ gives. pages_kept t u a b ready g.made gives);
+  }
+    where
+      none_kept : {A E : Type 0} (r : Result A E) → OnErr r ((s.flag b ≡ false) ⊎ ((u.head ≡ t.head) × (u.height ≡ t.height))) → OnErr r ((s.flag b ≡ false) ⊎ OfTrees SameTree (wrap t) (wrap u))
+      none_kept (Ok x) kept = tt
+      none_kept (Err e) kept = ⊎_elim (λ spoiled. inl spoiled) (λ same. inr (as_kept SameTree t u (record { head = same.0; high = same.1 }))) kept
+
+  pub looks_kept : (t u : T) (a b : S) → LooksAt s R o t u a b → LooksKept s (wrap t) (wrap u) a b
+  looks_kept t u a b l = record {
+    reads = reads_as t u a b (of_made t u (made_looked s R o t u a b l)) l.reads;
+    keeps = l.keeps;
+    stays = record { head = keeps_head t u (made_looked s R o t u a b l); same = same_kept t u l.stays };
+    tight = λ from form bytes was. f.kind.packs u from form bytes (f.store.tight u.store from form bytes (l.tight from form bytes (f.store.packs t.store from form bytes (f.kind.tight t from form bytes was))));
   }
 
   pub makes_kept : (step : Bool → Step) (done : Bool) (t u : T) (a b : S) → IsReady s (Means s) (wrap t) a → StaysMade R t u → Takes s R o (step decimal) done t u a b → Makes s (λ m. step m.0 m.1) done (wrap t) (wrap u) a b
@@ -297,11 +356,15 @@ module _ {S O : Type 0} (s : Ghosts S) (R : Stores (Hash S) S) (o : Orders O) (d
   as_same : (t u : T) (a b : S) → Writes s (Only 0) (Means s) (λ m. (m.0, same m.1)) (wrap t) (wrap u) a b → Writes s (Only 0) (Means s) same (wrap t) (wrap u) a b
   as_same t u a b w = record { sound = w.sound; means = λ m h. w.means m h; others = w.others }
 
-  pub settled_head : (t u : T) → StaysSettled R t u → KeepsHead (wrap t) (wrap u)
+  settled_head : (t u : T) → StaysSettled R t u → KeepsHead (wrap t) (wrap u)
   settled_head t u st = record {
     same = f.kind.numbers u ∙ (sym (f.store.numbers u.store) ∙ (st.fixed ∙ (f.store.numbers t.store ∙ sym (f.kind.numbers t))));
     lead = leads_kept t u st.lead;
+    limits = as_kept (λ h k n m. SameLimits h k) t u (record { order = ap (λ (h : TreeHead). h.order) st.stays.head; leaf = ap (λ (h : TreeHead). h.leaf_limit) st.stays.head; node = ap (λ (h : TreeHead). h.node_limit) st.stays.head });
   }
+
+  pub settled_stays : (t u : T) → StaysSettled R t u → StaysKept (wrap t) (wrap u)
+  settled_stays t u st = record { head = settled_head t u st; same = same_kept t u st.stays }
 
   pub settled_kept : (t u : T) (a b : S) → IsReady s (Means s) (wrap t) a → StaysSettled R t u → Changes s R o same t u a b → Writes s (Only 0) (Means s) same (wrap t) (wrap u) a b
   settled_kept t u a b ready stays writes = as_same t u a b (writes_as (λ d ps. ps) t u a b ready (of_settled t u stays) writes)

@@ -12,10 +12,10 @@ use Rattle.tc_treedb.specs.Reading.{LooksAt}
 
 module _ {S V O : Type 0} (s : Ghosts S) (R : Stores V S) (o : Orders O) where
   pub looks_asks : (most : ℕ) (t u : Tree V O) (steps steps' : ℕ) (old new : S) → Asks s R o most t u steps steps' old new → LooksAt s R o t u old new
-  looks_asks most t u steps steps' old new a = record { reads = a.reads; keeps = a.looks.keeps; made = a.looks.made; stays = a.stays }
+  looks_asks most t u steps steps' old new a = record { reads = a.reads; keeps = a.looks.keeps; made = a.looks.made; tight = a.looks.tight; stays = a.stays }
 
   pub looks_scans : (t u : Tree V O) (steps steps' : ℕ) (old new : S) → Scans s R o t u steps steps' old new → LooksAt s R o t u old new
-  looks_scans t u steps steps' old new a = record { reads = a.reads; keeps = a.keeps; made = a.made; stays = a.stays }
+  looks_scans t u steps steps' old new a = record { reads = a.reads; keeps = a.looks.keeps; made = a.looks.made; tight = a.looks.tight; stays = a.stays }
 
 -- rows that were taken over, and put back
 pub front_over : (from to a b : Rows) → a ≡ from → to ≡ b → Extends a b → Extends from to

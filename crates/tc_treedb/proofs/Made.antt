@@ -201,7 +201,7 @@ module _ {S : Type 0} (s : Ghosts S) where
   pub main_stands : (kind : Kind) (h : Hash S) (kept : Kept S) (a mid b : S) → kinds.Tree ≡ kind → s.tells → ((g : ℕ) → s.now mid g ≡ s.now a g) → ((m : Map) × StandsWith 1 (s.now a 0) m h.region) → ((m : Map) → StandsFor 1 (s.now a 0) (get m) → holds h (s.now mid 0) m) → OpensKept s h mid b kept
       → (c : Contents) × OpensTo kind Reopens (s.now a) c
   main_stands kind h kept a mid b is t same stood held opens =
-      let x = opens stood.0 (t, held stood.0 stood.1.is) in
+      let x = opens.opens stood.0 (t, held stood.0 stood.1.is) in
       let m : Held = (told_decimal s h, tree_pairs x.stands) in
       (tree false m.0 m.1, record { kind_is = is; stand = inr (record { held = m; is = refl; stands = opened_pairs h kept a b stood.0 stood.1 x }) })
 
@@ -210,7 +210,7 @@ module _ {S : Type 0} (s : Ghosts S) where
   main_opened kind e h a mid b some t total first second stood held opens c to = ⊎_elim
       (λ none. absurd (some (ap length none.0)))
       (λ main.
-      let x = opens stood.0 (t, held stood.0 stood.1.is) in
+      let x = opens.opens stood.0 (t, held stood.0 stood.1.is) in
       let here : Held = (told_decimal s h, tree_pairs x.stands) in
       let one : main.held ≡ here = one_tree (s.now a 0) main.held here main.stands (opened_pairs h e.kept a b stood.0 stood.1 x) in
       let c_is : c ≡ tree false here.0 here.1 = main.is ∙ ap (λ (m : Held). tree false m.0 m.1) one in

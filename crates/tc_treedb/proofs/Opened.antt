@@ -10,7 +10,6 @@ use Rattle.std.specs.declared.cmp.Ordering.{Ordering}
 use Rattle.tc_base.specs.Maps.{Map}
 use Rattle.tc_base.specs.Orders.{order}
 use Rattle.tc_base.specs.declared.order.Order.{Ghosts as Orders}
-use Rattle.tc_space.specs.Changes.{out_of}
 use Rattle.tc_space.specs.Stores.{ReadyIn}
 use Rattle.tc_space.specs.declared.errors.OpenErr.{OpenErr}
 use Rattle.tc_space.specs.declared.records.Records.{Ghosts as Stores}
@@ -35,6 +34,7 @@ use Rattle.hf_record.proofs.Bytes.{unit_some}
 use Rattle.tc_hash.specs.declared.hash.Hash.{Hash}
 use Rattle.tc_hash.proofs.Numbered.{anew_leads}
 use Rattle.tc_hash.proofs.OneMap.{one_map}
+use Rattle.tc_hash.proofs.Stored.{its_fresh}
 use Rattle.tc_hash.specs.Keeping.{HasNoBlock, holds, lead_of, size_for}
 use Rattle.tc_treedb.specs.Holding.{code_of}
 use Rattle.tc_treedb.specs.Kept.{lead_kept}
@@ -82,14 +82,17 @@ module _ {S O : Type 0} (s : Ghosts S) (R : Stores (Hash S) S) (o : Orders O) (d
       (subst (λ (cmp : List ℕ → List ℕ → Ordering). OpenedTo (before_by cmp) (R.region hash) t b m) f.of.cmp (record { stands = x.stands; means = x.means })))
 
   pub opens_kept : (hash : Hash S) (t : Tree (Hash S) O) (a b : S) → hash.body.file ≡ 0 → hash.body.head.kind ≡ 1 → told_decimal s hash ≡ decimal → R.region hash ≡ hash.region → IsOpened s R o false hash t a b → OpensKept s hash a b (wrap t)
-  opens_kept hash t a b file kind told region opened m h =
-      let x = opened.opens m (held_in hash a m file h) in
-      let y = opened_to hash t a b m file told region opened h in
-      record {
-        stands = y.stands;
-        means = means_up s R o decimal wrap f t b (told_decimal s hash) (tree_pairs y.stands) told (sym (f.store.file t.store) ∙ (opened.made.file ∙ (f.store.file hash ∙ file))) (sym (f.store.sort t.store) ∙ (opened.made.sort ∙ (f.store.sort hash ∙ kind)))
-            (x.column_is ∙ no_column (head_of (R.region hash)) m x.stands.stand) y.means;
-      }
+  opens_kept hash t a b file kind told region opened = record {
+    head = f.kind.head t ∙ (opened.head_is ∙ ap head_of region);
+    opens = λ m h.
+        let x = opened.opens m (held_in hash a m file h) in
+        let y = opened_to hash t a b m file told region opened h in
+        record {
+          stands = y.stands;
+          means = means_up s R o decimal wrap f t b (told_decimal s hash) (tree_pairs y.stands) told (sym (f.store.file t.store) ∙ (opened.made.file ∙ (f.store.file hash ∙ file))) (sym (f.store.sort t.store) ∙ (opened.made.sort ∙ (f.store.sort hash ∙ kind)))
+              (x.column_is ∙ no_column (head_of (R.region hash)) m x.stands.stand) y.means;
+        };
+  }
 
   -- a rule that is named is the first of trees that what is held breaks
   pub breaks_kept : (hash : Hash S) (a : S) (e : OpenErr) → hash.body.file ≡ 0 → told_decimal s hash ≡ decimal → R.region hash ≡ hash.region → BreaksIn s R o false hash a e → BreaksTree s hash a e
@@ -183,7 +186,8 @@ module _ {S O : Type 0} (s : Ghosts S) (R : Stores (Hash S) S) (o : Orders O) (d
         passes = ⊎_elim (λ log. inl (inr (inr log)))
             (λ lacks. inr (let w = f.store.lacks l.store l.moment b (key_of 1) (leaf_bytes lone_leaf) lacks in
             let here = subst (λ (n : ℕ). holds l.store (s.now l.moment n) empty) (f.store.file l.store) (f.store.into l.store (s.now l.moment (R.file_of l.store)) empty now.1) in
-            let none : w.held ≡ empty = one_map s l.store l.moment w.held empty w.means (now.0, here) in (
+            let none : w.held ≡ empty = one_map s l.store l.moment w.held empty w.means (now.0, here) in
+            let own = its_fresh s l.store (key_of 1) w.held l.moment b (size_for l.store (key_of 1) (leaf_bytes lone_leaf)) w.wants (ap (λ (k : Map). get k (key_of 1)) none ∙ none_in (key_of 1)) in (
               w.wants.brought,
               record {
                 own = l.store.body.head;
@@ -192,7 +196,7 @@ module _ {S O : Type 0} (s : Ghosts S) (R : Stores (Hash S) S) (o : Orders O) (d
                 least = within_one l.store.body.head.first (sections l.store.body.head) (unit l.store.body.head) (unit_some l.store.body.head)
                     (leads_none (R.lead hash) (R.lead l.store) (lead_of hash) (lead_of l.store) l.looks.leads (f.store.lead hash) (f.store.lead l.store) (anew_leads hash.body.head 0 new.new));
                 held = w.wants.held;
-                kept = ⊎_elim (λ is. inl (is ∙ none)) (λ is. inr (is ∙ ap (out_of (key_of 1)) none)) w.wants.kept;
+                kept = inl (own.map ∙ none);
                 none = subst (λ (n : ℕ). HasNoBlock (s.limit b n) (s.now b n) l.store.body.head w.wants.held (size_for l.store (key_of 1) (leaf_bytes lone_leaf))) file w.wants.none;
               },
             )))

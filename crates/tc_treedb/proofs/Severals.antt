@@ -24,11 +24,11 @@ use Rattle.bt_order.specs.Rising.{behind_stays}
 use Rattle.bt_ways.specs.Changes.{inserted, removed}
 use Rattle.bt_tree.specs.Inserting.{StaysMade}
 use Rattle.bt_tree.specs.Meaning.{Changes, Means, file_in}
-use Rattle.bt_tree.specs.Removing.{room_given}
+use Rattle.bt_tree.specs.Paging.{room_given, tells_given}
 use Rattle.bt_tree.specs.declared.tree.Tree.{Tree}
 use Rattle.tc_btree.specs.Rising.{pairs_rise}
 use Rattle.tc_treedb.specs.Between.{AreBetween, IsBetween, IsFront}
-use Rattle.tc_treedb.specs.Changing.{CountsTo, FillsAlong, FillsOn, FillsPairs, cleared_in, each_cleared, each_pushed, push_in, set_in}
+use Rattle.tc_treedb.specs.Changing.{CountsTo, FillsAlong, FillsOn, FillsPairs, cleared_in, push_in, set_in}
 use Rattle.tc_treedb.specs.Counting.{IsCountedWith, gone}
 use Rattle.tc_treedb.specs.Reading.{LooksAt, bytes_in, pairs_of}
 use Rattle.tc_treedb.proofs.Readings.{text_same, text_self}
@@ -57,36 +57,66 @@ front_none : (vs : List (List ℕ)) → IsFront vs [] → vs ≡ []
 front_none [] a = refl
 front_none (v ∷ vs) a = absurd (let e : 0 ≡ length ((v ∷ vs) ++ a.0) = ap length a.1 in let l = length-append (v ∷ vs) a.0 in omega (arith, e, l))
 
+-- how the values of a key go by steps: these join, and a list on the way parts one
+pub record IsWay (Goes : List (List ℕ) → List (List ℕ) → Type 0) : Type 0 where
+  pub none : (vs : List (List ℕ)) → Goes vs vs
+  pub joins : (us vs ws : List (List ℕ)) → Goes us vs → Goes vs ws → Goes us ws
+  pub between : (us vs ws : List (List ℕ)) → Goes us vs → Goes vs ws → AreBetween us vs ws
+  pub parts : (us vs ws : List (List ℕ)) → Goes us ws → AreBetween us vs ws → Goes us vs × Goes vs ws
+
+pub front_way : IsWay IsFront
+front_way = record {
+  none = front_refl;
+  joins = front_then;
+  between = λ us vs ws first second. inr (inr (first, second));
+  parts = λ us vs ws all lies. ⊎_elim
+      (λ same. (subst (λ (x : List (List ℕ)). IsFront us x) (sym same) (front_refl us), subst (λ (x : List (List ℕ)). IsFront x ws) (sym same) all))
+      (λ later. ⊎_elim
+      (λ same. (subst (λ (x : List (List ℕ)). IsFront us x) (sym same) all, subst (λ (x : List (List ℕ)). IsFront x ws) (sym same) (front_refl ws)))
+      (λ both. both)
+      later)
+      lies;
+}
+
+-- values of a key stay, or go
+abbrev pub StayOrGo : List (List ℕ) → List (List ℕ) → Type 0
+StayOrGo vs ws = (ws ≡ vs) ⊎ (ws ≡ [])
+
+go_then : (us vs ws : List (List ℕ)) → StayOrGo us vs → StayOrGo vs ws → StayOrGo us ws
+go_then us vs ws first second = ⊎_elim (λ same. ⊎_elim (λ was. inl (same ∙ was)) (λ none. inr (same ∙ none)) first) (λ none. inr none) second
+
+gone_stays : (vs ws : List (List ℕ)) → StayOrGo vs ws → vs ≡ [] → ws ≡ []
+gone_stays vs ws go none = ⊎_elim (λ same. same ∙ none) (λ gone. gone) go
+
+at_last : (us vs ws : List (List ℕ)) → StayOrGo us vs → StayOrGo vs ws → AreBetween us vs ws
+at_last us vs ws first second = ⊎_elim (λ same. inl same) (λ none. inr (inl (none ∙ sym (gone_stays vs ws second none)))) first
+
+go_parts : (us vs ws : List (List ℕ)) → StayOrGo us ws → AreBetween us vs ws → StayOrGo us vs × StayOrGo vs ws
+go_parts us vs ws all lies = ⊎_elim at_first (λ later. ⊎_elim at_end (λ both. ⊎_elim (λ same. at_first (back same both)) (λ none. at_end (gone none both.1)) all) later) lies
+  where
+    at_first : vs ≡ us → StayOrGo us vs × StayOrGo vs ws
+    at_first same = (inl same, subst (λ (x : List (List ℕ)). StayOrGo x ws) (sym same) all)
+
+    at_end : vs ≡ ws → StayOrGo us vs × StayOrGo vs ws
+    at_end same = (subst (λ (x : List (List ℕ)). StayOrGo us x) (sym same) all, inl (sym same))
+
+    back : ws ≡ us → IsFront us vs × IsFront vs ws → vs ≡ us
+    back same both = front_both us vs both.0 (subst (λ (x : List (List ℕ)). IsFront vs x) same both.1)
+
+    gone : ws ≡ [] → IsFront vs ws → vs ≡ ws
+    gone none front = front_none vs (subst (λ (x : List (List ℕ)). IsFront vs x) none front) ∙ sym none
+
+pub go_way : IsWay StayOrGo
+go_way = record { none = λ vs. inl refl; joins = go_then; between = at_last; parts = go_parts }
+
 module _ (cmp : List ℕ → List ℕ → Ordering) (total : IsTotalOrder cmp) (exact : CmpEqualImpliesEq cmp) where
   -- values that are pushed come behind
-  pushed_front : (key value k : List ℕ) (ps : List Pair) → IsFront (values ps k) (values (with_last cmp ps key value) k)
+  pub pushed_front : (key value k : List ℕ) (ps : List Pair) → IsFront (values ps k) (values (with_last cmp ps key value) k)
   pushed_front key value k ps = go (is_text k key) refl (values_set cmp total exact ps key k (values ps key ++ value ∷ []))
     where
       go : (b : Bool) → is_text k key ≡ b → values (with_last cmp ps key value) k ≡ cond (is_text k key) (values ps key ++ value ∷ []) (values ps k) → IsFront (values ps k) (values (with_last cmp ps key value) k)
       go true e is = (value ∷ [], is ∙ (ap (λ (c : Bool). cond c (values ps key ++ value ∷ []) (values ps k)) e ∙ ap (λ (x : List ℕ). values ps x ++ value ∷ []) (sym (text_same k key e))))
       go false e is = ([], is ∙ (ap (λ (c : Bool). cond c (values ps key ++ value ∷ []) (values ps k)) e ∙ sym (append-nil (values ps k))))
-
-  pushes_front : (pairs ps : List Pair) (k : List ℕ) → IsFront (values ps k) (values (each_pushed cmp pairs ps) k)
-  pushes_front [] ps k = front_refl (values ps k)
-  pushes_front (p ∷ pairs) ps k = front_then (values ps k) (values (push_in cmp p ps) k) (values (each_pushed cmp pairs (push_in cmp p ps)) k) (pushed_front p.key p.value k ps) (pushes_front pairs (push_in cmp p ps) k)
-
-  pub push_between : (pairs : List Pair) (i : ℕ) (p : Pair) → i < length pairs → p ≡ get_or pairs i p → (ps mid : List Pair) → IsBetween (each_pushed cmp (take i pairs) ps) mid (push_in cmp p (each_pushed cmp (take i pairs) ps)) → IsBetween ps mid (each_pushed cmp pairs ps)
-  push_between pairs i p lt is ps mid between k =
-      let so_far : List Pair = each_pushed cmp (take i pairs) ps in
-      let next : List Pair = push_in cmp p so_far in
-      let one : each_pushed cmp (take (i + 1) pairs) ps ≡ next = fold_more (λ qs q. push_in cmp q qs) ps pairs i p lt ∙ ap (λ (q : Pair). push_in cmp q so_far) (sym is) in
-      let all : each_pushed cmp (drop (i + 1) pairs) next ≡ each_pushed cmp pairs ps =
-      ap (each_pushed cmp (drop (i + 1) pairs)) (sym one) ∙ (sym (fold-append (λ qs q. push_in cmp q qs) ps (take (i + 1) pairs) (drop (i + 1) pairs)) ∙ ap (λ (l : List Pair). each_pushed cmp l ps) (take-append-drop (i + 1) pairs)) in
-      let before : IsFront (values ps k) (values so_far k) = pushes_front (take i pairs) ps k in
-      let step : IsFront (values so_far k) (values next k) = pushed_front p.key p.value k so_far in
-      let behind : IsFront (values next k) (values (each_pushed cmp pairs ps) k) = subst (λ (l : List Pair). IsFront (values next k) (values l k)) all (pushes_front (drop (i + 1) pairs) next k) in
-      ⊎_elim
-      (λ same. inr (inr (subst (λ (vs : List (List ℕ)). IsFront (values ps k) vs) (sym same) before, subst (λ (vs : List (List ℕ)). IsFront vs (values (each_pushed cmp pairs ps) k)) (sym same) (front_then (values so_far k) (values next k) (values (each_pushed cmp pairs ps) k) step behind))))
-      (λ later. ⊎_elim
-      (λ same. inr (inr (subst (λ (vs : List (List ℕ)). IsFront (values ps k) vs) (sym same) (front_then (values ps k) (values so_far k) (values next k) before step), subst (λ (vs : List (List ℕ)). IsFront vs (values (each_pushed cmp pairs ps) k)) (sym same) behind)))
-      (λ both. inr (inr (front_then (values ps k) (values so_far k) (values mid k) before both.0, front_then (values mid k) (values next k) (values (each_pushed cmp pairs ps) k) both.1 behind)))
-      later)
-      (between k)
 
   not_above : (x y : List ℕ) → is_le (cmp x y) ≡ true → is_gt (cmp x y) ≡ false
   not_above x y le = go (cmp x y) le
@@ -139,51 +169,12 @@ module _ (cmp : List ℕ → List ℕ → Ordering) (total : IsTotalOrder cmp) (
   pub none_cleared : (key : List ℕ) (ps : List Pair) → Rises cmp ps → has_pair key ps ≡ false → cleared_in cmp key ps ≡ ps
   none_cleared key ps rises none = none_held key ps rises (none_there (values ps key) none)
 
-  -- values of a key go, or stay
-  abbrev StayOrGo : List (List ℕ) → List (List ℕ) → Type 0
-  StayOrGo vs ws = (ws ≡ vs) ⊎ (ws ≡ [])
-
-  cleared_values : (key k : List ℕ) (ps : List Pair) → StayOrGo (values ps k) (values (without_all cmp ps key) k)
+  pub cleared_values : (key k : List ℕ) (ps : List Pair) → StayOrGo (values ps k) (values (without_all cmp ps key) k)
   cleared_values key k ps = go (is_text k key) refl (values_set cmp total exact ps key k [])
     where
       go : (b : Bool) → is_text k key ≡ b → values (without_all cmp ps key) k ≡ cond (is_text k key) [] (values ps k) → StayOrGo (values ps k) (values (without_all cmp ps key) k)
       go true e is = inr (is ∙ ap (λ (c : Bool). cond c [] (values ps k)) e)
       go false e is = inl (is ∙ ap (λ (c : Bool). cond c [] (values ps k)) e)
-
-  go_then : (us vs ws : List (List ℕ)) → StayOrGo us vs → StayOrGo vs ws → StayOrGo us ws
-  go_then us vs ws first second = ⊎_elim (λ same. ⊎_elim (λ was. inl (same ∙ was)) (λ none. inr (same ∙ none)) first) (λ none. inr none) second
-
-  clears_values : (keys : List (List ℕ)) (ps : List Pair) (k : List ℕ) → StayOrGo (values ps k) (values (each_cleared cmp keys ps) k)
-  clears_values [] ps k = inl refl
-  clears_values (key ∷ keys) ps k = go_then (values ps k) (values (cleared_in cmp key ps) k) (values (each_cleared cmp keys (cleared_in cmp key ps)) k) (cleared_values key k ps) (clears_values keys (cleared_in cmp key ps) k)
-
-  gone_stays : (vs ws : List (List ℕ)) → StayOrGo vs ws → vs ≡ [] → ws ≡ []
-  gone_stays vs ws go none = ⊎_elim (λ same. same ∙ none) (λ gone. gone) go
-
-  at_last : (us vs ws : List (List ℕ)) → StayOrGo us vs → StayOrGo vs ws → AreBetween us vs ws
-  at_last us vs ws first second = ⊎_elim (λ same. inl same) (λ none. inr (inl (none ∙ sym (gone_stays vs ws second none)))) first
-
-  pub clear_between : (keys : List (List ℕ)) (i : ℕ) (key : List ℕ) → i < length keys → key ≡ get_or keys i key → (ps mid : List Pair) → IsBetween (each_cleared cmp (take i keys) ps) mid (cleared_in cmp key (each_cleared cmp (take i keys) ps)) → IsBetween ps mid (each_cleared cmp keys ps)
-  clear_between keys i key lt is ps mid between k =
-      let so_far : List Pair = each_cleared cmp (take i keys) ps in
-      let next : List Pair = cleared_in cmp key so_far in
-      let end : List Pair = each_cleared cmp keys ps in
-      let one : each_cleared cmp (take (i + 1) keys) ps ≡ next = fold_more (λ qs q. cleared_in cmp q qs) ps keys i key lt ∙ ap (λ (q : List ℕ). cleared_in cmp q so_far) (sym is) in
-      let all : each_cleared cmp (drop (i + 1) keys) next ≡ end =
-      ap (each_cleared cmp (drop (i + 1) keys)) (sym one) ∙ (sym (fold-append (λ qs q. cleared_in cmp q qs) ps (take (i + 1) keys) (drop (i + 1) keys)) ∙ ap (λ (l : List (List ℕ)). each_cleared cmp l ps) (take-append-drop (i + 1) keys)) in
-      let before : StayOrGo (values ps k) (values so_far k) = clears_values (take i keys) ps k in
-      let step : StayOrGo (values so_far k) (values next k) = cleared_values key k so_far in
-      let behind : StayOrGo (values next k) (values end k) = subst (λ (l : List Pair). StayOrGo (values next k) (values l k)) all (clears_values (drop (i + 1) keys) next k) in
-      let at_first : values mid k ≡ values so_far k → AreBetween (values ps k) (values mid k) (values end k) = λ same. subst (λ (vs : List (List ℕ)). AreBetween (values ps k) vs (values end k)) (sym same)
-      (at_last (values ps k) (values so_far k) (values end k) before (go_then (values so_far k) (values next k) (values end k) step behind)) in
-      let at_next : values mid k ≡ values next k → AreBetween (values ps k) (values mid k) (values end k) = λ same. subst (λ (vs : List (List ℕ)). AreBetween (values ps k) vs (values end k)) (sym same)
-      (at_last (values ps k) (values next k) (values end k) (go_then (values ps k) (values so_far k) (values next k) before step) behind) in
-      ⊎_elim at_first (λ later. ⊎_elim at_next
-      (λ both. ⊎_elim
-      (λ same. at_first (front_both (values so_far k) (values mid k) both.0 (subst (λ (vs : List (List ℕ)). IsFront (values mid k) vs) same both.1)))
-      (λ none. at_next (front_none (values mid k) (subst (λ (vs : List (List ℕ)). IsFront (values mid k) vs) none both.1) ∙ sym none))
-      step)
-      later) (between k)
 
 pub cause_at : {A B : Type 0} (r e : RecErr) → r ≡ e → IsErrOf {T = A} (Err r) Full → IsErrOf {T = B} (Err e) Full
 cause_at r e same full = ap (λ (x : RecErr). Err x) (sym same) ∙ ap (λ (x : RecErr). Err x) (let is : r ≡ Full = cc in is)
@@ -294,21 +285,55 @@ module _ {S V O : Type 0} (s : Ghosts S) (R : Stores V S) (o : Orders O) where
     far_end xs i before now t u a b end so_far = subst (λ (l : List X). SoFar l before now t u a b) (take_all i xs end) so_far
 
     fills_given : ((v : V) (x y z : S) (key value : List ℕ) → GivenUp s y z → R.lacks v x y key value → R.lacks v x z key value) → (t : Tree V O) (a c d : S) (ps qs : List Pair) → GivenUp s c d → FillsPairs s R o t a c ps qs → FillsPairs s R o t a d ps qs
-    fills_given still t a c d ps qs given fills = ⊎_elim (λ parted. inl parted) (λ room. inr (room.0, room_given s R still _ _ _ _ t a c d given room.1)) fills
+    fills_given still t a c d ps qs given fills = ⊎_elim
+        (λ parted. inl (record { means = parted.means; tells = tells_given s R t a c d given parted.tells; last = parted.last; key = parted.key; value = parted.value; makes = parted.makes; used = parted.used }))
+        (λ room. inr (room.0, room_given s R still _ _ _ _ t a c d given room.1)) fills
 
-    -- a limit that one of them met is one on the way of all
-    pub far_full : ((v : V) (x y z : S) (key value : List ℕ) → GivenUp s y z → R.lacks v x y key value → R.lacks v x z key value) → (xs : List X) (i : ℕ) (x : X) (before mid : Option ℕ) (t u : Tree V O) (a b c d : S)
-        → ((ps on : List Pair) → IsBetween (each (take i xs) ps) on (f x (each (take i xs) ps)) → IsBetween ps on (each xs ps)) → SoFar (take i xs) before mid t u a b → FillsAlong s R o (f x) u b c → GivenUp s c d → FillsAlong s R o (each xs) t a d
-    far_full still xs i x before mid t u a b c d between so_far fills given ps h =
-        let w : FillsOn s R o (f x) u b c (each (take i xs) ps) = fills (each (take i xs) ps) (so_far.writes.means ps h) in record {
-          tree = w.tree;
-          moment = w.moment;
-          made = made_then s R o t u w.tree so_far.stays w.made;
-          since = keeps_then s a b w.moment so_far.keeps w.since;
-          until = keeps_then s w.moment c d w.until given.keeps;
-          mid = w.mid;
-          next = w.next;
-          mid_between = between ps w.mid w.mid_between;
-          next_between = between ps w.next w.next_between;
-          fills = fills_given still w.tree w.moment c d w.mid w.next given w.fills;
-        }
+    all_on : (xs : List X) (i : ℕ) (x : X) (ps : List Pair) → i < length xs → x ≡ get_or xs i x → each (drop (i + 1) xs) (f x (each (take i xs) ps)) ≡ each xs ps
+    all_on xs i x ps lt is = ap (each (drop (i + 1) xs)) (sym (next_is xs i x ps lt is)) ∙ (sym (fold-append (λ qs y. f y qs) ps (take (i + 1) xs) (drop (i + 1) xs)) ∙ ap (λ (l : List X). each l ps) (take-append-drop (i + 1) xs))
+
+    -- of each change the values of a key go the same way
+    module _ (Goes : List (List ℕ) → List (List ℕ) → Type 0) (way : IsWay Goes) (goes : (x : X) (ps : List Pair) (k : List ℕ) → Goes (values ps k) (values (f x ps) k)) where
+      each_goes : (xs : List X) (ps : List Pair) (k : List ℕ) → Goes (values ps k) (values (each xs ps) k)
+      each_goes [] ps k = way.none (values ps k)
+      each_goes (x ∷ xs) ps k = way.joins (values ps k) (values (f x ps) k) (values (each xs (f x ps)) k) (goes x ps k) (each_goes xs (f x ps) k)
+
+      -- a list on the way of one of them
+      module _ (xs : List X) (i : ℕ) (x : X) (lt : i < length xs) (is : x ≡ get_or xs i x) (ps mid : List Pair) (lies : IsBetween (each (take i xs) ps) mid (f x (each (take i xs) ps))) where
+        abbrev stood : List Pair
+        stood = each (take i xs) ps
+
+        parted : (k : List ℕ) → Goes (values stood k) (values mid k) × Goes (values mid k) (values (f x stood) k)
+        parted k = way.parts (values stood k) (values mid k) (values (f x stood) k) (goes x stood k) (lies k)
+
+        behind : (k : List ℕ) → Goes (values (f x stood) k) (values (each xs ps) k)
+        behind k = subst (λ (l : List Pair). Goes (values (f x stood) k) (values l k)) (all_on xs i x ps lt is) (each_goes (drop (i + 1) xs) (f x stood) k)
+
+        -- is one on the way of all
+        all_between : IsBetween ps mid (each xs ps)
+        all_between k = way.between (values ps k) (values mid k) (values (each xs ps) k)
+            (way.joins (values ps k) (values stood k) (values mid k) (each_goes (take i xs) ps k) (parted k).0)
+            (way.joins (values mid k) (values (f x stood) k) (values (each xs ps) k) (parted k).1 (behind k))
+
+        -- and so is one further on
+        all_further : (next : List Pair) → IsBetween mid next (f x stood) → IsBetween mid next (each xs ps)
+        all_further next on k =
+            let here = way.parts (values mid k) (values next k) (values (f x stood) k) (parted k).1 (on k) in
+            way.between (values mid k) (values next k) (values (each xs ps) k) here.0 (way.joins (values next k) (values (f x stood) k) (values (each xs ps) k) here.1 (behind k))
+
+      -- a limit that one of them met is one on the way of all
+      pub far_full : ((v : V) (x y z : S) (key value : List ℕ) → GivenUp s y z → R.lacks v x y key value → R.lacks v x z key value) → (xs : List X) (i : ℕ) (x : X) (before mid : Option ℕ) (t u : Tree V O) (a b c d : S)
+          → i < length xs → x ≡ get_or xs i x → SoFar (take i xs) before mid t u a b → FillsAlong s R o (f x) u b c → GivenUp s c d → FillsAlong s R o (each xs) t a d
+      far_full still xs i x before mid t u a b c d lt is so_far fills given ps h =
+          let w : FillsOn s R o (f x) u b c (each (take i xs) ps) = fills (each (take i xs) ps) (so_far.writes.means ps h) in record {
+            tree = w.tree;
+            moment = w.moment;
+            made = made_then s R o t u w.tree so_far.stays w.made;
+            since = keeps_then s a b w.moment so_far.keeps w.since;
+            until = keeps_then s w.moment c d w.until given.keeps;
+            mid = w.mid;
+            next = w.next;
+            mid_between = all_between xs i x lt is ps w.mid w.mid_between;
+            on = all_further xs i x lt is ps w.mid w.mid_between w.next w.on;
+            fills = fills_given still w.tree w.moment c d w.mid w.next given w.fills;
+          }

@@ -1,6 +1,8 @@
 -- What puts and outs make of a tree.
-use Rattle.std.proofs.Common.{◌≡◌, ◌∙◌, inl, inr, ℕ, ◌<◌, ◌≤◌, Bool, true, false, cond, List, [], ◌++◌, ◌+◌, length, length-append, refl, sym, ap, subst, arith}
-use Rattle.std.specs.Prelude.{Option, Some, None, Result, Ok, Err, IfSome, IsTrue, ◌↔◌, is_some, nat_le, not, option_map, unwrap_or}
+use Rattle.std.proofs.Common.{◌≡◌, ◌∙◌, inl, inr, ⊎_elim, ℕ, ◌<◌, ◌≤◌, Bool, true, false, cond, List, [], ◌++◌, ◌+◌, length, length-append, refl, sym, ap, subst, arith}
+use Rattle.std.specs.Prelude.{Option, Some, None, Result, Ok, Err, IfSome, IsTrue, ◌↔◌, ◌⊎◌, is_some, nat_le, not, option_map, unwrap_or}
+use Rattle.std.specs.Result.{IsErrAnd}
+use Rattle.std.proofs.lemmas.Result.{err_from_is_err_and}
 use Rattle.std.specs.declared.cmp.Ordering.{Ordering}
 use Rattle.std.proofs.lemmas.Bool.Decides.{nat_tests}
 use Rattle.tc_base.specs.Lists.{first, with_first, with_last}
@@ -13,18 +15,22 @@ use Rattle.tc_space.specs.Stores.{Only, TakesOut}
 use Rattle.tc_space.specs.declared.records.Records.{Ghosts as Stores}
 use Rattle.tc_space.specs.declared.space.Space.{Ghosts}
 use Rattle.bt_cache.specs.Effects.{same_store_refl, same_store_then}
+use Rattle.bt_rows.specs.Pages.{IsGiven, PageMap}
 use Rattle.bt_rows.specs.declared.head.TreeHead.{TreeHead}
 use Rattle.bt_ways.specs.Changes.{inserted, removed}
-use Rattle.bt_tree.specs.Inserting.{IsFull, StaysMade}
+use Rattle.bt_tree.proofs.Inserts.{means_shown}
+use Rattle.bt_tree.specs.Inserting.{Gains, IsFull, StaysMade, WritesPages}
 use Rattle.bt_tree.specs.Meaning.{Changes, Means, RefusesPairs, file_in}
-use Rattle.bt_tree.specs.Removing.{IsRefusedRoom}
+use Rattle.bt_tree.specs.Paging.{FillsIds}
+use Rattle.bt_tree.specs.Removing.{AddsNone, IsRefusedRoom}
+use Rattle.bt_tree.specs.Visits.{StaysTree}
 use Rattle.bt_tree.specs.declared.tree.Tree.{Tree}
 use Rattle.tc_btree.specs.declared.btree.Btree.{Btree}
 use Rattle.tc_btree.proofs.Fulls.{insert_full, remove_full}
 use Rattle.tc_btree.proofs.Looking.{looked_refl}
 use Rattle.tc_model.specs.Values.{allowed}
 use Rattle.tc_treedb.specs.Between.{IsBetween}
-use Rattle.tc_treedb.specs.Changing.{AreLengths, FillsAlong, FillsOn, FillsPairs, Step, Takes, put_in, pushed_in, stored_in, taken_in}
+use Rattle.tc_treedb.specs.Changing.{AreLengths, FillsAlong, FillsOn, FillsPairs, StaysGrown, StaysLess, Step, Takes, put_in, pushed_in, stored_in, taken_in}
 use Rattle.tc_treedb.specs.Reading.{LooksAt}
 use Rattle.tc_treedb.specs.declared.storing.Change.{Change}
 
@@ -122,6 +128,59 @@ between_first ps qs key = inl refl
 pub between_last : (ps qs : List Pair) → IsBetween ps qs qs
 between_last ps qs key = inr (inl refl)
 
+-- ---- ids
+
+same_least : (a b : ℕ) → b ≡ a → a ≤ b
+same_least a b is = omega (arith, is)
+
+same_most : (a b more : ℕ) → b ≡ a → b ≤ a + more
+same_most a b more is = omega (arith, is)
+
+-- none is given since
+given_none : (h k : TreeHead) (pages : PageMap) → k ≡ h → FillsIds h k pages
+given_none h k pages same id now was none = was (subst (λ (x : TreeHead). IsGiven x id) same now)
+
+module _ {V O : Type 0} where
+  gains_none : (t u : Tree V O) → StaysTree t u → Gains 2 t.height 1 t u
+  gains_none t u st =
+      let leaves : u.head.leaf_ids ≡ t.head.leaf_ids = ap (λ (h : TreeHead). h.leaf_ids) st.head in
+      let nodes : u.head.node_ids ≡ t.head.node_ids = ap (λ (h : TreeHead). h.node_ids) st.head in
+      record {
+        leaves_least = same_least t.head.leaf_ids u.head.leaf_ids leaves;
+        leaves_most = same_most t.head.leaf_ids u.head.leaf_ids 2 leaves;
+        nodes_least = same_least t.head.node_ids u.head.node_ids nodes;
+        nodes_most = same_most t.head.node_ids u.head.node_ids t.height nodes;
+        rows_least = same_least t.height u.height st.height;
+        rows_most = same_most t.height u.height 1 st.height;
+      }
+
+  gains_behind : (t u v : Tree V O) → StaysTree t u → Gains 2 u.height 1 u v → Gains 2 t.height 1 t v
+  gains_behind t u v st g =
+      let leaves : u.head.leaf_ids ≡ t.head.leaf_ids = ap (λ (h : TreeHead). h.leaf_ids) st.head in
+      let nodes : u.head.node_ids ≡ t.head.node_ids = ap (λ (h : TreeHead). h.node_ids) st.head in
+      let high : u.height ≡ t.height = st.height in
+      record {
+        leaves_least = let least = g.leaves_least in omega (arith, least, leaves);
+        leaves_most = let most = g.leaves_most in omega (arith, most, leaves);
+        nodes_least = let least = g.nodes_least in omega (arith, least, nodes);
+        nodes_most = let most = g.nodes_most in omega (arith, most, nodes, high);
+        rows_least = let least = g.rows_least in omega (arith, least, high);
+        rows_most = let most = g.rows_most in omega (arith, most, high);
+      }
+
+  none_same : (t u : Tree V O) → StaysTree t u → AddsNone t u
+  none_same t u st = record { leaf_ids = ap (λ (h : TreeHead). h.leaf_ids) st.head; node_ids = ap (λ (h : TreeHead). h.node_ids) st.head; rows = let high : u.height ≡ t.height = st.height in omega (arith, high) }
+
+  pub none_refl : (t : Tree V O) → AddsNone t t
+  none_refl t = record { leaf_ids = refl; node_ids = refl; rows = omega arith }
+
+  pub none_then : (t u v : Tree V O) → AddsNone t u → AddsNone u v → AddsNone t v
+  none_then t u v first second = record {
+    leaf_ids = second.leaf_ids ∙ first.leaf_ids;
+    node_ids = second.node_ids ∙ first.node_ids;
+    rows = let one = first.rows in let two = second.rows in omega (arith, one, two);
+  }
+
 module _ {S V O : Type 0} (s : Ghosts S) (R : Stores V S) (o : Orders O) where
   -- ---- what stays
 
@@ -148,6 +207,51 @@ module _ {S V O : Type 0} (s : Ghosts S) (R : Stores V S) (o : Orders O) where
 
   pub made_behind : (t u v : Tree V O) (a b : S) → LooksAt s R o t u a b → StaysMade R u v → StaysMade R t v
   made_behind t u v a b l second = made_then t u v (made_looked t u a b l) second
+
+  -- an out behind a look, and a look alone
+  pub less_behind : (t u v : Tree V O) (a b : S) → LooksAt s R o t u a b → StaysMade R u v → AddsNone u v → StaysLess R t v
+  less_behind t u v a b l made ids = record { made = made_behind t u v a b l made; ids = none_then t u v (none_same t u l.stays) ids }
+
+  pub less_looked : (t u : Tree V O) (a b : S) → LooksAt s R o t u a b → StaysLess R t u
+  less_looked t u a b l = record { made = made_looked t u a b l; ids = none_same t u l.stays }
+
+  -- a put that gives none, whatever it answers
+  grown_still : {T E : Type 0} (r : Result T E) (t u : Tree V O) (a b : S) → StaysMade R t u → StaysTree t u → ((ps : List Pair) → Means s R o t a ps → Means s R o u b ps) → StaysGrown s R o r t u a b
+  grown_still (Ok x) t u a b made st means = record {
+    made = made;
+    ids = record { most = gains_none t u st; kept = tt };
+    pages = λ ps h. let now = means ps h in (now.1.is.tree.pages, means_shown s R o u b ps now, given_none t.head u.head now.1.is.tree.pages st.head);
+  }
+  grown_still (Err e) t u a b made st means = record { made = made; ids = record { most = gains_none t u st; kept = inr (st.head, st.height) }; pages = tt }
+
+  pub grown_refl : {T E : Type 0} (r : Result T E) (t : Tree V O) (a : S) → StaysGrown s R o r t t a a
+  grown_refl r t a = grown_still r t t a a (made_refl t) (record { head = refl; height = refl; column = refl }) (λ ps h. h)
+
+  pub grown_looked : {T E : Type 0} (r : Result T E) (t u : Tree V O) (a b : S) → LooksAt s R o t u a b → StaysGrown s R o r t u a b
+  grown_looked r t u a b l = grown_still r t u a b (made_looked t u a b l) l.stays l.reads.means
+
+  -- a put that is done, and one that is refused
+  pub grown_done : {T E : Type 0} (r : Result T E) (x : T) (f : List Pair → List Pair) (t u : Tree V O) (a b : S) → r ≡ Ok x → StaysMade R t u → Gains 2 t.height 1 t u → WritesPages s R o f t u a b → StaysGrown s R o r t u a b
+  grown_done {T} {E} r x f t u a b is made most writes =
+      subst (λ (q : Result T E). StaysGrown s R o q t u a b) (sym is) (record { made = made; ids = record { most = most; kept = tt }; pages = λ ps h. let w = writes ps h in (w.0, w.1, w.3) })
+
+  pub grown_refused : {T E : Type 0} (r : Result T E) (w : E) (t u : Tree V O) (a b : S) → IsErrAnd r (λ e. e ≡ w) → StaysMade R t u → Gains 2 t.height 1 t u → (s.flag b ≡ false) ⊎ ((u.head ≡ t.head) × (u.height ≡ t.height)) → StaysGrown s R o r t u a b
+  grown_refused {T} {E} r w t u a b is made most kept =
+      let p = err_from_is_err_and r is in
+      subst (λ (q : Result T E). StaysGrown s R o q t u a b) (sym p.1) (record { made = made; ids = record { most = most; kept = kept }; pages = tt })
+
+  -- a put behind a look
+  pub grown_behind : {T E : Type 0} (r : Result T E) (t u v : Tree V O) (a b c : S) → LooksAt s R o t u a b → StaysGrown s R o r u v b c → StaysGrown s R o r t v a c
+  grown_behind (Ok x) t u v a b c l g = record {
+    made = made_behind t u v a b l g.made;
+    ids = record { most = gains_behind t u v l.stays g.ids.most; kept = tt };
+    pages = λ ps h. let w = g.pages ps (l.reads.means ps h) in (w.0, w.1, subst (λ (x : TreeHead). FillsIds x v.head w.0) l.stays.head w.2);
+  }
+  grown_behind (Err e) t u v a b c l g = record {
+    made = made_behind t u v a b l g.made;
+    ids = record { most = gains_behind t u v l.stays g.ids.most; kept = ⊎_elim (λ spoiled. inl spoiled) (λ same. inr (same.0 ∙ l.stays.head, same.1 ∙ l.stays.height)) g.ids.kept };
+    pages = tt;
+  }
 
   -- ---- steps
 
@@ -250,7 +354,7 @@ module _ {S V O : Type 0} (s : Ghosts S) (R : Stores V S) (o : Orders O) where
     mid = ps;
     next = f ps;
     mid_between = between_first ps (f ps);
-    next_between = between_last ps (f ps);
+    on = between_last ps (f ps);
     fills = fills ps h;
   }
 
@@ -266,7 +370,7 @@ module _ {S V O : Type 0} (s : Ghosts S) (R : Stores V S) (o : Orders O) where
         mid = w.mid;
         next = w.next;
         mid_between = w.mid_between;
-        next_between = w.next_between;
+        on = w.on;
         fills = w.fills;
       }
 
@@ -282,6 +386,6 @@ module _ {S V O : Type 0} (s : Ghosts S) (R : Stores V S) (o : Orders O) where
         mid = w.mid;
         next = w.next;
         mid_between = subst (λ (qs : List Pair). IsBetween ps w.mid qs) (same ps h) w.mid_between;
-        next_between = subst (λ (qs : List Pair). IsBetween ps w.next qs) (same ps h) w.next_between;
+        on = subst (λ (qs : List Pair). IsBetween w.mid w.next qs) (same ps h) w.on;
         fills = w.fills;
       }

@@ -1,5 +1,5 @@
 -- What calls make of the pairs of a tree.
-use Rattle.std.specs.Prelude.{◌≡◌, ◌⊎◌, ℕ, Bool, true, false, List, [], ◌++◌, length, fold, nat_le, Option, Some, None, is_some, option_map, unwrap_or, if◌then◌else◌}
+use Rattle.std.specs.Prelude.{◌≡◌, ◌⊎◌, ℕ, Bool, true, false, List, [], ◌++◌, length, fold, nat_le, Option, Some, None, is_some, option_map, unwrap_or, Result, OnOk, if◌then◌else◌}
 use Rattle.std.specs.declared.cmp.Ordering.{Ordering}
 use Rattle.tc_base.specs.Lists.{first, with_first, with_last, without_all, without_first}
 use Rattle.tc_base.specs.declared.kind.Mode.{Mode}
@@ -12,9 +12,12 @@ use Rattle.tc_space.specs.Stores.{Only}
 use Rattle.tc_space.specs.declared.records.Records.{Ghosts as Stores}
 use Rattle.tc_space.specs.declared.space.Space.{Ghosts}
 use Rattle.tc_model.specs.Values.{allowed}
+use Rattle.bt_rows.specs.Pages.{PageMap}
 use Rattle.bt_tree.specs.declared.tree.Tree.{Tree}
-use Rattle.bt_tree.specs.Inserting.{StaysMade}
+use Rattle.bt_tree.specs.Inserting.{GivesIds, StaysMade}
 use Rattle.bt_tree.specs.Meaning.{Means, file_in}
+use Rattle.bt_tree.specs.Paging.{FillsIds, Shows}
+use Rattle.bt_tree.specs.Removing.{AddsNone}
 use Rattle.tc_btree.specs.Filling.{IsParted, LacksListed}
 use Rattle.tc_treedb.specs.Between.{IsBetween}
 use Rattle.tc_treedb.specs.Reading.{bytes_in}
@@ -72,7 +75,22 @@ AreLengths mode key value l ps = (l.old ≡ option_map length (first ps key)) ×
 
 -- ---- calls
 
+-- what an out leaves of a tree, whatever it answers: what the tree was made with stays, and no id is given
+pub record StaysLess {S V O : Type 0} (R : Stores V S) (t u : Tree V O) : Type 0 where
+  pub made : StaysMade R t u
+  pub ids : AddsNone t u
+
 module _ {S V O : Type 0} (s : Ghosts S) (R : Stores V S) (o : Orders O) where
+  -- each id that was given since has a page
+  abbrev pub GivesPages : Tree V O → Tree V O → S → S → Type 0
+  GivesPages t u old new = (ps : List Pair) → Means s R o t old ps → (pages : PageMap) × Shows s R u new pages × FillsIds t.head u.head pages
+
+  -- and what one put leaves: ids are given as one put gives them, each to a page
+  pub record StaysGrown {T E : Type 0} (result : Result T E) (t u : Tree V O) (old new : S) : Type 0 where
+    pub made : StaysMade R t u
+    pub ids : GivesIds s 2 t.height 1 result t u new
+    pub pages : OnOk result (GivesPages t u old new)
+
   -- the step was made in the tree's file; or it fails, and nothing has changed
   pub record Takes (f : Step) (done : Bool) (t u : Tree V O) (old new : S) : Type 0 where
     pub sound : s.sound new
@@ -90,9 +108,9 @@ module _ {S V O : Type 0} (s : Ghosts S) (R : Stores V S) (o : Orders O) where
 
   -- a limit is reached on the way from these pairs, which the tree means, to those
   abbrev pub FillsPairs : Tree V O → S → S → List Pair → List Pair → Type 0
-  FillsPairs t old new ps qs = IsParted s R o t old ps qs ⊎ (Means s R o t old ps × LacksListed s R o t old new ps qs)
+  FillsPairs t old new ps qs = IsParted s R o t old new ps qs ⊎ (Means s R o t old ps × LacksListed s R o t old new ps qs)
 
-  -- so it was of the tree as it was at some moment since, in a space that may have been given up then, between two of the lists on the way
+  -- so it was of the tree at some moment since, in a space that may have been given up then, between a list on the way and one further on
   pub record FillsOn (f : List Pair → List Pair) (t : Tree V O) (old new : S) (ps : List Pair) : Type 0 where
     pub tree : Tree V O
     pub moment : S
@@ -102,7 +120,7 @@ module _ {S V O : Type 0} (s : Ghosts S) (R : Stores V S) (o : Orders O) where
     pub mid : List Pair
     pub next : List Pair
     pub mid_between : IsBetween ps mid (f ps)
-    pub next_between : IsBetween ps next (f ps)
+    pub on : IsBetween mid next (f ps)
     pub fills : FillsPairs tree moment new mid next
 
   abbrev pub FillsAlong : (List Pair → List Pair) → Tree V O → S → S → Type 0

@@ -1,5 +1,5 @@
 -- When a limit is reached.
-use Rattle.std.specs.Prelude.{◌≡◌, ◌⊎◌, ℕ, ◌+◌, ◌<◌, Bool, true, List, [], length, Option, None}
+use Rattle.std.specs.Prelude.{◌≡◌, ◌⊎◌, ℕ, ◌+◌, ◌<◌, Bool, true, List, [], length, take, Option, None}
 use Rattle.std.specs.FinMap.{empty, get}
 use Rattle.std.specs.declared.cmp.Ordering.{Ordering}
 use Rattle.std.proofs.Common.{inl, inr, ⊎_elim, subst, sym}
@@ -11,7 +11,7 @@ use Rattle.tc_space.specs.Changes.{has_pair, out_of}
 use Rattle.tc_space.specs.declared.space.Space.{Ghosts}
 use Rattle.hf_block.specs.Written.{block_len}
 use Rattle.hf_head.specs.declared.head.Head.{Head}
-use Rattle.hf_head.specs.Heads.{sections, unit}
+use Rattle.hf_head.specs.Heads.{head_in, sections, unit}
 use Rattle.hf_pool.specs.declared.pool.Pool.{Pool}
 use Rattle.hf_pool.specs.Pools.{frees}
 use Rattle.hf_record.specs.Fields.{HasFields}
@@ -19,6 +19,7 @@ use Rattle.hf_record.specs.Holding.{HasMap}
 use Rattle.hf_tree.specs.Links.{width}
 use Rattle.bt_page.specs.Keys.{key_of}
 use Rattle.bt_page.specs.Pages.{leaf_bytes}
+use Rattle.bt_rows.specs.Heads.{head_of}
 use Rattle.bt_rows.specs.declared.head.TreeHead.{TreeHead}
 use Rattle.bt_rows.specs.declared.page.Page.{Page}
 use Rattle.bt_rows.specs.Orders.{before_by}
@@ -83,8 +84,8 @@ pub record IsTreeOf (decimal : Bool) (ps : List Pair) (numbers : TreeHead) (rows
   pub code : numbers.order ≡ code_of decimal
   pub is : HoldsPairs (before_by (order decimal)) numbers rows None (get held) ps
 
--- with these bytes a hash file holds records among which no block is to be had for that of a page, which is written on the way from a tree of some pairs to the next
--- ones; the records are pages of that tree, or such ones, and may be without that of the page itself
+-- with these bytes a hash file holds records among which no block is to be had for that of a page, which is written on the way from a tree of some pairs to some
+-- further on; the records are pages of that tree, or such ones, and may be without that of the page itself
 pub record WantsPage (limit : ℕ) (bytes : List ℕ) (decimal : Bool) (before after : List Pair) : Type 0 where
   pub was : List Pair
   pub was_between : IsBetween before was after
@@ -92,7 +93,7 @@ pub record WantsPage (limit : ℕ) (bytes : List ℕ) (decimal : Bool) (before a
   pub rows : ℕ
   pub had : IsTreeOf decimal was numbers rows
   pub next : List Pair
-  pub next_between : IsBetween before next after
+  pub on : IsBetween was next after
   pub id : ℕ
   pub page : Page
   pub spelled : IsPage id (page_bytes page) page
@@ -100,17 +101,19 @@ pub record WantsPage (limit : ℕ) (bytes : List ℕ) (decimal : Bool) (before a
   pub wanted : IsWanted (order decimal) had.is.tree was next id page held
   pub wants : WantsKey limit bytes held (key_of id) (page_bytes page)
 
--- the leaf of a tree of pairs on the way where a key belongs has no room for a pair that makes the next ones of these, and fewer ids are left than pages come where it is parted
-pub record UsesIds (decimal : Bool) (before after : List Pair) : Type 0 where
+-- with these bytes a hash file holds the pages of a tree of pairs on the way, and its region tells the numbers of that tree: a leaf where a key belongs has no room for a pair that leads
+-- further on, and fewer ids are left than pages come where it is parted
+pub record UsesIds (bytes : List ℕ) (decimal : Bool) (before after : List Pair) : Type 0 where
   pub was : List Pair
   pub was_between : IsBetween before was after
   pub numbers : TreeHead
+  pub told : head_of (head_in (take 256 bytes)).opaque ≡ numbers
   pub rows : ℕ
-  pub had : IsTreeOf decimal was numbers rows
+  pub had : HasTree decimal was numbers rows bytes
   pub last : Bool
   pub key : List ℕ
   pub value : List ℕ
-  pub next_between : IsBetween before (inserted (order decimal) last key value was) after
+  pub on : IsBetween was (inserted (order decimal) last key value was) after
   pub used : RunsOut (order decimal) last key value had.is.tree
 
 -- no record
@@ -137,9 +140,9 @@ pub record WantsLeaf (limit : ℕ) (bytes : List ℕ) (decimal : Bool) (before a
   pub had : IsTreeOf decimal before numbers rows
   pub lacks : LacksLeafAt limit bytes numbers.first
 
--- one of these, in the file as it was brought to where it is kept; that ids are used up is said of numbers alone
+-- one of these, in the file as it was brought to where it is kept
 abbrev pub Lacks : ℕ → Type 0 → List ℕ → Bool → List Pair → List Pair → Type 0
-Lacks limit brought bytes decimal before after = (brought × WantsPage limit bytes decimal before after) ⊎ (UsesIds decimal before after ⊎ (brought × WantsLeaf limit bytes decimal before after))
+Lacks limit brought bytes decimal before after = brought × (WantsPage limit bytes decimal before after ⊎ (UsesIds bytes decimal before after ⊎ WantsLeaf limit bytes decimal before after))
 
 -- ---- of contents
 
@@ -188,10 +191,7 @@ large_from limit long brought f g c same lacks = subst (λ (files : Files). Lack
 
 module _ (limit : ℕ) (brought other : Type 0) (bytes shown : List ℕ) (too : brought → other) (same : brought → bytes ≡ shown) where
   lists_moved : (decimal : Bool) (ps qs : List Pair) → Lacks limit brought bytes decimal ps qs → Lacks limit other shown decimal ps qs
-  lists_moved decimal ps qs full = ⊎_elim
-      (λ x. inl (too x.0, subst (λ (b : List ℕ). WantsPage limit b decimal ps qs) (same x.0) x.1))
-      (λ rest. inr (⊎_elim (λ ids. inl ids) (λ x. inr (too x.0, subst (λ (b : List ℕ). WantsLeaf limit b decimal ps qs) (same x.0) x.1)) rest))
-      full
+  lists_moved decimal ps qs full = (too full.0, subst (λ (b : List ℕ). WantsPage limit b decimal ps qs ⊎ (UsesIds b decimal ps qs ⊎ WantsLeaf limit b decimal ps qs)) (same full.0) full.1)
 
   any_moved : (c d : Contents) → FillsAny limit brought bytes c d → FillsAny limit other shown c d
   any_moved (tree a decimal ps) (tree b more qs) full = lists_moved decimal ps qs full

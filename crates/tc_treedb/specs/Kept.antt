@@ -1,17 +1,21 @@
 -- What calls on a tree leave, whichever order it has.
-use Rattle.std.specs.Prelude.{◌≡◌, ◌≤◌, ◌⊎◌, ℕ, Bool, true, false, List, length, take, Option, Some, None, Result, IfOk}
+use Rattle.std.specs.Prelude.{◌≡◌, ◌≤◌, ◌⊎◌, ℕ, ◌+◌, Bool, true, false, List, length, take, Option, Some, None, Result, IfOk, OnErr, OnOk}
+use Rattle.std.specs.FinMap.{get}
+use Rattle.tc_base.specs.Maps.{Map}
 use Rattle.tc_base.specs.declared.kind.Form.{Form}
 use Rattle.tc_base.specs.declared.kind.Form.TheVariants.{Large}
 use Rattle.tc_base.specs.declared.seq.Pair.{Pair}
-use Rattle.tc_space.specs.Frames.{Others, Reads}
-use Rattle.tc_space.specs.Stores.{Only, in_form}
+use Rattle.tc_space.specs.Frames.{Keeps, Others, Reads}
+use Rattle.tc_space.specs.Stores.{KeepsTight, Only, in_form}
 use Rattle.tc_space.specs.declared.space.Space.{Ghosts}
 use Rattle.ty_base.specs.Holding.{IsTrimmed}
+use Rattle.bt_page.specs.Keys.{key_of}
 use Rattle.bt_rows.specs.Heads.{head_of}
+use Rattle.bt_rows.specs.Pages.{IsGiven}
 use Rattle.bt_rows.specs.declared.head.TreeHead.{TreeHead}
 use Rattle.bt_tree.specs.Standing.{region_bytes}
 use Rattle.hf_head.specs.Heads.{head_in}
-use Rattle.tc_hash.specs.Keeping.{lead_of, numbers_of}
+use Rattle.tc_hash.specs.Keeping.{holds, lead_of, numbers_of}
 use Rattle.tc_hash.specs.Repacking.{IsPackedFrom}
 use Rattle.tc_treedb.specs.Filling.{FillsLists, LacksLargeLists}
 use Rattle.tc_treedb.specs.Holding.{Held, HoldsKept, Means, StandsTree, tight_kept}
@@ -43,10 +47,60 @@ abbrev pub lead_kept : {S : Type 0} → Kept S → ℕ
 lead_kept (Lexical t) = lead_of t.store
 lead_kept (Decimal t) = lead_of t.store
 
--- the numbers stay, and no more lies free in front of the first block than did
+-- over these bytes its store holds this map
+abbrev pub records_kept : {S : Type 0} → Kept S → List ℕ → Map → Type 0
+records_kept (Lexical t) bytes m = holds t.store bytes m
+records_kept (Decimal t) bytes m = holds t.store bytes m
+
+-- ---- the numbers of a tree before a call and behind it, and its rows
+
+-- this holds of them
+abbrev pub OfTrees : {S : Type 0} → (TreeHead → TreeHead → ℕ → ℕ → Type 0) → Kept S → Kept S → Type 0
+OfTrees P v v' = P (head_kept v) (head_kept v') (height_of v) (height_of v')
+
+-- the order and both limits stay
+pub record SameLimits (h k : TreeHead) : Type 0 where
+  pub order : k.order ≡ h.order
+  pub leaf : k.leaf_limit ≡ h.leaf_limit
+  pub node : k.node_limit ≡ h.node_limit
+
+-- all of them stay
+pub record SameTree (h k : TreeHead) (rows rows' : ℕ) : Type 0 where
+  pub head : k ≡ h
+  pub high : rows' ≡ rows
+
+-- no id is given, and the rows don't become more
+pub record NoneMore (h k : TreeHead) (rows rows' : ℕ) : Type 0 where
+  pub leaf_ids : k.leaf_ids ≡ h.leaf_ids
+  pub node_ids : k.node_ids ≡ h.node_ids
+  pub rows_most : rows' ≤ rows
+
+-- ids and rows don't become fewer: two more leaves at most, as many nodes as there were rows, and one row
+pub record FewMore (h k : TreeHead) (rows rows' : ℕ) : Type 0 where
+  pub leaves_least : h.leaf_ids ≤ k.leaf_ids
+  pub leaves_most : k.leaf_ids ≤ h.leaf_ids + 2
+  pub nodes_least : h.node_ids ≤ k.node_ids
+  pub nodes_most : k.node_ids ≤ h.node_ids + rows
+  pub rows_least : rows ≤ rows'
+  pub rows_most : rows' ≤ rows + 1
+
+-- ---- what stays
+
+-- the numbers of the file stay, and the limits of the tree; no more lies free in front of the first block than did
 pub record KeepsHead {S : Type 0} (v v' : Kept S) : Type 0 where
   pub same : numbers_kept v' ≡ numbers_kept v
   pub lead : lead_kept v' ≤ lead_kept v
+  pub limits : SameLimits (head_kept v) (head_kept v')
+
+-- besides, so do all numbers of the tree, and its rows
+pub record StaysKept {S : Type 0} (v v' : Kept S) : Type 0 where
+  pub head : KeepsHead v v'
+  pub same : OfTrees SameTree v v'
+
+-- besides, no id is given, and no row comes
+pub record LessKept {S : Type 0} (v v' : Kept S) : Type 0 where
+  pub head : KeepsHead v v'
+  pub ids : OfTrees NoneMore v v'
 
 -- so it is but for the form
 pub record FormsKept {S : Type 0} (form : Form) (v v' : Kept S) : Type 0 where
@@ -63,6 +117,24 @@ module _ {S : Type 0} (s : Ghosts S) where
   -- this is found in whatever is held
   abbrev pub Finds : {A E : Type 0} → Result A E → (Held → A) → Kept S → S → Type 0
   Finds result f kept space = IfOk result (λ x. (m : Held) → Means s kept space m → x ≡ f m)
+
+  -- nothing is written, what is held stays, and what was packed is so still
+  pub record LooksKept (v v' : Kept S) (old new : S) : Type 0 where
+    pub reads : Reads s (Means s) v v' old new
+    pub keeps : Keeps s old new
+    pub stays : StaysKept v v'
+    pub tight : KeepsTight tight_kept v v'
+
+  -- each id that was given since is that of a record
+  abbrev pub GivesRecords : Kept S → Kept S → S → Type 0
+  GivesRecords v v' new = s.tells → (id : ℕ) → IsGiven (head_kept v') id → (IsGiven (head_kept v) id → ⊥) → (m : Map) → records_kept v' (s.now new 0) m → get m (key_of id) ≡ None → ⊥
+
+  -- what one put leaves: few ids are given, each to a page; where it was refused none, or the space may not be used any more
+  pub record GrowsKept {T E : Type 0} (result : Result T E) (v v' : Kept S) (new : S) : Type 0 where
+    pub head : KeepsHead v v'
+    pub ids : OfTrees FewMore v v'
+    pub none : OnErr result ((s.flag new ≡ false) ⊎ OfTrees SameTree v v')
+    pub pages : OnOk result (GivesRecords v v' new)
 
   -- the step was made in file 0, whose numbers stay, as the order does; or it fails, and nothing has changed
   pub record Makes (f : Held → Option (List Pair)) (done : Bool) (v v' : Kept S) (old new : S) : Type 0 where

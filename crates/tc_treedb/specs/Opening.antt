@@ -40,13 +40,15 @@ module _ {S : Type 0} (s : Ghosts S) where
   abbrev pub told_order : Hash S → Before
   told_order hash = before_by (order (told_decimal hash))
 
-  -- whatever map was held keeps all rules of a tree, and its pairs are held
+  -- a map that was held keeps all rules of a tree, and its pairs are held
   pub record OpensPairs (hash : Hash S) (kept : Kept S) (new : S) (m : Map) : Type 0 where
     pub stands : TreeStands (told_order hash) (head_of hash.region) false (get m)
     pub means : Means s kept new (told_decimal hash, tree_pairs stands)
 
-  abbrev pub OpensKept : Hash S → S → S → Kept S → Type 0
-  OpensKept hash old new kept = (m : Map) → HoldsNow hash old m → OpensPairs hash kept new m
+  -- its tree has the numbers that the region tells, and so it is of whatever was held
+  pub record OpensKept (hash : Hash S) (old new : S) (kept : Kept S) : Type 0 where
+    pub head : head_kept kept ≡ head_of hash.region
+    pub opens : (m : Map) → HoldsNow hash old m → OpensPairs hash kept new m
 
   -- a rule that is named is the first of trees that what is held breaks
   abbrev pub BreaksTree : Hash S → S → OpenErr → Type 0

@@ -8,6 +8,7 @@ use Rattle.tc_base.specs.declared.order.Side.{Side}
 use Rattle.tc_base.specs.declared.order.Side.TheVariants.{Inside}
 use Rattle.tc_base.specs.declared.seq.Pair.{Pair}
 use Rattle.tc_space.specs.Frames.{Keeps, Reads}
+use Rattle.tc_space.specs.Stores.{KeepsTight}
 use Rattle.tc_space.specs.declared.records.Records.{Ghosts as Stores}
 use Rattle.tc_space.specs.declared.space.Space.{Ghosts}
 use Rattle.tc_model.specs.Meaning.{at_most}
@@ -46,11 +47,12 @@ AddsFirstOf false key held ps old new = IsItem (first ps key) held old new
 AddsFirstOf true key held ps old new = (held ≡ is_some (first ps key)) × Adds old new (pair_rows (map (pair key) (option_to_list (first ps key))))
 
 module _ {S V O : Type 0} (s : Ghosts S) (R : Stores V S) (o : Orders O) where
-  -- nothing is written, and the pairs stay
+  -- nothing is written, the pairs stay, and what was packed is so still
   pub record LooksAt (t u : Tree V O) (old new : S) : Type 0 where
     pub reads : Reads s (Means s R o) t u old new
     pub keeps : Keeps s old new
     pub made : SameStore R t.store u.store
+    pub tight : KeepsTight R.tight t.store u.store
     pub stays : StaysTree t u
 
   -- whatever pairs a tree means, these rows of them were added

@@ -17,7 +17,7 @@ use Rattle.tc_hash.specs.Packing.{IsFilledWith, LacksLarge}
 use Rattle.tc_hash.specs.Repacking.{IsPackedFrom, WasPacked}
 use Rattle.tc_hash.specs.Standing.{StandsAs}
 use Rattle.tc_treedb.specs.Holding.{Held, HoldsKept, HoldsOver, code_of, tight_kept}
-use Rattle.tc_treedb.specs.Kept.{head_kept, height_of, lead_kept, numbers_kept}
+use Rattle.tc_treedb.specs.Kept.{head_kept, height_of, lead_kept, numbers_kept, records_kept}
 use Rattle.tc_treedb.specs.declared.kept.Kept.{Kept}
 
 -- the members of a store that are those of hash files
@@ -48,6 +48,7 @@ pub record IsOrderOf {O : Type 0} (decimal : Bool) (o : Orders O) : Type 0 where
 pub record IsKind {S O : Type 0} (decimal : Bool) (wrap : Tree (Hash S) O → Kept S) : Type 0 where
   pub out : (t : Tree (Hash S) O) (bytes : List ℕ) (m : Held) → HoldsKept (wrap t) bytes m → (m.0 ≡ decimal) × HoldsOver decimal t bytes m.1
   pub back : (t : Tree (Hash S) O) (bytes : List ℕ) (m : Held) → (m.0 ≡ decimal) × HoldsOver decimal t bytes m.1 → HoldsKept (wrap t) bytes m
+  pub records : (t : Tree (Hash S) O) (bytes : List ℕ) (m : Map) → records_kept (wrap t) bytes m → holds t.store bytes m
   pub numbers : (t : Tree (Hash S) O) → numbers_kept (wrap t) ≡ numbers_of t.store
   pub lead : (t : Tree (Hash S) O) → lead_kept (wrap t) ≡ lead_of t.store
   pub head : (t : Tree (Hash S) O) → head_kept (wrap t) ≡ t.head

@@ -5,7 +5,7 @@ ghost use Rattle.std.specs.Prelude.{◌≡◌, false, [], length, map, option_ma
 ghost use Rattle.tc_base.specs.Lists.{first, keys};
 ghost use Rattle.tc_base.specs.Orders.{order};
 ghost use Rattle.tc_space.specs.Changes.{same};
-ghost use Rattle.tc_space.specs.Frames.{Keeps, Reads, Refuses, Writes};
+ghost use Rattle.tc_space.specs.Frames.{Keeps, Refuses, Writes};
 ghost use Rattle.tc_space.specs.Refusals.{Blames, OnFault, OnlyLogIsFull};
 ghost use Rattle.tc_space.specs.Stores.{IsReady, Only};
 ghost use Rattle.bt_cache.specs.Effects.{OnFull};
@@ -13,7 +13,7 @@ ghost use Rattle.tc_engine.specs.Changes.{first_of};
 ghost use Rattle.tc_engine.specs.Rows.{Adds, Extends, item_row, text_rows};
 ghost use Rattle.tc_treedb.specs.Changing.{AreLengths, after, each_cleared, each_pushed, each_set, pushed_in, stored_in, taken_in};
 ghost use Rattle.tc_treedb.specs.Holding.{Held, Means};
-ghost use Rattle.tc_treedb.specs.Kept.{BringsKept, BringsTight, CountsKept, FillsTo, Finds, FormsKept, HoldsIts, KeepsHead, LacksFormed, Makes, PacksKept, TrimsKept, height_of};
+ghost use Rattle.tc_treedb.specs.Kept.{BringsKept, BringsTight, CountsKept, FillsTo, Finds, FormsKept, GrowsKept, HoldsIts, KeepsHead, LacksFormed, LessKept, LooksKept, Makes, OfTrees, PacksKept, SameTree, StaysKept, TrimsKept, height_of};
 ghost use Rattle.tc_treedb.specs.Reading.{AddsFirstOf, bytes_in, keys_beginning, pairs_in, pairs_of};
 
 use crate::laws::{decimal_tree, lexical_tree};
@@ -68,8 +68,7 @@ impl<S: Space> Kept<S> {
     pub(crate) fn first_len(&mut self, space: &mut S, key: &[u8]) -> Result<Option<u64>, RecErr>
         requires { IsReady S.Space (Means S.Space) self.old space.old }
         ensures value { Finds S.Space result (λ m. option_map length (first m.1 key.now)) self.old space.old }
-        ensures reads { Reads S.Space (Means S.Space) self.old self.new space.old space.new }
-        ensures keeps { Keeps S.Space space.old space.new }
+        ensures looks { LooksKept S.Space self.old self.new space.old space.new }
         ensures cause { Blames S.Space result space.old space.new }
     {
         match self {
@@ -88,8 +87,7 @@ impl<S: Space> Kept<S> {
     pub(crate) fn first_value(&mut self, space: &mut S, key: &[u8]) -> Result<Option<Blob>, RecErr>
         requires { IsReady S.Space (Means S.Space) self.old space.old }
         ensures value { Finds S.Space result (λ m. first m.1 key.now) self.old space.old }
-        ensures reads { Reads S.Space (Means S.Space) self.old self.new space.old space.new }
-        ensures keeps { Keeps S.Space space.old space.new }
+        ensures looks { LooksKept S.Space self.old self.new space.old space.new }
         ensures cause { Blames S.Space result space.old space.new }
     {
         let mut steps: Steps<()> = Steps::new();
@@ -109,8 +107,7 @@ impl<S: Space> Kept<S> {
     pub(crate) fn all_bytes(&mut self, space: &mut S) -> Result<u64, RecErr>
         requires { IsReady S.Space (Means S.Space) self.old space.old }
         ensures value { Finds S.Space result (λ m. bytes_in m.1) self.old space.old }
-        ensures reads { Reads S.Space (Means S.Space) self.old self.new space.old space.new }
-        ensures keeps { Keeps S.Space space.old space.new }
+        ensures looks { LooksKept S.Space self.old self.new space.old space.new }
         ensures cause { Blames S.Space result space.old space.new }
     {
         match self {
@@ -129,8 +126,7 @@ impl<S: Space> Kept<S> {
     pub(crate) fn all_keys(&mut self, alloc: Global, space: &mut S) -> Result<Keys, RecErr>
         requires { IsReady S.Space (Means S.Space) self.old space.old }
         ensures value { Finds S.Space result (λ m. keys m.1) self.old space.old }
-        ensures reads { Reads S.Space (Means S.Space) self.old self.new space.old space.new }
-        ensures keeps { Keeps S.Space space.old space.new }
+        ensures looks { LooksKept S.Space self.old self.new space.old space.new }
         ensures cause { Blames S.Space result space.old space.new }
     {
         match self {
@@ -157,8 +153,7 @@ impl<S: Space> Kept<S> {
         requires { IsReady S.Space (Means S.Space) self.old space.old }
         ensures added { IfOk result (λ held. (m : Held) → Means S.Space self.old space.old m → AddsFirstOf with_key key.now held m.1 into.old into.new) }
         ensures front { Extends into.old into.new }
-        ensures reads { Reads S.Space (Means S.Space) self.old self.new space.old space.new }
-        ensures keeps { Keeps S.Space space.old space.new }
+        ensures looks { LooksKept S.Space self.old self.new space.old space.new }
         ensures cause { Blames S.Space result space.old space.new }
     {
         match self {
@@ -184,8 +179,7 @@ impl<S: Space> Kept<S> {
         requires { IsReady S.Space (Means S.Space) self.old space.old }
         ensures rows { OnOk result ((m : Held) → Means S.Space self.old space.old m → Adds into.old into.new (text_rows (pairs_of key.now m.1))) }
         ensures front { Extends into.old into.new }
-        ensures reads { Reads S.Space (Means S.Space) self.old self.new space.old space.new }
-        ensures keeps { Keeps S.Space space.old space.new }
+        ensures looks { LooksKept S.Space self.old self.new space.old space.new }
         ensures cause { Blames S.Space result space.old space.new }
     {
         match self {
@@ -213,8 +207,7 @@ impl<S: Space> Kept<S> {
         requires { IsReady S.Space (Means S.Space) self.old space.old }
         ensures rows { OnOk result ((m : Held) → Means S.Space self.old space.old m → Adds into.old into.new (text_rows (pairs_in (order m.0) from.now (option_map (λ k. k.now) to.entry) most m.1))) }
         ensures front { Extends into.old into.new }
-        ensures reads { Reads S.Space (Means S.Space) self.old self.new space.old space.new }
-        ensures keeps { Keeps S.Space space.old space.new }
+        ensures looks { LooksKept S.Space self.old self.new space.old space.new }
         ensures cause { Blames S.Space result space.old space.new }
     {
         match self {
@@ -229,7 +222,7 @@ impl<S: Space> Kept<S> {
         }
     }
 
-    /// Adds the keys that begin with a prefix as rows, in order, at most so many: of a tree in the order of bytes only their pages are read, of one in the order of numbers all.
+    /// Adds the keys that begin with a prefix as rows, in order, at most so many.
     pub(crate) fn add_keys(
         &mut self,
         alloc: Global,
@@ -241,8 +234,7 @@ impl<S: Space> Kept<S> {
         requires { IsReady S.Space (Means S.Space) self.old space.old }
         ensures rows { OnOk result ((m : Held) → Means S.Space self.old space.old m → Adds into.old into.new (map item_row (first_of most (keys_beginning prefix.now m.1)))) }
         ensures front { Extends into.old into.new }
-        ensures reads { Reads S.Space (Means S.Space) self.old self.new space.old space.new }
-        ensures keeps { Keeps S.Space space.old space.new }
+        ensures looks { LooksKept S.Space self.old self.new space.old space.new }
         ensures cause { Blames S.Space result space.old space.new }
     {
         match self {
@@ -272,6 +264,7 @@ impl<S: Space> Kept<S> {
         ensures lengths { IfOk result (λ c. IfSome c (λ l. (m : Held) → Means S.Space self.old space.old m → AreLengths mode key.now value.now l m.1)) }
         ensures full { OnFull result (FillsTo S.Space (λ m. after (stored_in (order m.0) mode key.now value.now) m.1) self.old space.old space.new) }
         ensures refused { OnErr result (Refuses S.Space (Means S.Space) self.old self.new space.old space.new) }
+        ensures stays { GrowsKept S.Space result self.old self.new space.new }
         ensures keeps { Keeps S.Space space.old space.new }
         ensures cause { OnFault S.Space result space.old space.new }
     {
@@ -293,6 +286,7 @@ impl<S: Space> Kept<S> {
         ensures makes { IfOk result (λ done. Makes S.Space (λ m. pushed_in (order m.0) key.now value.now m.1) done self.old self.new space.old space.new) }
         ensures full { OnFull result (FillsTo S.Space (λ m. after (pushed_in (order m.0) key.now value.now) m.1) self.old space.old space.new) }
         ensures refused { OnErr result (Refuses S.Space (Means S.Space) self.old self.new space.old space.new) }
+        ensures stays { GrowsKept S.Space result self.old self.new space.new }
         ensures keeps { Keeps S.Space space.old space.new }
         ensures cause { OnFault S.Space result space.old space.new }
     {
@@ -315,6 +309,7 @@ impl<S: Space> Kept<S> {
         ensures len { Finds S.Space result (λ m. option_map length (first m.1 key.now)) self.old space.old }
         ensures full { OnFull result (FillsTo S.Space (λ m. after (taken_in (order m.0) key.now) m.1) self.old space.old space.new) }
         ensures refused { OnErr result (Refuses S.Space (Means S.Space) self.old self.new space.old space.new) }
+        ensures stays { LessKept self.old self.new }
         ensures keeps { Keeps S.Space space.old space.new }
         ensures cause { OnFault S.Space result space.old space.new }
     {
@@ -398,7 +393,7 @@ impl<S: Space> Kept<S> {
         ensures counted { IfOk result (λ n. IfSome n (CountsKept S.Space (λ m. each_cleared (order m.0) keys.now m.1) total self.old space.old)) }
         ensures full { OnFull result (FillsTo S.Space (λ m. each_cleared (order m.0) keys.now m.1) self.old space.old space.new) }
         ensures refused { OnErr result (S.flag space.new ≡ false) }
-        ensures numbers { KeepsHead self.old self.new }
+        ensures stays { LessKept self.old self.new }
         ensures keeps { Keeps S.Space space.old space.new }
         ensures cause { OnFault S.Space result space.old space.new }
     {
@@ -420,7 +415,7 @@ impl<S: Space> Kept<S> {
         ensures made { OnOk result (Writes S.Space (Only 0) (Means S.Space) (λ m. (m.0, [])) self.old self.new space.old space.new) }
         ensures full { OnFull result (FillsTo S.Space (λ m. []) self.old space.old space.new) }
         ensures refused { OnErr result (Refuses S.Space (Means S.Space) self.old self.new space.old space.new) }
-        ensures numbers { KeepsHead self.old self.new }
+        ensures stays { LessKept self.old self.new }
         ensures keeps { Keeps S.Space space.old space.new }
         ensures cause { OnFault S.Space result space.old space.new }
     {
@@ -443,7 +438,7 @@ impl<S: Space> Kept<S> {
         ensures stands { OnOk result (BringsKept S.Space self.old space.old space.new) }
         ensures packs { OnOk result (BringsTight S.Space self.old space.old space.new) }
         ensures trims { OnOk result (TrimsKept S.Space self.old space.old space.new) }
-        ensures numbers { KeepsHead self.old self.new }
+        ensures stays { StaysKept self.old self.new }
         ensures full { OnlyLogIsFull S.Space result space.new }
         ensures refused { OnErr result (Refuses S.Space (Means S.Space) self.old self.new space.old space.new) }
         ensures keeps { Keeps S.Space space.old space.new }
@@ -469,6 +464,7 @@ impl<S: Space> Kept<S> {
         ensures formed { OnOk result (FormsKept form self.old self.new) }
         ensures full { OnFull result (LacksFormed S.Space form self.old space.old space.new) }
         ensures refused { OnErr result (Refuses S.Space (Means S.Space) self.old self.new space.old space.new) }
+        ensures tree { OfTrees SameTree self.old self.new }
         ensures keeps { Keeps S.Space space.old space.new }
         ensures cause { OnFault S.Space result space.old space.new }
     {

@@ -8,7 +8,7 @@ ghost use Rattle.tc_space.specs.Refusals.{OnFault};
 ghost use Rattle.bt_cache.specs.Effects.{OnFull};
 ghost use Rattle.bt_tree.specs.Inserting.{StaysMade};
 ghost use Rattle.bt_tree.specs.Meaning.{Changes, IsOpen};
-ghost use Rattle.tc_treedb.specs.Changing.{FillsAlong, cleared_in, each_cleared, each_pushed, each_set, is_short, set_in, push_in};
+ghost use Rattle.tc_treedb.specs.Changing.{FillsAlong, StaysLess, cleared_in, each_cleared, each_pushed, each_set, is_short, set_in, push_in};
 
 use crate::counting::{counted_less, counted_with};
 use crate::reading::{first_len, key_bytes};
@@ -158,7 +158,7 @@ fn clear_one<R: Records, O: Order>(
     ensures counted { IfOk result (λ n. IfSome n (CountsTo R.S.Space R.Records O.Order (cleared_in O.cmp key.now) total tree.old space.old)) }
     ensures full { OnFull result (FillsAlong R.S.Space R.Records O.Order (cleared_in O.cmp key.now) tree.old space.old space.new) }
     ensures keeps { Keeps R.S.Space space.old space.new }
-    ensures stays { StaysMade R.Records tree.old tree.new }
+    ensures stays { StaysLess R.Records tree.old tree.new }
     ensures cause { OnFault R.S.Space result space.old space.new }
 {
     let less = key_bytes(tree, space, key)?;
@@ -179,7 +179,7 @@ pub(crate) fn clear_each<R: Records, O: Order>(
     ensures refused { OnErr result (R.S.flag space.new ≡ false) }
     ensures full { OnFull result (FillsAlong R.S.Space R.Records O.Order (each_cleared O.cmp keys.now) tree.old space.old space.new) }
     ensures keeps { Keeps R.S.Space space.old space.new }
-    ensures stays { StaysMade R.Records tree.old tree.new }
+    ensures stays { StaysLess R.Records tree.old tree.new }
     ensures cause { OnFault R.S.Space result space.old space.new }
 {
     let mut so_far = total;

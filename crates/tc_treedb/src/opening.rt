@@ -56,7 +56,7 @@ impl<S: Space> Kept<S> {
         ensures cause { Blamed S.Space (IsErrOf result OpenErr.Fault) space.old space.new }
     {
         lexical_tree::<S>();
-        let tree = Tree::open(alloc, hash, space)?;
+        let tree = Tree::open(alloc, hash, space)?; // a byte other than 0 and 1 breaks a rule
         Ok(Kept::Lexical(tree))
     }
 

@@ -1,7 +1,7 @@
 //! The numbers of a tree file.
 
 /// The numbers of a tree file that is made anew.
-#[derive(Clone, Copy, Debug, PartialEq, Eq)]
+#[derive(Clone, Copy, PartialEq, Eq)]
 pub struct TreeShape {
     /// Whether keys are ordered by their numbers, else by their bytes.
     pub decimal: bool,

@@ -8,8 +8,7 @@ ghost use Rattle.tc_space.specs.Frames.{Keeps};
 ghost use Rattle.tc_space.specs.Refusals.{OnFault};
 ghost use Rattle.bt_cache.specs.Effects.{OnFull};
 ghost use Rattle.bt_tree.specs.Meaning.{AnswersPairs, IsOpen, RefusesPairs};
-ghost use Rattle.bt_tree.specs.Inserting.{StaysMade};
-ghost use Rattle.tc_treedb.specs.Changing.{FillsFor, Takes, TellsLengths, put_in, pushed_in, stored_in, taken_in};
+ghost use Rattle.tc_treedb.specs.Changing.{FillsFor, StaysGrown, StaysLess, Takes, TellsLengths, put_in, pushed_in, stored_in, taken_in};
 
 use crate::reading::first_len;
 use bt_tree::Tree;
@@ -38,7 +37,7 @@ fn put<R: Records, O: Order>(
     ensures refused { RefusesPairs R.S.Space R.Records O.Order result tree.old tree.new space.old space.new }
     ensures full { OnFull result (FillsFor R.S.Space R.Records O.Order (put_in O.cmp key.now value.now) tree.old space.old space.new) }
     ensures keeps { Keeps R.S.Space space.old space.new }
-    ensures stays { StaysMade R.Records tree.old tree.new }
+    ensures stays { StaysGrown R.S.Space R.Records O.Order result tree.old tree.new space.old space.new }
     ensures cause { OnFault R.S.Space result space.old space.new }
 {
     if value.len() > VALUE_MOST {
@@ -106,7 +105,7 @@ fn join<R: Records, O: Order>(
     ensures refused { RefusesPairs R.S.Space R.Records O.Order result tree.old tree.new space.old space.new }
     ensures full { OnFull result (FillsFor R.S.Space R.Records O.Order (stored_in O.cmp Cat key.now more.now) tree.old space.old space.new) }
     ensures keeps { Keeps R.S.Space space.old space.new }
-    ensures stays { StaysMade R.Records tree.old tree.new }
+    ensures stays { StaysGrown R.S.Space R.Records O.Order result tree.old tree.new space.old space.new }
     ensures cause { OnFault R.S.Space result space.old space.new }
 {
     let mut steps: Steps<R> = Steps::new();
@@ -132,7 +131,7 @@ fn over<R: Records, O: Order>(
     ensures refused { RefusesPairs R.S.Space R.Records O.Order result tree.old tree.new space.old space.new }
     ensures full { OnFull result (FillsFor R.S.Space R.Records O.Order (stored_in O.cmp Over key.now value.now) tree.old space.old space.new) }
     ensures keeps { Keeps R.S.Space space.old space.new }
-    ensures stays { StaysMade R.Records tree.old tree.new }
+    ensures stays { StaysGrown R.S.Space R.Records O.Order result tree.old tree.new space.old space.new }
     ensures cause { OnFault R.S.Space result space.old space.new }
 {
     let old = first_len(tree, space, key)?;
@@ -152,7 +151,7 @@ fn keep<R: Records, O: Order>(
     ensures refused { RefusesPairs R.S.Space R.Records O.Order result tree.old tree.new space.old space.new }
     ensures full { OnFull result (FillsFor R.S.Space R.Records O.Order (stored_in O.cmp Keep key.now value.now) tree.old space.old space.new) }
     ensures keeps { Keeps R.S.Space space.old space.new }
-    ensures stays { StaysMade R.Records tree.old tree.new }
+    ensures stays { StaysGrown R.S.Space R.Records O.Order result tree.old tree.new space.old space.new }
     ensures cause { OnFault R.S.Space result space.old space.new }
 {
     let old = first_len(tree, space, key)?;
@@ -177,7 +176,7 @@ pub(crate) fn store_first<R: Records, O: Order>(
     ensures refused { RefusesPairs R.S.Space R.Records O.Order result tree.old tree.new space.old space.new }
     ensures full { OnFull result (FillsFor R.S.Space R.Records O.Order (stored_in O.cmp mode key.now value.now) tree.old space.old space.new) }
     ensures keeps { Keeps R.S.Space space.old space.new }
-    ensures stays { StaysMade R.Records tree.old tree.new }
+    ensures stays { StaysGrown R.S.Space R.Records O.Order result tree.old tree.new space.old space.new }
     ensures cause { OnFault R.S.Space result space.old space.new }
 {
     match mode {
@@ -199,7 +198,7 @@ pub(crate) fn push_last<R: Records, O: Order>(
     ensures refused { RefusesPairs R.S.Space R.Records O.Order result tree.old tree.new space.old space.new }
     ensures full { OnFull result (FillsFor R.S.Space R.Records O.Order (pushed_in O.cmp key.now value.now) tree.old space.old space.new) }
     ensures keeps { Keeps R.S.Space space.old space.new }
-    ensures stays { StaysMade R.Records tree.old tree.new }
+    ensures stays { StaysGrown R.S.Space R.Records O.Order result tree.old tree.new space.old space.new }
     ensures cause { OnFault R.S.Space result space.old space.new }
 {
     if value.len() > VALUE_MOST {
@@ -221,7 +220,7 @@ pub(crate) fn take_first<R: Records, O: Order>(
     ensures refused { RefusesPairs R.S.Space R.Records O.Order result tree.old tree.new space.old space.new }
     ensures full { OnFull result (FillsFor R.S.Space R.Records O.Order (taken_in O.cmp key.now) tree.old space.old space.new) }
     ensures keeps { Keeps R.S.Space space.old space.new }
-    ensures stays { StaysMade R.Records tree.old tree.new }
+    ensures stays { StaysLess R.Records tree.old tree.new }
     ensures cause { OnFault R.S.Space result space.old space.new }
 {
     let len = first_len(tree, space, key)?;

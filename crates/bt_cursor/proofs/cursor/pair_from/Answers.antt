@@ -12,7 +12,7 @@ returns-in-None-clause-value g c =
 
 pub returns-in-None-clause-looks : goal.returns-in-None-clause-looks
 returns-in-None-clause-looks g c =
-    looks_none g.R.S.Space g.R.Records g.O.Order c.args.tree.now c.args.space.now c.requires.sound
+    looks_none g.R.S.Space g.R.Records g.O.Order c.args.tree.now.height c.args.tree.now c.args.space.now c.requires.sound
 
 pub returns-in-Some-clause-value : goal.returns-in-Some-clause-value
 returns-in-Some-clause-value g c =

@@ -1,4 +1,4 @@
-use Rattle.std.proofs.Common.{◌≡◌, None, Option, refl, sym, subst}
+use Rattle.std.proofs.Common.{◌≡◌, ◌+◌, ◌*◌, None, Option, refl, sym, subst}
 use Rattle.std.proofs.lemmas.Result.{IfOk-weaker}
 use Rattle.bt_tree.specs.Meaning.{AnswersPairs}
 use Rattle.bt_cursor.specs.Places.{prev_place}
@@ -12,7 +12,7 @@ returns-in-None-clause-value g c =
 
 pub returns-in-None-clause-looks : goal.returns-in-None-clause-looks
 returns-in-None-clause-looks g c =
-    looks_none g.R.S.Space g.R.Records g.O.Order c.args.tree.now c.args.space.now c.requires.sound
+    looks_none g.R.S.Space g.R.Records g.O.Order (2 * c.args.tree.now.height + 1) c.args.tree.now c.args.space.now c.requires.sound
 
 pub returns-in-Some-clause-value : goal.returns-in-Some-clause-value
 returns-in-Some-clause-value g c =

@@ -1,3 +1,4 @@
+use Rattle.std.proofs.Common.{◌+◌}
 use Rattle.bt_tree.specs.Showing.{item_before}
 use Rattle.bt_cursor.specs.Places.{end_of}
 use Rattle.bt_cursor.specs.declared.takers.Ends.{Ends}
@@ -6,11 +7,11 @@ use Rattle.bt_cursor.proofs.looking.below.Goals as goal
 
 pub returns-in_err-_held-clause-looks : goal.returns-in_err-_held-clause-looks
 returns-in_err-_held-clause-looks g c =
-    looks_of g.R.S.Space g.R.Records g.O.Order c.args.tree.now c.show_before.new.self c.args.space.now c.show_before.new.space _ _ _ c.show_before.ensures.asks
+    looks_of g.R.S.Space g.R.Records g.O.Order c.args.tree.now c.show_before.new.self c.args.space.now c.show_before.new.space (c.args.tree.now.height + 1) c.new-steps.result c.show_before.new.steps c.new-steps.ensures c.show_before.ensures.asks
 
 pub returns-clause-looks : goal.returns-clause-looks
 returns-clause-looks g c =
-    looks_of g.R.S.Space g.R.Records g.O.Order c.args.tree.now c.show_before.new.self c.args.space.now c.show_before.new.space _ _ _ c.show_before.ensures.asks
+    looks_of g.R.S.Space g.R.Records g.O.Order c.args.tree.now c.show_before.new.self c.args.space.now c.show_before.new.space (c.args.tree.now.height + 1) c.new-steps.result c.show_before.new.steps c.new-steps.ensures c.show_before.ensures.asks
 
 pub returns-clause-value : goal.returns-clause-value
 returns-clause-value g c =

@@ -6,11 +6,11 @@ use Rattle.bt_cursor.proofs.looking.end_of.Goals as goal
 
 pub returns-in_err-_held-clause-looks : goal.returns-in_err-_held-clause-looks
 returns-in_err-_held-clause-looks g c =
-    looks_of g.R.S.Space g.R.Records g.O.Order c.args.tree.now c.show_last.new.self c.args.space.now c.show_last.new.space _ _ _ c.show_last.ensures.asks
+    looks_of g.R.S.Space g.R.Records g.O.Order c.args.tree.now c.show_last.new.self c.args.space.now c.show_last.new.space 1 c.new-steps.result c.show_last.new.steps c.new-steps.ensures c.show_last.ensures.asks
 
 pub returns-clause-looks : goal.returns-clause-looks
 returns-clause-looks g c =
-    looks_of g.R.S.Space g.R.Records g.O.Order c.args.tree.now c.show_last.new.self c.args.space.now c.show_last.new.space _ _ _ c.show_last.ensures.asks
+    looks_of g.R.S.Space g.R.Records g.O.Order c.args.tree.now c.show_last.new.self c.args.space.now c.show_last.new.space 1 c.new-steps.result c.show_last.new.steps c.new-steps.ensures c.show_last.ensures.asks
 
 pub returns-clause-value : goal.returns-clause-value
 returns-clause-value g c =

@@ -4,15 +4,15 @@ use Rattle.bt_cursor.proofs.looking.last_of.Goals as goal
 
 pub returns-in_err-show-clause-looks : goal.returns-in_err-show-clause-looks
 returns-in_err-show-clause-looks g c =
-    looks_of g.R.S.Space g.R.Records g.O.Order c.args.tree.now c.show.new.self c.args.space.now c.show.new.space _ _ _ c.show.ensures.asks
+    looks_of g.R.S.Space g.R.Records g.O.Order c.args.tree.now c.show.new.self c.args.space.now c.show.new.space c.args.tree.now.height c.new-steps.result c.show.new.steps c.new-steps.ensures c.show.ensures.asks
 
 pub returns-then-not-branch-clause-looks : goal.returns-then-not-branch-clause-looks
 returns-then-not-branch-clause-looks g c =
-    looks_of g.R.S.Space g.R.Records g.O.Order c.args.tree.now c.show.new.self c.args.space.now c.show.new.space _ _ _ c.show.ensures.asks
+    looks_of g.R.S.Space g.R.Records g.O.Order c.args.tree.now c.show.new.self c.args.space.now c.show.new.space c.args.tree.now.height c.new-steps.result c.show.new.steps c.new-steps.ensures c.show.ensures.asks
 
 pub returns-clause-looks : goal.returns-clause-looks
 returns-clause-looks g c =
-    looks_of g.R.S.Space g.R.Records g.O.Order c.args.tree.now c.show.new.self c.args.space.now c.show.new.space _ _ _ c.show.ensures.asks
+    looks_of g.R.S.Space g.R.Records g.O.Order c.args.tree.now c.show.new.self c.args.space.now c.show.new.space c.args.tree.now.height c.new-steps.result c.show.new.steps c.new-steps.ensures c.show.ensures.asks
 
 pub returns-then-not-branch-clause-value : goal.returns-then-not-branch-clause-value
 returns-then-not-branch-clause-value g c =

@@ -1,6 +1,6 @@
 use Rattle.std.proofs.Common.{List, ap, arith, ℕ, ◌∙◌}
 use Rattle.bt_page.specs.declared.page.NodeEntry.{NodeEntry}
-use Rattle.bt_tree.proofs.Partings.{first_asked}
+use Rattle.bt_tree.proofs.Pieces.{first_asked}
 use Rattle.bt_tree.proofs.parting.entry_over.Goals as goal
 
 abbrev the_entry : ℕ → List ℕ → NodeEntry

@@ -1,7 +1,8 @@
 use Rattle.std.proofs.Common.{arith}
 use Rattle.tc_space.specs.Frames.{keeps_then}
+use Rattle.tc_treedb.specs.Between.{IsFront}
 use Rattle.tc_treedb.specs.Changing.{push_in}
-use Rattle.tc_treedb.proofs.Severals.{far_end, far_full, far_more, far_ready, far_start, push_between, cause_at}
+use Rattle.tc_treedb.proofs.Severals.{cause_at, far_end, far_full, far_more, far_ready, far_start, front_way, pushed_front}
 use Rattle.tc_treedb.proofs.Stored.{made_then}
 use Rattle.tc_treedb.proofs.many.push_all.Goals as goal
 
@@ -37,5 +38,6 @@ pub returns-clause-stays : goal.returns-clause-stays
 returns-clause-stays g c = c.loop-pair.invariant.stays
 
 pub returns-in-Err-clause-full : goal.returns-in-Err-clause-full
-returns-in-Err-clause-full g c = λ full. far_full g.R.S.Space g.R.Records g.O.Order (λ p. push_in g.O.Order.cmp p) (λ v x y z key value. g.met.R.Records.lacks_still v x y z key value) c.args.pairs.now c.loop-pair.pair-index c.pair-item.result c.args.total c.loop-pair.so_far c.args.tree.now c.loop-pair.tree c.args.space.now c.loop-pair.space c.push_one.new.space c.given_up.new.space
-    (push_between g.O.Order.cmp g.met.O.Order.total g.met.O.Order.exact c.args.pairs.now c.loop-pair.pair-index c.pair-item.result c.loop-pair-test.true c.pair-item.is) c.loop-pair.invariant (c.in-Err.ensures.full (cause_at c.given_up.result c.in-Err.e c.given_up.ensures.same full)) c.given_up.ensures.given
+returns-in-Err-clause-full g c = λ full. far_full g.R.S.Space g.R.Records g.O.Order (λ p. push_in g.O.Order.cmp p) IsFront front_way (λ p ps k. pushed_front g.O.Order.cmp g.met.O.Order.total g.met.O.Order.exact p.key p.value k ps) (λ v x y z key value. g.met.R.Records.lacks_still v x y z key value)
+    c.args.pairs.now c.loop-pair.pair-index c.pair-item.result c.args.total c.loop-pair.so_far c.args.tree.now c.loop-pair.tree c.args.space.now c.loop-pair.space c.push_one.new.space c.given_up.new.space
+    c.loop-pair-test.true c.pair-item.is c.loop-pair.invariant (c.in-Err.ensures.full (cause_at c.given_up.result c.in-Err.e c.given_up.ensures.same full)) c.given_up.ensures.given

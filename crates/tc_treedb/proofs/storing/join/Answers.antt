@@ -8,7 +8,7 @@ use Rattle.bt_page.proofs.Runs.{on_err_any}
 use Rattle.bt_tree.specs.Meaning.{Means}
 use Rattle.tc_treedb.specs.Changing.{after, put_in, stored_in}
 use Rattle.tc_treedb.proofs.Looked.{looks_asks}
-use Rattle.tc_treedb.proofs.Stored.{fills_as, fills_behind, joined_is, joined_long, lengths_all, lengths_joined, made_behind, made_looked, no_room, refused_behind, takes_as, takes_behind, takes_looked}
+use Rattle.tc_treedb.proofs.Stored.{fills_as, fills_behind, grown_behind, grown_looked, joined_is, joined_long, lengths_all, lengths_joined, no_room, refused_behind, takes_as, takes_behind, takes_looked}
 use Rattle.tc_treedb.proofs.storing.join.Goals as goal
 
 pub returns-in_err-found-clause-refused : goal.returns-in_err-found-clause-refused
@@ -18,7 +18,7 @@ pub returns-in_err-found-clause-keeps : goal.returns-in_err-found-clause-keeps
 returns-in_err-found-clause-keeps g c = c.first_value.ensures.asks.looks.keeps
 
 pub returns-in_err-found-clause-stays : goal.returns-in_err-found-clause-stays
-returns-in_err-found-clause-stays g c = made_looked g.R.S.Space g.R.Records g.O.Order _ _ _ _ (looks_asks g.R.S.Space g.R.Records g.O.Order _ _ _ _ _ _ _ c.first_value.ensures.asks)
+returns-in_err-found-clause-stays g c = grown_looked g.R.S.Space g.R.Records g.O.Order _ _ _ _ _ (looks_asks g.R.S.Space g.R.Records g.O.Order _ _ _ _ _ _ _ c.first_value.ensures.asks)
 
 pub returns-then-not-has_room-clause-takes : goal.returns-then-not-has_room-clause-takes
 returns-then-not-has_room-clause-takes g c = takes_looked g.R.S.Space g.R.Records g.O.Order (stored_in g.O.Order.cmp Cat c.args.key.now c.args.more.now) _ _ _ _ (looks_asks g.R.S.Space g.R.Records g.O.Order _ _ _ _ _ _ _ c.first_value.ensures.asks)
@@ -28,7 +28,7 @@ pub returns-then-not-has_room-clause-keeps : goal.returns-then-not-has_room-clau
 returns-then-not-has_room-clause-keeps g c = c.first_value.ensures.asks.looks.keeps
 
 pub returns-then-not-has_room-clause-stays : goal.returns-then-not-has_room-clause-stays
-returns-then-not-has_room-clause-stays g c = made_looked g.R.S.Space g.R.Records g.O.Order _ _ _ _ (looks_asks g.R.S.Space g.R.Records g.O.Order _ _ _ _ _ _ _ c.first_value.ensures.asks)
+returns-then-not-has_room-clause-stays g c = grown_looked g.R.S.Space g.R.Records g.O.Order _ _ _ _ _ (looks_asks g.R.S.Space g.R.Records g.O.Order _ _ _ _ _ _ _ c.first_value.ensures.asks)
 
 pub returns-in_err-all-clause-refused : goal.returns-in_err-all-clause-refused
 returns-in_err-all-clause-refused g c = on_err_any _ (inr c.first_value.ensures.asks.reads)
@@ -37,7 +37,7 @@ pub returns-in_err-all-clause-keeps : goal.returns-in_err-all-clause-keeps
 returns-in_err-all-clause-keeps g c = c.first_value.ensures.asks.looks.keeps
 
 pub returns-in_err-all-clause-stays : goal.returns-in_err-all-clause-stays
-returns-in_err-all-clause-stays g c = made_looked g.R.S.Space g.R.Records g.O.Order _ _ _ _ (looks_asks g.R.S.Space g.R.Records g.O.Order _ _ _ _ _ _ _ c.first_value.ensures.asks)
+returns-in_err-all-clause-stays g c = grown_looked g.R.S.Space g.R.Records g.O.Order _ _ _ _ _ (looks_asks g.R.S.Space g.R.Records g.O.Order _ _ _ _ _ _ _ c.first_value.ensures.asks)
 
 pub put-requires : goal.put-requires
 put-requires g c = ready_reads g.R.S.Space (Means g.R.S.Space g.R.Records g.O.Order) _ _ _ _ c.first_value.ensures.asks.reads (record { sound = c.requires.sound; held = c.requires.held })
@@ -67,4 +67,4 @@ pub returns-clause-keeps : goal.returns-clause-keeps
 returns-clause-keeps g c = keeps_then g.R.S.Space _ _ _ c.first_value.ensures.asks.looks.keeps c.put.ensures.keeps
 
 pub returns-clause-stays : goal.returns-clause-stays
-returns-clause-stays g c = made_behind g.R.S.Space g.R.Records g.O.Order _ _ _ _ _ (looks_asks g.R.S.Space g.R.Records g.O.Order _ _ _ _ _ _ _ c.first_value.ensures.asks) c.put.ensures.stays
+returns-clause-stays g c = grown_behind g.R.S.Space g.R.Records g.O.Order c.put.result _ _ _ _ _ _ (looks_asks g.R.S.Space g.R.Records g.O.Order _ _ _ _ _ _ _ c.first_value.ensures.asks) c.put.ensures.stays

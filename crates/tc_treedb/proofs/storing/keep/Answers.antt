@@ -7,21 +7,21 @@ use Rattle.tc_space.specs.Stores.{ready_reads}
 use Rattle.bt_page.proofs.Runs.{on_err_any}
 use Rattle.bt_tree.specs.Meaning.{Means}
 use Rattle.tc_treedb.specs.Changing.{after, put_in, stored_in}
-use Rattle.tc_treedb.proofs.Stored.{fills_as, fills_behind, kept_free, kept_held, lengths_all, lengths_kept, made_behind, made_looked, refused_behind, takes_as, takes_behind, takes_looked}
+use Rattle.tc_treedb.proofs.Stored.{fills_as, fills_behind, grown_behind, grown_looked, kept_free, kept_held, lengths_all, lengths_kept, refused_behind, takes_as, takes_behind, takes_looked}
 use Rattle.tc_treedb.proofs.storing.keep.Goals as goal
 
 pub returns-in_err-old-clause-refused : goal.returns-in_err-old-clause-refused
 returns-in_err-old-clause-refused g c = on_err_any _ (inr c.first_len.ensures.looks.reads)
 
 pub returns-in_err-old-clause-stays : goal.returns-in_err-old-clause-stays
-returns-in_err-old-clause-stays g c = made_looked g.R.S.Space g.R.Records g.O.Order _ _ _ _ c.first_len.ensures.looks
+returns-in_err-old-clause-stays g c = grown_looked g.R.S.Space g.R.Records g.O.Order _ _ _ _ _ c.first_len.ensures.looks
 
 pub returns-then-is_some-clause-takes : goal.returns-then-is_some-clause-takes
 returns-then-is_some-clause-takes g c = takes_looked g.R.S.Space g.R.Records g.O.Order (stored_in g.O.Order.cmp Keep c.args.key.now c.args.value.now) _ _ _ _ c.first_len.ensures.looks
     (λ ps h. kept_held g.O.Order.cmp c.args.key.now c.args.value.now ps c.in_ok-old.old (c.in_ok-old.ensures.value ps h) (sym c.is_some.ensures ∙ c.if-is_some.true))
 
 pub returns-then-is_some-clause-stays : goal.returns-then-is_some-clause-stays
-returns-then-is_some-clause-stays g c = made_looked g.R.S.Space g.R.Records g.O.Order _ _ _ _ c.first_len.ensures.looks
+returns-then-is_some-clause-stays g c = grown_looked g.R.S.Space g.R.Records g.O.Order _ _ _ _ _ c.first_len.ensures.looks
 
 pub returns-clause-takes : goal.returns-clause-takes
 returns-clause-takes g c = IfOk-weaker _ _ _
@@ -43,7 +43,7 @@ returns-clause-full g c = λ full.
     (fills_behind g.R.S.Space g.R.Records g.O.Order (after (put_in g.O.Order.cmp c.args.key.now c.args.value.now)) _ _ _ _ _ c.first_len.ensures.looks (c.put.ensures.full full))
 
 pub returns-clause-stays : goal.returns-clause-stays
-returns-clause-stays g c = made_behind g.R.S.Space g.R.Records g.O.Order _ _ _ _ _ c.first_len.ensures.looks c.put.ensures.stays
+returns-clause-stays g c = grown_behind g.R.S.Space g.R.Records g.O.Order c.put.result _ _ _ _ _ _ c.first_len.ensures.looks c.put.ensures.stays
 
 pub put-requires : goal.put-requires
 put-requires g c = ready_reads g.R.S.Space (Means g.R.S.Space g.R.Records g.O.Order) _ _ _ _ c.first_len.ensures.looks.reads (record { sound = c.requires.sound; held = c.requires.held })

@@ -1,4 +1,4 @@
-use Rattle.bt_tree.proofs.Partings.{adds_none, adds_some}
+use Rattle.bt_tree.proofs.Pieces.{adds_none, adds_some}
 use Rattle.bt_tree.proofs.tree.Tree.behind.Goals as goal
 
 pub returns-then-next-eq0-clause-added : goal.returns-then-next-eq0-clause-added

@@ -1,9 +1,9 @@
-use Rattle.std.proofs.Common.{◌≡◌, ◌∙◌, length, refl, sym, ap, inl, inr, ⊎_elim, arith}
+use Rattle.std.proofs.Common.{◌≡◌, ◌∙◌, length, refl, sym, ap, arith}
 use Rattle.std.proofs.lemmas.Result.{on_ok_weaker}
 use Rattle.bt_page.specs.declared.page.Node.{Node}
 use Rattle.bt_page.proofs.Runs.{err_handed}
 use Rattle.bt_rows.specs.declared.head.TreeHead.{TreeHead}
-use Rattle.bt_tree.proofs.Climbings.{climbing_on, climbs_begin, climbs_end, end_ready, full_end, full_step, lacks_end, lacks_half, lacks_whole, node_at, read_ready, step_given, took, took_same, way_ready}
+use Rattle.bt_tree.proofs.Climbings.{climbing_on, climbs_begin, climbs_end, end_ready, lacks_end, lacks_half, lacks_whole, node_at, read_ready, step_given, took, took_same, way_ready}
 use Rattle.bt_tree.proofs.tree.Tree.climb.Goals as goal
 
 pub loop-id-init : goal.loop-id-init
@@ -34,8 +34,8 @@ returns-then-len-self-clause-climbed g c =
 pub returns-then-len-self-clause-full : goal.returns-then-len-self-clause-full
 returns-then-len-self-clause-full g c = λ is.
     let limit : c.own_node.new.self.head.node_limit ≡ c.loop-id.self.head.node_limit = ap (λ (x : TreeHead). x.node_limit) c.own_node.ensures.peeks.still.head in
-    c.loop-id.invariant.full c.put_node.new.space (inr (lacks_whole g.R.S.Space g.R.Records c.loop-id.self _ c.own_node.new.self c.loop-id.space c.own_node.new.space c.in-Some.id c.in-Some.place c.pop.new.self (record { all = refl; way = refl }) c.in-Some.ensures c.own_node.ensures.peeks c.in_ok-node.node c.in_ok-node.ensures.node c.loop-id.more c.loop-id.invariant.few c.put_node.new.space
-    (omega (arith, c.if-len-self.true, c.len.ensures, ap (λ (n : Node). length n.entries) (took_same c.in_ok-node.node c.in_ok-node-2.node c.in-Some.place c.as_slice.result.now c.loop-id.more c.in_ok-node-2.ensures c.as_slice.ensures), limit)) ((rw (took_same c.in_ok-node.node c.in_ok-node-2.node c.in-Some.place c.as_slice.result.now c.loop-id.more c.in_ok-node-2.ensures c.as_slice.ensures) at c.put_node.ensures.full) is)))
+    c.loop-id.invariant.full c.put_node.new.space (lacks_whole g.R.S.Space g.R.Records c.loop-id.self _ c.own_node.new.self c.loop-id.space c.own_node.new.space c.in-Some.id c.in-Some.place c.pop.new.self (record { all = refl; way = refl }) c.in-Some.ensures c.own_node.ensures.peeks c.in_ok-node.node c.in_ok-node.ensures.node c.loop-id.more c.loop-id.invariant.few c.put_node.new.space
+    (omega (arith, c.if-len-self.true, c.len.ensures, ap (λ (n : Node). length n.entries) (took_same c.in_ok-node.node c.in_ok-node-2.node c.in-Some.place c.as_slice.result.now c.loop-id.more c.in_ok-node-2.ensures c.as_slice.ensures), limit)) ((rw (took_same c.in_ok-node.node c.in_ok-node-2.node c.in-Some.place c.as_slice.result.now c.loop-id.more c.in_ok-node-2.ensures c.as_slice.ensures) at c.put_node.ensures.full) is))
 
 pub divide-requires-clause-ready : goal.divide-requires-clause-ready
 divide-requires-clause-ready g c =
@@ -47,10 +47,8 @@ divide-requires-clause-id g c =
 
 pub returns-in_err-above-clause-full : goal.returns-in_err-above-clause-full
 returns-in_err-above-clause-full g c = λ is.
-    let limit : c.own_node.new.self.head.node_limit ≡ c.loop-id.self.head.node_limit = ap (λ (x : TreeHead). x.node_limit) c.own_node.ensures.peeks.still.head in
     c.loop-id.invariant.full c.divide.new.space
-    (⊎_elim (λ used. inl (full_step g.R.S.Space g.R.Records c.loop-id.self _ c.own_node.new.self c.loop-id.space c.own_node.new.space c.in-Some.id c.in-Some.place c.pop.new.self (record { all = refl; way = refl }) c.in-Some.ensures c.own_node.ensures.peeks c.in_ok-node.node c.in_ok-node.ensures.node c.loop-id.more c.loop-id.invariant.few (omega (arith, c.if-len-self.false, c.len.ensures, ap (λ (n : Node). length n.entries) (took_same c.in_ok-node.node c.in_ok-node-2.node c.in-Some.place c.as_slice.result.now c.loop-id.more c.in_ok-node-2.ensures c.as_slice.ensures), limit)) used))
-    (λ lacks. inr (lacks_half g.R.S.Space g.R.Records c.loop-id.self _ c.own_node.new.self c.loop-id.space c.own_node.new.space c.in-Some.id c.in-Some.place c.pop.new.self (record { all = refl; way = refl }) c.in-Some.ensures c.own_node.ensures.peeks c.in_ok-node.node c.in_ok-node.ensures.node c.loop-id.more c.loop-id.invariant.few c.divide.new.space lacks))
+    (lacks_half g.R.S.Space g.R.Records c.loop-id.self _ c.own_node.new.self c.loop-id.space c.own_node.new.space c.in-Some.id c.in-Some.place c.pop.new.self (record { all = refl; way = refl }) c.in-Some.ensures c.own_node.ensures.peeks c.in_ok-node.node c.in_ok-node.ensures.node c.loop-id.more c.loop-id.invariant.few c.divide.new.space
     ((rw (took_same c.in_ok-node.node c.in_ok-node-2.node c.in-Some.place c.as_slice.result.now c.loop-id.more c.in_ok-node-2.ensures c.as_slice.ensures) at c.in_err-above.ensures.full) (err_handed c.from_residual-in_err-above.result _ _ c.from_residual-in_err-above.ensures.1 is)))
 
 pub loop-id-smaller : goal.loop-id-smaller
@@ -83,5 +81,4 @@ returns-clause-climbed g c =
 pub returns-clause-full : goal.returns-clause-full
 returns-clause-full g c = λ is.
     c.loop-id.invariant.full c.grow.new.space
-    (⊎_elim (λ used. inl (λ pages h. full_end c.loop-id.self.head pages c.loop-id.self.path (length c.loop-id.more) c.in_default.ensures.0 used))
-    (λ lacks. inr (lacks_end g.R.S.Space g.R.Records c.loop-id.self _ c.loop-id.space c.grow.new.space c.loop-id.more c.pop.new.self (record { all = refl; way = refl }) c.in_default.ensures.0 lacks)) (c.grow.ensures.full is))
+    (lacks_end g.R.S.Space g.R.Records c.loop-id.self _ c.loop-id.space c.grow.new.space c.loop-id.more c.pop.new.self (record { all = refl; way = refl }) c.in_default.ensures.0 (c.grow.ensures.full is))

@@ -1,6 +1,7 @@
-use Rattle.std.proofs.Common.{refl, inr}
+use Rattle.std.proofs.Common.{refl}
 use Rattle.bt_page.proofs.Runs.{err_handed}
-use Rattle.bt_tree.proofs.Climbings.{gives_node, grown, grown_height, lacks_root, noted_root, way_ready}
+use Rattle.bt_tree.proofs.Climbings.{grown_height, noted_root, way_ready}
+use Rattle.bt_tree.proofs.Divisions.{gives_node, grown, lacks_root}
 use Rattle.bt_tree.proofs.Pagings.{noted_ready}
 use Rattle.bt_tree.proofs.tree.Tree.grow.Goals as goal
 
@@ -17,5 +18,5 @@ returns-clause-climbed g c =
 
 pub returns-in_err-put_node-clause-full : goal.returns-in_err-put_node-clause-full
 returns-in_err-put_node-clause-full g c = λ is.
-    inr (lacks_root g.R.S.Space g.R.Records c.args.self.now c.node_id.new.self c.args.space.now c.put_node.new.space c.in_ok-id.id c.node_id.new.self.head.root c.args.added c.in_ok-id.ensures.given c.in_ok-id.ensures.noted (gives_node c.args.self.now.head c.in_ok-id.ensures.small) c.requires.few (noted_root c.args.self.now c.node_id.new.self c.in_ok-id.ensures.noted)
-    (rw c.in_ok-node.ensures at (c.in_err-put_node.ensures.full (err_handed c.from_residual-in_err-put_node.result _ _ c.from_residual-in_err-put_node.ensures.1 is))))
+    lacks_root g.R.S.Space g.R.Records c.args.self.now c.node_id.new.self c.args.space.now c.put_node.new.space c.in_ok-id.id c.node_id.new.self.head.root c.args.added c.in_ok-id.ensures.given c.in_ok-id.ensures.noted (gives_node c.args.self.now.head c.in_ok-id.ensures.small) c.requires.few (noted_root c.args.self.now c.node_id.new.self c.in_ok-id.ensures.noted)
+    (rw c.in_ok-node.ensures at (c.in_err-put_node.ensures.full (err_handed c.from_residual-in_err-put_node.result _ _ c.from_residual-in_err-put_node.ensures.1 is)))

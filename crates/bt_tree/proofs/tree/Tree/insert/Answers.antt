@@ -1,10 +1,12 @@
 use Rattle.std.proofs.Common.{refl, ◌∙◌, inl, inr, ⊎_elim}
 use Rattle.bt_rows.proofs.Ordered.{orders_are_strict}
 use Rattle.bt_page.proofs.Runs.{err_handed, on_err_any}
-use Rattle.bt_tree.specs.Paging.{lacks_given}
+use Rattle.bt_tree.specs.Paging.{lacks_given, tells_given}
 use Rattle.bt_tree.proofs.Descents.{err_on}
 use Rattle.bt_tree.proofs.Finds.{tree_reads}
-use Rattle.bt_tree.proofs.Inserts.{gains_kept, gains_looked, gains_spread, gains_within, given_up, id_given, inserted_kept, inserted_spread, is_crowded, kept_pages, lacks_leaf, lacks_piece, leaf_ready, means_ready, none_more, not_both, over_there, put_refused, runs_out, spread_pages}
+use Rattle.bt_tree.proofs.Inserts.{gains_kept, gains_looked, gains_spread, gains_within, given_up, means_ready, none_more, not_both, put_refused}
+use Rattle.bt_tree.proofs.Puttings.{id_given, inserted_kept, inserted_spread, is_crowded, kept_pages, lacks_leaf, lacks_piece, leaf_ready, over_there, runs_out, spread_pages}
+use Rattle.bt_tree.proofs.Tellings.{tells_looked}
 use Rattle.bt_tree.proofs.tree.Tree.insert.Goals as goal
 
 pub returns-then-self-clause-gains : goal.returns-then-self-clause-gains
@@ -38,9 +40,9 @@ returns-in_err-put_leaf-clause-refused g c =
 
 pub returns-in_err-put_leaf-clause-full : goal.returns-in_err-put_leaf-clause-full
 returns-in_err-put_leaf-clause-full g c = λ is.
-    inr (lacks_leaf g.R.S.Space g.R.Records g.O.Order g.met.O.Order.total (orders_are_strict g.O.Order.cmp g.met.O.Order.total g.met.O.Order.exact) c.args.last c.args.key.now c.args.value.now c.args.self.now c.take_pair.new.self c.args.space.now c.take_pair.new.space c.in_ok-changed.changed
+    inr (inl (lacks_leaf g.R.S.Space g.R.Records g.O.Order g.met.O.Order.total (orders_are_strict g.O.Order.cmp g.met.O.Order.total g.met.O.Order.exact) c.args.last c.args.key.now c.args.value.now c.args.self.now c.take_pair.new.self c.args.space.now c.take_pair.new.space c.in_ok-changed.changed
     c.take_pair.ensures.looks c.take_pair.ensures.stays c.in_ok-changed.ensures.taken
-    c.put_leaf.new.space (c.leaf_fits.ensures.0 c.if-leaf_fits.true) (c.in_err-put_leaf.ensures.full (err_handed c.from_residual-in_err-put_leaf.result c.in_err-put_leaf.field-0.0 _ c.from_residual-in_err-put_leaf.ensures.1 is)))
+    c.put_leaf.new.space (c.leaf_fits.ensures.0 c.if-leaf_fits.true) (c.in_err-put_leaf.ensures.full (err_handed c.from_residual-in_err-put_leaf.result c.in_err-put_leaf.field-0.0 _ c.from_residual-in_err-put_leaf.ensures.1 is))))
 
 pub returns-then-leaf_fits-clause-inserted : goal.returns-then-leaf_fits-clause-inserted
 returns-then-leaf_fits-clause-inserted g c =
@@ -106,12 +108,19 @@ returns-in-Err-clause-gains g c = record {
 
 pub returns-in-Err-clause-full : goal.returns-in-Err-clause-full
 returns-in-Err-clause-full g c = λ is.
+    let given = given_up g.R.S.Space c.part.new.space c.spoil.new.self c.spoil.ensures.spoiled c.spoil.ensures.stays c.spoil.ensures.now c.spoil.ensures.log c.spoil.ensures.brought in
     ⊎_elim
-    (λ used. inl (runs_out g.R.S.Space g.R.Records g.O.Order g.met.O.Order.total (orders_are_strict g.O.Order.cmp g.met.O.Order.total g.met.O.Order.exact) c.args.last c.args.key.now c.args.value.now c.args.self.now c.take_pair.new.self c.args.space.now c.take_pair.new.space c.in_ok-changed.changed
-    c.take_pair.ensures.looks c.take_pair.ensures.stays c.in_ok-changed.ensures.taken (λ w. not_both _ (c.leaf_fits.ensures.1 w) c.if-leaf_fits.false) used))
-    (λ lacks. inr (lacks_given g.R.S.Space g.R.Records g.met.R.Records.lacks_still _ _ _ _ c.args.self.now c.args.space.now c.part.new.space c.spoil.new.self
-    (given_up g.R.S.Space c.part.new.space c.spoil.new.self c.spoil.ensures.spoiled c.spoil.ensures.stays c.spoil.ensures.now c.spoil.ensures.log c.spoil.ensures.brought)
+    (λ used. inl (
+      tells_given g.R.S.Space g.R.Records c.args.self.now c.args.space.now c.part.new.space c.spoil.new.self given
+          (tells_looked g.R.S.Space g.R.Records c.args.self.now c.take_pair.new.self c.args.space.now c.take_pair.new.space c.part.new.space c.take_pair.ensures.looks c.take_pair.ensures.stays.head used.0),
+      runs_out g.R.S.Space g.R.Records g.O.Order g.met.O.Order.total (orders_are_strict g.O.Order.cmp g.met.O.Order.total g.met.O.Order.exact) c.args.last c.args.key.now c.args.value.now c.args.self.now c.take_pair.new.self c.args.space.now c.take_pair.new.space c.in_ok-changed.changed
+          c.take_pair.ensures.looks c.take_pair.ensures.stays c.in_ok-changed.ensures.taken (λ w. not_both _ (c.leaf_fits.ensures.1 w) c.if-leaf_fits.false) used.1,
+    ))
+    (λ rest. inr (⊎_elim
+    (λ lacks. inl (lacks_given g.R.S.Space g.R.Records g.met.R.Records.lacks_still _ _ _ _ c.args.self.now c.args.space.now c.part.new.space c.spoil.new.self given
     (lacks_piece g.R.S.Space g.R.Records g.O.Order g.met.O.Order.total (orders_are_strict g.O.Order.cmp g.met.O.Order.total g.met.O.Order.exact) c.args.last c.args.key.now c.args.value.now c.args.self.now c.take_pair.new.self c.args.space.now c.take_pair.new.space c.in_ok-changed.changed
     c.take_pair.ensures.looks c.take_pair.ensures.stays c.in_ok-changed.ensures.taken
     c.in_ok-changed.ensures.deep c.part.new.space (λ w. not_both _ (c.leaf_fits.ensures.1 w) c.if-leaf_fits.false) lacks)))
+    (λ log. inr (λ told. given.log (log told)))
+    rest))
     (c.in-Err.ensures.full (err_on _ _ is))

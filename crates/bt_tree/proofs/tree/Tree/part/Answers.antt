@@ -1,85 +1,55 @@
-use Rattle.std.proofs.Common.{◌-◌, drop, inl, inr, length, refl, take, ⊎_elim}
+use Rattle.std.proofs.Common.{arith, inl, inr, ⊎_elim}
 use Rattle.std.proofs.lemmas.Result.{on_ok_weaker}
-use Rattle.bt_page.proofs.Runs.{err_handed}
-use Rattle.bt_tree.proofs.Partings.{added_few, behind_there, climb_full, climb_ready, climb_rows, cut_parted, given_ready, ids_given, lacks_climb, lacks_laid, lay_ready, parts_turn, widens_climb, widens_lay}
-use Rattle.bt_tree.specs.Parting.{parts_from}
+use Rattle.bt_tree.proofs.Descents.{err_same}
+use Rattle.bt_tree.proofs.Issues.{leaf_on, leaf_way, over_on, parted_on, piece_on, shown_on, still_then, widens_on, widens_still}
+use Rattle.bt_tree.proofs.Tellings.{rose_since, tells_looked}
 use Rattle.bt_tree.proofs.tree.Tree.part.Goals as goal
 
-pub behind-requires-clause-ready : goal.behind-requires-clause-ready
-behind-requires-clause-ready g c = given_ready g.R.S.Space g.R.Records c.args.self.now c.parts.new.self c.args.space.now c.args.id c.args.leaf c.requires.ready c.parts.ensures.noted c.parts.ensures.least c.in_ok-parted.ensures.small
+pub has_ids-requires-clause-ready : goal.has_ids-requires-clause-ready
+has_ids-requires-clause-ready g c = leaf_way g.R.S.Space g.R.Records c.args.id c.args.leaf.next c.args.self.now c.args.space.now c.requires.ready
 
-pub behind-requires-clause-there : goal.behind-requires-clause-there
-behind-requires-clause-there g c = rw c.next-next.ensures (behind_there g.R.S.Space g.R.Records c.args.self.now c.parts.new.self c.args.space.now c.args.id c.args.leaf c.requires.ready c.parts.ensures.noted c.parts.ensures.least c.in_ok-parted.ensures.small)
+pub returns-in_err-has-clause-widens : goal.returns-in_err-has-clause-widens
+returns-in_err-has-clause-widens g c = widens_still g.R.S.Space g.R.Records _ c.args.self.now c.has_ids.new.self c.args.space.now c.has_ids.new.space c.has_ids.ensures.peeks.still
 
-pub lay-requires-clause-ready : goal.lay-requires-clause-ready
-lay-requires-clause-ready g c =
-    lay_ready g.R.S.Space g.R.Records c.args.self.now c.parts.new.self c.behind.new.self c.follow.new.self c.args.space.now c.behind.new.space c.args.id c.args.leaf (take c.cut_places-i.result.0 c.args.leaf.items) (take (c.cut_places-i.result.1 - c.cut_places-i.result.0) (drop c.cut_places-i.result.0 c.args.leaf.items)) (drop c.cut_places-i.result.1 c.args.leaf.items) c.in_ok-parted.parted c.in_ok-leaves.leaves
-    c.requires.ready c.parts.ensures.noted c.in_ok-parted.ensures.given c.in_ok-parted.ensures.small c.in_ok-parted.ensures.parts (rw c.next-next.ensures at c.in_ok-leaves.ensures.added) c.behind.ensures.peeks (rw c.next-next.ensures at c.follow.ensures)
+pub refuse-requires : goal.refuse-requires
+refuse-requires g c = shown_on g.R.S.Space g.R.Records c.args.id c.args.leaf c.args.self.now c.has_ids.new.self c.args.space.now c.has_ids.new.space c.has_ids.ensures.peeks c.requires.ready
 
-pub lay-requires-clause-ids : goal.lay-requires-clause-ids
-lay-requires-clause-ids g c =
-    ids_given g.R.S.Space g.R.Records c.args.self.now c.parts.new.self c.behind.new.self c.follow.new.self c.args.space.now c.behind.new.space c.args.id c.args.leaf (take c.cut_places-i.result.0 c.args.leaf.items) (take (c.cut_places-i.result.1 - c.cut_places-i.result.0) (drop c.cut_places-i.result.0 c.args.leaf.items)) (drop c.cut_places-i.result.1 c.args.leaf.items) c.in_ok-parted.parted c.in_ok-leaves.leaves
-    c.requires.ready c.parts.ensures.noted c.in_ok-parted.ensures.given c.in_ok-parted.ensures.small c.in_ok-parted.ensures.parts (rw c.next-next.ensures at c.in_ok-leaves.ensures.added) c.behind.ensures.peeks (rw c.next-next.ensures at c.follow.ensures)
+pub returns-then-not-has-clause-full : goal.returns-then-not-has-clause-full
+returns-then-not-has-clause-full g c = λ is.
+    ⊎_elim
+    (λ tells. inl (
+      tells_looked g.R.S.Space g.R.Records c.args.self.now c.has_ids.new.self c.args.space.now c.has_ids.new.space c.refuse.new.space c.has_ids.ensures.peeks.looks c.has_ids.ensures.peeks.still.head tells,
+      c.in_ok-has.ensures.lacks c.if-not-has.true,
+    ))
+    (λ log. inr (inr log))
+    (c.refuse.ensures.full (err_same _ _ is))
 
-pub returns-in_err-parted-clause-full : goal.returns-in_err-parted-clause-full
-returns-in_err-parted-clause-full g c = λ is. inl (λ pages h. record {
-  more = length (parts_from c.args.self.now.head.leaf_ids (take (c.cut_places-i.result.1 - c.cut_places-i.result.0) (drop c.cut_places-i.result.0 c.args.leaf.items)) (drop c.cut_places-i.result.1 c.args.leaf.items));
-  parted_in = cut_parted c.args.self.now.head.leaf_ids c.cut_places-i.result.0 c.cut_places-i.result.1 c.args.self.now.head.leaf_limit c.args.leaf.items (c.cut_places-i.ensures.cut (c.requires.over h.0.0));
-  used = inl (c.in_err-parted.ensures.full (err_handed c.from_residual.result _ _ c.from_residual.ensures.1 is));
-})
+pub returns-then-not-has-clause-widens : goal.returns-then-not-has-clause-widens
+returns-then-not-has-clause-widens g c =
+    widens_still g.R.S.Space g.R.Records _ c.args.self.now c.refuse.new.self c.args.space.now c.refuse.new.space
+    (still_then g.R.S.Space g.R.Records c.args.self.now c.has_ids.new.self c.refuse.new.self c.args.space.now c.has_ids.new.space c.refuse.new.space c.has_ids.ensures.peeks.still c.refuse.ensures.still)
 
-pub returns-in_err-lay-clause-full : goal.returns-in_err-lay-clause-full
-returns-in_err-lay-clause-full g c = λ is.
-    inr (lacks_laid g.R.S.Space g.R.Records c.args.self.now c.parts.new.self c.behind.new.self c.follow.new.self c.args.space.now c.behind.new.space c.args.id c.args.leaf (take c.cut_places-i.result.0 c.args.leaf.items) (take (c.cut_places-i.result.1 - c.cut_places-i.result.0) (drop c.cut_places-i.result.0 c.args.leaf.items)) (drop c.cut_places-i.result.1 c.args.leaf.items) c.in_ok-parted.parted c.in_ok-leaves.leaves
-    c.requires.ready c.parts.ensures.noted c.in_ok-parted.ensures.given c.in_ok-parted.ensures.small c.in_ok-parted.ensures.parts (rw c.next-next.ensures at c.in_ok-leaves.ensures.added) c.behind.ensures.peeks (rw c.next-next.ensures at c.follow.ensures)
-    c.cut_places-i.result.0 c.cut_places-i.result.1 c.lay.new.space refl refl refl (λ told. c.cut_places-i.ensures.cut (c.requires.over told)) (c.in_err-lay.ensures.full (err_handed c.from_residual-in_err-lay.result _ _ c.from_residual-in_err-lay.ensures.1 is)))
+pub returns-then-not-has-clause-cause : goal.returns-then-not-has-clause-cause
+returns-then-not-has-clause-cause g c = λ is. rose_since _ _ _ c.has_ids.ensures.peeks.still.keeps.later (c.refuse.ensures.cause (err_same _ _ is))
 
-pub returns-in_err-lay-clause-widens : goal.returns-in_err-lay-clause-widens
-returns-in_err-lay-clause-widens g c =
-    widens_lay g.R.S.Space g.R.Records c.args.self.now c.parts.new.self c.behind.new.self c.follow.new.self c.args.space.now c.behind.new.space c.args.id c.args.leaf (take c.cut_places-i.result.0 c.args.leaf.items) (take (c.cut_places-i.result.1 - c.cut_places-i.result.0) (drop c.cut_places-i.result.0 c.args.leaf.items)) (drop c.cut_places-i.result.1 c.args.leaf.items) c.in_ok-parted.parted c.in_ok-leaves.leaves
-    c.requires.ready c.parts.ensures.noted c.in_ok-parted.ensures.given c.in_ok-parted.ensures.small c.in_ok-parted.ensures.parts (rw c.next-next.ensures at c.in_ok-leaves.ensures.added) c.behind.ensures.peeks (rw c.next-next.ensures at c.follow.ensures)
-    c.parts.ensures.least c.parts.ensures.most c.lay.new.self c.lay.new.space c.lay.ensures.still
+pub spread-requires-clause-ready : goal.spread-requires-clause-ready
+spread-requires-clause-ready g c = leaf_on g.R.S.Space g.R.Records c.args.id c.args.leaf c.args.self.now c.has_ids.new.self c.args.space.now c.has_ids.new.space c.has_ids.ensures.peeks c.requires.ready
 
-pub climb-requires-clause-ready : goal.climb-requires-clause-ready
-climb-requires-clause-ready g c =
-    climb_ready g.R.S.Space g.R.Records c.args.self.now c.parts.new.self c.behind.new.self c.follow.new.self c.args.space.now c.behind.new.space c.args.id c.args.leaf (take c.cut_places-i.result.0 c.args.leaf.items) (take (c.cut_places-i.result.1 - c.cut_places-i.result.0) (drop c.cut_places-i.result.0 c.args.leaf.items)) (drop c.cut_places-i.result.1 c.args.leaf.items) c.in_ok-parted.parted c.in_ok-leaves.leaves
-    c.requires.ready c.parts.ensures.noted c.in_ok-parted.ensures.given c.in_ok-parted.ensures.small c.in_ok-parted.ensures.parts (rw c.next-next.ensures at c.in_ok-leaves.ensures.added) c.behind.ensures.peeks (rw c.next-next.ensures at c.follow.ensures)
-    c.lay.new.self c.lay.new.space c.in_ok-lay.ensures.laid c.lay.ensures.still
+pub spread-requires-clause-over : goal.spread-requires-clause-over
+spread-requires-clause-over g c = λ told. over_on g.R.S.Space g.R.Records c.args.leaf c.args.self.now c.has_ids.new.self c.args.space.now c.has_ids.new.space c.has_ids.ensures.peeks c.args.place (c.requires.over told)
 
-pub climb-requires-clause-few : goal.climb-requires-clause-few
-climb-requires-clause-few g c =
-    added_few g.R.S.Space g.R.Records c.args.self.now c.parts.new.self c.behind.new.self c.follow.new.self c.args.space.now c.behind.new.space c.args.id c.args.leaf (take c.cut_places-i.result.0 c.args.leaf.items) (take (c.cut_places-i.result.1 - c.cut_places-i.result.0) (drop c.cut_places-i.result.0 c.args.leaf.items)) (drop c.cut_places-i.result.1 c.args.leaf.items) c.in_ok-parted.parted c.in_ok-leaves.leaves
-    c.requires.ready c.parts.ensures.noted c.in_ok-parted.ensures.given c.in_ok-parted.ensures.small c.in_ok-parted.ensures.parts (rw c.next-next.ensures at c.in_ok-leaves.ensures.added) c.behind.ensures.peeks (rw c.next-next.ensures at c.follow.ensures)
-
-pub climb-requires-clause-rows : goal.climb-requires-clause-rows
-climb-requires-clause-rows g c =
-    climb_rows g.R.S.Space g.R.Records c.args.self.now c.parts.new.self c.behind.new.self c.follow.new.self c.args.space.now c.behind.new.space c.args.id c.args.leaf (take c.cut_places-i.result.0 c.args.leaf.items) (take (c.cut_places-i.result.1 - c.cut_places-i.result.0) (drop c.cut_places-i.result.0 c.args.leaf.items)) (drop c.cut_places-i.result.1 c.args.leaf.items) c.in_ok-parted.parted c.in_ok-leaves.leaves
-    c.requires.ready c.parts.ensures.noted c.in_ok-parted.ensures.given c.in_ok-parted.ensures.small c.in_ok-parted.ensures.parts (rw c.next-next.ensures at c.in_ok-leaves.ensures.added) c.behind.ensures.peeks (rw c.next-next.ensures at c.follow.ensures)
-    c.lay.new.self c.lay.new.space c.in_ok-lay.ensures.laid c.lay.ensures.still c.requires.rows
+pub spread-requires-clause-rows : goal.spread-requires-clause-rows
+spread-requires-clause-rows g c = omega (arith, c.has_ids.ensures.peeks.still.height, c.requires.rows)
 
 pub returns-clause-parted : goal.returns-clause-parted
 returns-clause-parted g c =
-    on_ok_weaker c.climb.result
-    (λ climbed. parts_turn g.R.S.Space g.R.Records c.args.self.now c.parts.new.self c.behind.new.self c.follow.new.self c.args.space.now c.behind.new.space c.args.id c.args.leaf (take c.cut_places-i.result.0 c.args.leaf.items) (take (c.cut_places-i.result.1 - c.cut_places-i.result.0) (drop c.cut_places-i.result.0 c.args.leaf.items)) (drop c.cut_places-i.result.1 c.args.leaf.items) c.in_ok-parted.parted c.in_ok-leaves.leaves
-    c.requires.ready c.parts.ensures.noted c.in_ok-parted.ensures.given c.in_ok-parted.ensures.small c.in_ok-parted.ensures.parts (rw c.next-next.ensures at c.in_ok-leaves.ensures.added) c.behind.ensures.peeks (rw c.next-next.ensures at c.follow.ensures)
-    c.lay.new.self c.lay.new.space c.in_ok-lay.ensures.laid c.lay.ensures.still c.cut_places-i.result.0 c.cut_places-i.result.1 refl refl refl (λ told. c.cut_places-i.ensures.cut (c.requires.over told))
-    c.climb.new.self c.climb.new.space climbed c.climb.ensures.grows.head)
-    c.climb.ensures.climbed
-
-pub returns-clause-widens : goal.returns-clause-widens
-returns-clause-widens g c =
-    widens_climb g.R.S.Space g.R.Records c.args.self.now c.parts.new.self c.behind.new.self c.follow.new.self c.args.space.now c.behind.new.space c.args.id c.args.leaf (take c.cut_places-i.result.0 c.args.leaf.items) (take (c.cut_places-i.result.1 - c.cut_places-i.result.0) (drop c.cut_places-i.result.0 c.args.leaf.items)) (drop c.cut_places-i.result.1 c.args.leaf.items) c.in_ok-parted.parted c.in_ok-leaves.leaves
-    c.requires.ready c.parts.ensures.noted c.in_ok-parted.ensures.given c.in_ok-parted.ensures.small c.in_ok-parted.ensures.parts (rw c.next-next.ensures at c.in_ok-leaves.ensures.added) c.behind.ensures.peeks (rw c.next-next.ensures at c.follow.ensures)
-    c.parts.ensures.least c.parts.ensures.most c.lay.new.self c.lay.new.space c.lay.ensures.still c.climb.new.self c.climb.new.space c.climb.ensures.grows
+    on_ok_weaker c.spread.result
+    (λ turns. parted_on g.R.S.Space g.R.Records c.args.id c.args.leaf c.args.self.now c.has_ids.new.self c.args.space.now c.has_ids.new.space c.has_ids.ensures.peeks c.spread.new.self c.spread.new.space turns)
+    c.spread.ensures.parted
 
 pub returns-clause-full : goal.returns-clause-full
 returns-clause-full g c = λ is.
-    ⊎_elim (λ used. inl (climb_full g.R.S.Space g.R.Records c.args.self.now c.parts.new.self c.behind.new.self c.follow.new.self c.args.space.now c.behind.new.space c.args.id c.args.leaf (take c.cut_places-i.result.0 c.args.leaf.items) (take (c.cut_places-i.result.1 - c.cut_places-i.result.0) (drop c.cut_places-i.result.0 c.args.leaf.items)) (drop c.cut_places-i.result.1 c.args.leaf.items) c.in_ok-parted.parted c.in_ok-leaves.leaves
-    c.requires.ready c.parts.ensures.noted c.in_ok-parted.ensures.given c.in_ok-parted.ensures.small c.in_ok-parted.ensures.parts (rw c.next-next.ensures at c.in_ok-leaves.ensures.added) c.behind.ensures.peeks (rw c.next-next.ensures at c.follow.ensures)
-    c.lay.new.self c.lay.new.space c.in_ok-lay.ensures.laid c.lay.ensures.still c.cut_places-i.result.0 c.cut_places-i.result.1
-    refl refl refl (λ told. c.cut_places-i.ensures.cut (c.requires.over told)) used))
-    (λ lacks. inr (lacks_climb g.R.S.Space g.R.Records c.args.self.now c.parts.new.self c.behind.new.self c.follow.new.self c.args.space.now c.behind.new.space c.args.id c.args.leaf (take c.cut_places-i.result.0 c.args.leaf.items) (take (c.cut_places-i.result.1 - c.cut_places-i.result.0) (drop c.cut_places-i.result.0 c.args.leaf.items)) (drop c.cut_places-i.result.1 c.args.leaf.items) c.in_ok-parted.parted c.in_ok-leaves.leaves
-    c.requires.ready c.parts.ensures.noted c.in_ok-parted.ensures.given c.in_ok-parted.ensures.small c.in_ok-parted.ensures.parts (rw c.next-next.ensures at c.in_ok-leaves.ensures.added) c.behind.ensures.peeks (rw c.next-next.ensures at c.follow.ensures)
-    c.lay.new.self c.lay.new.space c.in_ok-lay.ensures.laid c.lay.ensures.still c.cut_places-i.result.0 c.cut_places-i.result.1 c.climb.new.space
-    refl refl refl (λ told. c.cut_places-i.ensures.cut (c.requires.over told)) lacks))
-    (c.climb.ensures.full is)
+    inr (inl (piece_on g.R.S.Space g.R.Records c.args.id c.args.leaf c.args.self.now c.has_ids.new.self c.args.space.now c.has_ids.new.space c.has_ids.ensures.peeks c.spread.new.space (c.spread.ensures.full is)))
+
+pub returns-clause-widens : goal.returns-clause-widens
+returns-clause-widens g c = widens_on g.R.S.Space g.R.Records c.args.self.now c.has_ids.new.self c.spread.new.self c.args.space.now c.has_ids.new.space c.spread.new.space c.has_ids.ensures.peeks.still c.spread.ensures.widens

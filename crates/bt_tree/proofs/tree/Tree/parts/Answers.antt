@@ -1,14 +1,6 @@
 use Rattle.std.proofs.Common.{arith, drop, length, length-drop, take, ◌-◌, ◌<◌}
-use Rattle.bt_tree.proofs.Partings.{from_some, from_two, one_given, three_parts}
+use Rattle.bt_tree.proofs.Pieces.{from_two, one_given, three_parts}
 use Rattle.bt_tree.proofs.tree.Tree.parts.Goals as goal
-
-pub returns-in_err-second_id-clause-full : goal.returns-in_err-second_id-clause-full
-returns-in_err-second_id-clause-full g c = λ is. omega (arith, c.in_err-second_id.ensures.err.1, (from_some c.args.self.now.head.leaf_ids (take (c.args.j - c.args.i) (drop c.args.i c.args.leaf.items)) (drop c.args.j c.args.leaf.items)).0)
-
-pub returns-in_err-third_id-clause-full : goal.returns-in_err-third_id-clause-full
-returns-in_err-third_id-clause-full g c = λ is.
-    let some : 0 < length (drop c.args.j c.args.leaf.items) = omega (arith, c.if-j-len.false, c.len.ensures, c.requires.1, length-drop c.args.j c.args.leaf.items) in
-    omega (arith, c.in_err-third_id.ensures.err.1, one_given c.args.self.now c.leaf_id.new.self c.in_ok-second_id.ensures.noted, from_two c.args.self.now.head.leaf_ids (take (c.args.j - c.args.i) (drop c.args.i c.args.leaf.items)) (drop c.args.j c.args.leaf.items) some)
 
 pub returns-clause-parts : goal.returns-clause-parts
 returns-clause-parts g c =

@@ -3,7 +3,7 @@ use Rattle.bt_rows.proofs.Ordered.{orders_are_strict}
 use Rattle.bt_ways.specs.Changes.{removed}
 use Rattle.bt_page.proofs.Runs.{err_handed, on_err_any}
 use Rattle.bt_tree.specs.Meaning.{Means}
-use Rattle.bt_tree.specs.Removing.{room_given}
+use Rattle.bt_tree.specs.Paging.{room_given}
 use Rattle.bt_tree.proofs.Descents.{err_on}
 use Rattle.bt_tree.proofs.Finds.{tree_reads}
 use Rattle.bt_tree.proofs.Inserts.{given_up, put_refused}

@@ -1,5 +1,6 @@
 use Rattle.bt_tree.specs.Costs.{looks_then}
-use Rattle.bt_tree.proofs.Inserts.{found_there, means_ready, takes_pair}
+use Rattle.bt_tree.proofs.Inserts.{found_there, means_ready}
+use Rattle.bt_tree.proofs.Puttings.{takes_pair}
 use Rattle.bt_tree.proofs.tree.Tree.take_pair.Goals as goal
 
 pub own_leaf-requires-clause-ready : goal.own_leaf-requires-clause-ready

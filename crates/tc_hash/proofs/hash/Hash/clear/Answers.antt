@@ -57,10 +57,8 @@ returns-clause-shape g c =
       fpow = ap (λ (h : Head). h.fpow) e ∙ is.fpow_is;
       buckets = ap (λ (h : Head). h.buckets) e ∙ is.buckets_is;
       options = ap (λ (h : Head). h.options) e ∙ same_options _ _ is.options_most c.args.self.now.body.valid.options is.form;
+      leads = record { most = subst (λ (x : Head). lead_in x ≤ lead_of c.args.self.now) (sym e) (anew_leads c.head_anew-head.result (lead_of c.args.self.now) is) };
     }
-
-pub returns-clause-lead : goal.returns-clause-lead
-returns-clause-lead g c = record { most = subst (λ (x : Head). lead_in x ≤ lead_of c.args.self.now) (sym c.empty.ensures.body.1) (anew_leads c.head_anew-head.result (lead_of c.args.self.now) c.head_anew-head.ensures.new) }
 
 pub returns-in_err-write_anew-clause-full : goal.returns-in_err-write_anew-clause-full
 returns-in_err-write_anew-clause-full g c = λ full t.

@@ -13,16 +13,15 @@ use Rattle.tc_hash.proofs.hash.Hash.enlarge.Goals as goal
 pub pairs_of-requires : goal.pairs_of-requires
 pairs_of-requires g c = can_change g.S.Space c.keys.new.self c.keys.new.space (ready_reads g.S.Space (Means g.S.Space) c.args.self.now c.keys.new.self c.args.space.now c.keys.new.space c.keys.ensures.reads c.requires)
 
-pub write_large-requires-clause-ready : goal.write_large-requires-clause-ready
-write_large-requires-clause-ready g c = still_ready g.S.Space c.keys.new.self c.keys.new.space c.pairs_of.new.space c.pairs_of.ensures.reads (ready_reads g.S.Space (Means g.S.Space) c.args.self.now c.keys.new.self c.args.space.now c.keys.new.space c.keys.ensures.reads c.requires)
-
-pub write_large-requires-clause-pairs : goal.write_large-requires-clause-pairs
-write_large-requires-clause-pairs g c = λ m w.
-    let v = c.keys.new.self in
-    let old = in_before g.S.Space c.args.self.now v c.args.space.now c.pairs_of.new.space m c.keys.ensures.same (λ t f. c.pairs_of.ensures.reads.files t f ∙ c.keys.ensures.reads.now t f) w in
-    let now = c.keys.ensures.reads.means m old in
-    let are = subst (λ (ks : List (List ℕ)). ArePairs m ks c.in_ok-pairs.pairs) (c.in_ok-keys.ensures.value m old) (c.in_ok-pairs.ensures.pairs w.0 m now.1.map.has) in
-    are
+pub write_large-requires : goal.write_large-requires
+write_large-requires g c = record {
+  ready = still_ready g.S.Space c.keys.new.self c.keys.new.space c.pairs_of.new.space c.pairs_of.ensures.reads (ready_reads g.S.Space (Means g.S.Space) c.args.self.now c.keys.new.self c.args.space.now c.keys.new.space c.keys.ensures.reads c.requires);
+  are = λ m w.
+      let v = c.keys.new.self in
+      let old = in_before g.S.Space c.args.self.now v c.args.space.now c.pairs_of.new.space m c.keys.ensures.same (λ t f. c.pairs_of.ensures.reads.files t f ∙ c.keys.ensures.reads.now t f) w in
+      let now = c.keys.ensures.reads.means m old in
+      subst (λ (ks : List (List ℕ)). ArePairs m ks c.in_ok-pairs.pairs) (c.in_ok-keys.ensures.value m old) (c.in_ok-pairs.ensures.pairs w.0 m now.1.map.has);
+}
 
 pub returns-clause-packed : goal.returns-clause-packed
 returns-clause-packed g c = from_done _ c.write_large.ensures.packed (λ packed. packed_after g.S.Space c.args.self.now c.keys.new.self c.write_large.new.self c.args.space.now c.keys.new.space c.write_large.new.space c.keys.ensures.reads c.keys.ensures.stays.map.file

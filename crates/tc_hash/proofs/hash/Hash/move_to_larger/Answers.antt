@@ -23,7 +23,7 @@ pub returns-clause-refused : goal.returns-clause-refused
 returns-clause-refused g c = from_refused _ c.insert_absent.ensures.outcome.err (λ f. inl f)
 
 pub returns-clause-full : goal.returns-clause-full
-returns-clause-full g c = λ full. lacks_again g.S.Space c.args.key.now c.args.value.now c.args.place.now.at c.args.room c.args.self.now c.take_record.new.self c.args.space.now c.take_record.new.space c.insert_absent.new.space c.take_record.ensures.stays.map.file (on_err_of _ _ c.insert_absent.ensures.outcome.err full) (λ m w. stood c.args.self.now.body.head c.args.self.now.body.pool.size (frees c.args.self.now.body.pool) m (g.S.Space.now c.args.space.now c.args.self.now.body.file) c.args.key.now (is_valid c.args.self.now.body.head c.args.self.now.body.valid) w.1.map.has c.args.place.now.at c.args.place.now.from (c.requires.block.found.here w.0) c.args.room (c.requires.block.block w.0)) c.in_ok-take_record.ensures.taken (c.insert_absent.ensures.full full)
+returns-clause-full g c = λ full. lacks_again g.S.Space c.args.key.now c.args.value.now c.args.place.now.at c.args.room c.args.self.now c.take_record.new.self c.args.space.now c.take_record.new.space c.insert_absent.new.space c.take_record.ensures.stays.map.file (on_err_of _ _ c.insert_absent.ensures.outcome.err full) c.requires.few (λ m w. stood c.args.self.now.body.head c.args.self.now.body.pool.size (frees c.args.self.now.body.pool) m (g.S.Space.now c.args.space.now c.args.self.now.body.file) c.args.key.now (is_valid c.args.self.now.body.head c.args.self.now.body.valid) w.1.map.has c.args.place.now.at c.args.place.now.from (c.requires.block.found.here w.0) c.args.room (c.requires.block.block w.0)) c.in_ok-take_record.ensures.taken (c.insert_absent.ensures.full full)
 
 pub returns-in_err-take_record-clause-refused : goal.returns-in_err-take_record-clause-refused
 returns-in_err-take_record-clause-refused g c = on_err_any c.from_residual.result c.in_err-take_record.ensures.refused

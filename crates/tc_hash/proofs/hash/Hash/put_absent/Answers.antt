@@ -1,6 +1,5 @@
 use Rattle.std.proofs.Common.{inl, arith}
-use Rattle.tc_hash.proofs.Answered.{lacks_new, past_new, stores_new}
-use Rattle.tc_hash.proofs.Stored.{lacks_fresh}
+use Rattle.tc_hash.proofs.Answered.{lacks_new, lacks_there, past_new, stores_new}
 use Rattle.tc_reach.proofs.Handed.{err_handed, on_err_any}
 use Rattle.tc_hash.proofs.hash.Hash.put_absent.Goals as goal
 
@@ -14,4 +13,4 @@ pub returns-in_err-insert-clause-refused : goal.returns-in_err-insert-clause-ref
 returns-in_err-insert-clause-refused g c = on_err_any c.from_residual.result (inl c.in_err-insert.ensures.outcome.err)
 
 pub returns-in_err-insert-clause-full : goal.returns-in_err-insert-clause-full
-returns-in_err-insert-clause-full g c = λ full mode. lacks_new g.S.Space mode c.args.key.now c.args.value.now c.args.most c.args.self.now c.insert.new.self c.args.space.now c.insert.new.space c.args.to.now c.requires.gap (omega (arith, c.if-value-most.false)) (lacks_fresh g.S.Space c.args.key.now c.args.value.now c.args.self.now c.args.space.now c.insert.new.space c.in_err-insert.ensures.outcome.err (c.in_err-insert.ensures.full (err_handed c.from_residual.result c.in_err-insert.field-0.0 _ c.from_residual.ensures.1 full)))
+returns-in_err-insert-clause-full g c = λ full mode. lacks_new g.S.Space mode c.args.key.now c.args.value.now c.args.most c.args.self.now c.insert.new.self c.args.space.now c.insert.new.space c.args.to.now c.requires.gap (omega (arith, c.if-value-most.false)) (lacks_there g.S.Space mode c.args.key.now c.args.value.now c.args.most c.args.self.now c.insert.new.self c.args.space.now c.insert.new.space c.args.to.now c.requires.gap c.in_err-insert.ensures.outcome.err (c.in_err-insert.ensures.full (err_handed c.from_residual.result c.in_err-insert.field-0.0 _ c.from_residual.ensures.1 full)))

@@ -12,15 +12,15 @@ pub put_pairs-requires-clause-nothing : goal.put_pairs-requires-clause-nothing
 put_pairs-requires-clause-nothing g c = c.in_ok-make_large.ensures.made.nothing
 
 pub returns-clause-packed : goal.returns-clause-packed
-returns-clause-packed g c = anew_packed g.S.Space c.args.self.now c.make_large.new.self c.put_pairs.new.self c.args.space.now c.make_large.new.space c.put_pairs.new.space c.args.pairs.now c.make_large.ensures.stays.map.file (λ m w. let are = c.requires.pairs m w in (are.each, pairs_make m c.args.pairs.now are)) c.in_ok-make_large.ensures.made.empties c.in_ok-put_pairs.ensures.put.writes
+returns-clause-packed g c = anew_packed g.S.Space c.args.self.now c.make_large.new.self c.put_pairs.new.self c.args.space.now c.make_large.new.space c.put_pairs.new.space c.args.pairs.now c.make_large.ensures.stays.map.file (λ m w. let are = c.requires.are m w in (are.each, pairs_make m c.args.pairs.now are)) c.in_ok-make_large.ensures.made.empties c.in_ok-put_pairs.ensures.put.writes
 
 pub returns-clause-writes : goal.returns-clause-writes
-returns-clause-writes g c = writes_pairs g.S.Space c.args.self.now c.make_large.new.self c.put_pairs.new.self c.args.space.now c.make_large.new.space c.put_pairs.new.space c.args.pairs.now c.in_ok-make_large.ensures.made c.put_pairs.ensures.stays c.in_ok-put_pairs.ensures.put c.requires.pairs
+returns-clause-writes g c = writes_pairs g.S.Space c.args.self.now c.make_large.new.self c.put_pairs.new.self c.args.space.now c.make_large.new.space c.put_pairs.new.space c.args.pairs.now c.in_ok-make_large.ensures.made c.put_pairs.ensures.stays c.in_ok-put_pairs.ensures.put c.requires.are
 
 pub returns-in_err-put_pairs-clause-full : goal.returns-in_err-put_pairs-clause-full
 returns-in_err-put_pairs-clause-full g c = λ full t. ⊎_elim
     (λ log. inl log)
-    (λ one. inr (inr (lacks_record g.S.Space c.args.self.now c.make_large.new.self c.args.space.now c.put_pairs.new.space c.args.pairs.now c.make_large.ensures.stays.map.file c.in_ok-make_large.ensures.made.is_new c.in_ok-make_large.ensures.made.ends c.requires.pairs one)))
+    (λ one. inr (inr (lacks_record g.S.Space c.args.self.now c.make_large.new.self c.args.space.now c.put_pairs.new.space c.args.pairs.now c.make_large.ensures.stays.map.file c.in_ok-make_large.ensures.made.is_new c.in_ok-make_large.ensures.made.ends c.requires.are one)))
     (c.in_err-put_pairs.ensures.full (err_handed c.from_residual-in_err-put_pairs.result c.in_err-put_pairs.field-0.0 _ c.from_residual-in_err-put_pairs.ensures.1 full) t)
 
 pub returns-in_err-make_large-clause-full : goal.returns-in_err-make_large-clause-full

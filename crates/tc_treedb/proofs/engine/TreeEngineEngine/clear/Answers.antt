@@ -15,4 +15,4 @@ pub returns-in_err-clear-clause-full : goal.returns-in_err-clear-clause-full
 returns-in_err-clear-clause-full g c = λ full. full_all g.S.Space all_gone (λ m. []) _ _ _ is_emptied (c.in_err-clear.ensures.full (err_handed c.from_residual.result c.in_err-clear.field-0.0 _ c.from_residual.ensures.1 full))
 
 pub returns-clause-makes : goal.returns-clause-makes
-returns-clause-makes g c = makes_emptied g.S.Space c.args.self.now _ _ _ refl c.clear.ensures.numbers c.in_ok-clear.ensures.made
+returns-clause-makes g c = makes_emptied g.S.Space c.args.self.now _ _ _ refl c.clear.ensures.stays.head c.in_ok-clear.ensures.made

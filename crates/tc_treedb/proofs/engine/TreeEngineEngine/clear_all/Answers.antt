@@ -17,4 +17,4 @@ pub returns-in_err-total-clause-full : goal.returns-in_err-total-clause-full
 returns-in_err-total-clause-full g c = λ full. full_all g.S.Space (all_cleared c.args.keys) (λ m. each_cleared (order m.0) c.as_slice.result.now m.1) _ _ _ (is_cleared c.args.keys c.as_slice.result.now c.as_slice.ensures) (c.in_err-total.ensures.full (err_handed c.from_residual.result c.in_err-total.field-0.0 _ c.from_residual.ensures.1 full))
 
 pub returns-clause-makes : goal.returns-clause-makes
-returns-clause-makes g c = makes_all g.S.Space (all_cleared c.args.keys) (λ m. each_cleared (order m.0) c.as_slice.result.now m.1) c.args.self.now _ _ _ (is_cleared c.args.keys c.as_slice.result.now c.as_slice.ensures) c.clear_each.ensures.numbers c.in_ok-total.ensures.made c.in_ok-total.ensures.counted
+returns-clause-makes g c = makes_all g.S.Space (all_cleared c.args.keys) (λ m. each_cleared (order m.0) c.as_slice.result.now m.1) c.args.self.now _ _ _ (is_cleared c.args.keys c.as_slice.result.now c.as_slice.ensures) c.clear_each.ensures.stays.head c.in_ok-total.ensures.made c.in_ok-total.ensures.counted

@@ -11,4 +11,4 @@ pub returns-clause-value : goal.returns-clause-value
 returns-clause-value g c = find_up g.S.Space c.all_keys.result (λ m. keys m.1) all_keys _ _ (λ m. refl) c.all_keys.ensures.value
 
 pub returns-clause-reads : goal.returns-clause-reads
-returns-clause-reads g c = reads_up g.S.Space _ _ _ _ c.all_keys.ensures.reads refl
+returns-clause-reads g c = reads_up g.S.Space _ _ _ _ c.all_keys.ensures.looks.reads refl

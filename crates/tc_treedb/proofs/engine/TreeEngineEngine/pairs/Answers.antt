@@ -12,4 +12,4 @@ pub returns-clause-rows : goal.returns-clause-rows
 returns-clause-rows g c = adds_up g.S.Space c.add_pairs.result (λ m. text_rows (pairs_of c.as_slice.result.now m.1)) (λ d. text_rows (all_pairs d c.args.key.now)) c.args.self.now c.args.space.now c.args.into.now c.add_pairs.new.into (λ m. ap (λ (k : List ℕ). text_rows (pairs_of k m.1)) c.as_slice.ensures) c.add_pairs.ensures.rows
 
 pub returns-clause-reads : goal.returns-clause-reads
-returns-clause-reads g c = reads_up g.S.Space _ _ _ _ c.add_pairs.ensures.reads refl
+returns-clause-reads g c = reads_up g.S.Space _ _ _ _ c.add_pairs.ensures.looks.reads refl

@@ -16,4 +16,4 @@ returns-clause-rows g c = adds_up g.S.Space c.add_range.result (λ m. text_rows 
     (λ m. λ i. text_rows (pairs_in (order m.0) (c.as_slice.ensures i) (c.text_of-to.ensures i) c.args.most m.1)) c.add_range.ensures.rows
 
 pub returns-clause-reads : goal.returns-clause-reads
-returns-clause-reads g c = reads_up g.S.Space _ _ _ _ c.add_range.ensures.reads refl
+returns-clause-reads g c = reads_up g.S.Space _ _ _ _ c.add_range.ensures.looks.reads refl

@@ -11,10 +11,10 @@ pub all_bytes-requires : goal.all_bytes-requires
 all_bytes-requires g c = ready_down g.S.Space c.args.self.now c.args.space.now c.requires
 
 pub returns-in_err-total-clause-reads : goal.returns-in_err-total-clause-reads
-returns-in_err-total-clause-reads g c = reads_up g.S.Space _ _ _ _ c.all_bytes.ensures.reads refl
+returns-in_err-total-clause-reads g c = reads_up g.S.Space _ _ _ _ c.all_bytes.ensures.looks.reads refl
 
 pub returns-clause-value : goal.returns-clause-value
 returns-clause-value g c = λ d h. c.in_ok-total.ensures.value h.1.held (means_of g.S.Space _ _ d h) ∙ ap size_of (sym h.1.is)
 
 pub returns-clause-reads : goal.returns-clause-reads
-returns-clause-reads g c = counts_up g.S.Space c.args.self.now _ c.args.space.now c.all_bytes.new.space c.all_bytes.ensures.reads (λ m h counted. c.in_ok-total.ensures.value m h)
+returns-clause-reads g c = counts_up g.S.Space c.args.self.now _ c.args.space.now c.all_bytes.new.space c.all_bytes.ensures.looks.reads (λ m h counted. c.in_ok-total.ensures.value m h)

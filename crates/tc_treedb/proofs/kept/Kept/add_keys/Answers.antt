@@ -6,7 +6,7 @@ use Rattle.tc_engine.specs.Rows.{Adds, item_row}
 use Rattle.tc_hash.proofs.Stored.{from_done}
 use Rattle.tc_treedb.specs.Reading.{keys_beginning}
 use Rattle.tc_treedb.specs.declared.kept.Kept.TheVariants.{Decimal, Lexical}
-use Rattle.tc_treedb.proofs.Keeping.{of_kept, reads_kept, ready_tree}
+use Rattle.tc_treedb.proofs.Keeping.{looks_kept, of_kept, ready_tree}
 use Rattle.tc_treedb.proofs.kept.Kept.add_keys.Goals as goal
 
 pub add_keys-requires : goal.add_keys-requires
@@ -15,11 +15,8 @@ add_keys-requires g c = record { ready = ready_tree g.S.Space _ _ false Lexical 
 pub returns-in-Lexical-clause-rows : goal.returns-in-Lexical-clause-rows
 returns-in-Lexical-clause-rows g c = rw c.in-Lexical.is (from_done c.add_keys.result c.add_keys.ensures.rows (λ added. of_kept g.S.Space _ _ false Lexical c.lexical_tree.ensures (λ d ps. Adds c.args.into.now c.add_keys.new.into (map item_row (first_of c.args.most (keys_beginning c.args.prefix.now ps)))) _ _ added))
 
-pub returns-in-Lexical-clause-reads : goal.returns-in-Lexical-clause-reads
-returns-in-Lexical-clause-reads g c = rw c.in-Lexical.is (reads_kept g.S.Space _ _ false Lexical c.lexical_tree.ensures _ _ _ _ c.add_keys.ensures.looks)
-
-pub returns-in-Lexical-clause-keeps : goal.returns-in-Lexical-clause-keeps
-returns-in-Lexical-clause-keeps g c = c.add_keys.ensures.looks.keeps
+pub returns-in-Lexical-clause-looks : goal.returns-in-Lexical-clause-looks
+returns-in-Lexical-clause-looks g c = rw c.in-Lexical.is (looks_kept g.S.Space _ _ false Lexical c.lexical_tree.ensures _ _ _ _ c.add_keys.ensures.looks)
 
 pub add_keys-requires-in-Decimal : goal.add_keys-requires-in-Decimal
 add_keys-requires-in-Decimal g c = record { ready = ready_tree g.S.Space _ _ true Decimal c.decimal_tree.ensures _ _ (rw c.in-Decimal.is at c.requires); inside = λ key so. refl }
@@ -27,8 +24,5 @@ add_keys-requires-in-Decimal g c = record { ready = ready_tree g.S.Space _ _ tru
 pub returns-in-Decimal-clause-rows : goal.returns-in-Decimal-clause-rows
 returns-in-Decimal-clause-rows g c = rw c.in-Decimal.is (from_done c.add_keys-in-Decimal.result c.add_keys-in-Decimal.ensures.rows (λ added. of_kept g.S.Space _ _ true Decimal c.decimal_tree.ensures (λ d ps. Adds c.args.into.now c.add_keys-in-Decimal.new.into (map item_row (first_of c.args.most (keys_beginning c.args.prefix.now ps)))) _ _ added))
 
-pub returns-in-Decimal-clause-reads : goal.returns-in-Decimal-clause-reads
-returns-in-Decimal-clause-reads g c = rw c.in-Decimal.is (reads_kept g.S.Space _ _ true Decimal c.decimal_tree.ensures _ _ _ _ c.add_keys-in-Decimal.ensures.looks)
-
-pub returns-in-Decimal-clause-keeps : goal.returns-in-Decimal-clause-keeps
-returns-in-Decimal-clause-keeps g c = c.add_keys-in-Decimal.ensures.looks.keeps
+pub returns-in-Decimal-clause-looks : goal.returns-in-Decimal-clause-looks
+returns-in-Decimal-clause-looks g c = rw c.in-Decimal.is (looks_kept g.S.Space _ _ true Decimal c.decimal_tree.ensures _ _ _ _ c.add_keys-in-Decimal.ensures.looks)

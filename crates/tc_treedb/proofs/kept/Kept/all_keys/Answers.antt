@@ -1,7 +1,7 @@
 use Rattle.std.proofs.Common.{false, true}
 use Rattle.tc_base.specs.Lists.{keys}
 use Rattle.tc_treedb.specs.declared.kept.Kept.TheVariants.{Decimal, Lexical}
-use Rattle.tc_treedb.proofs.Keeping.{finds_kept, reads_kept, ready_tree}
+use Rattle.tc_treedb.proofs.Keeping.{finds_kept, looks_kept, ready_tree}
 use Rattle.tc_treedb.proofs.kept.Kept.all_keys.Goals as goal
 
 pub all_keys-requires : goal.all_keys-requires
@@ -10,11 +10,8 @@ all_keys-requires g c = ready_tree g.S.Space _ _ false Lexical c.lexical_tree.en
 pub returns-in-Lexical-clause-value : goal.returns-in-Lexical-clause-value
 returns-in-Lexical-clause-value g c = rw c.in-Lexical.is (finds_kept g.S.Space _ _ false Lexical c.lexical_tree.ensures c.all_keys.result keys _ _ c.all_keys.ensures.value)
 
-pub returns-in-Lexical-clause-reads : goal.returns-in-Lexical-clause-reads
-returns-in-Lexical-clause-reads g c = rw c.in-Lexical.is (reads_kept g.S.Space _ _ false Lexical c.lexical_tree.ensures _ _ _ _ c.all_keys.ensures.looks)
-
-pub returns-in-Lexical-clause-keeps : goal.returns-in-Lexical-clause-keeps
-returns-in-Lexical-clause-keeps g c = c.all_keys.ensures.looks.keeps
+pub returns-in-Lexical-clause-looks : goal.returns-in-Lexical-clause-looks
+returns-in-Lexical-clause-looks g c = rw c.in-Lexical.is (looks_kept g.S.Space _ _ false Lexical c.lexical_tree.ensures _ _ _ _ c.all_keys.ensures.looks)
 
 pub all_keys-requires-in-Decimal : goal.all_keys-requires-in-Decimal
 all_keys-requires-in-Decimal g c = ready_tree g.S.Space _ _ true Decimal c.decimal_tree.ensures _ _ (rw c.in-Decimal.is at c.requires)
@@ -22,8 +19,5 @@ all_keys-requires-in-Decimal g c = ready_tree g.S.Space _ _ true Decimal c.decim
 pub returns-in-Decimal-clause-value : goal.returns-in-Decimal-clause-value
 returns-in-Decimal-clause-value g c = rw c.in-Decimal.is (finds_kept g.S.Space _ _ true Decimal c.decimal_tree.ensures c.all_keys-in-Decimal.result keys _ _ c.all_keys-in-Decimal.ensures.value)
 
-pub returns-in-Decimal-clause-reads : goal.returns-in-Decimal-clause-reads
-returns-in-Decimal-clause-reads g c = rw c.in-Decimal.is (reads_kept g.S.Space _ _ true Decimal c.decimal_tree.ensures _ _ _ _ c.all_keys-in-Decimal.ensures.looks)
-
-pub returns-in-Decimal-clause-keeps : goal.returns-in-Decimal-clause-keeps
-returns-in-Decimal-clause-keeps g c = c.all_keys-in-Decimal.ensures.looks.keeps
+pub returns-in-Decimal-clause-looks : goal.returns-in-Decimal-clause-looks
+returns-in-Decimal-clause-looks g c = rw c.in-Decimal.is (looks_kept g.S.Space _ _ true Decimal c.decimal_tree.ensures _ _ _ _ c.all_keys-in-Decimal.ensures.looks)

@@ -1,7 +1,7 @@
 use Rattle.std.proofs.Common.{[], false, true}
 use Rattle.tc_hash.proofs.Stored.{from_done}
 use Rattle.tc_treedb.specs.declared.kept.Kept.TheVariants.{Decimal, Lexical}
-use Rattle.tc_treedb.proofs.Keeping.{cleared_kept, keeps_head, ready_tree, refused_kept, writes_kept}
+use Rattle.tc_treedb.proofs.Keeping.{cleared_kept, less_kept, ready_tree, refused_kept, writes_kept}
 use Rattle.tc_treedb.proofs.kept.Kept.clear.Goals as goal
 
 pub clear_all-requires : goal.clear_all-requires
@@ -16,8 +16,8 @@ returns-in-Lexical-clause-full g c = rw c.in-Lexical.is (λ full. cleared_kept g
 pub returns-in-Lexical-clause-refused : goal.returns-in-Lexical-clause-refused
 returns-in-Lexical-clause-refused g c = rw c.in-Lexical.is (refused_kept g.S.Space _ _ false Lexical c.lexical_tree.ensures c.clear_all.result _ _ _ _ c.clear_all.ensures.stays c.clear_all.ensures.refused)
 
-pub returns-in-Lexical-clause-numbers : goal.returns-in-Lexical-clause-numbers
-returns-in-Lexical-clause-numbers g c = rw c.in-Lexical.is (keeps_head g.S.Space _ _ false Lexical c.lexical_tree.ensures _ _ c.clear_all.ensures.stays)
+pub returns-in-Lexical-clause-stays : goal.returns-in-Lexical-clause-stays
+returns-in-Lexical-clause-stays g c = rw c.in-Lexical.is (less_kept g.S.Space _ _ false Lexical c.lexical_tree.ensures _ _ c.clear_all.ensures.stays c.clear_all.ensures.ids)
 
 pub clear_all-requires-in-Decimal : goal.clear_all-requires-in-Decimal
 clear_all-requires-in-Decimal g c = ready_tree g.S.Space _ _ true Decimal c.decimal_tree.ensures _ _ (rw c.in-Decimal.is at c.requires)
@@ -31,5 +31,5 @@ returns-in-Decimal-clause-full g c = rw c.in-Decimal.is (λ full. cleared_kept g
 pub returns-in-Decimal-clause-refused : goal.returns-in-Decimal-clause-refused
 returns-in-Decimal-clause-refused g c = rw c.in-Decimal.is (refused_kept g.S.Space _ _ true Decimal c.decimal_tree.ensures c.clear_all-in-Decimal.result _ _ _ _ c.clear_all-in-Decimal.ensures.stays c.clear_all-in-Decimal.ensures.refused)
 
-pub returns-in-Decimal-clause-numbers : goal.returns-in-Decimal-clause-numbers
-returns-in-Decimal-clause-numbers g c = rw c.in-Decimal.is (keeps_head g.S.Space _ _ true Decimal c.decimal_tree.ensures _ _ c.clear_all-in-Decimal.ensures.stays)
+pub returns-in-Decimal-clause-stays : goal.returns-in-Decimal-clause-stays
+returns-in-Decimal-clause-stays g c = rw c.in-Decimal.is (less_kept g.S.Space _ _ true Decimal c.decimal_tree.ensures _ _ c.clear_all-in-Decimal.ensures.stays c.clear_all-in-Decimal.ensures.ids)

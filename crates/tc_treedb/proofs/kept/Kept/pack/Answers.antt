@@ -1,7 +1,7 @@
 use Rattle.std.proofs.Common.{false, true}
 use Rattle.tc_hash.proofs.Stored.{from_done}
 use Rattle.tc_treedb.specs.declared.kept.Kept.TheVariants.{Decimal, Lexical}
-use Rattle.tc_treedb.proofs.Keeping.{formed_kept, lacks_formed, packed_kept, packed_refused, ready_tree, tight_packed}
+use Rattle.tc_treedb.proofs.Keeping.{formed_kept, lacks_formed, packed_kept, packed_refused, ready_tree, same_kept, tight_packed}
 use Rattle.tc_treedb.proofs.kept.Kept.pack.Goals as goal
 
 pub pack-requires : goal.pack-requires
@@ -39,3 +39,9 @@ returns-in-Decimal-clause-full g c = rw c.in-Decimal.is (λ full. lacks_formed g
 
 pub returns-in-Decimal-clause-refused : goal.returns-in-Decimal-clause-refused
 returns-in-Decimal-clause-refused g c = rw c.in-Decimal.is (packed_refused g.S.Space _ _ true Decimal c.decimal_tree.ensures c.args.form c.pack-in-Decimal.result c.pack-in-Decimal.result _ _ _ _ c.pack-in-Decimal.ensures.stays c.pack-in-Decimal.ensures.refused)
+
+pub returns-in-Lexical-clause-tree : goal.returns-in-Lexical-clause-tree
+returns-in-Lexical-clause-tree g c = rw c.in-Lexical.is (same_kept g.S.Space _ _ false Lexical c.lexical_tree.ensures _ _ c.pack.ensures.stays.stays)
+
+pub returns-in-Decimal-clause-tree : goal.returns-in-Decimal-clause-tree
+returns-in-Decimal-clause-tree g c = rw c.in-Decimal.is (same_kept g.S.Space _ _ true Decimal c.decimal_tree.ensures _ _ c.pack-in-Decimal.ensures.stays.stays)

@@ -2,7 +2,7 @@ use Rattle.std.proofs.Common.{false, true}
 use Rattle.tc_hash.proofs.Stored.{from_done}
 use Rattle.tc_hashdb.specs.Laying.{both_done}
 use Rattle.tc_treedb.specs.declared.kept.Kept.TheVariants.{Decimal, Lexical}
-use Rattle.tc_treedb.proofs.Keeping.{brings_kept, packs_kept, ready_tree, settled_head, settled_kept, settled_refused, trims_kept}
+use Rattle.tc_treedb.proofs.Keeping.{brings_kept, packs_kept, ready_tree, settled_kept, settled_refused, settled_stays, trims_kept}
 use Rattle.tc_treedb.proofs.kept.Kept.settle.Goals as goal
 
 pub settle-requires : goal.settle-requires
@@ -23,8 +23,8 @@ returns-in-Lexical-clause-trims g c = rw c.in-Lexical.is (both_done c.settle.res
 pub returns-in-Lexical-clause-refused : goal.returns-in-Lexical-clause-refused
 returns-in-Lexical-clause-refused g c = rw c.in-Lexical.is (settled_refused g.S.Space _ _ false Lexical c.lexical_tree.ensures c.settle.result _ _ _ _ c.settle.ensures.stays c.settle.ensures.refused)
 
-pub returns-in-Lexical-clause-numbers : goal.returns-in-Lexical-clause-numbers
-returns-in-Lexical-clause-numbers g c = rw c.in-Lexical.is (settled_head g.S.Space _ _ false Lexical c.lexical_tree.ensures _ _ c.settle.ensures.stays)
+pub returns-in-Lexical-clause-stays : goal.returns-in-Lexical-clause-stays
+returns-in-Lexical-clause-stays g c = rw c.in-Lexical.is (settled_stays g.S.Space _ _ false Lexical c.lexical_tree.ensures _ _ c.settle.ensures.stays)
 
 pub settle-requires-in-Decimal : goal.settle-requires-in-Decimal
 settle-requires-in-Decimal g c = ready_tree g.S.Space _ _ true Decimal c.decimal_tree.ensures _ _ (rw c.in-Decimal.is at c.requires)
@@ -44,5 +44,5 @@ returns-in-Decimal-clause-trims g c = rw c.in-Decimal.is (both_done c.settle-in-
 pub returns-in-Decimal-clause-refused : goal.returns-in-Decimal-clause-refused
 returns-in-Decimal-clause-refused g c = rw c.in-Decimal.is (settled_refused g.S.Space _ _ true Decimal c.decimal_tree.ensures c.settle-in-Decimal.result _ _ _ _ c.settle-in-Decimal.ensures.stays c.settle-in-Decimal.ensures.refused)
 
-pub returns-in-Decimal-clause-numbers : goal.returns-in-Decimal-clause-numbers
-returns-in-Decimal-clause-numbers g c = rw c.in-Decimal.is (settled_head g.S.Space _ _ true Decimal c.decimal_tree.ensures _ _ c.settle-in-Decimal.ensures.stays)
+pub returns-in-Decimal-clause-stays : goal.returns-in-Decimal-clause-stays
+returns-in-Decimal-clause-stays g c = rw c.in-Decimal.is (settled_stays g.S.Space _ _ true Decimal c.decimal_tree.ensures _ _ c.settle-in-Decimal.ensures.stays)
