@@ -3,7 +3,7 @@ use tc_base::Blob;
 use tk_words::PutWord;
 
 /// What is to be done with a database that was opened.
-#[derive(Debug, Drop)]
+#[derive(Drop)]
 pub enum Task {
     /// Gives a key a value. Of a table the value is a row as replies have it.
     Put {

@@ -7,7 +7,7 @@ use ty_base::AnyErr;
 use ty_rounds::TurnErr;
 
 /// How a run ends. The first cause that comes decides it.
-#[derive(Clone, Copy, Debug, PartialEq, Eq)]
+#[derive(Clone, Copy, PartialEq, Eq)]
 pub enum End {
     /// No event will come any more, and all was served.
     Done,

@@ -77,7 +77,7 @@ impl<X: Volume> OnVolume for Undo<X> {
 impl<S: Batched + OnVolume> OnVolume for HeldSpace<S> {
     ghost use Rattle.std.specs.Prelude.{◌+◌, length, min};
     ghost use Rattle.std.proofs.Common.{arith, ◌∙◌};
-    ghost use Rattle.tc_held.specs.Lengths.{all_bare, shown_bare};
+    ghost use Rattle.tc_held.specs.Lengths.{all_bare, over_bare};
     ghost use Rattle.tc_held.proofs.History.{held_opened};
     ghost use Rattle.tk_top.specs.Volumes.{low_exit, low_left};
 
@@ -87,7 +87,7 @@ impl<S: Batched + OnVolume> OnVolume for HeldSpace<S> {
 
     ghost is_over = { λ s. let b = S.is_over s.below in record { to = b.to; from = b.from; moment_later = omega (arith, b.moment_later); leaves = λ t ims some. record { at = t; since = omega arith; left = low_left (S.left s.below) _ t _ ims b.leaves some }; left_is = λ all t o le l. b.left_is (omega (arith, all, b.moment_later)) t o le (S.earlier s.below t (min l.at (S.moment s.below)) o (omega (arith, l.since, le, b.moment_later)) (held_opened t o l (omega (arith, all, b.moment_later)))); exit = λ ims some. record { at = S.moment s.below + length s.stood.items; since = omega arith; left = low_exit (S.left s.below) S.moment (S.moment s.below + length s.stood.items) _ s.below s.held _ (omega arith) (b.exit ims some) }; now_is = λ sound off. all_bare s.held (S.now s.below) (sound.bare off).none ∙ b.now_is sound.below_is (sound.bare off).untouched; names_are = b.names_are; faults_are = b.faults_are } };
 
-    ghost shows = { λ s all. record { same = λ f. shown_bare s.held (S.now s.below) all.0 f ∙ (S.shows s.below all.1).same f } };
+    ghost shows = { λ s all. record { same = λ f. over_bare s.held (S.now s.below) all.0 f ∙ (S.shows s.below all.1).same f } };
 
     ghost log_is = { λ s full. S.log_is s.below full };
 

@@ -3,7 +3,7 @@ use Rattle.ty_base.proofs.Refusals.{err_is}
 use Rattle.ud_state.specs.Recovery.{not_yet}
 use Rattle.ud_state.specs.Since.{here}
 use Rattle.tc_undo.specs.Opening.{OpensKept}
-use Rattle.tc_held.specs.Lengths.{shown_bare}
+use Rattle.tc_held.specs.Lengths.{over_bare}
 use Rattle.tk_top.proofs.volumes.HeldSpaceOnVolume.open_over.Goals as goal
 
 -- ---- there was no memory, and the volume is handed back as it is
@@ -46,7 +46,7 @@ returns-clause-limits g c = λ t f isd.
     let space = c.new-space.result in
     let same = c.new-space.ensures.begins.2 in
     ap (λ x. s.limit x f) same ∙ c.in_ok-below.ensures.limits t f isd
-    ∙ ap (λ (l : List ℕ). max c.args.limit (length l)) (sym (shown_bare space.held (s.now space.below) c.new-space.ensures.empty f ∙ ap (λ x. s.now x f) same))
+    ∙ ap (λ (l : List ℕ). max c.args.limit (length l)) (sym (over_bare space.held (s.now space.below) c.new-space.ensures.empty f ∙ ap (λ x. s.now x f) same))
 
 pub returns-clause-kept : goal.returns-clause-kept
 returns-clause-kept g c = λ t. let v = g.S.V.Volume in
