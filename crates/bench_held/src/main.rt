@@ -74,7 +74,7 @@ fn main(rt: HostRuntime) -> Result<(), Error> {
         return Err(anyhow!("the file can't be opened"));
     };
     let mut space = space;
-    if how.as_str() == "held" {
+    if matches!(how.as_str(), "held") {
         let mut held = HeldSpace::new(space, Held::new(alloc)?);
         commit_all(&mut held, commits, writes)?;
     } else {

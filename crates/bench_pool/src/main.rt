@@ -27,7 +27,7 @@ fn made(alloc: Global, words: &[String]) -> Result<(u64, u64), Error> {
     };
     let bytes = file(alloc, number(words, 1))?;
     let size = bytes.len() as u64;
-    if what.as_str() == "make" {
+    if matches!(what.as_str(), "make") {
         return Ok((size, 0));
     }
     let mut space = OneFile::of(bytes.into_vec());

@@ -49,7 +49,7 @@ fn some_up_to(line: &mut Line, mark: &str) -> Result<Option<Pattern>, Wrong> {
     if !line.rest().trim_start().starts_with('-') {
         return Ok(Some(line.bytes_up_to(mark)?));
     }
-    if line.has_up_to("-", mark)? {
+    if line.has_dash_up_to(mark)? {
         return Ok(None);
     }
     Err(Wrong::Unread)

@@ -278,7 +278,7 @@ impl SlotsOf {
             "change" => self.change(line),
             _ => {
                 self.look(what, line)?;
-                self.is_changed = self.is_changed && what != "now";
+                self.is_changed = self.is_changed && !matches!(what, "now");
                 Ok(())
             }
         }

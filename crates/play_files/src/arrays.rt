@@ -102,7 +102,7 @@ fn put_line(held: &mut Held, line: &mut Line) -> Result<(), Wrong> {
 // A line that takes an id out: `out ID`, or `no_out ID` where it isn't held.
 fn out_line(held: &mut Held, what: &str, line: &mut Line) -> Result<(), Wrong> {
     let taken = held.out(line.number()?)?;
-    line.is_so(taken == (what == "out"))
+    line.is_so(taken == matches!(what, "out"))
 }
 
 // A number at most, or `all` for any.

@@ -10,7 +10,7 @@ use bt_slots::{SlottedLeaf, SlottedNode};
 use play_text::{Line, Script, Wrong};
 use std::alloc::Global;
 use tc_base::{Blob, Mode, PAGE_END, Steps};
-use tc_memstores::{MemRecords, OneFile};
+use tc_memstores::OneFile;
 use tc_space::Records;
 
 // A cache and its records.
@@ -206,18 +206,12 @@ fn created<R: Records<S = OneFile> + Drop>(
     })
 }
 
-// Plays lines on pages over a store.
-fn play_over<R: Records<S = OneFile> + Drop>(
+/// Plays a case of a cache over a store.
+pub fn play_pages<R: Records<S = OneFile> + Drop>(
     alloc: Global,
     store: R,
     line: &mut Line,
     script: &mut Script<'_>,
 ) -> Result<(), Wrong> {
     play_lines(&mut created(alloc, store, line)?, script)
-}
-
-/// Plays a case of a cache.
-pub fn play_cache(alloc: Global, line: &mut Line, script: &mut Script<'_>) -> Result<(), Wrong> {
-    let store: MemRecords<OneFile> = MemRecords::new(alloc, 0);
-    play_over(alloc, store, line, script)
 }

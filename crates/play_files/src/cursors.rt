@@ -160,7 +160,7 @@ fn at_place<R: Records<S = OneFile>, O: Order>(
     let key = line.bytes_up_to(" : ")?;
     let value = line.given()?;
     let yes = is_yes(line)?;
-    let value = if what == "value_at" {
+    let value = if matches!(what, "value_at") {
         Some(value.as_slice())
     } else {
         None

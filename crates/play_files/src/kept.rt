@@ -42,7 +42,7 @@ fn put_line<K: Kept>(kept: &mut K, what: &str, line: &mut Line) -> Result<(), Wr
     if mode != Mode::Keep {
         return Ok(());
     }
-    line.is_so(done == (what == "keep"))
+    line.is_so(done == matches!(what, "keep"))
 }
 
 // A line that asks for a key: `get KEY = VALUE`.
@@ -64,7 +64,7 @@ fn none_line<K: Kept>(kept: &mut K, line: &mut Line) -> Result<(), Wrong> {
 fn out_line<K: Kept>(kept: &mut K, what: &str, line: &mut Line) -> Result<(), Wrong> {
     let key = line.bytes()?;
     let taken = kept.out(key.as_slice())?;
-    line.is_so(taken == (what == "out"))
+    line.is_so(taken == matches!(what, "out"))
 }
 
 // The file packed in this form, and what is held in memory brought to it.

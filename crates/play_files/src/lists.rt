@@ -30,7 +30,7 @@ impl<M> ListOf<M> {
 
     /// Before a line: the steps of the search before are told by a line that asks for them at once, and by no later one.
     pub fn begin(&mut self, what: &str) {
-        if what != "steps" {
+        if !matches!(what, "steps") {
             self.steps = None;
         }
     }
@@ -154,7 +154,7 @@ fn out_line<M: Multi<S = OneFile>>(
 ) -> Result<(), Wrong> {
     let key = line.bytes()?;
     let taken = out_all(held, key.as_slice())?;
-    line.is_so(taken == (what == "out_all"))
+    line.is_so(taken == matches!(what, "out_all"))
 }
 
 /// Plays a line on a list of pairs.

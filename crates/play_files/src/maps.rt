@@ -28,7 +28,7 @@ impl<R> MapOf<R> {
 
     /// Before a line: the steps of the search before are told by a line that asks for them at once, and by no later one.
     pub fn begin(&mut self, what: &str) {
-        if what != "steps" {
+        if !matches!(what, "steps") {
             self.steps = None;
         }
     }

@@ -1,7 +1,6 @@
 //! What a case is of.
 
 use crate::arrays::play_array;
-use crate::caches::play_cache;
 use crate::commits::Files;
 use crate::hashes::play_hash;
 use crate::pools::{are_blocks, play_pool};
@@ -38,14 +37,14 @@ fn play_of(
     script: &mut Script<'_>,
 ) -> Result<(), Wrong> {
     match what {
-        "map" => play_records(alloc, line, script),
+        "map" => play_records(alloc, true, line, script),
         "list" => play_pairs(alloc, line, script),
         "hash" => play_hash(alloc, line, script),
         "tree" => play_tree(alloc, line, script),
         "array" => play_array(alloc, line, script),
         "blocks" => are_blocks(alloc, line),
         "pool" => play_pool(alloc, line, script),
-        "cache" => play_cache(alloc, line, script),
+        "cache" => play_records(alloc, false, line, script),
         "commits" => play_commits(alloc, script),
         "transactions" => play_trial(alloc, line, script),
         _ => Err(Wrong::Unread),

@@ -131,7 +131,7 @@ fn transact<S: Space>(
         let Some((what, mut line)) = lines.next_line()? else {
             return Ok(());
         };
-        if what == "trial" {
+        if matches!(what, "trial") {
             return Ok(());
         }
         step(space, what, &mut line, done)?;
@@ -471,7 +471,7 @@ pub fn play_trial(alloc: Global, line: &mut Line, script: &mut Script<'_>) -> Re
         let Some((what, mut line)) = script.next_line()? else {
             return Ok(());
         };
-        if what == "trial" {
+        if matches!(what, "trial") {
             trial.try_all(&mut line)?;
             return script.end(line);
         }

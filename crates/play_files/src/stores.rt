@@ -1,10 +1,11 @@
 //! Cases of records in memory, and of the trees that they may be.
 
+use crate::caches::play_pages;
 use crate::lists::{ListOf, list_line};
-use crate::looks::{is_number, is_rule};
+use crate::looks::is_rule;
 use crate::maps::{MapOf, map_line};
 use crate::playing::{Object, play_lines};
-use crate::trees::{breaks, is_index};
+use crate::trees::{breaks, is_index, tree_line};
 use play_text::{Line, Script, Wrong};
 use std::alloc::Global;
 use tc_base::{Lexical, set_le};
@@ -101,10 +102,7 @@ struct TreeCase<R> {
 impl<R: Records<S = OneFile>> Object for TreeCase<R> {
     fn play(&mut self, what: &str, line: &mut Line) -> Result<(), Wrong> {
         self.held.begin(what);
-        match what {
-            "height" => is_number(self.alloc, line, self.held.list.tree().height()),
-            _ => list_line(self.alloc, &mut self.held, what, line),
-        }
+        tree_line(self.alloc, &mut self.held, what, line)
     }
 }
 
@@ -138,7 +136,7 @@ fn play_map<R: Records<S = OneFile> + Drop>(
         let Some((what, mut line)) = script.next_line()? else {
             return Ok(());
         };
-        if what == "opens" {
+        if matches!(what, "opens") {
             play_opened(alloc, held.map, held.space, &mut line, script)?;
             return script.end(line);
         }
@@ -149,10 +147,30 @@ fn play_map<R: Records<S = OneFile> + Drop>(
     Ok(())
 }
 
-/// Plays a case of records in memory: `map FILE`.
-pub fn play_records(alloc: Global, line: &mut Line, script: &mut Script<'_>) -> Result<(), Wrong> {
-    let store: MemRecords<OneFile> = MemRecords::new(alloc, line.small()?);
-    play_map(alloc, store, script)
+// Plays a case over a store: of the map that it is, or of pages of it in a cache.
+fn play_over<R: Records<S = OneFile> + Drop>(
+    alloc: Global,
+    store: R,
+    is_map: bool,
+    line: &mut Line,
+    script: &mut Script<'_>,
+) -> Result<(), Wrong> {
+    if is_map {
+        return play_map(alloc, store, script);
+    }
+    play_pages(alloc, store, line, script)
+}
+
+/// Plays a case over records in memory: of a map, `map FILE`, or of a cache, `cache ROOM`.
+pub fn play_records(
+    alloc: Global,
+    is_map: bool,
+    line: &mut Line,
+    script: &mut Script<'_>,
+) -> Result<(), Wrong> {
+    let file = if is_map { line.small()? } else { 0 };
+    let store: MemRecords<OneFile> = MemRecords::new(alloc, file);
+    play_over(alloc, store, is_map, line, script)
 }
 
 /// Plays a case of a list of pairs in memory: `list FILE`.

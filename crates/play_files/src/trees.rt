@@ -19,7 +19,18 @@ use tc_space::Records;
 
 type Store = Hash<OneFile>;
 
-type TreeFile = ListOf<Btree<Store, Lexical>>;
+/// Plays a line on a tree: its `height`, or one on lists.
+pub fn tree_line<R: Records<S = OneFile>, O: Order>(
+    alloc: Global,
+    held: &mut ListOf<Btree<R, O>>,
+    what: &str,
+    line: &mut Line,
+) -> Result<(), Wrong> {
+    match what {
+        "height" => is_number(alloc, line, held.list.tree().height()),
+        _ => list_line(alloc, held, what, line),
+    }
+}
 
 /// Whether a tree is an index: `plain|index`.
 pub fn is_index(line: &mut Line) -> Result<bool, Wrong> {
@@ -64,30 +75,19 @@ fn file(alloc: Global, space: &mut OneFile, column: bool) -> Result<Store, Wrong
     Ok(store)
 }
 
-// A tree of no pairs in a file, with such limits.
-fn planted(
+// A tree of no pairs in a store, with such limits.
+fn planted<R: Records<S = OneFile> + Drop>(
     alloc: Global,
-    store: Store,
+    store: R,
     space: &mut OneFile,
     leaf: u32,
     node: u32,
-) -> Result<Btree<Store, Lexical>, Wrong>
+) -> Result<Btree<R, Lexical>, Wrong>
     requires leaf { (4 ≤ leaf) × (leaf ≤ 256) }
     requires node { (4 ≤ node) × (node ≤ 256) }
 {
     usable(space)?;
     Btree::create(alloc, store, space, leaf, node).map_err(refused)
-}
-
-// A tree of no pairs in such a file: `tree LEAF NODE`, with `column` behind it where the record is there.
-fn created(alloc: Global, line: &mut Line) -> Result<TreeFile, Wrong> {
-    let leaf = limit(line)?;
-    let node = limit(line)?;
-    let column = line.is_second("", "column")?;
-    let mut space = OneFile::of(Vec::new(alloc));
-    let store = file(alloc, &mut space, column)?;
-    let tree = planted(alloc, store, &mut space, leaf, node)?;
-    Ok(ListOf::new(tree, space))
 }
 
 // A record of a file.
@@ -151,12 +151,11 @@ struct Case<R, O> {
     marked: Blob,
 }
 
-// A line: the `height`; those on the file's bytes, on what the file is once it is opened anew, and on lists.
+// A line: those on the file's bytes, on what the file is once it is opened anew, and on lists.
 impl<R: Records<S = OneFile>, O: Order> Object for Case<R, O> {
     fn play(&mut self, what: &str, line: &mut Line) -> Result<(), Wrong> {
         self.held.begin(what);
         match what {
-            "height" => is_number(self.alloc, line, self.held.list.tree().height()),
             "bytes" | "mark" | "same" => {
                 let file = self.held.space.bytes();
                 marked_line(self.alloc, file, &mut self.marked, what, line)
@@ -172,18 +171,40 @@ impl<R: Records<S = OneFile>, O: Order> Object for Case<R, O> {
                 what,
                 line,
             ),
-            _ => list_line(self.alloc, &mut self.held, what, line),
+            _ => tree_line(self.alloc, &mut self.held, what, line),
         }
     }
 }
 
-/// Plays a case of a tree in a hash file.
-pub fn play_tree(alloc: Global, line: &mut Line, script: &mut Script<'_>) -> Result<(), Wrong> {
+// Plays lines on a tree of no pairs in a store, with such limits.
+fn play_planted<R: Records<S = OneFile> + Drop>(
+    alloc: Global,
+    store: R,
+    space: OneFile,
+    leaf: u32,
+    node: u32,
+    script: &mut Script<'_>,
+) -> Result<(), Wrong>
+    requires leaf { (4 ≤ leaf) × (leaf ≤ 256) }
+    requires node { (4 ≤ node) × (node ≤ 256) }
+{
+    let mut space = space;
+    let tree = planted(alloc, store, &mut space, leaf, node)?;
     let mut case = Case {
         alloc,
-        held: created(alloc, line)?,
+        held: ListOf::new(tree, space),
         cursor: Cursor::new(alloc),
         marked: Blob::new(alloc),
     };
     play_lines(&mut case, script)
+}
+
+/// Plays a case of a tree of no pairs in such a file: `tree LEAF NODE`, with `column` behind it where the record is there.
+pub fn play_tree(alloc: Global, line: &mut Line, script: &mut Script<'_>) -> Result<(), Wrong> {
+    let leaf = limit(line)?;
+    let node = limit(line)?;
+    let column = line.is_second("", "column")?;
+    let mut space = OneFile::of(Vec::new(alloc));
+    let store = file(alloc, &mut space, column)?;
+    play_planted(alloc, store, space, leaf, node, script)
 }

@@ -129,6 +129,17 @@ impl Plan {
         Ok(plan)
     }
 
+    /// A connection opens.
+    pub fn opens(&mut self, conn: u32) -> Result<(), AllocError> {
+        Ok(self.steps.push(Step::Opened(conn))?)
+    }
+
+    /// These bytes come of a connection.
+    pub fn reads(&mut self, conn: u32, bytes: &[u8]) -> Result<(), AllocError> {
+        let bytes = Blob::from_slice(self.alloc, bytes)?;
+        Ok(self.steps.push(Step::Read(conn, bytes, 4096))?)
+    }
+
     // Takes words: what was done with those before is forgotten.
     fn begin(&mut self, words: Vec<String>) -> Result<(), Wrong> {
         if self.waits {

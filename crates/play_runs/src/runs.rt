@@ -191,7 +191,7 @@ impl Runs {
 
     // Looks at a line that says what files are left: the bytes of one, all as they were, or any log.
     fn is_left(&mut self, what: &str, line: &mut Line) -> Result<(), Wrong> {
-        if what != "file" {
+        if !matches!(what, "file") {
             self.told.log = true;
         }
         match what {
@@ -215,7 +215,7 @@ impl Runs {
         };
         let log = outcome.wire.log();
         let Some((place, entry)) = next_told(log, self.told.calls) else {
-            if line.word() == "nothing" && log.is_empty() {
+            if matches!(line.word(), "nothing") && log.is_empty() {
                 return Ok(());
             }
             return Err(Wrong::Not(Why::Nothing));
@@ -235,8 +235,8 @@ impl Runs {
 
     // Looks at a line that says what came of the last run.
     fn is(&mut self, what: &str, line: &mut Line) -> Result<(), Wrong> {
-        self.told.out = self.told.out || what == "out";
-        self.told.err = self.told.err || what == "err";
+        self.told.out = self.told.out || matches!(what, "out");
+        self.told.err = self.told.err || matches!(what, "err");
         match &self.outcome {
             Some(outcome) => outcome.is(what, line),
             None => Err(Wrong::Unread),

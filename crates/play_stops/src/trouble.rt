@@ -4,7 +4,7 @@ use std::alloc::{AllocError, Global};
 use tc_fakes::MemVolume;
 
 /// How a call of a volume goes wrong.
-#[derive(Clone, Copy, Debug, PartialEq, Eq)]
+#[derive(Clone, Copy, PartialEq, Eq)]
 pub enum Trouble {
     /// It is the last: all behind it fail.
     Stop,

@@ -89,7 +89,7 @@ impl<'a> Case<'a> {
     fn add_each(&mut self, text: &str) -> Result<(), Wrong> {
         let (mark, rest) = at_blank(text);
         let mark = format!(in self.alloc; "@{mark}")?;
-        if mark.as_str() == "@" || self.meets(mark.as_str()) {
+        if matches!(mark.as_str(), "@") || self.meets(mark.as_str()) {
             return Err(Wrong::Unread);
         }
         let mut texts = Vec::new(self.alloc);

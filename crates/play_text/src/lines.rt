@@ -6,7 +6,7 @@ use crate::numbers::{number_of, numbers_of};
 use crate::patterns::Pattern;
 use crate::terms::{at_blank, read_bytes};
 use crate::whys::Why;
-use crate::wrongs::{Wrong, is_same, shown, told};
+use crate::wrongs::{Wrong, are_same, is_same, shown, told};
 use std::alloc::{AllocError, Global};
 
 /// A line, how much of it was read, the names that it has, and whether it compared something.
@@ -78,10 +78,10 @@ impl Line {
     /// The next word is one of two; whether it is the second.
     pub fn is_second(&mut self, first: &str, second: &str) -> Result<bool, Wrong> {
         let word = self.word();
-        if word == second {
+        if are_same(word, second) {
             return Ok(true);
         }
-        if word == first {
+        if are_same(word, first) {
             return Ok(false);
         }
         Err(Wrong::Unread)
@@ -147,12 +147,12 @@ impl Line {
         Ok(words)
     }
 
-    /// Whether it is this word that stands in front of a mark, which is left behind.
-    pub fn has_up_to(&mut self, word: &str, mark: &str) -> Result<bool, Wrong> {
+    /// Whether it is `-` that stands in front of a mark, which is left behind.
+    pub fn has_dash_up_to(&mut self, mark: &str) -> Result<bool, Wrong> {
         let Some((front, rest)) = self.rest().split_once(mark) else {
             return Err(Wrong::Unread);
         };
-        let (left, has) = (rest.len(), front.trim() == word);
+        let (left, has) = (rest.len(), matches!(front.trim(), "-"));
         self.leave(left);
         Ok(has)
     }

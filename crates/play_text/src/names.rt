@@ -1,6 +1,7 @@
 //! Bytes that have names.
 
 use crate::patterns::Pattern;
+use crate::wrongs::are_same;
 use std::alloc::{AllocError, Global};
 
 // A word that stands for bytes: `$name`.
@@ -34,7 +35,7 @@ impl Names {
     /// What a word stands for, `$` and a name.
     pub fn get(&self, word: &str) -> Option<&Pattern> {
         for named in self.all.iter().rev() {
-            if named.word.as_str() == word {
+            if are_same(named.word.as_str(), word) {
                 return Some(&named.bytes);
             }
         }

@@ -61,9 +61,14 @@ pub fn told(alloc: Global, wanted: &Pattern, found: &[u8]) -> Result<(), Wrong> 
     Err(Wrong::Differs(text))
 }
 
+/// Whether two texts are the same.
+pub fn are_same(one: &str, other: &str) -> bool {
+    one.len() == other.len() && one.starts_with(other)
+}
+
 /// A text is as it is to be.
 pub fn is_same(wanted: &str, found: String) -> Result<(), Wrong> {
-    if found.as_str() == wanted {
+    if are_same(found.as_str(), wanted) {
         Ok(())
     } else {
         Err(Wrong::Differs(found))

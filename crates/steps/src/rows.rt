@@ -1,9 +1,8 @@
 //! Steps on a tree in a file whose records are given.
 ghost use Rattle.std.specs.Prelude.{◌≡◌, true, OnOk};
 
-use crate::playing::play_on;
 use crate::script::Script;
-use crate::trees::{Store, look};
+use crate::trees::play_looking;
 use anyhow::{Error, anyhow};
 use std::alloc::Global;
 use tc_base::{Blob, Mode, Order, Steps};
@@ -24,7 +23,7 @@ fn usable(space: &OneFile) -> Result<(), Error>
 }
 
 // A file of trees without records.
-fn bare(alloc: Global, space: &mut OneFile) -> Result<Store, Error> {
+fn bare(alloc: Global, space: &mut OneFile) -> Result<Hash<OneFile>, Error> {
     usable(space)?;
     match Hash::create(alloc, space, 0, 1, 4, 10, 16_381, false) {
         Ok(store) => Ok(store),
@@ -93,27 +92,6 @@ fn opened<R: Records<S = OneFile> + Drop, O: Order>(
     }
 }
 
-// Makes the steps up to the next `c`, and answers whether there is one, of which it adds what `look` does.
-fn play_one<R: Records<S = OneFile>, O: Order>(
-    tree: &mut Btree<R, O>,
-    space: &mut OneFile,
-    script: &mut Script<'_>,
-    into: &mut Blob,
-) -> Result<bool, Error>
-    requires { space.old.sound ≡ true }
-    ensures { OnOk result (space.new.sound ≡ true) }
-{
-    match play_on(tree, space, script, into) {
-        Ok(true) => {}
-        Ok(false) => return Ok(false),
-        Err(e) => return Err(Error::from(e)),
-    }
-    match look(tree, space, into) {
-        Ok(()) => Ok(true),
-        Err(e) => Err(Error::from(e)),
-    }
-}
-
 // Puts the records of a script into a store, gives it its region, opens the tree that it then has, and makes the steps that are left.
 fn play_store<R: Records<S = OneFile> + Drop, O: Order>(
     alloc: Global,
@@ -126,18 +104,13 @@ fn play_store<R: Records<S = OneFile> + Drop, O: Order>(
     let mut script = Script::new(bytes);
     fill(&mut store, space, &mut script)?;
     let mut tree = opened::<R, O>(alloc, store, space)?;
-    for _ in 0..bytes.len() {
-        usable(space)?;
-        if !play_one(&mut tree, space, &mut script, into)? {
-            return Ok(());
-        }
-    }
-    Ok(())
+    usable(space)?;
+    Ok(play_looking(&mut tree, space, &mut script, into)?)
 }
 
 /// Puts records into a file in memory, `w`, gives it a region, `h`, and opens the tree that it then has, which must keep all rules. The steps that are left are made on the tree as `play_hash` makes them.
 pub fn play_rows<O: Order>(alloc: Global, bytes: &[u8], into: &mut Blob) -> Result<(), Error> {
     let mut space = OneFile::of(Vec::new(alloc));
     let store = bare(alloc, &mut space)?;
-    play_store::<Store, O>(alloc, store, &mut space, bytes, into)
+    play_store::<Hash<OneFile>, O>(alloc, store, &mut space, bytes, into)
 }
