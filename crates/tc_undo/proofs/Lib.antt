@@ -1,5 +1,6 @@
 pub mod EntryRead
 pub mod EntryBack
+pub mod Ahead
 pub mod Needs
 pub mod Steadiness
 pub mod Marked
@@ -8,5 +9,7 @@ pub mod Changing
 pub mod Guarding
 pub mod Putting
 pub mod Batching
+pub mod Joining
+pub mod Running
 pub mod Volumes
 pub mod LettingGo

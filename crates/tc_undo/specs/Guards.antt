@@ -133,6 +133,16 @@ pub record PutsAll (tells : Type 0) (old new : Calls) (log log' : Log) (before a
   pub inside : KeepsInside before after ps
   pub files : tells → (f : ℕ) → is_data f ≡ true → now new f ≡ laid bytes ps f (now old f)
 
+-- pieces were written: a transaction that guards them goes on, the files have them, and the lengths are known
+pub record PutsRun (tells : Type 0) (old new : Calls) (log log' : Log) (before after bytes : List ℕ) (ps : List Piece) : Type 0 where
+  pub log_is : log' ≡ record log { changed = log'.changed }
+  pub tx : tells → (kept : Files) (es : List Entry) → Tx old kept es → All (IsGuarded kept es) ps → Tx new kept es
+  pub unchanged : tells → Unchanged old log.changed → Unchanged new log'.changed
+  pub lens : KnowsLens tells (now new) after
+  pub inside : KeepsInside before after ps
+  pub files : tells → (f : ℕ) → is_data f ≡ true → now new f ≡ laid bytes ps f (now old f)
+  pub log_stays : tells → now new 1 ≡ now old 1
+
 -- the old bytes of all these may go into a log of so many bytes
 pub record MaySecure (tells : Type 0) (files : Files) (lens : List ℕ) (end : ℕ) (ps : List Piece) : Type 0 where
   pub small : All IsSmall ps

@@ -1,3 +1,4 @@
+pub mod Ahead
 pub mod Changes
 pub mod Errors
 pub mod Found
@@ -5,5 +6,6 @@ pub mod Guards
 pub mod Opening
 pub mod Pieces
 pub mod Room
+pub mod Runs
 pub mod Usable
 pub mod Volumes

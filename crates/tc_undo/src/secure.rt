@@ -9,7 +9,9 @@ ghost use Rattle.tc_undo.specs.Room.{log_end};
 ghost use Rattle.tc_undo.specs.Volumes.{StaysQuiet};
 
 use crate::changes::{begin, log_range};
+use crate::gather::bring;
 use crate::room::Log;
+use crate::waiting::Waiting;
 use tc_base::Fault;
 use tc_io::Volume;
 
@@ -31,9 +33,9 @@ fn secure_first<V: Volume>(
     ensures active { OnOk result (log.new.active ≡ true) }
     ensures cause { HasCause (V.faults vol.old) (V.faults vol.new) result }
 {
-    begin(vol, lens)?;
-    let end = log_range(vol, 152, lens, file, at, stop)?;
-    vol.sync(1)?; // the header and the entries
+    let mut waiting = begin(lens);
+    let end = log_range(vol, &mut waiting, 152, lens, file, at, stop)?;
+    bring(vol, &mut waiting, end)?;
     *log = Log {
         active: true,
         end,
@@ -63,8 +65,9 @@ fn secure_more<V: Volume>(
     if stop <= at {
         return Ok(());
     }
-    let end = log_range(vol, log.end, &log.recorded, file, at, stop)?;
-    vol.sync(1)?; // the entries
+    let mut waiting = Waiting::new();
+    let end = log_range(vol, &mut waiting, log.end, &log.recorded, file, at, stop)?;
+    bring(vol, &mut waiting, end)?;
     log.end = end;
     Ok(())
 }

@@ -1,4 +1,5 @@
 use Rattle.std.proofs.Common.{◌≤◌, ◌+◌, ◌-◌, ◌^◌, max}
+use Rattle.tc_undo.specs.Ahead.{Waits, ahead}
 use Rattle.tc_undo.specs.Changes.{Logs}
 use Rattle.tc_undo.specs.Guards.{Grows}
 use Rattle.tc_undo.specs.Room.{needs}
@@ -10,8 +11,9 @@ invariant-loop-place g l = record {
   low : l.at ≤ l.place;
   high : l.place ≤ max l.at l.stop;
   quiet : StaysQuiet g.V.Volume l.initial.vol l.vol;
-  logs : g.V.Volume.tells → Logs (g.V.Volume.calls l.initial.vol) (g.V.Volume.calls l.vol) l.recorded l.file l.at l.place l.size;
-  grows : g.V.Volume.tells → Grows (g.V.Volume.calls l.initial.vol) (g.V.Volume.calls l.vol) l.recorded l.file l.at l.place;
+  logs : g.V.Volume.tells → Logs (ahead (g.V.Volume.calls l.initial.vol) l.initial.waiting) (ahead (g.V.Volume.calls l.vol) l.waiting) l.recorded l.file l.at l.place l.size;
+  grows : g.V.Volume.tells → Grows (ahead (g.V.Volume.calls l.initial.vol) l.initial.waiting) (ahead (g.V.Volume.calls l.vol) l.waiting) l.recorded l.file l.at l.place;
+  waits : g.V.Volume.tells → Waits (g.V.Volume.calls l.vol) l.waiting l.size;
   room : l.size + needs (l.stop - l.place) ≤ 2 ^ 62;
   spent : l.size + needs (l.stop - l.place) ≤ l.end + needs (l.stop - l.at);
 }

@@ -1,10 +1,9 @@
-use Rattle.std.proofs.Common.{◌≡◌, ◌≤◌, ◌+◌, take, get_or, length, subst, ap, sym, arith, All, List}
+use Rattle.std.proofs.Common.{◌≡◌, take, get_or, ap, sym, arith}
 use Rattle.std.proofs.lemmas.List.{take_all}
 use Rattle.std.proofs.lemmas.List.Elements.{All-more, All-nil, All-same}
 use Rattle.ud_log.specs.Undo.{length_of}
 use Rattle.tc_undo.specs.Guards.{IsNew}
-use Rattle.tc_undo.specs.declared.piece.Piece.{Piece}
-use Rattle.tc_undo.proofs.Putting.{blank}
+use Rattle.tc_undo.specs.Runs.{blank}
 use Rattle.tc_undo.proofs.pieces.are_new.Goals as goal
 
 pub loop-i-init : goal.loop-i-init
