@@ -1,19 +1,23 @@
 -- What uses of pages leave of a cache and its store.
-use Rattle.std.proofs.Common.{◌≡◌, ℕ, ◌+◌, ◌-◌, ◌^◌, List, [], ◌∷◌, Option, Some, None, Bool, true, false, nat_eq, refl, sym, ap, subst, ◌∙◌, inl, inr, ⊎_elim}
+use Rattle.std.proofs.Common.{◌≡◌, ℕ, ◌+◌, ◌-◌, ◌^◌, List, [], ◌∷◌, Option, Some, None, Bool, true, false, cond, nat_eq, refl, sym, ap, subst, ◌∙◌, inl, inr, ⊎_elim}
 use Rattle.std.specs.Prelude.{is_some, min, slice_get}
-use Rattle.std.specs.Map.{lookup, lookup_entry, remove_entry}
+use Rattle.std.specs.Map.{keys_of, lookup, lookup_entry, remove_entry, set_value}
+use Rattle.std.proofs.lemmas.Bool.{eq-eqb}
 use Rattle.lru.specs.LruCache.{lru_cache, IsValid, promoted, put_entries}
 use Rattle.tc_base.specs.Maps.{Map}
 use Rattle.tc_space.specs.Frames.{Reads}
 use Rattle.tc_space.specs.Stores.{IsReady}
 use Rattle.tc_space.specs.declared.records.Records.{Ghosts as Stores}
 use Rattle.tc_space.specs.declared.space.Space.{Ghosts}
+use Rattle.bt_page.specs.declared.page.Leaf.{Leaf}
 use Rattle.bt_rows.specs.declared.page.Page.{Page}
+use Rattle.bt_rows.specs.declared.page.Page.TheVariants.{Leaf as leaf_page}
 use Rattle.bt_cache.specs.declared.shared.SharedPage.{SharedPage}
+use Rattle.bt_cache.specs.declared.shared.SharedPage.TheVariants.{Leaf as shared_leaf}
 use Rattle.bt_cache.specs.Shared.{page_of, IsAny}
 use Rattle.bt_cache.specs.Ids.{has, used}
 use Rattle.bt_cache.specs.declared.cache.Cache.{Cache}
-use Rattle.bt_cache.specs.Held.{Pages, ids, HasPage, AreSame, Beside, Holds}
+use Rattle.bt_cache.specs.Held.{Pages, ids, HasPage, HoldsLeaf, AreSame, Beside, Holds}
 use Rattle.bt_cache.specs.Effects.{AsksOnce, CountsPage, unless}
 use Rattle.bt_cache.proofs.Entries.{Fronts, Promotes, all_left, looked_up, promotes, put_front, has_found, found_is}
 use Rattle.bt_cache.proofs.Kept.{one_page}
@@ -136,3 +140,42 @@ front_none (f ∷ es) id rest e l = cc
 
 pub no_front : (c : Pages) (id : ℕ) → None ≡ slice_get c.entries 0 → (rest : List ℕ) × (ids c ≡ id ∷ rest) → ⊥
 no_front c id e l = front_none c.entries id l.0 e l.1
+
+-- ---- a leaf that is held
+
+-- what is in front is held
+pub front_holds : (m : Map) (c : Pages) (id : ℕ) (l : Leaf) → (rest : List ℕ) × (ids c ≡ id ∷ rest) → AreSame m c.entries → HasPage m id (leaf_page l) → HoldsLeaf id l c
+front_holds m c id l first same page = go c.entries first.1 same refl
+  where
+    go : (es : List (ℕ × SharedPage)) → keys_of es ≡ id ∷ first.0 → AreSame m es → c.entries ≡ es → HoldsLeaf id l c
+    go [] e a is = absurd cc
+    go (f ∷ es) e a is =
+        let own : f.0 ≡ id = cc in
+        let test : nat_eq id f.0 ≡ true = eq-eqb id f.0 (sym own) in
+        record {
+          page = f.1;
+          there = ap (lookup (nat_eq id)) is ∙ ap (λ (b : Bool). cond b (Some f.1) (lookup (nat_eq id) es)) test;
+          is = one_page m id (page_of f.1) (leaf_page l) (subst (λ (j : ℕ). HasPage m j (page_of f.1)) own a.0) page;
+        }
+
+-- the page of an id written over by itself
+pub same_value : (id : ℕ) (es : List (ℕ × SharedPage)) (x : SharedPage) → lookup (nat_eq id) es ≡ Some x → set_value (nat_eq id) es x ≡ es
+same_value id [] x e = refl
+same_value id (f ∷ es) x e = (elim (nat_eq id f.0) as (λ b. cond b (Some f.1) (lookup (nat_eq id) es) ≡ Some x → cond b ((f.0, x) ∷ es) (f ∷ set_value (nat_eq id) es x) ≡ f ∷ es) [
+  | true ↦ λ e. let is : f.1 ≡ x = cc in ap (λ (y : SharedPage). (f.0, y) ∷ es) (sym is)
+  | false ↦ λ e. ap (λ (l : List (ℕ × SharedPage)). f ∷ l) (same_value id es x e)
+]) e
+
+pub held_same : (id : ℕ) (c c' : Pages) (x y : SharedPage) → lookup (nat_eq id) c.entries ≡ Some x → y ≡ x → c' ≡ lru_cache (set_value (nat_eq id) c.entries y) c.cap → c' ≡ c
+held_same id c c' x y e is new = new ∙ ap (λ (z : SharedPage). lru_cache (set_value (nat_eq id) c.entries z) c.cap) is ∙ ap (λ (es : List (ℕ × SharedPage)). lru_cache es c.cap) (same_value id c.entries x e)
+
+-- it is the one that was looked up
+pub held_is : (id : ℕ) (l : Leaf) (c : Pages) (x : SharedPage) → lookup (nat_eq id) c.entries ≡ Some x → HoldsLeaf id l c → page_of x ≡ leaf_page l
+held_is id l c x e h = let same : x ≡ h.page = let both = sym e ∙ h.there in cc in ap page_of same ∙ h.is
+
+pub not_held : (id : ℕ) (l : Leaf) (c : Pages) → lookup (nat_eq id) c.entries ≡ None → HoldsLeaf id l c → ⊥
+not_held id l c e h = let bad = sym e ∙ h.there in cc
+
+-- what is so of the leaf that a page is
+pub leaf_of_page : (x : SharedPage) (k l : Leaf) (P : Leaf → Type 0) → x ≡ shared_leaf k → P k → page_of x ≡ leaf_page l → P l
+leaf_of_page x k l P is p e = let same : k ≡ l = let both = sym (ap page_of is) ∙ e in cc in subst P same p

@@ -1,8 +1,8 @@
 -- The pages that a cache holds beside a store. `Stores V S` are the members of the store, as one.
-use Rattle.std.specs.Prelude.{◌≡◌, ℕ, ◌<◌, ◌^◌, List, ◌∷◌, Some}
+use Rattle.std.specs.Prelude.{◌≡◌, ℕ, ◌<◌, ◌^◌, List, ◌∷◌, Some, nat_eq}
 use Rattle.std.specs.FinMap.{get}
 use Rattle.std.specs.List.{AllByRecursion}
-use Rattle.std.specs.Map.{keys_of}
+use Rattle.std.specs.Map.{keys_of, lookup}
 use Rattle.lru.specs.LruCache.{LruCache}
 use Rattle.tc_base.specs.Maps.{Map}
 use Rattle.tc_space.specs.Frames.{In}
@@ -10,7 +10,9 @@ use Rattle.tc_space.specs.Stores.{IsReady}
 use Rattle.tc_space.specs.declared.records.Records.{Ghosts as Stores}
 use Rattle.tc_space.specs.declared.space.Space.{Ghosts}
 use Rattle.bt_page.specs.Keys.{key_of}
+use Rattle.bt_page.specs.declared.page.Leaf.{Leaf}
 use Rattle.bt_rows.specs.declared.page.Page.{Page}
+use Rattle.bt_rows.specs.declared.page.Page.TheVariants.{Leaf as leaf_page}
 use Rattle.bt_rows.specs.Pages.{IsHeldAs}
 use Rattle.bt_cache.specs.declared.cache.Cache.{Cache}
 use Rattle.bt_cache.specs.declared.shared.SharedPage.{SharedPage}
@@ -53,6 +55,12 @@ module _ {S V : Type 0} (s : Ghosts S) (R : Stores V S) where
   -- where the map has a page of this sort under an id, it is this one
   abbrev pub ReadsAs : {X : Type 0} → (X → Page) → ℕ → Cache V → V → S → X → Type 0
   ReadsAs {X} page id c v space x = (m : Map) (y : X) → Beside s R (c.pages, v) space m → HasPage m id (page y) → x ≡ y
+
+-- this leaf is held under an id
+pub record HoldsLeaf (id : ℕ) (l : Leaf) (c : Pages) : Type 0 where
+  pub page : SharedPage
+  pub there : lookup (nat_eq id) c.entries ≡ Some page
+  pub is : page_of page ≡ leaf_page l
 
 -- ---- the list of those that are held
 

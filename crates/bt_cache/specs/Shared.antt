@@ -8,7 +8,7 @@ use Rattle.bt_cache.specs.declared.shared.SharedPage.{SharedPage}
 use Rattle.bt_cache.specs.declared.shared.SharedPage.TheVariants.{Leaf as shared_leaf, Node as shared_node}
 
 abbrev pub page_of : SharedPage → Page
-page_of (shared_leaf l) = leaf_page l.value
+page_of (shared_leaf l) = leaf_page l
 page_of (shared_node n) = node_page n.value
 
 -- where the page is a leaf, it is this one

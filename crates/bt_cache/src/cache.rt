@@ -1,9 +1,11 @@
 //! Pages by their ids.
-ghost use Rattle.std.specs.Prelude.{◌≡◌, ◌≤◌, [], IfOk, OnOk};
+ghost use Rattle.std.specs.Prelude.{◌≡◌, ◌≤◌, [], IfOk, OnOk, slice_get};
 ghost use Rattle.tc_space.specs.Refusals.{Blames};
+ghost use Rattle.bt_page.specs.declared.page.Leaf.{Leaf as the_leaf};
 ghost use Rattle.bt_rows.specs.declared.page.Page.TheVariants.{Leaf as leaf_page, Node as node_page};
+ghost use Rattle.bt_slots.specs.Slots.{OfItem};
 ghost use Rattle.bt_cache.specs.Effects.{CountsOne, CountsPage, Looks};
-ghost use Rattle.bt_cache.specs.Held.{IsFirst, IsThere, IsUsed, IsWithout, ReadsAs, ReadyBeside};
+ghost use Rattle.bt_cache.specs.Held.{HoldsLeaf, IsFirst, IsThere, IsUsed, IsWithout, ReadsAs, ReadyBeside};
 ghost use Rattle.bt_cache.specs.Shared.{IsAny, IsSomeLeaf, IsSomeNode, page_of};
 
 use crate::reading::read_page;
@@ -87,6 +89,7 @@ impl<R: Records> Cache<R> {
         requires there { IsThere R.S.Space R.Records IsSomeLeaf id self.old store.old space.old }
         ensures leaf { IfOk result (λ found. ReadsAs R.S.Space R.Records leaf_page id self.old store.old space.old found.value) }
         ensures list { OnOk result (IsUsed id self.old self.new) }
+        ensures front { OnOk result (IsFirst id self.new) }
         ensures looks { Looks R.S.Space R.Records self.old self.new store.old store.new space.old space.new }
         ensures counts { CountsPage R.Records id self.old store.old store.new steps.old steps.new }
         ensures asked { OnOk result (CountsOne id self.old (R.gets store.old) (R.gets store.new)) }
@@ -97,6 +100,19 @@ impl<R: Records> Cache<R> {
             return Ok(empty_leaf(self.alloc)?);
         };
         Ok(page.leaf(self.alloc)?)
+    }
+
+    /// The value of a number of the item at a place in the leaf of an id, as a copy; None where it has none, or where the leaf isn't held. From the value of the same item on that was given
+    /// last, if it isn't behind, it passes over those in front of this one; else over all in front.
+    pub fn nth(&mut self, id: u64, place: usize, n: u64) -> Result<Option<Blob>, AllocError>
+        ensures value { IfOk result (λ v. (l : the_leaf) → HoldsLeaf id l self.old.pages → OfItem (λ x. slice_get x.values n) l.items place v) }
+        ensures same { self.new ≡ self.old }
+    {
+        let alloc = self.alloc;
+        let Some(page) = self.pages.peek_mut(&id) else {
+            return Ok(None);
+        };
+        page.nth(alloc, place, n)
     }
 
     // The page of an id, which isn't among those that are held then.

@@ -7,4 +7,4 @@ mod shared;
 mod writing;
 
 pub use cache::Cache;
-pub use shared::SharedPage;
+pub use shared::{HeldLeaf, SharedPage};

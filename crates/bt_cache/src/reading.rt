@@ -8,7 +8,7 @@ ghost use Rattle.bt_rows.specs.Pages.{IsPage};
 ghost use Rattle.bt_cache.specs.Effects.{AsksOnce, IsAsked, ReadsOne};
 ghost use Rattle.bt_cache.specs.Shared.{page_of};
 
-use crate::shared::{SharedPage, empty_page};
+use crate::shared::{HeldLeaf, SharedPage, empty_page};
 use bt_page::{PageErr, page_key};
 use bt_slots::{SlottedLeaf, SlottedNode};
 use std::alloc::{AllocError, Global};
@@ -22,7 +22,7 @@ fn parse_leaf(alloc: Global, id: u64, bytes: Blob) -> Result<SharedPage, AllocEr
     ensures { IfOk result (λ s. (p : Page) → IsPage id bytes p → page_of s ≡ p) }
 {
     match SlottedLeaf::read(alloc, bytes) {
-        Ok(leaf) => Ok(SharedPage::Leaf(Rc::new(alloc, leaf)?)),
+        Ok(leaf) => Ok(SharedPage::Leaf(HeldLeaf::new(Rc::new(alloc, leaf)?))),
         Err(PageErr::Bad) => empty_page(alloc, true),
         Err(PageErr::Memory) => Err(AllocError),
     }

@@ -9,7 +9,7 @@ ghost use Rattle.bt_cache.specs.Held.{AreSame, IsUsed, IsWithout, ReadyBeside};
 ghost use Rattle.bt_cache.specs.Shared.{page_of};
 
 use crate::cache::Cache;
-use crate::shared::SharedPage;
+use crate::shared::{HeldLeaf, SharedPage};
 use bt_page::page_key;
 use bt_slots::{SlottedLeaf, SlottedNode};
 use std::rc::Rc;
@@ -83,7 +83,7 @@ impl<R: Records> Cache<R> {
             return Err(RecErr::Memory);
         };
         let held = leaf.clone()?;
-        let page = SharedPage::Leaf(leaf);
+        let page = SharedPage::Leaf(HeldLeaf::new(leaf));
         self.put_page(store, space, id, page, held.as_slice())
     }
 

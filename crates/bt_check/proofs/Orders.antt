@@ -1,18 +1,16 @@
 -- Keys and leaves in order, one by one.
-use Rattle.std.proofs.Common.{◌≡◌, ◌↔◌, ℕ, ◌+◌, ◌-◌, ◌<◌, ◌≤◌, List, [], ◌∷◌, ◌++◌, Bool, true, false, Option, Some, None, length, take, drop, get_or, refl, sym, ap, ◌∙◌, subst, arith}
-use Rattle.std.specs.Prelude.{IsTrue, ◌==◌}
+use Rattle.std.proofs.Common.{◌≡◌, ℕ, ◌+◌, ◌-◌, List, [], ◌∷◌, ◌++◌, true, Option, Some, None, refl, ap}
 use Rattle.std.specs.List.{AllByRecursion}
 use Rattle.std.specs.declared.cmp.Ordering.{Ordering}
 use Rattle.std.specs.declared.cmp.Ordering.TheVariants.{Less, Equal, Greater}
 use Rattle.std.specs.Ordering.{is_lt}
 use Rattle.std.specs.Cmp.{IsTotalOrder}
-use Rattle.std.proofs.lemmas.Bool.{eq-eqb, ne_eqb}
-use Rattle.std.proofs.lemmas.List.{take_more, take_all, take-append-drop}
 use Rattle.bt_page.specs.declared.page.Item.{Item}
 use Rattle.bt_page.proofs.Runs.{all_with}
 use Rattle.bt_rows.specs.declared.page.LeafAt.{LeafAt}
+use Rattle.bt_check.specs.Leaves.{last_key}
 use Rattle.bt_rows.specs.Orders.{Before, before_by}
-use Rattle.bt_rows.specs.Rules.{Ascends, Under, BoundUnder, InLeaf, IsBelow, InOrder}
+use Rattle.bt_rows.specs.Rules.{Under, BoundUnder, InLeaf, IsBelow, InOrder}
 
 less_from : (o : Ordering) → is_lt o ≡ true → o ≡ Less
 less_from Less e = refl
@@ -27,16 +25,10 @@ transitive cmp o x y z p q = ap is_lt (o.trans x y z (less_from (cmp x y) p) (le
 
 -- ---- the keys of a leaf
 
-pub none_under : (before : Before) (items : List Item) (bound : Option (List ℕ)) (b : Bool) → bound ≡ None → b ≡ (length items == 0) → IsTrue b ↔ AllByRecursion (λ x. Under before x.key bound) items
-none_under before items bound b none e = subst (λ (o : Option (List ℕ)). IsTrue b ↔ AllByRecursion (λ x. Under before x.key o) items) (sym none) (to items e, from items e)
-  where
-    to : (items : List Item) → b ≡ (length items == 0) → IsTrue b → AllByRecursion (λ x. Under before x.key None) items
-    to [] e t = tt
-    to (x ∷ xs) e t = absurd (let f = ne_eqb (length (x ∷ xs)) 0 (λ z. omega (arith, z)) in let bad = sym t ∙ e ∙ f in cc)
-
-    from : (items : List Item) → b ≡ (length items == 0) → AllByRecursion (λ x. Under before x.key None) items → IsTrue b
-    from [] e h = e ∙ eq-eqb 0 0 refl
-    from (x ∷ xs) e h = absurd h.0
+-- no key is under no bound
+pub none_above : (before : Before) (items : List Item) (key : List ℕ) → Some key ≡ last_key items → AllByRecursion (λ x. Under before x.key None) items → ⊥
+none_above before [] key e a = cc
+none_above before (x ∷ xs) key e a = a.0
 
 last_of : {A : Type 0} (P : A → Type 0) (xs : List A) (z : A) → AllByRecursion P (xs ++ z ∷ []) → P z
 last_of P [] z h = h.0

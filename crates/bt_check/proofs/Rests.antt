@@ -1,5 +1,6 @@
 -- What is left of a page whose items or entries are read one behind the other.
-use Rattle.std.proofs.Common.{◌≡◌, ◌↔◌, ℕ, suc, ◌+◌, ◌-◌, ◌<◌, List, [], ◌∷◌, ◌++◌, Option, true, false, length, map, refl, sym, ap, ◌∙◌, subst, arith, append_assoc, length-append}
+use Rattle.std.proofs.Common.{◌≡◌, ◌↔◌, ℕ, suc, ◌+◌, ◌-◌, ◌<◌, List, [], ◌∷◌, ◌++◌, Bool, Option, Some, None, true, false, length, map, refl, sym, ap, ◌∙◌, subst, arith, append_assoc, length-append}
+use Rattle.std.specs.Prelude.{⊤}
 use Rattle.std.specs.List.{AllByRecursion, flat_map}
 use Rattle.std.proofs.lemmas.List.{append-nil}
 use Rattle.bt_page.specs.declared.page.Item.{Item}
@@ -7,10 +8,10 @@ use Rattle.bt_page.specs.declared.page.NodeEntry.{NodeEntry}
 use Rattle.bt_rows.specs.declared.page.Slot.{Slot}
 use Rattle.bt_rows.specs.Orders.{Before}
 use Rattle.bt_rows.specs.Rows.{entry_slot}
-use Rattle.bt_rows.specs.Rules.{Ascends, item_pairs}
+use Rattle.bt_rows.specs.Rules.{Ascends, AtLeast, Under, item_pairs}
 use Rattle.bt_slots.specs.Reads.{entries_in, entry_in, item_in, items_in, values_in}
 use Rattle.bt_slots.proofs.BareReads.{values_long}
-use Rattle.bt_check.specs.Leaves.{less}
+use Rattle.bt_check.specs.Leaves.{key_behind, last_key, less}
 use Rattle.bt_check.proofs.Orders.{IsTransitive}
 use Rattle.bt_check.proofs.Seen.{less_less, values_count}
 
@@ -29,19 +30,9 @@ pub rest_none : (n i : ℕ) (bytes : List ℕ) → n - i ≡ 0 → items_in (n -
 unfolding items_in
 rest_none n i bytes e = ap (λ (k : ℕ). items_in k bytes) e
 
--- what is so of all items is so of those that are left
-module _ (P : Item → Type 0) where
-  pub all_start : (n : ℕ) (bytes : List ℕ) (items : List Item) → items_in n bytes ≡ items → AllByRecursion P items ↔ AllByRecursion P (items_in (n - 0) bytes)
-  all_start n bytes items e = let same = rest_all n bytes items e in (subst (AllByRecursion P) (sym same), subst (AllByRecursion P) same)
-
-  pub all_more : (items xs ys : List Item) (x : Item) → AllByRecursion P items ↔ AllByRecursion P xs → xs ≡ x ∷ ys → P x → AllByRecursion P items ↔ AllByRecursion P ys
-  all_more items xs ys x h e p = (λ a. (subst (AllByRecursion P) e (h.0 a)).1, λ a. h.1 (subst (AllByRecursion P) (sym e) (p, a)))
-
-  pub all_fails : (items xs ys : List Item) (x : Item) → AllByRecursion P items ↔ AllByRecursion P xs → xs ≡ x ∷ ys → (P x → ⊥) → AllByRecursion P items → ⊥
-  all_fails items xs ys x h e no_such a = no_such (subst (AllByRecursion P) e (h.0 a)).0
-
-  pub all_read : (items xs : List Item) → AllByRecursion P items ↔ AllByRecursion P xs → xs ≡ [] → AllByRecursion P items
-  all_read items xs h e = h.1 (subst (AllByRecursion P) (sym e) tt)
+-- the first item, and the others
+pub first_more : (n : ℕ) (bytes rest : List ℕ) (items : List Item) (x : Item) → items_in n bytes ≡ items → 0 < n → (x, rest) ≡ item_in bytes → items ≡ x ∷ items_in (n - 1) rest
+first_more n bytes rest items x read some is = sym (rest_all n bytes items read) ∙ rest_more n 0 bytes rest x some is
 
 -- ---- ascending keys
 
@@ -52,7 +43,7 @@ AscendsFrom before last xs = AllByRecursion (λ y. before last y.key ≡ true) x
 module _ (before : Before) where
   pub ascends_first : (n : ℕ) (bytes rest : List ℕ) (items : List Item) (x : Item) → items_in n bytes ≡ items → 0 < n → (x, rest) ≡ item_in bytes → Ascends before items ↔ AscendsFrom before x.key (items_in (n - 1) rest)
   ascends_first n bytes rest items x read some is =
-      let e : items ≡ x ∷ items_in (n - 1) rest = sym (rest_all n bytes items read) ∙ rest_more n 0 bytes rest x some is in
+      let e : items ≡ x ∷ items_in (n - 1) rest = first_more n bytes rest items x read some is in
       (subst (Ascends before) e, subst (Ascends before) (sym e))
 
   pub ascends_more : IsTransitive before → (items xs ys : List Item) (last : List ℕ) (x : Item) → Ascends before items ↔ AscendsFrom before last xs → xs ≡ x ∷ ys → before last x.key ≡ true → Ascends before items ↔ AscendsFrom before x.key ys
@@ -71,6 +62,52 @@ module _ (before : Before) where
   pub ascends_none : (items : List Item) → length items ≡ 0 → Ascends before items
   ascends_none [] e = tt
   ascends_none (x ∷ xs) e = absurd (omega (arith, e))
+
+-- ---- bounds of keys that ascend
+
+pub all_free : (xs : List Item) → AllByRecursion (λ x. ⊤) xs
+all_free [] = tt
+all_free (x ∷ xs) = (tt, all_free xs)
+
+pub no_items : (items : List Item) → last_key items ≡ None → items ≡ []
+no_items [] e = refl
+no_items (x ∷ xs) e = absurd cc
+
+pub last_none : (items : List Item) → length items ≡ 0 → None ≡ last_key items
+last_none [] e = refl
+last_none (x ∷ xs) e = absurd (omega (arith, e))
+
+pub above_none : (P : Item → Type 0) (items : List Item) → length items ≡ 0 → AllByRecursion P items
+above_none P [] e = tt
+above_none P (x ∷ xs) e = absurd (omega (arith, e))
+
+module _ (before : Before) (trans : IsTransitive before) (b : List ℕ) where
+  -- the first key isn't below a bound, nor are those behind it
+  pub first_above : (items ys : List Item) (x : Item) → Ascends before items → items ≡ x ∷ ys → before x.key b ≡ false → AllByRecursion (λ y. AtLeast before (Some b) y.key) items
+  first_above items ys x asc e f = subst (AllByRecursion (λ y. AtLeast before (Some b) y.key)) (sym e) (f, further ys (subst (Ascends before) e asc).0)
+    where
+      one : (y : Item) (t : Bool) → before y.key b ≡ t → before x.key y.key ≡ true → before y.key b ≡ false
+      one y true t lt = absurd (let bad = sym f ∙ trans x.key y.key b lt t in cc)
+      one y false t lt = t
+
+      further : (zs : List Item) → AllByRecursion (λ y. before x.key y.key ≡ true) zs → AllByRecursion (λ y. AtLeast before (Some b) y.key) zs
+      further [] a = tt
+      further (z ∷ zs) a = (one z (before z.key b) refl a.0, further zs a.1)
+
+  -- the last key is below a bound, and so are those in front of it
+  under_all : (xs : List Item) (key : List ℕ) → AscendsFrom before key xs → before (key_behind key xs) b ≡ true → (before key b ≡ true) × AllByRecursion (λ y. before y.key b ≡ true) xs
+  under_all [] key asc t = (t, tt)
+  under_all (x ∷ xs) key asc t = let r = under_all xs x.key asc.1 t in (trans key x.key b asc.0.0 r.0, r)
+
+  under_last : (xs : List Item) (key : List ℕ) → before key b ≡ true → AllByRecursion (λ y. before y.key b ≡ true) xs → before (key_behind key xs) b ≡ true
+  under_last [] key t a = t
+  under_last (x ∷ xs) key t a = under_last xs x.key a.0 a.1
+
+  pub last_under : (items : List Item) (key : List ℕ) → Ascends before items → Some key ≡ last_key items → before key b ≡ true ↔ AllByRecursion (λ y. Under before y.key (Some b)) items
+  last_under [] key asc e = absurd cc
+  last_under (x ∷ xs) key asc e =
+      let is : key ≡ key_behind x.key xs = cc in
+      (λ t. under_all xs x.key asc (ap (λ (k : List ℕ). before k b) (sym is) ∙ t), λ a. ap (λ (k : List ℕ). before k b) is ∙ under_last xs x.key a.0 a.1)
 
 -- ---- counted values
 

@@ -3,7 +3,6 @@ use Rattle.std.proofs.Common.{◌≡◌, ◌↔◌, ℕ, suc, ◌+◌, ◌-◌, 
 use Rattle.std.specs.Prelude.{IsTrue, ◌&&◌, not, option_to_list}
 use Rattle.std.specs.Option.{option_eq}
 use Rattle.std.proofs.Math.Dec.{eqb}
-use Rattle.std.specs.List.{flat_map}
 use Rattle.std.proofs.lemmas.Bool.{le-leb, lt-leb, cases_lt, eqb-true}
 use Rattle.std.proofs.lemmas.List.{append-nil}
 use Rattle.std.proofs.lemmas.Grind.{flat_map-append}
@@ -12,12 +11,11 @@ use Rattle.bt_rows.specs.declared.page.LeafAt.{LeafAt}
 use Rattle.bt_rows.specs.Orders.{Before}
 use Rattle.bt_rows.specs.declared.page.Slot.{Slot}
 use Rattle.tc_base.specs.declared.seq.Pair.{Pair}
-use Rattle.bt_page.specs.declared.page.Item.{Item}
 use Rattle.bt_rows.specs.Pages.{PageMap}
 use Rattle.bt_rows.specs.Rows.{first_id, last_id, held, leaf_at, leaves_among}
 use Rattle.bt_check.proofs.Walked.{among-append, there_front, there_last}
-use Rattle.bt_rows.specs.Rules.{InLeaf, IsBelow, InOrder, IsLinked, B7, pairs_of, leaf_pairs, item_pairs}
-use Rattle.bt_check.specs.Leaves.{IsBehind, IsTied, IsClosed, AreTied, last_at, less, last_leaf, IsSeen, Sees}
+use Rattle.bt_rows.specs.Rules.{InLeaf, IsBelow, InOrder, IsLinked, B7, pairs_of, leaf_pairs}
+use Rattle.bt_check.specs.Leaves.{EndAscends, IsBehind, IsTied, IsClosed, AreTied, last_at, less, last_leaf, IsSeen, Sees}
 use Rattle.bt_check.specs.Walks.{AreThere}
 use Rattle.bt_check.specs.declared.leaves.Seen.{Seen}
 use Rattle.bt_check.specs.declared.rows.Placed.{Placed}
@@ -101,6 +99,17 @@ module _ (before : Before) (trans : IsTransitive before) where
       go (some front l e) = subst (λ (l : Option LeafAt). IsBehind before l m) (sym (ap (last_leaf None) e ∙ last_end None front l))
           (order_last before trans ls m o, order_two before trans front l m (subst (λ (t : List LeafAt). InOrder before (t ++ m ∷ [])) e o))
 
+  ends_ascend : (ls : List LeafAt) → InOrder before ls → EndAscends before (last_leaf None ls)
+  ends_ascend ls o = go (ends ls)
+    where
+      go : Ends ls → EndAscends before (last_leaf None ls)
+      go (none e) = subst (EndAscends before) (sym (ap (last_leaf None) e)) tt
+      go (some front l e) = subst (EndAscends before) (sym (ap (last_leaf None) e ∙ last_end None front l)) (order_last before trans front l (subst (InOrder before) e o)).ascends
+
+  -- the last of leaves that are in order has keys that ascend
+  pub end_ascends : (h : TreeHead) (ls : List LeafAt) (s : Seen) → IsSeen before h ls s → IsTrue s.ordered → EndAscends before (last_at s.last)
+  end_ascends h ls s seen o = subst (EndAscends before) (sym seen.last_is) (ends_ascend ls (seen.in_order.0 o))
+
   pub seen_none : (h : TreeHead) → IsSeen before h [] (record { last = None; ordered = true; linked = true; left = Some h.pairs })
   seen_none h = record { last_is = refl; in_order = (λ _. tt, λ _. refl); tied = (λ _. tt, λ _. refl); rest = sym (less_zero h.pairs) }
     where
@@ -183,6 +192,10 @@ pub values_count : (key : List ℕ) (values : List (List ℕ)) → length (map (
 values_count key [] = refl
 values_count key (v ∷ vs) = ap suc (values_count key vs)
 
+-- the second need tell only where the first holds
+pub and_if : (a b : Bool) (P : Type 0) → (IsTrue a → IsTrue b ↔ P) → IsTrue (a && b) ↔ (IsTrue a × P)
+and_if true b P h = let own = h refl in (λ e. (refl, own.0 e), λ p. own.1 p.1)
+and_if false b P h = (λ e. absurd cc, λ p. absurd (let e = p.0 in cc))
+
 pub and_iff : (a b : Bool) (P : Type 0) → IsTrue b ↔ P → IsTrue (a && b) ↔ (IsTrue a × P)
-and_iff true b P h = (λ e. (refl, h.0 e), λ p. h.1 p.1)
-and_iff false b P h = (λ e. absurd cc, λ p. absurd (let e = p.0 in cc))
+and_iff a b P h = and_if a b P (λ t. h)

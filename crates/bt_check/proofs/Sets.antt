@@ -9,7 +9,7 @@ use Rattle.std.proofs.lemmas.Cmp.{tied_itself}
 use Rattle.std.proofs.lemmas.Bool.{cases_eq, ne_eqb, eq-eqb}
 use Rattle.bt_check.specs.Collected.{has}
 
-apart : (a b : ℕ) → a ≢ b → is_eq (nat_cmp a b) ≡ false
+pub apart : (a b : ℕ) → a ≢ b → is_eq (nat_cmp a b) ≡ false
 apart a b ne =
     elim (nat_cmp a b) as (λ r. r ≡ nat_cmp a b → is_eq r ≡ false) [
       | Less ↦ λ e. refl

@@ -1,7 +1,7 @@
 -- Rows that are walked from the root down.
 use Rattle.std.proofs.Common.{◌≡◌, ◌≢◌, ◌↔◌, ℕ, zero, suc, ◌+◌, ◌<◌, ◌≤◌, ◌⊎◌, List, [], ◌∷◌, ◌++◌, Bool, true, false, Option, Some, None, length, map, take, drop, get_or, refl, sym, ap, ◌∙◌, subst, inl, inr, ⊎_elim, arith, append_assoc, length-append}
-use Rattle.std.specs.Prelude.{◌==◌, nat_lt, IsTrue, if◌then◌else◌}
-use Rattle.std.specs.BTreeSet.{BTreeSet}
+use Rattle.std.specs.Prelude.{◌==◌, ◌||◌, nat_lt, IsTrue, if◌then◌else◌}
+use Rattle.std.specs.BTreeSet.{BTreeSet, btree_set_len, contains}
 use Rattle.std.proofs.lemmas.List.{append-nil, take_more, take-append-drop}
 use Rattle.std.proofs.lemmas.Bool.{cases_eq, cases_lt, ne_eqb, eq-eqb, lt-ltb, le-ltb}
 use Rattle.bt_page.specs.declared.page.Leaf.{Leaf}
@@ -18,8 +18,12 @@ use Rattle.bt_rows.specs.Rules.{B3}
 use Rattle.bt_rows.proofs.Building.{held_is, held_most, reached_nil, row_nil, times-front}
 use Rattle.bt_check.specs.Collected.{IsSetTo, has}
 use Rattle.bt_check.specs.ReadPages.{IsReadAs}
-use Rattle.bt_check.specs.Walks.{AreThere, IsStuck, IsTakenOut, IsWalked, leaf_places}
+use Rattle.bt_check.specs.Walks.{AreThere, IsNextOf, IsStuck, IsTakenOut, IsWalked, SpreadsOn, leaf_places}
+use Rattle.bt_check.specs.declared.rows.Naming.{Naming}
 use Rattle.bt_check.specs.declared.rows.Walked.{Walked}
+use Rattle.bt_check.proofs.Collects.{has_bound}
+use Rattle.bt_check.proofs.Sets.{apart}
+use Rattle.std.specs.Ordering.{nat_cmp, is_eq}
 use Rattle.bt_rows.proofs.Held.{decided}
 
 abbrev pub heir_slot : Option (List ℕ) → Node → Slot
@@ -68,38 +72,33 @@ node_above h m pages id (leaf_page l) a e le = absurd (go (m (key_of id)) (subst
     go None h = h
     go (Some bytes) h = omega (arith, le, h.0)
 
+same_spread : (children : List Slot) (next : Naming) → children ≡ [] → SpreadsOn children next next
+same_spread children next e = record {
+  added = λ fits. (fits, sym (ap (λ t. next.places ++ t) e ∙ append-nil next.places));
+  over = λ full. inl full;
+}
+
 -- nothing is below a leaf
-pub spread_leaf : (h : TreeHead) (m : Map) (pages : PageMap) (s : Slot) (next : List Slot) → AreHeld h m pages → held pages s.id ≡ 1 → s.id < node_offset → next ≡ next ++ children_at s (pages s.id)
+pub spread_leaf : (h : TreeHead) (m : Map) (pages : PageMap) (s : Slot) (next : Naming) → AreHeld h m pages → held pages s.id ≡ 1 → s.id < node_offset → SpreadsOn (children_at s (pages s.id)) next next
 spread_leaf h m pages s next a one lt =
     let p = page_of pages s.id one in
     let l = leaf_below h m pages s.id p.0 a p.1 lt in
-    sym (ap (λ o. next ++ children_at s o) l.1 ∙ append-nil next)
+    same_spread (children_at s (pages s.id)) next (ap (children_at s) l.1)
 
 -- nor below what isn't read as a node
-pub spread_none : (h : TreeHead) (m : Map) (pages : PageMap) (s : Slot) (next : List Slot) (r : Option Page) → AreHeld h m pages → held pages s.id ≡ 1 → IsReadAs s.id (m (key_of s.id)) r → ((n : Node) → r ≡ Some (node_page n) → ⊥) → next ≡ next ++ children_at s (pages s.id)
+pub spread_none : (h : TreeHead) (m : Map) (pages : PageMap) (s : Slot) (next : Naming) (r : Option Page) → AreHeld h m pages → held pages s.id ≡ 1 → IsReadAs s.id (m (key_of s.id)) r → ((n : Node) → r ≡ Some (node_page n) → ⊥) → SpreadsOn (children_at s (pages s.id)) next next
 spread_none h m pages s next r a one read not = let p = page_of pages s.id one in go p.0 p.1 (read_is h m pages s.id r p.0 a p.1 read)
   where
-    go : (p : Page) → pages s.id ≡ Some p → r ≡ Some p → next ≡ next ++ children_at s (pages s.id)
-    go (leaf_page l) e is = sym (ap (λ o. next ++ children_at s o) e ∙ append-nil next)
+    go : (p : Page) → pages s.id ≡ Some p → r ≡ Some p → SpreadsOn (children_at s (pages s.id)) next next
+    go (leaf_page l) e is = same_spread (children_at s (pages s.id)) next (ap (children_at s) e)
     go (node_page n) e is = absurd (not n is)
 
-pub spread_node : (h : TreeHead) (m : Map) (pages : PageMap) (s : Slot) (old new : List Slot) (n : Node) (r : Option Page) → AreHeld h m pages → held pages s.id ≡ 1 → IsReadAs s.id (m (key_of s.id)) r → r ≡ Some (node_page n) → new ≡ old ++ children_of s.bound n → new ≡ old ++ children_at s (pages s.id)
+-- what a node names, or that there was no room for it
+pub spread_node : (h : TreeHead) (m : Map) (pages : PageMap) (s : Slot) (old new : Naming) (n : Node) (r : Option Page) → AreHeld h m pages → held pages s.id ≡ 1 → IsReadAs s.id (m (key_of s.id)) r → r ≡ Some (node_page n) → SpreadsOn (children_of s.bound n) old new → SpreadsOn (children_at s (pages s.id)) old new
 spread_node h m pages s old new n r a one read is e =
     let p = page_of pages s.id one in
     let here : pages s.id ≡ Some (node_page n) = p.1 ∙ sym (read_is h m pages s.id r p.0 a p.1 read) ∙ is in
-    e ∙ ap (λ o. old ++ children_at s o) (sym here)
-
--- a leaf that is read is the one at its place, and nothing else stands there
-pub leaf_there : (h : TreeHead) (m : Map) (pages : PageMap) (s : Slot) (l : Leaf) (r : Option Page) → AreHeld h m pages → held pages s.id ≡ 1 → IsReadAs s.id (m (key_of s.id)) r → r ≡ Some (leaf_page l) → record { slot = s; leaf = l } ∷ [] ≡ leaf_at s (pages s.id)
-leaf_there h m pages s l r a one read is =
-    let p = page_of pages s.id one in
-    ap (leaf_at s) (sym (p.1 ∙ sym (read_is h m pages s.id r p.0 a p.1 read) ∙ is))
-
-pub none_there : (h : TreeHead) (m : Map) (pages : PageMap) (s : Slot) (r : Option Page) → AreHeld h m pages → held pages s.id ≡ 1 → IsReadAs s.id (m (key_of s.id)) r → r ≡ None → [] ≡ leaf_at s (pages s.id)
-none_there h m pages s r a one read is = let p = page_of pages s.id one in absurd (let bad = sym is ∙ read_is h m pages s.id r p.0 a p.1 read in cc)
-
-pub node_there : (h : TreeHead) (m : Map) (pages : PageMap) (s : Slot) → AreHeld h m pages → held pages s.id ≡ 1 → node_offset ≤ s.id → [] ≡ leaf_at s (pages s.id)
-node_there h m pages s a one le = let p = page_of pages s.id one in let n = node_above h m pages s.id p.0 a p.1 le in sym (ap (leaf_at s) n.1)
+    subst (λ (xs : List Slot). SpreadsOn xs old new) (sym (ap (children_at s) here)) e
 
 -- ---- places of leaves
 
@@ -180,9 +179,26 @@ pub there_last : (pages : PageMap) (front : List Slot) (s : Slot) → AreThere p
 there_last pages front s there = there s.id (omega (arith, times-append s.id front (s ∷ []), times-front s.id s [] refl))
 
 -- one place more
-pub next_more : (pages : PageMap) (front : List Slot) (s : Slot) (next next' : List Slot) → (AreThere pages front → next ≡ next_row pages front) → (held pages s.id ≡ 1 → next' ≡ next ++ children_at s (pages s.id)) → AreThere pages (front ++ s ∷ []) → next' ≡ next_row pages (front ++ s ∷ [])
-next_more pages front s next next' so_far one there =
-    one (there_last pages front s there) ∙ ap (λ t. t ++ children_at s (pages s.id)) (so_far (there_front pages front s there)) ∙ ap (λ t. next_row pages front ++ t) (sym (append-nil (children_at s (pages s.id)))) ∙ sym (next-append pages front (s ∷ []))
+pub next_start : (pages : PageMap) (room : ℕ) (next : Naming) → next.places ≡ [] → next.full ≡ false → IsNextOf (next_row pages []) room next
+next_start pages room next none fits = record { all = λ e. none; over = λ e. absurd (let bad = sym fits ∙ e in cc) }
+
+pub next_more : (pages : PageMap) (front : List Slot) (s : Slot) (room : ℕ) (next next' : Naming) → next.room ≡ room → (AreThere pages front → IsNextOf (next_row pages front) room next) → (held pages s.id ≡ 1 → SpreadsOn (children_at s (pages s.id)) next next') → AreThere pages (front ++ s ∷ []) → IsNextOf (next_row pages (front ++ s ∷ [])) room next'
+next_more pages front s room next next' same so_far one there =
+    let was = so_far (there_front pages front s there) in
+    let on = one (there_last pages front s there) in
+    let children : List Slot = children_at s (pages s.id) in
+    let joined : next_row pages (front ++ s ∷ []) ≡ next_row pages front ++ children = next-append pages front (s ∷ []) ∙ ap (λ t. next_row pages front ++ t) (append-nil children) in
+    let long : length (next_row pages (front ++ s ∷ [])) ≡ length (next_row pages front) + length children = ap (λ (t : List Slot). length t) joined ∙ length-append (next_row pages front) children in
+    let past : next.full ≡ true → room < length (next_row pages (front ++ s ∷ [])) = λ e. omega (arith, long, was.over e) in
+    record {
+      all = λ e. let k = on.added e in k.1 ∙ ap (λ t. t ++ children) (was.all k.0) ∙ sym joined;
+      over = λ e. ⊎_elim past (λ (more : next.room < length (next.places ++ children)). full_or children past was.all more long (length-append next.places children) same next.full refl) (on.over e);
+    }
+  where
+    full_or : (children : List Slot) → (next.full ≡ true → room < length (next_row pages (front ++ s ∷ []))) → (next.full ≡ false → next.places ≡ next_row pages front) → next.room < length (next.places ++ children)
+        → length (next_row pages (front ++ s ∷ [])) ≡ length (next_row pages front) + length children → length (next.places ++ children) ≡ length next.places + length children → next.room ≡ room → (b : Bool) → next.full ≡ b → room < length (next_row pages (front ++ s ∷ []))
+    full_or children past all more long joined same true e = past e
+    full_or children past all more long joined same false e = omega (arith, more, long, joined, same, ap (λ (t : List Slot). length t) (all e))
 
 pub kept_more : (front : List Slot) (s : Slot) (start kept kept' : List Slot) → kept ≡ start ++ leaf_places front → kept' ≡ kept ++ leaf_places (s ∷ []) → kept' ≡ start ++ leaf_places (front ++ s ∷ [])
 kept_more front s start kept kept' so_far one =
@@ -361,6 +377,59 @@ module _ (h : TreeHead) (m : Map) (pages : PageMap) (a : AreHeld h m pages) (roo
 -- the same of numbers that are those
 pub uneven_as : (b u : Bool) (k n i j : ℕ) → k ≡ i → n ≡ j → IsTrue b ↔ (IsTrue u ⊎ ((0 < k) × (k < n))) → IsTrue b ↔ (IsTrue u ⊎ ((0 < i) × (i < j)))
 uneven_as b u k n i j e f tells = subst (λ (x : ℕ). IsTrue b ↔ (IsTrue u ⊎ ((0 < x) × (x < j)))) e (subst (λ (y : ℕ). IsTrue b ↔ (IsTrue u ⊎ ((0 < k) × (k < y)))) f tells)
+
+-- ---- rows of more places than pages are left
+
+abbrev without : ℕ → List Slot → List Slot
+without id [] = []
+without id (s ∷ ss) = (if s.id == id then [] else s ∷ []) ++ without id ss
+
+without_long : (id : ℕ) (ss : List Slot) → length ss ≡ times id ss + length (without id ss)
+without_long id [] = omega arith
+without_long id (s ∷ ss) = (elim (s.id == id) as (λ b. suc (length ss) ≡ (if b then 1 else 0) + times id ss + length ((if b then [] else s ∷ []) ++ without id ss)) [
+  | true ↦ omega (arith, without_long id ss)
+  | false ↦ omega (arith, without_long id ss)
+])
+
+without_less : (id x : ℕ) (ss : List Slot) → times x (without id ss) ≤ times x ss
+without_less id x [] = omega arith
+without_less id x (s ∷ ss) = (elim (s.id == id) as (λ b. times x ((if b then [] else s ∷ []) ++ without id ss) ≤ times x (s ∷ ss)) [
+  | true ↦ omega (arith, without_less id x ss)
+  | false ↦ omega (arith, without_less id x ss)
+])
+
+without_none : (id : ℕ) (ss : List Slot) → times id (without id ss) ≡ 0
+without_none id [] = refl
+without_none id (s ∷ ss) = (elim (s.id == id) as (λ b. (s.id == id) ≡ b → times id ((if b then [] else s ∷ []) ++ without id ss) ≡ 0) [
+  | true ↦ λ e. without_none id ss
+  | false ↦ λ e. rw e (omega (arith, without_none id ss))
+]) refl
+
+has_more : (k x : ℕ) (ks : List ℕ) → x ≢ k → has (record { keys = k ∷ ks }) x ≡ has (record { keys = ks }) x
+unfolding has
+has_more k x ks ne = let f : is_eq (nat_cmp x k) ≡ false = apart x k ne in ap (λ (b : Bool). if b || contains nat_cmp (record { keys = ks }) x then 1 else 0) f
+
+none_has : (id : ℕ) → has (record { keys = [] }) id ≡ 0
+unfolding has
+none_has id = refl
+
+-- places whose ids are in a set as often as they are named are no more than it has
+few_places : (ks : List ℕ) (ss : List Slot) → ((id : ℕ) → times id ss ≤ has (record { keys = ks }) id) → length ss ≤ length ks
+few_places [] [] h = omega arith
+few_places [] (s ∷ ss) h = absurd (omega (arith, h s.id, times-front s.id s ss refl, none_has s.id))
+few_places (k ∷ ks) ss h =
+    let rest : length (without k ss) ≤ length ks = few_places ks (without k ss) (λ id. ⊎_elim
+    (λ (is : id ≡ k). omega (arith, ap (λ (i : ℕ). times i (without k ss)) is, without_none k ss))
+    (λ (ne : id ≡ k → ⊥). omega (arith, without_less k id ss, h id, has_more k id ks ne))
+    (cases_eq id k)) in
+    omega (arith, without_long k ss, rest, h k, has_bound (record { keys = k ∷ ks }) k)
+
+-- so a row below one that was taken out has no more places than pages are left, in a tree
+pub walking_over : (pages : PageMap) (root : ℕ) (slots kept : List Slot) (ids new : BTreeSet ℕ) (uneven : Bool) (k room : ℕ) → Walking pages root slots ids kept uneven k → IsTakenOut slots ids new → room ≡ btree_set_len new → room < length (next_row pages slots) → B3 pages root → ⊥
+walking_over pages root slots kept ids new uneven k room w taken is over b =
+    let below : next_row pages slots ≡ row pages (suc k) (root_slot root ∷ []) = ap (next_row pages) w.at ∙ sym (row_next pages k (root_slot root ∷ [])) in
+    let fits : (id : ℕ) → times id (next_row pages slots) ≤ has new id = λ id. omega (arith, reached_prefix pages id (suc k) b.0 (root_slot root ∷ []) b.1.ends, b.1.once id, taken id, w.count id, reached_next pages id k (root_slot root ∷ []), ap (times id) w.at, ap (times id) below) in
+    omega (arith, over, is, few_places new.keys (next_row pages slots) fits)
 
 -- a row that can't be taken out isn't one of a tree
 pub walking_stuck : (pages : PageMap) (root : ℕ) (slots kept : List Slot) (ids : BTreeSet ℕ) (uneven : Bool) (k : ℕ) → Walking pages root slots ids kept uneven k → IsStuck ids slots → B3 pages root → ⊥

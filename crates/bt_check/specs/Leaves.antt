@@ -8,7 +8,7 @@ use Rattle.bt_rows.specs.declared.page.LeafAt.{LeafAt}
 use Rattle.bt_rows.specs.declared.page.Slot.{Slot}
 use Rattle.bt_rows.specs.Orders.{Before}
 use Rattle.bt_rows.specs.Rows.{held, leaf_at, leaves_among}
-use Rattle.bt_rows.specs.Rules.{AtLeast, InLeaf, InOrder, IsBelow, Under, pairs_of}
+use Rattle.bt_rows.specs.Rules.{Ascends, AtLeast, InLeaf, InOrder, IsBelow, Under, pairs_of}
 use Rattle.bt_check.specs.ReadPages.{OfPages}
 use Rattle.bt_check.specs.Walks.{AreThere}
 use Rattle.bt_check.specs.declared.leaves.Seen.{Seen}
@@ -27,6 +27,20 @@ AreAbove before bound items = AllByRecursion (λ x. AtLeast before bound x.key) 
 
 abbrev pub AreUnder : Before → Option (List ℕ) → List Item → Type 0
 AreUnder before bound items = AllByRecursion (λ x. Under before x.key bound) items
+
+-- the key of the last item, or one in front of all
+abbrev pub key_behind : List ℕ → List Item → List ℕ
+key_behind key [] = key
+key_behind key (x ∷ xs) = key_behind x.key xs
+
+abbrev pub last_key : List Item → Option (List ℕ)
+last_key [] = None
+last_key (x ∷ xs) = Some (key_behind x.key xs)
+
+-- the keys of a last leaf ascend
+abbrev pub EndAscends : Before → Option LeafAt → Type 0
+EndAscends before None = ⊤
+EndAscends before (Some l) = Ascends before l.leaf.items
 
 -- a leaf in order behind the last one
 abbrev pub IsBehind : Before → Option LeafAt → LeafAt → Type 0

@@ -1,5 +1,5 @@
 -- Rows that were walked.
-use Rattle.std.specs.Prelude.{◌≡◌, ℕ, suc, ◌+◌, ◌≤◌, ◌<◌, List, [], ◌∷◌, ◌++◌, true, false, length, nat_lt, Option, IfSome, MatchOption, if◌then◌else◌}
+use Rattle.std.specs.Prelude.{◌≡◌, ◌⊎◌, ℕ, suc, ◌+◌, ◌≤◌, ◌<◌, List, [], ◌∷◌, ◌++◌, true, false, length, nat_lt, Option, IfSome, MatchOption, if◌then◌else◌}
 use Rattle.std.specs.BTreeSet.{BTreeSet}
 use Rattle.tc_base.specs.Maps.{Map as Stored}
 use Rattle.bt_page.specs.Keys.{node_offset}
@@ -9,6 +9,7 @@ use Rattle.bt_rows.specs.Rows.{root_slot, children_at, next_row, row, leaves_amo
 use Rattle.bt_rows.specs.Rules.{IsReached, B3, B4}
 use Rattle.bt_check.specs.Collected.{has}
 use Rattle.bt_check.specs.ReadPages.{OfPages}
+use Rattle.bt_check.specs.declared.rows.Naming.{Naming}
 use Rattle.bt_check.specs.declared.rows.Walked.{Walked}
 
 -- each page that a row names is held
@@ -28,13 +29,21 @@ abbrev pub leaf_places : List Slot → List Slot
 leaf_places [] = []
 leaf_places (s ∷ ss) = (if nat_lt s.id node_offset then s ∷ [] else []) ++ leaf_places ss
 
--- what a page names was added to the next row, if it is a node
-abbrev pub Spreads : Slot → List Slot → List Slot → Stored → Type 0
-Spreads s old new m = OfPages m (λ pages. held pages s.id ≡ 1 → new ≡ old ++ children_at s (pages s.id))
+-- what a page names was added to the next row, if it is a node and there was room
+pub record SpreadsOn (children : List Slot) (old new : Naming) : Type 0 where
+  pub added : new.full ≡ false → (old.full ≡ false) × (new.places ≡ old.places ++ children)
+  pub over : new.full ≡ true → (old.full ≡ true) ⊎ (old.room < length (old.places ++ children))
 
--- the row below a row
-abbrev pub IsNextRow : List Slot → List Slot → Stored → Type 0
-IsNextRow slots next m = OfPages m (λ pages. AreThere pages slots → next ≡ next_row pages slots)
+abbrev pub Spreads : Slot → Naming → Naming → Stored → Type 0
+Spreads s old new m = OfPages m (λ pages. held pages s.id ≡ 1 → SpreadsOn (children_at s (pages s.id)) old new)
+
+-- the row below a row, or it has more places than this
+pub record IsNextOf (row : List Slot) (room : ℕ) (next : Naming) : Type 0 where
+  pub all : next.full ≡ false → next.places ≡ row
+  pub over : next.full ≡ true → room < length row
+
+abbrev pub IsNextRow : List Slot → ℕ → Naming → Stored → Type 0
+IsNextRow slots room next m = OfPages m (λ pages. AreThere pages slots → IsNextOf (next_row pages slots) room next)
 
 -- so many rows are all: the last of them isn't empty, and nothing stands below it
 pub record IsHigh (pages : PageMap) (root height : ℕ) : Type 0 where

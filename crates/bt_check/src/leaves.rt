@@ -5,7 +5,7 @@ ghost use Rattle.tc_space.specs.Refusals.{OnFault};
 ghost use Rattle.bt_rows.specs.Orders.{before_by};
 ghost use Rattle.bt_rows.specs.Rules.{item_pairs};
 ghost use Rattle.bt_check.specs.Looks.{Gives, Looks, MayLook};
-ghost use Rattle.bt_check.specs.Leaves.{IsBehind, IsClosed, IsLeafIn, IsTied, Sees, SeesAll, at_place, last_at, less};
+ghost use Rattle.bt_check.specs.Leaves.{EndAscends, IsBehind, IsClosed, IsLeafIn, IsTied, Sees, SeesAll, at_place, last_at, less};
 ghost use Rattle.bt_check.specs.Verdicts.{Judges};
 
 use crate::ordering::{in_leaf, is_below};
@@ -51,12 +51,15 @@ fn count_off(left: Option<u64>, leaf: &BareLeaf) -> Option<u64>
 }
 
 fn is_behind<O: Order>(last: &Option<Placed>, m: &Placed) -> bool
-    ensures { IsTrue result ↔ IsBehind (before_by O.cmp) (last_at last.now) (at_place m.now) }
+    ensures { EndAscends (before_by O.cmp) (last_at last.now) → IsTrue result ↔ IsBehind (before_by O.cmp) (last_at last.now) (at_place m.now) }
 {
-    match last {
-        None => in_leaf::<O>(m),
-        Some(l) => in_leaf::<O>(m) && is_below::<O>(l, m),
+    let Some(l) = last else {
+        return in_leaf::<O>(m);
+    };
+    if !in_leaf::<O>(m) {
+        return false;
     }
+    is_below::<O>(l, m)
 }
 
 fn is_tied(head: &TreeHead, last: &Option<Placed>, m: &Placed) -> bool

@@ -20,3 +20,11 @@ pub(crate) struct Placed {
     pub slot: Slot,
     pub leaf: BareLeaf,
 }
+
+/// The places of a row as they are named, of which there may be so many. Once more are named none is added.
+#[derive(Drop)]
+pub(crate) struct Naming {
+    pub places: Seq<Slot>,
+    pub room: usize,
+    pub full: bool,
+}

@@ -9,7 +9,7 @@ ghost use Rattle.bt_check.specs.Walks.{IsNextRow, IsStuck, IsTakenOut, LeavesRoo
 
 use crate::ids::{is_empty, take};
 use crate::pages::read_node;
-use crate::rows::Walked;
+use crate::rows::{Naming, Walked};
 use bt_rows::Slot;
 use bt_slots::{BareNode, next_entry};
 use std::alloc::{AllocError, Global};
@@ -42,17 +42,18 @@ fn name_all(
     Ok(())
 }
 
-// Adds what the node in a place names to the next row; its heir has the bound of the place.
+// Adds what the node in a place names to the next row, if it has room; its heir has the bound of the place.
 fn spread<R: Records>(
     alloc: Global,
     store: &mut R,
     space: &mut R::S,
     slot: Slot,
-    next: &mut Seq<Slot>,
+    next: &mut Naming,
 ) -> Result<(), RecErr>
     requires node { node_offset ≤ slot.id }
     requires ready { MayLook R.S.Space R.Records store.old space.old }
     ensures next { Gives R.S.Space R.Records result store.old space.old (λ _. Spreads slot next.old next.new) }
+    ensures room { next.new.room ≡ next.old.room }
     ensures looks { Looks R.S.Space R.Records store.old store.new space.old space.new }
     ensures asks { R.gets store.new ≤ R.gets store.old + 1 }
     ensures cause { OnFault R.S.Space result space.old space.new }
@@ -60,7 +61,12 @@ fn spread<R: Records>(
     let Some(node) = read_node(alloc, store, space, slot.id)? else {
         return Ok(());
     };
-    name_all(alloc, slot.bound, &node, next)?;
+    // its heir and its entries
+    if next.places.len().saturating_add(node.len()) >= next.room {
+        next.full = true;
+        return Ok(());
+    }
+    name_all(alloc, slot.bound, &node, &mut next.places)?;
     Ok(())
 }
 
@@ -70,11 +76,12 @@ fn pass_one<R: Records>(
     store: &mut R,
     space: &mut R::S,
     slot: Slot,
-    next: &mut Seq<Slot>,
+    next: &mut Naming,
     leaves: &mut Seq<Slot>,
 ) -> Result<(), RecErr>
     requires { MayLook R.S.Space R.Records store.old space.old }
     ensures next { Gives R.S.Space R.Records result store.old space.old (λ _. Spreads slot next.old next.new) }
+    ensures room { next.new.room ≡ next.old.room }
     ensures leaves { OnOk result (leaves.new ≡ leaves.old ++ leaf_places (slot ∷ [])) }
     ensures looks { Looks R.S.Space R.Records store.old store.new space.old space.new }
     ensures asks { AsksOrKeeps R.Records 1 store.old store.new leaves.old leaves.new }
@@ -84,25 +91,33 @@ fn pass_one<R: Records>(
         leaves.push(slot)?;
         return Ok(());
     }
+    if next.full {
+        return Ok(());
+    }
     spread(alloc, store, space, slot, next)
 }
 
-// Makes the row below a row, and keeps the places of the leaves in it.
+// Makes the row below a row, of so many places at most, and keeps the places of the leaves in it.
 fn pass<R: Records>(
     alloc: Global,
     store: &mut R,
     space: &mut R::S,
     row: Seq<Slot>,
+    room: usize,
     leaves: &mut Seq<Slot>,
-) -> Result<Seq<Slot>, RecErr>
+) -> Result<Naming, RecErr>
     requires { MayLook R.S.Space R.Records store.old space.old }
-    ensures next { Gives R.S.Space R.Records result store.old space.old (IsNextRow row) }
+    ensures next { Gives R.S.Space R.Records result store.old space.old (IsNextRow row room) }
     ensures leaves { OnOk result (leaves.new ≡ leaves.old ++ leaf_places row) }
     ensures looks { Looks R.S.Space R.Records store.old store.new space.old space.new }
     ensures asks { AsksOrKeeps R.Records (length row) store.old store.new leaves.old leaves.new }
     ensures cause { OnFault R.S.Space result space.old space.new }
 {
-    let mut next = Seq::new(alloc);
+    let mut next = Naming {
+        places: Seq::new(alloc),
+        room,
+        full: false,
+    };
     for slot in row.into_vec() {
         pass_one(alloc, store, space, slot, &mut next, leaves)?;
     }
@@ -167,7 +182,12 @@ pub(crate) fn walk<R: Records>(
             return Ok(None);
         }
         let above = leaves.len();
-        row = pass(alloc, store, space, row, &mut leaves)?;
+        // no more places than pages that are left
+        let next = pass(alloc, store, space, row, ids.len(), &mut leaves)?;
+        if next.full {
+            return Ok(None);
+        }
+        row = next.places;
         uneven = is_uneven(uneven, above, leaves.len());
         height += 1;
     }

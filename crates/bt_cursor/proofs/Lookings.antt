@@ -1,6 +1,6 @@
 -- What is taken of items that are shown, and calls that only look at a tree.
-use Rattle.std.proofs.Common.{◌≡◌, ◌≢◌, ℕ, zero, suc, ◌+◌, ◌-◌, ◌*◌, ◌^◌, ◌<◌, ◌≤◌, List, [], ◌∷◌, ◌++◌, Bool, true, false, Option, Some, None, length, refl, sym, ap, ◌∙◌, subst, inl, inr, ⊎_elim, ◌⊎◌, arith}
-use Rattle.std.specs.Prelude.{option_map, slice_get}
+use Rattle.std.proofs.Common.{◌≡◌, ℕ, ◌+◌, ◌-◌, ◌*◌, ◌^◌, ◌≤◌, List, [], ◌∷◌, ◌++◌, Bool, true, false, Option, Some, None, length, refl, sym, ap, ◌∙◌, subst, inl, inr, ⊎_elim, ◌⊎◌, arith}
+use Rattle.std.specs.Prelude.{option_map}
 use Rattle.std.specs.declared.cmp.Ordering.{Ordering}
 use Rattle.tc_base.specs.Lists.{values}
 use Rattle.tc_base.specs.declared.order.Order.{Ghosts as Orders}
@@ -12,7 +12,8 @@ use Rattle.tc_space.specs.Stores.{Ticks}
 use Rattle.tc_space.specs.declared.records.Records.{Ghosts as Stores}
 use Rattle.tc_space.specs.declared.space.Space.{Ghosts}
 use Rattle.bt_page.specs.declared.page.Item.{Item}
-use Rattle.bt_slots.specs.Reads.{value_in, values_in}
+use Rattle.bt_slots.specs.Reads.{values_in}
+use Rattle.bt_slots.proofs.BareReads.{values_long}
 use Rattle.bt_ways.specs.Changes.{AreItems, items_pairs}
 use Rattle.bt_ways.specs.Items.{item_in, item_of}
 use Rattle.bt_tree.specs.declared.tree.Tree.{Tree}
@@ -26,7 +27,7 @@ use Rattle.bt_tree.specs.Visits.{Asks, stays_then}
 use Rattle.bt_tree.proofs.Contents.{no_items_of}
 use Rattle.bt_rows.specs.declared.head.TreeHead.{TreeHead}
 use Rattle.bt_rows.specs.Orders.{IsOrder, before_by}
-use Rattle.bt_cursor.specs.Places.{AsksFew, AsksFor, Looks, end_of, last_number, nth_further, number_last, value_at}
+use Rattle.bt_cursor.specs.Places.{AsksFew, AsksFor, Looks, end_of, last_number, number_last}
 use Rattle.bt_cursor.specs.declared.takers.End.{End}
 
 -- ---- how many pages a store was asked for
@@ -143,51 +144,16 @@ module _ {T : Type 0} (takes : Takes T) (number : T → ℕ) (taken : (t u : T) 
     pub has_last : ShowsItem s R o (item_in key) takes tree space true t u → AnswersPairs s R o (last_number key) tree space (Some (number u))
     has_last shows = λ ps means. one_held key (values ps key) t u (shows ps means)
 
--- the value of a number
-module _ {T : Type 0} (takes : Takes T) (value : T → Option (List ℕ)) (n : ℕ) where
-  nth_held : (key : List ℕ) (vs : List (List ℕ)) (t u : T) (held : Bool) → ((x : Item) (more : Bool) → takes t x u more → value u ≡ slice_get x.values n) → value t ≡ None → ShownOf takes (item_of key vs) held t u → value u ≡ slice_get vs n
-  nth_held key [] t u held taken none shown = ap value shown.1 ∙ none
-  nth_held key (v ∷ vs) t u held taken none shown = taken (record { key = key; values = v ∷ vs }) shown.1 shown.2
-
-  pub nth_shown : {S V O : Type 0} (s : Ghosts S) (R : Stores V S) (o : Orders O) (key : List ℕ) (tree : Tree V O) (space : S) (t u : T) (held : Bool)
-      → ((x : Item) (more : Bool) → takes t x u more → value u ≡ slice_get x.values n) → value t ≡ None → ShowsItem s R o (item_in key) takes tree space held t u → AnswersPairs s R o (value_at key n) tree space (value u)
-  nth_shown s R o key tree space t u held taken none shows = λ ps means. nth_held key (values ps key) t u held taken none (shows ps means)
-
 -- ---- values where they lie
 
 abbrev pub end_at : List ℕ → ℕ → End
 end_at key last = record { key = key; last = last }
 
-pub values_count : (n : ℕ) (bytes : List ℕ) → length (values_in n bytes).0 ≡ n
-unfolding values_in
-values_count zero bytes = refl
-values_count (suc n) bytes = ap (λ (m : ℕ). suc m) (values_count n (value_in bytes).1)
-
 -- the key of an item that lies somewhere, and the number of its last value
 pub end_seen : (key k first : List ℕ) (more : ℕ) (further : List ℕ) → k ≡ key → Some (end_at k more) ≡ Some (end_of (record { key = key; values = first ∷ (values_in more further).0 }))
 end_seen key k first more further is =
-    let last : more ≡ length (first ∷ (values_in more further).0) - 1 = omega (arith, values_count more further) in
+    let last : more ≡ length (first ∷ (values_in more further).0) - 1 = omega (arith, values_long more further) in
     λ i. Some (end_at (is i) (last i))
-
-pub nth_is : (n i : ℕ) (bytes : List ℕ) → i < n → slice_get (values_in n bytes).0 i ≡ Some (nth_further i bytes)
-unfolding values_in
-nth_is zero i bytes lt = absurd (omega (arith, lt))
-nth_is (suc n) zero bytes lt = refl
-nth_is (suc n) (suc i) bytes lt = nth_is n i (value_in bytes).1 (omega (arith, lt))
-
-none_past : (xs : List (List ℕ)) (i : ℕ) → length xs ≤ i → slice_get xs i ≡ None
-none_past [] i le = refl
-none_past (x ∷ xs) zero le = absurd (omega (arith, le))
-none_past (x ∷ xs) (suc i) le = none_past xs i (omega (arith, le))
-
-pub nth_none : (first : List ℕ) (more n : ℕ) (further : List ℕ) → more < n → None ≡ slice_get (first ∷ (values_in more further).0) n
-nth_none first more n further lt = sym (none_past (first ∷ (values_in more further).0) n (omega (arith, lt, values_count more further)))
-
-pub nth_more : (first : List ℕ) (more n : ℕ) (further value : List ℕ) → n ≢ 0 → n ≤ more → value ≡ nth_further (n - 1) further → Some value ≡ slice_get (first ∷ (values_in more further).0) n
-nth_more first more zero further value ne le is = absurd (ne refl)
-nth_more first more (suc m) further value ne le is =
-    let same : suc m - 1 ≡ m = omega arith in
-    ap (λ (v : List ℕ). Some v) (is ∙ ap (λ (k : ℕ). nth_further k further) same) ∙ sym (nth_is more m further (omega (arith, le)))
 
 -- ---- the first item of a stretch
 

@@ -9,8 +9,6 @@ use Rattle.tc_space.specs.Frames.{Reads}
 use Rattle.tc_space.specs.declared.records.Records.{Ghosts as Stores}
 use Rattle.tc_space.specs.declared.space.Space.{Ghosts}
 use Rattle.bt_page.specs.declared.page.Item.{Item}
-use Rattle.bt_slots.specs.Lying.{behind_values}
-use Rattle.bt_slots.specs.Reads.{value_in}
 use Rattle.bt_tree.specs.declared.tree.Tree.{Tree}
 use Rattle.bt_tree.specs.Meaning.{Means}
 use Rattle.bt_tree.specs.Showing.{item_before, item_first, item_last}
@@ -102,10 +100,6 @@ last_number key ps = number_last (values ps key)
 
 abbrev pub value_at : List ℕ → ℕ → List Pair → Option (List ℕ)
 value_at key number ps = slice_get (values ps key) number
-
--- the further value of a number, counted from 0, in the bytes of further values
-abbrev pub nth_further : ℕ → List ℕ → List ℕ
-nth_further n bytes = (value_in (behind_values n bytes)).0
 
 -- of a key whose last value has this number, the number behind one, and the nearest in front of it
 abbrev pub number_behind : ℕ → Option ℕ → Option ℕ

@@ -192,7 +192,7 @@ fn pair_of<R: Records, O: Order>(
     ensures cause { Blames R.S.Space result space.old space.new }
 {
     let key = place.key.as_slice();
-    let Some(value) = nth_of(alloc, tree, space, key, place.number)? else {
+    let Some(value) = nth_of(tree, space, key, place.number)? else {
         return Ok(None);
     };
     let key = Blob::from_slice(alloc, key)?;

@@ -5,7 +5,7 @@ ghost use Rattle.tc_space.specs.Refusals.{Blames};
 ghost use Rattle.bt_tree.specs.Meaning.{AnswersPairs, IsOpen};
 ghost use Rattle.bt_cursor.specs.Places.{AsksFew, Looks, end_first, end_last, ends_above, ends_before, last_number, value_at};
 
-use crate::takers::{End, Ends, Last, Nth};
+use crate::takers::{End, Ends, Last};
 use bt_order::Above;
 use bt_tree::Tree;
 use std::alloc::Global;
@@ -33,7 +33,6 @@ pub(crate) fn last_of<R: Records, O: Order>(
 
 /// The value of a number of a key.
 pub(crate) fn nth_of<R: Records, O: Order>(
-    alloc: Global,
     tree: &mut Tree<R, O>,
     space: &mut R::S,
     key: &[u8],
@@ -45,13 +44,7 @@ pub(crate) fn nth_of<R: Records, O: Order>(
     ensures cause { Blames R.S.Space result space.old space.new }
 {
     let mut steps: Steps<R> = Steps::new();
-    let mut nth = Nth {
-        alloc,
-        number,
-        value: None,
-    };
-    let _held = tree.show(space, key, &mut nth, &mut steps)?;
-    Ok(nth.value)
+    tree.nth_value(space, key, number, &mut steps)
 }
 
 fn ends(alloc: Global) -> Ends

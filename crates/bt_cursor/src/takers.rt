@@ -1,9 +1,5 @@
-//! What is taken of an item where it lies: its key, how many values it has, or one of them.
-ghost use Rattle.std.specs.Prelude.{◌≡◌, ◌+◌, length, option_map, slice_get};
-ghost use Rattle.bt_cursor.specs.Places.{nth_further};
-ghost use Rattle.bt_slots.specs.Lying.{seen};
-
-use bt_slots::{Lying, next_value};
+//! What is taken of an item where it lies: its key, or how many values it has.
+use bt_slots::Lying;
 use bt_tree::Taker;
 use std::alloc::{AllocError, Global};
 use tc_base::Blob;
@@ -62,60 +58,6 @@ impl Taker for Last {
 
     fn take(&mut self, item: &Lying<'_>) -> Result<bool, AllocError> {
         self.number = item.more;
-        Ok(false)
-    }
-}
-
-/// A copy of the value of a number, if an item has one.
-#[derive(Drop)]
-pub(crate) struct Nth {
-    pub(crate) alloc: Global,
-    pub(crate) number: u64,
-    pub(crate) value: Option<Blob>,
-}
-
-// The further value of a number, counted from 0.
-fn further<'a>(item: &Lying<'a>, n: u64) -> &'a [u8]
-    ensures { result.now ≡ nth_further n item.now.further.now }
-{
-    let mut rest = item.further;
-    for i in 0..n {
-        let (_, behind) = next_value(rest);
-        rest = behind;
-    }
-    next_value(rest).0
-}
-
-// The value of a number, if the item has one.
-fn nth_value<'a>(item: &Lying<'a>, n: u64) -> Option<&'a [u8]>
-    ensures { option_map (λ v. v.now) result ≡ slice_get (seen item.now.key.now item.now.first.now item.now.more item.now.further.now).values n }
-{
-    if n == 0 {
-        return Some(item.first);
-    }
-    let more = item.more;
-    if n > more {
-        return None;
-    }
-    Some(further(item, n - 1))
-}
-
-impl Taker for Nth {
-    ghost use Rattle.std.specs.Prelude.{◌≡◌, slice_get, false};
-
-    ghost takes = { λ t x u more. (u.value ≡ slice_get x.values t.number) × (more ≡ false) };
-
-    ghost stays = { λ t u. Unit {0} };
-
-    ghost stays_refl = { λ t. tt };
-
-    ghost stays_then = { λ t u v first second. tt };
-
-    fn take(&mut self, item: &Lying<'_>) -> Result<bool, AllocError> {
-        self.value = match nth_value(item, self.number) {
-            Some(value) => Some(Blob::from_slice(self.alloc, value)?),
-            None => None,
-        };
         Ok(false)
     }
 }

@@ -4,6 +4,7 @@ pub mod Leaves
 pub mod NodePlaces
 pub mod NodeChanges
 pub mod Numbers
+pub mod Marks
 pub mod Pieces
 pub mod Places
 pub mod ReadBack

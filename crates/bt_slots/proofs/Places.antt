@@ -46,6 +46,11 @@ some_at [] i lt = absurd (omega (arith, lt))
 some_at (x ∷ xs) zero lt = (x, refl)
 some_at (x ∷ xs) (suc i) lt = some_at xs i (omega (arith, lt))
 
+pub some_inside : {A : Type 0} (xs : List A) (i : ℕ) (x : A) → slice_get xs i ≡ Some x → i < length xs
+some_inside [] i x is = absurd cc
+some_inside (y ∷ ys) zero x is = omega arith
+some_inside (y ∷ ys) (suc i) x is = omega (arith, some_inside ys i x is)
+
 pub before_later : (l : Leaf) (i : ℕ) → bytes_before l i ≤ bytes_before l (i + 1)
 before_later l i = omega (arith, run_later item_bytes l.items i)
 

@@ -1,4 +1,5 @@
 pub mod Changes
 pub mod Lying
+pub mod Marks
 pub mod Reads
 pub mod Slots

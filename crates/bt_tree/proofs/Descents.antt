@@ -25,14 +25,15 @@ use Rattle.bt_rows.specs.Levels.{leaf_slot}
 use Rattle.bt_page.specs.Keys.{key_of}
 use Rattle.bt_cache.specs.declared.cache.Cache.{Cache}
 use Rattle.bt_cache.specs.Effects.{CountsPage, Looks, unless}
-use Rattle.bt_cache.specs.Held.{Beside, HasPage, IsThere, ReadsAs, ReadyBeside, ids}
+use Rattle.bt_cache.specs.Held.{Beside, HasPage, HoldsLeaf, IsFirst, IsThere, ReadsAs, ReadyBeside, ids}
+use Rattle.bt_cache.proofs.Uses.{front_holds}
 use Rattle.bt_cache.specs.Ids.{has}
 use Rattle.bt_cache.specs.Shared.{IsSomeLeaf, IsSomeNode}
 use Rattle.bt_tree.specs.declared.tree.Tree.{Tree}
 use Rattle.bt_tree.specs.Costs.{ReadsPages, pages_refl, pages_then, looks_refl, looks_then}
 use Rattle.bt_ways.specs.Items.{IsLeafFor}
 use Rattle.bt_tree.specs.Finding.{FindsLeaf, LeadsTo}
-use Rattle.bt_tree.specs.Meaning.{IsOpen}
+use Rattle.bt_tree.specs.Meaning.{IsOpen, Means}
 use Rattle.bt_tree.specs.Visits.{StaysTree, Visits, stays_then}
 use Rattle.bt_ways.specs.Searches.{IsRoute, child_at}
 use Rattle.bt_tree.specs.Trees.{IsTree, HoldsPairs}
@@ -220,6 +221,19 @@ module _ {S V O : Type 0} (s : Ghosts S) (R : Stores V S) (o : Orders O) (key : 
       let page : HasPage m id (leaf_page f.leaf.leaf) = has_page t.head m pairs.tree.pages id (leaf_page f.leaf.leaf) pairs.tree.head pairs.tree.held is in
       let same : read ≡ f.leaf.leaf = is_read m f.leaf.leaf (looks.reads.means m b) page in
       subst (λ (l : Leaf). IsLeafFor (before_by o.cmp) key ps l) (sym same) (belongs (before_by o.cmp) order key t.head t.height t.column m ps pairs path id f)
+
+  -- it is held then
+  pub leaf_holds : (c d : Cache V) (v w : V) (new later : S) (read : Leaf) → Looks s R t.cache c t.store v old new → Looks s R c d v w new later → ReadsAs s R leaf_page id c v new read → IsFirst id d → (ps : List Pair) → Means s R o t old ps → HoldsLeaf id read d.pages
+  leaf_holds c d v w new later read looks more is_read first ps means =
+      let m : Map = means.1.records in
+      let pairs : HoldsPairs (before_by o.cmp) t.head t.height t.column (get m) ps = means.1.is in
+      let b : Beside s R (t.cache.pages, t.store) old m = ((means.0, means.1.store), means.1.same) in
+      let b' : Beside s R (c.pages, v) new m = looks.reads.means m b in
+      let f = found m pairs.tree b in
+      let is = found_leaf (before_by o.cmp) pairs.tree.pages t.head.root key pairs.tree.leaves pairs.tree.levels path id pairs.tree.stands f in
+      let page : HasPage m id (leaf_page f.leaf.leaf) = has_page t.head m pairs.tree.pages id (leaf_page f.leaf.leaf) pairs.tree.head pairs.tree.held is in
+      let same : read ≡ f.leaf.leaf = is_read m f.leaf.leaf b' page in
+      front_holds m d.pages id read first (more.reads.means m b').1 (subst (λ (l : Leaf). HasPage m id (leaf_page l)) (sym same) page)
 
 -- ---- a descent and then its leaf
 

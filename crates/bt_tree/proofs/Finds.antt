@@ -1,5 +1,5 @@
 -- A key in the leaf where it belongs.
-use Rattle.std.proofs.Common.{◌≡◌, ℕ, List, ◌++◌, Bool, true, false, Option, Some, None, map, sym, ap, ◌∙◌, subst, append_assoc}
+use Rattle.std.proofs.Common.{◌≡◌, ℕ, List, [], ◌∷◌, ◌++◌, Bool, true, false, Option, Some, None, map, sym, ap, ◌∙◌, subst, append_assoc}
 use Rattle.std.specs.Prelude.{slice_get}
 use Rattle.std.specs.FinMap.{get}
 use Rattle.std.specs.List.{flat_map}
@@ -25,6 +25,10 @@ use Rattle.bt_tree.specs.Trees.{HoldsPairs}
 use Rattle.bt_ways.proofs.Keys.{all_join}
 use Rattle.bt_ways.proofs.Spots.{parts_at, own_at, own_hit, own_miss, item_there}
 use Rattle.bt_ways.proofs.Values.{Parts, values_of_parts}
+
+nth_of : (key : List ℕ) (n : ℕ) (vs : List (List ℕ)) (x : Item) → Some x ≡ item_of key vs → slice_get x.values n ≡ slice_get vs n
+nth_of key n [] x e = absurd cc
+nth_of key n (v ∷ vs) x e = let same : x ≡ record { key = key; values = v ∷ vs } = cc in ap (λ (i : Item). slice_get i.values n) same
 
 module _ (before : Before) (order : IsOrder before) (key : List ℕ) (ps : List Pair) (leaf : Leaf) (place : ℕ) (l : IsLeafFor before key ps leaf) where
   parts_of : (hit : Bool) → IsSpot before leaf.items key place hit → (p : Parts before key ps) × (p.own ≡ own_at before order leaf.items place hit)
@@ -53,6 +57,12 @@ module _ (before : Before) (order : IsOrder before) (key : List ℕ) (ps : List 
 
   pub found_some : (x : Item) → (Ascends before leaf.items → IsSpot before leaf.items key place true) → slice_get leaf.items place ≡ Some x → Some x ≡ item_in key ps
   found_some x s is = sym (ap (item_of key) (values_at true (s l.ascends)) ∙ item_there before order key leaf.items place x l.some (s l.ascends) is)
+
+  pub nth_missing : (n : ℕ) → (Ascends before leaf.items → IsSpot before leaf.items key place false) → None ≡ slice_get (values ps key) n
+  nth_missing n s = sym (ap (λ (vs : List (List ℕ)). slice_get vs n) (values_at false (s l.ascends) ∙ own_miss before order leaf.items place))
+
+  pub nth_there : (n : ℕ) (x : Item) → (Ascends before leaf.items → IsSpot before leaf.items key place true) → slice_get leaf.items place ≡ Some x → slice_get x.values n ≡ slice_get (values ps key) n
+  nth_there n x s is = nth_of key n (values ps key) x (found_some x s is)
 
   pub first_none : (Ascends before leaf.items → IsSpot before leaf.items key place false) → None ≡ first ps key
   first_none s = sym (ap (λ (vs : List (List ℕ)). slice_get vs 0) (values_at false (s l.ascends) ∙ own_miss before order leaf.items place))

@@ -1,5 +1,6 @@
 //! A key with its values.
-ghost use Rattle.std.specs.Prelude.{IfOk};
+ghost use Rattle.std.specs.Prelude.{IfOk, slice_get};
+ghost use Rattle.tc_base.specs.Lists.{values};
 ghost use Rattle.tc_space.specs.Changes.{first_in};
 ghost use Rattle.tc_space.specs.Refusals.{Blames};
 ghost use Rattle.bt_ways.specs.Items.{item_in};
@@ -76,5 +77,29 @@ impl<R: Records, O: Order> Tree<R, O> {
     {
         let leaf = self.leaf_for(space, key, steps)?;
         Ok(copy_first::<O>(self.alloc, &leaf, key)?)
+    }
+
+    /// The value of a number among those of a key, counted from 0, as a copy; None where there is none. It reads what `find` does. From the value of the same key on that was given last of
+    /// the leaf as it is held, if it isn't behind, it passes over those in front of this one; else over all in front.
+    pub fn nth_value<L>(
+        &mut self,
+        space: &mut R::S,
+        key: &[u8],
+        number: u64,
+        steps: &mut Steps<L>,
+    ) -> Result<Option<Blob>, RecErr>
+        requires { IsOpen R.S.Space R.Records O.Order self.old space.old }
+        ensures value { IfOk result (AnswersPairs R.S.Space R.Records O.Order (λ ps. slice_get (values ps key.now) number) self.old space.old) }
+        ensures asks { Asks R.S.Space R.Records O.Order self.old.height self.old self.new steps.old steps.new space.old space.new }
+        ensures cause { Blames R.S.Space result space.old space.new }
+    {
+        let id = self.descend(space, key, steps)?;
+        let _counted = steps.count();
+        let leaf = self.cache.leaf(&mut self.store, space, id, steps)?;
+        let (place, hit) = spot::<O>(&leaf, key);
+        if !hit {
+            return Ok(None);
+        }
+        Ok(self.cache.nth(id, place, number)?)
     }
 }

@@ -6,7 +6,7 @@ use Rattle.tc_space.specs.Stores.{ready_reads}
 use Rattle.bt_rows.specs.declared.page.Slot.{Slot}
 use Rattle.bt_rows.specs.Rows.{next_row}
 use Rattle.bt_check.specs.Looks.{looks_then}
-use Rattle.bt_check.specs.Walks.{AreThere, leaf_places}
+use Rattle.bt_check.specs.Walks.{AreThere, IsNextOf, leaf_places}
 use Rattle.bt_check.proofs.Walked.{given_all, kept_more, next_more}
 use Rattle.bt_check.proofs.walking.pass.Goals as goal
 
@@ -21,7 +21,8 @@ loop-slot-preserved g c =
       looks = looks_then _ _ _ _ _ _ _ _ v.looks e.looks;
       asks = omega (arith, v.asks, e.asks, length-append c.loop-slot.yielded (c.in-Some.slot ∷ []));
       kept = kept_more c.loop-slot.yielded c.in-Some.slot c.args.leaves.now c.loop-slot.leaves c.pass_one.new.leaves v.kept e.leaves;
-      next_is = λ m i h pages a. next_more pages c.loop-slot.yielded c.in-Some.slot c.loop-slot.next c.pass_one.new.next (v.next_is m i h pages a) (e.next m (v.looks.reads.means m i) h pages a);
+      room = e.room ∙ v.room;
+      next_is = λ m i h pages a. next_more pages c.loop-slot.yielded c.in-Some.slot c.args.room c.loop-slot.next c.pass_one.new.next v.room (v.next_is m i h pages a) (e.next m (v.looks.reads.means m i) h pages a);
     }
 
 pub returns-in_err-pass_one-clause-asks : goal.returns-in_err-pass_one-clause-asks
@@ -36,7 +37,7 @@ returns-clause-next g c = λ m i h pages a.
     let gives = c.into_iter-slot-iterator.ensures.into_iter_gives in
     let road = YieldsList-from_vec {s = c.into_iter-slot-iterator.result} c.args.row (gives.0 ∙ c.into_vec-slot-items.ensures) (gives.1 ∙ (c.into_vec-slot-items.result.ok.0 ∙ ap length c.into_vec-slot-items.ensures)) in
     let end = YieldsList-end road c.loop-slot.yielded c.loop-slot.slot-iterator c.loop-slot.yielded_by c.next.result c.next.new.self c.in-None.is c.next.ensures.steps in
-    subst (λ (r : List Slot). AreThere pages r → c.loop-slot.next ≡ next_row pages r) (given_all c.args.row c.loop-slot.yielded end.0) (c.loop-slot.invariant.next_is m i h pages a)
+    subst (λ (r : List Slot). AreThere pages r → IsNextOf (next_row pages r) c.args.room c.loop-slot.next) (given_all c.args.row c.loop-slot.yielded end.0) (c.loop-slot.invariant.next_is m i h pages a)
 
 pub returns-clause-leaves : goal.returns-clause-leaves
 returns-clause-leaves g c =

@@ -1,0 +1,4 @@
+use Rattle.bt_cache.proofs.shared.HeldLeaf.new.Goals as goal
+
+pub invariant_of-result : goal.invariant_of-result
+invariant_of-result c = c.new.ensures c.args.leaf.value

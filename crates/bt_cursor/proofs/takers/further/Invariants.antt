@@ -1,6 +1,0 @@
-use Rattle.std.proofs.Common.{◌≡◌}
-use Rattle.bt_slots.specs.Lying.{behind_values}
-use Rattle.bt_cursor.proofs.takers.further.Given as goal
-
-abbrev pub invariant-loop-i : goal.invariant-loop-i
-invariant-loop-i l = record { at : l.rest ≡ behind_values l.i l.item.further.now }
