@@ -201,7 +201,7 @@ impl Wire for MemWire {
     ghost use Rattle.tc_io.specs.declared.wire.Dialled.TheVariants.{NotNow};
     ghost use Rattle.tc_io.specs.declared.wire.Entry.TheVariants.{Open, Dial, Send, Close};
     ghost use Rattle.tc_fakes.specs.Counted.{FailsRightly, one_more};
-    ghost use Rattle.tc_io.specs.Lines.{MayCome, MayDial};
+    ghost use Rattle.tc_io.specs.Lines.{IsUnopened, MayCome, MayDial};
     ghost use Rattle.tc_io.specs.Transcript.{heard};
     ghost use Rattle.tc_fakes.specs.Wires.{Answers, Closes, Dials, Hears, PlaysOne, Stay, Tells, TellsUnstarved, conns_of, ended_of, given_of, script_of, told};
 
@@ -248,6 +248,7 @@ impl Wire for MemWire {
         requires { self.old.opened ≡ true }
         ensures opened { self.new.opened ≡ true }
         ensures may { IfOk result (λ answer. MayDial self.old.given answer) }
+        ensures fresh { IfOk result (λ answer. IsUnopened self.old.conns.items answer) }
         ensures lines { IfOk result (λ answer. Dials self.old self.new answer) }
         ensures lines_err { OnErr result (Stay self.old self.new) }
         ensures told { IfOk result (λ answer. Tells self.old self.new (Dial host.now port answer)) }

@@ -1,6 +1,6 @@
 //! What a script gives next.
 ghost use Rattle.std.specs.Prelude.{◌≡◌, ◌≤◌, ◌&&◌, not, nat_lt, length, take, drop, true};
-ghost use Rattle.tc_io.specs.Lines.{MayCome, MayDial, has};
+ghost use Rattle.tc_io.specs.Lines.{IsUnopened, MayCome, MayDial, has};
 ghost use Rattle.tc_io.specs.Script.{is_read};
 ghost use Rattle.tc_fakes.specs.Play.{Gives, IsDialledFrom, IsNextFrom, May, lines};
 
@@ -115,6 +115,7 @@ pub fn choose(
 /// The next answer of a dial from a place on, and the place behind it.
 pub fn choose_dial(dials: &[Dialled], start: usize, conns: &[u32], given: u64) -> (usize, Dialled)
     ensures may { MayDial given result.1 }
+    ensures fresh { IsUnopened conns.now result.1 }
     ensures is { IsDialledFrom dials.now start conns.now given result }
 {
     if start >= dials.len() {

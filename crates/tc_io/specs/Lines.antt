@@ -86,6 +86,11 @@ abbrev pub MayDial : ℕ → Dialled → Type 0
 MayDial given (Conn c) = given ≤ c
 MayDial given NotNow = Unit {0}
 
+-- the number of one that opened is none of those that are open
+abbrev pub IsUnopened : List ℕ → Dialled → Type 0
+IsUnopened conns (Conn c) = has conns c ≡ false
+IsUnopened conns NotNow = Unit {0}
+
 -- what a send may take of what it was offered
 abbrev pub CanTake : List ℕ → Sent → Type 0
 CanTake offered (Took n) = (0 < n) × (n ≤ length offered)

@@ -83,7 +83,7 @@ pub trait Wire {
     ghost use Rattle.tc_io.specs.declared.wire.Dialled.TheVariants.{NotNow};
     ghost use Rattle.tc_io.specs.declared.wire.Entry.{Entry};
     ghost use Rattle.tc_io.specs.declared.wire.Entry.TheVariants.{Open, Dial, Send, Close};
-    ghost use Rattle.tc_io.specs.Lines.{CanTake, Closes, Dials, Hears, MayCome, MayDial, Stay};
+    ghost use Rattle.tc_io.specs.Lines.{CanTake, Closes, Dials, Hears, IsUnopened, MayCome, MayDial, Stay};
     ghost use Rattle.tc_io.specs.Transcript.{heard};
     ghost use Rattle.tc_io.specs.Script.{Script, PlaysOne};
 
@@ -123,6 +123,7 @@ pub trait Wire {
         requires { opened self.old ≡ true }
         ensures opened { opened self.new ≡ true }
         ensures may { IfOk result (λ answer. MayDial (given self.old) answer) }
+        ensures fresh { IfOk result (λ answer. IsUnopened (conns self.old) answer) }
         ensures lines { IfOk result (λ answer. Dials conns ended given self.old self.new answer) }
         ensures lines_err { OnErr result (Stay conns ended given self.old self.new) }
         ensures told { IfOk result (λ answer. Tells transcript self.old self.new (Dial host.now port answer)) }
