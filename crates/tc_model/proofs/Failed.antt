@@ -52,7 +52,7 @@ applied_stays Stat c w e = took_stays Stat (effect Stat c) c w e
 applied_stays (Misc name options args) c w e = took_stays (Misc name options args) (effect (Misc name options args) c) c w e
 applied_stays (AddDouble key integer fraction) c w e = (refl, refl)
 applied_stays (Ext name options key value) c w e = (refl, refl)
-applied_stays (Copy path) c w e = (refl, refl)
+applied_stays (Copy path) c w e = took_stays (Copy path) (effect (Copy path) c) c w e
 applied_stays (Restore path timestamp options) c w e = (refl, refl)
 applied_stays (SetMst host port timestamp options) c w e = (refl, refl)
 

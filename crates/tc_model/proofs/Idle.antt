@@ -23,7 +23,7 @@ use Rattle.tc_model.specs.Queries.{Term, condition, ordering, limit, asks, term_
 use Rattle.tc_model.specs.Meaning.{Outcome, tells, meaning, done, done_with, searched, row_held, ranged, keys_of, are_short}
 use Rattle.tc_model.specs.Operators.{is_operator, is_complete}
 use Rattle.tc_model.specs.Search.{Found, found}
-use Rattle.tc_model.specs.Apply.{Step, Effect, apply, applied, effect, called, length_reply, refused, fits, told, took, stepped, next_in, updates, is_updated}
+use Rattle.tc_model.specs.Apply.{Effect, apply, applied, effect, called, length_reply, refused, fits, told, took, stepped, next_in, copied, updates, is_updated}
 use Rattle.tc_model.specs.Apply as model
 use Rattle.tc_model.proofs.Failed.{apply_failed}
 
@@ -386,7 +386,7 @@ effect_keeps IterInit c u = tt
 effect_keeps IterNext c u = tt
 effect_keeps (AddDouble key integer fraction) c u = tt
 effect_keeps (Ext name options key value) c u = tt
-effect_keeps (Copy path) c u = tt
+effect_keeps (Copy path) c u = tells_all c (copied path c)
 effect_keeps (Restore path timestamp options) c u = tt
 effect_keeps (SetMst host port timestamp options) c u = tt
 effect_keeps (Repl timestamp server) c u = tt
@@ -431,7 +431,7 @@ applied_keeps Stat c w u = took_keeps Stat (effect Stat c) c w (effect_keeps Sta
 applied_keeps (Misc name options args) c w u = took_keeps (Misc name options args) (effect (Misc name options args) c) c w (effect_keeps (Misc name options args) c u)
 applied_keeps (AddDouble key integer fraction) c w u = refl
 applied_keeps (Ext name options key value) c w u = refl
-applied_keeps (Copy path) c w u = refl
+applied_keeps (Copy path) c w u = took_keeps (Copy path) (effect (Copy path) c) c w (effect_keeps (Copy path) c u)
 applied_keeps (Restore path timestamp options) c w u = refl
 applied_keeps (SetMst host port timestamp options) c w u = refl
 

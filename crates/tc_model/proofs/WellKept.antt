@@ -28,7 +28,7 @@ use Rattle.tc_model.specs.Misc.{misc_of, updates_call}
 use Rattle.tc_model.specs.Queries.{query_of}
 use Rattle.tc_model.specs.Search.{Found, found}
 use Rattle.tc_model.specs.Meaning.{Outcome, changes, tells, each, index_of, with_index, set_index, without_rows, done_with, searched, row_held, ranged, meaning, keys_of, are_short, done}
-use Rattle.tc_model.specs.Apply.{Step, Effect, apply, applied, effect, called, length_reply, refused, fits, told, took, stepped, next_in, updates}
+use Rattle.tc_model.specs.Apply.{Effect, apply, applied, effect, called, length_reply, refused, fits, told, took, stepped, next_in, copied, updates}
 use Rattle.tc_model.specs.Apply as model
 use Rattle.tc_model.specs.Replay.{replayed, after}
 use Rattle.tc_model.specs.Well.{AreRows, IsRow, IsCell, IsWell}
@@ -198,7 +198,7 @@ effect_well IterInit c h = tt
 effect_well IterNext c h = tt
 effect_well (AddDouble key integer fraction) c h = tt
 effect_well (Ext name options key value) c h = tt
-effect_well (Copy path) c h = tt
+effect_well (Copy path) c h = told_well c (copied path c) h
 effect_well (Restore path timestamp options) c h = tt
 effect_well (SetMst host port timestamp options) c h = tt
 effect_well (Repl timestamp server) c h = tt
@@ -242,7 +242,7 @@ applied_well Stat c w h = took_well Stat (effect Stat c) c w (effect_well Stat c
 applied_well (Misc name options args) c w h = took_well (Misc name options args) (effect (Misc name options args) c) c w (effect_well (Misc name options args) c h) h
 applied_well (AddDouble key integer fraction) c w h = h
 applied_well (Ext name options key value) c w h = h
-applied_well (Copy path) c w h = h
+applied_well (Copy path) c w h = took_well (Copy path) (effect (Copy path) c) c w (effect_well (Copy path) c h) h
 applied_well (Restore path timestamp options) c w h = h
 applied_well (SetMst host port timestamp options) c w h = h
 

@@ -2,13 +2,14 @@
 use Rattle.std.specs.Prelude.{ℕ, ℤ, pos, negsuc, ◌^◌, ◌%◌, ◌==◌, ◌&&◌, Bool, true, false, List, [], ◌∷◌, length, take, filter, flat_map, nat_eq, Option, Some, None, option_map, option_and_then, nat_le, nat_lt, if◌then◌else◌}
 use Rattle.std.specs.List.{starts_with}
 use Rattle.tc_base.specs.declared.request.Request.{Request}
-use Rattle.tc_base.specs.declared.request.Request.TheVariants.{Put, PutKeep, PutCat, PutShl, PutNr, Out, Get, MGet, Vsiz, IterInit, IterNext, FwmKeys, AddInt, Sync, Optimize, Vanish, Rnum, Size, Stat, Misc, Repl}
+use Rattle.tc_base.specs.declared.request.Request.TheVariants.{Put, PutKeep, PutCat, PutShl, PutNr, Out, Get, MGet, Vsiz, IterInit, IterNext, FwmKeys, AddInt, Sync, Optimize, Vanish, Copy, Rnum, Size, Stat, Misc, Repl}
 use Rattle.tc_base.specs.declared.request.Reply.{Reply}
 use Rattle.tc_base.specs.declared.request.Reply.TheVariants as reply
 use Rattle.tc_base.specs.declared.kind.Mode.TheVariants.{Over, Keep, Cat}
+use Rattle.tc_base.specs.Labels.{is_label}
 use Rattle.ty_wire.specs.Spelling.{reply_bytes}
 pub use Rattle.ty_wire.specs.Updating.{updates}
-use Rattle.tc_model.specs.Contents.{Contents, kind_of, emptied, Walk}
+use Rattle.tc_model.specs.Contents.{Contents, kind_of, is_stored, emptied, Walk}
 use Rattle.tc_model.specs.Stores.{held, is_held, first_pair, all_keys, count, size_of, store, shift, add, out}
 use Rattle.tc_model.specs.Stats.{stat_text}
 use Rattle.tc_model.specs.Misc.{misc_of, updates_call}
@@ -66,6 +67,10 @@ called name options args c =
     then None
     else option_map (λ o. (o.0, reply.List o.1)) (option_and_then (λ m. done m c) (misc_of name args (kind_of c)))
 
+-- a copy is made of a database in files, under a label
+abbrev pub copied : List ℕ → Contents → Option Reply
+copied text c = if is_label text && is_stored (kind_of c) then Some reply.Done else None
+
 abbrev pub effect : Request → Contents → Effect
 effect (Put key value) c = changes reply.Done (store Over c key value)
 effect (PutKeep key value) c = changes reply.Done (store Keep c key value)
@@ -81,11 +86,12 @@ effect (AddInt key number) c = option_map (λ sum. (sum.1, reply.Four sum.0)) (a
 effect Sync c = tells c (Some reply.Done)
 effect (Optimize text) c = tells c (Some reply.Done)
 effect Vanish c = changes reply.Done (Some (emptied c))
+effect (Copy text) c = tells c (copied text c)
 effect Rnum c = tells c (Some (reply.Eight (count c)))
 effect Size c = tells c (Some (reply.Eight (size_of c)))
 effect Stat c = tells c (Some (reply.Value (stat_text c)))
 effect (Misc name options args) c = called name options args c
--- the others fail: adddouble, ext, copy, restore and setmst; those of the walk and repl are said below
+-- the others fail: adddouble, ext, restore and setmst; those of the walk and repl are said below
 effect _ c = None
 
 -- ---- the walk

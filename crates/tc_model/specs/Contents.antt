@@ -31,6 +31,12 @@ kind_of (tree memory decimal ps) = if memory then kind.MemTree else kind.Tree
 kind_of (fixed width most ids) = kind.Fixed
 kind_of (table rows indexes) = kind.Table
 
+-- whether a kind is kept in files
+abbrev pub is_stored : Kind → Bool
+is_stored kind.MemHash = false
+is_stored kind.MemTree = false
+is_stored _ = true
+
 abbrev pub is_table : Contents → Bool
 is_table (table rows indexes) = true
 is_table _ = false

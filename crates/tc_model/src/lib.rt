@@ -2,6 +2,7 @@
 #![tactic(auto)]
 
 mod applied;
+mod copies;
 mod misc;
 mod numbers;
 mod query;
@@ -12,6 +13,7 @@ mod values;
 mod walk;
 
 pub use applied::Applied;
+pub use copies::may_copy;
 pub use misc::Misc;
 pub use numbers::{count_of, long_number, maximum_of};
 pub use query::{Cond, Deed, IndexKind, Query, Sort};

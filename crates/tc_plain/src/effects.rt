@@ -3,7 +3,7 @@ ghost use Rattle.std.specs.Prelude.{◌≡◌, IfOk, filter, option_map, option_
 ghost use Rattle.std.specs.List.{starts_with};
 ghost use Rattle.tc_base.specs.declared.request.Reply.TheVariants as reply;
 ghost use Rattle.tc_model.specs.Apply as model;
-ghost use Rattle.tc_model.specs.Apply.{effect, called, keys_from, at_most, length_reply, updates};
+ghost use Rattle.tc_model.specs.Apply.{effect, called, copied, keys_from, at_most, length_reply, updates};
 ghost use Rattle.tc_model.specs.Misc.{updates_call};
 ghost use Rattle.tc_model.specs.Stores as stores;
 ghost use Rattle.tc_model.specs.Meaning.{done};
@@ -16,7 +16,7 @@ use crate::reads::{all_keys, count, first_pairs, held, size_of};
 use crate::stores::{add, emptied, out, shift, store};
 use std::alloc::{AllocError, Global};
 use tc_base::{Blob, Blobs, Key, Mode, Reply, Request};
-use tc_model::{Misc, read_misc, stat_lines};
+use tc_model::{Misc, may_copy, read_misc, stat_lines};
 use ty_wire::{is_updating, is_updating_call};
 
 /// The contents after a request, and its reply.
@@ -151,6 +151,17 @@ fn called(
     }
 }
 
+// What a copy under this text is answered.
+fn copy_answer(old: &Data, text: &[u8]) -> Option<Reply>
+    ensures { result ≡ copied text.now (contents_of old.now) }
+{
+    if may_copy(kind_of(old), text) {
+        Some(Reply::Done)
+    } else {
+        None
+    }
+}
+
 // What a request that reads is answered.
 fn answer_of(alloc: Global, r: &Request, old: &Data) -> Result<Option<Reply>, AllocError>
     ensures { IfOk result (λ o. is_change r.now ≡ false → option_map (λ a. (contents_of old.now, a)) o ≡ effect r.now (contents_of old.now)) }
@@ -171,6 +182,7 @@ fn answer_of(alloc: Global, r: &Request, old: &Data) -> Result<Option<Reply>, Al
         }
         Request::Sync => Ok(Some(Reply::Done)),
         Request::Optimize { .. } => Ok(Some(Reply::Done)),
+        Request::Copy { path } => Ok(copy_answer(old, path.as_slice())),
         Request::Rnum => {
             let number = count(old);
             Ok(Some(Reply::Eight { number }))

@@ -1,17 +1,20 @@
 -- From the effect of a request to the step that it makes.
 use Rattle.std.proofs.Common.{◌≡◌, ◌∙◌, ℕ, Bool, true, false, cond, List, ◌++◌, Some, None, refl, sym, ap, subst}
-use Rattle.std.specs.Prelude.{◌&&◌}
+use Rattle.std.specs.Prelude.{◌&&◌, option_map}
 use Rattle.tc_base.specs.Files.{Files}
+use Rattle.tc_base.specs.Labels.{is_label}
+use Rattle.tc_base.specs.declared.kind.Kind.{Kind}
 use Rattle.tc_base.specs.declared.request.Request.{Request}
 use Rattle.tc_base.specs.declared.request.Request.TheVariants.{AddDouble, AddInt, Copy, Ext, FwmKeys, Get, IterInit, IterNext, MGet, Misc, Optimize, Out, Put, PutCat, PutKeep, PutNr, PutShl, Repl, Restore, Rnum, SetMst, Size, Stat, Sync, Vanish, Vsiz}
 use Rattle.tc_base.specs.declared.request.Reply.{Reply}
 use Rattle.tc_base.specs.declared.request.Reply.TheVariants as answer
+use Rattle.tc_space.specs.Frames.{only_reads_refl, others_refl}
 use Rattle.tc_space.specs.declared.space.Space.{Ghosts}
 use Rattle.ty_wire.specs.Spelling.{reply_bytes}
-use Rattle.tc_model.specs.Contents.{Contents, Walk}
-use Rattle.tc_model.specs.Apply.{Effect, Step, applied, effect, fits, refusal_of, refused, took, updates}
+use Rattle.tc_model.specs.Contents.{Contents, Walk, is_stored, kind_of}
+use Rattle.tc_model.specs.Apply.{Effect, Step, applied, copied, effect, fits, refusal_of, refused, took, updates}
 use Rattle.tc_model.specs.Packing.{is_optimize}
-use Rattle.ty_base.specs.Holding.{FillsAll, Layout, may_write}
+use Rattle.ty_base.specs.Holding.{FillsAll, Held, Layout, may_write, numbers_refl}
 use Rattle.ty_answers.specs.Answers.{Answered, Answers, IsFullBy, contents_of, told_by}
 use Rattle.ty_answers.specs.Answers as answers
 use Rattle.ty_answers.specs.Steps.{Ends, IsFullStep, Steps}
@@ -75,6 +78,12 @@ pub took_contents : (r : Request) (e : Effect) (c : Contents) (w : Walk) → con
 took_contents r None c w = refl
 took_contents r (Some x) c w = sym (cond_contents (fits x.1) (record { contents = x.0; walk = w; reply = x.1; ok = true }) (refused r c w))
 
+copy_answered : (may done : Bool) (c : Contents) (old new : List ℕ) → done ≡ may → new ≡ old ++ reply_bytes (cond done answer.Done answer.Fail) → Answered (option_map (λ a. (c, a)) (cond may (Some answer.Done) None)) answer.Fail done c c old new
+copy_answered true true c old new is said = record { ok = refl; contents = refl; bytes = said }
+copy_answered false false c old new is said = record { ok = refl; contents = refl; bytes = said }
+copy_answered true false c old new is said = absurd (let f : false ≡ true = is in cc)
+copy_answered false true c old new is said = absurd (let f : true ≡ false = is in cc)
+
 module _ {S E : Type 0} (s : Ghosts S) (own : ℕ → Type 0) (layout : Files → Layout) (holds : E → Files → Contents → Type 0) where
   -- an arm of the dispatch: what was shown is the effect of the request
   pub arm : (r shape : Request) (shown : answers.Request) (refusal : Reply) (updating done : Bool) (e e' : E) (a b : S) (w : Walk) (old new : List ℕ) → r ≡ shape → is_plain shape ≡ true → ((c : Contents) → shown c ≡ effect shape c) → refusal ≡ refusal_of shape → updating ≡ updates shape → Answers s own layout holds shown refusal updating done e e' a b old new → Steps s own layout holds r done e e' a b w w old new
@@ -84,6 +93,17 @@ module _ {S E : Type 0} (s : Ghosts S) (own : ℕ → Type 0) (layout : Files �
     numbered = n.numbered;
     applied_is = λ c h. let x = n.answered c h in (x.0, x.1, subst (λ q. Ends q done x.0 w old new) (sym (plain_applied shape c w plain)) (took_ends shape (effect shape c) done c x.0 w old new (subst (λ q. Answered (effect shape c) q done c x.0 old new) refuses (subst (λ q. Answered q refusal done c x.0 old new) (same c) x.2))));
     idle = λ i plain. n.idle (ap (λ q. done && q) up ∙ i);
+  })
+
+  -- whether what is held may be copied
+  pub copy_arm : (r : Request) (text : List ℕ) (kind : Kind) (done : Bool) (e : E) (a : S) (w : Walk) (old new : List ℕ) → r ≡ Copy text → s.sound a → ((c : Contents) → Held s holds e a c → kind ≡ kind_of c)
+      → (done ≡ (is_label text && is_stored kind)) × (new ≡ old ++ reply_bytes (cond done answer.Done answer.Fail)) → Steps s own layout holds r done e e a a w w old new
+  copy_arm r text kind done e a w old new is sound same n = arm r (Copy text) (told_by (copied text)) answer.Fail false done e e a a w old new is refl (λ c. refl) refl refl (record {
+    sound = sound;
+    others = others_refl s own a;
+    numbered = λ c h. numbers_refl (layout (s.now a));
+    answered = λ c h. (c, h, copy_answered (is_label text && is_stored (kind_of c)) done c old new (n.0 ∙ ap (λ (k : Kind). is_label text && is_stored k) (same c h)) n.1);
+    idle = λ i. only_reads_refl s a sound;
   })
 
   -- a packing, which may have written

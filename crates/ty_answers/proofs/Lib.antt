@@ -1,6 +1,7 @@
 pub mod Applying
 pub mod Calling
 pub mod Dispatch
+pub mod Emptied
 pub mod Filling
 pub mod Making
 pub mod Naming

@@ -11,7 +11,7 @@ ghost use Rattle.ty_answers.specs.Engines.{engine_of};
 ghost use Rattle.ty_answers.specs.Steps.{FullStep, StepsBy};
 
 use crate::changes::{clear, optimize, out, store};
-use crate::failing::fail;
+use crate::failing::{copy, fail};
 use crate::misc::call;
 use crate::numbers::{add, shift};
 use crate::reads::{done, fwmkeys, get, mget, rnum, size, stat, vsiz};
@@ -90,9 +90,9 @@ fn serve<E: Engine>(
         Request::Sync => done(reply),
         Request::Optimize { .. } => optimize(engine, space, reply),
         Request::Vanish => clear(engine, space, plain, reply),
+        Request::Copy { path } => copy(engine.kind(), &path, reply),
         Request::AddDouble { .. }
         | Request::Ext { .. }
-        | Request::Copy { .. }
         | Request::Restore { .. }
         | Request::SetMst { .. } => fail(plain, reply),
         Request::Rnum => rnum(engine, space, reply),

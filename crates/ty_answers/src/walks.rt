@@ -53,6 +53,9 @@ fn first_held<E: Engine>(
     ensures keeps { Keeps E.S.Space space.old space.new }
     ensures cause { Blames E.S.Space result space.old space.new }
 {
+    if engine.count() == 0 {
+        return Ok(None);
+    }
     for (i, key) in keys.iter().enumerate() {
         if engine.value_len(space, key)?.is_some() {
             return Ok(Some(i));

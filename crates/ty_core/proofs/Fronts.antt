@@ -1,30 +1,44 @@
--- A request at the front, by its reading and by its spelling.
+-- A piece at the front, by its reading and by its spelling, and what is left to do behind it.
 use Rattle.std.proofs.Common.{◌≡◌, ℕ, ◌≤◌, Bool, true, false, List, [], ◌∷◌, ◌++◌, length, take, drop, sym, ap, subst, ◌∙◌, arith, length-append, length-drop, refl}
-use Rattle.std.proofs.lemmas.Bool.{eqb-true}
+use Rattle.std.proofs.lemmas.Bool.{and_parts, eqb-true}
 use Rattle.std.proofs.lemmas.List.{append_cancel_right, drop-append-le, take-append-drop}
+use Rattle.std.specs.Prelude.{is_ok, is_some, nat_eq, IfSome, Ok, ◌&&◌, ◌||◌, Option, Some, None, option_map, if◌then◌else◌}
+use Rattle.std.specs.Option.{ForSome}
 use Rattle.tc_base.proofs.Exact.{same_whole}
-use Rattle.ty_wire.proofs.Answered.{whole}
-use Rattle.std.specs.Prelude.{nat_eq, Ok, ◌&&◌, ◌||◌, Option, Some, None, if◌then◌else◌}
+use Rattle.tc_base.specs.Bytes.{IsBytes}
 use Rattle.tc_base.specs.Files.{Files}
 use Rattle.tc_base.specs.declared.kind.Form.{Form}
-use Rattle.tc_base.specs.declared.kind.Form.TheVariants.{Keep}
 use Rattle.tc_base.specs.declared.request.Request.{Request}
 use Rattle.tc_base.specs.declared.request.Request.TheVariants.{Put, PutKeep, PutCat, PutShl, PutNr, Out, Get, MGet, Vsiz, IterInit, IterNext, FwmKeys, AddInt, AddDouble, Ext, Sync, Optimize, Vanish, Copy, Restore, SetMst, Rnum, Size, Stat, Misc, Repl}
-use Rattle.tc_model.specs.Apply.{Step, apply, is_updated, refusal_of, updates}
+use Rattle.tc_base.specs.LabelTexts.{text_of}
+use Rattle.tc_base.specs.Labels.{is_label}
+use Rattle.tc_base.specs.declared.label.Label.{Label}
+use Rattle.tc_base.specs.declared.request.Reply.TheVariants as reply
+use Rattle.tc_model.specs.Apply.{Step, apply, is_updated, refusal_of, tells, took, updates}
 use Rattle.tc_model.specs.Applying.{Applies}
 use Rattle.tc_model.specs.declared.applied.Applied.{Applied}
-use Rattle.tc_model.specs.Contents.{Contents, Walk}
+use Rattle.tc_model.specs.Contents.{Contents, Walk, is_stored, kind_of}
+use Rattle.tc_model.specs.Packing.{is_optimize}
 use Rattle.tc_model.proofs.Updating.{apply_refused, apply_same}
 use Rattle.tc_space.specs.declared.space.Space.{Ghosts}
 use Rattle.ty_wire.specs.Prefixes.{IsPrefix}
-use Rattle.ty_wire.specs.Reading.{request_at}
-use Rattle.ty_wire.specs.Spelling.{spelling, Fits, reply_bytes}
-use Rattle.tc_model.specs.Packing.{is_optimize}
+use Rattle.ty_wire.specs.Spelling.{spelling, reply_bytes, Fits}
+use Rattle.ty_wire.proofs.UpdateTest.{updates_only}
+use Rattle.ty_memc.specs.declared.text.Text.{Text}
+use Rattle.ty_memc.specs.declared.text.Piece.{Piece}
+use Rattle.ty_memc.specs.declared.text.Piece.TheVariants as piece
+use Rattle.ty_memc.specs.Grammar.{Spells, piece_at}
+use Rattle.ty_memc.proofs.PieceGrammar.{Found, found_request, found_text, found, pieces}
+use Rattle.ty_memc.proofs.Asking.{asked_fits}
 use Rattle.ty_base.specs.Holding as holding
-use Rattle.ty_base.specs.Holding.{ServedBy, TightHeld}
+use Rattle.ty_base.specs.Holding.{ServedBy}
+use Rattle.ty_pieces.specs.Made.{only}
+use Rattle.ty_pieces.specs.Pieces.{Done, done, labels_of, stepped}
+use Rattle.ty_ulog.specs.Updates.{IsUpdating}
 use Rattle.ty_core.specs.declared.serving.Served.{Served}
 use Rattle.ty_core.specs.declared.taking.Taken.{Taken}
-use Rattle.ty_core.specs.Serving.{IsTaken, IsWhole, Notes, Serves, ServesFront, TakesOff, TightTaken, feed_of, update_of}
+use Rattle.ty_core.specs.Labels.{asks_label}
+use Rattle.ty_core.specs.Serving.{FillsFront, FillsPiece, IsTaken, IsWhole, Notes, PieceFits, Serves, ServesFront, ServesPiece, TakesOff, TightFront, TightPiece, copy_of, entries, feed_of, is_kept, piece_packs}
 
 pub refused_applies : (replica : Bool) (r : Request) (c : Contents) (w : Walk) (old new : List ℕ) → (replica && updates r) ≡ true → new ≡ old ++ reply_bytes (refusal_of r)
     → Applies (apply replica r c w) r (record { ok = false; updated = false }) c w old new
@@ -41,35 +55,45 @@ pub served_alike : {S B : Type 0} (s : Ghosts S) (holds : B → Files → Conten
     → ServedBy s holds replica r a base base' x y w w' old new
 served_alike s holds replica r a base base' x y w w' old new idle served c h = subst (λ (p : Step). holding.Serves s holds p r a base' y w' old new) (sym (apply_same replica r c w idle)) (served c h)
 
--- ---- the request at the front
+-- ---- the piece at the front
 
-pub record IsFront (n : ℕ) (bytes : List ℕ) (r : Request) : Type 0 where
-  pub parts : bytes ≡ spelling r ++ drop n bytes
-  pub reads : request_at bytes ≡ Ok (r, drop n bytes)
-  pub fits : Fits r
-  pub within : n ≤ length bytes
+-- the piece that is read has the bytes that aren't left
+pub front_is : (n : ℕ) (bytes : List ℕ) (x : Piece) → IsWhole n bytes → (rest : List ℕ) × (piece_at bytes ≡ Ok (x, rest)) → piece_at bytes ≡ Ok (x, drop n bytes)
+front_is n bytes x is e =
+    let s = same_whole x is.read.0 e.0 (drop n bytes) (sym e.1 ∙ is.read.2) in
+    e.1 ∙ ap (λ (l : List ℕ). Ok (x, l)) s.1
 
--- the request whose spelling stands at the front is the one that is read
-pub front_is : (n : ℕ) (bytes : List ℕ) (r : Request) → IsWhole n bytes → Fits r → IsPrefix (spelling r) bytes → IsFront n bytes r
-front_is n bytes r is fits begins =
-    let reads = is.read.2 in
-    let w : request_at bytes ≡ Ok (r, begins.0) = whole bytes r begins.0 fits begins.1 in
-    let s = same_whole r is.read.0 begins.0 (drop n bytes) (sym w ∙ reads) in
-    record { parts = begins.1 ∙ ap (λ (l : List ℕ). spelling r ++ l) s.1; reads = w ∙ ap (λ (l : List ℕ). Ok (r, l)) s.1; fits = fits; within = is.read.1 }
+pub is_ok_whole : (n : ℕ) (bytes : List ℕ) → IsWhole n bytes → is_ok (piece_at bytes) ≡ true
+is_ok_whole n bytes is = ap is_ok is.read.2
 
--- its bytes are those that aren't left
-pub own_bytes : (n : ℕ) (bytes : List ℕ) (r : Request) → IsFront n bytes r → take n bytes ≡ spelling r
-own_bytes n bytes r f = append_cancel_right (take n bytes) (spelling r) (drop n bytes) (take-append-drop n bytes ∙ f.parts)
+kept_copy : (logs : Bool) (x : Piece) (own text : List ℕ) → own ≡ text → Spells x text → (if is_kept logs x then Some own else None) ≡ copy_of logs x
+kept_copy logs (piece.Request r) own text is s = ap (λ (l : List ℕ). if logs && updates r then Some l else None) (is ∙ s.1)
+kept_copy logs (piece.Text t) own text is s = refl
 
-pub small_taken : (n : ℕ) (bytes rest : List ℕ) (r : Request) (t : Taken) (logs : Bool) → IsFront n bytes r → rest ≡ drop n bytes → t.request ≡ r → t.copied ≡ (if logs && updates r then Some (take n bytes) else None) → IsTaken t logs bytes rest
-small_taken n bytes rest r t logs f left is copied = record {
-  fits = subst Fits (sym is) f.fits;
-  spelled = f.parts ∙ (λ i. spelling (sym is i) ++ sym left i);
-  copied = copied ∙ (λ i. if logs && updates (sym is i) then Some (own_bytes n bytes r f i) else None) ∙ ap (λ (q : Request). if logs && updates t.request then Some (spelling q) else None) (sym is);
-}
+-- what is read is within its limits
+piece_fits : (bytes : List ℕ) (x : Piece) (rest text : List ℕ) → piece_at bytes ≡ Ok (x, rest) → Spells x text → PieceFits x
+piece_fits bytes x rest text e s = go (found bytes x rest e)
+  where
+    go : Found bytes x rest → PieceFits x
+    go (found_request r is first reads) = subst PieceFits (sym is) (subst (λ (y : Piece). Spells y text) is s).0
+    go (found_text t is first reads) = subst PieceFits (sym is) (λ look. asked_fits bytes t rest look reads)
 
-pub taken_off : (t : Taken) (logs : Bool) (unread rest : List ℕ) (d : Served) → IsTaken t logs unread rest → d.feeds ≡ feed_of t.request → TakesOff t.request d unread rest
-taken_off t logs unread rest d k feeds = record { front = whole unread t.request rest k.fits k.spelled; fits = k.fits; spelled = k.spelled; feeds = feeds }
+pub small_taken : (n : ℕ) (bytes : List ℕ) (t : Taken) (logs : Bool) → IsBytes bytes → piece_at bytes ≡ Ok (t.piece, drop n bytes) → t.copied ≡ (if is_kept logs t.piece then Some (take n bytes) else None) → IsTaken t logs bytes (drop n bytes)
+small_taken n bytes t logs b e copied =
+    let f = pieces.found bytes t.piece (drop n bytes) b e in
+    record {
+      front = e;
+      text = f.0;
+      spells = f.1;
+      spelled = f.2;
+      may = record {
+        fits = piece_fits bytes t.piece (drop n bytes) f.0 e f.1;
+        copied = copied ∙ kept_copy logs t.piece (take n bytes) f.0 (append_cancel_right (take n bytes) f.0 (drop n bytes) (take-append-drop n bytes ∙ f.2)) f.1;
+      };
+    }
+
+pub taken_off : (t : Taken) (logs : Bool) (unread rest : List ℕ) (d : Served) → IsTaken t logs unread rest → d.feeds ≡ feed_of t.piece → TakesOff t.piece d unread rest
+taken_off t logs unread rest d k feeds = record { front = k.front; text = k.text; spells = k.spells; spelled = k.spelled; feeds = feeds }
 
 -- the same bytes, where they are left
 pub moved : (t : Taken) (logs : Bool) (bytes same rest : List ℕ) (n : ℕ) → bytes ≡ same → rest ≡ drop n same → IsTaken t logs bytes (drop n bytes) → IsTaken t logs same rest
@@ -81,36 +105,73 @@ none_left (x ∷ l) e = absurd (let z : length (x ∷ l) ≡ 0 = eqb-true (lengt
 
 -- ---- what is left to do
 
--- bytes that were copied where the request might update, and are kept where it did
-pub copied_update : (logs : Bool) (r : Request) (s : Step) (updated : Bool) (bytes : List ℕ) → updated ≡ is_updated r s → bytes ≡ spelling r
-    → (if updated then (if logs && updates r then Some bytes else None) else None) ≡ update_of logs r s
-copied_update logs r s updated bytes is same = ap (λ (b : Bool). if b then (if logs && updates r then Some bytes else None) else None) is ∙ go logs s.ok (updates r) (Some bytes) ∙ ap (λ (l : List ℕ). if logs && is_updated r s then Some l else None) same
-  where
-    go : (l o u : Bool) (x : Option (List ℕ)) → (if o && u then (if l && u then x else None) else None) ≡ (if l && (o && u) then x else None)
-    go true true true x = refl
-    go true true false x = refl
-    go true false u x = refl
-    go false true true x = refl
-    go false true false x = refl
-    go false false u x = refl
+abbrev pub kept_bytes : Bool → Bool → Request → Option (List ℕ)
+kept_bytes updated logs r = if updated then (if logs && updates r then Some (spelling r) else None) else None
 
-pub serves : (replica logs : Bool) (r : Request) (a : Applied) (d : Served) (packs : Bool) (c c' : Contents) (w w' : Walk) (waiting waiting' own : List ℕ) → d.commits ≡ (a.updated || packs) → packs ≡ is_optimize r
-    → d.update ≡ (if a.updated then (if logs && updates r then Some own else None) else None) → own ≡ spelling r
-    → Applies (apply replica r c w) r a c' w' waiting waiting' → Serves replica logs r d c c' w w' waiting waiting'
-serves replica logs r a d packs c c' w w' waiting waiting' own is p u o applied = record {
+-- bytes that were copied where the request might update, and are kept where it did
+pub copied_update : (logs : Bool) (r : Request) (s : Step) (updated : Bool) → updated ≡ is_updated r s → logs ≡ true → entries (kept_bytes updated logs r) ≡ (stepped r s).made.updates
+copied_update logs r s updated is asked = ap (λ (b : Bool). entries (kept_bytes b logs r)) is ∙ (ap (λ (b : Bool). entries (kept_bytes (is_updated r s) b r)) asked ∙ go s.ok (updates r) (spelling r))
+  where
+    go : (o u : Bool) (x : List ℕ) → entries (if o && u then (if true && u then Some x else None) else None) ≡ only (o && u) x
+    go true true x = refl
+    go true false x = refl
+    go false true x = refl
+    go false false x = refl
+
+-- the label of a text, where it is one
+pub label_of : (label : Option Label) (text : List ℕ) → is_some label ≡ is_label text → IfSome label (λ l. text_of l ≡ text) → option_map text_of label ≡ (if is_label text then Some text else None)
+label_of None text some is = ap (λ (b : Bool). if b then Some text else None) some
+label_of (Some l) text some is = ap (λ (x : List ℕ). Some x) is ∙ ap (λ (b : Bool). if b then Some text else None) some
+
+took_copy : (a b : Bool) (text : List ℕ) (c : Contents) (w : Walk) → (took (Copy text) (tells c (if a && b then Some reply.Done else None)) c w).ok ≡ (a && b)
+took_copy true true text c w = refl
+took_copy true false text c w = refl
+took_copy false b text c w = refl
+
+copy_ok : (replica : Bool) (text : List ℕ) (c : Contents) (w : Walk) → (apply replica (Copy text) c w).ok ≡ (is_label text && is_stored (kind_of c))
+unfolding apply
+copy_ok true text c w = took_copy (is_label text) (is_stored (kind_of c)) text c w
+copy_ok false text c w = took_copy (is_label text) (is_stored (kind_of c)) text c w
+
+kept_label : (a b : Bool) (text : List ℕ) (label kept : Option Label) (ok : Bool) → option_map text_of label ≡ (if a then Some text else None) → ok ≡ (a && b) → kept ≡ (if ok then label else None) → entries (option_map text_of kept) ≡ only ok text
+kept_label a b text label kept true asks is keeps =
+    ap (λ (o : Option Label). entries (option_map text_of o)) keeps ∙ (ap entries asks ∙ ap (λ (x : Bool). entries (if x then Some text else None)) (and_parts a b (sym is)).0)
+kept_label a b text label kept false asks is keeps = ap (λ (o : Option Label). entries (option_map text_of o)) keeps
+
+none_kept : (label kept : Option Label) (ok : Bool) → option_map text_of label ≡ None → kept ≡ (if ok then label else None) → entries (option_map text_of kept) ≡ []
+none_kept None kept true asks keeps = ap (λ (o : Option Label). entries (option_map text_of o)) keeps
+none_kept None kept false asks keeps = ap (λ (o : Option Label). entries (option_map text_of o)) keeps
+none_kept (Some l) kept ok asks keeps = absurd cc
+
+-- a label that is asked for, where the request succeeded: only a copy under a label does
+copied_label : (replica : Bool) (r : Request) (c : Contents) (w : Walk) (label kept : Option Label) (ok : Bool) → asks_label r label → ok ≡ (apply replica r c w).ok → kept ≡ (if ok then label else None) → entries (option_map text_of kept) ≡ labels_of r (apply replica r c w)
+copied_label replica (Copy text) c w label kept ok asks is keeps = kept_label (is_label text) (is_stored (kind_of c)) text label kept ok asks (is ∙ copy_ok replica text c w) keeps ∙ ap (λ (b : Bool). only b text) is
+copied_label replica r c w label kept ok asks is keeps = none_kept label kept ok asks keeps
+
+pub serves : (replica logs : Bool) (r : Request) (a : Applied) (d : Served) (label : Option Label) (packs : Bool) (c c' : Contents) (w w' : Walk) (waiting waiting' : List ℕ) → d.commits ≡ (a.updated || packs) → packs ≡ is_optimize r
+    → d.update ≡ kept_bytes a.updated logs r → asks_label r label → d.copy ≡ (if a.ok then label else None) → Applies (apply replica r c w) r a c' w' waiting waiting' → Serves logs (done replica (piece.Request r) c w) d c' w' waiting waiting'
+serves replica logs r a d label packs c c' w w' waiting waiting' is p u asks copy applied = record {
   contents = applied.contents;
   walk = applied.walk;
   waiting_is = applied.bytes;
-  commits = is ∙ ap (λ (b : Bool). b || packs) applied.updated ∙ ap (λ (b : Bool). is_updated r (apply replica r c w) || b) p;
-  update = u ∙ copied_update logs r (apply replica r c w) a.updated own applied.updated o;
+  commits = is ∙ (ap (λ (b : Bool). b || packs) applied.updated ∙ ap (λ (b : Bool). is_updated r (apply replica r c w) || b) p);
+  update = λ asked. ap entries u ∙ copied_update logs r (apply replica r c w) a.updated applied.updated asked;
+  copy = copied_label replica r c w label d.copy a.ok asks applied.ok copy;
 }
 
--- whatever is told
-pub notes_of : (logs : Bool) (r : Request) (d : Served) (updated packs : Bool) → d.commits ≡ (updated || packs) → d.update ≡ (if updated then (if logs && updates r then Some (spelling r) else None) else None) → Notes logs r d
-notes_of logs r d updated packs commits update = record {
+pub for_none : {A : Type 0} (P : A → Type 0) → ForSome None P
+for_none P x is = absurd cc
+
+for_some : {A : Type 0} (P : A → Type 0) (a : A) → P a → ForSome (Some a) P
+for_some P a p x is = let s : a ≡ x = cc in subst P s p
+
+-- whatever is told: a copy is kept only where it was made, of a request that may update
+pub notes_of : (replica logs : Bool) (r : Request) (d : Served) (updated packs : Bool) → Fits r → ((replica && updates r) ≡ true → updated ≡ false) → d.commits ≡ (updated || packs) → d.update ≡ kept_bytes updated logs r → Notes replica logs d
+notes_of replica logs r d updated packs fits blocks commits update = record {
   asked = λ none. update ∙ unasked logs updated (updates r) none;
+  blocked = λ on. update ∙ stopped updated logs (updates r) on blocks;
   idle = λ none. update ∙ unchanged updated packs (if logs && updates r then Some (spelling r) else None) (sym commits ∙ none);
-  own = λ bytes is. own_of updated logs (updates r) (spelling r) bytes (sym update ∙ is);
+  noted = subst (λ (o : Option (List ℕ)). ForSome o IsUpdating) (sym update) (kept updated logs (updates r) refl);
 }
   where
     unasked : (l o u : Bool) → l ≡ false → (if o then (if l && u then Some (spelling r) else None) else None) ≡ None
@@ -118,15 +179,22 @@ notes_of logs r d updated packs commits update = record {
     unasked false false u e = refl
     unasked true o u e = absurd cc
 
+    stopped : (o l u : Bool) → replica ≡ true → ((replica && u) ≡ true → o ≡ false) → (if o then (if l && u then Some (spelling r) else None) else None) ≡ None
+    stopped false l u on h = refl
+    stopped true true true on h = absurd (let e = h (ap (λ (b : Bool). b && true) on) in cc)
+    stopped true false true on h = refl
+    stopped true true false on h = refl
+    stopped true false false on h = refl
+
     unchanged : (o p : Bool) (x : Option (List ℕ)) → (o || p) ≡ false → (if o then x else None) ≡ None
     unchanged false p x e = refl
     unchanged true p x e = absurd cc
 
-    own_of : (o l u : Bool) (own bytes : List ℕ) → (if o then (if l && u then Some own else None) else None) ≡ Some bytes → (bytes ≡ own) × (u ≡ true)
-    own_of true true true own bytes e = (cc, refl)
-    own_of true true false own bytes e = absurd cc
-    own_of true false u own bytes e = absurd cc
-    own_of false l u own bytes e = absurd cc
+    kept : (o l u : Bool) → updates r ≡ u → ForSome (if o then (if l && u then Some (spelling r) else None) else None) IsUpdating
+    kept true true true e = for_some IsUpdating (spelling r) (record { request = r; fits = fits; spells = refl; changes = updates_only r e })
+    kept true true false e = for_none IsUpdating
+    kept true false u e = for_none IsUpdating
+    kept false l u e = for_none IsUpdating
 
 -- ---- a session's fields
 
@@ -134,23 +202,28 @@ pub still_inside : (old new : List ℕ) (taken : ℕ) → IsPrefix old new → t
 still_inside old new taken more le = omega (arith, le, ap length more.1, length-append old more.0)
 
 -- what came behind the bytes that wait waits
-serves_behind : (replica logs : Bool) (r : Request) (d : Served) (c c' : Contents) (w w' : Walk) (waiting old new : List ℕ) (taken : ℕ) → drop taken old ≡ waiting → taken ≤ length old → Serves replica logs r d c c' w w' old new → Serves replica logs r d c c' w w' waiting (drop taken new)
-serves_behind replica logs r d c c' w w' waiting old new taken is le s = record {
+serves_behind : (logs : Bool) (e : Done) (d : Served) (c : Contents) (w : Walk) (waiting old new : List ℕ) (taken : ℕ) → drop taken old ≡ waiting → taken ≤ length old → Serves logs e d c w old new → Serves logs e d c w waiting (drop taken new)
+serves_behind logs e d c w waiting old new taken is le s = record {
   contents = s.contents;
   walk = s.walk;
-  waiting_is = let more = reply_bytes (apply replica r c w).reply in ap (drop taken) s.waiting_is ∙ drop-append-le taken old more le ∙ ap (λ (l : List ℕ). l ++ more) is;
+  waiting_is = ap (drop taken) s.waiting_is ∙ (drop-append-le taken old e.reply le ∙ ap (λ (l : List ℕ). l ++ e.reply) is);
   commits = s.commits;
   update = s.update;
+  copy = s.copy;
 }
 
-pub front_behind : {S B : Type 0} (s : Ghosts S) (holds : B → Files → Contents → Type 0) (replica logs : Bool) (d : Served) (b b' : B) (a a' : S) (w w' : Walk) (u v u' v' waiting old new : List ℕ) (taken : ℕ)
-    → v ≡ u → v' ≡ u' → drop taken old ≡ waiting → taken ≤ length old → ServesFront s holds replica logs d b b' a a' w w' v v' old new → ServesFront s holds replica logs d b b' a a' w w' u u' waiting (drop taken new)
-front_behind s holds replica logs d b b' a a' w w' u v u' v' waiting old new taken same left is le f = record {
-  request = f.request;
-  takes = subst (λ (l : List ℕ). TakesOff f.request d l u') same (subst (λ (l : List ℕ). TakesOff f.request d v l) left f.takes);
-  notes = f.notes;
-  few = let more = f.few in omega (arith, more, le, length-drop taken new, length-drop taken old, ap length is);
-  serves = λ c h. let x = f.serves c h in (x.0, x.1, serves_behind replica logs f.request d c x.0 w w' waiting old new taken is le x.2);
+pub front_behind : {S B : Type 0} (s : Ghosts S) (holds : B → Files → Contents → Type 0) (replica logs : Bool) (t : Taken) (d : Served) (b b' : B) (a a' : S) (w w' : Walk) (u v u' v' waiting old new : List ℕ) (taken : ℕ)
+    → v ≡ u → v' ≡ u' → drop taken old ≡ waiting → taken ≤ length old → IsTaken t logs v v' → ServesPiece s holds replica logs t.piece d b b' a a' w w' old new
+    → ServesFront s holds replica logs d b b' a a' w w' u u' waiting (drop taken new)
+front_behind s holds replica logs t d b b' a a' w w' u v u' v' waiting old new taken same left is le k p = record {
+  piece = t.piece;
+  takes = subst (λ (l : List ℕ). TakesOff t.piece d l u') same (subst (λ (l : List ℕ). TakesOff t.piece d v l) left (taken_off t logs v v' d k p.feeds));
+  served = record {
+    feeds = p.feeds;
+    notes = p.notes;
+    few = let more = p.few in omega (arith, more, le, length-drop taken new, length-drop taken old, ap length is);
+    serves = λ c h. let x = p.serves c h in (x.0, x.1, serves_behind logs (done replica t.piece c w) d x.0 w' waiting old new taken is le x.2);
+  };
 }
 
 -- a packing updates nothing
@@ -186,6 +259,23 @@ pub never_packs : {P : Type 0} (replica : Bool) (r : Request) → (replica && up
 never_packs false r fails packs = absurd cc
 never_packs true r fails packs = let idle = packing_idle r packs in absurd cc
 
--- the request that was taken off packed files, or none were
-pub tight_taken : {S B : Type 0} (s : Ghosts S) (holds : B → Files → Contents → Type 0) (tight : B → Files → Form → Files → Type 0) (t : Taken) (base base' : B) (old new : S) → (is_optimize t.request ≡ true → TightHeld s holds tight Keep base base' old new) → TightTaken s holds tight t base base' old new
-tight_taken s holds tight t base base' old new packs logs unread rest k = record { request = t.request; begins = record { rest = rest; front = whole unread t.request rest k.fits k.spelled }; packs = packs }
+-- where the piece that was taken off packed files
+pub front_tight : {S B : Type 0} (s : Ghosts S) (holds : B → Files → Contents → Type 0) (tight : B → Files → Form → Files → Type 0) (logs : Bool) (t : Taken) (base base' : B) (old new : S) (u v v' : List ℕ) → v ≡ u → IsTaken t logs v v' → TightPiece s holds tight t.piece base base' old new
+    → TightFront s holds tight base base' old new u
+front_tight s holds tight logs t base base' old new u v v' same k packs = record { piece = t.piece; begins = record { rest = v'; front = ap piece_at (sym same) ∙ k.front }; packs = packs }
+
+pub front_full : {S B : Type 0} (s : Ghosts S) (holds : B → Files → Contents → Type 0) (fills : Contents → Contents → Type 0) (replica logs : Bool) (t : Taken) (b : B) (a : S) (w : Walk) (u v v' : List ℕ) → v ≡ u → IsTaken t logs v v' → FillsPiece s holds fills replica t.piece b a w → FillsFront s holds fills replica b a w u
+front_full s holds fills replica logs t b a w u v v' same k f = record { piece = t.piece; begins = record { rest = v'; front = ap piece_at (sym same) ∙ k.front }; full = f }
+
+-- ---- a piece of one kind
+
+-- a text command packs nothing
+pub text_idle : {P : Type 0} (x : Piece) (t : Text) → x ≡ piece.Text t → piece_packs x ≡ true → P
+text_idle x t is packs = absurd (let f : false ≡ true = sym (ap piece_packs is) ∙ packs in cc)
+
+pub fills_wider : {S B : Type 0} (s : Ghosts S) (holds : B → Files → Contents → Type 0) (fills since : Contents → Contents → Type 0) (replica : Bool) (x : Piece) (b : B) (a : S) (w : Walk) → ((c d : Contents) → fills c d → since c d) → FillsPiece s holds fills replica x b a w → FillsPiece s holds since replica x b a w
+fills_wider s holds fills since replica x b a w wider f = record { writes = f.writes; packs = λ packs t c d. wider c d (f.packs packs t c d); by = λ c h. wider c (done replica x c w).made.contents (f.by c h) }
+
+pub served_request : {S B : Type 0} (s : Ghosts S) (holds : B → Files → Contents → Type 0) (replica logs : Bool) (x : Piece) (r : Request) (copied : Option (List ℕ)) (d : Served) (b b' : B) (a a' : S) (w w' : Walk) (old new : List ℕ) → x ≡ piece.Request r → copied ≡ copy_of logs x
+    → ((l : Bool) → copied ≡ copy_of l (piece.Request r) → ServesPiece s holds replica l (piece.Request r) d b b' a a' w w' old new) → ServesPiece s holds replica logs x d b b' a a' w w' old new
+served_request s holds replica logs x r copied d b b' a a' w w' old new is kept f = subst (λ (y : Piece). ServesPiece s holds replica logs y d b b' a a' w w' old new) (sym is) (f logs (kept ∙ ap (copy_of logs) is))

@@ -14,16 +14,19 @@ use Rattle.tc_base.specs.Reading.{size_at, bytes_at}
 use Rattle.tc_base.proofs.Exact.{IsBytes-rest}
 use Rattle.tc_base.proofs.ExactFields.{exact_size, exact_bytes}
 use Rattle.ty_wire.specs.declared.reading.Front.TheVariants.{Whole, Part}
-use Rattle.ty_wire.specs.Reading.{request_at}
 use Rattle.ty_wire.specs.Spelling.{spelling, Fits}
-use Rattle.ty_wire.specs.Taking.{Takes, IsRead}
-use Rattle.ty_wire.proofs.Answered.{whole}
+use Rattle.ty_memc.specs.declared.text.Piece.{Piece}
+use Rattle.ty_memc.specs.declared.text.Piece.TheVariants as piece
 use Rattle.ty_wire.proofs.Requests.{exact_request}
+use Rattle.ty_memc.specs.Grammar.{Spells, begins_text, piece_at}
+use Rattle.ty_memc.specs.Fronts.{IsPieceRead, TakesPiece}
+use Rattle.ty_memc.proofs.PieceGrammar.{again_request, request_begins}
+use Rattle.ty_memc.proofs.PieceFronts.{request_read, takes_request}
 use Rattle.ty_core.specs.declared.large.Large.{Large}
 use Rattle.ty_core.specs.Gathering.{put_head, BeginsPut, Gathers, MayGather, all_of}
 use Rattle.tc_model.specs.Apply.{updates}
 use Rattle.ty_core.specs.declared.taking.Taken.{Taken}
-use Rattle.ty_core.specs.Serving.{IsTaken, IsWhole}
+use Rattle.ty_core.specs.Serving.{IsTaken, IsWhole, PieceFits, copy_of}
 
 -- ---- the spelling
 
@@ -53,8 +56,8 @@ is_put l behind key value b full named same =
 -- ---- what stands at the front
 
 pub record Sights (l : Large) (behind : List ℕ) (n : ℕ) : Type 0 where
-  pub takes : Takes (all_of (Some l) behind) (Whole n)
-  pub reads : IsRead (all_of (Some l) behind) (Whole n)
+  pub takes : TakesPiece (all_of (Some l) behind) (Whole n)
+  pub reads : IsPieceRead (all_of (Some l) behind) (Whole n)
 
 pub sees_whole : (l : Large) (behind : List ℕ) (n : ℕ) → Gathers l behind → length l.value ≡ l.size → n ≡ length l.head + length l.value → Sights l behind n
 sees_whole l behind n g full is =
@@ -63,13 +66,16 @@ sees_whole l behind n g full is =
     let all = all_of (Some l) behind in
     let len : length (spelling r) ≡ n = omega (arith, is, ap length p.parts, length-append l.head (l.value ++ behind), length-append l.value behind, length-append (spelling r) behind) in
     record {
-      takes = (r, p.fits, len, (behind, p.parts));
-      reads = (r, omega (arith, len, ap length p.parts, length-append (spelling r) behind), whole all r behind p.fits p.parts ∙ ap (λ (l : List ℕ). Ok (r, l)) (sym (front_rest all (spelling r) behind p.parts) ∙ ap (λ (k : ℕ). drop k all) len));
+      takes = takes_request all (Whole n) (request_begins r all behind p.parts) (r, p.fits, len, (behind, p.parts));
+      reads = (piece.Request r, omega (arith, len, ap length p.parts, length-append (spelling r) behind), again_request r all behind p.fits p.parts ∙ ap (λ (l : List ℕ). Ok (piece.Request r, l)) (sym (front_rest all (spelling r) behind p.parts) ∙ ap (λ (k : ℕ). drop k all) len));
     }
 
 pub record SightsPart (l : Large) (behind : List ℕ) : Type 0 where
-  pub takes : Takes (all_of (Some l) behind) Part
-  pub reads : IsRead (all_of (Some l) behind) Part
+  pub takes : TakesPiece (all_of (Some l) behind) Part
+  pub reads : IsPieceRead (all_of (Some l) behind) Part
+
+first_byte : (l : Large) (behind : List ℕ) → BeginsPut l.head l.size → (rest : List ℕ) × (all_of (Some l) behind ≡ 0xC8 ∷ rest)
+first_byte l behind b = (_, ap (λ (h : List ℕ). h ++ (l.value ++ behind)) b.head_is)
 
 pub sees_part : (l : Large) (behind : List ℕ) → Gathers l behind → length l.value < l.size → SightsPart l behind
 sees_part l behind g less =
@@ -86,13 +92,18 @@ sees_part l behind g less =
     ∙ sym (append_assoc (put_head b.key l.size) l.value pad)
     ∙ ap (λ (v : List ℕ). v ++ pad) (sym all) in
     let some : 0 < length pad = omega (arith, less, long) in
-    record { takes = (r, fits, (pad, some, spelled)); reads = exact_request.cut r (all_of (Some l) behind) pad some (fits, sym spelled) }
+    let first = first_byte l behind b in
+    let begins : begins_text (all_of (Some l) behind) ≡ false = ap begins_text first.1 in
+    record {
+      takes = takes_request (all_of (Some l) behind) Part begins (r, fits, (pad, some, spelled));
+      reads = request_read (all_of (Some l) behind) Part begins (exact_request.cut r (all_of (Some l) behind) pad some (fits, sym spelled));
+    }
 
 -- a put that is read whole has all of its value
 pub is_full : (l : Large) (behind : List ℕ) (n : ℕ) → Gathers l behind → IsWhole n (all_of (Some l) behind) → length l.value ≡ l.size
 is_full l behind n g w = elim (eq-or-lt_of_le g.within) [
   | inl same ↦ same
-  | inr less ↦ absurd (let is = w.read.2 in let part : request_at (all_of (Some l) behind) ≡ Err not_whole.Part = (sees_part l behind g less).reads in cc)
+  | inr less ↦ absurd (let is = w.read.2 in let part : piece_at (all_of (Some l) behind) ≡ Err not_whole.Part = (sees_part l behind g less).reads in cc)
 ]
 
 pub full_of : (o : Option Large) (l : Large) (behind : List ℕ) (n : ℕ) → o ≡ Some l → MayGather o behind → IsWhole n (all_of o behind) → length l.value ≡ l.size
@@ -135,7 +146,7 @@ begun bytes l at b head value less = (
 pub head_long : (head : List ℕ) (size : ℕ) → BeginsPut head size → 10 ≤ length head
 head_long head size b = omega (arith, ap length b.head_is)
 
-pub large_taken : (t : Taken) (logs : Bool) (l : Large) (key behind : List ℕ) → BeginsPut l.head l.size → length l.value ≡ l.size → t.request ≡ Put key l.value → key ≡ drop 10 l.head → t.copied ≡ (if logs then Some (l.head ++ l.value) else None) → IsTaken t logs (all_of (Some l) behind) behind
+pub large_taken : (t : Taken) (logs : Bool) (l : Large) (key behind : List ℕ) → BeginsPut l.head l.size → length l.value ≡ l.size → t.piece ≡ piece.Request (Put key l.value) → key ≡ drop 10 l.head → t.copied ≡ (if logs then Some (l.head ++ l.value) else None) → IsTaken t logs (all_of (Some l) behind) behind
 large_taken t logs l key behind b full is named copied =
     let r = Put key l.value in
     let p = is_put l behind key l.value b full named refl in
@@ -143,9 +154,11 @@ large_taken t logs l key behind b full is named copied =
     let own : l.head ++ l.value ≡ spelling r = ap (λ (v : List ℕ). l.head ++ v) (sym (append-nil l.value)) ∙ alone.parts ∙ append-nil (spelling r) in
     let kept : t.copied ≡ (if logs && updates r then Some (spelling r) else None) = copied ∙ ap (λ (o : List ℕ). if logs then Some o else None) own ∙ go logs (Some (spelling r)) in
     record {
-      fits = subst Fits (sym is) p.fits;
-      spelled = p.parts ∙ ap (λ (q : Request). spelling q ++ behind) (sym is);
-      copied = subst (λ (q : Request). t.copied ≡ (if logs && updates q then Some (spelling q) else None)) (sym is) kept;
+      front = again_request r (all_of (Some l) behind) behind p.fits p.parts ∙ ap (λ (x : Piece). Ok (x, behind)) (sym is);
+      text = spelling r;
+      spells = subst (λ (x : Piece). Spells x (spelling r)) (sym is) (p.fits, refl);
+      spelled = p.parts;
+      may = record { fits = subst PieceFits (sym is) p.fits; copied = kept ∙ ap (copy_of logs) (sym is) };
     }
   where
     go : (b : Bool) (o : Option (List ℕ)) → (if b then o else None) ≡ (if b && true then o else None)

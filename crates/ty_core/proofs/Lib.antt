@@ -1,2 +1,4 @@
 pub mod Fronts
 pub mod Gathering
+pub mod Getting
+pub mod Texting

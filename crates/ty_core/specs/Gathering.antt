@@ -2,9 +2,8 @@
 use Rattle.std.specs.Prelude.{◌≡◌, ◌<◌, ◌≤◌, ℕ, List, [], ◌∷◌, ◌++◌, length, Option, Some, None, MatchOption}
 use Rattle.std.specs.Int.{w32, to_be_bytes}
 use Rattle.ty_wire.specs.declared.reading.Front.{Front}
-use Rattle.ty_look.specs.declared.looking.Seen.{Seen}
-use Rattle.ty_look.specs.Seen.{IsSeen}
-use Rattle.ty_wire.specs.Taking.{Takes, IsRead}
+use Rattle.ty_memc.specs.declared.pieces.SeenPiece.{SeenPiece}
+use Rattle.ty_memc.specs.Fronts.{IsPieceRead, IsPieceSeen, TakesPiece}
 use Rattle.ty_core.specs.declared.large.Large.{Large}
 
 -- what stands in front of a value of so many bytes
@@ -37,7 +36,7 @@ pub record Adds (l m : Large) (behind now bytes : List ℕ) : Type 0 where
   pub grows : all_of (Some m) now ≡ all_of (Some l) behind ++ bytes
 
 -- what stands at the front is known, and what was seen of it holds
-pub record IsSighted (bytes : List ℕ) (front : Front) (seen : Seen) : Type 0 where
-  pub takes : Takes bytes front
-  pub reads : IsRead bytes front
-  pub sees : IsSeen seen bytes
+pub record IsSighted (bytes : List ℕ) (front : Front) (seen : SeenPiece) : Type 0 where
+  pub takes : TakesPiece bytes front
+  pub reads : IsPieceRead bytes front
+  pub sees : IsPieceSeen seen bytes

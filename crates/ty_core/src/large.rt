@@ -1,11 +1,11 @@
 //! A put of a large value, whose bytes come in pieces.
 ghost use Rattle.std.specs.Prelude.{◌≡◌, ◌++◌, ◌+◌, ◌≤◌, [], ◌∷◌, length, drop, take, OnOk, OnErr, IfOk, IfSome, if◌then◌else◌, Some, None};
-ghost use Rattle.ty_wire.specs.Taking.{Takes, IsRead};
+ghost use Rattle.ty_memc.specs.Fronts.{IsPieceRead, TakesPiece};
 ghost use Rattle.ty_core.specs.Gathering.{Adds, BeginsPut, Gathers, all_of};
 
 use bytes::BytesMut;
 use std::alloc::{AllocError, Global};
-use tc_base::{Blob, KEY_MOST, Key, Request, VALUE_MOST, read_bytes, read_size};
+use tc_base::{Blob, KEY_MOST, Key, VALUE_MOST, read_bytes, read_size};
 use ty_wire::Front;
 
 // A put of at least so many bytes is gathered apart.
@@ -102,8 +102,8 @@ impl Large {
     /// What stands at the front.
     pub fn front(&self, behind: &BytesMut) -> Front
         requires { Gathers self.now behind.now.items }
-        ensures grammar { Takes (all_of (Some self.now) behind.now.items) result }
-        ensures reading { IsRead (all_of (Some self.now) behind.now.items) result }
+        ensures grammar { TakesPiece (all_of (Some self.now) behind.now.items) result }
+        ensures reading { IsPieceRead (all_of (Some self.now) behind.now.items) result }
     {
         if self.value.len() < self.size {
             return Front::Part;

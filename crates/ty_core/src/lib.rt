@@ -5,6 +5,7 @@ mod large;
 mod serving;
 mod session;
 mod taking;
+mod texts;
 mod unread;
 
 pub use serving::{Feed, Served};

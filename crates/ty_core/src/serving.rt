@@ -1,19 +1,25 @@
-//! A request, served.
-ghost use Rattle.std.specs.Prelude.{◌≡◌, false, true, OnErr, OnOk, IfOk, IsErrOf, if◌then◌else◌, None};
+//! A piece, served.
+ghost use Rattle.std.specs.Prelude.{◌≡◌, ◌&&◌, Bool, true, false, OnErr, OnOk, IfOk, IsErrOf, if◌then◌else◌, None, Some};
 ghost use Rattle.tc_base.specs.declared.kind.Form.TheVariants.{Keep};
 ghost use Rattle.tc_space.specs.Frames.{Keeps};
 ghost use Rattle.tc_space.specs.Refusals.{OnFault};
-ghost use Rattle.tc_model.specs.Apply.{refusal_of};
+ghost use Rattle.tc_model.specs.Apply.{refusal_of, updates};
 ghost use Rattle.ty_wire.specs.Prefixes.{IsPrefix};
+ghost use Rattle.ty_wire.specs.Spelling.{Fits};
+ghost use Rattle.ty_memc.specs.declared.text.Piece.TheVariants as piece;
 ghost use Rattle.ty_base.specs.Holding.{Declines, FillsBy, IsReady, Leaves, ServedBy, TightHeld, contents_after, is_idle};
 ghost use Rattle.tc_model.specs.Packing.{is_optimize};
-ghost use Rattle.ty_core.specs.Serving.{FillsTaken, ServesTaken, TightTaken, feed_of, reply_most};
+ghost use Rattle.ty_core.specs.Serving.{FillsPiece, MayServe, ServesPiece, ServesTaken, TightPiece, copy_of, feed_of, reply_most};
+ghost use Rattle.ty_core.specs.Labels.{asks_label};
 
 use crate::taking::{Taken, if_updating};
-use tc_base::{Blob, REPLY_MOST, Reply, Request};
+use crate::texts::serve_text;
+use std::alloc::Global;
+use tc_base::{Blob, Label, REPLY_MOST, Reply, Request};
 use tc_model::{Applied, Walk};
 use tc_space::{RecErr, Space};
 use ty_base::Base;
+use ty_memc::Piece;
 use ty_wire::write_reply;
 
 /// Whom a `repl` asks to be fed: the update records above a timestamp, for a server of this number.
@@ -23,7 +29,7 @@ pub struct Feed {
     pub server: u32,
 }
 
-/// What is left to do behind a request that was served.
+/// What is left to do behind a piece that was served.
 #[derive(Drop)]
 pub struct Served {
     /// Whether there is anything to commit: it updated the contents, or packs the files.
@@ -32,6 +38,8 @@ pub struct Served {
     pub feeds: Option<Feed>,
     /// The bytes of the request where it updated and they were asked for.
     pub update: Option<Blob>,
+    /// The label under which a copy is to be made once what was done is kept.
+    pub copy: Option<Label>,
 }
 
 // The reply to a request that is refused.
@@ -54,13 +62,23 @@ fn is_packing(request: &Request) -> bool
 
 // The feed that it asks for.
 fn asked_feed(request: &Request) -> Option<Feed>
-    ensures { result ≡ feed_of request.now }
+    ensures { result ≡ feed_of (piece.Request request.now) }
 {
     match request {
         Request::Repl { timestamp, server } => Some(Feed {
             above: *timestamp,
             server: *server,
         }),
+        _ => None,
+    }
+}
+
+// The label of the copy that it asks for, where that is one.
+fn asked_label(request: &Request) -> Option<Label>
+    ensures { asks_label request.now result }
+{
+    match request {
+        Request::Copy { path } => Label::of(path.as_slice()),
         _ => None,
     }
 }
@@ -75,11 +93,18 @@ fn most_of(feeds: &Option<Feed>) -> usize
     }
 }
 
-// What was copied, where it is kept.
-fn kept(copied: Option<Blob>, keeps: bool) -> Option<Blob>
+/// What was copied, where it is kept.
+pub fn kept(copied: Option<Blob>, keeps: bool) -> Option<Blob>
     ensures { result ≡ (if keeps then copied else None) }
 {
     if keeps { copied } else { None }
+}
+
+// A label, where a copy is to be made.
+fn label_if(label: Option<Label>, wanted: bool) -> Option<Label>
+    ensures { result ≡ (if wanted then label else None) }
+{
+    if wanted { label } else { None }
 }
 
 /// Serves a request: on a replica each updating one of a client fails, else the base serves it.
@@ -94,6 +119,7 @@ pub fn answer<B: Base>(
     requires ready { IsReady B.S.Space B.holds base.old space.old }
     ensures applied { IfOk result (λ a. ServedBy B.S.Space B.holds replica request a base.old base.new space.old space.new walk.old walk.new reply.old reply.new) }
     ensures tight { OnOk result (is_optimize request ≡ true → TightHeld B.S.Space B.holds B.tight Keep base.old base.new space.old space.new) }
+    ensures blocked { IfOk result (λ a. (replica && updates request) ≡ true → a.updated ≡ false) }
     ensures leaves { IfOk result (λ a. Leaves B.S.Space B.own B.layout (is_idle request a) space.old space.new) }
     ensures refused { OnErr result (Declines B.S.Space B.holds base.old base.new space.old space.new walk.old walk.new) }
     ensures reply_front { IsPrefix reply.old reply.new }
@@ -113,11 +139,12 @@ pub fn answer<B: Base>(
     base.apply(space, request, walk, reply)
 }
 
-/// Serves a request that was taken off. Where its bytes were asked for, those of one that updates are given back. A reply that is longer
-/// than any may be, which none is whose files are told, is want of memory.
+// Serves a request that was taken off. Where its bytes were asked for, those of one that updates are given back. A reply that is longer
+// than any may be, which none is whose files are told, is want of memory.
 #[tactic(auto, using(crate::proofs::Fronts::still_inside, tc_space::specs::Frames::keeps_then, tc_space::specs::Frames::keeps_refl))]
-pub fn serve_taken<B: Base>(
-    taken: Taken,
+fn serve_request<B: Base>(
+    request: Request,
+    copied: Option<Blob>,
     waiting: &mut Blob,
     base: &mut B,
     space: &mut B::S,
@@ -125,28 +152,62 @@ pub fn serve_taken<B: Base>(
     replica: bool,
 ) -> Result<Served, RecErr>
     requires ready { IsReady B.S.Space B.holds base.old space.old }
-    ensures served { IfOk result (λ d. ServesTaken B.S.Space B.holds taken replica d base.old base.new space.old space.new walk.old walk.new waiting.old waiting.new) }
-    ensures tight { OnOk result (TightTaken B.S.Space B.holds B.tight taken base.old base.new space.old space.new) }
+    requires fits { Fits request }
+    ensures served { IfOk result (λ d. (logs : Bool) → copied ≡ copy_of logs (piece.Request request) → ServesPiece B.S.Space B.holds replica logs (piece.Request request) d base.old base.new space.old space.new walk.old walk.new waiting.old waiting.new) }
+    ensures tight { OnOk result (TightPiece B.S.Space B.holds B.tight (piece.Request request) base.old base.new space.old space.new) }
     ensures leaves { IfOk result (λ d. Leaves B.S.Space B.own B.layout (d.commits ≡ false) space.old space.new) }
     ensures refused { OnErr result (Declines B.S.Space B.holds base.old base.new space.old space.new walk.old walk.new) }
     ensures waiting_front { IsPrefix waiting.old waiting.new }
-    ensures full { IsErrOf result RecErr.Full → FillsTaken B.S.Space B.holds (B.fills base.old space.old space.new) taken replica base.old space.old walk.old }
+    ensures full { IsErrOf result RecErr.Full → FillsPiece B.S.Space B.holds (B.fills base.old space.old space.new) replica (piece.Request request) base.old space.old walk.old }
     ensures keeps { Keeps B.S.Space space.old space.new }
     ensures cause { OnFault B.S.Space result space.old space.new }
 {
-    let Taken { request, copied } = taken;
     let packs = is_packing(&request);
     let feeds = asked_feed(&request);
+    let label = asked_label(&request);
     let before = waiting.len();
     let applied = answer(base, space, request, walk, replica, waiting)?;
     if waiting.len() - before > most_of(&feeds) {
         space.spoil();
         return Err(RecErr::Memory);
     }
-    let update = kept(copied, applied.updated);
     Ok(Served {
         commits: applied.updated | packs,
         feeds,
-        update,
+        update: kept(copied, applied.updated),
+        copy: label_if(label, applied.ok),
     })
+}
+
+/// Serves a piece that was taken off: a request, or a text command.
+pub fn serve_taken<B: Base>(
+    alloc: Global,
+    taken: Taken,
+    waiting: &mut Blob,
+    base: &mut B,
+    space: &mut B::S,
+    walk: &mut Walk,
+    replica: bool,
+    logs: bool,
+) -> Result<Served, RecErr>
+    requires ready { IsReady B.S.Space B.holds base.old space.old }
+    requires may { MayServe taken logs }
+    ensures served { IfOk result (λ d. ServesTaken B.S.Space B.holds taken replica logs d base.old base.new space.old space.new walk.old walk.new waiting.old waiting.new) }
+    ensures tight { OnOk result (TightPiece B.S.Space B.holds B.tight taken.piece base.old base.new space.old space.new) }
+    ensures leaves { IfOk result (λ d. Leaves B.S.Space B.own B.layout (d.commits ≡ false) space.old space.new) }
+    ensures refused { OnErr result (Declines B.S.Space B.holds base.old base.new space.old space.new walk.old walk.new) }
+    ensures waiting_front { IsPrefix waiting.old waiting.new }
+    ensures full { IsErrOf result RecErr.Full → FillsPiece B.S.Space B.holds (B.fills_since space.old space.new) replica taken.piece base.old space.old walk.old }
+    ensures keeps { Keeps B.S.Space space.old space.new }
+    ensures cause { OnFault B.S.Space result space.old space.new }
+{
+    let Taken { piece, copied } = taken;
+    match piece {
+        Piece::Request { request } => {
+            serve_request(request, copied, waiting, base, space, walk, replica)
+        }
+        Piece::Text { text } => {
+            serve_text(alloc, text, waiting, base, space, walk, replica, logs)
+        }
+    }
 }

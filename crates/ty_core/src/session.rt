@@ -3,7 +3,7 @@ ghost use Rattle.std.specs.Prelude.{◌≡◌, ◌≤◌, ◌++◌, ℕ, false, 
 ghost use Rattle.tc_space.specs.Frames.{Keeps};
 ghost use Rattle.tc_space.specs.Refusals.{OnFault};
 ghost use Rattle.ty_wire.specs.declared.reading.Front.TheVariants.{Whole};
-ghost use Rattle.ty_wire.specs.Taking.{Takes, IsRead};
+ghost use Rattle.ty_memc.specs.Fronts.{IsPieceRead, TakesPiece};
 ghost use Rattle.ty_base.specs.Holding.{Declines, IsReady, Leaves};
 ghost use Rattle.ty_core.specs.Queues.{queue};
 ghost use Rattle.ty_core.specs.Serving.{FillsFront, ServesQueue, TightFront};
@@ -19,7 +19,7 @@ use tc_space::{RecErr, Space};
 use ty_base::Base;
 use ty_wire::Front;
 
-/// The bytes of a connection that no request took yet, and those that wait to be sent to it. Both queues are seen as lists.
+/// The bytes of a connection that no piece took yet, and those that wait to be sent to it. Both queues are seen as lists.
 #[derive(Drop)]
 pub struct Session {
     alloc: Global,
@@ -74,8 +74,8 @@ impl Session {
 
     /// What stands at the front of the unread bytes.
     pub fn look(&self) -> Front
-        ensures grammar { Takes self.now.unread result }
-        ensures reading { IsRead self.now.unread result }
+        ensures grammar { TakesPiece self.now.unread result }
+        ensures reading { IsPieceRead self.now.unread result }
     {
         self.unread.look()
     }
@@ -108,8 +108,8 @@ impl Session {
         self.waiting.append(bytes)
     }
 
-    /// Serves the request at the front: it is taken off the unread bytes, and its reply waits. Of a `repl` no reply is added. Where `logs` is
-    /// set the bytes of a request that updated are given back. After an `Err` the session is of no more use.
+    /// Serves the piece at the front: it is taken off the unread bytes, and its reply waits. Of a `repl` no reply is added. Where `logs` is
+    /// set the bytes of a request that updated are given back, of a text command those of its request. After an `Err` the session is of no more use.
     #[tactic(auto, using(crate::proofs::Fronts::still_inside, tc_space::specs::Frames::keeps_then, tc_space::specs::Frames::keeps_refl))]
     pub fn serve<B: Base>(
         &mut self,
@@ -119,18 +119,27 @@ impl Session {
         replica: bool,
         logs: bool,
     ) -> Result<Served, RecErr>
-        requires whole { (n : ℕ) × IsRead self.old.unread (Whole n) }
+        requires whole { (n : ℕ) × IsPieceRead self.old.unread (Whole n) }
         requires quiet { self.old.waiting ≡ [] }
         requires ready { IsReady B.S.Space B.holds base.old space.old }
         ensures served { IfOk result (λ d. ServesQueue B.S.Space B.holds replica logs d base.old base.new space.old space.new walk.old walk.new self.old self.new) }
         ensures tight { OnOk result (TightFront B.S.Space B.holds B.tight base.old base.new space.old space.new self.old.unread) }
         ensures leaves { IfOk result (λ d. Leaves B.S.Space B.own B.layout (d.commits ≡ false) space.old space.new) }
         ensures refused { OnErr result (Declines B.S.Space B.holds base.old base.new space.old space.new walk.old walk.new) }
-        ensures full { IsErrOf result RecErr.Full → FillsFront B.S.Space B.holds (B.fills base.old space.old space.new) replica base.old space.old walk.old self.old.unread }
+        ensures full { IsErrOf result RecErr.Full → FillsFront B.S.Space B.holds (B.fills_since space.old space.new) replica base.old space.old walk.old self.old.unread }
         ensures keeps { Keeps B.S.Space space.old space.new }
         ensures cause { OnFault B.S.Space result space.old space.new }
     {
         let taken = self.unread.take(logs)?;
-        serve_taken(taken, &mut self.waiting, base, space, walk, replica)
+        serve_taken(
+            self.alloc,
+            taken,
+            &mut self.waiting,
+            base,
+            space,
+            walk,
+            replica,
+            logs,
+        )
     }
 }

@@ -1,22 +1,23 @@
-//! The request at the front of bytes, taken off them.
+//! The piece at the front of bytes, taken off them.
 ghost use Rattle.std.specs.Prelude.{◌≡◌, ◌≤◌, ◌&&◌, List, [], ℕ, IfOk, length, drop, if◌then◌else◌, Some, None};
 ghost use Rattle.tc_model.specs.Apply.{updates};
 ghost use Rattle.ty_core.specs.Gathering.{BeginsPut, MayGather, all_of};
-ghost use Rattle.ty_core.specs.Serving.{IsTaken, IsWhole};
+ghost use Rattle.ty_core.specs.Serving.{IsTaken, IsWhole, is_kept};
 
 use crate::large::Large;
 use bytes::BytesMut;
 use std::alloc::{AllocError, Global};
 use tc_base::{Blob, Request};
-use ty_wire::{is_updating, read_request};
+use ty_memc::{Piece, read_piece};
+use ty_wire::is_updating;
 
 /// The room of at most so many bytes is used again.
 pub const ROOM_KEPT: usize = 65_536;
 
-/// A request, and its bytes where they were asked for and it may update.
+/// A piece, and its bytes where they were asked for and it is a request that may update.
 #[derive(Drop)]
 pub struct Taken {
-    pub request: Request,
+    pub piece: Piece,
     pub copied: Option<Blob>,
 }
 
@@ -25,6 +26,16 @@ pub fn if_updating(request: &Request, test: bool) -> bool
     ensures { result ≡ (test && updates request.now) }
 {
     if test { is_updating(request) } else { false }
+}
+
+// Whether the bytes of a piece are of use: those of a request that may update, where a test holds.
+fn is_copied(piece: &Piece, test: bool) -> bool
+    ensures { result ≡ is_kept test piece.now }
+{
+    match piece {
+        Piece::Request { request } => if_updating(request, test),
+        Piece::Text { .. } => false,
+    }
 }
 
 // A copy of the bytes where they are asked for.
@@ -38,14 +49,14 @@ fn copy(alloc: Global, bytes: &[u8], asked: bool) -> Result<Option<Blob>, AllocE
     }
 }
 
-// The request at the front of bytes, whose own are the first `whole`.
+// The piece at the front of bytes, whose own are the first `whole`.
 fn read_small(alloc: Global, unread: &[u8], whole: usize, logs: bool) -> Result<Taken, AllocError>
     requires { IsWhole whole unread.now }
     ensures { IfOk result (λ t. IsTaken t logs unread.now (drop whole unread.now)) }
 {
-    let request = read_request(alloc, unread)?;
-    let copied = copy(alloc, &unread[..whole], if_updating(&request, logs))?;
-    Ok(Taken { request, copied })
+    let piece = read_piece(alloc, unread)?;
+    let copied = copy(alloc, &unread[..whole], is_copied(&piece, logs))?;
+    Ok(Taken { piece, copied })
 }
 
 /// Drops all bytes. The room of many is given back, that of few is used again from its front.
@@ -70,7 +81,7 @@ fn pass(alloc: Global, bytes: &mut BytesMut, n: usize)
     }
 }
 
-// A request that stands whole among the bytes.
+// A piece that stands whole among the bytes.
 fn take_small(
     alloc: Global,
     bytes: &mut BytesMut,
@@ -95,15 +106,17 @@ fn take_large(alloc: Global, large: Large, logs: bool) -> Result<Taken, AllocErr
     let key = large.key(alloc)?;
     let copied = large.copy(alloc, logs)?;
     Ok(Taken {
-        request: Request::Put {
-            key,
-            value: large.into_value(),
+        piece: Piece::Request {
+            request: Request::Put {
+                key,
+                value: large.into_value(),
+            },
         },
         copied,
     })
 }
 
-/// The request at the front. Its own bytes are the first `whole`.
+/// The piece at the front. Its own bytes are the first `whole`.
 pub fn take_front(
     alloc: Global,
     large: &mut Option<Large>,

@@ -1,8 +1,7 @@
-//! The bytes of a connection that no request took yet.
+//! The bytes of a connection that no piece took yet.
 ghost use Rattle.std.specs.Prelude.{◌≡◌, ◌++◌, ℕ, [], IfOk, OnOk, OnErr};
 ghost use Rattle.ty_wire.specs.declared.reading.Front.TheVariants.{Whole};
-ghost use Rattle.ty_look.specs.Seen.{IsSeen};
-ghost use Rattle.ty_wire.specs.Taking.{Takes, IsRead};
+ghost use Rattle.ty_memc.specs.Fronts.{IsPieceRead, IsPieceSeen, TakesPiece};
 ghost use Rattle.ty_core.specs.Gathering.{IsSighted, MayGather, all_of};
 ghost use Rattle.ty_core.specs.Serving.{IsTaken};
 
@@ -11,7 +10,7 @@ use crate::taking::{Taken, empty, take_front};
 use bytes::BytesMut;
 use std::alloc::{AllocError, Global};
 use std::marker::Model;
-use ty_look::{Seen, look};
+use ty_memc::{SeenPiece, look_piece};
 use ty_wire::Front;
 
 /// Bytes in the order in which they came, seen as a list, and what stands at their front.
@@ -23,7 +22,7 @@ pub struct Unread {
     bytes: BytesMut,
     // what stands at the front, and what was looked at of a request that isn't whole
     front: Front,
-    seen: Seen,
+    seen: SeenPiece,
 }
 
 impl Model for Unread {
@@ -55,9 +54,14 @@ fn add(large: &mut Option<Large>, behind: &mut BytesMut, bytes: &[u8]) -> Result
 }
 
 // Looks at what stands at the front, and gathers a put of a large value apart once it has begun.
-fn sight(alloc: Global, large: &mut Option<Large>, behind: &mut BytesMut, seen: &mut Seen) -> Front
+fn sight(
+    alloc: Global,
+    large: &mut Option<Large>,
+    behind: &mut BytesMut,
+    seen: &mut SeenPiece,
+) -> Front
     requires gathers { MayGather large.old behind.old.items }
-    requires seen { IsSeen seen.old (all_of large.old behind.old.items) }
+    requires seen { IsPieceSeen seen.old (all_of large.old behind.old.items) }
     ensures same { all_of large.new behind.new.items ≡ all_of large.old behind.old.items }
     ensures gathers { MayGather large.new behind.new.items }
     ensures sighted { IsSighted (all_of large.old behind.old.items) result seen.new }
@@ -65,7 +69,7 @@ fn sight(alloc: Global, large: &mut Option<Large>, behind: &mut BytesMut, seen: 
     if let Some(large) = large {
         return large.front(behind);
     }
-    let front = look(behind.as_slice(), seen);
+    let front = look_piece(behind.as_slice(), seen);
     if front == Front::Part {
         if let Some(begun) = Large::begin(alloc, behind.as_slice(), seen.least()) {
             *large = Some(begun);
@@ -79,12 +83,12 @@ impl Unread {
     pub fn new(alloc: Global) -> Unread
         ensures { result ≡ [] }
     {
-        let mut seen = Seen::new();
+        let mut seen = SeenPiece::new();
         Unread {
             alloc,
             large: None,
             bytes: BytesMut::new(alloc),
-            front: look(&[], &mut seen),
+            front: look_piece(&[], &mut seen),
             seen,
         }
     }
@@ -101,22 +105,22 @@ impl Unread {
 
     /// What stands at the front.
     pub fn look(&self) -> Front
-        ensures grammar { Takes self.now result }
-        ensures reading { IsRead self.now result }
+        ensures grammar { TakesPiece self.now result }
+        ensures reading { IsPieceRead self.now result }
     {
         self.front
     }
 
-    /// Takes off the request at the front, and where `logs` is set a copy of its bytes if it may update. After an `Err` nothing is said of the bytes.
+    /// Takes off the piece at the front, and where `logs` is set a copy of its bytes if it is a request that may update. After an `Err` nothing is said of the bytes.
     pub fn take(&mut self, logs: bool) -> Result<Taken, AllocError>
-        requires { (n : ℕ) × IsRead self.old (Whole n) }
+        requires { (n : ℕ) × IsPieceRead self.old (Whole n) }
         ensures { IfOk result (λ t. IsTaken t logs self.old self.new) }
     {
         let Front::Whole(whole) = self.front else {
             unreachable!();
         };
         let taken = take_front(self.alloc, &mut self.large, &mut self.bytes, whole, logs);
-        self.seen = Seen::new();
+        self.seen = SeenPiece::new();
         self.front = sight(self.alloc, &mut self.large, &mut self.bytes, &mut self.seen);
         taken
     }

@@ -12,15 +12,17 @@ use Rattle.tc_io.specs.declared.wire.Wire.{Ghosts}
 use Rattle.tc_io.specs.declared.wire.Entry.{Entry}
 use Rattle.tc_io.specs.declared.wire.Entry.TheVariants.{Close}
 use Rattle.ty_world.specs.World as world
-use Rattle.ty_world.specs.World.{Client, World, happens, world_after, is_restless, AllOf, ClosesOne, AllAsked, AllCame}
+use Rattle.ty_world.specs.World.{Client, World, world_after, is_restless, ClosesOne}
 use Rattle.ty_rounds.specs.Peers.{numbers, is_over}
-use Rattle.ty_rounds.specs.Holding.{Holds, AllHold, AllFine, AreApart, Wired}
+use Rattle.ty_rounds.specs.Books.{Book}
+use Rattle.ty_rounds.specs.Holding.{Holds, AllHold, AllFine, AllSettled, AreApart, IsSettled, Wired, book_of, coming}
 use Rattle.ty_rounds.specs.Closings.{ClosedFront, ClosesFront, ClosedAll, ClosesAll}
 use Rattle.ty_rounds.specs.Ready as ready
 use Rattle.ty_rounds.specs.declared.peer.Peer.{Peer}
 use Rattle.ty_rounds.proofs.Places.{eq_swap, same_parts, take_next}
 use Rattle.ty_rounds.proofs.Hearing.{more_hold}
 use Rattle.ty_rounds.proofs.Waiting.{over_is}
+use Rattle.ty_rounds.proofs.Fine.{hold_fine}
 use Rattle.ty_rounds.proofs.Entries.{after_more, asked_more, came_more, all_more, same_refl}
 use Rattle.ty_rounds.proofs.Telling.{Adds-then, Plays-then, Adds-none, Plays-none}
 
@@ -29,29 +31,29 @@ other c k = not (nat_eq k.conn c)
 
 -- ---- a list of clients in which one number stands once
 
-stay_all : (c : ℕ) (ps : List Peer) (ks : List Client) → AllHold ps ks → list_any (nat_eq c) (numbers ps) ≡ false → filter (other c) ks ≡ ks
-stay_all c [] [] a e = refl
-stay_all c [] (k ∷ ks) a e = absurd a
-stay_all c (p ∷ ps) [] a e = absurd a
-stay_all c (p ∷ ps) (k ∷ ks) a e =
+stay_all : (b : Book) (c : ℕ) (ps : List Peer) (ks : List Client) → AllHold b ps ks → list_any (nat_eq c) (numbers ps) ≡ false → filter (other c) ks ≡ ks
+stay_all b c [] [] a e = refl
+stay_all b c [] (k ∷ ks) a e = absurd a
+stay_all b c (p ∷ ps) [] a e = absurd a
+stay_all b c (p ∷ ps) (k ∷ ks) a e =
     let s = or_parts (nat_eq c p.conn) (list_any (nat_eq c) (numbers ps)) e in
-    cond-true (other c k) _ _ (ap (λ (n : ℕ). not (nat_eq n c)) a.0.conn ∙ ap not (eq_swap c p.conn s.0)) ∙ ap (λ (l : List Client). k ∷ l) (stay_all c ps ks a.1 s.1)
+    cond-true (other c k) _ _ (ap (λ (n : ℕ). not (nat_eq n c)) a.0.conn ∙ ap not (eq_swap c p.conn s.0)) ∙ ap (λ (l : List Client). k ∷ l) (stay_all b c ps ks a.1 s.1)
 
-go_none : (c : ℕ) (ps : List Peer) (ks : List Client) → AllHold ps ks → list_any (nat_eq c) (numbers ps) ≡ false → filter (λ (k : Client). nat_eq k.conn c) ks ≡ []
-go_none c [] [] a e = refl
-go_none c [] (k ∷ ks) a e = absurd a
-go_none c (p ∷ ps) [] a e = absurd a
-go_none c (p ∷ ps) (k ∷ ks) a e =
+go_none : (b : Book) (c : ℕ) (ps : List Peer) (ks : List Client) → AllHold b ps ks → list_any (nat_eq c) (numbers ps) ≡ false → filter (λ (k : Client). nat_eq k.conn c) ks ≡ []
+go_none b c [] [] a e = refl
+go_none b c [] (k ∷ ks) a e = absurd a
+go_none b c (p ∷ ps) [] a e = absurd a
+go_none b c (p ∷ ps) (k ∷ ks) a e =
     let s = or_parts (nat_eq c p.conn) (list_any (nat_eq c) (numbers ps)) e in
-    cond-false (nat_eq k.conn c) _ _ (ap (λ (n : ℕ). nat_eq n c) a.0.conn ∙ eq_swap c p.conn s.0) ∙ go_none c ps ks a.1 s.1
+    cond-false (nat_eq k.conn c) _ _ (ap (λ (n : ℕ). nat_eq n c) a.0.conn ∙ eq_swap c p.conn s.0) ∙ go_none b c ps ks a.1 s.1
 
-ask_none : (c : ℕ) (ps : List Peer) (ks : List Client) → AllHold ps ks → list_any (nat_eq c) (numbers ps) ≡ false → list_any (λ k. nat_eq k.conn c && not (world.is_over k)) ks ≡ false
-ask_none c [] [] a e = refl
-ask_none c [] (k ∷ ks) a e = absurd a
-ask_none c (p ∷ ps) [] a e = absurd a
-ask_none c (p ∷ ps) (k ∷ ks) a e =
+ask_none : (b : Book) (c : ℕ) (ps : List Peer) (ks : List Client) → AllHold b ps ks → list_any (nat_eq c) (numbers ps) ≡ false → list_any (λ k. nat_eq k.conn c && not (world.is_over k)) ks ≡ false
+ask_none b c [] [] a e = refl
+ask_none b c [] (k ∷ ks) a e = absurd a
+ask_none b c (p ∷ ps) [] a e = absurd a
+ask_none b c (p ∷ ps) (k ∷ ks) a e =
     let s = or_parts (nat_eq c p.conn) (list_any (nat_eq c) (numbers ps)) e in
-    or_from (nat_eq k.conn c && not (world.is_over k)) (list_any (λ k. nat_eq k.conn c && not (world.is_over k)) ks) (first (nat_eq k.conn c) (not (world.is_over k)) (ap (λ (n : ℕ). nat_eq n c) a.0.conn ∙ eq_swap c p.conn s.0)) (ask_none c ps ks a.1 s.1)
+    or_from (nat_eq k.conn c && not (world.is_over k)) (list_any (λ k. nat_eq k.conn c && not (world.is_over k)) ks) (first (nat_eq k.conn c) (not (world.is_over k)) (ap (λ (n : ℕ). nat_eq n c) a.0.conn ∙ eq_swap c p.conn s.0)) (ask_none b c ps ks a.1 s.1)
   where
     first : (a b : Bool) → a ≡ false → (a && b) ≡ false
     first false b e = refl
@@ -68,13 +70,13 @@ record Leaves (c : ℕ) (stay rest : List Client) (k : Client) : Type 0 where
   asked : list_any (λ j. nat_eq j.conn c && not (world.is_over j)) (stay ++ k ∷ rest) ≡ false
   listed : list_any (λ j. nat_eq j.conn c) (stay ++ k ∷ rest) ≡ true
 
-leaves : (front back : List Peer) (p : Peer) (stay rest : List Client) (k : Client) → AllHold front stay → Holds p k → AllHold back rest → AreApart (numbers (front ++ p ∷ back)) → world.is_over k ≡ true → Leaves p.conn stay rest k
-leaves [] back p [] rest k f h b apart over =
+leaves : (b : Book) (front back : List Peer) (p : Peer) (stay rest : List Client) (k : Client) → AllHold b front stay → Holds b p k → AllHold b back rest → AreApart (numbers (front ++ p ∷ back)) → world.is_over k ≡ true → Leaves p.conn stay rest k
+leaves b [] back p [] rest k f h l apart over =
     let same : nat_eq k.conn p.conn ≡ true = eq-eqb k.conn p.conn h.conn in
     record {
-      there = cond-false (other p.conn k) _ _ (ap not same) ∙ stay_all p.conn back rest b apart.0;
-      gone = cond-true (nat_eq k.conn p.conn) _ _ same ∙ ap (λ (l : List Client). k ∷ l) (go_none p.conn back rest b apart.0);
-      asked = or_from (nat_eq k.conn p.conn && not (world.is_over k)) (list_any (λ j. nat_eq j.conn p.conn && not (world.is_over j)) rest) (second (nat_eq k.conn p.conn) (not (world.is_over k)) (ap not over)) (ask_none p.conn back rest b apart.0);
+      there = cond-false (other p.conn k) _ _ (ap not same) ∙ stay_all b p.conn back rest l apart.0;
+      gone = cond-true (nat_eq k.conn p.conn) _ _ same ∙ ap (λ (l : List Client). k ∷ l) (go_none b p.conn back rest l apart.0);
+      asked = or_from (nat_eq k.conn p.conn && not (world.is_over k)) (list_any (λ j. nat_eq j.conn p.conn && not (world.is_over j)) rest) (second (nat_eq k.conn p.conn) (not (world.is_over k)) (ap not over)) (ask_none b p.conn back rest l apart.0);
       listed = left_true (nat_eq k.conn p.conn) (list_any (λ j. nat_eq j.conn p.conn) rest) same;
     }
   where
@@ -85,10 +87,10 @@ leaves [] back p [] rest k f h b apart over =
     left_true : (a b : Bool) → a ≡ true → (a || b) ≡ true
     left_true true b e = refl
     left_true false b e = absurd cc
-leaves [] back p (j ∷ stay) rest k f h b apart over = absurd f
-leaves (x ∷ front) back p [] rest k f h b apart over = absurd f
-leaves (x ∷ front) back p (j ∷ stay) rest k f h b apart over =
-    let r = leaves front back p stay rest k f.1 h b apart.1 over in
+leaves b [] back p (j ∷ stay) rest k f h l apart over = absurd f
+leaves b (x ∷ front) back p [] rest k f h l apart over = absurd f
+leaves b (x ∷ front) back p (j ∷ stay) rest k f h l apart over =
+    let r = leaves b front back p stay rest k f.1 h l apart.1 over in
     let away : nat_eq j.conn p.conn ≡ false = ap (λ (n : ℕ). nat_eq n p.conn) f.0.conn ∙ apart_from x front back p apart.0 in
     record {
       there = cond-true (other p.conn j) _ _ (ap not away) ∙ ap (λ (l : List Client). j ∷ l) r.there;
@@ -155,12 +157,6 @@ closed_wired conns conns' ps ps' i p lt e less gone w =
 
 -- ---- what stays fine
 
-fine_holds : (ps : List Peer) (ks : List Client) → AllHold ps ks → AllFine ks
-fine_holds [] [] a = tt
-fine_holds [] (k ∷ ks) a = absurd a
-fine_holds (p ∷ ps) [] a = absurd a
-fine_holds (p ∷ ps) (k ∷ ks) a = ((p.session.waiting, a.0.owed), fine_holds ps ks a.1)
-
 fine_more : (ks js : List Client) → AllFine ks → AllFine js → AllFine (ks ++ js)
 fine_more [] js a b = b
 fine_more (k ∷ ks) js a b = (a.0, fine_more ks js a.1 b)
@@ -192,19 +188,21 @@ pub still_there : (conns conns' all : List ℕ) (c : ℕ) → conns' ≡ without
 still_there conns conns' all c is fewer d e = fewer d (more_there conns c d (ap (λ (l : List ℕ). has l d) (sym is) ∙ e))
 
 -- the one that is looked at, and the client that it stands for
-record Looks (f : List Peer) (now : List Peer) (i : ℕ) (p : Peer) (stay rest : List Client) : Type 0 where
+record Looks (b : Book) (f : List Peer) (now : List Peer) (i : ℕ) (p : Peer) (stay rest : List Client) : Type 0 where
   back : List Peer
   client : Client
   behind : List Client
   peers_are : now ≡ f ++ p ∷ back
   clients_are : rest ≡ client ∷ behind
-  holds : Holds p client
-  left : AllHold back behind
+  holds : Holds b p client
+  left : AllHold b back behind
+  over : IsSettled b p
+  settled : AllSettled b back
 
-looks : (front back now : List Peer) (i : ℕ) (p : Peer) (stay rest : List Client) → now ≡ front ++ back → length front ≡ i → i < length now → p ≡ get_or now i p → AllHold back rest → Looks front now i p stay rest
-looks front [] now i p stay rest is at lt e a = absurd (omega (arith, lt, at, ap length is, length-append front []))
-looks front (q ∷ back) now i p stay [] is at lt e a = absurd a
-looks front (q ∷ back) now i p stay (k ∷ behind) is at lt e a =
+looks : (b : Book) (front back now : List Peer) (i : ℕ) (p : Peer) (stay rest : List Client) → now ≡ front ++ back → length front ≡ i → i < length now → p ≡ get_or now i p → AllHold b back rest → AllSettled b back → Looks b front now i p stay rest
+looks b front [] now i p stay rest is at lt e a d = absurd (omega (arith, lt, at, ap length is, length-append front []))
+looks b front (q ∷ back) now i p stay [] is at lt e a d = absurd a
+looks b front (q ∷ back) now i p stay (k ∷ behind) is at lt e a d =
     let h = here now i p lt e in
     let s = same_parts front (q ∷ back) h.front (p ∷ h.back) (sym is ∙ h.is) (at ∙ sym h.at) in
     let one : q ≡ p = head q p back h.back s.1 in
@@ -214,12 +212,14 @@ looks front (q ∷ back) now i p stay (k ∷ behind) is at lt e a =
       behind = behind;
       peers_are = is ∙ ap (λ (z : Peer). front ++ z ∷ back) one;
       clients_are = refl;
-      holds = subst (λ (z : Peer). Holds z k) one a.0;
+      holds = subst (λ (z : Peer). Holds b z k) one a.0;
       left = a.1;
+      over = subst (IsSettled b) one d.0;
+      settled = d.1;
     }
   where
-    head : (q p : Peer) (b c : List Peer) → q ∷ b ≡ p ∷ c → q ≡ p
-    head q p b c e = ap (λ (l : List Peer). get_or l 0 q) e
+    head : (q p : Peer) (xs ys : List Peer) → q ∷ xs ≡ p ∷ ys → q ≡ p
+    head q p xs ys e = ap (λ (l : List Peer). get_or l 0 q) e
 
 remove_here : (front back : List Peer) (p : Peer) → remove (front ++ p ∷ back) (length front) ≡ front ++ back
 remove_here [] back p = refl
@@ -228,13 +228,16 @@ remove_here (x ∷ front) back p = ap (λ (l : List Peer). x ∷ l) (remove_here
 closed_end : (now : List Peer) (i : ℕ) (w v : World) (es : List Entry) → ClosedFront now i w v es → length now ≤ i → ClosedAll (Ok tt) now w v es
 closed_end now i w v es c le = go c.back c.rest refl refl c.left
   where
-    go : (back : List Peer) (rest : List Client) → c.back ≡ back → c.rest ≡ rest → AllHold back rest → ClosedAll (Ok tt) now w v es
+    b : Book
+    b = book_of w
+
+    go : (back : List Peer) (rest : List Client) → c.back ≡ back → c.rest ≡ rest → AllHold b back rest → ClosedAll (Ok tt) now w v es
     go [] [] e f a =
         let peers : now ≡ c.front = c.peers_are ∙ ap (λ (l : List Peer). c.front ++ l) e ∙ append-nil c.front in
         let clients : v.there ≡ c.stay = c.clients_are ∙ ap (λ (l : List Client). c.stay ++ l) f ∙ append-nil c.stay in
-        let held : AllHold now v.there = subst (λ (l : List Peer). AllHold l v.there) (sym peers) (subst (λ (l : List Client). AllHold c.front l) (sym clients) c.held) in
+        let held : AllHold b now v.there = subst (λ (l : List Peer). AllHold b l v.there) (sym peers) (subst (λ (l : List Client). AllHold b c.front l) (sym clients) c.held) in
         record {
-          there = fine_holds now v.there held;
+          there = hold_fine b now v.there held;
           past = c.past;
           same = c.same;
           asked = c.asked;
@@ -252,7 +255,7 @@ module _ {W : Type 0} (g : Ghosts W) where
     told = Adds-none (g.transcript x);
     plays = Plays-none (g.plays x);
     calls = tt;
-    ends = λ w held past rested. record {
+    ends = λ w held settled past rested. record {
       front = [];
       back = ps;
       stay = [];
@@ -262,6 +265,7 @@ module _ {W : Type 0} (g : Ghosts W) where
       at = refl;
       held = tt;
       left = held;
+      settled = settled;
       none_over = refl;
       past = past;
       same = same_refl w;
@@ -277,9 +281,10 @@ module _ {W : Type 0} (g : Ghosts W) where
     told = f.told;
     plays = f.plays;
     calls = f.calls;
-    ends = λ w held past rested.
-        let c = f.ends w held past rested in
-        let l = looks c.front c.back now i p c.stay c.rest c.peers_are c.at lt e c.left in
+    ends = λ w held settled past rested.
+        let b = book_of w in
+        let c = f.ends w held settled past rested in
+        let l = looks b c.front c.back now i p c.stay c.rest c.peers_are c.at lt e c.left c.settled in
         record {
           front = c.front ++ p ∷ [];
           back = l.back;
@@ -288,9 +293,10 @@ module _ {W : Type 0} (g : Ghosts W) where
           peers_are = l.peers_are ∙ sym (append_assoc c.front (p ∷ []) l.back);
           clients_are = c.clients_are ∙ ap (λ (r : List Client). c.stay ++ r) l.clients_are ∙ sym (append_assoc c.stay (l.client ∷ []) l.behind);
           at = omega (arith, c.at, length-append c.front (p ∷ []));
-          held = more_hold c.front c.stay p l.client c.held l.holds;
+          held = more_hold b c.front c.stay p l.client c.held l.holds;
           left = l.left;
-          none_over = any_append world.is_over c.stay (l.client ∷ []) c.none_over (or_from (world.is_over l.client) false (over_is p l.client l.holds ∙ over) refl);
+          settled = l.settled;
+          none_over = any_append world.is_over c.stay (l.client ∷ []) c.none_over (or_from (world.is_over l.client) false (over_is b p l.client l.holds l.over ∙ over) refl);
           past = c.past;
           same = c.same;
           asked = c.asked;
@@ -305,12 +311,13 @@ module _ {W : Type 0} (g : Ghosts W) where
     told = Adds-then (g.transcript x) (g.transcript y) (g.transcript z) f.entries (Close p.conn ∷ []) f.told told;
     plays = Plays-then (g.plays x) (g.plays y) (g.plays z) f.entries (Close p.conn ∷ []) f.plays plays;
     calls = all_more (ClosesOne (g.conns x)) f.entries (Close p.conn ∷ []) f.calls (listed, tt);
-    ends = λ w held past rested.
-        let c = f.ends w held past rested in
-        let l = looks c.front c.back now i p c.stay c.rest c.peers_are c.at lt e c.left in
+    ends = λ w held settled past rested.
+        let b = book_of w in
+        let c = f.ends w held settled past rested in
+        let l = looks b c.front c.back now i p c.stay c.rest c.peers_are c.at lt e c.left c.settled in
         let v = world_after f.entries w in
         let apart' : AreApart (numbers (c.front ++ p ∷ l.back)) = subst (λ (q : List Peer). AreApart (numbers q)) l.peers_are apart in
-        let n = leaves c.front l.back p c.stay l.behind l.client c.held l.holds l.left apart' (over_is p l.client l.holds ∙ over) in
+        let n = leaves b c.front l.back p c.stay l.behind l.client c.held l.holds l.left apart' (over_is b p l.client l.holds l.over ∙ over) in
         let there : v.there ≡ c.stay ++ l.client ∷ l.behind = c.clients_are ∙ ap (λ (r : List Client). c.stay ++ r) l.clients_are in
         subst (λ (u : World). ClosedFront now' i w u (f.entries ++ Close p.conn ∷ [])) (sym (after_more f.entries (Close p.conn ∷ []) w)) (record {
           front = c.front;
@@ -322,9 +329,25 @@ module _ {W : Type 0} (g : Ghosts W) where
           at = c.at;
           held = c.held;
           left = l.left;
+          settled = l.settled;
           none_over = c.none_over;
-          past = subst (λ (r : List Client). AllFine (v.past ++ r)) (sym (ap (filter (λ (j : Client). nat_eq j.conn p.conn)) there ∙ n.gone)) (fine_more v.past (l.client ∷ []) c.past ((p.session.waiting, l.holds.owed), tt));
-          same = record { mark = c.same.mark; walk = c.same.walk; marks = c.same.marks; shut = c.same.shut; events = c.same.events; opens = c.same.opens; given = c.same.given };
+          past = subst (λ (r : List Client). AllFine (v.past ++ r)) (sym (ap (filter (λ (j : Client). nat_eq j.conn p.conn)) there ∙ n.gone)) (fine_more v.past (l.client ∷ []) c.past ((p.session.waiting ++ coming b p.role, l.holds.owed), tt));
+          same = record {
+            is_same = c.same.is_same;
+            mark = c.same.mark;
+            records = c.same.records;
+            ticks = c.same.ticks;
+            due = c.same.due;
+            gaps = c.same.gaps;
+            looked = c.same.looked;
+            walk = c.same.walk;
+            marks = c.same.marks;
+            copies = c.same.copies;
+            shut = c.same.shut;
+            events = c.same.events;
+            opens = c.same.opens;
+            given = c.same.given;
+          };
           asked = asked_more f.entries (Close p.conn ∷ []) w c.asked (
             record {
               there = ap (list_any (λ j. nat_eq j.conn p.conn)) there ∙ n.listed;
@@ -345,8 +368,8 @@ module _ {W : Type 0} (g : Ghosts W) where
     told = subst (λ (l : List Entry). Adds (g.transcript x) (g.transcript z) l) (append-nil f.entries) (Adds-then (g.transcript x) (g.transcript y) (g.transcript z) f.entries [] f.told told);
     plays = tt;
     calls = f.calls;
-    ends = λ w held past rested. let c = f.ends w held past rested in record {
-      there = subst AllFine (sym c.clients_are) (fine_more c.stay c.rest (fine_holds c.front c.stay c.held) (fine_holds c.back c.rest c.left));
+    ends = λ w held settled past rested. let b = book_of w in let c = f.ends w held settled past rested in record {
+      there = subst AllFine (sym c.clients_are) (fine_more c.stay c.rest (hold_fine b c.front c.stay c.held) (hold_fine b c.back c.rest c.left));
       past = c.past;
       same = c.same;
       asked = c.asked;
@@ -361,7 +384,7 @@ module _ {W : Type 0} (g : Ghosts W) where
     told = f.told;
     plays = f.plays;
     calls = f.calls;
-    ends = λ w held past rested. closed_end now i w (world_after f.entries w) f.entries (f.ends w held past rested) le;
+    ends = λ w held settled past rested. closed_end now i w (world_after f.entries w) f.entries (f.ends w held settled past rested) le;
   }
 
 -- ---- those that were looked at, of the server

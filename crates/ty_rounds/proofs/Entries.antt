@@ -25,7 +25,22 @@ all_are P Q f [] a = tt
 all_are P Q f (x ∷ xs) a = (f x a.0, all_are P Q f xs a.1)
 
 pub same_refl : (w : World) → Same w w
-same_refl w = record { mark = refl; walk = refl; marks = refl; shut = refl; events = refl; opens = refl; given = refl }
+same_refl w = record { is_same = refl; mark = refl; records = refl; ticks = refl; due = refl; gaps = refl; looked = refl; walk = refl; marks = refl; copies = refl; shut = refl; events = refl; opens = refl; given = refl }
 
 pub same_then : (w v u : World) → Same w v → Same v u → Same w u
-same_then w v u a b = record { mark = b.mark ∙ a.mark; walk = b.walk ∙ a.walk; marks = b.marks ∙ a.marks; shut = b.shut ∙ a.shut; events = b.events ∙ a.events; opens = b.opens ∙ a.opens; given = b.given ∙ a.given }
+same_then w v u a b = record {
+  is_same = b.is_same ∙ a.is_same;
+  mark = b.mark ∙ a.mark;
+  records = b.records ∙ a.records;
+  ticks = b.ticks ∙ a.ticks;
+  due = b.due ∙ a.due;
+  gaps = b.gaps ∙ a.gaps;
+  looked = b.looked ∙ a.looked;
+  walk = b.walk ∙ a.walk;
+  marks = b.marks ∙ a.marks;
+  copies = b.copies ∙ a.copies;
+  shut = b.shut ∙ a.shut;
+  events = b.events ∙ a.events;
+  opens = b.opens ∙ a.opens;
+  given = b.given ∙ a.given;
+}

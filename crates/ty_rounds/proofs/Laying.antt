@@ -1,22 +1,23 @@
 -- A turn keeps how files are laid out.
 use Rattle.std.proofs.Common.{◌≡◌, ◌⊎◌, inl, inr, ⊎_elim, ℕ, Bool, true, false, List, ap, arith, refl}
-use Rattle.std.specs.Prelude.{Option, Result, Ok, Err}
+use Rattle.std.specs.Prelude.{Option, Result, Ok, Err, OnOk}
 use Rattle.tc_base.specs.Files.{Files}
 use Rattle.tc_io.specs.declared.wire.Wire as wire
 use Rattle.tc_io.specs.declared.wire.Entry.{Entry}
 use Rattle.tc_space.specs.declared.space.Space as space
-use Rattle.tc_model.specs.Contents.{Contents, Walk}
+use Rattle.tc_model.specs.Contents.{Contents}
 use Rattle.ty_base.specs.Holding.{Frame, KeepsFrame, Laid, Layout, Leaves, frame_of, frame_refl, frame_then, laid_then, others_beside}
 use Rattle.ty_world.specs.World.{World, Mark, mark_of}
-use Rattle.ty_rounds.specs.Holding.{Stands}
-use Rattle.ty_rounds.specs.Keeping.{IsKept, IsKeptLaid, MovesLaid, kept_frame}
+use Rattle.ty_rounds.specs.Holding.{Stands, State}
+use Rattle.ty_rounds.specs.Keeping.{IsKept, IsKeptLaid, IsRoundKept, KeepsRound, KeepsRoundLaid, MovesLaid, kept_frame}
 use Rattle.ty_rounds.specs.Kept.{HasMark, HoldsMark, LeavesTwo, MovesTo, Reopens}
-use Rattle.ty_rounds.specs.Turns.{Idles, TurnEnds, Turned, Turns}
+use Rattle.ty_rounds.specs.Turns.{Idles, OnlyCopied, TurnEnds, Turned, Turns}
+use Rattle.ty_rounds.specs.Works.{Work}
+use Rattle.ty_rounds.specs.declared.logging.Logged.{Logged}
 use Rattle.ty_rounds.specs.declared.outcome.Outcome.{Outcome}
-use Rattle.ty_rounds.specs.declared.outcome.Outcome.TheVariants.{Went, Shut}
+use Rattle.ty_rounds.specs.declared.outcome.Outcome.TheVariants.{Went, Gap, Shut}
 use Rattle.ty_rounds.specs.declared.outcome.TurnErr.{TurnErr}
 use Rattle.ty_rounds.specs.declared.outcome.TurnErr.TheVariants.{Volume, Full, Wire, Memory}
-use Rattle.ty_rounds.specs.declared.peer.Peer.{Peer}
 
 -- files that stand in one sense stand in a wider one
 
@@ -36,8 +37,20 @@ module _ {S B : Type 0} (s : space.Ghosts S) (holds : B → Files → Contents �
   two_less : (a b : S) (m n : Mark) → LeavesTwo s P a b m n → LeavesTwo s Q a b m n
   two_less a b m n x = record { leaves = record { later = x.leaves.later; each = λ t o le l. ⊎_elim (λ was. inl was) (λ r. inr (either_less o m n r)) (x.leaves.each t o le l) } }
 
-  stands_less : (base : B) (a : S) (given : ℕ) (k : Walk) (ps : List Peer) (w : World) → Stands (HoldsMark s holds P base a) given k ps w → Stands (HoldsMark s holds Q base a) given k ps w
-  stands_less base a given k ps w st = record { mark = mark_less base a (mark_of w) st.mark; walk = st.walk; each = st.each; past = st.past; rested = st.rested; older = st.older; marked = st.marked; above = st.above }
+  stands_less : (base : B) (a : S) (given : ℕ) (v : State) (w : World) → Stands (HoldsMark s holds P base a) given v w → Stands (HoldsMark s holds Q base a) given v w
+  stands_less base a given v w st = record {
+    mark = mark_less base a (mark_of w) st.mark;
+    book = st.book;
+    due_is = st.due_is;
+    walk_is = st.walk_is;
+    each = st.each;
+    past = st.past;
+    rested = st.rested;
+    introduced = st.introduced;
+    older = st.older;
+    marked = st.marked;
+    above = st.above;
+  }
 
   idles_less : (result : Result Outcome TurnErr) (a b : S) → Idles s P result a b → Idles s Q result a b
   idles_less (Ok x) a b i = i
@@ -46,24 +59,37 @@ module _ {S B : Type 0} (s : space.Ghosts S) (holds : B → Files → Contents �
   idles_less (Err Volume) a b i = i
   idles_less (Err Full) a b i = i
 
-  ends_less : (result : Result Outcome TurnErr) (base : B) (a : S) (given : ℕ) (k : Walk) (ps : List Peer) (w v : World) → TurnEnds s P result a (HoldsMark s holds P base a) given k ps w v → TurnEnds s Q result a (HoldsMark s holds Q base a) given k ps w v
-  ends_less (Ok Went) base a given k ps w v e = (stands_less base a given k ps v e.0, e.1, e.2)
-  ends_less (Ok Shut) base a given k ps w v e = (stands_less base a given k ps v e.0, e.1, e.2)
-  ends_less (Err Wire) base a given k ps w v e = λ o l. reopens_less o (mark_of v) (e o l)
-  ends_less (Err Memory) base a given k ps w v e = λ o l. either_less o (mark_of v) (mark_of w) (e o l)
-  ends_less (Err Volume) base a given k ps w v e = λ o l. either_less o (mark_of v) (mark_of w) (e o l)
-  ends_less (Err Full) base a given k ps w v e = λ o l. either_less o (mark_of v) (mark_of w) (e o l)
+  only_less : (result : Result Outcome TurnErr) (a b : S) → OnlyCopied s P result a b → OnlyCopied s Q result a b
+  only_less (Ok x) a b i = i
+  only_less (Err Wire) a b i = i
+  only_less (Err Memory) a b i = i
+  only_less (Err Volume) a b i = i
+  only_less (Err Full) a b i = i
 
-  pub turned_less : (result : Result Outcome TurnErr) (base : B) (old new : S) (given : ℕ) (k : Walk) (ps : List Peer) (w v : World) (es : List Entry) → Turned s P result old new (HoldsMark s holds P base new) given k ps w v es → Turned s Q result old new (HoldsMark s holds Q base new) given k ps w v es
-  turned_less result base old new given k ps w v es t = record {
+  ends_less : (result : Result Outcome TurnErr) (base : B) (a : S) (given : ℕ) (b : State) (w v : World) → TurnEnds s P result a (HoldsMark s holds P base a) given b w v → TurnEnds s Q result a (HoldsMark s holds Q base a) given b w v
+  ends_less (Ok Went) base a given b w v e = (stands_less base a given b v e.0, e.1, e.2, e.3)
+  ends_less (Ok (Gap h f)) base a given b w v e = (stands_less base a given b v e.0, e.1, e.2, e.3)
+  ends_less (Ok Shut) base a given b w v e = (stands_less base a given b v e.0, e.1, e.2, e.3)
+  ends_less (Err Wire) base a given b w v e = λ o l. reopens_less o (mark_of v) (e o l)
+  ends_less (Err Memory) base a given b w v e = λ o l. either_less o (mark_of v) (mark_of w) (e o l)
+  ends_less (Err Volume) base a given b w v e = λ o l. either_less o (mark_of v) (mark_of w) (e o l)
+  ends_less (Err Full) base a given b w v e = λ o l. either_less o (mark_of v) (mark_of w) (e o l)
+
+  pub turned_less : (result : Result Outcome TurnErr) (later : List ℕ) (base : B) (old new : S) (given : ℕ) (b : State) (w v : World) (es : List Entry) → Turned s P result later old new (HoldsMark s holds P base new) given b w v es → Turned s Q result later old new (HoldsMark s holds Q base new) given b w v es
+  turned_less result later base old new given b w v es t = record {
     asked = t.asked;
     came = t.came;
     fine = t.fine;
     marks = t.marks;
     opens = t.opens;
+    ticks = t.ticks;
     moments = two_less old new (mark_of w) (mark_of v) t.moments;
-    idle = λ none. idles_less result old new (t.idle none);
-    ends = ends_less result base new given k ps w v t.ends;
+    idle = λ none unlabelled. idles_less result old new (t.idle none unlabelled);
+    only = λ none. only_less result old new (t.only none);
+    copies = t.copies;
+    copied = λ tells. ⊎_elim (λ same. inl same) (λ st. inr (record { contents = wider (s.now new) (mark_of v).contents st.contents; log = st.log })) (t.copied tells);
+    late = λ some o l. reopens_less o (mark_of v) (t.late some o l);
+    ends = ends_less result base new given b w v t.ends;
   }
 
 module _ {S B : Type 0} (s : space.Ghosts S) (own : ℕ → Type 0) (layout : Files → Layout) (holds : B → Files → Contents → Type 0) (reopens : Files → Contents → Type 0) where
@@ -77,43 +103,82 @@ module _ {S B : Type 0} (s : space.Ghosts S) (own : ℕ → Type 0) (layout : Fi
       let same = ap (λ (f : Files). (layout f).slack) (λ i g. (l.reads refl).files t g i) in
       record { layout = record { numbers = l.numbered t; slack = omega (arith, same) }; beside = others_beside s own a b t l.others }
 
-  -- what is kept behind a round is laid out like what it was like before it
+  -- what is laid out like what is kept behind a round is laid out like what was before it
+  kept_wider : (l : Frame) (u : Bool) (a a1 : S) → s.tells → KeepsFrame own l (frame_of layout (s.now a)) → Leaves s own layout (u ≡ false) a a1 → (files : Files) (c : Contents) → Laid own layout (kept_frame u (frame_of layout (s.now a1))) reopens files c → Laid own layout l reopens files c
+  kept_wider l u a a1 t was leaves files c laid =
+      let now = kept_frame u (frame_of layout (s.now a1)) in
+      laid_then own layout reopens l now files c (frame_then own l (frame_of layout (s.now a)) now was (round_fits u a a1 t leaves)) laid
+
+  -- so it is of what is kept with no update log
   pub kept_like : (l : Frame) (u : Bool) (b1 b2 : B) (a a1 a2 : S) → KeepsFrame own l (frame_of layout (s.now a)) → Leaves s own layout (u ≡ false) a a1 → IsKeptLaid s holds reopens own layout u b1 b2 a1 a2 → IsKept s holds (Laid own layout l reopens) u b1 b2 a1 a2
   kept_like l u b1 b2 a a1 a2 was leaves k = record {
     ready = k.ready;
     untouched = k.untouched;
     marks = λ m h stood.
         let now = kept_frame u (frame_of layout (s.now a1)) in
-        let fits = frame_then own l (frame_of layout (s.now a)) now was (round_fits u a a1 h.held.0 leaves) in
-        mark_less s holds (Laid own layout now reopens) (Laid own layout l reopens) (λ files c laid. laid_then own layout reopens l now files c fits laid) b2 a2 m
-        (k.marks m h (λ e. record { stand = (stood e).stand; like = own_fits u (frame_of layout (s.now a1)) e }));
+        mark_less s holds (Laid own layout now reopens) (Laid own layout l reopens) (kept_wider l u a a1 h.held.0 was leaves) b2 a2 m (k.marks m h (λ e. record { stand = (stood e).stand; like = own_fits u (frame_of layout (s.now a1)) e }));
   }
 
   pub moves_like : (l : Frame) (u : Bool) (b1 : B) (a a1 a2 : S) → KeepsFrame own l (frame_of layout (s.now a)) → Leaves s own layout (u ≡ false) a a1 → MovesLaid s holds reopens own layout u b1 a1 a2 → (m : Mark) → HasMark s holds b1 a1 m → MovesTo s (Laid own layout l reopens) a1 a2 m
-  moves_like l u b1 a a1 a2 was leaves moves m h =
-      let now = kept_frame u (frame_of layout (s.now a1)) in
-      let fits = frame_then own l (frame_of layout (s.now a)) now was (round_fits u a a1 h.held.0 leaves) in
-      moves_less s holds (Laid own layout now reopens) (Laid own layout l reopens) (λ files c laid. laid_then own layout reopens l now files c fits laid) a1 a2 m (moves m h)
+  moves_like l u b1 a a1 a2 was leaves moves m h = moves_less s holds (Laid own layout (kept_frame u (frame_of layout (s.now a1))) reopens) (Laid own layout l reopens) (kept_wider l u a a1 h.held.0 was leaves) a1 a2 m (moves m h)
 
-  -- so it is of what stood before it
-  pub kept_laid : (u : Bool) (b1 b2 : B) (a a1 a2 : S) → Leaves s own layout (u ≡ false) a a1 → IsKeptLaid s holds reopens own layout u b1 b2 a1 a2 → IsKept s holds (Laid own layout (frame_of layout (s.now a)) reopens) u b1 b2 a1 a2
-  kept_laid u b1 b2 a a1 a2 leaves k = kept_like (frame_of layout (s.now a)) u b1 b2 a a1 a2 (frame_refl own (frame_of layout (s.now a))) leaves k
+  -- and of what is kept of a round
+  pub round_laid : (o : Work) (x y : Option (List ℕ)) (l l1 : Option Logged) (b1 b2 : B) (a a1 a2 : S) (result : Result (Unit {0}) TurnErr) → Leaves s own layout (o.commits ≡ false) a a1 → KeepsRoundLaid s holds reopens own layout o x y l l1 b1 b2 a1 a2 result
+      → KeepsRound s holds (Laid own layout (frame_of layout (s.now a)) reopens) o x y l l1 b1 b2 a1 a2 result
+  round_laid o x y l l1 b1 b2 a a1 a2 result leaves k = record {
+    ticks = k.ticks;
+    told = k.told;
+    small = k.small;
+    few = k.few;
+    moments = λ m b later h bk. moves_less s holds Kept Was (kept_wider (frame_of layout (s.now a)) o.commits a a1 h.held.0 (frame_refl own (frame_of layout (s.now a))) leaves) a1 a2 _ (k.moments m b later h bk);
+    kept = kept result k.kept;
+    full = k.full;
+  }
+    where
+      Kept : Files → Contents → Type 0
+      Kept = Laid own layout (kept_frame o.commits (frame_of layout (s.now a1))) reopens
 
-  pub moves_laid : (u : Bool) (b1 : B) (a a1 a2 : S) → Leaves s own layout (u ≡ false) a a1 → MovesLaid s holds reopens own layout u b1 a1 a2 → (m : Mark) → HasMark s holds b1 a1 m → MovesTo s (Laid own layout (frame_of layout (s.now a)) reopens) a1 a2 m
-  moves_laid u b1 a a1 a2 leaves moves m h = moves_like (frame_of layout (s.now a)) u b1 a a1 a2 (frame_refl own (frame_of layout (s.now a))) leaves moves m h
+      Was : Files → Contents → Type 0
+      Was = Laid own layout (frame_of layout (s.now a)) reopens
+
+      kept : (r : Result (Unit {0}) TurnErr) → OnOk r (IsRoundKept s holds Kept o k.ticks l l1 b1 b2 a1 a2) → OnOk r (IsRoundKept s holds Was o k.ticks l l1 b1 b2 a1 a2)
+      kept (Err e) h = tt
+      kept (Ok z) h = record {
+        ready = h.ready;
+        untouched = h.untouched;
+        each = h.each;
+        marks = λ m b later has bk stood.
+            let n = h.marks m b later has bk (λ e. record { stand = (stood e).stand; like = own_fits o.commits (frame_of layout (s.now a1)) e }) in
+            record { holds_it = mark_less s holds Kept Was (kept_wider (frame_of layout (s.now a)) o.commits a a1 has.held.0 (frame_refl own (frame_of layout (s.now a))) leaves) b2 a2 _ n.holds_it; book = n.book };
+      }
 
 -- what is laid out like the files before the turn is laid out like whatever they are
-pub laid_turns : {S B W : Type 0} (s : space.Ghosts S) (g : wire.Ghosts W) (holds : B → Files → Contents → Type 0) (reopens : Files → Contents → Type 0) (own : ℕ → Type 0) (layout : Files → Layout) (result : Result Outcome TurnErr) (b b' : B) (a a' : S) (x y : W) (k k' : Walk) (ps ps' : List Peer)
-    → Turns s g holds (Laid own layout (frame_of layout (s.now a)) reopens) result b b' a a' x y k k' ps ps' → (l : Frame) → Turns s g holds (Laid own layout l reopens) result b b' a a' x y k k' ps ps'
-laid_turns s g holds reopens own layout result b b' a a' x y k k' ps ps' t l =
+pub laid_turns : {S B W : Type 0} (s : space.Ghosts S) (g : wire.Ghosts W) (holds : B → Files → Contents → Type 0) (reopens : Files → Contents → Type 0) (own : ℕ → Type 0) (layout : Files → Layout) (result : Result Outcome TurnErr) (b b' : B) (a a' : S) (x y : W) (p q : Option (List ℕ)) (v v' : State)
+    → Turns s g holds (Laid own layout (frame_of layout (s.now a)) reopens) result b b' a a' x y p q v v' → (l : Frame) → Turns s g holds (Laid own layout l reopens) result b b' a a' x y p q v v'
+laid_turns s g holds reopens own layout result b b' a a' x y p q v v' t l =
     let now = frame_of layout (s.now a) in
     record {
       entries = t.entries;
       told = t.told;
       plays = t.plays;
       calls = t.calls;
-      ends = λ w st on.
+      ticks = t.ticks;
+      clocked = t.clocked;
+      unticked = t.unticked;
+      ends = λ w later st on ticks.
           let like = st.mark.stand.like in
-          turned_less s holds (Laid own layout now reopens) (Laid own layout l reopens) (λ files c laid. laid_then own layout reopens l now files c like laid) result b' a a' (g.given y) k' ps' w _ t.entries
-          (t.ends w (record { mark = record { has = st.mark.has; stand = record { stand = st.mark.stand.stand; like = frame_refl own now } }; walk = st.walk; each = st.each; past = st.past; rested = st.rested; older = st.older; marked = st.marked; above = st.above }) on);
+          turned_less s holds (Laid own layout now reopens) (Laid own layout l reopens) (λ files c laid. laid_then own layout reopens l now files c like laid) result later b' a a' (g.given y) v' w _ t.entries
+          (t.ends w later (record {
+            mark = record { has = st.mark.has; stand = record { stand = st.mark.stand.stand; like = frame_refl own now } };
+            book = st.book;
+            due_is = st.due_is;
+            walk_is = st.walk_is;
+            each = st.each;
+            past = st.past;
+            rested = st.rested;
+            introduced = st.introduced;
+            older = st.older;
+            marked = st.marked;
+            above = st.above;
+          }) on ticks);
     }

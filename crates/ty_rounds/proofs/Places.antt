@@ -7,6 +7,7 @@ use Rattle.std.proofs.Math.Seq.{take-suc}
 use Rattle.std.proofs.lemmas.List.{take_all}
 use Rattle.ty_world.specs.World.{Client, at_conn}
 use Rattle.ty_rounds.specs.Peers.{numbers}
+use Rattle.ty_rounds.specs.Books.{Book}
 use Rattle.ty_rounds.specs.Holding.{Holds, AllHold, AreApart, Wired}
 use Rattle.ty_rounds.specs.declared.peer.Peer.{Peer}
 
@@ -18,13 +19,13 @@ eq_swap a b e = go (nat_eq b a) refl
     go true is = absurd (let f : nat_eq a b ≡ true = eq-eqb a b (sym (eqb-true b a is)) in cc)
 
 -- none of them has that number
-pub others_hold : (c : ℕ) (f : Client → Client) (ps : List Peer) (ks : List Client) → list_any (nat_eq c) (numbers ps) ≡ false → AllHold ps ks → AllHold ps (map (at_conn c f) ks)
-others_hold c f [] [] none a = tt
-others_hold c f [] (k ∷ ks) none a = absurd a
-others_hold c f (p ∷ ps) [] none a = absurd a
-others_hold c f (p ∷ ps) (k ∷ ks) none a =
+pub others_hold : (b : Book) (c : ℕ) (f : Client → Client) (ps : List Peer) (ks : List Client) → list_any (nat_eq c) (numbers ps) ≡ false → AllHold b ps ks → AllHold b ps (map (at_conn c f) ks)
+others_hold b c f [] [] none a = tt
+others_hold b c f [] (k ∷ ks) none a = absurd a
+others_hold b c f (p ∷ ps) [] none a = absurd a
+others_hold b c f (p ∷ ps) (k ∷ ks) none a =
     let s = or_parts (nat_eq c p.conn) (list_any (nat_eq c) (numbers ps)) none in
-    (subst (λ (z : Client). Holds p z) (sym (cond-false (nat_eq k.conn c) (f k) k (ap (λ (n : ℕ). nat_eq n c) a.0.conn ∙ eq_swap c p.conn s.0))) a.0, others_hold c f ps ks s.1 a.1)
+    (subst (λ (z : Client). Holds b p z) (sym (cond-false (nat_eq k.conn c) (f k) k (ap (λ (n : ℕ). nat_eq n c) a.0.conn ∙ eq_swap c p.conn s.0))) a.0, others_hold b c f ps ks s.1 a.1)
 
 apart_at : (x : Peer) (ps : List Peer) (i : ℕ) (p : Peer) → list_any (nat_eq x.conn) (numbers ps) ≡ false → i < length ps → p ≡ get_or ps i p → nat_eq x.conn p.conn ≡ false
 apart_at x [] i p none lt is = absurd (omega (arith, lt))
@@ -32,19 +33,19 @@ apart_at x (y ∷ ps) zero p none lt is = ap (λ (z : Peer). nat_eq x.conn z.con
 apart_at x (y ∷ ps) (suc i) p none lt is = apart_at x ps i p (or_parts (nat_eq x.conn y.conn) (list_any (nat_eq x.conn) (numbers ps)) none).1 (omega (arith, lt)) is
 
 -- the one of that number has changed, and with it what it stands for
-pub set_holds : (c : ℕ) (f : Client → Client) (ps : List Peer) (ks : List Client) (i : ℕ) (p q : Peer) → AreApart (numbers ps) → i < length ps → p ≡ get_or ps i p → p.conn ≡ c → ((k : Client) → Holds p k → Holds q (f k)) → AllHold ps ks
-    → AllHold (set ps i q) (map (at_conn c f) ks)
-set_holds c f [] ks i p q apart lt is named one a = absurd (omega (arith, lt))
-set_holds c f (x ∷ ps) [] i p q apart lt is named one a = absurd a
-set_holds c f (x ∷ ps) (k ∷ ks) zero p q apart lt is named one a =
+pub set_holds : (b : Book) (c : ℕ) (f : Client → Client) (ps : List Peer) (ks : List Client) (i : ℕ) (p q : Peer) → AreApart (numbers ps) → i < length ps → p ≡ get_or ps i p → p.conn ≡ c → ((k : Client) → Holds b p k → Holds b q (f k)) → AllHold b ps ks
+    → AllHold b (set ps i q) (map (at_conn c f) ks)
+set_holds b c f [] ks i p q apart lt is named one a = absurd (omega (arith, lt))
+set_holds b c f (x ∷ ps) [] i p q apart lt is named one a = absurd a
+set_holds b c f (x ∷ ps) (k ∷ ks) zero p q apart lt is named one a =
     let there : x.conn ≡ c = ap (λ (z : Peer). z.conn) (sym is) ∙ named in (
-      subst (λ (z : Client). Holds q z) (sym (cond-true (nat_eq k.conn c) (f k) k (eq-eqb k.conn c (a.0.conn ∙ there)))) (one k (subst (λ (z : Peer). Holds z k) (sym is) a.0)),
-      others_hold c f ps ks (ap (λ (n : ℕ). list_any (nat_eq n) (numbers ps)) (sym there) ∙ apart.0) a.1,
+      subst (λ (z : Client). Holds b q z) (sym (cond-true (nat_eq k.conn c) (f k) k (eq-eqb k.conn c (a.0.conn ∙ there)))) (one k (subst (λ (z : Peer). Holds b z k) (sym is) a.0)),
+      others_hold b c f ps ks (ap (λ (n : ℕ). list_any (nat_eq n) (numbers ps)) (sym there) ∙ apart.0) a.1,
     )
-set_holds c f (x ∷ ps) (k ∷ ks) (suc i) p q apart lt is named one a =
+set_holds b c f (x ∷ ps) (k ∷ ks) (suc i) p q apart lt is named one a =
     let away : nat_eq x.conn c ≡ false = ap (nat_eq x.conn) (sym named) ∙ apart_at x ps i p apart.0 (omega (arith, lt)) is in (
-      subst (λ (z : Client). Holds x z) (sym (cond-false (nat_eq k.conn c) (f k) k (ap (λ (n : ℕ). nat_eq n c) a.0.conn ∙ away))) a.0,
-      set_holds c f ps ks i p q apart.1 (omega (arith, lt)) is named one a.1,
+      subst (λ (z : Client). Holds b x z) (sym (cond-false (nat_eq k.conn c) (f k) k (ap (λ (n : ℕ). nat_eq n c) a.0.conn ∙ away))) a.0,
+      set_holds b c f ps ks i p q apart.1 (omega (arith, lt)) is named one a.1,
     )
 
 pub take_next : (ps : List Peer) (i : ℕ) (p : Peer) → i < length ps → p ≡ get_or ps i p → take (i + 1) ps ≡ take i ps ++ p ∷ []
@@ -127,37 +128,37 @@ one_at (x ∷ ps) (suc i) p q lt e f = one_at ps i p q (omega (arith, lt)) e f
 
 -- ---- where the clients of the world are parted at one of them
 
-pub none_of : (c : ℕ) (ps : List Peer) (ks : List Client) → AllHold ps ks → list_any (nat_eq c) (numbers ps) ≡ false → list_any (λ k. nat_eq k.conn c) ks ≡ false
-none_of c [] [] a e = refl
-none_of c [] (k ∷ ks) a e = absurd a
-none_of c (p ∷ ps) [] a e = absurd a
-none_of c (p ∷ ps) (k ∷ ks) a e =
+pub none_of : (b : Book) (c : ℕ) (ps : List Peer) (ks : List Client) → AllHold b ps ks → list_any (nat_eq c) (numbers ps) ≡ false → list_any (λ k. nat_eq k.conn c) ks ≡ false
+none_of b c [] [] a e = refl
+none_of b c [] (k ∷ ks) a e = absurd a
+none_of b c (p ∷ ps) [] a e = absurd a
+none_of b c (p ∷ ps) (k ∷ ks) a e =
     let s = or_parts (nat_eq c p.conn) (list_any (nat_eq c) (numbers ps)) e in
-    or_from (nat_eq k.conn c) (list_any (λ j. nat_eq j.conn c) ks) (ap (λ (n : ℕ). nat_eq n c) a.0.conn ∙ eq_swap c p.conn s.0) (none_of c ps ks a.1 s.1)
+    or_from (nat_eq k.conn c) (list_any (λ j. nat_eq j.conn c) ks) (ap (λ (n : ℕ). nat_eq n c) a.0.conn ∙ eq_swap c p.conn s.0) (none_of b c ps ks a.1 s.1)
 
-pub record Split (ks : List Client) (i : ℕ) (p : Peer) : Type 0 where
+pub record Split (b : Book) (ks : List Client) (i : ℕ) (p : Peer) : Type 0 where
   pub before : List Client
   pub client : Client
   pub behind : List Client
   pub there : ks ≡ before ++ client ∷ behind
   pub at : length before ≡ i
-  pub holds : Holds p client
+  pub holds : Holds b p client
   pub alone : list_any (λ k. nat_eq k.conn p.conn) (before ++ behind) ≡ false
 
-pub split_at : (ps : List Peer) (ks : List Client) (i : ℕ) (p : Peer) → AreApart (numbers ps) → i < length ps → p ≡ get_or ps i p → AllHold ps ks → Split ks i p
-split_at [] ks i p apart lt is a = absurd (omega (arith, lt))
-split_at (x ∷ ps) [] i p apart lt is a = absurd a
-split_at (x ∷ ps) (k ∷ ks) zero p apart lt is a = record {
+pub split_at : (b : Book) (ps : List Peer) (ks : List Client) (i : ℕ) (p : Peer) → AreApart (numbers ps) → i < length ps → p ≡ get_or ps i p → AllHold b ps ks → Split b ks i p
+split_at b [] ks i p apart lt is a = absurd (omega (arith, lt))
+split_at b (x ∷ ps) [] i p apart lt is a = absurd a
+split_at b (x ∷ ps) (k ∷ ks) zero p apart lt is a = record {
   before = [];
   client = k;
   behind = ks;
   there = refl;
   at = refl;
-  holds = subst (λ (z : Peer). Holds z k) (sym is) a.0;
-  alone = none_of p.conn ps ks a.1 (ap (λ (z : Peer). list_any (nat_eq z.conn) (numbers ps)) is ∙ apart.0);
+  holds = subst (λ (z : Peer). Holds b z k) (sym is) a.0;
+  alone = none_of b p.conn ps ks a.1 (ap (λ (z : Peer). list_any (nat_eq z.conn) (numbers ps)) is ∙ apart.0);
 }
-split_at (x ∷ ps) (k ∷ ks) (suc i) p apart lt is a =
-    let r = split_at ps ks i p apart.1 (omega (arith, lt)) is a.1 in
+split_at b (x ∷ ps) (k ∷ ks) (suc i) p apart lt is a =
+    let r = split_at b ps ks i p apart.1 (omega (arith, lt)) is a.1 in
     let away : nat_eq x.conn p.conn ≡ false = apart_at x ps i p apart.0 (omega (arith, lt)) is in
     record {
       before = k ∷ r.before;

@@ -1,11 +1,14 @@
 -- Places where no connection stirs are passed by.
 use Rattle.std.proofs.Common.{◌≡◌, ◌<◌, ◌≤◌, ◌+◌, ◌-◌, ◌⊎◌, inl, inr, ℕ, zero, suc, Bool, true, false, List, [], ◌∷◌, ◌++◌, length, get_or, set, take, refl, sym, ap, subst, ◌∙◌, arith, length-append, eq-eqb}
-use Rattle.std.specs.Prelude.{remove, nat_eq}
+use Rattle.std.specs.Prelude.{remove, nat_eq, Option}
 use Rattle.std.specs.List.{list_any}
 use Rattle.std.proofs.lemmas.Bool.{eqb-true}
 use Rattle.tc_io.specs.declared.wire.Wire.{Ghosts}
 use Rattle.tc_model.specs.Contents.{Contents, Walk}
+use Rattle.tc_space.specs.Frames.{only_reads_refl}
+use Rattle.tc_space.specs.declared.space.Space as space
 use Rattle.ty_world.specs.World.{Client}
+use Rattle.ty_rounds.specs.Books.{Book, settings_of}
 use Rattle.ty_rounds.specs.Closings.{ClosesFront}
 use Rattle.ty_rounds.specs.Holding.{Wired}
 use Rattle.ty_rounds.specs.Peers.{waiting_numbers}
@@ -13,13 +16,16 @@ use Rattle.ty_rounds.specs.Ready.{IsCalm, IsQuiet}
 use Rattle.ty_rounds.specs.Sending.{DeliversFront}
 use Rattle.ty_rounds.specs.Serving.{Halfway}
 use Rattle.ty_rounds.specs.Spans.{Adds, AddsStirring, IsSpan}
+use Rattle.ty_rounds.specs.Works.{Work}
+use Rattle.ty_rounds.specs.declared.logging.Logged.{Logged}
 use Rattle.ty_rounds.specs.declared.peer.Peer.{Peer}
 use Rattle.ty_rounds.specs.declared.span.Span.{Span}
 use Rattle.ty_rounds.proofs.ClosingLaws.{FrontClear, clear_more, one_stays}
-use Rattle.ty_rounds.proofs.Few.{each_at, each_set, each_push, each_remove, quiet_none, quiet_taken}
+use Rattle.ty_rounds.proofs.Few.{each_at, each_set, each_push, each_remove, quiet_piece, quiet_taken}
 use Rattle.ty_rounds.proofs.Places.{apart_peers, open_at}
-use Rattle.ty_rounds.proofs.SendLaws.{more_sent, nothing_sent, rests_sent}
-use Rattle.ty_rounds.proofs.ServingLaws.{more_is, none_idle, or_false}
+use Rattle.ty_rounds.proofs.SendFront.{more_sent}
+use Rattle.ty_rounds.proofs.SendLaws.{nothing_fed}
+use Rattle.ty_rounds.proofs.ServingLaws.{more, none_idle}
 use Rattle.ty_rounds.proofs.Waiting.{waiting_no}
 
 there : (ps : List Peer) (i : ℕ) → i < length ps → (p : Peer) × (p ≡ get_or ps i p)
@@ -193,15 +199,17 @@ span_remove s t ps ps' i less lt ge below from to h = subst (IsSpan t) (sym less
 pub waiting_steps : (ps : List Peer) (xs : List ℕ) → Steps (λ n. xs ≡ waiting_numbers (take n ps)) ps
 waiting_steps ps xs i p lt is q so_far = waiting_no ps i p xs lt is q.idle so_far
 
-pub round_steps : (u : Bool) (c0 : Contents) (c : Contents → Type 0) (w0 w : Walk) (old ps : List Peer) (ks : List Client) → Steps (λ n. Halfway u c0 c w0 w old ps n ks) ps
-round_steps u c0 c w0 w old ps ks i p lt is q h =
-    subst (λ (l : List Peer). Halfway u c0 c w0 w old l (i + 1) ks) (set_same ps i p is) (more_is u u false c0 c c w0 w w old ps ks i p p (sym (or_false u)) h lt is (λ d hd. none_idle c d w p p hd refl (quiet_none p q)))
+pub round_steps : (l : Option Logged) (b : Book) (o : Work) (c0 : Contents) (c : Contents → Type 0) (w0 w : Walk) (ps : List Peer) (ks : List Client) → b.is ≡ settings_of l → Steps (λ n. Halfway b o c0 c w0 w ps n ks) ps
+round_steps l b o c0 c w0 w ps ks same i p lt is q h =
+    subst (λ (z : List Peer). Halfway b o c0 c w0 w z (i + 1) ks) (set_same ps i p is) (more l b o o c0 c c w0 w w ps ks i p p same h lt is (λ d hd. none_idle l o c d w p p hd refl (quiet_piece p q)))
+
+module _ {S W : Type 0} (s : space.Ghosts S) (g : Ghosts W) (l : Option Logged) (a : S) where
+  pub send_steps : (x y : W) (ps now : List Peer) → s.sound a → g.conns y ≡ g.conns x → Wired (g.conns y) now → Steps (λ n. DeliversFront s g l a x y ps now n) now
+  send_steps x y ps now sound same w i p lt is q f =
+      let there : list_any (nat_eq p.conn) (g.conns x) ≡ true = ap (list_any (nat_eq p.conn)) (sym same) ∙ open_at _ _ i p lt is w in
+      subst (λ (z : List Peer). DeliversFront s g l a x y ps z (i + 1)) (set_same now i p is) (more_sent s g l a x y y a ps now i p p (apart_peers _ _ w) lt is there (only_reads_refl s a sound) f (nothing_fed s g l a y p q.unfed (quiet_taken p q)))
 
 module _ {W : Type 0} (g : Ghosts W) where
-  pub send_steps : (x y : W) (ps now : List Peer) → g.conns y ≡ g.conns x → Wired (g.conns y) now → Steps (λ n. DeliversFront g x y ps now n) now
-  send_steps x y ps now same w i p lt is q f =
-      subst (λ (l : List Peer). DeliversFront g x y ps l (i + 1)) (set_same now i p is) (more_sent g x y y ps now i p p (apart_peers _ _ w) lt is (ap (list_any (nat_eq p.conn)) (sym same) ∙ open_at _ _ i p lt is w) f (rests_sent g y y p p (nothing_sent g y p) (quiet_taken p q)))
-
   pub close_steps : (x y : W) (ps now : List Peer) → Steps (λ n. ClosesFront g x y ps now n) now
   close_steps x y ps now i p lt is q f = one_stays g x y ps now i p lt is q.stays f
 

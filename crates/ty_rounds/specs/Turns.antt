@@ -1,25 +1,31 @@
 -- What the steps of a turn do to the worlds that the server stands for.
-use Rattle.std.specs.Prelude.{◌≡◌, ◌⊎◌, ◌≤◌, ℕ, suc, Bool, true, false, List, [], ◌∷◌, map, Option, Result, Ok, Err, OnOk}
+use Rattle.std.specs.Prelude.{◌≡◌, ◌⊎◌, ◌≤◌, ℕ, suc, Bool, true, false, List, [], ◌∷◌, ◌++◌, map, Option, Some, None, Result, Ok, Err, IfErr, OnOk}
 use Rattle.tc_base.specs.Files.{Files}
 use Rattle.tc_io.specs.Told.{Adds}
 use Rattle.tc_io.specs.Script.{Plays}
-use Rattle.tc_io.specs.Lines.{open_after, given_after}
+use Rattle.tc_io.specs.Lines.{open_after, given_after, open_dialled, given_dialled}
 use Rattle.tc_io.specs.declared.wire.Wire as wire
 use Rattle.tc_io.specs.declared.wire.Ev.{Ev}
 use Rattle.tc_io.specs.declared.wire.Ev.TheVariants as event
 use Rattle.tc_io.specs.declared.wire.Entry.{Entry}
-use Rattle.tc_io.specs.declared.wire.Entry.TheVariants.{Event}
+use Rattle.tc_io.specs.declared.wire.Dialled.{Dialled}
+use Rattle.tc_io.specs.declared.wire.Entry.TheVariants.{Open, Dial, Event, Send, Close}
 use Rattle.tc_space.specs.Frames.{Keeps, OnlyReads}
+use Rattle.tc_space.specs.Moments.{Steady}
 use Rattle.tc_space.specs.declared.space.Space as space
-use Rattle.tc_model.specs.Contents.{Contents, Walk}
-use Rattle.ty_world.specs.World.{Client, World, Mark, mark_of, heard, unstopped, world_after, commits_in, should_pause, is_some_waiting, IsRested, AreFinishing, AllAsked, Comes, AllCame}
-use Rattle.ty_rounds.specs.Kept.{HoldsMark, Reopens, LeavesTwo}
+use Rattle.tc_model.specs.Contents.{Contents}
+use Rattle.ty_world.specs.World.{Client, World, Mark, mark_of, heard, unstopped, world_after, commits_in, labels_in, should_pause, is_some_waiting, is_due, IsMaster, IsRested, AreFinishing, AllAsked, Comes, AllCame}
+use Rattle.ty_world.specs.Logs.{Settings}
+use Rattle.ty_rounds.specs.Books.{Book, IsBook, KnowsLog, settings_of}
+use Rattle.ty_rounds.specs.Copying.{AreMade, OnlyCopies, RoundCopies}
+use Rattle.ty_rounds.specs.Kept.{HoldsMark, Reopens, LeavesTwo, StandFor}
 use Rattle.ty_rounds.specs.Serving.{FillsIn}
-use Rattle.ty_rounds.specs.Holding.{AllHold, AllGoing, IsFine, Stands, Same}
-use Rattle.ty_rounds.specs.Ready.{Each, IsCalm, NoneOver, StayFew}
+use Rattle.ty_rounds.specs.Holding.{AllHold, AllGoing, IsFine, State, book_of, Stands, Same}
+use Rattle.ty_rounds.specs.Ready.{AreIntroduced, Each, IsCalm, KeepsLinks, LinksKnow, NoneOver, StayFew}
+use Rattle.ty_rounds.specs.declared.logging.Logged.{Logged}
 use Rattle.ty_rounds.specs.declared.peer.Peer.{Peer}
 use Rattle.ty_rounds.specs.declared.outcome.Outcome.{Outcome}
-use Rattle.ty_rounds.specs.declared.outcome.Outcome.TheVariants.{Went, Shut}
+use Rattle.ty_rounds.specs.declared.outcome.Outcome.TheVariants.{Went, Gap, Shut}
 use Rattle.ty_rounds.specs.declared.outcome.TurnErr.{TurnErr}
 use Rattle.ty_rounds.specs.declared.outcome.TurnErr.TheVariants.{Volume, Full, Wire, Memory}
 
@@ -27,7 +33,75 @@ use Rattle.ty_rounds.specs.declared.outcome.TurnErr.TheVariants.{Volume, Full, W
 abbrev pub Told : Type 0
 Told = Option (List Entry)
 
+-- a dial, where one was made
+pub record Call : Type 0 where
+  pub host : List ℕ
+  pub port : ℕ
+  pub answer : Dialled
+
+abbrev pub entries_of : List Call → List Entry
+entries_of [] = []
+entries_of (d ∷ ds) = Dial d.host d.port d.answer ∷ entries_of ds
+
+-- none or one
+abbrev pub AreFew : List Call → Type 0
+AreFew [] = Unit {0}
+AreFew (d ∷ ds) = ds ≡ []
+
+-- each to the master's address
+abbrev pub ToMaster : Option (List ℕ × ℕ) → List Call → Type 0
+ToMaster master [] = Unit {0}
+ToMaster master (d ∷ ds) = IsMaster master d.host d.port × ToMaster master ds
+
+abbrev pub conns_after : List ℕ → List Call → List ℕ
+conns_after conns [] = conns
+conns_after conns (d ∷ ds) = conns_after (open_dialled conns d.answer) ds
+
+abbrev pub given_behind : ℕ → List Call → ℕ
+given_behind given [] = given
+given_behind given (d ∷ ds) = given_behind (given_dialled given d.answer) ds
+
+-- a world behind the dial
+pub record Called (w v : World) : Type 0 where
+  pub is_same : v.is ≡ w.is
+  pub contents : v.contents ≡ w.contents
+  pub walk : v.walk ≡ w.walk
+  pub log : v.log ≡ w.log
+  pub records : v.records ≡ w.records
+  pub ticks : v.ticks ≡ w.ticks
+  pub marks : v.marks ≡ w.marks
+  pub copies : v.copies ≡ w.copies
+  pub looked : v.looked ≡ w.looked
+  pub past : v.past ≡ w.past
+  pub gaps : v.gaps ≡ w.gaps
+  pub shut : v.shut ≡ w.shut
+  pub events : v.events ≡ w.events
+  pub opens : v.opens ≡ w.opens
+
+-- the master was dialled where that was due, and is due no more
+pub record DialsTo (ps' : List Peer) (w v : World) (es : List Entry) : Type 0 where
+  pub same : Called w v
+  pub asked : AllAsked w es
+  pub came : AllCame w es
+  pub each : AllHold (book_of w) ps' v.there
+  pub rested : IsRested v
+  pub done : is_due v ≡ false
+
 module _ {W : Type 0} (g : wire.Ghosts W) where
+  pub record Dials (l : Option Logged) (due : Bool) (x y : W) (ps ps' : List Peer) : Type 0 where
+    pub calls : List Call
+    pub few : AreFew calls
+    pub to_master : ToMaster (settings_of l).master calls
+    pub told : Adds (g.transcript x) (g.transcript y) (entries_of calls)
+    pub plays : Plays (g.plays x) (g.plays y) (entries_of calls)
+    pub conns : g.conns y ≡ conns_after (g.conns x) calls
+    pub given : (n : ℕ) → n ≤ g.given x → given_behind n calls ≤ g.given y
+    pub ends : (w : World) → IsBook l (book_of w) w.log → w.due ≡ due → AllHold (book_of w) ps w.there → IsRested w → w.given ≤ g.given x → DialsTo ps' w (world_after (entries_of calls) w) (entries_of calls)
+    pub stay : NoneOver ps → NoneOver ps' × StayFew ps ps'
+    pub calm : Each IsCalm ps → Each IsCalm ps'
+    pub links : LinksKnow l ps → LinksKnow l ps'
+    pub introduced : AreIntroduced ps → AreIntroduced ps'
+
   -- `next` was called once, with those that wait paused and busily where there are any
   pub record Asks (x y : W) (ps : List Peer) (ev : Ev) : Type 0 where
     pub paused : List ℕ
@@ -35,7 +109,7 @@ module _ {W : Type 0} (g : wire.Ghosts W) where
     pub bytes : List ℕ
     pub told : Adds (g.transcript x) (g.transcript y) (Event paused busy ev bytes ∷ [])
     pub plays : Plays (g.plays x) (g.plays y) (Event paused busy ev bytes ∷ [])
-    pub asked : (w : World) → AllHold ps w.there → (paused ≡ should_pause w) × (busy ≡ is_some_waiting w)
+    pub asked : (b : Book) (w : World) → AllHold b ps w.there → (paused ≡ should_pause w) × (busy ≡ is_some_waiting w)
     pub came : (given : ℕ) → given ≤ g.given x → Comes given busy ev bytes
     pub above : (given : ℕ) → given ≤ g.given x → given_after given ev ≤ g.given y
 
@@ -43,9 +117,10 @@ module _ {W : Type 0} (g : wire.Ghosts W) where
   pub record Hears (x y : W) (ps ps' : List Peer) (ev : Ev) : Type 0 where
     pub asks : Asks x y ps ev
     pub conns : g.conns y ≡ open_after (g.conns x) ev
-    pub holds : (ks : List Client) → AllHold ps ks → AllHold ps' (heard (map unstopped ks) ev asks.bytes)
-    pub few : NoneOver ps → StayFew ps ps'
+    pub holds : (b : Book) (ks : List Client) → AllHold b ps ks → AllHold b ps' (heard (map unstopped ks) ev asks.bytes)
+    pub few : NoneOver ps → AreIntroduced ps → StayFew ps ps'
     pub calm : Each IsCalm ps → Each IsCalm ps'
+    pub links : (l : Option Logged) → LinksKnow l ps → LinksKnow l ps'
 
   -- nothing was asked for, or it was and there was no memory to take the event in
   abbrev pub HearErr : W → W → List Peer → TurnErr → Type 0
@@ -60,27 +135,33 @@ pub record Finished (ok : Result (Unit {0}) TurnErr) (ps' : List Peer) (w v : Wo
   pub fine : IsFine v
   pub asked : AllAsked w es
   pub came : AllCame w es
-  pub done : OnOk ok (AllHold ps' v.there × IsRested v)
+  pub done : OnOk ok (AllHold (book_of w) ps' v.there × IsRested v)
 
-pub record Finishes {W : Type 0} (g : wire.Ghosts W) (x y : W) (ok : Result (Unit {0}) TurnErr) (ps ps' : List Peer) : Type 0 where
+pub record Finishes {S W : Type 0} (s : space.Ghosts S) (g : wire.Ghosts W) (l : Option Logged) (old new : S) (x y : W) (ok : Result (Unit {0}) TurnErr) (ps ps' : List Peer) : Type 0 where
   pub entries : List Entry
   pub told : Adds (g.transcript x) (g.transcript y) entries
   pub plays : OnOk ok (Plays (g.plays x) (g.plays y) entries)
   pub calls : AreFinishing (g.conns x) entries
   pub given : g.given y ≡ g.given x
-  pub ends : (w : World) → AllHold ps w.there → AllGoing w.there → IsFine w → Finished ok ps' w (world_after entries w) entries
+  pub ends : (w : World) → KnowsLog s l old (book_of w) → AllHold (book_of w) ps w.there → AllGoing w.there → IsFine w → Finished ok ps' w (world_after entries w) entries
+  pub reads : OnlyReads s old new
   pub few : OnOk ok (NoneOver ps' × StayFew ps ps' × Each IsCalm ps')
+  pub links : OnOk ok (KeepsLinks ps ps')
 
 -- ---- the turn
 
 -- a limit was reached in the turn, before it sent anything
-pub record FullTurn (fills : Contents → Contents → Type 0) (known : Mark → Type 0) (given : ℕ) (k : Walk) (ps : List Peer) (a b : Told) : Type 0 where
+pub record FullTurn (fills : Contents → Contents → Type 0) (lacks : ℕ → ℕ → Type 0) (known : Mark → Type 0) (given : ℕ) (v : State) (a b : Told) (c d : Option (List ℕ)) : Type 0 where
+  pub calls : List Call
   pub paused : List ℕ
   pub busy : Bool
   pub ev : Ev
   pub bytes : List ℕ
-  pub told : Adds a b (Event paused busy ev bytes ∷ [])
-  pub some : (w : World) → Stands known given k ps w → FillsIn fills w ev bytes
+  pub told : Adds a b (entries_of calls ++ Event paused busy ev bytes ∷ [])
+  -- what the clock answered
+  pub ticks : List ℕ
+  pub clocked : Adds c d ticks
+  pub some : (w : World) (later : List ℕ) → Stands known given v w → w.shut ≡ false → w.ticks ≡ ticks ++ later → FillsIn fills lacks (world_after (entries_of calls) w) ev bytes
 
 -- ---- which calls of the wire it made, whether anything is told or not
 
@@ -101,20 +182,81 @@ pub record IsWhole (conns : List ℕ) (ev : Ev) (es : List Entry) : Type 0 where
   pub is : es ≡ Event paused busy ev bytes ∷ behind
   pub finishing : AreFinishing (open_after conns ev) behind
 
--- where there was no memory, or no more room, or the volume failed, nothing was sent
-abbrev pub IsTurn : List ℕ → Result Outcome TurnErr → List Entry → Type 0
-IsTurn conns (Ok Went) es = (ev : Ev) × IsWhole conns ev es × (ev ≡ event.Shut → ⊥)
-IsTurn conns (Ok Shut) es = IsWhole conns event.Shut es
-IsTurn conns (Err Wire) es = (es ≡ []) ⊎ ((ev : Ev) × IsWhole conns ev es)
-IsTurn conns (Err Memory) es = (es ≡ []) ⊎ IsLone es
-IsTurn conns (Err Volume) es = IsLone es
-IsTurn conns (Err Full) es = IsLone es
+-- where an update log is kept, sends may stand in front of a failure to read it
+abbrev pub or_later : Bool → Type 0 → Type 0 → Type 0
+or_later false A B = A
+or_later true A B = A ⊎ B
+
+abbrev pub IsAnyWhole : List ℕ → List Entry → Type 0
+IsAnyWhole conns es = (ev : Ev) × IsWhole conns ev es
+
+-- where there was no more room nothing was sent; where there was no memory, or the volume failed, but to those before a feed
+abbrev pub EndsTurn : Bool → List ℕ → Result Outcome TurnErr → List Entry → Type 0
+EndsTurn logs conns (Ok Went) es = (ev : Ev) × IsWhole conns ev es × (ev ≡ event.Shut → ⊥)
+EndsTurn logs conns (Ok (Gap h follows)) es = (ev : Ev) × IsWhole conns ev es × (ev ≡ event.Shut → ⊥)
+EndsTurn logs conns (Ok Shut) es = IsWhole conns event.Shut es
+EndsTurn logs conns (Err Wire) es = (es ≡ []) ⊎ IsAnyWhole conns es
+EndsTurn logs conns (Err Memory) es = (es ≡ []) ⊎ or_later logs (IsLone es) (IsAnyWhole conns es)
+EndsTurn logs conns (Err Volume) es = or_later logs (IsLone es) (IsAnyWhole conns es)
+EndsTurn logs conns (Err Full) es = IsLone es
+
+-- a dial at most in front
+pub record IsTurn (is : Settings) (conns : List ℕ) (result : Result Outcome TurnErr) (es : List Entry) : Type 0 where
+  pub calls : List Call
+  pub few : AreFew calls
+  pub to_master : ToMaster is.master calls
+  pub behind : List Entry
+  pub parts : es ≡ entries_of calls ++ behind
+  pub ends : EndsTurn is.logs (conns_after conns calls) result behind
 
 -- ---- what it does to the worlds that the server stands for
+
+-- how a turn ended that came to its end
+abbrev pub went : List (ℕ × ℕ) → Outcome
+went [] = Went
+went (g ∷ gs) = Gap g.0 g.1
+
+abbrev pub outcome_of : Ev → List (ℕ × ℕ) → Outcome
+outcome_of (event.Opened c) gaps = went gaps
+outcome_of (event.Read c n) gaps = went gaps
+outcome_of (event.Ended c) gaps = went gaps
+outcome_of event.Quiet gaps = went gaps
+outcome_of event.Shut gaps = Shut
+
+-- with no update log only the wire may fail
+abbrev pub WireAlone : Option Logged → Result (Unit {0}) TurnErr → Type 0
+WireAlone None result = IfErr result (λ e. e ≡ Wire)
+WireAlone (Some l) result = Unit {0}
+
+-- without a master no gap is met
+abbrev pub MeetsFor : Settings → Outcome → Type 0
+MeetsFor is Went = Unit {0}
+MeetsFor is (Gap held follows) = is.master ≡ None → ⊥
+MeetsFor is Shut = Unit {0}
+
+-- a send stands among them
+abbrev pub has_send : List Entry → Bool
+has_send [] = false
+has_send (Open at ∷ es) = has_send es
+has_send (Dial host port answer ∷ es) = has_send es
+has_send (Event paused busy ev bytes ∷ es) = has_send es
+has_send (Send c bytes answer ∷ es) = true
+has_send (Close c ∷ es) = has_send es
+
+-- it came to its end, or to its sends; where the wire failed before them, no round was made
+abbrev pub CameToSends : Result Outcome TurnErr → List Entry → Type 0
+CameToSends (Ok x) es = Unit {0}
+CameToSends (Err Wire) es = Unit {0}
+CameToSends (Err e) es = has_send es ≡ true
 
 -- one mark more where the contents were updated
 pub record MarksMore (w v : World) : Type 0 where
   pub more : ((v.marks ≡ w.marks) × (mark_of v ≡ mark_of w)) ⊎ (v.marks ≡ mark_of v ∷ w.marks)
+
+-- the copies of the round: whatever is left of them is told by the files that it kept; those of a turn that came to its sends are made
+pub record TurnCopies {S : Type 0} (s : space.Ghosts S) (result : Result Outcome TurnErr) (old new : S) (labels : List (List ℕ)) (es : List Entry) : Type 0 where
+  pub copies : s.tells → RoundCopies (s.now new) labels (s.names old) (s.names new)
+  pub made : CameToSends result es → s.tells → AreMade (s.now new) labels (s.names new)
 
 module _ {S : Type 0} (s : space.Ghosts S) (reopens : Files → Contents → Type 0) where
   -- where there is nothing to commit, nothing is committed, and a turn that came to its sends has written nothing
@@ -125,16 +267,25 @@ module _ {S : Type 0} (s : space.Ghosts S) (reopens : Files → Contents → Typ
   Idles (Err Volume) old new = Keeps s old new
   Idles (Err Full) old new = Keeps s old new
 
-  -- what a stop at the exit leaves stands for the mark after the round; where nothing was sent, for that or for the one before
-  abbrev pub TurnEnds : Result Outcome TurnErr → S → (Mark → Type 0) → ℕ → Walk → List Peer → World → World → Type 0
-  TurnEnds (Ok Went) new known given k ps w v = Stands known given k ps v × (v.shut ≡ false) × (v.events ≡ suc w.events)
-  TurnEnds (Ok Shut) new known given k ps w v = Stands known given k ps v × (v.shut ≡ true) × (v.events ≡ suc w.events)
-  TurnEnds (Err Wire) new known given k ps w v = (o : Option Files) → s.left new (s.moment new) o → Reopens reopens o (mark_of v)
-  TurnEnds (Err Memory) new known given k ps w v = (o : Option Files) → s.left new (s.moment new) o → Reopens reopens o (mark_of v) ⊎ Reopens reopens o (mark_of w)
-  TurnEnds (Err Volume) new known given k ps w v = (o : Option Files) → s.left new (s.moment new) o → Reopens reopens o (mark_of v) ⊎ Reopens reopens o (mark_of w)
-  TurnEnds (Err Full) new known given k ps w v = (o : Option Files) → s.left new (s.moment new) o → Reopens reopens o (mark_of v) ⊎ Reopens reopens o (mark_of w)
+  -- where it has copies to make, it wrote nothing else; however it ended, what is kept stays
+  abbrev pub OnlyCopied : Result Outcome TurnErr → S → S → Type 0
+  OnlyCopied (Ok x) old new = OnlyCopies s old new
+  OnlyCopied (Err Wire) old new = OnlyCopies s old new
+  OnlyCopied (Err Memory) old new = s.tells → Steady s.moment s.files_at s.left s.kept old new
+  OnlyCopied (Err Volume) old new = s.tells → Steady s.moment s.files_at s.left s.kept old new
+  OnlyCopied (Err Full) old new = s.tells → Steady s.moment s.files_at s.left s.kept old new
 
-  pub record Turned (result : Result Outcome TurnErr) (old new : S) (known : Mark → Type 0) (given : ℕ) (k : Walk) (ps : List Peer) (w v : World) (es : List Entry) : Type 0 where
+  -- what a stop at the exit leaves stands for the mark after the round; where nothing was sent, for that or for the one before
+  abbrev pub TurnEnds : Result Outcome TurnErr → S → (Mark → Type 0) → ℕ → State → World → World → Type 0
+  TurnEnds (Ok Went) new known given b w v = Stands known given b v × (v.shut ≡ false) × (v.events ≡ suc w.events) × (v.gaps ≡ w.gaps)
+  TurnEnds (Ok (Gap h follows)) new known given b w v = Stands known given b v × (v.shut ≡ false) × (v.events ≡ suc w.events) × (v.gaps ≡ w.gaps ++ (h, follows) ∷ [])
+  TurnEnds (Ok Shut) new known given b w v = Stands known given b v × (v.shut ≡ true) × (v.events ≡ suc w.events) × (v.gaps ≡ w.gaps)
+  TurnEnds (Err Wire) new known given b w v = (o : Option Files) → s.left new (s.moment new) o → Reopens reopens o (mark_of v)
+  TurnEnds (Err Memory) new known given b w v = (o : Option Files) → s.left new (s.moment new) o → Reopens reopens o (mark_of v) ⊎ Reopens reopens o (mark_of w)
+  TurnEnds (Err Volume) new known given b w v = (o : Option Files) → s.left new (s.moment new) o → Reopens reopens o (mark_of v) ⊎ Reopens reopens o (mark_of w)
+  TurnEnds (Err Full) new known given b w v = (o : Option Files) → s.left new (s.moment new) o → Reopens reopens o (mark_of v) ⊎ Reopens reopens o (mark_of w)
+
+  pub record Turned (result : Result Outcome TurnErr) (later : List ℕ) (old new : S) (known : Mark → Type 0) (given : ℕ) (b : State) (w v : World) (es : List Entry) : Type 0 where
     -- the wire was asked as the world says
     pub asked : AllAsked w es
     pub came : AllCame w es
@@ -142,14 +293,27 @@ module _ {S : Type 0} (s : space.Ghosts S) (reopens : Files → Contents → Typ
     pub fine : IsFine v
     pub marks : MarksMore w v
     pub opens : v.opens ≡ w.opens
+    -- the clock was asked once for each record
+    pub ticks : OnOk result (v.ticks ≡ later)
     -- a stop at any moment leaves what stands for the mark before the round or after it
     pub moments : LeavesTwo s reopens old new (mark_of w) (mark_of v)
-    pub idle : commits_in w es ≡ false → Idles result old new
-    pub ends : TurnEnds result new known given k ps w v
+    pub idle : commits_in w es ≡ false → labels_in w es ≡ [] → Idles result old new
+    pub only : commits_in w es ≡ false → OnlyCopied result old new
+    pub copies : TurnCopies s result old new (labels_in w es) es
+    -- no copy was begun, and none was to be made where it came to its sends; or the files stand for the mark after the round
+    pub copied : s.tells → ((s.names new ≡ s.names old) × (CameToSends result es → labels_in w es ≡ [])) ⊎ StandFor reopens (s.now new) (mark_of v)
+    -- once anything was sent, a stop leaves what stands for the mark after the round alone
+    pub late : has_send es ≡ true → (o : Option Files) → s.left new (s.moment new) o → Reopens reopens o (mark_of v)
+    pub ends : TurnEnds result new known given b w v
 
-pub record Turns {S B W : Type 0} (s : space.Ghosts S) (g : wire.Ghosts W) (holds : B → Files → Contents → Type 0) (reopens : Files → Contents → Type 0) (result : Result Outcome TurnErr) (base base' : B) (old new : S) (x y : W) (k k' : Walk) (ps ps' : List Peer) : Type 0 where
+pub record Turns {S B W : Type 0} (s : space.Ghosts S) (g : wire.Ghosts W) (holds : B → Files → Contents → Type 0) (reopens : Files → Contents → Type 0) (result : Result Outcome TurnErr) (base base' : B) (old new : S) (x y : W) (a b : Option (List ℕ)) (v v' : State) : Type 0 where
   pub entries : List Entry
   pub told : Adds (g.transcript x) (g.transcript y) entries
   pub plays : OnOk result (Plays (g.plays x) (g.plays y) entries)
-  pub calls : IsTurn (g.conns x) result entries
-  pub ends : (w : World) → Stands (HoldsMark s holds reopens base old) (g.given x) k ps w → w.shut ≡ false → Turned s reopens result old new (HoldsMark s holds reopens base' new) (g.given y) k' ps' w (world_after entries w) entries
+  pub calls : IsTurn (settings_of v.logged) (g.conns x) result entries
+  -- what the clock answered
+  pub ticks : List ℕ
+  pub clocked : Adds a b ticks
+  -- nothing, where no update log is kept
+  pub unticked : (settings_of v.logged).logs ≡ false → ticks ≡ []
+  pub ends : (w : World) (later : List ℕ) → Stands (HoldsMark s holds reopens base old) (g.given x) v w → w.shut ≡ false → w.ticks ≡ ticks ++ later → Turned s reopens result later old new (HoldsMark s holds reopens base' new) (g.given y) v' w (world_after entries w) entries

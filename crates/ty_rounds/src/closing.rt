@@ -2,7 +2,7 @@
 ghost use Rattle.std.specs.Prelude.{◌≡◌, true, OnOk};
 ghost use Rattle.tc_io.specs.Causes.{HasCause};
 ghost use Rattle.ty_rounds.specs.Holding.{Wired};
-ghost use Rattle.ty_rounds.specs.Ready.{NoneOver, StayFew};
+ghost use Rattle.ty_rounds.specs.Ready.{KeepsLinks, NoneOver, StayFew};
 ghost use Rattle.ty_rounds.specs.Spans.{IsSpan};
 ghost use Rattle.ty_rounds.specs.Closings.{ClosesAll};
 
@@ -25,6 +25,7 @@ pub fn close_over<W: Wire>(
     ensures given { W.given wire.new ≡ W.given wire.old }
     ensures told { ClosesAll W.Wire wire.old wire.new peers.old.items peers.new.items result }
     ensures few { OnOk result (NoneOver peers.new.items × StayFew peers.old.items peers.new.items × IsSpan span.new peers.new.items) }
+    ensures links { OnOk result (KeepsLinks peers.old.items peers.new.items) }
     ensures cause { HasCause (W.faults wire.old) (W.faults wire.new) result }
 {
     let mut i = span.from;

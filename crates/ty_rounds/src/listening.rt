@@ -1,15 +1,16 @@
 //! One event of the wire, which the server takes in.
-ghost use Rattle.std.specs.Prelude.{◌≡◌, ◌≤◌, ◌++◌, ◌∷◌, true, false, [], Some, length, map, nat_eq, slice_get, OnOk, IfOk, IfErr, IfSome, IfNone, IsErrOf};
+ghost use Rattle.std.specs.Prelude.{◌≡◌, ◌≤◌, ◌++◌, ◌∷◌, true, false, [], Option, Some, map, nat_eq, slice_get, OnOk, IfOk, IfErr, IfSome, IfNone, IsErrOf};
 ghost use Rattle.std.specs.List.{list_any};
 ghost use Rattle.tc_io.specs.Causes.{Rose};
 ghost use Rattle.tc_io.specs.Lines.{open_after};
 ghost use Rattle.tc_io.specs.Transcript.{bytes_of};
-ghost use Rattle.ty_world.specs.World.{IsBytes, heard, new_client, at_conn, with_read, with_end};
+ghost use Rattle.ty_world.specs.World.{IsBytes, clients_in, heard, new_client, at_conn, with_read, with_end};
+ghost use Rattle.ty_rounds.specs.declared.logging.Logged.{Logged};
 ghost use Rattle.ty_rounds.specs.declared.peer.Peer.{Peer};
 ghost use Rattle.ty_rounds.specs.Events.{MayHear};
 ghost use Rattle.ty_rounds.specs.Holding.{AreApart, HoldsAs, Wired};
-ghost use Rattle.ty_rounds.specs.Peers.{numbers, waiting_numbers};
-ghost use Rattle.ty_rounds.specs.Ready.{AddsFew, NoneOver, StayFew};
+ghost use Rattle.ty_rounds.specs.Peers.{count_clients, numbers, waiting_numbers};
+ghost use Rattle.ty_rounds.specs.Ready.{AddsFew, AreIntroduced, LinksKnow, NoneOver, StayFew};
 ghost use Rattle.ty_rounds.specs.Spans.{IsSpan};
 ghost use Rattle.ty_rounds.specs.Turns.{Hears, HearErr};
 
@@ -24,8 +25,8 @@ use tc_io::{Ev, Wire};
 pub struct Buffers {
     // the connections that wait
     paused: Vec<u32>,
-    // the bytes of a read
-    bytes: [u8; 4096],
+    // the bytes of a read, or of the update log for a feed
+    pub bytes: [u8; 4096],
 }
 
 impl Buffers {
@@ -89,13 +90,14 @@ fn take_read(
     ensures numbers { numbers peers.new.items ≡ numbers peers.old.items }
     ensures few { OnOk result (AddsFew conn bytes.now peers.old.items peers.new.items) }
     ensures calm { OnOk result (IsSpan span.old peers.old.items → IsSpan span.new peers.new.items) }
+    ensures links { OnOk result ((l : Option Logged) → LinksKnow l peers.old.items → LinksKnow l peers.new.items) }
 {
     let Some(i) = index_of(peers, conn) else {
         return Ok(());
     };
     let p = &mut peers[i];
-    let _front = p.session.look();
-    p.session.push(bytes)?;
+    let _sight = p.sight();
+    p.push(bytes)?;
     p.settle();
     span.add_stirring(i, p.stirs);
     Ok(())
@@ -108,6 +110,7 @@ fn take_end(peers: &mut Vec<Peer>, span: &mut Span, conn: u32)
     ensures numbers { numbers peers.new.items ≡ numbers peers.old.items }
     ensures few { StayFew peers.old.items peers.new.items }
     ensures calm { IsSpan span.old peers.old.items → IsSpan span.new peers.new.items }
+    ensures links { (l : Option Logged) → LinksKnow l peers.old.items → LinksKnow l peers.new.items }
 {
     let Some(i) = index_of(peers, conn) else {
         return;
@@ -118,6 +121,13 @@ fn take_end(peers: &mut Vec<Peer>, span: &mut Span, conn: u32)
     span.add(i);
 }
 
+// How many of them are clients': the link is none of the 64.
+fn clients_among(peers: &[Peer]) -> usize
+    ensures { result ≡ count_clients peers.now }
+{
+    peers.iter().filter(|p| !p.role.is_called()).count()
+}
+
 // A connection opened.
 fn take_opened(
     alloc: Global,
@@ -125,13 +135,14 @@ fn take_opened(
     span: &mut Span,
     conn: u32,
 ) -> Result<(), AllocError>
-    ensures heard { OnOk result (HoldsAs (λ ks. ks ++ new_client conn (length ks) ∷ []) peers.old.items peers.new.items) }
+    ensures heard { OnOk result (HoldsAs (λ ks. ks ++ new_client conn (clients_in ks) ∷ []) peers.old.items peers.new.items) }
     ensures numbers { OnOk result (numbers peers.new.items ≡ numbers peers.old.items ++ conn ∷ []) }
     ensures few { OnOk result (StayFew peers.old.items peers.new.items) }
     ensures calm { OnOk result (IsSpan span.old peers.old.items → IsSpan span.new peers.new.items) }
+    ensures links { OnOk result ((l : Option Logged) → LinksKnow l peers.old.items → LinksKnow l peers.new.items) }
 {
     let place = peers.len();
-    let p = Peer::new(alloc, conn, place);
+    let p = Peer::new(alloc, conn, clients_among(peers));
     peers.push(p)?;
     span.add(place);
     Ok(())
@@ -149,8 +160,9 @@ fn hear(
     requires apart { AreApart (numbers peers.old.items) }
     ensures heard { OnOk result (HoldsAs (λ ks. heard ks ev (bytes_of ev buffer.now)) peers.old.items peers.new.items) }
     ensures numbers { OnOk result (numbers peers.new.items ≡ open_after (numbers peers.old.items) ev) }
-    ensures few { OnOk result (NoneOver peers.old.items → StayFew peers.old.items peers.new.items) }
+    ensures few { OnOk result (NoneOver peers.old.items → AreIntroduced peers.old.items → StayFew peers.old.items peers.new.items) }
     ensures calm { OnOk result (IsSpan span.old peers.old.items → IsSpan span.new peers.new.items) }
+    ensures links { OnOk result ((l : Option Logged) → LinksKnow l peers.old.items → LinksKnow l peers.new.items) }
     ensures bytes { IsBytes buffer.now }
 {
     match ev {

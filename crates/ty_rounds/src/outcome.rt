@@ -11,6 +11,13 @@ use thiserror::Error;
 pub enum Outcome {
     /// There may be another.
     Went,
+    /// There may be another, and the link was closed for a record that follows another than the last one held.
+    Gap {
+        /// The last timestamp held.
+        held: u64,
+        /// The timestamp that the record follows.
+        follows: u64,
+    },
     /// No event will come any more.
     Shut,
 }

@@ -1,5 +1,5 @@
 //! One link to a master.
-ghost use Rattle.std.specs.Prelude.{◌≡◌, ◌++◌, [], true, false, drop, IfOk, OnOk, OnErr};
+ghost use Rattle.std.specs.Prelude.{◌≡◌, ◌≤◌, ◌++◌, [], true, false, drop, length, IfOk, OnOk, OnErr};
 ghost use Rattle.ty_ulog.specs.Records.{TakesRecord, IsReadRecord, record_at, seen};
 ghost use Rattle.ty_slave.specs.Lines.{HasNext, IsNext, Line, TakesThis, TakesUpdate, judged, judged_next, looked, introduced, stepped, is_refusal};
 
@@ -130,6 +130,7 @@ impl Link {
     fn introduce(&mut self) -> Step
         ensures introduced { (result, self.new) ≡ introduced self.old }
         ensures takes { TakesUpdate result }
+        ensures fewer { length self.new.unread ≤ length self.old.unread }
     {
         let bytes = self.unread.as_slice();
         if refuses(bytes) {
@@ -161,6 +162,7 @@ impl Link {
     fn look(&mut self) -> Result<Step, AllocError>
         ensures ok { IfOk result (λ s. (s, self.new) ≡ looked self.old (record_at self.old.unread)) }
         ensures takes { IfOk result TakesUpdate }
+        ensures fewer { length self.new.unread ≤ length self.old.unread }
         ensures err { OnErr result (self.new ≡ self.old) }
         ensures wanting { OnErr result (HasNext self.old.held self.old.unread) }
     {
@@ -185,6 +187,7 @@ impl Link {
     pub fn step(&mut self) -> Result<Step, AllocError>
         ensures ok { IfOk result (λ s. (s, self.new) ≡ stepped self.old) }
         ensures takes { IfOk result TakesUpdate }
+        ensures fewer { length self.new.unread ≤ length self.old.unread }
         ensures err { OnErr result (self.new ≡ self.old) }
         ensures wanting { OnErr result ((self.old.named ≡ true) × HasNext self.old.held self.old.unread) }
     {

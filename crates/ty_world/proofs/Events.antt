@@ -10,8 +10,9 @@ use Rattle.tc_io.specs.declared.act.Act.TheVariants.{Opened, Read, Ended, Quiet}
 use Rattle.tc_io.specs.Lines.{has}
 use Rattle.tc_io.specs.Script.{Lines, can_open, can_end, can_read, is_read, next_act, lines_after}
 use Rattle.ty_world.specs.Frames.{frames}
-use Rattle.ty_world.specs.World.{Client, heard, at_conn, new_client, with_read, with_end}
-use Rattle.ty_world.specs.Measure.{coming, requests_in, left_of, total, measure}
+use Rattle.ty_world.specs.Clients.{Client, is_client}
+use Rattle.ty_world.specs.World.{heard, at_conn, new_client, clients_in, with_read, with_end}
+use Rattle.ty_world.specs.Measure.{coming, requests_in, text_of, left_of, total, measure}
 use Rattle.ty_world.specs.Playing.{Fits, AllFit, Meets}
 
 abbrev pub Next : Type 0
@@ -19,15 +20,15 @@ Next = Ev × List ℕ × List Act
 
 -- ---- all connections
 
-total_keeps : (l : Lines) (acts acts' : List Act) (ks : List Client) → AllFit l ks → ((k : Client) → Fits l k → left_of acts' k ≡ left_of acts k) → total acts' ks ≡ total acts ks
+pub total_keeps : (l : Lines) (acts acts' : List Act) (ks : List Client) → AllFit l ks → ((k : Client) → Fits l k → left_of acts' k ≡ left_of acts k) → total acts' ks ≡ total acts ks
 total_keeps l acts acts' [] h f = refl
 total_keeps l acts acts' (k ∷ ks) h f = let a = f k h.0 in let b = total_keeps l acts acts' ks h.1 f in omega (arith, a, b)
 
-total_maps : (l : Lines) (g : Client → Client) (acts acts' : List Act) (ks : List Client) → AllFit l ks → ((k : Client) → Fits l k → left_of acts' (g k) ≡ left_of acts k) → total acts' (map g ks) ≡ total acts ks
+pub total_maps : (l : Lines) (g : Client → Client) (acts acts' : List Act) (ks : List Client) → AllFit l ks → ((k : Client) → Fits l k → left_of acts' (g k) ≡ left_of acts k) → total acts' (map g ks) ≡ total acts ks
 total_maps l g acts acts' [] h f = refl
 total_maps l g acts acts' (k ∷ ks) h f = let a = f k h.0 in let b = total_maps l g acts acts' ks h.1 f in omega (arith, a, b)
 
-total_appends : (acts : List Act) (ks : List Client) (k : Client) → total acts (ks ++ k ∷ []) ≡ total acts ks + left_of acts k
+pub total_appends : (acts : List Act) (ks : List Client) (k : Client) → total acts (ks ++ k ∷ []) ≡ total acts ks + left_of acts k
 total_appends acts [] k = omega arith
 total_appends acts (j ∷ ks) k = let a = total_appends acts ks k in omega (arith, a)
 
@@ -61,23 +62,33 @@ ended_or_other l k d fits h e = go (nat_eq k.conn d) fits refl e
         let same : k.conn ≡ d = eqb-true k.conn d is in
         inr (h.ends ∙ ap (has l.ended) same ∙ at_end (has l.conns d) (has l.ended d) (ap (has l.conns) (sym same) ∙ h.listed) cannot)
 
-read_skipped : (l : Lines) (acts : List Act) (d : ℕ) (bytes : List ℕ) (k : Client) → Fits l k → can_read l d bytes ≡ false → left_of (Read d bytes ∷ acts) k ≡ left_of acts k
-read_skipped l acts d bytes k h cannot = elim (ended_or_other l k d (is_read bytes) h cannot) [
-  | inl other ↦ ap (λ (b : Bool). frames (k.unread ++ cond k.ended [] (cond b (bytes ++ coming k.conn acts) (coming k.conn acts)))) other
-  | inr over ↦ ap (λ (b : Bool). frames (k.unread ++ cond b [] (coming k.conn (Read d bytes ∷ acts)))) over ∙ sym (ap (λ (b : Bool). frames (k.unread ++ cond b [] (coming k.conn acts))) over)
-]
+-- of no client nothing is counted
+as_left : (k : Client) (m n : ℕ) → m ≡ n → cond (is_client k.role) m 0 ≡ cond (is_client k.role) n 0
+as_left k m n e = ap (λ (x : ℕ). cond (is_client k.role) x 0) e
+
+pub read_skipped : (l : Lines) (acts : List Act) (d : ℕ) (bytes : List ℕ) (k : Client) → Fits l k → can_read l d bytes ≡ false → left_of (Read d bytes ∷ acts) k ≡ left_of acts k
+read_skipped l acts d bytes k h cannot = as_left k (frames (text_of (Read d bytes ∷ acts) k)) (frames (text_of acts k)) text
+  where
+    text : frames (text_of (Read d bytes ∷ acts) k) ≡ frames (text_of acts k)
+    text = elim (ended_or_other l k d (is_read bytes) h cannot) [
+      | inl other ↦ ap (λ (b : Bool). frames (k.unread ++ cond k.ended [] (cond b (bytes ++ coming k.conn acts) (coming k.conn acts)))) other
+      | inr over ↦ ap (λ (b : Bool). frames (k.unread ++ cond b [] (coming k.conn (Read d bytes ∷ acts)))) over ∙ sym (ap (λ (b : Bool). frames (k.unread ++ cond b [] (coming k.conn acts))) over)
+    ]
 
 and_true : (a : Bool) → (a && true) ≡ a
 and_true true = refl
 and_true false = refl
 
-end_skipped : (l : Lines) (acts : List Act) (d : ℕ) (k : Client) → Fits l k → can_end l d ≡ false → left_of (Ended d ∷ acts) k ≡ left_of acts k
-end_skipped l acts d k h cannot = elim (ended_or_other l k d true h (and_true (can_end l d) ∙ cannot)) [
-  | inl other ↦ ap (λ (b : Bool). frames (k.unread ++ cond k.ended [] (cond b [] (coming k.conn acts)))) (sym (and_true (nat_eq k.conn d)) ∙ other)
-  | inr over ↦ ap (λ (b : Bool). frames (k.unread ++ cond b [] (coming k.conn (Ended d ∷ acts)))) over ∙ sym (ap (λ (b : Bool). frames (k.unread ++ cond b [] (coming k.conn acts))) over)
-]
+pub end_skipped : (l : Lines) (acts : List Act) (d : ℕ) (k : Client) → Fits l k → can_end l d ≡ false → left_of (Ended d ∷ acts) k ≡ left_of acts k
+end_skipped l acts d k h cannot = as_left k (frames (text_of (Ended d ∷ acts) k)) (frames (text_of acts k)) text
+  where
+    text : frames (text_of (Ended d ∷ acts) k) ≡ frames (text_of acts k)
+    text = elim (ended_or_other l k d true h (and_true (can_end l d) ∙ cannot)) [
+      | inl other ↦ ap (λ (b : Bool). frames (k.unread ++ cond k.ended [] (cond b [] (coming k.conn acts)))) (sym (and_true (nat_eq k.conn d)) ∙ other)
+      | inr over ↦ ap (λ (b : Bool). frames (k.unread ++ cond b [] (coming k.conn (Ended d ∷ acts)))) over ∙ sym (ap (λ (b : Bool). frames (k.unread ++ cond b [] (coming k.conn acts))) over)
+    ]
 
-open_skipped : (l : Lines) (ks : List Client) (acts : List Act) (d : ℕ) → Meets l ks → can_open l d ≡ false → requests_in l.given (Opened d ∷ acts) ≡ requests_in l.given acts
+pub open_skipped : (l : Lines) (ks : List Client) (acts : List Act) (d : ℕ) → Meets l ks → can_open l d ≡ false → requests_in l.given (Opened d ∷ acts) ≡ requests_in l.given acts
 open_skipped l ks acts d h cannot = cond-true _ _ _ (go (nat_lt d l.given) (has l.conns d) refl refl cannot)
   where
     go : (a b : Bool) → nat_lt d l.given ≡ a → has l.conns d ≡ b → (not a && not b) ≡ false → a ≡ true
@@ -87,7 +98,7 @@ open_skipped l ks acts d h cannot = cond-true _ _ _ (go (nat_lt d l.given) (has 
 
 -- ---- what comes was counted
 
-read_comes : (l : Lines) (acts : List Act) (d : ℕ) (bytes : List ℕ) (k : Client) → Fits l k → can_read l d bytes ≡ true → left_of acts (at_conn d (with_read bytes) k) ≡ left_of (Read d bytes ∷ acts) k
+pub read_comes : (l : Lines) (acts : List Act) (d : ℕ) (bytes : List ℕ) (k : Client) → Fits l k → can_read l d bytes ≡ true → left_of acts (at_conn d (with_read bytes) k) ≡ left_of (Read d bytes ∷ acts) k
 read_comes l acts d bytes k h can = go (nat_eq k.conn d) refl
   where
     both : (a b c : Bool) → ((a && not b) && c) ≡ true → (b ≡ false) × (c ≡ true)
@@ -99,18 +110,19 @@ read_comes l acts d bytes k h can = go (nat_eq k.conn d) refl
     facts : (has l.ended d ≡ false) × (is_read bytes ≡ true)
     facts = both (has l.conns d) (has l.ended d) (is_read bytes) can
 
-    go : (b : Bool) → nat_eq k.conn d ≡ b → left_of acts (cond b (with_read bytes k) k) ≡ frames (k.unread ++ cond k.ended [] (cond (b && is_read bytes) (bytes ++ coming k.conn acts) (coming k.conn acts)))
+    go : (b : Bool) → nat_eq k.conn d ≡ b → left_of acts (cond b (with_read bytes k) k) ≡ cond (is_client k.role) (frames (k.unread ++ cond k.ended [] (cond (b && is_read bytes) (bytes ++ coming k.conn acts) (coming k.conn acts)))) 0
     go false is = refl
     go true is =
         let going : k.ended ≡ false = h.ends ∙ ap (has l.ended) (eqb-true k.conn d is) ∙ facts.0 in
-        ap frames (ap (λ (b : Bool). (k.unread ++ bytes) ++ cond b [] (coming k.conn acts)) going ∙ append_assoc k.unread bytes (coming k.conn acts)
+        as_left k (frames ((k.unread ++ bytes) ++ cond k.ended [] (coming k.conn acts))) _
+        (ap frames (ap (λ (b : Bool). (k.unread ++ bytes) ++ cond b [] (coming k.conn acts)) going ∙ append_assoc k.unread bytes (coming k.conn acts)
         ∙ ap (λ (b : Bool). k.unread ++ cond b (bytes ++ coming k.conn acts) (coming k.conn acts)) (sym facts.1)
-        ∙ ap (λ (b : Bool). k.unread ++ cond b [] (cond (is_read bytes) (bytes ++ coming k.conn acts) (coming k.conn acts))) (sym going))
+        ∙ ap (λ (b : Bool). k.unread ++ cond b [] (cond (is_read bytes) (bytes ++ coming k.conn acts) (coming k.conn acts))) (sym going)))
 
-end_comes : (l : Lines) (acts : List Act) (d : ℕ) (k : Client) → Fits l k → left_of acts (at_conn d with_end k) ≡ left_of (Ended d ∷ acts) k
+pub end_comes : (l : Lines) (acts : List Act) (d : ℕ) (k : Client) → Fits l k → left_of acts (at_conn d with_end k) ≡ left_of (Ended d ∷ acts) k
 end_comes l acts d k h = go (nat_eq k.conn d) k.ended
   where
-    go : (b e : Bool) → left_of acts (cond b (record k { ended = true }) (record k { ended = e })) ≡ frames (k.unread ++ cond e [] (cond b [] (coming k.conn acts)))
+    go : (b e : Bool) → left_of acts (cond b (record k { ended = true }) (record k { ended = e })) ≡ cond (is_client k.role) (frames (k.unread ++ cond e [] (cond b [] (coming k.conn acts)))) 0
     go false e = refl
     go true true = refl
     go true false = refl
@@ -132,12 +144,12 @@ out_more ks l paused busy n m m' le (inr (inr kept)) = inr (inr (kept.0, omega (
 new_left : (acts : List Act) (c n : ℕ) → left_of acts (new_client c n) ≡ frames (coming c acts)
 new_left acts c n = refl
 
-opens : (l : Lines) (ks : List Client) (acts : List Act) (c : ℕ) → AllFit l ks → can_open l c ≡ true → measure (ks ++ new_client c (length ks) ∷ []) acts (lines_after l (event.Opened c)) + 1 ≤ measure ks (Opened c ∷ acts) l
+pub opens : (l : Lines) (ks : List Client) (acts : List Act) (c : ℕ) → AllFit l ks → can_open l c ≡ true → measure (ks ++ new_client c (clients_in ks) ∷ []) acts (lines_after l (event.Opened c)) + 1 ≤ measure ks (Opened c ∷ acts) l
 opens l ks acts c h can =
-    let a = total_appends acts ks (new_client c (length ks)) in
+    let a = total_appends acts ks (new_client c (clients_in ks)) in
     let b = total_keeps l acts (Opened c ∷ acts) ks h (λ k f. refl) in
     let d : requests_in l.given (Opened c ∷ acts) ≡ frames (coming c acts) + requests_in (suc c) acts = cond-false _ _ _ (first (nat_lt c l.given) (has l.conns c) can) in
-    let e = new_left acts c (length ks) in
+    let e = new_left acts c (clients_in ks) in
     let one : c + 1 ≡ suc c = omega arith in
     let f : requests_in (c + 1) acts ≡ requests_in (suc c) acts = ap (λ (n : ℕ). requests_in n acts) one in
     omega (arith, a, b, d, e, f)
@@ -193,9 +205,9 @@ or_right : (a : Bool) → (a || true) ≡ true
 or_right true = refl
 or_right false = refl
 
-opened_meets : (l : Lines) (ks : List Client) (c : ℕ) → Meets l ks → can_open l c ≡ true → Meets (lines_after l (event.Opened c)) (ks ++ new_client c (length ks) ∷ [])
+pub opened_meets : (l : Lines) (ks : List Client) (c : ℕ) → Meets l ks → can_open l c ≡ true → Meets (lines_after l (event.Opened c)) (ks ++ new_client c (clients_in ks) ∷ [])
 opened_meets l ks c h can = record {
-  each = fit_appends l' ks (new_client c (length ks)) (fit_keeps l l' ks h.each (λ k f. record {
+  each = fit_appends l' ks (new_client c (clients_in ks)) (fit_keeps l l' ks h.each (λ k f. record {
     listed = has_more l.conns c k.conn ∙ or_left _ _ f.listed;
     ends = f.ends;
     below = omega (arith, f.below, above);
@@ -206,7 +218,7 @@ opened_meets l ks c h can = record {
     ends = sym ((h.fresh c above).1);
     below = omega arith;
     here = refl;
-    going = refl;
+    going = λ e. refl;
   });
   fresh = λ d le. let f = h.fresh d (omega (arith, above, le)) in (has_more l.conns c d ∙ or_from _ _ f.0 (ne_eqb d c (λ e. absurd (omega (arith, e, le)))), f.1);
 }

@@ -1,25 +1,35 @@
 -- A connection above 64 is placed nothing, and owed nothing.
-use Rattle.std.proofs.Common.{◌≡◌, ℕ, Bool, true, false, cond, List, [], ◌∷◌, ◌++◌, length, map, refl, sym, subst, ◌∙◌}
+use Rattle.std.proofs.Common.{◌≡◌, ℕ, Bool, true, false, cond, List, [], ◌∷◌, ◌++◌, map, refl, sym, ap, subst, ◌∙◌}
 use Rattle.std.specs.Prelude.{Ok, Err, nat_eq}
 use Rattle.std.specs.List.{filter, list_any}
 use Rattle.std.proofs.lemmas.Bool.{or_parts}
-use Rattle.tc_base.specs.declared.request.Request.{Request}
 use Rattle.tc_base.specs.declared.fields.NotWhole.TheVariants.{Part}
 use Rattle.tc_base.specs.Reading.{Front}
+use Rattle.tc_io.specs.declared.wire.Dialled.{Dialled}
+use Rattle.tc_io.specs.declared.wire.Dialled.TheVariants.{Conn, NotNow}
 use Rattle.tc_io.specs.declared.wire.Ev.{Ev}
 use Rattle.tc_io.specs.declared.wire.Ev.TheVariants.{Opened, Read, Ended, Quiet, Shut}
 use Rattle.tc_io.specs.declared.wire.Sent.{Sent}
 use Rattle.tc_io.specs.declared.wire.Sent.TheVariants.{Took, NotYet, Gone}
 use Rattle.tc_io.specs.declared.wire.Entry.{Entry}
 use Rattle.tc_io.specs.declared.wire.Entry.TheVariants.{Open, Dial, Event, Send, Close}
-use Rattle.ty_wire.specs.Reading.{request_at}
 use Rattle.tc_model.specs.Contents.{Contents, Walk}
+use Rattle.ty_memc.specs.declared.text.Piece.{Piece}
+use Rattle.ty_memc.specs.Grammar.{piece_at}
+use Rattle.ty_ulog.specs.declared.record.Record.{Record}
+use Rattle.ty_ulog.specs.Log.{last_of}
+use Rattle.ty_wire.specs.Reading.{request_at}
+use Rattle.ty_world.specs.Clients.{Client, Role, of_client, of_feed, to_master, is_client, whole_in, is_ready, is_over, has_whole, front_of}
 use Rattle.ty_world.specs.Frames.{is_whole}
-use Rattle.ty_world.specs.World.{Client, World, served, is_ready, is_over, has_whole, front_of, round_one, round_all, unstopped, at_conn, new_client, with_read, with_end, heard, sent, happens, world_after, AllAsked}
+use Rattle.ty_world.specs.Links.{Looked, look_at, look_next, look_all, unmoved}
+use Rattle.ty_world.specs.Logs.{Settings, is_replica}
+use Rattle.ty_world.specs.Rounds.{Round, served, round_one, round_all, look_of, fed, fed_by, feed_all}
+use Rattle.ty_world.specs.World.{World, unstopped, at_conn, new_client, new_link, clients_in, with_dialled, with_read, with_end, heard, heard_by, sent, rounded, happens, world_after, AllAsked}
 
 pub record IsEmpty (k : Client) : Type 0 where
   pub unread : k.unread ≡ []
   pub owed : k.owed ≡ []
+  pub role : k.role ≡ of_client
 
 abbrev pub EachEmpty : List Client → Type 0
 EachEmpty [] = Unit {0}
@@ -31,16 +41,21 @@ EachPlain [] = Unit {0}
 EachPlain (k ∷ ks) = (k.extra ≡ false) × EachPlain ks
 
 -- nothing happens to what is done
-pub one_still : (c : Contents) (w : Walk) (k : Client) → has_whole k ≡ false → (round_one c w k).client ≡ k
+pub one_still : (is : Settings) (c : Contents) (w : Walk) (k : Client) → has_whole k ≡ false → (round_one is c w k).client ≡ k
 unfolding round_one
-one_still c w k e = ready (is_ready k)
+one_still is c w k e = ready (is_ready k)
   where
-    go : (f : Front Request) → is_whole f ≡ false → (served c w k f).client ≡ k
+    go : (f : Front Piece) → is_whole f ≡ false → (served is c w k f).client ≡ k
     go (Ok x) e = absurd cc
     go (Err d) e = refl
 
-    ready : (b : Bool) → (served c w k (cond b (request_at k.unread) (Err Part))).client ≡ k
-    ready true = go (request_at k.unread) e
+    by : (r : Role) → whole_in r k.unread ≡ false → (served is c w k (cond (is_client r) (piece_at k.unread) (Err Part))).client ≡ k
+    by of_client e = go (piece_at k.unread) e
+    by (of_feed above base) e = refl
+    by (to_master named broken) e = refl
+
+    ready : (b : Bool) → (served is c w k (cond b (cond (is_client k.role) (piece_at k.unread) (Err Part)) (Err Part))).client ≡ k
+    ready true = by k.role e
     ready false = refl
 
 plain_empty : (ks : List Client) → EachPlain ks → EachEmpty ks
@@ -79,34 +94,84 @@ empty_filter p (k ∷ ks) h = go (p k) (empty_filter p ks h.1)
     go false r = r
 
 heard_empty : (ks : List Client) (ev : Ev) (bytes : List ℕ) → EachPlain ks → EachEmpty (heard ks ev bytes)
-heard_empty ks (Opened c) bytes h = empty_more ks (new_client c (length ks) ∷ []) (plain_empty ks h) (λ e. record { unread = refl; owed = refl }, tt)
+heard_empty ks (Opened c) bytes h = empty_more ks (new_client c (clients_in ks) ∷ []) (plain_empty ks h) (λ e. record { unread = refl; owed = refl; role = refl }, tt)
 heard_empty ks (Read c n) bytes h = plain_empty _ (plain_map (at_conn c (with_read bytes)) (at_same c (with_read bytes) (λ k. refl)) ks h)
 heard_empty ks (Ended c) bytes h = plain_empty _ (plain_map (at_conn c with_end) (at_same c with_end (λ k. refl)) ks h)
 heard_empty ks Quiet bytes h = plain_empty ks h
 heard_empty ks Shut bytes h = plain_empty ks h
 
-one_extra : (c : Contents) (w : Walk) (k : Client) → (round_one c w k).client.extra ≡ k.extra
+-- ---- a round
+
+one_extra : (is : Settings) (c : Contents) (w : Walk) (k : Client) → (round_one is c w k).client.extra ≡ k.extra
 unfolding round_one
-one_extra c w k = go (front_of k)
+one_extra is c w k = go (front_of k)
   where
-    go : (f : Front Request) → (served c w k f).client.extra ≡ k.extra
+    go : (f : Front Piece) → (served is c w k f).client.extra ≡ k.extra
     go (Ok x) = refl
     go (Err d) = refl
 
-one_empty : (c : Contents) (w : Walk) (k : Client) → (k.extra ≡ true → IsEmpty k) → (round_one c w k).client.extra ≡ true → IsEmpty (round_one c w k).client
-unfolding request_at
-one_empty c w k h e =
-    let n = h (sym (one_extra c w k) ∙ e) in
-    subst IsEmpty (sym (one_still c w k (subst (λ (l : List ℕ). is_whole (request_at l) ≡ false) (sym n.unread) refl))) n
+-- one that is empty has nothing whole
+none_whole : (k : Client) → IsEmpty k → has_whole k ≡ false
+unfolding piece_at request_at
+none_whole k n = ap (λ (r : Role). whole_in r k.unread) n.role ∙ ap (λ (l : List ℕ). is_whole (piece_at l)) n.unread
 
-round_empty : (c : Contents) (w : Walk) (ks : List Client) → EachEmpty ks → EachEmpty (round_all c w ks).clients
-round_empty c w [] h = tt
-round_empty c w (k ∷ ks) h = (one_empty c w k h.0, round_empty (round_one c w k).contents (round_one c w k).walk ks h.1)
+one_empty : (is : Settings) (c : Contents) (w : Walk) (k : Client) → (k.extra ≡ true → IsEmpty k) → (round_one is c w k).client.extra ≡ true → IsEmpty (round_one is c w k).client
+one_empty is c w k h e = let n = h (sym (one_extra is c w k) ∙ e) in subst IsEmpty (sym (one_still is c w k (none_whole k n))) n
+
+round_empty : (is : Settings) (c : Contents) (w : Walk) (ks : List Client) → EachEmpty ks → EachEmpty (round_all is c w ks).clients
+round_empty is c w [] h = tt
+round_empty is c w (k ∷ ks) h = let one = (round_one is c w k).made in (one_empty is c w k h.0, round_empty is one.contents one.walk ks h.1)
+
+-- the link isn't one of them
+look_empty : (own held : ℕ) (c : Contents) (w : Walk) (ks : List Client) → EachEmpty ks → EachEmpty (look_all own held c w ks).clients
+unfolding look_at
+look_empty own held c w [] h = tt
+look_empty own held c w (k ∷ ks) h = go k.role refl (look_empty own held c w ks h.1)
+  where
+    go : (r : Role) → k.role ≡ r → EachEmpty (look_all own held c w ks).clients → EachEmpty (look_next own held c w r k ks (look_all own held c w ks)).clients
+    go of_client e rest = (h.0, rest)
+    go (of_feed above base) e rest = (h.0, rest)
+    go (to_master named broken) e rest = (λ x. absurd (let n : to_master named broken ≡ of_client = sym e ∙ (h.0 x).role in cc), h.1)
+
+look_of_empty : (is : Settings) (log : List Record) (r : Round) → EachEmpty r.clients → EachEmpty (look_of is log r).clients
+look_of_empty is log r h = go (is_replica is)
+  where
+    go : (b : Bool) → EachEmpty (cond {A = Looked} b (look_all is.own (last_of 0 log) r.made.contents r.made.walk r.clients) (record { dealt_is = unmoved r.made.contents r.made.walk false; clients = r.clients })).clients
+    go true = look_empty is.own (last_of 0 log) r.made.contents r.made.walk r.clients h
+    go false = h
+
+-- nor is a feed
+fed_empty : (log : List Record) (k : Client) → (k.extra ≡ true → IsEmpty k) → (fed log k).extra ≡ true → IsEmpty (fed log k)
+fed_empty log k h = go k.role refl
+  where
+    go : (r : Role) → k.role ≡ r → (fed_by log r k).extra ≡ true → IsEmpty (fed_by log r k)
+    go of_client e x = h x
+    go (of_feed stamp base) e x = absurd (let n : of_feed stamp base ≡ of_client = sym e ∙ (h x).role in cc)
+    go (to_master named broken) e x = h x
+
+feds_empty : (log : List Record) (ks : List Client) → EachEmpty ks → EachEmpty (map (fed log) ks)
+feds_empty log [] h = tt
+feds_empty log (k ∷ ks) h = (fed_empty log k h.0, feds_empty log ks h.1)
+
+feed_empty : (is : Settings) (log : List Record) (ks : List Client) → EachEmpty ks → EachEmpty (feed_all is log ks)
+feed_empty is log ks h = go is.logs
+  where
+    go : (b : Bool) → EachEmpty (cond b (map (fed log) ks) ks)
+    go true = feds_empty log ks h
+    go false = h
+
+behind_empty : (w : World) (ev : Ev) (bytes : List ℕ) (log : List Record) → EachPlain w.there → EachEmpty (feed_all w.is log (rounded w ev bytes).looked.clients)
+behind_empty w ev bytes log h =
+    let ks = heard_by w ev bytes in
+    let r = round_all w.is w.contents w.walk ks in
+    feed_empty w.is log (look_of w.is w.records r).clients (look_of_empty w.is w.records r (round_empty w.is w.contents w.walk ks (heard_empty (map unstopped w.there) ev bytes (plain_map unstopped (λ k. refl) w.there h))))
+
+-- ---- entries
 
 sent_empty : (bytes : List ℕ) (answer : Sent) (k : Client) → (k.extra ≡ true → IsEmpty k) → (sent bytes answer k).extra ≡ true → IsEmpty (sent bytes answer k)
-sent_empty bytes (Took n) k h e = let x = h e in record { unread = x.unread; owed = x.owed }
-sent_empty bytes NotYet k h e = let x = h e in record { unread = x.unread; owed = x.owed }
-sent_empty bytes Gone k h e = let x = h e in record { unread = x.unread; owed = x.owed }
+sent_empty bytes (Took n) k h e = let x = h e in record { unread = x.unread; owed = x.owed; role = x.role }
+sent_empty bytes NotYet k h e = let x = h e in record { unread = x.unread; owed = x.owed; role = x.role }
+sent_empty bytes Gone k h e = let x = h e in record { unread = x.unread; owed = x.owed; role = x.role }
 
 sends_empty : (c : ℕ) (bytes : List ℕ) (answer : Sent) (ks : List Client) → EachEmpty ks → EachEmpty (map (at_conn c (sent bytes answer)) ks)
 sends_empty c bytes answer [] h = tt
@@ -116,10 +181,16 @@ sends_empty c bytes answer (k ∷ ks) h = (go (nat_eq k.conn c), sends_empty c b
     go true = sent_empty bytes answer k h.0
     go false = h.0
 
+dialled_empty : (is : Settings) (log : List Record) (ks : List Client) (answer : Dialled) → EachEmpty ks → EachEmpty (with_dialled is log ks answer)
+dialled_empty is log ks (Conn c) h = empty_more ks (new_link is log c ∷ []) h (λ e. absurd cc, tt)
+dialled_empty is log ks NotNow h = h
+
 pub all_empty : (es : List Entry) (w : World) → AllAsked w es → EachEmpty w.there → EachEmpty w.past → EachEmpty (world_after es w).there × EachEmpty (world_after es w).past
 all_empty [] w asked there past = (there, past)
 all_empty (Open at ∷ es) w asked there past = all_empty es (happens w (Open at)) asked.1 there past
-all_empty (Dial host port answer ∷ es) w asked there past = absurd asked.0
-all_empty (Event paused busy ev bytes ∷ es) w asked there past = all_empty es (happens w (Event paused busy ev bytes)) asked.1 (round_empty w.contents w.walk _ (heard_empty (map unstopped w.there) ev bytes (plain_map unstopped (λ k. refl) w.there (none_over w.there asked.0.0.1)))) past
+all_empty (Dial host port answer ∷ es) w asked there past = all_empty es (happens w (Dial host port answer)) asked.1 (dialled_empty w.is w.records w.there answer there) past
+all_empty (Event paused busy ev bytes ∷ es) w asked there past =
+    let v = happens w (Event paused busy ev bytes) in
+    all_empty es v asked.1 (behind_empty w ev bytes v.records (none_over w.there asked.0.rested.1)) past
 all_empty (Send c bytes answer ∷ es) w asked there past = all_empty es (happens w (Send c bytes answer)) asked.1 (sends_empty c bytes answer w.there there) past
 all_empty (Close c ∷ es) w asked there past = all_empty es (happens w (Close c)) asked.1 (empty_filter _ w.there there) (empty_more w.past _ past (empty_filter _ w.there there))

@@ -1,5 +1,12 @@
+pub mod Answers
+pub mod Before
+pub mod Clients
+pub mod Fold
 pub mod Frames
+pub mod Links
+pub mod Logs
 pub mod Measure
 pub mod Playing
+pub mod Rounds
+pub mod Same
 pub mod World
-pub mod Answers

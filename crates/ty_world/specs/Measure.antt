@@ -4,7 +4,7 @@ use Rattle.tc_io.specs.declared.act.Act.{Act}
 use Rattle.tc_io.specs.declared.act.Act.TheVariants.{Opened, Read, Ended, Quiet}
 use Rattle.tc_io.specs.Script.{Lines, is_read}
 use Rattle.ty_world.specs.Frames.{frames}
-use Rattle.ty_world.specs.World.{Client}
+use Rattle.ty_world.specs.Clients.{Client, is_client}
 
 -- the bytes still to come of an open connection
 abbrev pub coming : ℕ → List Act → List ℕ
@@ -14,7 +14,7 @@ coming c (Read d bytes ∷ acts) = if nat_eq c d && is_read bytes then bytes ++ 
 coming c (Ended d ∷ acts) = if nat_eq c d then [] else coming c acts
 coming c (Quiet ∷ acts) = coming c acts
 
--- the whole requests of the connections still to be opened
+-- the whole pieces of the connections still to be opened
 abbrev pub requests_in : ℕ → List Act → ℕ
 requests_in given [] = 0
 requests_in given (Opened d ∷ acts) = if nat_lt d given then requests_in given acts else frames (coming d acts) + requests_in (suc d) acts
@@ -25,8 +25,9 @@ requests_in given (Quiet ∷ acts) = requests_in given acts
 abbrev pub text_of : List Act → Client → List ℕ
 text_of acts k = k.unread ++ (if k.ended then [] else coming k.conn acts)
 
+-- neither a feed nor the link has pieces that are to be served
 abbrev pub left_of : List Act → Client → ℕ
-left_of acts k = frames (text_of acts k)
+left_of acts k = if is_client k.role then frames (text_of acts k) else 0
 
 abbrev pub total : List Act → List Client → ℕ
 total acts [] = 0

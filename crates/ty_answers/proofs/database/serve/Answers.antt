@@ -5,7 +5,7 @@ use Rattle.tc_base.specs.declared.request.Reply.TheVariants.{Fail, FailMisc}
 use Rattle.tc_model.specs.Apply.{called}
 use Rattle.tc_model.specs.Misc.{updates_call}
 use Rattle.ty_answers.specs.Requests.{got_keys}
-use Rattle.ty_answers.proofs.Dispatch.{arm, full_arm, full_packing, packing_arm}
+use Rattle.ty_answers.proofs.Dispatch.{arm, copy_arm, full_arm, full_packing, packing_arm}
 use Rattle.ty_answers.proofs.Making.{if_ok, on_ok}
 use Rattle.ty_answers.proofs.database.serve.Goals as goal
 
@@ -29,3 +29,6 @@ returns-in-Optimize-clause-full g c = λ full. full_packing g.E.S.Space g.E.Stor
 pub returns-in-Misc-clause-full : goal.returns-in-Misc-clause-full
 returns-in-Misc-clause-full g c = λ full. full_arm g.E.S.Space g.E.Storage.holds g.E.Storage.fills c.args.request (Misc c.in-Misc.name c.in-Misc.options c.in-Misc.args) (called c.in-Misc.name c.in-Misc.options c.in-Misc.args) c.args.engine.now _ _ c.args.walk.now c.in-Misc.is refl
     (ap (λ (b : Bool). b || false) (c.call.ensures.writes full)) refl (λ m. refl) (c.call.ensures.full full)
+
+pub returns-in-Copy-clause-steps : goal.returns-in-Copy-clause-steps
+returns-in-Copy-clause-steps g c = if_ok _ (λ done n. copy_arm g.E.S.Space g.E.Storage.own g.E.Storage.layout g.E.Storage.holds c.args.request c.in-Copy.path c.kind.result done c.args.engine.now c.args.space.now c.args.walk.now c.args.reply.now _ c.in-Copy.is c.requires.ready.sound (λ m h. c.kind.ensures (g.E.S.Space.now c.args.space.now) m h.1) n) c.copy.ensures.said

@@ -1,4 +1,4 @@
-use Rattle.std.proofs.Common.{sym, ap, ◌∙◌, subst}
+use Rattle.std.proofs.Common.{refl, sym, ap, ◌∙◌, subst}
 use Rattle.std.specs.Prelude.{[], ◌++◌}
 use Rattle.std.proofs.lemmas.List.{append-nil}
 use Rattle.std.proofs.lemmas.Result.{IfOk-weaker}
@@ -22,6 +22,12 @@ returns-then-if_updating-clause-leaves g c = leaves_nothing g.B.S.Space g.B.Stor
 
 pub returns-then-if_updating-clause-tight : goal.returns-then-if_updating-clause-tight
 returns-then-if_updating-clause-tight g c = λ packs. never_packs c.args.replica c.args.request (sym c.if_updating.ensures ∙ c.if-if_updating.true) packs
+
+pub returns-then-if_updating-clause-blocked : goal.returns-then-if_updating-clause-blocked
+returns-then-if_updating-clause-blocked g c = λ e. refl
+
+pub returns-clause-blocked : goal.returns-clause-blocked
+returns-clause-blocked g c = IfOk-weaker c.apply.result _ _ (λ a served e. absurd (let f = sym e ∙ (sym c.if_updating.ensures ∙ c.if-if_updating.false) in cc)) c.apply.ensures.applied
 
 pub returns-clause-applied : goal.returns-clause-applied
 returns-clause-applied g c = IfOk-weaker c.apply.result _ _ (λ a served. served_alike g.B.S.Space g.B.Storage.holds c.args.replica c.args.request a c.args.base.now c.apply.new.self c.args.space.now c.apply.new.space c.args.walk.now c.apply.new.walk c.args.reply.now c.apply.new.reply (sym c.if_updating.ensures ∙ c.if-if_updating.false) served) c.apply.ensures.applied

@@ -1,5 +1,6 @@
 use Rattle.std.proofs.Common.{arith, refl, rules, sym, ap, ◌∙◌}
 use Rattle.ty_rounds.proofs.Few.{each_at, few_refl, few_then, few_remove}
+use Rattle.ty_rounds.proofs.Links.{keeps_refl, keeps_then, keeps_remove}
 use Rattle.ty_rounds.specs.Ready.{IsCalm}
 use Rattle.ty_rounds.proofs.Places.{open_at, apart_peers, one_at}
 use Rattle.ty_rounds.specs.Peers.{is_over}
@@ -17,6 +18,7 @@ loop-i-init g c = record {
   clear = skip_front _ c.args.span.now c.args.peers.now.items c.requires.calm (clear_steps c.args.peers.now.items) refl;
   calm = c.requires.calm;
   few = few_refl _;
+  links = keeps_refl _;
   within = omega arith;
   faults = omega arith;
 }
@@ -38,6 +40,7 @@ loop-i-preserved-then-is_done g c = let i = c.loop-i.invariant in record {
   clear = clear_less _ _ c.loop-i.i c.remove-p.ensures.items i.clear;
   calm = span_remove c.loop-i.span _ _ _ c.loop-i.i c.remove-p.ensures.items (search rules) i.within (search rules) refl (search rules) i.calm;
   few = few_then _ _ _ i.few (few_remove _ _ c.loop-i.i c.remove-p.ensures.items);
+  links = keeps_then _ _ _ i.links (keeps_remove _ _ c.loop-i.i c.remove-p.ensures.items);
   within = search rules;
   faults = omega (arith, c.close.ensures.cause.later, i.faults);
 }
@@ -52,6 +55,7 @@ loop-i-preserved g c = let i = c.loop-i.invariant in record {
   clear = clear_more _ c.loop-i.i c.index.result.now (search rules) (search rules) (sym (c.is_done.ensures (each_at IsCalm _ c.loop-i.i c.index.result.now (search rules) (search rules) i.calm.calm)) ∙ c.if-is_done.false) i.clear;
   calm = i.calm;
   few = i.few;
+  links = i.links;
   within = search rules;
   faults = i.faults;
 }

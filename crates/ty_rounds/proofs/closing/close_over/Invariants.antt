@@ -1,7 +1,7 @@
 use Rattle.std.proofs.Common.{◌≡◌, ◌≤◌, ◌-◌, ℕ, true}
 use Rattle.tc_io.specs.Lines.{has}
 use Rattle.ty_rounds.specs.Holding.{Wired}
-use Rattle.ty_rounds.specs.Ready.{StayFew}
+use Rattle.ty_rounds.specs.Ready.{KeepsLinks, StayFew}
 use Rattle.ty_rounds.specs.Closings.{ClosesFront}
 use Rattle.ty_rounds.specs.Spans.{IsSpan}
 use Rattle.ty_rounds.proofs.ClosingLaws.{FrontClear}
@@ -17,6 +17,7 @@ invariant-loop-i g l = let wire = g.W.Wire in record {
   clear : FrontClear l.peers.items l.i;
   calm : IsSpan l.span l.peers.items;
   few : StayFew l.fn.peers.items l.peers.items;
+  links : KeepsLinks l.fn.peers.items l.peers.items;
   within : l.span.from ≤ l.i;
   faults : wire.faults l.fn.wire ≤ wire.faults l.wire;
 }

@@ -38,4 +38,4 @@ returns-clause-ok g c =
       conns = c.in_ok-ev.ensures.lines.conns;
       given = c.in_ok-ev.ensures.lines.given;
       are_bytes = c.hear.ensures.bytes;
-    }) (λ ks a. c.in_ok-hear.ensures.heard _ (unstopped_hold _ ks a)) c.in_ok-hear.ensures.few (λ _. (c.in_ok-hear.ensures.calm c.requires.calm).calm)
+    }) (λ b ks a. c.in_ok-hear.ensures.heard b _ (unstopped_hold b _ ks a)) c.in_ok-hear.ensures.few (λ _. (c.in_ok-hear.ensures.calm c.requires.calm).calm) c.in_ok-hear.ensures.links

@@ -1,73 +1,33 @@
-use Rattle.std.proofs.Common.{rules, List, ℕ, refl, sym, subst, false, ◌≡◌, ◌∙◌}
-use Rattle.tc_model.specs.Contents.{Contents}
-use Rattle.ty_base.specs.Holding.{leaves_nothing}
-use Rattle.ty_core.specs.Serving.{Begins}
-use Rattle.ty_rounds.proofs.Few.{calm_stirs, quiet_none}
-use Rattle.ty_rounds.proofs.ServingLaws.{one_contents, gone_idle, waits_idle, none_idle, one_served, ready_held, still_ready, fewer_unread, few_waiting}
+use Rattle.std.proofs.Common.{rules, ◌≡◌, true, refl, ap}
+use Rattle.std.specs.Prelude.{◌&&◌}
+use Rattle.std.proofs.lemmas.Bool.{and_parts}
+use Rattle.ty_rounds.specs.Peers.{has_whole, is_client}
+use Rattle.ty_rounds.specs.Works.{listed, gaps_of}
+use Rattle.ty_rounds.proofs.Few.{quiet_piece}
+use Rattle.ty_rounds.proofs.ServingLaws.{gone_idle, waits_idle, none_idle, idle_ready, one_ready, one_full}
 use Rattle.ty_rounds.proofs.rounds.serve_one.Goals as goal
 
 pub returns-then-not-p-clause-served : goal.returns-then-not-p-clause-served
-returns-then-not-p-clause-served g c = record {
-  conn = refl;
-  unread = λ h. h;
-  waiting = λ h. h;
-  calm = c.requires.calm;
-  each = λ d h. none_idle _ d _ c.args.p.now _ h refl (quiet_none c.args.p.now (c.requires.calm (search rules)));
-  ready = c.requires.ready;
-  leaves = leaves_nothing g.B.S.Space g.B.Storage.own g.B.Storage.layout (false ≡ false) c.args.space.now c.requires.ready.sound;
-}
+returns-then-not-p-clause-served g c = λ l is. idle_ready g.B.S.Space g.B.Storage.own g.B.Storage.layout g.B.Storage.holds l _ c.args.base.now c.args.space.now c.args.walk.now c.args.p.now c.requires.ready c.requires.calm (λ d h. none_idle l _ _ d c.args.walk.now c.args.p.now _ h refl (quiet_piece c.args.p.now (c.requires.calm (search rules))))
 
 pub returns-then-p-clause-served : goal.returns-then-p-clause-served
-returns-then-p-clause-served g c = record {
-  conn = refl;
-  unread = λ h. h;
-  waiting = λ h. h;
-  calm = c.requires.calm;
-  each = λ d h. gone_idle _ d _ _ h (search rules);
-  ready = c.requires.ready;
-  leaves = leaves_nothing g.B.S.Space g.B.Storage.own g.B.Storage.layout (false ≡ false) c.args.space.now c.requires.ready.sound;
-}
+returns-then-p-clause-served g c = λ l is. idle_ready g.B.S.Space g.B.Storage.own g.B.Storage.layout g.B.Storage.holds l _ c.args.base.now c.args.space.now c.args.walk.now c.args.p.now c.requires.ready c.requires.calm (λ d h. gone_idle l _ _ d c.args.walk.now c.args.p.now h (search rules))
 
 pub returns-then-not-all_taken-clause-served : goal.returns-then-not-all_taken-clause-served
-returns-then-not-all_taken-clause-served g c = record {
-  conn = refl;
-  unread = λ h. h;
-  waiting = λ h. h;
-  calm = c.requires.calm;
-  each = λ d h. waits_idle _ d _ c.args.p.now _ h refl (search rules);
-  ready = c.requires.ready;
-  leaves = leaves_nothing g.B.S.Space g.B.Storage.own g.B.Storage.layout (false ≡ false) c.args.space.now c.requires.ready.sound;
-}
+returns-then-not-all_taken-clause-served g c = λ l is. idle_ready g.B.S.Space g.B.Storage.own g.B.Storage.layout g.B.Storage.holds l _ c.args.base.now c.args.space.now c.args.walk.now c.args.p.now c.requires.ready c.requires.calm (λ d h. waits_idle l _ _ d c.args.walk.now c.args.p.now _ h refl (search rules))
 
-pub returns-then-not-has_whole-clause-served : goal.returns-then-not-has_whole-clause-served
-returns-then-not-has_whole-clause-served g c = record {
-  conn = refl;
-  unread = λ h. h;
-  waiting = λ h. h;
-  calm = c.requires.calm;
-  each = λ d h. none_idle _ d _ c.args.p.now _ h refl (search rules);
-  ready = c.requires.ready;
-  leaves = leaves_nothing g.B.S.Space g.B.Storage.own g.B.Storage.layout (false ≡ false) c.args.space.now c.requires.ready.sound;
-}
+pub returns-then-not-has_piece-clause-served : goal.returns-then-not-has_piece-clause-served
+returns-then-not-has_piece-clause-served g c = λ l is. idle_ready g.B.S.Space g.B.Storage.own g.B.Storage.layout g.B.Storage.holds l _ c.args.base.now c.args.space.now c.args.walk.now c.args.p.now c.requires.ready c.requires.calm (λ d h. none_idle l _ _ d c.args.walk.now c.args.p.now _ h refl (search rules))
 
 pub returns-clause-served : goal.returns-clause-served
-returns-clause-served g c = let s = c.in_ok-served.ensures.served in let o = c.in_ok-owe_repl.ensures.owes s.request s.takes.feeds in record {
-  conn = o.conn;
-  unread = fewer_unread c.args.p.now c.owe_repl.new.p c.serve.new.self s.request c.in_ok-served.served s.takes o;
-  waiting = few_waiting c.args.p.now c.owe_repl.new.p c.serve.new.self s.request c.in_ok-served.served s.takes.feeds s.few (search rules) o;
-  calm = calm_stirs c.owe_repl.new.p (o.stirs ∙ search rules);
-  each = λ d h. let x = s.serves d h in one_served _ d x.0 _ _ c.args.p.now c.owe_repl.new.p c.serve.new.self s.request c.in_ok-served.served (search rules) (search rules) s.takes x.2 o x.1;
-  ready = still_ready g.B.S.Space g.B.Storage.own g.B.Storage.layout g.B.Storage.holds false c.in_ok-served.served _ _ _ _ _ _ _ _ _ _ _ c.requires.ready s c.in_ok-served.ensures.leaves;
-  leaves = c.in_ok-served.ensures.leaves;
-}
+returns-clause-served g c = λ l is.
+    let p = c.args.p.now in
+    let both : (is_client p.role && has_whole p) ≡ true = search rules in
+    one_ready g.B.S.Space g.B.Storage.own g.B.Storage.layout g.B.Storage.holds l c.args.terms is _ _ c.args.base.now c.serve.new.base c.args.space.now c.serve.new.space c.args.walk.now c.serve.new.walk p c.owe_repl.new.p c.serve.new.self c.in_ok-served.served (search rules) (and_parts (is_client p.role) (has_whole p) both).0 (search rules) (search rules)
+    c.in_ok-served.ensures.served (λ x feeds. c.in_ok-owe_repl.ensures.owes l x is feeds) (record { commits = c.in_ok-add.ensures.commits; updates = c.in_ok-add.ensures.updates; labels = c.in_ok-add.ensures.labels }) (record { taken_is = ap listed c.add.ensures.taken; gap_is = ap gaps_of c.add.ensures.gap }) c.requires.ready c.in_ok-served.ensures.leaves
 
 pub returns-in_err-served-clause-full : goal.returns-in_err-served-clause-full
-returns-in_err-served-clause-full g c = λ is d h k held.
-    let x = c.in_err-served.ensures.full (search (rules, is)) in record {
-      request = x.request;
-      ready = ready_held c.args.p.now k (search rules) (search rules) held;
-      begins = subst (λ (bytes : List ℕ). Begins x.request bytes) (sym held.unread) x.begins;
-      writes = x.full.writes;
-      packs = λ packs a e. g.met.B.Storage.fills_then c.args.base.now c.args.space.now c.serve.new.space a e (x.full.packs packs h.0 a e);
-      full = subst (λ (e : Contents). g.B.Storage.fills_since c.args.space.now c.serve.new.space d e) (sym (one_contents d c.args.walk.now c.args.p.now k x.request x.begins.rest (search rules) (search rules) x.begins.front held)) (g.met.B.Storage.fills_then c.args.base.now c.args.space.now c.serve.new.space d _ (x.full.by d h));
-    }
+returns-in_err-served-clause-full g c = λ full l is.
+    let p = c.args.p.now in
+    let both : (is_client p.role && has_whole p) ≡ true = search rules in
+    one_full g.B.S.Space g.B.Storage.own g.B.Storage.layout g.B.Storage.holds l c.args.terms is _ _ (λ d e x. x) c.args.base.now c.args.space.now c.args.walk.now p (search rules) (and_parts (is_client p.role) (has_whole p) both).0 (search rules) (c.in_err-served.ensures.full (search (rules, full)))

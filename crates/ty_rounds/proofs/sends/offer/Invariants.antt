@@ -1,5 +1,6 @@
-use Rattle.std.proofs.Common.{◌≡◌, ◌≤◌, [], ◌∷◌, true, length}
-use Rattle.ty_rounds.specs.Ready.{StayFew}
+use Rattle.std.proofs.Common.{◌≡◌, ◌≤◌, true, ◌∷◌, [], length}
+use Rattle.ty_rounds.specs.Sending.{AnyBook}
+use Rattle.ty_rounds.specs.Ready.{FewWaiting, StayFew}
 use Rattle.ty_rounds.proofs.SendLaws.{DeliversSo}
 use Rattle.ty_rounds.proofs.sends.offer.Given as goal
 
@@ -9,8 +10,11 @@ invariant-loop-wire g l = let wire = g.W.Wire in record {
   conns : wire.conns l.wire ≡ wire.conns l.fn.wire;
   given : wire.given l.wire ≡ wire.given l.fn.wire;
   conn : l.p.conn ≡ l.fn.p.conn;
-  told : DeliversSo g.W.Wire l.fn.wire l.wire l.fn.p l.p;
-  few : StayFew (l.fn.p ∷ []) (l.p ∷ []);
+  role : l.p.role ≡ l.fn.p.role;
+  told : DeliversSo AnyBook g.W.Wire l.fn.wire l.wire l.fn.p l.p;
+  shorter : length l.p.session.waiting ≤ length l.fn.p.session.waiting;
+  few : FewWaiting l.p;
+  stay : StayFew (l.fn.p ∷ []) (l.p ∷ []);
   faults : wire.faults l.fn.wire ≤ wire.faults l.wire;
 }
 

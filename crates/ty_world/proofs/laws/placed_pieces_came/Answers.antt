@@ -1,0 +1,5 @@
+use Rattle.ty_world.proofs.Spelled.{all_spelled}
+use Rattle.ty_world.proofs.laws.placed_pieces_came.Goals as goal
+
+pub returns : goal.returns
+returns c = all_spelled
