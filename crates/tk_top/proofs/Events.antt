@@ -1,14 +1,16 @@
 -- The events of a run, turn by turn.
-use Rattle.std.proofs.Common.{◌≡◌, ◌≢◌, ◌<◌, ◌≤◌, ◌+◌, ⊎_elim, ℕ, List, [], ◌∷◌, ◌++◌, length, refl, sym, ap, subst, ◌∙◌, arith, length-append}
+use Rattle.std.proofs.Common.{◌≡◌, ◌≢◌, ◌<◌, ◌≤◌, ◌+◌, ⊎_elim, ℕ, Bool, true, false, List, [], ◌∷◌, ◌++◌, length, refl, sym, ap, subst, ◌∙◌, arith, length-append}
 use Rattle.std.specs.Prelude.{Result, Ok, Err}
 use Rattle.tc_io.specs.declared.wire.Ev.{Ev}
 use Rattle.tc_io.specs.declared.wire.Ev.TheVariants as event
 use Rattle.tc_io.specs.declared.wire.Entry.{Entry}
 use Rattle.tc_io.specs.declared.wire.Entry.TheVariants.{Open, Dial, Event, Send, Close}
 use Rattle.ty_world.specs.World.{AllOf, AreFinishing, ClosesOne, SendsTo}
-use Rattle.ty_rounds.specs.Turns.{IsLone, IsTurn, IsWhole}
+use Rattle.ty_world.specs.Logs.{Settings}
+use Rattle.ty_rounds.specs.Turns as turns
+use Rattle.ty_rounds.specs.Turns.{Call, IsAnyWhole, IsLone, IsTurn, IsWhole, entries_of, or_later}
 use Rattle.ty_rounds.specs.declared.outcome.Outcome.{Outcome}
-use Rattle.ty_rounds.specs.declared.outcome.Outcome.TheVariants.{Went, Shut}
+use Rattle.ty_rounds.specs.declared.outcome.Outcome.TheVariants.{Went, Gap, Shut}
 use Rattle.ty_rounds.specs.declared.outcome.TurnErr.{TurnErr}
 use Rattle.ty_rounds.specs.declared.outcome.TurnErr.TheVariants as turn
 use Rattle.tk_top.specs.declared.ends.End.{End}
@@ -59,13 +61,32 @@ no_event es is = let n = ap (λ (l : List Entry). length (events_of l)) is in om
 lone_event : (es : List Entry) → IsLone es → length (events_of es) ≤ 1
 lone_event es l = one_event l.ev es (ap (λ (l : List Entry). events_of l) l.is)
 
-pub turn_events : (conns : List ℕ) (res : Result Outcome TurnErr) (es : List Entry) → IsTurn conns res es → length (events_of es) ≤ 1
-turn_events conns (Ok Went) es is = one_event is.0 es (whole_one conns is.0 es is.1)
-turn_events conns (Ok Shut) es is = one_event event.Shut es (whole_one conns event.Shut es is)
-turn_events conns (Err turn.Wire) es is = ⊎_elim (no_event es) (λ w. one_event w.0 es (whole_one conns w.0 es w.1)) is
-turn_events conns (Err turn.Memory) es is = ⊎_elim (no_event es) (lone_event es) is
-turn_events conns (Err turn.Volume) es is = lone_event es is
-turn_events conns (Err turn.Full) es is = lone_event es is
+whole_event : (conns : List ℕ) (es : List Entry) → IsAnyWhole conns es → length (events_of es) ≤ 1
+whole_event conns es w = one_event w.0 es (whole_one conns w.0 es w.1)
+
+later_event : (logs : Bool) (conns : List ℕ) (es : List Entry) → or_later logs (IsLone es) (IsAnyWhole conns es) → length (events_of es) ≤ 1
+later_event false conns es l = lone_event es l
+later_event true conns es l = ⊎_elim (lone_event es) (whole_event conns es) l
+
+ends_events : (logs : Bool) (conns : List ℕ) (res : Result Outcome TurnErr) (es : List Entry) → turns.EndsTurn logs conns res es → length (events_of es) ≤ 1
+ends_events logs conns (Ok Went) es is = one_event is.0 es (whole_one conns is.0 es is.1)
+ends_events logs conns (Ok (Gap held follows)) es is = one_event is.0 es (whole_one conns is.0 es is.1)
+ends_events logs conns (Ok Shut) es is = one_event event.Shut es (whole_one conns event.Shut es is)
+ends_events logs conns (Err turn.Wire) es is = ⊎_elim (no_event es) (whole_event conns es) is
+ends_events logs conns (Err turn.Memory) es is = ⊎_elim (no_event es) (later_event logs conns es) is
+ends_events logs conns (Err turn.Volume) es is = later_event logs conns es is
+ends_events logs conns (Err turn.Full) es is = lone_event es is
+
+no_dialled : (calls : List Call) → events_of (entries_of calls) ≡ []
+no_dialled [] = refl
+no_dialled (d ∷ ds) = no_dialled ds
+
+-- those behind its dials
+behind_events : (is : Settings) (conns : List ℕ) (res : Result Outcome TurnErr) (es : List Entry) (t : IsTurn is conns res es) → events_of es ≡ events_of t.behind
+behind_events is conns res es t = ap (λ (l : List Entry). events_of l) t.parts ∙ events_then (entries_of t.calls) t.behind ∙ ap (λ (evs : List Ev). evs ++ events_of t.behind) (no_dialled t.calls)
+
+pub turn_events : (is : Settings) (conns : List ℕ) (res : Result Outcome TurnErr) (es : List Entry) → IsTurn is conns res es → length (events_of es) ≤ 1
+turn_events is conns res es t = subst (λ (evs : List Ev). length evs ≤ 1) (sym (behind_events is conns res es t)) (ends_events is.logs _ res t.behind t.ends)
 
 -- ---- those of a run
 
@@ -76,25 +97,40 @@ none_shut : (evs : List Ev) (ev : Ev) → NoneShut evs → (ev ≡ event.Shut �
 none_shut [] ev going other = (other, tt)
 none_shut (e ∷ evs) ev going other = (going.0, none_shut evs ev going.1 other)
 
-pub went_more : (conns : List ℕ) (n : ℕ) (es fs : List Entry) → WentOn n (events_of es) → IsTurn conns (Ok Went) fs → WentOn (n + 1) (events_of (es ++ fs))
-went_more conns n es fs went is =
-    let more : events_of (es ++ fs) ≡ events_of es ++ is.0 ∷ [] = events_then es fs ∙ ap (λ (evs : List Ev). events_of es ++ evs) (whole_one conns is.0 fs is.1) in
+-- the event of a turn that went on
+record Went_on (es : List Entry) : Type 0 where
+  ev : Ev
+  is : events_of es ≡ ev ∷ []
+  other : ev ≡ event.Shut → ⊥
+
+turn_went : (is : Settings) (conns : List ℕ) (o : Outcome) (es : List Entry) → (o ≡ Shut → ⊥) → IsTurn is conns (Ok o) es → Went_on es
+turn_went is conns Went es other t = record { ev = t.ends.0; is = behind_events is conns (Ok Went) es t ∙ whole_one _ t.ends.0 t.behind t.ends.1; other = t.ends.2 }
+turn_went is conns (Gap held follows) es other t = record { ev = t.ends.0; is = behind_events is conns (Ok (Gap held follows)) es t ∙ whole_one _ t.ends.0 t.behind t.ends.1; other = t.ends.2 }
+turn_went is conns Shut es other t = absurd (other refl)
+
+pub went_more : (is : Settings) (conns : List ℕ) (o : Outcome) (n : ℕ) (es fs : List Entry) → (o ≡ Shut → ⊥) → WentOn n (events_of es) → IsTurn is conns (Ok o) fs → WentOn (n + 1) (events_of (es ++ fs))
+went_more is conns o n es fs other went t =
+    let one = turn_went is conns o fs other t in
+    let more : events_of (es ++ fs) ≡ events_of es ++ one.ev ∷ [] = events_then es fs ∙ ap (λ (evs : List Ev). events_of es ++ evs) one.is in
     subst (λ (evs : List Ev). WentOn (n + 1) evs) (sym more) (record {
-      count = (let l = length-append (events_of es) (is.0 ∷ []) in let m = went.count in omega (arith, l, m));
-      going = none_shut (events_of es) is.0 went.going is.2;
+      count = (let l = length-append (events_of es) (one.ev ∷ []) in let m = went.count in omega (arith, l, m));
+      going = none_shut (events_of es) one.ev went.going one.other;
     })
 
 -- the last turn ended so
-pub had_last : (end : End) (turns n : ℕ) (conns : List ℕ) (es fs : List Entry) → n < turns → WentOn n (events_of es) → length (events_of fs) ≤ 1 → EndsTurn end conns fs → end ≢ TurnsSpent → HadEvents end turns (events_of (es ++ fs))
-had_last end turns n conns es fs few went last ends other = record {
+pub had_last : (is : Settings) (end : End) (turns n : ℕ) (conns : List ℕ) (es fs : List Entry) → n < turns → WentOn n (events_of es) → length (events_of fs) ≤ 1 → EndsTurn is end conns fs → end ≢ TurnsSpent → HadEvents end turns (events_of (es ++ fs))
+had_last is end turns n conns es fs few went last ends other = record {
   within = (let e = ap length (events_then es fs) in let l = length-append (events_of es) (events_of fs) in let m = went.count in omega (arith, e, l, m, few, last));
-  done = λ is. record {
+  done = λ done. record {
     before = events_of es;
-    is = events_then es fs ∙ ap (λ (evs : List Ev). events_of es ++ evs) (whole_one conns event.Shut fs (subst (λ (e : End). EndsTurn e conns fs) is ends));
+    is = events_then es fs ∙ ap (λ (evs : List Ev). events_of es ++ evs) (shut_event is conns fs (subst (λ (e : End). EndsTurn is e conns fs) done ends));
     going = went.going;
   };
-  spent = λ is. absurd (other is);
+  spent = λ e. absurd (other e);
 }
+  where
+    shut_event : (is : Settings) (conns : List ℕ) (es : List Entry) → IsTurn is conns (Ok Shut) es → events_of es ≡ event.Shut ∷ []
+    shut_event is conns es t = behind_events is conns (Ok Shut) es t ∙ whole_one _ event.Shut t.behind t.ends
 
 -- all turns were made
 pub had_all : (turns n : ℕ) (evs : List Ev) → n ≡ turns → WentOn n evs → HadEvents TurnsSpent turns evs

@@ -2,7 +2,7 @@
 use Rattle.std.proofs.Common.{◌≡◌, ◌≤◌, ◌∙◌, ⊎_elim, ℕ, false, arith}
 use Rattle.std.specs.Prelude.{Option, Some}
 use Rattle.tc_base.specs.Files.{Files}
-use Rattle.tc_space.specs.Frames.{Keeps}
+use Rattle.tc_space.specs.Moments.{Steady}
 use Rattle.tc_space.specs.declared.space.Space as space
 
 -- a stop leaves the kept files, and those are the files now
@@ -18,8 +18,7 @@ abbrev pub Earlier : {S : Type 0} → space.Ghosts S → S → Type 0
 Earlier s a = (t u : ℕ) (o : Option Files) → t ≤ u → s.left a u o → s.left a t o
 
 -- where it was only read since, or nothing was committed, a stop leaves the files then
-pub still_left : {S : Type 0} (s : space.Ghosts S) (a b : S) (o : Option Files) → Fresh s a → Earlier s b → s.tells → Keeps s a b → s.left b (s.moment b) o → o ≡ Some (s.now a)
-still_left s a b o fresh earlier t keeps l =
-    let st = keeps.steady t in
+pub still_left : {S : Type 0} (s : space.Ghosts S) (a b : S) (o : Option Files) → Fresh s a → Earlier s b → s.tells → Steady s.moment s.files_at s.left s.kept a b → s.left b (s.moment b) o → o ≡ Some (s.now a)
+still_left s a b o fresh earlier t st l =
     let f = fresh t in
     ⊎_elim (λ was. f.0 o was) (λ is. is) (st.leaves.each (s.moment a) o (omega arith) (earlier (s.moment a) (s.moment b) o st.leaves.later l)) ∙ f.1

@@ -1,34 +1,44 @@
 -- A database in the files of a space: what its opening leaves, and the run behind it.
-use Rattle.std.proofs.Common.{◌≡◌, ◌⊎◌, ◌≢◌, inl, inr, ⊎_elim, ℕ, Bool, true, false, cond, List, [], ◌∷◌, refl, sym, ap, subst, ◌∙◌, arith}
-use Rattle.std.specs.Prelude.{Option, Some}
+use Rattle.std.proofs.Common.{◌≡◌, ◌⊎◌, ◌≢◌, inl, inr, ⊎_elim, ℕ, Bool, true, false, cond, List, [], ◌∷◌, ◌++◌, length, refl, sym, ap, subst, ◌∙◌, arith}
+use Rattle.std.specs.Prelude.{Option, Some, None}
 use Rattle.tc_base.specs.Files.{Files}
 use Rattle.tc_base.specs.declared.kind.Rule.{Rule}
+use Rattle.tc_io.specs.Copies.{Named}
 use Rattle.tc_io.specs.declared.wire.Wire as wire
 use Rattle.tc_io.specs.declared.wire.At.{At}
+use Rattle.tc_io.specs.declared.wire.Ev.{Ev}
 use Rattle.tc_io.specs.declared.wire.Entry.{Entry}
 use Rattle.tc_io.specs.declared.wire.Entry.TheVariants.{Open, Dial, Event, Send, Close}
 use Rattle.tc_space.specs.Moments.{LeavesOnly, Steady}
 use Rattle.tc_space.specs.declared.space.Space as space
 use Rattle.tc_model.specs.Contents.{Contents}
-use Rattle.ty_world.specs.World.{World, Mark, started, happens, world_after, round_of}
+use Rattle.ty_ulog.specs.declared.record.Record.{Record}
+use Rattle.ty_world.specs.Logs.{Settings, news, plain}
+use Rattle.ty_world.specs.Rounds.{marks_in}
+use Rattle.ty_world.specs.World.{World, Mark, added, happens, heard_by, copied_at, mark_behind, rounded, world_after}
 use Rattle.ty_base.specs.declared.errors.AnyErr.{AnyErr}
 use Rattle.ty_base.specs.declared.errors.AnyErr.TheVariants as any
 use Rattle.ty_base.specs.Holding.{Stays}
 use Rattle.ty_base.specs.Opening.{Breaks, IsOpened}
 use Rattle.ty_rounds.specs.Kept.{HoldsMark, StandFor, Reopens, MovesTo, LeavesMarks, IsIn}
-use Rattle.ty_rounds.specs.Serving.{at_less}
+use Rattle.ty_rounds.specs.Logging.{LacksRoom}
+use Rattle.ty_rounds.specs.Serving.{FillsIn, FillsPart}
 use Rattle.ty_rounds.specs.Turns.{Told}
 use Rattle.ty_rounds.proofs.Telling.{Adds-none}
 use Rattle.tk_top.specs.declared.ends.End.{End}
 use Rattle.tk_top.specs.declared.ends.End.TheVariants.{Done, Words, Refused, VolumeFault, Broken, NoMemory, Full, WireFault, TurnsSpent}
+use Rattle.tk_top.specs.CopyRuns.{CopyRun, StandsAt}
 use Rattle.tk_top.specs.Ends.{end_of}
 use Rattle.tk_top.specs.Over.{Judged}
 use Rattle.tk_top.specs.Runs.{FullRun}
 use Rattle.tk_top.specs.Serving.{Begins, RunsOver}
+use Rattle.tk_top.specs.Starts.{Start, answering, begun}
 use Rattle.tk_top.specs.Staying.{IsStill}
+use Rattle.tk_top.proofs.CopyLaws.{copies_none, copies_stay}
 use Rattle.tk_top.proofs.Events.{had_none}
 use Rattle.tk_top.proofs.Fresh.{Earlier, Fresh}
 use Rattle.tk_top.proofs.Over.{not_played, unserved}
+use Rattle.tk_top.proofs.Running.{fills_wider}
 
 some_files : (a b : Files) → Some a ≡ Some b → a ≡ b
 some_files a b e = cc
@@ -42,7 +52,7 @@ kept_in false c d ms h = h
 happens_keeps : (e : Entry) (w : World) (c : Mark) → IsIn c w.marks → IsIn c (happens w e).marks
 happens_keeps (Open at) w c h = h
 happens_keeps (Dial host port answer) w c h = h
-happens_keeps (Event paused busy ev bytes) w c h = kept_in (round_of w ev bytes).updated c (record { contents = (round_of w ev bytes).contents; log = w.log }) w.marks h
+happens_keeps (Event paused busy ev bytes) w c h = let d = rounded w ev bytes in kept_in (marks_in d) c (mark_behind w d) w.marks h
 happens_keeps (Send k bytes answer) w c h = h
 happens_keeps (Close k) w c h = h
 
@@ -50,8 +60,17 @@ all_keep : (es : List Entry) (w : World) (c : Mark) → IsIn c w.marks → IsIn 
 all_keep [] w c h = h
 all_keep (e ∷ es) w c h = all_keep es (happens w e) c (happens_keeps e w c h)
 
-pub first_in : (es : List Entry) (first : Mark) → IsIn first (world_after es (started [] first)).marks
-first_in es first = all_keep es (started [] first) first (inl refl)
+pub first_in : (st : Start) (es : List Entry) (first : Mark) → IsIn first (world_after es (begun st [] first)).marks
+first_in st es first = all_keep es (begun st [] first) first (inl refl)
+
+-- what the words say stays
+is_stays : (es : List Entry) (w : World) → (world_after es w).is ≡ w.is
+is_stays [] w = refl
+is_stays (Open at ∷ es) w = is_stays es (happens w (Open at))
+is_stays (Dial host port answer ∷ es) w = is_stays es (happens w (Dial host port answer))
+is_stays (Event paused busy ev bytes ∷ es) w = is_stays es (happens w (Event paused busy ev bytes))
+is_stays (Send k bytes answer ∷ es) w = is_stays es (happens w (Send k bytes answer))
+is_stays (Close k ∷ es) w = is_stays es (happens w (Close k))
 
 -- ---- opening
 
@@ -128,31 +147,37 @@ still_opened made old new same anew = which (old 0) refl
 pub still_same : (made : Files → Type 0) (old new : Files) → IsStill made old (Some new) → (old 0 ≡ [] → ⊥) → new ≡ old
 still_same made old new still some = some_files new old (⊎_elim (λ is. is) (λ made. absurd (some made.0)) still.which)
 
-still_then : (made : Files → Type 0) (old mid : Files) (o : Option Files) → IsStill made old (Some mid) → IsStill (λ files. ⊥) mid o → IsStill made old o
+pub still_then : (made : Files → Type 0) (old mid : Files) (o : Option Files) → IsStill made old (Some mid) → IsStill (λ files. ⊥) mid o → IsStill made old o
 still_then made old mid o opened run = subst (λ (p : Option Files). IsStill made old p) (sym (⊎_elim (λ is. is) (λ none. absurd none.3) run.which)) opened
 
 module _ {S W : Type 0} (s : space.Ghosts S) (g : wire.Ghosts W) (reopens opens : Files → Contents → Type 0) (made : Files → Type 0) (stand : (files : Files) (c : Contents) → opens files c → reopens files c) where
   -- it was refused
-  pub over_refused : (e : AnyErr) (turns : ℕ) (at : At) (s0 s1 : S) (x : W) → Fresh s s0 → Earlier s s1 → ((m : Mark) → Begins s opens s0 m → MovesTo s reopens s0 s1 m) → RunsOver s g reopens made (end_of e) turns at s0 s1 x x (Begins s opens s0)
-  over_refused e turns at s0 s1 x fresh earlier moves = record {
+  unfoldable pub over_refused : (st : Start) (e : AnyErr) (turns : ℕ) (at : At) (s0 s1 : S) (x : W) → Fresh s s0 → Earlier s s1 → s.names s1 ≡ s.names s0 → ((m : Mark) → Begins s opens s0 m → MovesTo s reopens s0 s1 m) → RunsOver s g st reopens made (end_of e) turns at s0 s1 x x (Begins s opens s0)
+  unfolding unserved
+  over_refused st e turns at s0 s1 x fresh earlier names moves = record {
     entries = [];
     told = Adds-none (g.transcript x);
     opened = inl refl;
     events = had_none (end_of e) turns (ended_not e).0 (ended_not e).1;
     ends = λ first h. record {
       asked = tt;
-      serves = unserved (end_of e) turns at [] first [] refl (inr refl) (ended_not e).0 (ended_not e).1;
+      serves = unserved st (end_of e) turns at [] first [] refl (inr refl) (ended_not e).0 (ended_not e).1;
       exit = λ o l. inl (still_first s reopens opens stand s0 s1 first fresh earlier h (moves first h) o l);
       moments = opening_marks s reopens opens stand s0 s1 first (first ∷ []) (inl refl) (kept_stands s reopens opens stand s0 first fresh h) (moves first h);
+      late = λ some. absurd cc;
+      copies = λ label tells. subst (λ (n : Named). CopyRun reopens label (StandsAt (end_of e) (begun st [] first) [] label) (first ∷ []) None ((s.names s0).copies label) (n.copies label)) (sym names)
+          (copies_stay reopens label (StandsAt (end_of e) (begun st [] first) [] label) (begun st [] first) ((s.names s0).copies label) ((s.names s0).copies label) (copies_none reopens label (begun st [] first) ((s.names s0).copies label) refl));
       idle = λ some. absurd (some refl);
     };
     played = λ ended. absurd (⊎_elim (ended_not e).0 (ended_not e).1 ended);
-    plays = λ first h acts given p. not_played turns (g.plays x) (end_of e) acts given (ended_not e).0 (ended_not e).1;
+    unserved = λ none. names;
+    plays = λ first h acts dials given p. not_played st.is turns (g.plays x) (end_of e) acts given (begun st [] first) (ended_not e).0 (ended_not e).1;
   }
 
   -- it wasn't
-  pub over_opened : (begun : Mark → Type 0) (end : End) (turns : ℕ) (at : At) (s0 s1 s2 : S) (x y : W) → Fresh s s0 → ((m : Mark) → Begins s opens s0 m → MovesTo s reopens s0 s1 m) → ((m : Mark) → Begins s opens s0 m → begun m) → (s.tells → IsStill made (s.now s0) (Some (s.now s1))) → RunsOver s g reopens (λ files. ⊥) end turns at s1 s2 x y begun → RunsOver s g reopens made end turns at s0 s2 x y (Begins s opens s0)
-  over_opened begun end turns at s0 s1 s2 x y fresh moves begins still run = record {
+  unfoldable pub over_opened : (st : Start) (start : Mark → Type 0) (end : End) (turns : ℕ) (at : At) (s0 s1 s2 : S) (x y : W) → Fresh s s0 → s.names s1 ≡ s.names s0 → ((m : Mark) → Begins s opens s0 m → MovesTo s reopens s0 s1 m) → ((m : Mark) → Begins s opens s0 m → start m) → (s.tells → IsStill made (s.now s0) (Some (s.now s1)))
+      → RunsOver s g st reopens (λ files. ⊥) end turns at s1 s2 x y start → RunsOver s g st reopens made end turns at s0 s2 x y (Begins s opens s0)
+  over_opened st start end turns at s0 s1 s2 x y fresh names moves begins still run = record {
     entries = run.entries;
     told = run.told;
     opened = run.opened;
@@ -160,19 +185,76 @@ module _ {S W : Type 0} (s : space.Ghosts S) (g : wire.Ghosts W) (reopens opens 
     ends = λ first h.
         let k = kept_stands s reopens opens stand s0 first fresh h in
         let r = run.ends first (begins first h) in
+        let v = world_after run.entries (begun st [] first) in
         record {
           asked = r.asked;
           serves = r.serves;
           exit = r.exit;
-          moments = marks_then s reopens opens stand s0 s1 s2 _ (opening_marks s reopens opens stand s0 s1 first _ (first_in run.entries first) k (moves first h)) r.moments;
+          moments = marks_then s reopens opens stand s0 s1 s2 _ (opening_marks s reopens opens stand s0 s1 first _ (first_in st run.entries first) k (moves first h)) r.moments;
+          late = r.late;
+          copies = λ label tells. subst (λ (n : Named). CopyRun reopens label (StandsAt end (world_after r.serves.last.earlier (begun st [] first)) r.serves.last.last label) v.marks (copied_at label v.copies) (n.copies label) ((s.names s2).copies label)) names (r.copies label tells);
           idle = λ some kept o l. still_then made (s.now s0) (s.now s1) o (still h.0) (r.idle some kept o l);
         };
     played = run.played;
-    plays = λ first h acts given p. run.plays first (begins first h) acts given p;
+    unserved = λ none. run.unserved none ∙ names;
+    plays = λ first h acts dials given p. run.plays first (begins first h) acts dials given p;
   }
 
-pub full_opened : (fills wide : Contents → Contents → Type 0) (start begun : Mark → Type 0) (a b : Told) → ((m : Mark) → start m → begun m) → ((m : Mark) → start m → (d e : Contents) → fills d e → wide d e) → FullRun fills begun [] a b → FullRun wide start [] a b
-full_opened fills wide start begun a b begins wider x = record { earlier = x.earlier; paused = x.paused; busy = x.busy; ev = x.ev; bytes = x.bytes; told = x.told; some = λ first h. at_less fills wide (wider first h) _ _ _ (x.some first (begins first h)) }
+pub full_opened : (fills wide : Contents → Contents → Type 0) (lacks : ℕ → ℕ → Type 0) (is : Settings) (start begun' : Mark → Type 0) (a b : Told) (c d : Option (List ℕ)) → ((m : Mark) → start m → begun' m) → ((m : Mark) → start m → (i j : Contents) → fills i j → wide i j) → FullRun fills lacks is begun' [] a b c d → FullRun wide lacks is start [] a b c d
+full_opened fills wide lacks is start begun' a b c d begins wider x = record {
+  earlier = x.earlier;
+  paused = x.paused;
+  busy = x.busy;
+  ev = x.ev;
+  bytes = x.bytes;
+  told = x.told;
+  ticks = x.ticks;
+  clocked = x.clocked;
+  some = λ first h later. fills_wider fills wide lacks (world_after x.earlier (begun (answering is x.ticks later) [] first)) x.ev x.bytes (wider first h) (x.some first (begins first h) later);
+}
+
+-- where the update log has no room in one sense, it has none in another
+pub full_lacks : (fills : Contents → Contents → Type 0) (lacks wide : ℕ → ℕ → Type 0) (is : Settings) (start : Mark → Type 0) (opens : List At) (a b : Told) (c d : Option (List ℕ)) → ((at size : ℕ) → lacks at size → wide at size) → FullRun fills lacks is start opens a b c d → FullRun fills wide is start opens a b c d
+full_lacks fills lacks wide is start opens a b c d wider x = record {
+  earlier = x.earlier;
+  paused = x.paused;
+  busy = x.busy;
+  ev = x.ev;
+  bytes = x.bytes;
+  told = x.told;
+  ticks = x.ticks;
+  clocked = x.clocked;
+  some = λ first h later. ⊎_elim
+      (λ part. inl part)
+      (λ lack. inr (record { front = lack.front; next = lack.next; behind = lack.behind; parts = lack.parts; full = ⊎_elim (λ late. inl late) (λ l. inr (wider _ _ l)) lack.full }))
+      (x.some first h later);
+}
+
+-- with no update log nothing is added to one
+no_news : (rs : List Record) (n : Record) (behind : List Record) → [] ≡ rs ++ n ∷ behind → ⊥
+no_news [] n behind e = cc
+no_news (r ∷ rs) n behind e = cc
+
+pub part_alone : (fills : Contents → Contents → Type 0) (lacks : ℕ → ℕ → Type 0) (es : List Entry) (w0 : World) (ev : Ev) (bytes : List ℕ) → w0.is ≡ plain → FillsIn fills lacks (world_after es w0) ev bytes
+    → let w = world_after es w0 in FillsPart w.is w.records fills w.contents w.walk (heard_by w ev bytes)
+part_alone fills lacks es w0 ev bytes alone x =
+    let w = world_after es w0 in
+    let d = rounded w ev bytes in
+    let none : added w d ≡ [] = ap (λ (is : Settings). news is w.records w.ticks d.round.made.updates d.looked.dealt_is.taken) (is_stays es w0 ∙ alone) in
+    ⊎_elim (λ part. part) (λ (lack : LacksRoom lacks (length w.log) (added w d)). absurd (no_news lack.front lack.next lack.behind (sym none ∙ lack.parts))) x
+
+pub full_plain : (fills : Contents → Contents → Type 0) (lacks : ℕ → ℕ → Type 0) (start begun' : Mark → Type 0) (opens : List At) (a b : Told) (c d : Option (List ℕ)) → ((m : Mark) → start m → begun' m) → FullRun fills lacks plain begun' opens a b c d → FullRun fills (λ at size. ⊥) plain start opens a b None None
+full_plain fills lacks start begun' opens a b c d begins x = record {
+  earlier = x.earlier;
+  paused = x.paused;
+  busy = x.busy;
+  ev = x.ev;
+  bytes = x.bytes;
+  told = x.told;
+  ticks = x.ticks;
+  clocked = refl;
+  some = λ first h later. inl (part_alone fills lacks x.earlier (begun (answering plain x.ticks later) opens first) x.ev x.bytes refl (x.some first (begins first h) later));
+}
 
 -- ---- ends
 

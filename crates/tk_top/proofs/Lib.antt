@@ -1,10 +1,12 @@
 pub mod Asking
 pub mod Causes
+pub mod CopyLaws
 pub mod Events
 pub mod Fresh
 pub mod Kept
 pub mod Laying
 pub mod Limits
+pub mod LoggedRuns
 pub mod Made
 pub mod Managed
 pub mod Memory

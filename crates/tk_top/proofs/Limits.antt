@@ -1,5 +1,6 @@
 -- A limit that was reached, by the kind of the files.
-use Rattle.std.proofs.Common.{◌≡◌, ◌^◌, ◌⊎◌, inl, inr, ⊎_elim, ℕ, List, length, refl, subst}
+use Rattle.std.proofs.Common.{◌≡◌, ◌^◌, ◌⊎◌, inl, inr, ⊎_elim, ℕ, List, [], length, refl, subst}
+use Rattle.std.specs.Prelude.{Option, None}
 use Rattle.tc_base.specs.Files.{Files}
 use Rattle.tc_base.specs.Maps.{Map}
 use Rattle.tc_io.specs.Images.{now}
@@ -11,20 +12,24 @@ use Rattle.tc_hash.specs.Creating.{HasNoRoom}
 use Rattle.tc_hashdb.specs.Filling.{LacksLargeAt as LacksAt, LacksOne, WantsAny}
 use Rattle.tc_treedb.specs.Filling.{fills_moved}
 use Rattle.tc_treedb.specs.Shapes.{new_moved}
+use Rattle.ty_ulog.specs.Noting.{Lacks}
+use Rattle.ty_world.specs.Logs.{Settings, plain}
 use Rattle.ty_rounds.specs.Turns.{Told}
 use Rattle.tk_mgr.specs.Managing.{FillsTask, task_less}
 use Rattle.tk_mgr.specs.declared.task.Task.{Task}
 use Rattle.tk_top.specs.Making.{FilesLack}
-use Rattle.tk_top.specs.Over.{BeginsAt, FilesFull, FullFiles, MainIsBare}
+use Rattle.tk_top.specs.Logging.{opens_logged}
+use Rattle.tk_top.specs.Over.{BeginsAt, CanStand, FilesFull, FullFiles, FullPlain, MainIsBare}
+use Rattle.tk_top.specs.Runs.{FullRun}
 use Rattle.tk_top.specs.Stored.{fills_of, lacks_large_of, lacks_of, usual_of}
 use Rattle.tk_top.specs.Tasks.{FilesFullTask, FullTask}
-use Rattle.tk_top.specs.Top.{FillsAt, FillsTaskAt, IsFull, IsFullTask, IsLacking, LacksLargeAt, LacksUsual, LogIsFull, Opens, files_in}
+use Rattle.tk_top.specs.Top.{FillsAt, FillsTaskAt, IsFull, IsFullTask, IsLacking, LacksLargeAt, LacksLog, LacksUsual, LogIsFull, Opens, files_in}
 use Rattle.tk_top.specs.Volumes.{ShowsNow}
 use Rattle.tk_top.specs.declared.words.Shape.{Shape}
 use Rattle.tk_top.specs.declared.words.Shape.TheVariants as shapes
 use Rattle.tk_top.specs.declared.words.Stored.{Stored}
 use Rattle.tk_top.specs.declared.words.Stored.TheVariants.{Fixed, Hash, Tree}
-use Rattle.tk_top.proofs.Kept.{full_opened}
+use Rattle.tk_top.proofs.Kept.{full_lacks, full_opened}
 
 -- files that were brought to where they are kept are those there, and so it is of the undo log
 fills_shown : (stored : Stored) (limits : ℕ → ℕ) (log full brought : Type 0) (files shown : Files) → (log → full) → (brought → files 0 ≡ shown 0) → (c d : Contents) → fills_of stored limits log brought files c d → fills_of stored limits full (Unit {0}) shown c d
@@ -86,18 +91,39 @@ module _ {S V : Type 0} (v : volume.Ghosts V) (s : space.Ghosts S) (under : S �
   lacks_under : (shape : Shape) (x : S) → (s.brought x → ShowsNow (v.calls (under x)) (s.now x)) → LacksTold s shape x → lacks_of shape (s.limit x 0) (LogIsFull v (under x)) (Unit {0}) (files_in v (under x) 0)
   lacks_under shape x shows lacks = lacks_shown shape (s.limit x 0) (s.log_full x) (LogIsFull v (under x)) (s.brought x) (s.now x 0) (files_in v (under x) 0) (log_is x) (λ all. (shows all).same 0) lacks
 
+  fills_under : (stored : Stored) (x : S) → (s.brought x → ShowsNow (v.calls (under x)) (s.now x)) → (c d : Contents) → FillsTold s stored x c d → FillsAt v stored (s.limit x) (under x) c d
+  fills_under stored x shows c d fills = fills_shown stored (s.limit x) (s.log_full x) (LogIsFull v (under x)) (s.brought x) (s.now x) (files_in v (under x)) (log_is x) (λ all. (shows all).same 0) c d fills
+
   module _ (stored : Stored) {vol w : V} where
-    pub is_full : (a b : Told) {most : ℕ} → FilesFull s under v.calls v.tells (λ x. LacksTold s (usual_of stored) x) (λ z x. FillsTold s stored x) (Opens stored) most (v.calls vol) w a b → IsFull v stored most vol w a b
-    is_full a b {most} x =
+    -- of what was full behind the opening: so it is of the volume
+    is_full_as : (behind : S → S → Type 0) (told : (ℕ → ℕ) → V → Type 0) → ((z x : S) → (s.brought x → ShowsNow (v.calls (under x)) (s.now x)) → behind z x → told (s.limit x) (under x)) → {most : ℕ} → FilesFull s under v.calls v.tells (λ x. LacksTold s (usual_of stored) x) behind most (v.calls vol) w → IsFull v stored most vol w (λ limits. told limits w)
+    is_full_as behind told shown x =
         let limits = s.limit x.space in
-        let start = BeginsAt v.tells (Opens stored) (v.calls vol) in
-        let wider : (c d : Contents) → FillsTold s stored x.space c d → FillsAt v stored limits (under x.space) c d = fills_shown stored limits (s.log_full x.space) (LogIsFull v (under x.space)) (s.brought x.space) (s.now x.space) (files_in v (under x.space)) (log_is x.space) (λ all. (x.shows all).same 0) in
         record {
           limits = limits;
           limits_are = x.limits;
-          full = subst (λ (z : V). FullFiles v.tells (MainIsBare (recovered (now (v.calls vol)))) (LacksUsual v stored limits z) (FillsAt v stored limits z) start a b) x.vol_is
-              (record { which = ⊎_elim (λ y. inl (λ t. ((y t).0, lacks_under (usual_of stored) x.space x.shows (y t).1))) (λ y. inr (full_opened (FillsTold s stored x.space) (FillsAt v stored limits (under x.space)) start start a b (λ m h. h) (λ m h c d full. wider c d full) y)) x.full.which });
+          full = subst (λ (z : V). FullFiles v.tells (MainIsBare (recovered (now (v.calls vol)))) (LacksUsual v stored limits z) (told limits z)) x.vol_is
+              (record { which = ⊎_elim (λ y. inl (λ t. ((y t).0, lacks_under (usual_of stored) x.space x.shows (y t).1))) (λ y. inr (shown x.begin x.space x.shows y)) x.full.which });
         }
+
+    pub is_full : (a b : Told) {most : ℕ} → FilesFull s under v.calls v.tells (λ x. LacksTold s (usual_of stored) x) (λ z x. FullPlain (FillsTold s stored x) (BeginsAt v.tells (Opens stored) (v.calls vol)) a b) most (v.calls vol) w → IsFull v stored most vol w (λ limits. FullPlain (FillsAt v stored limits w) (BeginsAt v.tells (Opens stored) (v.calls vol)) a b)
+    is_full a b x =
+        let start = BeginsAt v.tells (Opens stored) (v.calls vol) in
+        is_full_as (λ z x. FullPlain (FillsTold s stored x) start a b) (λ limits z. FullPlain (FillsAt v stored limits z) start a b)
+        (λ z x shows full. full_opened (FillsTold s stored x) (FillsAt v stored (s.limit x) (under x)) (λ at size. ⊥) plain start start a b None None (λ m h. h) (λ m h c d fills. fills_under stored x shows c d fills) full) x
+
+    -- with an update log
+    pub is_full_logged : (is : Settings) (a b : Told) (c d : Option (List ℕ)) {most : ℕ} → FilesFull s under v.calls v.tells (λ x. LacksTold s (usual_of stored) x) (λ z x. FullRun (FillsTold s stored x) (Lacks s x) is (BeginsAt v.tells (opens_logged (Opens stored)) (v.calls vol)) [] a b c d × CanStand v (opens_logged (Opens stored)) vol) most (v.calls vol) w
+        → IsFull v stored most vol w (λ limits. FullRun (FillsAt v stored limits w) (LacksLog v limits w) is (BeginsAt v.tells (opens_logged (Opens stored)) (v.calls vol)) [] a b c d × CanStand v (opens_logged (Opens stored)) vol)
+    is_full_logged is a b c d x =
+        let start = BeginsAt v.tells (opens_logged (Opens stored)) (v.calls vol) in
+        let stood = CanStand v (opens_logged (Opens stored)) vol in
+        is_full_as (λ z x. FullRun (FillsTold s stored x) (Lacks s x) is start [] a b c d × stood) (λ limits z. FullRun (FillsAt v stored limits z) (LacksLog v limits z) is start [] a b c d × stood)
+        (λ z x shows full. (
+          full_lacks (FillsAt v stored (s.limit x) (under x)) (Lacks s x) (LacksLog v (s.limit x) (under x)) is start [] a b c d (λ at size lacks. ⊎_elim (λ passes. inl passes) (λ l. inr (log_is x l)) lacks)
+              (full_opened (FillsTold s stored x) (FillsAt v stored (s.limit x) (under x)) (Lacks s x) is start start a b c d (λ m h. h) (λ m h i j fills. fills_under stored x shows i j fills) full.0),
+          full.1,
+        )) x
 
     pub is_full_task : (task : Task) → FilesFullTask s under v.calls v.tells (λ x. LacksTold s (usual_of stored) x) (λ z x t c. FillsTask (s.log_full x) (FillsTold s stored x) (LacksLargeTold s stored z x) t c) (Opens stored) task (2 ^ 40) (v.calls vol) w → IsFullTask v stored task vol w
     is_full_task task x =

@@ -281,7 +281,7 @@ module _ {S O : Type 0} (s : space.Ghosts S) (g : sink.Ghosts O) (opens reopens 
             };
             moments = marks_then s reopens opens stand old mid new (marks_of task first) (opening_marks s reopens opens stand old mid first (marks_of task first) (first_marked task first) k (moves first h)) m.moments;
           };
-          looks = λ only o l. still_left s mid new o calm earlier h.0 (reads only) l ∙ ap (λ (f : Files). Some f) (same h.0 (reads_there task only));
+          looks = λ only o l. still_left s mid new o calm earlier h.0 ((reads only).steady h.0) l ∙ ap (λ (f : Files). Some f) (same h.0 (reads_there task only));
         };
   }
 

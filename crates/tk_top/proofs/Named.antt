@@ -30,7 +30,7 @@ use Rattle.ty_rounds.proofs.Telling.{Adds-none}
 use Rattle.tk_top.specs.declared.ends.End.{End}
 use Rattle.tk_top.specs.declared.ends.End.TheVariants.{Done, VolumeFault, NoMemory, TurnsSpent}
 use Rattle.tk_top.specs.Ends.{end_of_undo}
-use Rattle.tk_top.specs.Naming.{EndsUnopened, LeavesOpening, NamesOnce, OpensNamed, OpensOver}
+use Rattle.tk_top.specs.Naming.{EndsUnopened, LeavesOpening, NamesOnce, NamesTold, OpensNamed, OpensOver}
 use Rattle.tk_top.specs.Over.{BeginsAt, IsOver, MainIsBare, StandsFor, StaysWithin}
 use Rattle.tk_top.specs.Serving.{Begins}
 use Rattle.tk_top.specs.Staying.{AsOpening, BreaksLog, LeavesBroken}
@@ -140,6 +140,10 @@ module _ {S V : Type 0} {s : space.Ghosts S} {v : volume.Ghosts V} {name : List 
     copies = λ told. ap (λ (n : Named). n.copies) is ∙ o.copies told;
   }
 
+  -- where copies may have been made
+  pub told_so : (t : S) (w : V) → v.names w ≡ s.names t → (s.names t).told ≡ (s.names a).told → NamesTold v name vol w
+  told_so t w given same = record { told = inl (subst (λ (told : Option (List (List ℕ))). Adds (v.names vol).told told (name ∷ [])) (sym (ap (λ (n : Named). n.told) given ∙ same)) o.names) }
+
   -- over a broken log none is opened
   pub opened_whole : (new : Calls) → v.tells → LeavesBroken (v.calls vol) new
   opened_whole new t = record { stays = λ rule broken. absurd (no_files (v.calls vol) rule (s.now a) broken (o.over t).files) }
@@ -169,5 +173,8 @@ module _ {S V : Type 0} {s : space.Ghosts S} {v : volume.Ghosts V} {name : List 
     bare_so lacking t = let b = o.over t in let x = lacking b.tells in ((s.now a, b.files, x.0), x.1)
 
 -- what was opened as contents of a kind
+pub reopens_as : (opens reopens : Files → Contents → Type 0) → ((files : Files) (c : Contents) → opens files c → reopens files c) → (o : Option Files) (first : Mark) → Reopens opens o first → Reopens reopens o first
+reopens_as opens reopens stand o first k = record { files = k.files; is = k.is; stand = record { contents = stand k.files first.contents k.stand.contents; log = k.stand.log } }
+
 pub of_kind : (kind : Kind) (reopens : Files → Contents → Type 0) (o : Option Files) (first : Mark) → Reopens (OpensTo kind reopens) o first → Reopens reopens o first
-of_kind kind reopens o first k = record { files = k.files; is = k.is; stand = record { contents = k.stand.contents.stand; log = k.stand.log } }
+of_kind kind reopens o first k = reopens_as (OpensTo kind reopens) reopens (λ files c h. h.stand) o first k

@@ -5,7 +5,7 @@ use Rattle.tc_base.specs.Files.{Files}
 use Rattle.tc_base.specs.declared.kind.Rule.{Rule}
 use Rattle.tc_io.specs.Images.{Calls, now, Images, ImagesSince}
 use Rattle.tc_io.specs.declared.volume.Volume as volume
-use Rattle.tc_space.specs.Frames.{OnlyReads, only_reads_refl}
+use Rattle.tc_space.specs.Frames.{Keeps, OnlyReads, only_reads_refl}
 use Rattle.tc_space.specs.declared.space.Space as space
 use Rattle.tc_undo.specs.Errors.{OnRule}
 use Rattle.tc_undo.specs.declared.errors.UndoErr.{UndoErr}
@@ -24,7 +24,7 @@ use Rattle.tk_top.specs.Over.{BreaksAt, Judged}
 use Rattle.tk_top.specs.Staying.{AsOpening, BreaksLog, BreaksOver, IsHindered}
 use Rattle.tk_top.specs.Stops.{LeavesAlone, Spares}
 use Rattle.tk_top.specs.Tasks.{JudgedTask}
-use Rattle.tk_top.proofs.Fresh.{Fresh}
+use Rattle.tk_top.proofs.Fresh.{Earlier, Fresh, still_left}
 use Rattle.tk_top.proofs.Named.{early_of, no_files, same_files}
 use Rattle.tk_top.proofs.Stops.{Closes, exit_left}
 
@@ -45,11 +45,11 @@ module _ {S V : Type 0} {s : space.Ghosts S} {v : volume.Ghosts V} {most : ℕ} 
       ∙ f.1 ∙ ap (λ (fs : Files). Some fs) same ∙ sym o.files ∙ is
 
   -- a stop leaves what it left of the opening, or what was kept then
-  reads_moments : Fresh s a → OnlyReads s a t → Images old (now old) → IsSettled old → (ims : Files) → ImagesSince (v.calls w) (length old) ims → AsOpening old (recovered ims)
-  reads_moments fresh reads image settled ims some = ⊎_elim
+  pub keeps_moments : Fresh s a → Keeps s a t → Images old (now old) → IsSettled old → (ims : Files) → ImagesSince (v.calls w) (length old) ims → AsOpening old (recovered ims)
+  keeps_moments fresh keeps image settled ims some = ⊎_elim
       (λ was. o.moments settled (recovered ims) was)
       (λ kept. record { image = now old; is_one = image; same = kept ∙ (fresh o.tells).1 ∙ sym o.files })
-      ((reads.keeps.steady o.tells).leaves.each (length old) (recovered ims) o.later (closed.leaves (length old) ims some))
+      ((keeps.steady o.tells).leaves.each (length old) (recovered ims) o.later (closed.leaves (length old) ims some))
 
 module _ {S V : Type 0} {s : space.Ghosts S} {v : volume.Ghosts V} {name : List ℕ} {most : ℕ} {vol w : V} {a t : S} (o : OpensNamed s v name most vol a) (closed : Closes s v t w) (laws : (x : S) → s.sound x → s.touched x ≡ false → Fresh s x) where
   pub breaks_so : (v.tells → Images (v.calls vol) (now (v.calls vol))) → (breaks : Files → ℕ → Rule → Type 0) (file : ℕ) (rule : Rule) → BreaksOver s breaks a t file rule → v.tells → BreaksAt breaks (v.calls vol) (v.calls w) file rule
@@ -58,7 +58,7 @@ module _ {S V : Type 0} {s : space.Ghosts S} {v : volume.Ghosts V} {name : List 
     stays = record {
       stay = λ settled files is.
           let r = broken.reads in
-          record { exit = reads_exit b closed (laws t r.is_sound (r.untouched ∙ o.untouched)) r files is; moments = reads_moments b closed (laws a o.sound o.untouched) r (image told) settled };
+          record { exit = reads_exit b closed (laws t r.is_sound (r.untouched ∙ o.untouched)) r files is; moments = keeps_moments b closed (laws a o.sound o.untouched) r.keeps (image told) settled };
     };
   }
 
@@ -69,7 +69,17 @@ module _ {S V : Type 0} {s : space.Ghosts S} {v : volume.Ghosts V} {name : List 
       let reads = λ (files : Files) (is : recovered (now (v.calls vol)) ≡ Some files) (holds : which files). spared b.tells (subst (λ (f : Files). which f) (same_files o files told is) holds) in
       record {
         stays = λ settled files is holds ims are. let r = reads files is holds in inl (reads_exit b closed (laws t r.is_sound (r.untouched ∙ o.untouched)) r files is ims are);
-        moments = λ settled files is holds. reads_moments b closed (laws a o.sound o.untouched) (reads files is holds) (image told) settled;
+        moments = λ settled files is holds. keeps_moments b closed (laws a o.sound o.untouched) (reads files is holds).keeps (image told) settled;
+      }
+
+  -- where nothing is kept of what is written
+  pub spares_kept : Earlier s t → (v.tells → Images (v.calls vol) (now (v.calls vol))) → (which : Files → Type 0) (end : End) → (s.tells → which (s.now a) → Keeps s a t) → v.tells → Spares which end (v.calls vol) (v.calls w)
+  spares_kept earlier image which end kept told =
+      let b = o.over told in
+      let keeps = λ (files : Files) (is : recovered (now (v.calls vol)) ≡ Some files) (holds : which files). kept b.tells (subst (λ (f : Files). which f) (same_files o files told is) holds) in
+      record {
+        stays = λ settled files is holds ims are. inl (still_left s a t (recovered ims) (laws a o.sound o.untouched) earlier b.tells ((keeps files is holds).steady b.tells) (exit_left closed ims are) ∙ sym b.files ∙ is);
+        moments = λ settled files is holds. keeps_moments b closed (laws a o.sound o.untouched) (keeps files is holds) (image told) settled;
       }
 
   -- the space is as it was

@@ -20,9 +20,10 @@ use Rattle.tk_top.proofs.Named.{at_exit}
 pub record Closes {S V : Type 0} (s : space.Ghosts S) (v : volume.Ghosts V) (t : S) (w : V) : Type 0 where
   pub exit : (ims : Files) → Images (v.calls w) ims → s.left t (s.moment t) (recovered ims)
   pub leaves : (n : ℕ) (ims : Files) → ImagesSince (v.calls w) n ims → s.left t n (recovered ims)
+  pub names : v.names w ≡ s.names t
 
 pub closes : {S V : Type 0} (s : space.Ghosts S) (v : volume.Ghosts V) (under : S → V) (t : S) (w : V) → w ≡ under t → IsOver s.tells v.tells (s.sound t) (v.calls (under t)) (s.touched t) (s.moment t) (s.left t) (s.now t) (s.names t) (v.names (under t)) (s.faults t) (v.faults (under t)) → Closes s v t w
-closes s v under t w is over = subst (λ z. Closes s v t z) (sym is) (record { exit = over.exit; leaves = over.leaves })
+closes s v under t w is over = subst (λ z. Closes s v t z) (sym is) (record { exit = over.exit; leaves = over.leaves; names = sym over.names_are })
 
 -- at the exit
 pub exit_left : {S V : Type 0} {s : space.Ghosts S} {v : volume.Ghosts V} {t : S} {w : V} → Closes s v t w → (ims : Files) → Images (v.calls w) ims → s.left t (s.moment t) (recovered ims)

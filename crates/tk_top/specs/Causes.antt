@@ -3,6 +3,7 @@ use Rattle.std.specs.Prelude.{◌≤◌, ℕ}
 use Rattle.tc_io.specs.Causes.{Rose}
 use Rattle.tc_space.specs.Frames.{Follows}
 use Rattle.tc_space.specs.declared.space.Space as space
+use Rattle.ty_rounds.specs.Following.{FollowsTold}
 use Rattle.tk_top.specs.declared.ends.End.{End}
 use Rattle.tk_top.specs.declared.ends.End.TheVariants.{Done, Words, Refused, VolumeFault, Broken, NoMemory, Full, WireFault, TurnsSpent}
 
@@ -33,5 +34,11 @@ CausedByWire faults end x y = (count count' : ℕ) → Caused end count count' (
 -- of a run over a space, with a wire or a sink: the space follows the one that it was, no count of faults falls, and a fault has its cause
 pub record IsAccounted {S W : Type 0} (s : space.Ghosts S) (faults : W → ℕ) (end : End) (old new : S) (x y : W) : Type 0 where
   pub follows : Follows s old new
+  pub later : faults x ≤ faults y
+  pub caused : CausedIn s.faults faults end old new x y
+
+-- the same of one that serves, which may make copies: no file of the database is named anew
+pub record IsServedFor {S W : Type 0} (s : space.Ghosts S) (faults : W → ℕ) (end : End) (old new : S) (x y : W) : Type 0 where
+  pub follows : FollowsTold s old new
   pub later : faults x ≤ faults y
   pub caused : CausedIn s.faults faults end old new x y

@@ -17,11 +17,13 @@ use Rattle.tk_top.specs.Tasks.{IsMisplaced}
 
 -- ---- over a space
 
-pub record GuardsOver {S W : Type 0} (s : space.Ghosts S) (reopens : Files → Contents → Type 0) (kind : Kind) (end : End) (old new : S) (x y : W) : Type 0 where
+pub record GuardsOver {S W : Type 0} (s : space.Ghosts S) (opens : Files → Contents → Type 0) (end : End) (old new : S) (x y : W) : Type 0 where
   -- the wire is used only where the files stand for contents
-  pub begun : (y ≡ x) ⊎ CanOpen s reopens kind old
+  pub begun : (y ≡ x) ⊎ (s.tells → (c : Contents) × opens (s.now old) c)
+  -- and so is a label
+  pub copied : (s.names new ≡ s.names old) ⊎ (s.tells → (c : Contents) × opens (s.now old) c)
   -- files that break a rule are looked at, and no more
-  pub spared : s.tells → IsDamaged (OpensTo kind reopens) (s.now old) → OnlyReads s old new
+  pub spared : s.tells → IsDamaged opens (s.now old) → OnlyReads s old new
   -- at the end of the turns, or of the wire, the space may be used, so that no file has passed its limit
   pub sound : IsOut end → s.sound new × (s.touched new ≡ false)
 
@@ -38,6 +40,8 @@ pub record GuardsTaskOver {S O : Type 0} (s : space.Ghosts S) (reopens : Files �
 pub record GuardsOn {V W : Type 0} (v : volume.Ghosts V) (opens : Files → Contents → Type 0) (limit : ℕ) (end : End) (vol vol' : V) (x y : W) : Type 0 where
   -- however it ended, the wire was used only where the files stood for contents
   pub begun : (y ≡ x) ⊎ CanStand v opens vol
+  -- and so no copy changed in any other case
+  pub copied : (v.tells → (v.names vol').copies ≡ (v.names vol).copies) ⊎ CanStand v opens vol
   -- files that break a rule are looked at, and no more, however the run ends
   pub spared : v.tells → Spares (IsDamaged opens) end (v.calls vol) (v.calls vol')
   -- at the end of the turns, or of the wire, no file has passed its limit

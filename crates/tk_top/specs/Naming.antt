@@ -40,7 +40,11 @@ pub record LeavesOpening (old new : Calls) : Type 0 where
   -- at any moment, as an opening image
   pub moments : (ims : Files) → ImagesSince new (length old) ims → AsOpening old (recovered ims)
 
--- the names that it was given grew by this one, or by nothing; and no copy changes
+-- the names that it was given grew by this one, or by nothing
+pub record NamesTold {V : Type 0} (v : volume.Ghosts V) (name : List ℕ) (old new : V) : Type 0 where
+  pub told : Adds (v.names old).told (v.names new).told (name ∷ []) ⊎ Adds (v.names old).told (v.names new).told []
+
+-- besides, no copy changes
 pub record NamesOnce {V : Type 0} (v : volume.Ghosts V) (name : List ℕ) (old new : V) : Type 0 where
   pub told : Adds (v.names old).told (v.names new).told (name ∷ []) ⊎ Adds (v.names old).told (v.names new).told []
   pub copies : v.tells → (v.names new).copies ≡ (v.names old).copies

@@ -1,5 +1,5 @@
 -- What the top call leaves.
-use Rattle.std.specs.Prelude.{◌≡◌, ◌⊎◌, ◌<◌, ◌≤◌, ◌-◌, ◌^◌, ℕ, max, min, true, false, List, [], length, Option, Some, None}
+use Rattle.std.specs.Prelude.{◌≡◌, ◌⊎◌, ◌<◌, ◌≤◌, ◌+◌, ◌-◌, ◌^◌, ◌++◌, ℕ, max, min, true, false, List, [], length, Option, Some, None}
 use Rattle.tc_base.specs.Files.{Files}
 use Rattle.tc_base.specs.declared.kind.Kind.{Kind}
 use Rattle.tc_base.specs.declared.kind.Kind.TheVariants.{MemHash, MemTree}
@@ -7,6 +7,7 @@ use Rattle.tc_io.specs.Images.{now}
 use Rattle.tc_io.specs.Script.{Plays}
 use Rattle.tc_io.specs.Told.{Adds}
 use Rattle.tc_io.specs.declared.act.Act.{Act}
+use Rattle.tc_io.specs.declared.wire.Dialled.{Dialled}
 use Rattle.tc_io.specs.declared.sink.Sink as sink
 use Rattle.tc_io.specs.declared.volume.Volume as volume
 use Rattle.tc_io.specs.declared.wire.Wire as wire
@@ -15,9 +16,9 @@ use Rattle.tc_io.specs.declared.wire.Entry.{Entry}
 use Rattle.ud_log.specs.Undo.{data_of, is_data, recovered}
 use Rattle.ud_state.specs.State.{IsSettled}
 use Rattle.tc_model.specs.Contents.{Contents, no_data}
-use Rattle.ty_world.specs.World.{Mark, World, started, world_after, AllAsked}
-use Rattle.ty_world.specs.Playing.{unplayed}
-use Rattle.ty_rounds.specs.Turns.{Told}
+use Rattle.ty_world.specs.World.{Mark, World, world_after, AllAsked}
+use Rattle.ty_world.specs.Playing.{unplayed_with}
+use Rattle.ty_world.specs.Logs.{Settings}
 use Rattle.ty_base.specs.Holding.{Frame, Laid, no_layout}
 use Rattle.ty_base.specs.Opening.{OpensTo}
 use Rattle.ty_wire.specs.Prefixes.{IsPrefix}
@@ -28,13 +29,17 @@ use Rattle.tk_mgr.specs.declared.task.Task.TheVariants as tasks
 use Rattle.tk_words.specs.Words.{Word}
 use Rattle.tk_top.specs.declared.ends.End.{End}
 use Rattle.tk_top.specs.declared.ends.End.TheVariants.{Done, Words, Refused, VolumeFault, Broken, NoMemory, Full, WireFault, TurnsSpent}
-use Rattle.tk_top.specs.Ends.{line_of}
+use Rattle.tk_top.specs.Ends.{line_of, status_of}
 use Rattle.tk_top.specs.Causes.{CausedIn, CausedByVolume, CausedByWire}
+use Rattle.tk_top.specs.GapLines.{TellsGaps, gap_lines}
 use Rattle.tk_top.specs.Guarding.{GuardsOn, GuardsTaskOn}
+use Rattle.tk_top.specs.Logging.{CameToWire, RunsLoggedOn, SparesUnlogged, breaks_logged, logging, opens_logged}
 use Rattle.tk_top.specs.Making.{InShape, IsThere, JudgedMakingOn, MakesOn}
-use Rattle.tk_top.specs.Naming.{NamesOnce}
-use Rattle.tk_top.specs.Over.{BeginsAt, FullFiles, JudgedOn, MainIsBare, RunsOn}
+use Rattle.tk_top.specs.Naming.{NamesOnce, NamesTold}
+use Rattle.tk_top.specs.Over.{BeginsAt, CanStand, FullFiles, FullPlain, JudgedOn, MainIsBare, RunsOn}
+use Rattle.tk_top.specs.Runs.{FullRun}
 use Rattle.tk_top.specs.Serving.{ServesAt, PlaysAll}
+use Rattle.tk_top.specs.Starts.{begun, plainly}
 use Rattle.tk_top.specs.Stored.{anew_of, breaks_new_of, breaks_of, fills_of, kind_in, lacks_large_of, lacks_of, layout_of, lines_in, numbers_of, own_of, packed_in, reopens_of, stored_as, usual_of}
 use Rattle.tk_top.specs.Stops.{LeavesAlone}
 use Rattle.tk_top.specs.Tasks.{FormsOn, FullTask, JudgedTaskOn, ManagesOn}
@@ -57,7 +62,7 @@ abbrev pub no_keys : Memory → Mark
 no_keys memory = record { contents = no_data (kind_of_memory memory) false 0 0; log = [] }
 
 abbrev pub before : Memory → World
-before memory = started [] (no_keys memory)
+before memory = begun plainly [] (no_keys memory)
 
 -- an end of a run that serves a database in memory: no fault of a volume, no rule that is broken, and no limit
 abbrev pub IsServing : End → Type 0
@@ -77,10 +82,10 @@ pub record MemoryRun {W : Type 0} (g : wire.Ghosts W) (end : End) (memory : Memo
   pub entries : List Entry
   pub told : Adds (g.transcript x) (g.transcript y) entries
   pub asks : AllAsked (before memory) entries
-  pub serves : ServesAt end turns at (no_keys memory) entries (world_after entries (before memory))
+  pub serves : ServesAt plainly end turns at (no_keys memory) entries (world_after entries (before memory))
   -- where a script is played, each event and answer is as the script has it, and all bytes offered were taken
   pub played : (end ≡ Done) ⊎ (end ≡ TurnsSpent) → Plays (g.plays x) (g.plays y) entries
-  pub plays : (acts : List Act) (given : ℕ) → g.plays x ≡ Some (unplayed acts given) → PlaysAll turns (g.plays y) end acts given
+  pub plays : (acts : List Act) (dials : List Dialled) (given : ℕ) → g.plays x ≡ Some (unplayed_with acts dials given) → PlaysAll plainly.is turns (g.plays y) end acts given (world_after entries (before memory))
   -- a fault is one of the wire
   pub caused : CausedByWire g.faults end x y
 
@@ -106,6 +111,10 @@ pub record LacksLargeAt {V : Type 0} (v : volume.Ghosts V) (stored : Stored) (li
   pub is : recovered (now (v.calls vol)) ≡ Some first
   pub lacks : lacks_large_of stored limits (λ f. length (files_in v w f)) (Unit {0}) first c
 
+-- so many bytes at a place of the update log pass its limit, or the undo log is full
+abbrev pub LacksLog : {V : Type 0} → volume.Ghosts V → (ℕ → ℕ) → V → ℕ → ℕ → Type 0
+LacksLog v limits w at size = (limits 2 < at + size) ⊎ LogIsFull v w
+
 -- there is no room for a file that an opening makes
 abbrev pub LacksUsual : {V : Type 0} → volume.Ghosts V → Stored → (ℕ → ℕ) → V → Type 0
 LacksUsual v stored limits w = lacks_of (usual_of stored) (limits 0) (LogIsFull v w) (Unit {0}) (files_in v w 0)
@@ -114,16 +123,24 @@ LacksUsual v stored limits w = lacks_of (usual_of stored) (limits 0) (LogIsFull 
 abbrev pub FillsTaskAt : {V : Type 0} → volume.Ghosts V → Stored → (ℕ → ℕ) → V → V → Task → Contents → Type 0
 FillsTaskAt v stored limits vol w task c = FillsTask (LogIsFull v w) (FillsAt v stored limits w) (LacksLargeAt v stored limits vol w) task c
 
--- a limit was reached where the files were opened, or in the round of the last event: each data file may have so many bytes, or as many as it had where that is more. The
--- files are those of the volume that is handed back, and so is the undo log, of which it is said where it has half of what it may have
-pub record IsFull {V : Type 0} (v : volume.Ghosts V) (stored : Stored) (most : ℕ) (vol vol' : V) (a b : Told) : Type 0 where
+-- a limit was reached where the files were opened, or behind that: each data file may have so many bytes, or as many as it had where that is more. The files are those
+-- of the volume that is handed back, and so is the undo log, of which it is said where it has half of what it may have
+pub record IsFull {V : Type 0} (v : volume.Ghosts V) (stored : Stored) (most : ℕ) (vol vol' : V) (behind : (ℕ → ℕ) → Type 0) : Type 0 where
   pub limits : ℕ → ℕ
   pub limits_are : v.tells → (files : Files) → recovered (now (v.calls vol)) ≡ Some files → (f : ℕ) → is_data f ≡ true → limits f ≡ max most (length (files f))
-  pub full : FullFiles v.tells (MainIsBare (recovered (now (v.calls vol)))) (LacksUsual v stored limits vol') (FillsAt v stored limits vol') (BeginsAt v.tells (Opens stored) (v.calls vol)) a b
+  pub full : FullFiles v.tells (MainIsBare (recovered (now (v.calls vol)))) (LacksUsual v stored limits vol') (behind limits)
+
+-- it was reached in the round of the last event
+abbrev pub FullServed : {V W : Type 0} → volume.Ghosts V → wire.Ghosts W → Stored → V → V → W → W → (ℕ → ℕ) → Type 0
+FullServed v g stored vol vol' x y limits = FullPlain (FillsAt v stored limits vol') (BeginsAt v.tells (Opens stored) (v.calls vol)) (g.transcript x) (g.transcript y)
+
+-- with an update log, or in what that round adds to it
+abbrev pub FullRecorded : {V W : Type 0} → volume.Ghosts V → wire.Ghosts W → Stored → Settings → V → V → W → W → Option (List ℕ) → Option (List ℕ) → (ℕ → ℕ) → Type 0
+FullRecorded v g stored is vol vol' x y c d limits = FullRun (FillsAt v stored limits vol') (LacksLog v limits vol') is (BeginsAt v.tells (opens_logged (Opens stored)) (v.calls vol)) [] (g.transcript x) (g.transcript y) c d × CanStand v (opens_logged (Opens stored)) vol
 
 -- a run that serves the database that the files of a name keep, at an address
 pub record FileRun {V W : Type 0} (v : volume.Ghosts V) (g : wire.Ghosts W) (end : End) (name : List ℕ) (stored : Stored) (limit : ℕ) (at : At) (turns : ℕ) (vol vol' : V) (x y : W) : Type 0 where
-  pub names : NamesOnce v name vol vol'
+  pub names : NamesTold v name vol vol'
   -- what came of the wire, and what any stop leaves of a volume that was settled and whose files stood for contents
   pub told : RunsOn v g (reopens_of stored) (numbers_of (usual_of stored)) (kind_in stored) end turns at vol vol' x y
   -- whatever the files are laid out like, and whichever stand beside them, so it is with files that have their numbers and nothing more behind, beside those
@@ -132,13 +149,35 @@ pub record FileRun {V W : Type 0} (v : volume.Ghosts V) (g : wire.Ghosts W) (end
   pub judged : JudgedOn v (Opens stored) (breaks_of stored) end vol vol'
   -- the wire, files that break a rule and the limits of files
   pub guards : GuardsOn v (Opens stored) limit end vol vol' x y
-  pub full : end ≡ Full → IsFull v stored limit vol vol' (g.transcript x) (g.transcript y)
+  pub full : end ≡ Full → IsFull v stored limit vol vol' (FullServed v g stored vol vol' x y)
   pub caused : CausedIn v.faults g.faults end vol vol' x y
 
--- a run that serves what it is asked to; with a database in memory the volume is left alone, and no limit of a file is above 2 ^ 40 bytes
-abbrev pub SourceRun : {V W : Type 0} → volume.Ghosts V → wire.Ghosts W → End → Source → At → ℕ → V → V → W → W → Type 0
-SourceRun v g end (source.Memory memory) at turns vol vol' x y = MemoryRun g end memory at turns x y × (vol' ≡ vol)
-SourceRun v g end (source.File name stored limit) at turns vol vol' x y = FileRun v g end name stored (min limit (2 ^ 40)) at turns vol vol' x y
+-- a run that serves the database and the update log that the files of a name keep, at an address, and met these gaps
+pub record LoggedRun {V W : Type 0} (v : volume.Ghosts V) (g : wire.Ghosts W) (end : End) (name : List ℕ) (stored : Stored) (limit : ℕ) (is : Settings) (at : At) (turns : ℕ) (gaps : List (ℕ × ℕ)) (vol vol' : V) (x y : W) (c d : Option (List ℕ)) : Type 0 where
+  pub names : NamesTold v name vol vol'
+  -- what came of the wire and of the clock, and what any stop leaves of a volume that was settled and whose files stood for contents and an update log
+  pub told : RunsLoggedOn v g is (reopens_of stored) (numbers_of (usual_of stored)) (kind_in stored) end turns at vol vol' x y c d
+  pub gaps_are : told.gaps ≡ gaps
+  -- one is met only where the files stood for contents and an update log
+  pub met : (gaps ≡ []) ⊎ CanStand v (opens_logged (Opens stored)) vol
+  -- whatever the files are laid out like, and whichever stand beside them, so it is with files that have their numbers and nothing more behind, beside those
+  pub laid : (l : Frame) → RunsLoggedOn v g is (Laid (own_of stored) (layout_of stored) l (reopens_of stored)) (numbers_of (usual_of stored)) (kind_in stored) end turns at vol vol' x y c d
+  -- where it was served, the files stood for contents; and where a rule is named, it is the first that is broken: of the database, and then of the update log
+  pub judged : JudgedOn v (Opens stored) (breaks_logged (Opens stored) (breaks_of stored)) end vol vol'
+  -- and for an update log, where the wire was come to
+  pub stood : CameToWire end → CanStand v (opens_logged (Opens stored)) vol
+  -- the wire, files that break a rule and the limits of files
+  pub guards : GuardsOn v (opens_logged (Opens stored)) limit end vol vol' x y
+  -- beside a file 2 that is no update log all files stay, also an empty main file, however it ends
+  pub unlogged : SparesUnlogged v end vol vol'
+  pub full : end ≡ Full → IsFull v stored limit vol vol' (FullRecorded v g stored is vol vol' x y c d)
+  pub caused : CausedIn v.faults g.faults end vol vol' x y
+
+-- a run that serves what it is asked to, and met these gaps; with a database in memory the volume is left alone, and no limit of a file is above 2 ^ 40 bytes
+abbrev pub SourceRun : {V W : Type 0} → volume.Ghosts V → wire.Ghosts W → End → Source → At → ℕ → List (ℕ × ℕ) → V → V → W → W → Option (List ℕ) → Option (List ℕ) → Type 0
+SourceRun v g end (source.Memory memory) at turns gaps vol vol' x y c d = MemoryRun g end memory at turns x y × ((vol' ≡ vol) × (gaps ≡ []))
+SourceRun v g end (source.File name stored limit) at turns gaps vol vol' x y c d = FileRun v g end name stored (min limit (2 ^ 40)) at turns vol vol' x y × (gaps ≡ [])
+SourceRun v g end (source.Logged name stored limit own master) at turns gaps vol vol' x y c d = LoggedRun v g end name stored (min limit (2 ^ 40)) (logging own master) at turns gaps vol vol' x y c d
 
 -- ---- commands
 
@@ -210,30 +249,51 @@ pub record DrillsMemory {O : Type 0} (o : sink.Ghosts O) (end : End) (memory : M
 
 -- ---- what is asked for
 
--- it is served, made or done, and all else is left alone
-abbrev pub AskedRun : {V W O : Type 0} → volume.Ghosts V → wire.Ghosts W → sink.Ghosts O → End → Asked → V → V → W → W → O → O → Type 0
-AskedRun v g o end (asked.Serve source at turns) vol vol' x y p q = SourceRun v g end source at turns vol vol' x y × (q ≡ p)
-AskedRun v g o end (asked.Task name stored task) vol vol' x y p q = TaskOnFiles v o end name stored task vol vol' p q × (y ≡ x)
-AskedRun v g o end (asked.Create name shape) vol vol' x y p q = MakesFiles v end name shape vol vol' × ((y ≡ x) × (q ≡ p))
-AskedRun v g o end (asked.Drill memory seed count) vol vol' x y p q = DrillsMemory o end memory seed count p q × ((y ≡ x) × (vol' ≡ vol))
+-- it is served, made or done, and all else is left alone; gaps are met only where it is served
+abbrev pub AskedRun : {V W O : Type 0} → volume.Ghosts V → wire.Ghosts W → sink.Ghosts O → End → Asked → List (ℕ × ℕ) → V → V → W → W → O → O → Option (List ℕ) → Option (List ℕ) → Type 0
+AskedRun v g o end (asked.Serve source at turns) gaps vol vol' x y p q c d = SourceRun v g end source at turns gaps vol vol' x y c d × (q ≡ p)
+AskedRun v g o end (asked.Task name stored task) gaps vol vol' x y p q c d = TaskOnFiles v o end name stored task vol vol' p q × ((y ≡ x) × (gaps ≡ []))
+AskedRun v g o end (asked.Create name shape) gaps vol vol' x y p q c d = MakesFiles v end name shape vol vol' × ((y ≡ x) × ((q ≡ p) × (gaps ≡ [])))
+AskedRun v g o end (asked.Drill memory seed count) gaps vol vol' x y p q c d = DrillsMemory o end memory seed count p q × ((y ≡ x) × ((vol' ≡ vol) × (gaps ≡ [])))
 
 -- a fault comes only of the volume, of the wire, or of the sink that is printed to
 abbrev pub CausedBy : {V W O : Type 0} → (V → ℕ) → (W → ℕ) → (O → ℕ) → End → V → V → W → W → O → O → Type 0
 CausedBy vols wires sinks end vol vol' x y p q = CausedIn vols wires end vol vol' x y ⊎ CausedIn vols sinks end vol vol' p q
 
--- a run where this is asked for, or nothing that is carried out
-pub record RunsAsked {V W O : Type 0} (v : volume.Ghosts V) (g : wire.Ghosts W) (o : sink.Ghosts O) (want : Option Asked) (end : End) (vol vol' : V) (x y : W) (p q : O) : Type 0 where
+-- a run where this is asked for, or nothing that is carried out, which met these gaps
+pub record RunsAsked {V W O : Type 0} (v : volume.Ghosts V) (g : wire.Ghosts W) (o : sink.Ghosts O) (want : Option Asked) (gaps : List (ℕ × ℕ)) (end : End) (vol vol' : V) (x y : W) (p q : O) (c d : Option (List ℕ)) : Type 0 where
   -- where it is, it is carried out; the words end the run only where it isn't, and then the run ends so, or finds no memory to read them
-  pub served : (a : Asked) → want ≡ Some a → AskedRun v g o end a vol vol' x y p q
+  pub served : (a : Asked) → want ≡ Some a → AskedRun v g o end a gaps vol vol' x y p q c d
   pub words : end ≡ Words → want ≡ None
   pub refused : want ≡ None → (end ≡ Words) ⊎ (end ≡ NoMemory)
-  pub unserved : want ≡ None → (y ≡ x) × ((vol' ≡ vol) × (q ≡ p))
+  pub unserved : want ≡ None → (y ≡ x) × ((vol' ≡ vol) × ((q ≡ p) × (gaps ≡ [])))
   pub caused : CausedBy v.faults g.faults o.faults end vol vol' x y p q
 
 -- a run on these words
-pub record Runs {V W O E : Type 0} (v : volume.Ghosts V) (g : wire.Ghosts W) (o : sink.Ghosts O) (e : sink.Ghosts E) (ws : List Word) (end : End) (vol vol' : V) (x y : W) (p q : O) (r s : E) : Type 0 where
+pub record Runs {V W O E : Type 0} (v : volume.Ghosts V) (g : wire.Ghosts W) (o : sink.Ghosts O) (e : sink.Ghosts E) (ws : List Word) (end : End) (vol vol' : V) (x y : W) (p q : O) (c d : Option (List ℕ)) (r s : E) : Type 0 where
+  pub gaps : List (ℕ × ℕ)
   -- they alone decide what is served, made or done, and where
-  pub by_words : RunsAsked v g o (asked_of ws) end vol vol' x y p q
-  -- where the sink of errors was never refused, it has the end's line and nothing else
-  pub line : e.faults s ≡ e.faults r → e.faults r < 2 ^ 64 - 1 → Adds (e.taken r) (e.taken s) (line_of end)
-  pub silent : end ≡ Done → s ≡ r
+  pub by_words : RunsAsked v g o (asked_of ws) gaps end vol vol' x y p q c d
+  -- where the sink of errors was never refused, it has a line of each gap, then the end's line, and nothing else
+  pub line : e.faults s ≡ e.faults r → e.faults r < 2 ^ 64 - 1 → Adds (e.taken r) (e.taken s) (gap_lines gaps ++ line_of end)
+  pub silent : end ≡ Done → gaps ≡ [] → s ≡ r
+
+-- ---- with what the clock answered before and after, and a line of each gap told
+
+module _ {V W K E : Type 0} (v : volume.Ghosts V) (g : wire.Ghosts W) (answers : K → Option (List ℕ)) (e : sink.Ghosts E) where
+  abbrev pub ServesLogged : End → List ℕ → Stored → ℕ → Settings → At → ℕ → V → V → W → W → K → K → E → E → Type 0
+  ServesLogged end name stored limit is at turns vol vol' x y k l r s = (gaps : List (ℕ × ℕ)) × LoggedRun v g end name stored limit is at turns gaps vol vol' x y (answers k) (answers l) × TellsGaps e gaps r s
+
+  abbrev pub ServesSource : End → Source → At → ℕ → V → V → W → W → K → K → E → E → Type 0
+  ServesSource end source at turns vol vol' x y k l r s = (gaps : List (ℕ × ℕ)) × SourceRun v g end source at turns gaps vol vol' x y (answers k) (answers l) × TellsGaps e gaps r s
+
+  module _ {O : Type 0} (o : sink.Ghosts O) where
+    abbrev pub CarriesOut : End → Asked → V → V → W → W → O → O → K → K → E → E → Type 0
+    CarriesOut end a vol vol' x y p q k l r s = (gaps : List (ℕ × ℕ)) × AskedRun v g o end a gaps vol vol' x y p q (answers k) (answers l) × TellsGaps e gaps r s
+
+    abbrev pub RunsWanted : Option Asked → End → V → V → W → W → O → O → K → K → E → E → Type 0
+    RunsWanted want end vol vol' x y p q k l r s = (gaps : List (ℕ × ℕ)) × RunsAsked v g o want gaps end vol vol' x y p q (answers k) (answers l) × TellsGaps e gaps r s
+
+    -- on words, with the status of its end
+    abbrev pub RunsOnWords : List Word → ℕ → V → V → W → W → O → O → K → K → E → E → Type 0
+    RunsOnWords ws status vol vol' x y p q k l r s = (end : End) × (status ≡ status_of end) × Runs v g o e ws end vol vol' x y p q (answers k) (answers l) r s

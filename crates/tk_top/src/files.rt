@@ -11,8 +11,8 @@ ghost use Rattle.tk_top.specs.Guarding.{GuardsOn, GuardsOver};
 ghost use Rattle.tk_top.specs.Over.{FullOn, FullOver, HoldsLike, JudgedOn, JudgedOver, MovesLike, OpensAs, RunsOn};
 ghost use Rattle.tk_top.specs.Staying.{BreaksOver, OpensThere};
 ghost use Rattle.tk_top.specs.Serving.{Begins, RunsOpened};
-ghost use Rattle.tk_top.specs.Causes.{CausedIn, IsAccounted};
-ghost use Rattle.tk_top.specs.Naming.{NamesOnce};
+ghost use Rattle.tk_top.specs.Causes.{CausedIn, IsServedFor};
+ghost use Rattle.tk_top.specs.Naming.{NamesTold};
 
 use crate::base::serve_base;
 use crate::ends::{End, Stopped};
@@ -20,7 +20,7 @@ use crate::naming::open_named;
 use crate::volumes::OnVolume;
 use std::alloc::Global;
 use tc_base::Kind;
-use tc_io::{At, Clock, Wire};
+use tc_io::{At, Clock, Sink, Wire};
 use tc_space::Space;
 use ty_base::{AnyErr, Base, Opens};
 
@@ -46,12 +46,13 @@ pub fn open_kept<B: Opens + Drop>(alloc: Global, kind: Kind, space: &mut B::S) -
 }
 
 /// Opens the database that the files of a space keep, and serves it.
-pub fn serve_files<B: Base + Opens + Drop, W: Wire, K: Clock>(
+pub fn serve_files<B: Base + Opens + Drop, W: Wire, E: Sink, K: Clock>(
     alloc: Global,
     kind: Kind,
     space: &mut B::S,
     at: &At,
     wire: &mut W,
+    err: &mut E,
     clock: &mut K,
     turns: u64,
 ) -> End
@@ -61,19 +62,20 @@ pub fn serve_files<B: Base + Opens + Drop, W: Wire, K: Clock>(
     ensures told { RunsOpened B.S.Space W.Wire B.reopens (B.shaped B.usual) kind result turns at.now space.old space.new wire.old wire.new }
     ensures laid { (l : Frame) → RunsOpened B.S.Space W.Wire (Laid B.own B.layout l B.reopens) (B.shaped B.usual) kind result turns at.now space.old space.new wire.old wire.new }
     ensures judged { JudgedOver B.S.Space B.reopens B.breaks kind result space.old space.new }
-    ensures guards { GuardsOver B.S.Space B.reopens kind result space.old space.new wire.old wire.new }
+    ensures guards { GuardsOver B.S.Space (OpensTo kind B.reopens) result space.old space.new wire.old wire.new }
     ensures full { result ≡ Full → FullOver B.S.Space W.Wire (λ x. B.lacks x B.usual) B.fills_since (OpensTo kind B.reopens) space.old space.new wire.old wire.new }
-    ensures accounted { IsAccounted B.S.Space W.faults result space.old space.new wire.old wire.new }
+    ensures accounted { IsServedFor B.S.Space W.faults result space.old space.new wire.old wire.new }
+    ensures silent { err.new ≡ err.old }
 {
     let base: B = match open_kept(alloc, kind, space) {
         Ok(base) => base,
         Err(e) => return End::from(e),
     };
-    serve_base(alloc, base, space, at, wire, clock, turns)
+    serve_base(alloc, base, space, at, wire, err, clock, turns)
 }
 
 /// Serves the database that the files of a volume keep, until no event will come any more or so many turns were made.
-pub fn run_files<S: OnVolume, B: Base + Opens<S = S> + Drop, W: Wire, K: Clock>(
+pub fn run_files<S: OnVolume, B: Base + Opens<S = S> + Drop, W: Wire, E: Sink, K: Clock>(
     alloc: Global,
     name: &str,
     kind: Kind,
@@ -81,12 +83,13 @@ pub fn run_files<S: OnVolume, B: Base + Opens<S = S> + Drop, W: Wire, K: Clock>(
     limit: u64,
     at: &At,
     wire: &mut W,
+    err: &mut E,
     clock: &mut K,
     turns: u64,
 ) -> Stopped<S::V>
     requires opened { W.opened wire.old ≡ false }
     requires limit { limit ≤ 2 ^ 40 }
-    ensures names { NamesOnce S.V.Volume name.now vol result.vol }
+    ensures names { NamesTold S.V.Volume name.now vol result.vol }
     // What came of the wire, and what any stop leaves of a volume that was settled and whose files stood for contents.
     ensures told { RunsOn S.V.Volume W.Wire B.reopens (B.shaped B.usual) kind result.end turns at.now vol result.vol wire.old wire.new }
     // Whatever the files are laid out like, and whichever stand beside them, so it is with files that are laid out like them, beside those.
@@ -97,12 +100,13 @@ pub fn run_files<S: OnVolume, B: Base + Opens<S = S> + Drop, W: Wire, K: Clock>(
     ensures guards { GuardsOn S.V.Volume (OpensTo kind B.reopens) limit result.end vol result.vol wire.old wire.new }
     ensures full { result.end ≡ Full → FullOn S.V.Volume S.Space W.Wire S.under (λ x. B.lacks x B.usual) B.fills_since (OpensTo kind B.reopens) limit vol result.vol wire.old wire.new }
     ensures caused { CausedIn S.V.faults W.faults result.end vol result.vol wire.old wire.new }
+    ensures silent { err.new ≡ err.old }
 {
     let mut space = match open_named::<S>(alloc, name, vol, limit) {
         Ok(space) => space,
         Err(stopped) => return stopped,
     };
-    let end = serve_files::<B, W, K>(alloc, kind, &mut space, at, wire, clock, turns);
+    let end = serve_files::<B, W, E, K>(alloc, kind, &mut space, at, wire, err, clock, turns);
     Stopped {
         end,
         vol: space.close_over(),

@@ -1,11 +1,10 @@
 //! The top call.
-ghost use Rattle.std.specs.Prelude.{◌≡◌, ◌≤◌, ◌^◌, Some, false};
+ghost use Rattle.std.specs.Prelude.{◌≡◌, ◌≤◌, ◌^◌, min, Some, false};
 ghost use Rattle.tc_memdb.specs.Engines.{contents_in};
 ghost use Rattle.ty_answers.specs.Engines.{engine_of};
 ghost use Rattle.tk_words.specs.Words.{texts};
-ghost use Rattle.tk_top.specs.declared.ends.End.{End};
-ghost use Rattle.tk_top.specs.Ends.{status_of};
-ghost use Rattle.tk_top.specs.Top.{AskedRun, CausedBy, DrillsMemory, FileRun, MakesFiles, MemoryRun, Runs, RunsAsked, SourceRun, TaskOnFiles, no_keys};
+ghost use Rattle.tk_top.specs.Logging.{logging};
+ghost use Rattle.tk_top.specs.Top.{CarriesOut, CausedBy, DrillsMemory, FileRun, RunsWanted, MakesFiles, MemoryRun, RunsOnWords, ServesLogged, ServesSource, TaskOnFiles, no_keys};
 ghost use Rattle.tk_top.specs.Words.{Fits, MayBeMade, asked_in, asked_of};
 ghost use Rattle.tk_top.specs.Causes.{CausedByWire, CausedIn};
 
@@ -13,6 +12,7 @@ use crate::base::serve_base;
 use crate::ends::{End, Stopped};
 use crate::files::run_files;
 use crate::lines::put_line;
+use crate::logged::run_logged;
 use crate::making::make_files;
 use crate::managing::{end_of, manage_files};
 use crate::volumes::OnVolume;
@@ -31,6 +31,7 @@ use tc_undo::Undo;
 use tk_mgr::{Task, manage};
 use tk_words::{CommandLine, parse};
 use ty_answers::Database;
+use ty_rounds::Master;
 
 // What stands behind a database in files: what is written is held in memory until a commit, and then made at once over the undo log.
 type Kept<V> = HeldSpace<Undo<V>>;
@@ -54,17 +55,19 @@ fn database(alloc: Global, memory: Memory) -> Database<MemEngine>
 }
 
 // A database in memory, served at an address.
-fn serve_memory<W: Wire, K: Clock>(
+fn serve_memory<W: Wire, E: Sink, K: Clock>(
     alloc: Global,
     memory: Memory,
     at: &At,
     wire: &mut W,
+    err: &mut E,
     clock: &mut K,
     turns: u64,
 ) -> End
     requires opened { W.opened wire.old ≡ false }
     ensures served { MemoryRun W.Wire result memory at.now turns wire.old wire.new }
     ensures caused { CausedByWire W.faults result wire.old wire.new }
+    ensures silent { err.new ≡ err.old }
 {
     let mut space = NoSpace::new();
     serve_base(
@@ -73,13 +76,14 @@ fn serve_memory<W: Wire, K: Clock>(
         &mut space,
         at,
         wire,
+        err,
         clock,
         turns,
     )
 }
 
 // The database that the files of a name keep, served at an address.
-fn serve_stored<S: OnVolume, W: Wire, K: Clock>(
+fn serve_stored<S: OnVolume, W: Wire, E: Sink, K: Clock>(
     alloc: Global,
     name: &str,
     stored: Stored,
@@ -87,15 +91,17 @@ fn serve_stored<S: OnVolume, W: Wire, K: Clock>(
     limit: u64,
     at: &At,
     wire: &mut W,
+    err: &mut E,
     clock: &mut K,
     turns: u64,
 ) -> Stopped<S::V>
     requires opened { W.opened wire.old ≡ false }
     requires limit { limit ≤ 2 ^ 40 }
-    ensures { FileRun S.V.Volume W.Wire result.end name.now stored limit at.now turns vol result.vol wire.old wire.new }
+    ensures done { FileRun S.V.Volume W.Wire result.end name.now stored limit at.now turns vol result.vol wire.old wire.new }
+    ensures silent { err.new ≡ err.old }
 {
     match stored {
-        Stored::Hash => run_files::<S, Database<HashEngine<S>>, W, K>(
+        Stored::Hash => run_files::<S, Database<HashEngine<S>>, W, E, K>(
             alloc,
             name,
             Kind::Hash,
@@ -103,10 +109,11 @@ fn serve_stored<S: OnVolume, W: Wire, K: Clock>(
             limit,
             at,
             wire,
+            err,
             clock,
             turns,
         ),
-        Stored::Tree => run_files::<S, Database<TreeEngine<S>>, W, K>(
+        Stored::Tree => run_files::<S, Database<TreeEngine<S>>, W, E, K>(
             alloc,
             name,
             Kind::Tree,
@@ -114,10 +121,11 @@ fn serve_stored<S: OnVolume, W: Wire, K: Clock>(
             limit,
             at,
             wire,
+            err,
             clock,
             turns,
         ),
-        Stored::Fixed => run_files::<S, Database<FixedEngine<S>>, W, K>(
+        Stored::Fixed => run_files::<S, Database<FixedEngine<S>>, W, E, K>(
             alloc,
             name,
             Kind::Fixed,
@@ -125,6 +133,80 @@ fn serve_stored<S: OnVolume, W: Wire, K: Clock>(
             limit,
             at,
             wire,
+            err,
+            clock,
+            turns,
+        ),
+    }
+}
+
+// How many bytes a file may have: as many as the words say, and no more than any may.
+fn limited(limit: u64) -> u64
+    ensures is { result ≡ min limit (2 ^ 40) }
+    ensures most { result ≤ 2 ^ 40 }
+{
+    limit.min(FILE_MOST)
+}
+
+// The database and the update log that the files of a name keep, served at an address.
+fn serve_logs<S: OnVolume, W: Wire, E: Sink, K: Clock>(
+    alloc: Global,
+    name: &str,
+    stored: Stored,
+    own: u16,
+    master: Option<Master>,
+    vol: S::V,
+    limit: u64,
+    at: &At,
+    wire: &mut W,
+    err: &mut E,
+    clock: &mut K,
+    turns: u64,
+) -> Stopped<S::V>
+    requires opened { W.opened wire.old ≡ false }
+    requires limit { limit ≤ 2 ^ 40 }
+    ensures { ServesLogged S.V.Volume W.Wire K.answers E.Sink result.end name.now stored limit (logging own master) at.now turns vol result.vol wire.old wire.new clock.old clock.new err.old err.new }
+{
+    match stored {
+        Stored::Hash => run_logged::<S, Database<HashEngine<S>>, W, E, K>(
+            alloc,
+            name,
+            Kind::Hash,
+            own,
+            master,
+            vol,
+            limit,
+            at,
+            wire,
+            err,
+            clock,
+            turns,
+        ),
+        Stored::Tree => run_logged::<S, Database<TreeEngine<S>>, W, E, K>(
+            alloc,
+            name,
+            Kind::Tree,
+            own,
+            master,
+            vol,
+            limit,
+            at,
+            wire,
+            err,
+            clock,
+            turns,
+        ),
+        Stored::Fixed => run_logged::<S, Database<FixedEngine<S>>, W, E, K>(
+            alloc,
+            name,
+            Kind::Fixed,
+            own,
+            master,
+            vol,
+            limit,
+            at,
+            wire,
+            err,
             clock,
             turns,
         ),
@@ -132,36 +214,58 @@ fn serve_stored<S: OnVolume, W: Wire, K: Clock>(
 }
 
 // What is served.
-fn serve_source<S: OnVolume, W: Wire, K: Clock>(
+fn serve_source<S: OnVolume, W: Wire, E: Sink, K: Clock>(
     alloc: Global,
-    source: &Source,
+    source: Source,
     at: &At,
     turns: u64,
     vol: S::V,
     wire: &mut W,
+    err: &mut E,
     clock: &mut K,
 ) -> Stopped<S::V>
     requires opened { W.opened wire.old ≡ false }
-    ensures served { SourceRun S.V.Volume W.Wire result.end source.now at.now turns vol result.vol wire.old wire.new }
+    ensures served { ServesSource S.V.Volume W.Wire K.answers E.Sink result.end source at.now turns vol result.vol wire.old wire.new clock.old clock.new err.old err.new }
     ensures caused { CausedIn S.V.faults W.faults result.end vol result.vol wire.old wire.new }
 {
     match source {
         Source::Memory(memory) => Stopped {
-            end: serve_memory(alloc, *memory, at, wire, clock, turns),
+            end: serve_memory(alloc, memory, at, wire, err, clock, turns),
             vol,
         },
         Source::File {
             name,
             stored,
             limit,
-        } => serve_stored::<S, W, K>(
+        } => serve_stored::<S, W, E, K>(
             alloc,
             name.as_str(),
-            *stored,
+            stored,
             vol,
-            (*limit).min(FILE_MOST),
+            limited(limit),
             at,
             wire,
+            err,
+            clock,
+            turns,
+        ),
+        Source::Logged {
+            name,
+            stored,
+            limit,
+            own,
+            master,
+        } => serve_logs::<S, W, E, K>(
+            alloc,
+            name.as_str(),
+            stored,
+            own,
+            master,
+            vol,
+            limited(limit),
+            at,
+            wire,
+            err,
             clock,
             turns,
         ),
@@ -237,22 +341,23 @@ fn drill_memory<O: Sink>(alloc: Global, memory: Memory, seed: u64, count: u32, o
 }
 
 // What is asked for, served, made or done.
-fn carry_out<S: OnVolume, W: Wire, O: Sink, K: Clock>(
+fn carry_out<S: OnVolume, W: Wire, O: Sink, E: Sink, K: Clock>(
     alloc: Global,
     asked: Asked,
     vol: S::V,
     wire: &mut W,
     out: &mut O,
+    err: &mut E,
     clock: &mut K,
 ) -> Stopped<S::V>
     requires opened { W.opened wire.old ≡ false }
     requires fits { Fits asked }
-    ensures run { AskedRun S.V.Volume W.Wire O.Sink result.end asked vol result.vol wire.old wire.new out.old out.new }
+    ensures run { CarriesOut S.V.Volume W.Wire K.answers E.Sink O.Sink result.end asked vol result.vol wire.old wire.new out.old out.new clock.old clock.new err.old err.new }
     ensures caused { CausedBy S.V.faults W.faults O.faults result.end vol result.vol wire.old wire.new out.old out.new }
 {
     match asked {
         Asked::Serve { source, at, turns } => {
-            serve_source::<S, W, K>(alloc, &source, &at, turns, vol, wire, clock)
+            serve_source::<S, W, E, K>(alloc, source, &at, turns, vol, wire, err, clock)
         }
         Asked::Task { name, stored, task } => {
             manage_stored::<S, O>(alloc, name.as_str(), stored, task, vol, out)
@@ -270,19 +375,20 @@ fn carry_out<S: OnVolume, W: Wire, O: Sink, K: Clock>(
 }
 
 // What an order asks for.
-fn follow<S: OnVolume, W: Wire, O: Sink, K: Clock>(
+fn follow<S: OnVolume, W: Wire, O: Sink, E: Sink, K: Clock>(
     alloc: Global,
     order: CommandLine,
     vol: S::V,
     wire: &mut W,
     out: &mut O,
+    err: &mut E,
     clock: &mut K,
 ) -> Stopped<S::V>
     requires opened { W.opened wire.old ≡ false }
-    ensures { RunsAsked S.V.Volume W.Wire O.Sink (asked_in (Some order)) result.end vol result.vol wire.old wire.new out.old out.new }
+    ensures { RunsWanted S.V.Volume W.Wire K.answers E.Sink O.Sink (asked_in (Some order)) result.end vol result.vol wire.old wire.new out.old out.new clock.old clock.new err.old err.new }
 {
     match what_is_asked(order) {
-        Some(asked) => carry_out::<S, W, O, K>(alloc, asked, vol, wire, out, clock),
+        Some(asked) => carry_out::<S, W, O, E, K>(alloc, asked, vol, wire, out, err, clock),
         None => Stopped {
             end: End::Words,
             vol,
@@ -291,16 +397,17 @@ fn follow<S: OnVolume, W: Wire, O: Sink, K: Clock>(
 }
 
 // What the words ask for.
-fn follow_words<S: OnVolume, W: Wire, O: Sink, K: Clock>(
+fn follow_words<S: OnVolume, W: Wire, O: Sink, E: Sink, K: Clock>(
     alloc: Global,
     words: &Vec<String>,
     vol: S::V,
     wire: &mut W,
     out: &mut O,
+    err: &mut E,
     clock: &mut K,
 ) -> Stopped<S::V>
     requires opened { W.opened wire.old ≡ false }
-    ensures { RunsAsked S.V.Volume W.Wire O.Sink (asked_of (texts words.now.items)) result.end vol result.vol wire.old wire.new out.old out.new }
+    ensures { RunsWanted S.V.Volume W.Wire K.answers E.Sink O.Sink (asked_of (texts words.now.items)) result.end vol result.vol wire.old wire.new out.old out.new clock.old clock.new err.old err.new }
 {
     let read = match parse(alloc, words) {
         Ok(read) => read,
@@ -312,7 +419,7 @@ fn follow_words<S: OnVolume, W: Wire, O: Sink, K: Clock>(
         }
     };
     match read {
-        Some(order) => follow::<S, W, O, K>(alloc, order, vol, wire, out, clock),
+        Some(order) => follow::<S, W, O, E, K>(alloc, order, vol, wire, out, err, clock),
         None => Stopped {
             end: End::Words,
             vol,
@@ -321,7 +428,7 @@ fn follow_words<S: OnVolume, W: Wire, O: Sink, K: Clock>(
 }
 
 /// What the program does with the words behind its name. Today it serves a database in memory, or a hash, a tree or a fixed-length database in files: `pipe NAME`
-/// over the standard streams, `serve NAME` with its options but `-ulog` at an address; it makes such files with `hash create NAME`, `tree create NAME` and `fixed create NAME`,
+/// over the standard streams, `serve NAME` with its options at an address, with an update log in files and as a replica; it makes such files with `hash create NAME`, `tree create NAME` and `fixed create NAME`,
 /// and carries out the commands `put`, `out`, `get`, `list`, `inform` and `optimize` of these kinds, and `drill`. The name `*` is a map and `+` a tree in the order of bytes,
 /// both in memory, where a limit has no effect; a name that ends in `.tch`, `.tcb` or `.tcf` is that of files, which `pipe`, `serve` and `drill` make where there are none. All
 /// other words are answered with status 1.
@@ -335,9 +442,9 @@ pub fn run<V: Volume, W: Wire, O: Sink, E: Sink, K: Clock>(
     clock: &mut K,
 ) -> Ran<V>
     requires opened { W.opened wire.old ≡ false }
-    ensures runs { (end : End) × (result.status ≡ status_of end) × Runs V.Volume W.Wire O.Sink E.Sink (texts words.now.items) end vol result.vol wire.old wire.new out.old out.new err.old err.new }
+    ensures runs { RunsOnWords V.Volume W.Wire K.answers E.Sink O.Sink (texts words.now.items) result.status vol result.vol wire.old wire.new out.old out.new clock.old clock.new err.old err.new }
 {
-    let stopped = follow_words::<Kept<V>, W, O, K>(alloc, words, vol, wire, out, clock);
+    let stopped = follow_words::<Kept<V>, W, O, E, K>(alloc, words, vol, wire, out, err, clock);
     let _ = put_line(stopped.end, err);
     Ran {
         status: stopped.end.status(),

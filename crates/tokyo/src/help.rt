@@ -7,7 +7,8 @@ const PROGRAM: &[u8] =
     b"tokyo serves a database in the binary protocol of Tokyo Tyrant, and carries out
 commands on databases in files.
 
-tokyo serve [-host h] [-port p] [-sid n] [-lim n] [-turns n] name    over sockets
+tokyo serve [-host h] [-port p] [-ulog] [-sid n] [-mhost h -mport p] [-lim n]
+            [-turns n] name            over sockets
 tokyo pipe name                        over the standard streams
 tokyo hash|tree|fixed|table --help     commands on files of a kind
 tokyo drill seed n name                makes n requests, and prints what came of them
@@ -25,14 +26,18 @@ Files that aren't there are made by serve, pipe and drill.
   -host    the address, 127.0.0.1 where it is left out; who reaches it may
            read and erase everything: there is no authentication
   -port    1 to 65535; 1978
-  -sid     0 to 65535; 0; without effect yet
+  -ulog    of files: it keeps an update log beside them, x.tch.ulog, and feeds it
+  -sid     0 to 65535; 0; its id in the log: give each server another
+  -mhost   with -ulog and -mport: it follows the server there, and takes no changes
+           from its clients
+  -mport   1 to 65535
   -lim     the most bytes of a file, 256 to 1099511627776; the latter
   -turns   it ends behind so many turns, 1 to 18446744073709551615; the latter
   seed     determines the requests, 0 to 18446744073709551615
   n        so many requests, 0 to 1000000
 
-Words that are not carried out yet: -ulog, -mhost h and -mport p of serve; names of
-tables in files, x.tct; all commands on these; and restore.
+Words that are not carried out yet: names of tables in files, x.tct; all commands on
+these; and restore.
 
 A status other than 0 writes its line to the standard error:
   0  it is done; of serve and pipe: the input ended, and all was answered
