@@ -1,4 +1,4 @@
-"""Draws requests for a database of a kind from a seed: mostly such as succeed and meet what is held, some of another kind, odd or cut."""
+"""Draws requests and text commands for a database of a kind from a seed: mostly such as succeed and meet what is held, some of another kind, odd or cut."""
 import random
 
 import model
@@ -24,13 +24,18 @@ NAMES = sorted(model.UPDATING_NAMES | {b"get", b"getlist", b"range", b"search"})
 # How often each request comes; misc by kind stands in `Draws`.
 WEIGHTS = {
     model.PUT: 9, model.PUTKEEP: 6, model.PUTCAT: 6, model.PUTSHL: 5, model.PUTNR: 6, model.OUT: 6, model.GET: 8, model.MGET: 5, model.VSIZ: 5, model.ITERINIT: 2,
-    model.ITERNEXT: 9, model.FWMKEYS: 6, model.ADDINT: 8, model.ADDDOUBLE: 1, model.EXT: 1, model.SYNC: 1, model.OPTIMIZE: 1, model.VANISH: 0.3, model.COPY: 1,
+    model.ITERNEXT: 9, model.FWMKEYS: 6, model.ADDINT: 8, model.ADDDOUBLE: 1, model.EXT: 1, model.SYNC: 1, model.OPTIMIZE: 1, model.VANISH: 0.3, model.COPY: 0.2,
     model.RESTORE: 1, model.SETMST: 1, model.RNUM: 3, model.SIZE: 4, model.STAT: 3, model.REPL: 1,
 }  # fmt: skip
 MISC_WEIGHTS = {
     b"put": 5, b"putkeep": 3, b"putcat": 4, b"out": 4, b"get": 4, b"putlist": 4, b"outlist": 2, b"getlist": 4, b"putdup": 2, b"range": 2, b"vanish": 0.2,
     b"setindex": 1, b"search": 1,
 }  # fmt: skip
+LINES = {
+    b"set": 9, b"add": 5, b"replace": 4, b"append": 5, b"get": 10, b"delete": 5, b"incr": 6, b"decr": 5, b"flush_all": 0.3, b"version": 1, b"gets": 1, b"quit": 0.1, b"": 0.5,
+}  # fmt: skip
+COUNTS = [b"0", b"1", b"5", b"007", b"18446744073709551615", b"18446744073709551614", b"9223372036854775808"]
+BAD_COUNTS = [b"", b"x", b"-1", b"18446744073709551616", b"000000000000000000001", b"1 2"]
 OF_TREES = {b"putdup": 12, b"range": 10, b"getlist": 8}
 OF_TABLES = {b"put": 10, b"putlist": 1, b"getlist": 1, b"setindex": 6, b"search": 45}
 
@@ -103,6 +108,27 @@ class Draws:
         if self.odds(0.05):
             parts[:0] = [b"", self.column_value()]
         return b"\0".join(parts)
+
+    # Text commands.
+
+    def line(self):
+        """The bytes of one text command."""
+        word, key = self.weighed(LINES), self.key() or b"k"
+        end, quiet = self.draw.choice([b"\r\n", b"\r\n", b"\n"]), b" noreply" if self.odds(0.2) else b""
+        if word in model.STORING:
+            value = self.draw.choice(COUNTS) if self.odds(0.4) else self.value()
+            return b"%s %s %d %d %d%s%s%s\r\n" % (word, key, self.draw.choice(NUMBERS), self.draw.choice([0, -1, 60]), len(value), quiet, end, value)
+        if word == b"get":
+            rest = [self.key() for _ in range(self.draw.randrange(5))]
+        elif word in (b"incr", b"decr"):
+            rest = [key, self.weighed_list([(COUNTS, 9), (BAD_COUNTS, 1)])]
+        else:
+            rest = [key] if word == b"delete" or self.odds(0.1) else []
+        return b" ".join([word, *rest]) + (b"" if word == b"quit" else quiet) + end
+
+    def piece(self):
+        """The bytes of a request or of a text command."""
+        return self.line() if self.odds(0.5) else self.request()
 
     # Requests.
 

@@ -109,6 +109,38 @@ def read(stream, at):
     return command, fields, reader.at
 
 
+# Text commands.
+
+MOST_LINE = 2048
+STORING = {b"set": PUT, b"add": PUTKEEP, b"replace": PUT, b"append": PUTCAT}
+STORING_LINE = re.compile(rb" *(?:set|add|replace|append) +[^ ]{1,250} +[0-9]{1,10} +-?[0-9]{1,10} +([0-9]{1,8})(?: +noreply)? *", re.DOTALL)
+
+
+def read_line(stream, at):
+    """The text command at a place: its words, its value, and the place behind it. Raises NotWhole."""
+    end = stream.find(b"\n", at, at + MOST_LINE)
+    if end < 0:
+        raise NotWhole
+    line = stream[at:end].removesuffix(b"\r")
+    said = [word for word in line.split(b" ") if word]
+    if said == [b"quit"]:
+        raise NotWhole
+    if not said or said[0] not in STORING:
+        return said, b"", end + 1
+    stored = STORING_LINE.fullmatch(line)
+    if not stored or int(stored[1]) > MOST_VALUE:
+        raise NotWhole
+    behind = end + 1 + int(stored[1])
+    if stream[behind : behind + 2] != b"\r\n":
+        raise NotWhole
+    return said, stream[end + 1 : behind], behind + 2
+
+
+def counted(text):
+    """The number below 2^64 of 1 to 20 digits, or none."""
+    return int(text) if re.fullmatch(rb"[0-9]{1,20}", text) and int(text) < 2**64 else None
+
+
 # Texts.
 
 
@@ -526,6 +558,11 @@ def updates(command, fields):
     return name in UPDATING_NAMES or name == b"search" and b"out" in args
 
 
+def may_copy(base, label):
+    """A database in files is copied under a label."""
+    return not base.type.startswith(b"on-memory") and re.fullmatch(rb"[a-z0-9_]{1,64}", label) is not None
+
+
 class Model:
     """A database, and the walk. Each call of `answer` is one request."""
 
@@ -548,14 +585,71 @@ class Model:
         return b"" if command == PUTNR else reply
 
     def replies(self, stream):
-        """What a connection with this input is sent, up to its first bytes that are no whole request."""
+        """What a connection with this input is sent, up to its first bytes that are no whole request and no whole text command."""
         at, replies = 0, b""
         try:
-            while True:
-                command, fields, at = read(stream, at)
-                replies += self.answer(command, fields)
+            while at < len(stream):
+                if stream[at] == 0xC8:
+                    command, fields, at = read(stream, at)
+                    replies += self.answer(command, fields)
+                else:
+                    said, value, at = read_line(stream, at)
+                    replies += self.say(said, value)
         except NotWhole:
-            return replies
+            pass
+        return replies
+
+    def say(self, said, value):
+        """The reply to a text command."""
+        word, rest = (said[0], said[1:]) if said else (b"", [])
+        quiet = rest[-1:] == [b"noreply"] and len(rest) == {b"set": 5, b"add": 5, b"replace": 5, b"append": 5, b"delete": 2, b"incr": 3, b"decr": 3, b"flush_all": 1}.get(word)
+        rest = rest[:-1] if quiet else rest
+        is_key = bool(rest) and len(rest[0]) <= 250
+        if word == b"get" and rest and all(len(key) <= 250 for key in rest):
+            return self.say_all(rest)
+        if word in STORING:
+            line = self.say_stored(word, rest[0], value)
+        elif word == b"delete" and is_key and len(rest) == 1:
+            line = b"NOT_FOUND" if self.found(rest[0]) is None else self.done(b"DELETED", OUT, rest[0])
+        elif word in (b"incr", b"decr") and is_key and len(rest) == 2 and counted(rest[1]) is not None:
+            line = self.say_counted(rest[0], counted(rest[1]) * (1 if word == b"incr" else -1))
+        elif word == b"flush_all" and not rest:
+            line = self.done(b"OK", VANISH)
+        else:
+            return b"VERSION 1.1\r\n" if said == [b"version"] else b"ERROR\r\n"
+        return b"" if quiet else line + b"\r\n"
+
+    def found(self, key):
+        reply = self.answer(GET, [key])
+        return reply[5:] if self.ok else None
+
+    def done(self, line, command, *fields):
+        self.answer(command, list(fields))
+        return line if self.ok else b"SERVER_ERROR"
+
+    def say_all(self, keys):
+        lines = b""
+        for key in keys:
+            value = self.found(key)
+            if value is not None:
+                lines += b"VALUE %s 0 %d\r\n%s\r\n" % (key, len(value), value)
+        lines += b"END\r\n"
+        return lines if len(lines) <= MOST_REPLY else b"SERVER_ERROR\r\n"
+
+    def say_stored(self, word, key, value):
+        held = self.found(key) is not None
+        if held if word == b"add" else not held and word in (b"replace", b"append"):
+            return b"NOT_STORED"
+        return self.done(b"STORED", STORING[word], key, value)
+
+    def say_counted(self, key, by):
+        held = self.found(key)
+        if held is None:
+            return b"NOT_FOUND"
+        if counted(held) is None:
+            return b"CLIENT_ERROR cannot increment or decrement non-numeric value"
+        number = b"%d" % ((counted(held) + by) % 2**64 if by > 0 else max(counted(held) + by, 0))
+        return self.done(number, PUT, key, number)
 
     def told(self, command, fields):
         """What stands behind the reply's first byte."""
@@ -596,7 +690,7 @@ class Model:
         elif command == STAT:
             return sized(b"type\t%s\nrnum\t%d\nsize\t%d\n" % (base.type, base.count(), base.size()))
         else:
-            check(command in (SYNC, OPTIMIZE))
+            check(command in (SYNC, OPTIMIZE) or command == COPY and may_copy(self.base, *fields))
         return b""
 
     def next(self):

@@ -1,11 +1,11 @@
 //! What a run is given: its words and what happens on its wire.
 ghost use Rattle.std.specs.Prelude.{◌≡◌, false, IfOk};
 
-use play_text::{Line, Pattern, Why, Wrong};
+use play_text::{Line, Pattern, Why, Wrong, number_of};
 use std::alloc::{AllocError, Global};
 use tc_base::Blob;
 use tc_fakes::{MemSink, MemWire};
-use tc_io::{Act, Sent};
+use tc_io::{Act, Dialled, Sent};
 
 // What happens on a wire, or how it answers.
 #[derive(Drop)]
@@ -17,6 +17,7 @@ enum Step {
     Ended(u32),
     Quiet,
     Answer(u64, u64, Sent),
+    Dial(Dialled),
 }
 
 /// The words of a run, the steps of its wire, and which calls of the wire and of the sink fail.
@@ -51,11 +52,23 @@ fn took_of(line: &mut Line) -> Result<Sent, Wrong> {
     Ok(Sent::Took(bytes as usize))
 }
 
+/// How a dial is answered.
+pub fn dialled_of(line: &mut Line) -> Result<Dialled, Wrong> {
+    let word = line.word();
+    if matches!(word, "later") {
+        return Ok(Dialled::NotNow);
+    }
+    let conn = number_of(word).ok_or(Wrong::Unread)?;
+    let conn = u32::try_from(conn).ok().ok_or(Wrong::Unread)?;
+    Ok(Dialled::Conn(conn))
+}
+
 // What happens on a connection.
 fn step_of(alloc: Global, what: &str, line: &mut Line, piece: usize) -> Result<Step, Wrong> {
     match what {
         "ended" => Ok(Step::Ended(line.small()?)),
         "quiet" => Ok(Step::Quiet),
+        "dial" => Ok(Step::Dial(dialled_of(line)?)),
         "read" => {
             let conn = line.small()?;
             let bytes = line.bytes()?;
@@ -103,6 +116,7 @@ fn add(wire: &mut MemWire, step: &Step) -> Result<(), AllocError>
         Step::Ended(conn) => wire.act(Act::Ended(*conn)),
         Step::Quiet => wire.act(Act::Quiet),
         Step::Answer(first, last, sent) => answer(wire, *first, *last, *sent),
+        Step::Dial(answer) => wire.dial_gives(*answer),
     }
 }
 

@@ -4,7 +4,7 @@ ghost use Rattle.std.specs.Prelude.{◌≤◌, IfOk};
 use crate::outcome::{Outcome, ran};
 use crate::plan::Plan;
 use crate::transcript::{is_call, next_told, sent_besides};
-use crate::trials::{Trial, try_all};
+use crate::trials::{Trial, try_all, try_copies};
 use play_stops::{Trouble, WHOLE, are_same};
 use play_text::{Line, Pattern, Player, Script, Why, Wrong, told};
 use std::alloc::{AllocError, Global};
@@ -94,6 +94,14 @@ impl Runs {
         let length = line.within(0, all.len() as u64)?;
         all.truncate(length as usize);
         Ok(self.vol.load(file, &all)?)
+    }
+
+    // The files are those of the copy under a label.
+    fn restore(&mut self, line: &mut Line) -> Result<(), Wrong> {
+        self.made = true;
+        let copy = self.vol.copy(line.word().as_bytes())?;
+        drop(mem::replace(&mut self.vol, copy));
+        Ok(())
     }
 
     // Takes a line that makes files.
@@ -208,6 +216,24 @@ impl Runs {
         line.is_bytes(self.vol.bytes(file))
     }
 
+    // Looks at the bytes of a file of the copy under a label.
+    fn is_copied(&mut self, line: &mut Line) -> Result<(), Wrong> {
+        let copy = self.vol.copy(line.word().as_bytes())?;
+        let file = file_of(line)?;
+        line.is_bytes(copy.bytes(file))
+    }
+
+    // A file of the copy under a label is as that of the database.
+    fn is_same(&mut self, line: &mut Line) -> Result<(), Wrong> {
+        let copy = self.vol.copy(line.word().as_bytes())?;
+        let file = file_of(line)?;
+        line.compares();
+        if copy.bytes(file) == self.vol.bytes(file) {
+            return Ok(());
+        }
+        Err(Wrong::Not(Why::AnotherFile))
+    }
+
     // Looks at a line that says what the wire was asked next, or that it was asked nothing.
     fn is_asked(&mut self, line: &mut Line) -> Result<(), Wrong> {
         let Some(outcome) = &self.outcome else {
@@ -262,6 +288,23 @@ impl Runs {
         line.compares();
         try_all(self.alloc, &self.plan, &self.trial, &self.vol, trouble)
     }
+
+    // The same of the copy under a label, where the run is stopped at each call.
+    fn try_copy(&mut self, line: &mut Line) -> Result<(), Wrong> {
+        self.is_all_told()?;
+        drop(self.outcome.take());
+        (self.made, self.plan.waits, self.trial.waits) = (false, false, false);
+        let label = line.own_word()?;
+        self.trial.calls = line.number()?;
+        line.compares();
+        try_copies(
+            self.alloc,
+            &self.plan,
+            &self.trial,
+            &self.vol,
+            label.as_str(),
+        )
+    }
 }
 
 impl Runs {
@@ -272,6 +315,8 @@ impl Runs {
             "file" | "kept" | "log" => self.is_left(what, line),
             "did" => self.is_asked(line),
             "calls" => self.is_called(line),
+            "copy" => self.is_copied(line),
+            "same" => self.is_same(line),
             "sent" => self.is_sent(line),
             _ => self.is(what, line),
         }
@@ -283,6 +328,8 @@ impl Runs {
             "load" | "poke" | "cut" => self.make(what, line),
             "run" => self.run(line),
             "again" | "asks" | "before" | "after" => self.trial.take(what, line),
+            "restore" => self.restore(line),
+            "copies" => self.try_copy(line),
             "stops" => self.try_run(Trouble::Stop, line),
             "faults" => self.try_run(Trouble::Fault, line),
             "sent"
@@ -294,6 +341,8 @@ impl Runs {
             | "kept"
             | "log"
             | "did"
+            | "copy"
+            | "same"
             | "calls" => { self.look(what, line) }
             _ => self.plan.take(what, line),
         }

@@ -1,9 +1,9 @@
 //! What a wire was asked, in order.
 
-use crate::plan::sent_of;
+use crate::plan::{dialled_of, sent_of};
 use play_text::{Line, Wrong};
 use std::alloc::Global;
-use tc_io::{At, Entry, Ev, Sent};
+use tc_io::{At, Dialled, Entry, Ev, Sent};
 
 // Whether a call is one that a script tells.
 fn is_told(entry: &Entry) -> bool {
@@ -20,17 +20,26 @@ pub fn next_told(log: &[Entry], from: usize) -> Option<(usize, &Entry)> {
     None
 }
 
-/// Whether a connection opened.
+// The connection that a call gave.
+fn given_by(entry: &Entry) -> Option<u32> {
+    match entry {
+        Entry::Event {
+            ev: Ev::Opened(conn),
+            ..
+        } => Some(*conn),
+        Entry::Dial {
+            answer: Dialled::Conn(conn),
+            ..
+        } => Some(*conn),
+        _ => None,
+    }
+}
+
+/// Whether a connection opened, or was dialled.
 pub fn has_opened(log: &[Entry], conn: u32) -> bool {
     for entry in log.iter() {
-        if let Entry::Event {
-            ev: Ev::Opened(opened),
-            ..
-        } = entry
-        {
-            if *opened == conn {
-                return true;
-            }
+        if given_by(entry) == Some(conn) {
+            return true;
         }
     }
     false
@@ -80,7 +89,7 @@ fn is_send(
     Err(Wrong::Differs(format!(in alloc; "to {conn}, {answer:?}")?))
 }
 
-/// Whether a call is that of a line: `pipe`, `serve HOST PORT`, `send CONN ANSWER BYTES`, `close CONN`.
+/// Whether a call is that of a line: `pipe`, `serve HOST PORT`, `dial HOST PORT ANSWER`, `send CONN ANSWER BYTES`, `close CONN`.
 pub fn is_call(alloc: Global, line: &mut Line, entry: &Entry) -> Result<(), Wrong> {
     let what = line.own_word()?;
     let fits = match (what.as_str(), entry) {
@@ -91,6 +100,9 @@ pub fn is_call(alloc: Global, line: &mut Line, entry: &Entry) -> Result<(), Wron
                 at: At::Host { host, port },
             },
         ) => is_address(line, host.as_slice(), *port)?,
+        ("dial", Entry::Dial { host, port, answer }) => {
+            is_address(line, host.as_slice(), *port)? && dialled_of(line)? == *answer
+        }
         (
             "send",
             Entry::Send {

@@ -249,3 +249,76 @@ pub fn try_all(
     }
     Err(ENDLESS)
 }
+
+// What a stop leaves of a copy can't be opened, or has the old contents or the new ones; where the run had ended well, the new ones.
+fn is_a_copy(course: &Course<'_>, copy: MemVolume) -> Result<(), Wrong> {
+    let (outcome, left) = ran(course.alloc, course.again, copy)?;
+    drop(left);
+    let unopened = outcome.status == 4 && outcome.wire.sent(0).is_empty();
+    let held = if unopened && !course.ended {
+        Ok(())
+    } else {
+        course.is_held(&outcome)
+    };
+    drop(outcome);
+    held
+}
+
+// Each of what stops leave of the copy under a label is.
+fn are_copies(course: &mut Course<'_>, left: &MemVolume, label: &str) -> Result<(), Wrong> {
+    let copy = left.copy(label.as_bytes())?;
+    for image in course.opened.unseen(&copy, &choices())? {
+        is_a_copy(course, image)?;
+    }
+    Ok(())
+}
+
+// What is left of the copy under a label by a run that is to be stopped at a call. Answers whether it wasn't stopped.
+fn try_copy_at(
+    plan: &Plan,
+    files: &MemVolume,
+    course: &mut Course<'_>,
+    label: &str,
+    call: u64,
+) -> Result<bool, Wrong> {
+    let vol = troubled(course.alloc, course.trouble, files, call)?;
+    let (outcome, left) = ran(course.alloc, plan, vol)?;
+    let is_last = outcome.status == 0;
+    drop(outcome);
+    let copies = if is_last {
+        let mut ended = Course::new(
+            course.alloc,
+            course.trial,
+            course.again,
+            course.trouble,
+            true,
+        );
+        are_copies(&mut ended, &left, label)
+    } else {
+        are_copies(course, &left, label)
+    };
+    drop(left);
+    copies?;
+    Ok(is_last)
+}
+
+/// A run is stopped at each call in turn, until none is: what stops leave of the copy under a label.
+pub fn try_copies(
+    alloc: Global,
+    plan: &Plan,
+    trial: &Trial,
+    files: &MemVolume,
+    label: &str,
+) -> Result<(), Wrong> {
+    if trial.asks.is_empty() {
+        return Err(Wrong::Not(Why::NothingAsked));
+    }
+    let again = Plan::asking(alloc, trial.again.clone()?, trial.asks.as_slice())?;
+    let mut course = Course::new(alloc, trial, &again, Trouble::Stop, false);
+    for call in 1..=trial.calls {
+        if try_copy_at(plan, files, &mut course, label, call)? {
+            return Ok(());
+        }
+    }
+    Err(ENDLESS)
+}

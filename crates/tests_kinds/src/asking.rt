@@ -2,7 +2,7 @@
 
 use crate::script::{Head, Step};
 use std::alloc::{AllocError, Global};
-use tc_base::Blob;
+use tc_base::{Blob, Request};
 use tc_model::{Applied, Walk};
 use tc_plain::{Contents, apply_plain};
 use ty_wire::{Front, read_request, take};
@@ -30,23 +30,27 @@ impl Database {
         }
     }
 
+    fn answer(&mut self, alloc: Global, request: &Request) -> Result<Answer, AllocError> {
+        let mut reply = Blob::new(alloc);
+        let applied = apply_plain(
+            alloc,
+            &mut self.contents,
+            &mut self.walk,
+            request,
+            &mut reply,
+        )?;
+        Ok(Answer { reply, applied })
+    }
+
     /// Asks it a request, or answers none where the bytes aren't one.
     pub fn ask(&mut self, alloc: Global, bytes: &[u8]) -> Result<Option<Answer>, AllocError> {
-        match take(bytes) {
-            Front::Whole(_) => {
-                let request = read_request(alloc, bytes)?;
-                let mut reply = Blob::new(alloc);
-                let applied = apply_plain(
-                    alloc,
-                    &mut self.contents,
-                    &mut self.walk,
-                    &request,
-                    &mut reply,
-                )?;
-                Ok(Some(Answer { reply, applied }))
-            }
-            Front::Part | Front::Bad => Ok(None),
-        }
+        let Front::Whole(_) = take(bytes) else {
+            return Ok(None);
+        };
+        let request = read_request(alloc, bytes)?;
+        let answer = self.answer(alloc, &request);
+        drop(request);
+        Ok(Some(answer?))
     }
 }
 

@@ -1,14 +1,11 @@
-//! Commits writes to a file of a folder, each made at once or held until the commit: what `bench/waits` times.
-//! Its words are the database's name, `through` or `held`, how many commits, and how many writes of 64 bytes in each.
-#![tactic(auto)]
+//! Commits of writes to a file of a folder, each made at once or held until the commit: what `bench/waits` times.
 
-ghost use Rattle.std.specs.Prelude.{◌<◌, OnOk};
+ghost use Rattle.std.specs.Prelude.{◌<◌, ◌≡◌, true, OnOk};
 
 use anyhow::{Error, anyhow};
-use std::env;
+use std::alloc::Global;
 use tc_held::{Held, HeldSpace};
 use tc_io::Volume;
-use tc_realfs::FolderVolume;
 use tc_space::Space;
 use tc_undo::Undo;
 
@@ -59,27 +56,21 @@ fn commit_all<S: Space>(space: &mut S, commits: u64, writes: u64) -> Result<(), 
     Ok(())
 }
 
-fn main(rt: HostRuntime) -> Result<(), Error> {
-    let alloc = rt.alloc();
-    let words: Vec<String> = env::args(&rt)?.skip(1).collect(alloc)?;
-    let [name, how, commits, writes] = words.as_slice() else {
-        return Err(anyhow!("NAME through|held COMMITS WRITES"));
+/// Makes so many commits of so many writes of 64 bytes.
+pub fn keep<V: Volume + Drop>(alloc: Global, vol: V, words: &[String]) -> Result<(), Error>
+    requires { V.bound vol ≡ true }
+{
+    let [how, commits, writes] = words else {
+        return Err(anyhow!("commits NAME through|held COMMITS WRITES"));
     };
     let (commits, writes) = (commits.parse()?, writes.parse()?);
-    let mut vol = FolderVolume::new(&rt, alloc);
-    let Ok(()) = vol.bind(name) else {
-        return Err(anyhow!("no file of this name"));
-    };
     let Ok(space) = Undo::open(vol, 1 << 20) else {
         return Err(anyhow!("the file can't be opened"));
     };
     let mut space = space;
     if matches!(how.as_str(), "held") {
         let mut held = HeldSpace::new(space, Held::new(alloc)?);
-        commit_all(&mut held, commits, writes)?;
-    } else {
-        commit_all(&mut space, commits, writes)?;
+        return commit_all(&mut held, commits, writes);
     }
-    println!(rt; "kept")?;
-    Ok(())
+    commit_all(&mut space, commits, writes)
 }

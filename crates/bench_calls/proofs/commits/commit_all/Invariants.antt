@@ -1,4 +1,4 @@
-use Rattle.bench_held.proofs.commit_all.Given as goal
+use Rattle.bench_calls.proofs.commits.commit_all.Given as goal
 
 abbrev pub invariant-loop : goal.invariant-loop
 invariant-loop g l = g.S.Space.sound l.space

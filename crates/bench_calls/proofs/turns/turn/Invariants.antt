@@ -1,5 +1,5 @@
 use Rattle.std.proofs.Common.{◌≡◌, true}
-use Rattle.bench_pool.proofs.turns.turn.Given as goal
+use Rattle.bench_calls.proofs.turns.turn.Given as goal
 
 abbrev pub invariant-loop-i : goal.invariant-loop-i
 invariant-loop-i l = l.space.sound ≡ true

@@ -2,7 +2,7 @@ use Rattle.std.proofs.Common.{ℕ, ◌^◌, ◌≤◌, refl, arith, lit<, subst,
 use Rattle.std.proofs.Math.Nat.{pow-le-pow_right}
 use Rattle.hf_block.specs.Rows.{StandApart}
 use Rattle.hf_pool.proofs.Building.{row_apart}
-use Rattle.bench_pool.proofs.blocks.pool.Goals as goal
+use Rattle.bench_calls.proofs.blocks.pool.Goals as goal
 
 pub walk-requires-clause-head : goal.walk-requires-clause-head
 walk-requires-clause-head c = ((c.in-Ok.ensures.ok c.in-Ok.head).0 refl).0
