@@ -61,7 +61,7 @@ _tokyo() {
     elif [[ $command == @(hash|tree|fixed) ]]; then
         mapfile -t COMPREPLY < <(_tokyo_behind_command "$command" "${COMP_WORDS[2]}" "$word")
     elif [ "$command" = serve ] && [[ $word == -* ]]; then
-        mapfile -t COMPREPLY < <(compgen -W "-host -port -lim -sid -turns" -- "$word")
+        mapfile -t COMPREPLY < <(compgen -W "-host -port -ulog -sid -mhost -mport -lim -turns" -- "$word")
     elif [ "$command" = serve ] || [ "$command $COMP_CWORD" = "pipe 2" ] || [ "$command $COMP_CWORD" = "drill 4" ]; then
         mapfile -t COMPREPLY < <(_tokyo_files hbf "$word")
         [ -n "$word" ] || COMPREPLY+=("${_tokyo_names[@]}")

@@ -30,6 +30,7 @@ import os
 import selectors
 import socket
 import sys
+import time
 
 MOST_KEY = 1_048_576
 MOST_VALUE = 16_777_216
@@ -270,9 +271,10 @@ class Requests:
         """Succeeds, and leaves the contents."""
         return self._of_text("optimize", 0x71, parameters)
 
-    def copy(self, path):
-        """Always refused by this server."""
-        return self._of_text("copy", 0x73, path)
+    def copy(self, label):
+        """Copies the files under a label: 1 to 64 lower-case letters, digits or '_'. Refused of a database in memory. The answer comes once the copy
+        is on the disk: a large one wants a longer timeout."""
+        return self._of_text("copy", 0x73, label)
 
     def restore(self, path, timestamp=0, options=0):
         """Always refused by this server."""
@@ -283,7 +285,7 @@ class Requests:
         return self._of_text("setmst", 0x78, host, numbers=number(port, 4, "port") + number(timestamp, 8, "timestamp") + number(options, 4, "options"))
 
     def repl(self, timestamp, server):
-        """Always refused by this server."""
+        """Refused where the server keeps no update log, or where the id is its own. Else a feed of records would come, which no call reads: see `behind`."""
         return self._ask(Request("repl", 0xA0, number(timestamp, 8, "timestamp") + number(server, 4, "server"), b"", nothing))
 
     def ext(self, name, key=b"", value=b"", options=0):
@@ -439,7 +441,7 @@ class Tokyo(Requests):
     Raises Broken where nobody listens, or it can't be reached."""
 
     def __init__(self, host="127.0.0.1", port=1978, timeout=30.0):
-        self.timeout = timeout
+        self.timeout, self.address = timeout, (host, port)
         self._socket = self._selector = None
         try:
             opened = socket.create_connection((host, port), timeout)
@@ -654,6 +656,73 @@ def load(db, stream, at_once=8):
     return number
 
 
+# ---- replicas
+
+NO_SERVER = 0xFFFF_FFFF  # an id that no server has
+
+
+def stamps(address, above=0, quiet=1.0, timeout=30.0):
+    """Yields the timestamps of the records above one that the server at this address (a host and a port) has, until none came for so many seconds.
+    Refused where it keeps no update log."""
+    try:
+        with socket.create_connection(address, timeout) as feed:
+            feed.sendall(b"\xc8\xa0" + number(above, 8, "above") + NO_SERVER.to_bytes(4, "big"))
+            yield from stamps_in(feed, quiet)
+    except OSError as error:
+        raise Broken(f"no feed of {address[0]} port {address[1]}: {error}") from error
+
+
+def stamps_in(feed, quiet):
+    """Reads the id of the server, and then records, of which it yields the timestamps."""
+    came = bytearray()
+    while len(came) < 4:
+        came += some_of(feed)
+        if came[0] == 1:
+            raise Refused("repl")
+    del came[:4]
+    feed.settimeout(quiet)
+    while True:
+        at = 0
+        while len(came) - at >= 25 and len(came) - at >= 25 + int.from_bytes(came[at + 21 : at + 25], "big"):
+            yield int.from_bytes(came[at + 1 : at + 9], "big")
+            at += 25 + int.from_bytes(came[at + 21 : at + 25], "big")
+        del came[:at]
+        try:
+            came += some_of(feed)
+        except TimeoutError:
+            return
+
+
+def some_of(feed):
+    data = feed.recv(PIECE)
+    if not data:
+        raise Broken("the server closed the feed")
+    return data
+
+
+class Behind(collections.namedtuple("Behind", "records master replica")):
+    """How many records the master has above the replica's last, and the last timestamps of both."""
+
+    @property
+    def microseconds(self):
+        """How much later the master's last record is than the replica's."""
+        return max(self.master - self.replica, 0)
+
+
+def behind(master, replica, above=0, quiet=1.0, timeout=30.0):
+    """How far a replica is behind its master, each an address (a host and a port): a Behind. It reads both logs above a timestamp, until nothing came for
+    so many seconds: give it the replica's of the last call, or 0, which reads the whole logs. Records that are written behind its beginning, by this
+    machine's clock, count for neither. What the replica takes while it is read isn't seen as missing."""
+    began = time.time_ns() // 1000
+
+    def had(address):
+        return itertools.takewhile(lambda stamp: stamp <= began, stamps(address, above, quiet, timeout))
+
+    last = max(had(replica), default=above)
+    later = [stamp for stamp in had(master) if stamp > last]
+    return Behind(len(later), max(later, default=last), last)
+
+
 # ---- the command line
 
 USAGE = """tokyo.py [-host h] [-port p] COMMAND
@@ -664,8 +733,12 @@ putcat KEY VALUE    join it behind       list [PREFIX]     print the keys that b
 out KEY             take a key out       rnum, size, stat  print figures
 vanish [-y]         take all keys out; asks first, but with -y
 misc NAME ARG ...   ask by name, and print each text of the reply
+copy LABEL          copy the server's files under a label, beside them
 dump                print the whole database, for load: keys and values of any bytes
 load                put what a dump has, from the standard input, and print how many
+behind HOST PORT [TIMESTAMP]
+                    how far the server is behind its master, which is there: print how many records, how many microseconds,
+                    and the timestamp to give next time (with none both logs are read whole)
 
 The host is 127.0.0.1 and the port 1978 where they aren't given.
 Status 0: done. 1: the server refused it, or vanish wasn't confirmed. 2: wrong words. 3: the connection failed.
@@ -689,6 +762,12 @@ def asked_to_vanish(db, words):
     db.vanish()
 
 
+def copy_files(db, words):
+    """The server answers once the copy is on the disk, however long that takes."""
+    db.timeout = None
+    db.copy(*words)
+
+
 def print_dump(db):
     """Prints a dump piece by piece. A reader that goes away before its end is a failure."""
     for piece in dump(db):
@@ -698,6 +777,18 @@ def print_dump(db):
         except OSError as error:
             os.dup2(os.open(os.devnull, os.O_WRONLY), sys.stdout.fileno())
             raise NoDump(f"the dump wasn't taken: {error.strerror}") from error
+
+
+def how_far_behind(db, words):
+    """The lines of `behind`, of the server that this is a connection to."""
+    found = behind((os.fsdecode(words[0]), natural_word(words[1], 65_535)), db.address, natural_word(words[2], (1 << 63) - 1) if words[2:] else 0)
+    return b"records\t%d\nmicroseconds\t%d\ntimestamp\t%d\n" % (found.records, found.microseconds, found.replica)
+
+
+def natural_word(word, most):
+    if not (word.isdigit() and len(word) <= 20 and int(word) <= most):
+        raise WrongWords
+    return int(word)
 
 
 # By name: how many words there may be, and what is printed.
@@ -713,9 +804,11 @@ COMMANDS = {
     "size": (0, 0, lambda db, words: b"%d\n" % db.size()),
     "stat": (0, 0, lambda db, words: lines(f"{name}\t{value}".encode() for name, value in db.stat().items())),
     "vanish": (0, 1, asked_to_vanish),
+    "copy": (1, 1, copy_files),
     "misc": (1, None, lambda db, words: lines(db.misc(*words))),
     "dump": (0, 0, lambda db, words: print_dump(db)),
     "load": (0, 0, lambda db, words: b"%d\n" % load(db, sys.stdin.buffer)),
+    "behind": (2, 3, how_far_behind),
 }
 
 
