@@ -44,12 +44,13 @@ abbrev pub row_held : Contents → List ℕ → Option Row
 row_held (table rows indexes) key = get rows key
 row_held _ key = None
 
--- lexical, decimal, or none: to be removed
+-- lexical, decimal, of tokens, or none: to be removed
 abbrev pub index_of : List ℕ → Option (Option IndexKind)
 index_of code =
     if is_text code (codes "0") then Some (Some index.Lexical)
     else (if is_text code (codes "1") then Some (Some index.Decimal)
-    else (if is_text code (codes "9999") then Some None else None))
+    else (if is_text code (codes "2") then Some (Some index.Token)
+    else (if is_text code (codes "9999") then Some None else None)))
 
 -- an index that isn't there can't be removed, and there are at most 16
 abbrev pub with_index : Indexes → List ℕ → Option IndexKind → Option Indexes

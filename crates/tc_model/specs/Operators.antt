@@ -21,13 +21,28 @@ abbrev pub is_between : ℤ → List (List ℕ) → Bool
 is_between n (x ∷ y ∷ rest) = (int_le (text_number x) n && int_le n (text_number y)) || (int_le (text_number y) n && int_le n (text_number x))
 is_between n _ = false
 
+-- all tokens of e are tokens of v, and some are
+abbrev pub all_tokens : Test
+all_tokens v e = list_all (λ t. is_among t (tokens v)) (tokens e)
+
+abbrev pub some_token : Test
+some_token v e = list_any (λ t. is_among t (tokens v)) (tokens e)
+
+-- texts stand among others one after the other
+abbrev pub follow : List (List ℕ) → List (List ℕ) → Bool
+follow [] es = starts_with is_text [] es
+follow (v ∷ vs) es = starts_with is_text (v ∷ vs) es || follow vs es
+
 -- ---- the table, a test of the column's bytes v and the expression e a line
 
 abbrev pub Operator : Type 0
 Operator = ℕ × Test
 
+abbrev pub text_operators : List Operator
+text_operators = (15, λ v e. follow (tokens v) (tokens e)) ∷ (16, λ v e. all_tokens v e) ∷ (17, λ v e. some_token v e) ∷ []
+
 abbrev pub numbers_operators : List Operator
-numbers_operators = (13, λ v e. is_between (text_number v) (tokens e)) ∷ (14, λ v e. list_any (λ t. same_number (text_number v) (text_number t)) (tokens e)) ∷ []
+numbers_operators = (13, λ v e. is_between (text_number v) (tokens e)) ∷ (14, λ v e. list_any (λ t. same_number (text_number v) (text_number t)) (tokens e)) ∷ text_operators
 
 abbrev pub number_operators : List Operator
 number_operators =
@@ -40,8 +55,8 @@ number_operators =
 
 abbrev pub token_operators : List Operator
 token_operators =
-    (4, λ v e. list_all (λ t. is_among t (tokens v)) (tokens e))
-    ∷ (5, λ v e. list_any (λ t. is_among t (tokens v)) (tokens e))
+    (4, λ v e. all_tokens v e)
+    ∷ (5, λ v e. some_token v e)
     ∷ (6, λ v e. is_among v (tokens e))
     ∷ number_operators
 

@@ -1,5 +1,5 @@
 -- Texts of numbers, and the parts that a text has.
-use Rattle.std.specs.Prelude.{ℕ, ◌+◌, ◌-◌, ◌*◌, Bool, ◌&&◌, ◌||◌, ◌==◌, List, [], ◌∷◌, length, filter, nat_le, Option, Some, None, if◌then◌else◌}
+use Rattle.std.specs.Prelude.{ℕ, ◌+◌, ◌-◌, ◌*◌, Bool, ◌&&◌, ◌||◌, ◌==◌, List, [], ◌∷◌, ◌++◌, length, filter, nat_le, Option, Some, None, if◌then◌else◌}
 use Rattle.std.specs.List.{list_any, list_all, slice_split, fold}
 use Rattle.tc_base.specs.Decimal.{is_digit}
 use Rattle.tc_base.specs.Texts.{is_text}
@@ -42,3 +42,11 @@ not_empty text = nat_le 1 (length text)
 -- the tokens: the longest runs of bytes other than space and comma
 abbrev pub tokens : List ℕ → List (List ℕ)
 tokens text = filter not_empty (slice_split (λ b. b == 32 || b == 44) text)
+
+-- behind the others, unless it is one of them
+abbrev pub with_text : List (List ℕ) → List ℕ → List (List ℕ)
+with_text ts t = if is_among t ts then ts else ts ++ t ∷ []
+
+-- each once, in order of first place
+abbrev pub distinct : List (List ℕ) → List (List ℕ)
+distinct ts = fold with_text [] ts

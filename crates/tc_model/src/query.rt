@@ -1,10 +1,14 @@
 use tc_base::{Blob, Seq};
 
-/// By what the pairs of an index are ordered.
+/// What the pairs of an index have of a column's value, and by what they are ordered.
 #[derive(Clone, Copy, PartialEq, Eq)]
 pub enum IndexKind {
+    /// The value, by bytes.
     Lexical,
+    /// The value, by its number.
     Decimal,
+    /// Each token of it, by bytes.
+    Token,
 }
 
 /// A condition on a column; an empty column is the primary key.

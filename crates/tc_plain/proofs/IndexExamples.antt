@@ -4,7 +4,7 @@ use Rattle.std.specs.FinMap.{empty, insert}
 use Rattle.tc_base.specs.declared.request.Request.{Request}
 use Rattle.tc_base.specs.declared.request.Request.TheVariants.{Misc}
 use Rattle.tc_base.specs.declared.request.Reply.TheVariants.{FailMisc, List as Items}
-use Rattle.tc_model.specs.declared.query.IndexKind.TheVariants.{Lexical}
+use Rattle.tc_model.specs.declared.query.IndexKind.TheVariants.{Lexical, Token}
 use Rattle.tc_model.specs.declared.query.IndexKind.{IndexKind}
 use Rattle.std.specs.Ordering.{nat_cmp}
 use Rattle.std.specs.Cmp.Lexicographic.{slice_cmp}
@@ -17,6 +17,11 @@ use Rattle.tc_plain.proofs.Scripts.{answers, computing, map_of}
 
 abbrev three : Rows
 three = insert (insert (insert empty (codes "p1") (pair (codes "n") (codes "2") ∷ [])) (codes "p2") []) (codes "p3") (pair (codes "m") (codes "9") ∷ pair (codes "n") (codes "1") ∷ [])
+
+-- each token of a value once
+pairs_of_tokens : index_pairs (insert empty (codes "p1") (pair (codes "c") (codes "red, blue red") ∷ [])) (codes "c") Token ≡ pair (codes "red") (codes "p1") ∷ pair (codes "blue") (codes "p1") ∷ []
+unfolding index_pairs
+pairs_of_tokens = simp computing
 
 -- the rows that have the column
 pairs_of_rows : index_pairs three (codes "n") Lexical ≡ pair (codes "2") (codes "p1") ∷ pair (codes "1") (codes "p3") ∷ []

@@ -1,5 +1,5 @@
 pub mod Cutting
-pub mod Drafting
+pub mod Doing
 pub mod Ends
 pub mod Entries
 pub mod Fitting

@@ -53,9 +53,16 @@ number_of_token : meets 14 (Some (codes "2")) (codes "1,2.0") && not (meets 14 (
 unfolding text_number digits behind_digits decimal nine
 number_of_token = refl
 
+-- one after the other, in their order
+one_after_the_other : meets 15 (Some (codes "blue sky, red")) (codes "blue,sky") && (not (meets 15 (Some (codes "sky blue")) (codes "blue sky")) && meets 15 (Some (codes "red")) (codes ",")) ≡ true
+one_after_the_other = refl
+
+as_tokens : meets 16 (Some (codes "sky blue")) (codes "blue sky") && (not (meets 16 (Some (codes "blue")) (codes "blue sky")) && meets 17 (Some (codes "blue sky")) (codes "red sky")) ≡ true
+as_tokens = refl
+
 -- what a row lacks meets none
 lacking : meets 0 None [] ≡ false
 lacking = refl
 
-accepted : is_operator 14 && (not (is_operator 7) && (not (is_operator 15) && (is_complete 13 (codes "1,2") && not (is_complete 13 (codes "1,"))))) ≡ true
+accepted : is_operator 14 && (not (is_operator 7) && (not (is_operator 18) && (is_complete 13 (codes "1,2") && not (is_complete 13 (codes "1,"))))) ≡ true
 accepted = refl

@@ -1,6 +1,7 @@
 -- What parts of the plain bodies compute.
-use Rattle.std.specs.Prelude.{ℕ, ℤ, Bool, true, false, not, List, [], ◌++◌, filter, Option, Some, None, option_map, option_and_then, is_some, unwrap_or, if◌then◌else◌}
+use Rattle.std.specs.Prelude.{ℕ, ℤ, Bool, true, false, not, List, [], ◌∷◌, ◌++◌, length, map, flat_map, filter, Option, Some, None, option_map, option_and_then, is_some, unwrap_or, if◌then◌else◌}
 use Rattle.std.specs.FinMap.{get}
+use Rattle.std.specs.Fmt.{decimal}
 use Rattle.tc_base.specs.declared.request.Request.{Request}
 use Rattle.tc_base.specs.declared.request.Request.TheVariants.{Put, PutKeep, PutCat, PutShl, PutNr, Out, IterInit, IterNext, AddInt, Vanish, Misc as Call, Repl}
 use Rattle.tc_base.specs.declared.kind.Mode.{Mode}
@@ -20,8 +21,12 @@ use Rattle.tc_model.specs.Values.{allowed}
 use Rattle.tc_model.specs.Maps.{without}
 use Rattle.tc_model.specs.Arrays.{Array, id_of, with_cell}
 use Rattle.tc_model.specs.Contents.{Contents, Rows}
+use Rattle.tc_model.specs.Meaning.{reply_of, without_rows}
+use Rattle.tc_model.specs.Search.{Found}
 use Rattle.tc_model.specs.Stores.{is_held, value_of, put, store_row, store, put_last}
 use Rattle.tc_model.specs.declared.misc.Misc.{Misc}
+use Rattle.tc_model.specs.declared.query.Deed.{Deed}
+use Rattle.tc_model.specs.declared.query.Deed.TheVariants as deed
 use Rattle.tc_model.specs.declared.misc.Misc.TheVariants as misc
 use Rattle.tc_plain.specs.declared.apply.Way.{Way}
 use Rattle.tc_plain.specs.declared.apply.Way.TheVariants.{Begin, Step, Link, Plain}
@@ -94,6 +99,17 @@ is_asking (misc.GetRow key) = true
 is_asking (misc.GetList keys) = true
 is_asking (misc.Range from maximum to) = true
 is_asking _ = false
+
+-- what is answered of the rows found, and the rows that are left
+abbrev pub items_of : Deed → List Found → List (List ℕ)
+items_of deed.Keys fs = map (λ f. f.0) fs
+items_of deed.Get fs = flat_map reply_of fs
+items_of deed.Out fs = []
+items_of deed.Count fs = decimal (length fs) ∷ []
+
+abbrev pub rows_left : Deed → Rows → List Found → Rows
+rows_left deed.Out rows fs = without_rows rows fs
+rows_left _ rows fs = rows
 
 -- ---- requests
 

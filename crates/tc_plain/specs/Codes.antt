@@ -1,11 +1,11 @@
 -- How contents are stored as a value of the model.
-use Rattle.std.specs.Prelude.{◌≡◌, ◌⊎◌, ℕ, Bool, List, refl}
+use Rattle.std.specs.Prelude.{◌≡◌, ◌⊎◌, ◌==◌, ℕ, Bool, List, refl, if◌then◌else◌}
 use Rattle.std.proofs.Common.{inl, inr}
 use Rattle.std.specs.Coded.{Coded, code_by, coded×, coded⊎, coded_ℕ, coded_bool, coded_list}
 use Rattle.std.specs.FinMap.{code}
 use Rattle.tc_base.specs.declared.seq.Pair.{Pair}
 use Rattle.tc_model.specs.declared.query.IndexKind.{IndexKind}
-use Rattle.tc_model.specs.declared.query.IndexKind.TheVariants.{Lexical, Decimal}
+use Rattle.tc_model.specs.declared.query.IndexKind.TheVariants.{Lexical, Decimal, Token}
 use Rattle.tc_base.specs.Maps.{Map}
 use Rattle.tc_model.specs.Arrays.{Array}
 use Rattle.tc_model.specs.Contents.{Contents, hash, tree, fixed, table, Rows, Indexes}
@@ -16,21 +16,22 @@ text_code = coded_list coded_ℕ
 abbrev pub pair_code : Coded Pair
 pair_code = code_by (List ℕ × List ℕ) (coded× text_code text_code) (λ p. (p.key, p.value)) (λ t. record { key = t.0; value = t.1 }) (λ _. refl)
 
--- of two index types by a truth value; a third would make it a number
-abbrev pub is_decimal : IndexKind → Bool
-is_decimal Lexical = Bool.false
-is_decimal Decimal = Bool.true
+-- of index types by a number
+abbrev pub kind_code : IndexKind → ℕ
+kind_code Lexical = 0
+kind_code Decimal = 1
+kind_code Token = 2
 
-abbrev pub index_of : Bool → IndexKind
-index_of Bool.false = Lexical
-index_of Bool.true = Decimal
+abbrev pub index_of : ℕ → IndexKind
+index_of n = if n == 0 then Lexical else (if n == 1 then Decimal else Token)
 
-abbrev pub same_index : (k : IndexKind) → index_of (is_decimal k) ≡ k
+abbrev pub same_index : (k : IndexKind) → index_of (kind_code k) ≡ k
 same_index Lexical = refl
 same_index Decimal = refl
+same_index Token = refl
 
 abbrev pub index_code : Coded IndexKind
-index_code = code_by Bool coded_bool is_decimal index_of same_index
+index_code = code_by ℕ coded_ℕ kind_code index_of same_index
 
 abbrev pub map_code : Coded Map
 map_code = code text_code text_code

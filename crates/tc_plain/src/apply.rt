@@ -1,8 +1,8 @@
 //! Requests on contents.
-ghost use Rattle.std.specs.Prelude.{◌≡◌, ◌+◌, ◌<◌, IfOk, OnErr, MatchOption, None, false, length};
+ghost use Rattle.std.specs.Prelude.{◌≡◌, ◌+◌, ◌<◌, ◌++◌, IfOk, OnOk, OnErr, MatchOption, None, false, length};
 ghost use Rattle.tc_base.specs.declared.request.Request.TheVariants as request;
 ghost use Rattle.tc_base.specs.declared.request.Reply.TheVariants as reply;
-ghost use Rattle.ty_wire.specs.Spelling.{HasSpelling};
+ghost use Rattle.ty_wire.specs.Spelling.{HasSpelling, reply_bytes};
 ghost use Rattle.tc_model.specs.Contents as model;
 ghost use Rattle.tc_model.specs.Apply.{apply, applied, effect, fits, next_in, next_of, refusal_of, refused, took};
 ghost use Rattle.tc_model.specs.Applying.{Applies};
@@ -35,12 +35,23 @@ fn refusal(r: &Request) -> Reply
     }
 }
 
+// Adds the bytes of a reply. An `Err` changes nothing.
+fn say(answer: Reply, into: &mut Blob) -> Result<(), AllocError>
+    requires { HasSpelling answer }
+    ensures ok { OnOk result (into.new ≡ into.old ++ reply_bytes answer) }
+    ensures err { OnErr result (into.new ≡ into.old) }
+{
+    let said = write_reply(&answer, into);
+    drop(answer);
+    said
+}
+
 // Answers a request that failed.
 fn refuse(r: &Request, reply: &mut Blob) -> Result<Applied, AllocError>
     ensures ok { IfOk result (λ a. (c : model.Contents) (w : model.Walk) → Applies (refused r.now c w) r.now a c w reply.old reply.new) }
     ensures err { OnErr result (reply.new ≡ reply.old) }
 {
-    write_reply(&refusal(r), reply)?;
+    say(refusal(r), reply)?;
     Ok(Applied {
         ok: false,
         updated: false,
@@ -128,7 +139,7 @@ fn take_effect(
         drop(e);
         return refuse(r, reply);
     }
-    write_reply(&e.answer, reply)?;
+    say(e.answer, reply)?;
     c.data = e.after;
     Ok(Applied {
         ok: true,
@@ -148,7 +159,7 @@ fn begin(
     ensures reply { OnErr result (reply.new ≡ reply.old) }
 {
     let keys = all_keys(alloc, &c.data)?;
-    write_reply(&Reply::Done, reply)?;
+    say(Reply::Done, reply)?;
     walk.set(keys);
     Ok(Applied {
         ok: true,
@@ -201,7 +212,7 @@ fn step(
         drop(answer);
         return refuse(&Request::IterNext, reply);
     }
-    write_reply(&answer, reply)?;
+    say(answer, reply)?;
     walk.leave(n);
     Ok(Applied {
         ok: true,

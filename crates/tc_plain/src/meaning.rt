@@ -1,5 +1,6 @@
 //! What a misc request makes of contents, and the elements of its reply.
-ghost use Rattle.std.specs.Prelude.{◌≡◌, IfOk, map, filter, flat_map, fold, option_map, Some, true};
+ghost use Rattle.std.specs.Fmt.{decimal};
+ghost use Rattle.std.specs.Prelude.{◌≡◌, ◌∷◌, [], IfOk, map, filter, flat_map, fold, option_map, Some, true};
 ghost use Rattle.std.specs.FinMap.{entries};
 ghost use Rattle.tc_model.specs.Stores.{clear};
 ghost use Rattle.tc_model.specs.declared.misc.Misc.TheVariants as misc;
@@ -7,11 +8,10 @@ ghost use Rattle.tc_model.specs.Search as search;
 ghost use Rattle.tc_model.specs.Meaning as means;
 ghost use Rattle.tc_model.specs.Meaning.{each, index_of, with_index, set_index, reply_of, without_rows, meaning, done};
 ghost use Rattle.tc_plain.specs.Views.{contents_of, outcome_seen, Makes};
-ghost use Rattle.tc_plain.specs.Bodies.{put_pair, is_asking};
+ghost use Rattle.tc_plain.specs.Bodies.{put_pair, is_asking, items_of, rows_left};
 
 use crate::contents::Data;
 use crate::maps::{Copied, KeyMap};
-use crate::queries::read_query;
 use crate::reads::{every_pair, held};
 use crate::rows::{is_part, row_of_call, row_text, texts_of};
 use crate::search::{FoundRow, FoundRows, arrange, holds};
@@ -20,6 +20,7 @@ use crate::trees::ranged;
 use std::alloc::{AllocError, Global};
 use tc_base::{Blob, Blobs, INDEXES_MOST, Key, Mode, Pair, Pairs};
 use tc_model::{Deed, IndexKind, Misc, Query, has_short_keys, maximum_of};
+use td_query::read_query;
 
 /// The contents after a misc request, and the elements of its reply.
 #[derive(Drop)]
@@ -45,7 +46,7 @@ fn put_pair(alloc: Global, behind: bool, old: Data, pair: &Pair) -> Result<Optio
     ensures { Makes result (put_pair behind (contents_of old) pair.now) }
 {
     if behind {
-        return put_last(alloc, old, pair.key.as_slice(), pair.value.copied(alloc)?);
+        return put_last(alloc, old, pair.key.as_slice(), pair.value.as_slice());
     }
     store(
         alloc,
@@ -134,6 +135,9 @@ fn index_of(code: &[u8]) -> Option<Option<IndexKind>>
     }
     if code == b"1".as_slice() {
         return Some(Some(IndexKind::Decimal));
+    }
+    if code == b"2".as_slice() {
+        return Some(Some(IndexKind::Token));
     }
     if code == b"9999".as_slice() {
         return Some(None);
@@ -261,6 +265,45 @@ fn without_found(
     Ok(left)
 }
 
+// A number of rows, as its digits.
+fn counted(alloc: Global, count: usize) -> Result<Blobs, AllocError>
+    ensures { IfOk result (λ items. items ≡ decimal count ∷ []) }
+{
+    let text = format!(in alloc; "{count}")?;
+    let mut items = Blobs::new(alloc);
+    items.push(Blob::from_slice(alloc, text.as_bytes())?)?;
+    Ok(items)
+}
+
+// What is answered of the rows found.
+fn items_of(alloc: Global, deed: Deed, found: &[FoundRow]) -> Result<Blobs, AllocError>
+    ensures { IfOk result (λ items. items ≡ items_of deed found.now) }
+{
+    match deed {
+        Deed::Keys => Ok(keys_found(alloc, found)?),
+        Deed::Get => Ok(texts_found(alloc, found)?),
+        Deed::Out => Ok(Blobs::new(alloc)),
+        Deed::Count => Ok(counted(alloc, found.len())?),
+    }
+}
+
+// The rows that are left.
+fn rows_left(
+    alloc: Global,
+    deed: Deed,
+    rows: KeyMap<Pairs>,
+    found: &[FoundRow],
+) -> Result<KeyMap<Pairs>, AllocError>
+    ensures { IfOk result (λ left. left ≡ rows_left deed rows found.now) }
+{
+    match deed {
+        Deed::Keys => Ok(rows),
+        Deed::Get => Ok(rows),
+        Deed::Out => Ok(without_found(alloc, rows, found)?),
+        Deed::Count => Ok(rows),
+    }
+}
+
 // What is done with the rows found.
 fn done_with(
     alloc: Global,
@@ -271,33 +314,15 @@ fn done_with(
 ) -> Result<Outcome, AllocError>
     ensures { IfOk result (λ o. outcome_seen o ≡ means.done_with deed rows indexes found.now) }
 {
-    match deed {
-        Deed::Keys => Ok(Outcome {
-            items: keys_found(alloc, found)?,
-            after: Data::Table { rows, indexes },
-        }),
-        Deed::Get => Ok(Outcome {
-            items: texts_found(alloc, found)?,
-            after: Data::Table { rows, indexes },
-        }),
-        Deed::Out => {
-            let rows = without_found(alloc, rows, found)?;
-            Ok(Outcome {
-                items: Blobs::new(alloc),
-                after: Data::Table { rows, indexes },
-            })
-        }
-        Deed::Count => {
-            let count = found.len();
-            let text = format!(in alloc; "{count}")?;
-            let mut items = Blobs::new(alloc);
-            items.push(Blob::from_slice(alloc, text.as_bytes())?)?;
-            Ok(Outcome {
-                items,
-                after: Data::Table { rows, indexes },
-            })
-        }
-    }
+    let items = items_of(alloc, deed, found)?;
+    let left = rows_left(alloc, deed, rows, found)?;
+    Ok(Outcome {
+        after: Data::Table {
+            rows: left,
+            indexes,
+        },
+        items,
+    })
 }
 
 // A search of a table.
@@ -364,7 +389,7 @@ fn change(alloc: Global, m: &Misc, old: Data) -> Result<Option<Outcome>, AllocEr
             Ok(changed(alloc, Some(after)))
         }
         Misc::PutDup { key, value } => {
-            let after = put_last(alloc, old, key.as_slice(), value.copied(alloc)?)?;
+            let after = put_last(alloc, old, key.as_slice(), value.as_slice())?;
             Ok(changed(alloc, after))
         }
         Misc::Vanish => Ok(changed(alloc, Some(emptied(alloc, old)))),

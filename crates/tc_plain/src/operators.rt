@@ -1,8 +1,10 @@
 //! The operators of conditions.
 ghost use Rattle.std.specs.Prelude.{◌≡◌, IfOk};
 ghost use Rattle.std.specs.Option.{option_copied};
+ghost use Rattle.std.specs.List.{starts_with};
+ghost use Rattle.tc_base.specs.Texts.{is_text};
 ghost use Rattle.tc_model.specs.Texts.{tokens};
-ghost use Rattle.tc_model.specs.Operators.{includes, is_between, meets, meets_in, is_complete, number_operators, token_operators};
+ghost use Rattle.tc_model.specs.Operators.{follow, includes, is_between, meets, meets_in, number_operators, text_operators, token_operators};
 ghost use Rattle.tc_plain.specs.Bodies as bodies;
 
 use crate::texts::{is_among, tokens};
@@ -77,7 +79,56 @@ fn is_between(n: i128, e: &[Blob]) -> bool
     }
 }
 
-// The operators on numbers, and on those of tokens.
+// Whether texts stand at the front of others.
+fn leads(texts: &[Blob], others: &[Blob]) -> bool
+    ensures { result ≡ starts_with is_text others.now texts.now }
+{
+    let mut left = texts;
+    let mut rest = others;
+    while let [text, behind @ ..] = left {
+        let [other, more @ ..] = rest else {
+            return false;
+        };
+        if text.as_slice() != other.as_slice() {
+            return false;
+        }
+        left = behind;
+        rest = more;
+    }
+    true
+}
+
+// Whether texts stand among others one after the other.
+fn follow(others: &[Blob], texts: &[Blob]) -> bool
+    ensures { result ≡ follow others.now texts.now }
+{
+    let mut rest = others;
+    while let [_, behind @ ..] = rest {
+        if leads(texts, rest) {
+            return true;
+        }
+        rest = behind;
+    }
+    leads(texts, rest)
+}
+
+// The operators of full texts.
+fn meets_text(alloc: Global, operator: u8, v: &[u8], e: &[u8]) -> Result<bool, AllocError>
+    ensures { IfOk result (λ b. b ≡ meets_in text_operators operator v.now e.now) }
+{
+    if operator == 15 {
+        return Ok(follow(tokens(alloc, v)?.as_slice(), tokens(alloc, e)?.as_slice()));
+    }
+    if operator == 16 {
+        return has_all(alloc, v, e);
+    }
+    if operator == 17 {
+        return has_some(alloc, v, e);
+    }
+    Ok(false)
+}
+
+// The operators on numbers, on those of tokens, and of full texts.
 fn meets_number(alloc: Global, operator: u8, v: &[u8], e: &[u8]) -> Result<bool, AllocError>
     ensures { IfOk result (λ b. b ≡ meets_in number_operators operator v.now e.now) }
 {
@@ -104,7 +155,7 @@ fn meets_number(alloc: Global, operator: u8, v: &[u8], e: &[u8]) -> Result<bool,
     if operator == 14 {
         return Ok(has_number(n, tokens(alloc, e)?.as_slice()));
     }
-    Ok(false)
+    meets_text(alloc, operator, v, e)
 }
 
 // Those and the operators on tokens.
@@ -149,14 +200,4 @@ pub fn meets(
         return Ok(v.ends_with(e));
     }
     meets_token(alloc, operator, v, e)
-}
-
-/// Whether an expression has the tokens that its operator asks for: 13 asks for two.
-pub fn is_complete(alloc: Global, operator: u64, e: &[u8]) -> Result<bool, AllocError>
-    ensures { IfOk result (λ b. b ≡ is_complete operator e.now) }
-{
-    if operator != 13 {
-        return Ok(true);
-    }
-    Ok(tokens(alloc, e)?.len() >= 2)
 }

@@ -457,9 +457,9 @@ pub fn put_last(
     alloc: Global,
     old: Data,
     key: &[u8],
-    value: Blob,
+    value: &[u8],
 ) -> Result<Option<Data>, AllocError>
-    ensures { Makes result (put_last (contents_of old) key.now value) }
+    ensures { Makes result (put_last (contents_of old) key.now value.now) }
 {
     let Data::Tree {
         memory,
@@ -472,6 +472,7 @@ pub fn put_last(
     if value.len() > VALUE_MOST {
         return Ok(None);
     }
+    let value = Blob::from_slice(alloc, value)?;
     let pairs = with_last(alloc, decimal, pairs.as_slice(), key, value)?;
     Ok(Some(Data::Tree {
         memory,

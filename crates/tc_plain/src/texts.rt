@@ -1,7 +1,7 @@
 //! The parts that a text has.
 ghost use Rattle.std.specs.Prelude.{◌≡◌, ◌<◌, ◌≤◌, IfOk, MatchOption, filter, length, drop};
 ghost use Rattle.std.specs.List.{position_or_len, slice_split};
-ghost use Rattle.tc_model.specs.Texts.{is_among, parts, tokens, not_empty};
+ghost use Rattle.tc_model.specs.Texts.{distinct, is_among, parts, tokens, not_empty, with_text};
 ghost use Rattle.tc_plain.specs.Splits.{cuts};
 
 use std::alloc::{AllocError, Global};
@@ -90,4 +90,27 @@ pub fn tokens(alloc: Global, text: &[u8]) -> Result<Blobs, AllocError>
 {
     let all = split(alloc, true, text)?;
     filled(alloc, all.as_slice())
+}
+
+// Behind the others, unless it is one of them.
+fn with_text(alloc: Global, texts: Blobs, text: &[u8]) -> Result<Blobs, AllocError>
+    ensures { IfOk result (λ ts. ts ≡ with_text texts text.now) }
+{
+    let mut found = texts;
+    if is_among(text, found.as_slice()) {
+        return Ok(found);
+    }
+    found.push(Blob::from_slice(alloc, text)?)?;
+    Ok(found)
+}
+
+/// Each text once, in order of first place.
+pub fn distinct(alloc: Global, texts: &[Blob]) -> Result<Blobs, AllocError>
+    ensures { IfOk result (λ ts. ts ≡ distinct texts.now) }
+{
+    let mut found = Blobs::new(alloc);
+    for text in texts {
+        found = with_text(alloc, found, text.as_slice())?;
+    }
+    Ok(found)
 }

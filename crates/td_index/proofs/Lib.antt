@@ -1,7 +1,10 @@
 pub mod Counting
 pub mod Handed
+pub mod Keeping
+pub mod Keyed
 pub mod Listed
 pub mod Listing
+pub mod Looking
 pub mod Parting
 pub mod Ranging
 pub mod Seconds

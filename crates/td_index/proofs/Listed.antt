@@ -35,7 +35,7 @@ over : (h : Firsts) (key : List ℕ) (fs gs ks : List (List ℕ)) → ((v : List
 over h key fs gs ks same k v = elim (is_text k key) as (λ t. times v (cond t ks (h k)) ≡ times v (cond t gs (cond t fs (h k)))) [ true ↦ same v | false ↦ refl ]
 
 -- the parts up to a place, and the one there
-up_to : (parts : List (List ℕ)) (i : ℕ) (p at : List ℕ) → i < length parts → p ≡ get_or parts i p → at ≡ p → take (i + 1) parts ≡ take i parts ++ at ∷ []
+pub up_to : (parts : List (List ℕ)) (i : ℕ) (p at : List ℕ) → i < length parts → p ≡ get_or parts i p → at ≡ p → take (i + 1) parts ≡ take i parts ++ at ∷ []
 up_to parts i p at less is same = take_more parts i p less ∙ ap (λ (l : List ℕ). take i parts ++ l ∷ []) (sym (same ∙ is))
 
 module _ {S M O : Type 0} (s : Ghosts S) (m : multi.Ghosts M S O) where

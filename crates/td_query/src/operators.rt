@@ -1,10 +1,10 @@
 //! The operators of conditions.
 ghost use Rattle.std.specs.Prelude.{◌≡◌};
 ghost use Rattle.std.specs.Option.{option_copied};
-ghost use Rattle.tc_model.specs.Operators.{includes, meets, meets_in, is_complete, number_operators, token_operators};
+ghost use Rattle.tc_model.specs.Operators.{includes, meets, meets_in, is_complete, number_operators, text_operators, token_operators};
 
 use crate::tokens::{
-    all_among, has_two, is_between, is_token, same_number, some_among, some_number,
+    all_among, follow, has_two, is_between, is_token, same_number, some_among, some_number,
 };
 use memchr::memmem;
 use tc_base::number_of;
@@ -16,7 +16,23 @@ fn includes(v: &[u8], w: &[u8]) -> bool
     memmem::find(v, w).is_some()
 }
 
-// The operators on numbers, and on those of tokens.
+// The operators of full texts.
+fn meets_text(operator: u8, v: &[u8], e: &[u8]) -> bool
+    ensures { result ≡ meets_in text_operators operator v.now e.now }
+{
+    if operator == 15 {
+        return follow(v, e);
+    }
+    if operator == 16 {
+        return all_among(e, v);
+    }
+    if operator == 17 {
+        return some_among(e, v);
+    }
+    false
+}
+
+// The operators on numbers, on those of tokens, and of full texts.
 fn meets_number(operator: u8, v: &[u8], e: &[u8]) -> bool
     ensures { result ≡ meets_in number_operators operator v.now e.now }
 {
@@ -42,7 +58,7 @@ fn meets_number(operator: u8, v: &[u8], e: &[u8]) -> bool
     if operator == 14 {
         return some_number(v, e);
     }
-    false
+    meets_text(operator, v, e)
 }
 
 // Those and the operators on tokens.

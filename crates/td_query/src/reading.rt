@@ -26,7 +26,7 @@ enum Term {
 fn operator_of(n: u64) -> Option<u8>
     ensures { MatchOption result (is_operator n ≡ false) (λ o. (is_operator n ≡ true) × (o ≡ n)) }
 {
-    if n <= 6 || (8 <= n && n <= 14) {
+    if n <= 6 || (8 <= n && n <= 17) {
         Some(n as u8)
     } else {
         None

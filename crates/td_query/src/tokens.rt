@@ -1,6 +1,6 @@
 //! The tokens of a text, one after the other, without taking memory.
 ghost use Rattle.std.specs.Prelude.{◌≡◌, ◌<◌, ◌≤◌, ◌∷◌, [], drop, length, nat_le, MatchOption};
-ghost use Rattle.std.specs.List.{list_any, list_all, position_or_len};
+ghost use Rattle.std.specs.List.{list_any, list_all, position_or_len, starts_with};
 ghost use Rattle.tc_base.specs.Decimal.{text_number};
 ghost use Rattle.tc_base.specs.Texts.{is_text};
 ghost use Rattle.tc_model.specs.Texts.{is_among, tokens};
@@ -105,6 +105,39 @@ pub(crate) fn some_among(text: &[u8], among: &[u8]) -> bool
         rest = more;
     }
     false
+}
+
+// Whether the tokens of a text are the first ones of another.
+fn leads(text: &[u8], other: &[u8]) -> bool
+    ensures { result ≡ starts_with is_text (tokens other.now) (tokens text.now) }
+{
+    let mut left = text;
+    let mut rest = other;
+    while let Some((token, more)) = token_of(left) {
+        let Some((next, behind)) = token_of(rest) else {
+            return false;
+        };
+        if !is_same(token, next) {
+            return false;
+        }
+        left = more;
+        rest = behind;
+    }
+    true
+}
+
+/// Whether the tokens of a text stand in another as tokens one after the other.
+pub(crate) fn follow(other: &[u8], text: &[u8]) -> bool
+    ensures { result ≡ operators.follow (tokens other.now) (tokens text.now) }
+{
+    let mut rest = other;
+    while let Some((_, more)) = token_of(rest) {
+        if leads(text, rest) {
+            return true;
+        }
+        rest = more;
+    }
+    leads(text, rest)
 }
 
 /// Whether two texts have one number.

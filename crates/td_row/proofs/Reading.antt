@@ -65,7 +65,7 @@ abbrev column_rest : List ℕ → List ℕ × List ℕ → Front Pair
 column_rest name value = Ok (pair name value.0, value.1)
 
 -- what stands there is read
-column_again : (bytes : List ℕ) (p : Pair) (rest : List ℕ) → AtFront bytes p rest → column_at bytes ≡ Ok (p, rest)
+pub column_again : (bytes : List ℕ) (p : Pair) (rest : List ℕ) → AtFront bytes p rest → column_at bytes ≡ Ok (p, rest)
 unfolding column_at
 column_again bytes p rest f =
     ap (λ (r : Front (ℕ × ℕ)). r >>= name_rest) (ap two_front (f.is ∙ grouped p rest) ∙ exact_sizes.again (length p.key, length p.value) (sizes_bytes p) (p.key ++ (p.value ++ rest)) ((column_fits p f.column).sizes, refl))

@@ -1,0 +1,4 @@
+pub mod Choices
+pub mod Ordered
+pub mod Plans
+pub mod Spans

@@ -1,0 +1,10 @@
+use Rattle.std.proofs.Common.{◌≡◌, drop}
+use Rattle.std.specs.Prelude.{fold}
+use Rattle.tc_model.specs.Texts.{distinct, with_text}
+use Rattle.td_token.proofs.sets.distinct.Given as goal
+
+abbrev pub invariant-loop-text : goal.invariant-loop-text
+invariant-loop-text l = record {
+  same : l.found ≡ l.seen;
+  so_far : fold with_text l.seen (drop l.text-index l.texts) ≡ distinct l.texts;
+}
