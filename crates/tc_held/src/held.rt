@@ -113,6 +113,9 @@ impl Held {
         requires tidy { IsTidy self.now }
         requires small { at + size ≤ 2 ^ 40 }
     {
+        if self.has_plenty(size) {
+            return true;
+        }
         let first = self.find(file, at);
         let end = at + size as u64;
         if self.has_up_to(first, file, at, end) {
@@ -122,6 +125,12 @@ impl Held {
         let more = last.saturating_sub(first).saturating_add(1);
         size <= self.room.saturating_sub(self.bytes.len())
             && more <= self.slots.saturating_sub(self.pieces.len())
+    }
+
+    // There is room for so many bytes more, each in a piece of its own, and for one piece besides.
+    fn has_plenty(&self, size: usize) -> bool {
+        size <= self.room.saturating_sub(self.bytes.len())
+            && size < self.slots.saturating_sub(self.pieces.len())
     }
 
     // The piece at an index, if there are so many.

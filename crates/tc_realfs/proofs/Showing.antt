@@ -34,7 +34,7 @@ shown_outside slot from until page old new so (inr high) s = record { same = s.s
 pub none_shown : (slot : ℕ) (page : Page) (file : List ℕ) → page.bytes.items ≡ [] → ShowsIn slot page file
 none_shown slot page file none = record { same = none ∙ ap (λ (l : List ℕ). take (length l) (drop (number slot page * 4096) file)) (sym none) }
 
-wrote_before : (at : ℕ) (bytes file : List ℕ) → at ≤ length file → take at (wrote at bytes file) ≡ take at file
+pub wrote_before : (at : ℕ) (bytes file : List ℕ) → at ≤ length file → take at (wrote at bytes file) ≡ take at file
 unfolding wrote
 wrote_before at bytes file fits = same_lists _ _ (grind (arith, places)) (λ i d h. grind (arith, places))
 
@@ -246,3 +246,31 @@ piece_of at skip n bytes file inside read =
     ap (λ (l : List ℕ). take n l) (read_from at skip bytes file (omega (arith, inside)) read)
     ∙ take-take n (length bytes - skip) (drop (at + skip) file) (omega (arith, inside))
     ∙ ap (λ k. take k (drop (at + skip) file)) (sym long)
+
+-- ---- bytes filled one part behind the other
+
+pub length_part : (done here : ℕ) (into : List ℕ) → done + here ≤ length into → length (take (done + here - done) (drop done into)) ≡ here
+length_part done here into fits = simp (length-take, length-drop) (omega (arith, fits))
+
+pub length_filled : (done here : ℕ) (into part : List ℕ) → done + here ≤ length into → length part ≡ here → length (wrote done part into) ≡ length into
+unfolding wrote
+length_filled done here into part fits long = simp (length-append, length-take, length-drop) (omega (arith, fits, long))
+
+pub filled : (at done here : ℕ) (into part file : List ℕ) → done + here ≤ length into → length part ≡ here → take done into ≡ take done (drop at file) → part ≡ take here (drop (at + done) file) → take (done + here) (wrote done part into) ≡ take (done + here) (drop at file)
+unfolding wrote
+filled at done here into part file fits long front is =
+    let front_long : length (take done into ++ part) ≡ done + here = length-append (take done into) part ∙ omega (arith, length-take-le done into (omega (arith, fits)), long) in
+    take_at (take done into ++ part) (drop (done + length part) into) (done + here) front_long
+    ∙ (λ i. front i ++ is i)
+    ∙ ap (λ (l : List ℕ). take done (drop at file) ++ take here l) (sym (drop-drop done at file))
+    ∙ sym (take-add done here (drop at file))
+
+-- bytes of which the front was filled before the others
+pub joined_front : (at done n : ℕ) (into first second b file : List ℕ) → into ≡ first ++ second → length first ≡ done → length into ≡ n → take done into ≡ take done (drop at file) → b ≡ take (length second) (drop (at + done) file) → first ++ b ≡ take n (drop at file)
+joined_front at done n into first second b file is long all front behind =
+    let first_is : first ≡ take (length first) (drop at file) =
+    sym (take_at first second done long)
+    ∙ ap (λ (l : List ℕ). take done l) (sym is)
+    ∙ front
+    ∙ ap (λ k. take k (drop at file)) (sym long) in
+    joined at done into first second first b file is long first_is behind ∙ ap (λ k. take k (drop at file)) all

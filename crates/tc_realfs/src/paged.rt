@@ -2,7 +2,7 @@
 ghost use Rattle.std.specs.Prelude.{◌≡◌, ℕ, ◌+◌, ◌%◌, ◌^◌, ◌<◌, ◌≤◌, List, length, take, drop, Option, Some, OnOk, OnErr};
 ghost use Rattle.tc_realfs.specs.Paging.{Reads, ReadsShown, ShowsOutside, ShowsWrite, StillShowsTold};
 
-use crate::pages::{PAGE, Pages};
+use crate::pages::{MOST, PAGE, Pages};
 use std::fs::File;
 use std::io;
 use std::os::unix::fs::FileExt;
@@ -89,8 +89,86 @@ fn read_both<S: Source>(
     Ok(())
 }
 
-/// Fills bytes with those from a place on of a file of a length, by one call at most. Less than a page is read of the pages that it lies in, of which those
-/// that aren't there are read whole; of more than that the pages that lie whole in it are kept.
+// Up to so many bytes the pages that some bytes lie in are read whole.
+const FEW: usize = 5 * PAGE as usize;
+
+// Fills bytes of a few pages. These are read whole, and kept as far as there is memory for them.
+fn read_few<S: Source>(
+    pages: &mut Pages,
+    source: S,
+    len: u64,
+    at: u64,
+    into: &mut [u8],
+) -> io::Result<()>
+    requires few { at % 4096 + length into.old ≤ 20480 }
+    requires inside { at + length into.old ≤ len }
+    ensures bytes { OnOk result (Reads (S.bytes source) at (length into.old) into.new) }
+    ensures shows { StillShowsTold (S.bytes source) pages.old pages.new }
+{
+    let start = at / PAGE * PAGE;
+    let end = (at - start + into.len() as u64).div_ceil(PAGE) * PAGE;
+    let count = (len - start).min(end) as usize;
+    let mut room = [0; FEW];
+    let all = &mut room[..count];
+    source.read_at(start, all)?;
+    take_from(start, all, at, into);
+    pages.keep_all(start, all);
+    Ok(())
+}
+
+// Fills bytes by one call, and keeps what was read as far as there is memory for it. Where the pages that the bytes lie in are few they are read whole.
+fn read_kept<S: Source>(
+    pages: &mut Pages,
+    source: S,
+    len: u64,
+    at: u64,
+    into: &mut [u8],
+) -> io::Result<()>
+    requires inside { at + length into.old ≤ len }
+    ensures bytes { OnOk result (Reads (S.bytes source) at (length into.old) into.new) }
+    ensures shows { StillShowsTold (S.bytes source) pages.old pages.new }
+{
+    let end = at % PAGE + into.len() as u64;
+    if end <= PAGE {
+        return read_one(pages, source, len, at, into);
+    }
+    if end <= FEW as u64 {
+        return read_few(pages, source, len, at, into);
+    }
+    source.read_at(at, into)?;
+    pages.keep_all(at, into);
+    Ok(())
+}
+
+// Fills as many bytes as a page has, or more: those at the front from pages that are kept, and the rest by one call. That rest is kept, but for a read of just a page's length from a file
+// that is longer than all pages together.
+fn read_long<S: Source + Drop>(
+    pages: &mut Pages,
+    source: S,
+    len: u64,
+    at: u64,
+    into: &mut [u8],
+) -> io::Result<()>
+    requires inside { at + length into.old ≤ len }
+    ensures bytes { OnOk result (ReadsShown pages.old (S.bytes source) at (length into.old) into.new) }
+    ensures shows { StillShowsTold (S.bytes source) pages.old pages.new }
+{
+    let is_kept = into.len() as u64 > PAGE || len <= MOST;
+    let done = pages.copy_front(at, into);
+    if done == into.len() {
+        return Ok(());
+    }
+    let from = at + done as u64;
+    let (_, rest) = into.split_at_mut(done);
+    if is_kept {
+        return read_kept(pages, source, len, from, rest);
+    }
+    source.read_at(from, rest)
+}
+
+/// Fills bytes with those from a place on of a file of a length, by one call at most, and by none where all are kept. Those at the front that are kept aren't asked for. The pages that the
+/// others lie in are read whole and kept, where they are five at most; else those that begin in them. A read of just a page's length from a file that is longer than all pages together
+/// keeps none.
 pub fn read<S: Source + Drop>(
     pages: &mut Pages,
     source: S,
@@ -107,9 +185,7 @@ pub fn read<S: Source + Drop>(
         return source.read_at(at, into);
     }
     if into.len() as u64 >= PAGE {
-        source.read_at(at, into)?;
-        pages.keep_whole(at, into);
-        return Ok(());
+        return read_long(pages, source, len, at, into);
     }
     let here = into.len().min((PAGE - at % PAGE) as usize);
     let next = at + here as u64;

@@ -12,6 +12,9 @@ pub const PAGE: u64 = 4096;
 // A page stands in the slot of its number modulo this.
 const SLOTS: u64 = 24_576;
 
+/// How many bytes all pages have together, at most.
+pub const MOST: u64 = SLOTS * PAGE;
+
 // The bytes of a page, all of them zero.
 const ZEROS: [u8; PAGE as usize] = [0; PAGE as usize];
 
@@ -174,6 +177,24 @@ impl Pages {
         page.turn == spot.turn && page.copy(spot.skip, into)
     }
 
+    /// Fills bytes with those from a place on, as far as they are there without a gap, in whichever pages. Answers how many.
+    pub fn copy_front(&self, at: u64, into: &mut [u8]) -> usize
+        requires inside { at + length into.old < 2 ^ 64 }
+        ensures most { result ≤ length into.old }
+        ensures bytes { (file : List ℕ) → Shows self.now file → take result into.new ≡ take result (drop at file) }
+    {
+        let mut done = 0;
+        while done < into.len() {
+            let from = at + done as u64;
+            let here = (into.len() - done).min((PAGE - from % PAGE) as usize);
+            if !self.copy(from, &mut into[done..done + here]) {
+                return done;
+            }
+            done += here;
+        }
+        done
+    }
+
     // Makes a slot where it isn't there.
     fn make_slot(&mut self, slot: usize) -> Result<(), AllocError>
         requires { slot < 24576 }
@@ -228,16 +249,36 @@ impl Pages {
         self.fill(number, room);
     }
 
-    /// Keeps copies of the pages that lie whole in bytes from a place on, as far as there is memory for them.
-    pub fn keep_whole(&mut self, at: u64, bytes: &[u8])
+    // Whether so many bytes at the front of a page are there.
+    fn has(&self, number: u64, count: usize) -> bool {
+        match self.slots.get((number % SLOTS) as usize) {
+            Some(page) => page.turn == number / SLOTS && count <= page.bytes.len(),
+            None => false,
+        }
+    }
+
+    // Keeps a copy of the bytes of a page where so many aren't there, if there is memory for it.
+    fn keep_more(&mut self, number: u64, bytes: &[u8])
+        requires short { length bytes.now ≤ 4096 }
+        ensures { TakesPage number bytes.now self.old self.new }
+    {
+        if self.has(number, bytes.len()) {
+            return;
+        }
+        self.keep(number, bytes);
+    }
+
+    /// Keeps copies of the pages that begin in bytes from a place on, of the last as much as lies in them, as far as there is memory for them.
+    pub fn keep_all(&mut self, at: u64, bytes: &[u8])
         requires inside { at + length bytes.now < 2 ^ 64 }
         ensures { (file : List ℕ) → bytes.now ≡ take (length bytes.now) (drop at file) → Shows self.old file → Shows self.new file }
     {
         let mut done = ((PAGE - at % PAGE) % PAGE) as usize;
-        while done < bytes.len() && bytes.len() - done >= PAGE as usize {
+        while done < bytes.len() {
             let number = (at + done as u64) / PAGE;
-            self.keep(number, &bytes[done..done + PAGE as usize]);
-            done += PAGE as usize;
+            let here = (bytes.len() - done).min(PAGE as usize);
+            self.keep_more(number, &bytes[done..done + here]);
+            done += here;
         }
     }
 

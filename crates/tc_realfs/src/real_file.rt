@@ -110,7 +110,7 @@ impl RealFile {
         self.len
     }
 
-    /// Fills bytes from a place on. Less than a page is read of the pages that it lies in. The system is asked once at most.
+    /// Fills bytes from a place on. The system is asked once at most, and not where all of them are kept.
     pub fn read(&mut self, at: u64, into: &mut [u8]) -> io::Result<()> {
         let Some(end) = at.checked_add(into.len() as u64) else {
             return Err(outside());

@@ -1,5 +1,5 @@
 -- Several writes over a space whose files are the data files of a volume.
-use Rattle.std.proofs.Common.{◌≡◌, ⊎_elim, inl, inr, ◌⊎◌, ℕ, ◌+◌, ◌^◌, ◌≤◌, List, [], ◌∷◌, length, refl, sym, ◌∙◌, ap, subst, arith, true, false, Bool, All, cond}
+use Rattle.std.proofs.Common.{◌≡◌, inl, inr, ◌⊎◌, ℕ, ◌≤◌, List, [], ◌∷◌, refl, sym, ◌∙◌, ap, subst, arith, true, false, Bool, All, cond}
 use Rattle.std.proofs.lemmas.Bool.{cases_Bool}
 use Rattle.std.proofs.lemmas.List.Elements.{All-head, All-tail, All-weaker}
 use Rattle.tc_base.specs.Files.{Files}
@@ -8,7 +8,7 @@ use Rattle.ud_state.proofs.Replaying.{short_at}
 use Rattle.ud_state.proofs.Valid.{data_at}
 use Rattle.ud_log.specs.Undo.{place_of}
 use Rattle.tc_undo.specs.Guards.{IsBelow, IsSmall}
-use Rattle.tc_undo.specs.Pieces.{Fits, LiesIn, Reached, laid, laid_one}
+use Rattle.tc_undo.specs.Pieces.{Fits, LiesIn, Reached, laid}
 use Rattle.tc_undo.specs.Room.{log_end}
 use Rattle.tc_undo.specs.declared.piece.Piece.{Piece}
 use Rattle.tc_undo.proofs.Putting.{laid_there, reached_same}

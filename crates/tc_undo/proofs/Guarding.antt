@@ -4,18 +4,18 @@ use Rattle.std.proofs.lemmas.Bool.{cases_eq, cases_lt}
 use Rattle.std.proofs.lemmas.List.{take_more}
 use Rattle.std.proofs.lemmas.List.Elements.{All-nil, All-push, All-weaker, All-same}
 use Rattle.tc_base.specs.Files.{Files}
-use Rattle.tc_io.specs.Images.{written, synced, Calls, now, Images, reads}
+use Rattle.tc_io.specs.Images.{written, synced, Calls, now, Images}
 use Rattle.ud_log.specs.Entries.{Entry, entry_of, Covers}
 use Rattle.ud_log.specs.Good.{IsGood}
 use Rattle.ud_log.specs.Log.{entry_bytes, framed}
 use Rattle.ud_log.specs.Undo.{is_data, length_of, log_bytes, of_file}
 use Rattle.ud_log.proofs.Steps.{covers_more, covers_last}
 use Rattle.ud_state.specs.Since.{Calm}
-use Rattle.ud_state.specs.State.{AreLens, IsOpen, Logging, Pending, Tx}
+use Rattle.ud_state.specs.State.{AreLens, IsOpen, Logging, Pending}
 use Rattle.ud_state.proofs.Open.{append_pending, secure_tx}
 use Rattle.ud_state.proofs.Taken.{calm_undo}
 use Rattle.ud_state.proofs.Transaction.{of_file-same, of_file-other}
-use Rattle.tc_undo.specs.Guards.{Grown, Grows, Guards, IsGuarded, IsNew, IsSmall, LoggingAll, SecuredAll}
+use Rattle.tc_undo.specs.Guards.{Grown, Grows, IsGuarded, IsNew, IsSmall, LoggingAll, SecuredAll}
 use Rattle.tc_undo.specs.declared.piece.Piece.{Piece}
 
 -- ---- one entry

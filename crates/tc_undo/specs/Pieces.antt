@@ -1,5 +1,5 @@
 -- Several writes to data files, made as one: what they make of files, and what is asked of them.
-use Rattle.std.specs.Prelude.{◌≡◌, ℕ, ◌+◌, ◌<◌, ◌≤◌, List, [], ◌∷◌, length, take, drop, get_or, true, All, if◌then◌else◌, ◌==◌}
+use Rattle.std.specs.Prelude.{◌≡◌, ℕ, ◌+◌, ◌≤◌, List, [], ◌∷◌, length, take, drop, true, if◌then◌else◌, ◌==◌}
 use Rattle.tc_base.specs.Files.{Files, wrote}
 use Rattle.ud_log.specs.Undo.{is_data}
 use Rattle.tc_undo.specs.Room.{needs}

@@ -1,5 +1,5 @@
 use Rattle.std.proofs.Common.{◌∷◌, ◌-◌, ap, ◌∙◌, subst, arith, rules}
-use Rattle.tc_io.specs.Images.{IsLost, now, written}
+use Rattle.tc_io.specs.Images.{IsLost, written}
 use Rattle.tc_undo.specs.Ahead.{text}
 use Rattle.tc_undo.proofs.Ahead.{pending_calm, pending_lost, written_at}
 use Rattle.tc_undo.proofs.gather.flush.Goals as goal

@@ -1,4 +1,4 @@
-use Rattle.std.proofs.Common.{◌≡◌, ◌+◌, max, length, get_or, set, refl, sym, ◌∙◌, ap, subst, arith, rules, true, List, ℕ}
+use Rattle.std.proofs.Common.{◌≡◌, ◌+◌, max, length, get_or, set, refl, sym, ◌∙◌, ap, subst, arith, rules, true}
 use Rattle.tc_base.specs.Files.{wrote}
 use Rattle.tc_io.specs.Images.{written, now}
 use Rattle.ud_log.specs.Undo.{length_of, place_of}

@@ -1,6 +1,5 @@
-use Rattle.std.proofs.Common.{◌≡◌, ◌+◌, length, ap, subst, sym, ◌∙◌, rules, arith, List, ℕ, true}
+use Rattle.std.proofs.Common.{ap, ◌∙◌, arith, List, ℕ}
 use Rattle.tc_io.specs.Images.{now, reads}
-use Rattle.ud_log.specs.Undo.{is_data}
 use Rattle.ud_state.proofs.Writing.{lens_log}
 use Rattle.tc_undo.specs.Pieces.{laid}
 use Rattle.tc_undo.specs.declared.room.Log.{Log}

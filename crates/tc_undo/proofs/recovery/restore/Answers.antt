@@ -9,7 +9,6 @@ use Rattle.ud_state.proofs.Runs.{sync_reads}
 use Rattle.ud_state.proofs.Replaying.{sync_log_calm}
 use Rattle.ud_state.proofs.Recovery.{recovers_not, recovers_since, idle_files}
 use Rattle.tc_undo.specs.Found.{Finds}
-use Rattle.tc_undo.specs.Opening.{SparesBroken}
 use Rattle.tc_undo.proofs.Settling.{finds_files, finds_lens, lens_same, lens_now}
 use Rattle.tc_undo.proofs.recovery.restore.Goals as goal
 

@@ -1,4 +1,4 @@
-use Rattle.std.proofs.Common.{◌+◌, arith, rules}
+use Rattle.std.proofs.Common.{arith, rules}
 use Rattle.tc_io.specs.Images.{now}
 use Rattle.ud_state.proofs.Valid.{valid_open}
 use Rattle.tc_undo.proofs.Batching.{all_below, all_lie, all_small, end_spent, laid_data, reached_data}

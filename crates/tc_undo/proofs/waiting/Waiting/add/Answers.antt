@@ -1,5 +1,4 @@
-use Rattle.std.proofs.Common.{◌+◌, length, take, ap, ◌∙◌, List, ℕ, arith, rules}
-use Rattle.std.proofs.lemmas.List.{places}
+use Rattle.std.proofs.Common.{◌+◌, length, take, ap, ◌∙◌, List, ℕ, rules}
 use Rattle.tc_undo.proofs.Ahead.{text_more}
 use Rattle.tc_undo.proofs.waiting.Waiting.add.Goals as goal
 
