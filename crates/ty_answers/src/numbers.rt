@@ -12,13 +12,13 @@ ghost use Rattle.ty_answers.specs.Answers.{AnswersBy, FullAnswer};
 
 use crate::changes::store;
 use crate::failing::fail;
+use crate::reads::say;
 use crate::voice::Voice;
 use std::alloc::{AllocError, Global};
 use tc_base::{Blob, Key, Kind, Mode, Reply};
 use tc_engine::Engine;
 use tc_model::{last_of, spelled, sum_of};
 use tc_space::RecErr;
-use ty_wire::write_reply;
 
 // The last bytes of a value and more behind it.
 fn shifted(alloc: Global, held: Option<Blob>, more: &Blob, width: u32) -> Result<Blob, AllocError>
@@ -94,7 +94,7 @@ pub fn add<E: Engine>(
     };
     let value = spelled(alloc, sum)?;
     let begin = reply.len();
-    write_reply(&Reply::Four { number: sum }, reply)?;
+    say(Reply::Four { number: sum }, reply)?;
     let done = engine.store(space, Mode::Over, key, value)?;
     Voice::Plain.close(begin, done, reply)?;
     Ok(done)

@@ -5,7 +5,7 @@ ghost use Rattle.tc_space.specs.Frames.{Keeps};
 ghost use Rattle.tc_space.specs.Refusals.{Blames};
 ghost use Rattle.ty_base.specs.Holding.{IsReady, ReadsHeld};
 ghost use Rattle.ty_wire.specs.Prefixes.{IsPrefix};
-ghost use Rattle.ty_wire.specs.Spelling.{reply_bytes};
+ghost use Rattle.ty_wire.specs.Spelling.{HasSpelling, reply_bytes};
 ghost use Rattle.tc_model.specs.declared.misc.Misc.TheVariants as misc;
 ghost use Rattle.tc_model.specs.Apply.{at_most};
 ghost use Rattle.tc_model.specs.Meaning.{ranged};
@@ -21,7 +21,7 @@ ghost use Rattle.tc_engine.specs.Effects.{AddsOf};
 use crate::failing::fail;
 use crate::listing::{end_list, give_back, open_list, open_value};
 use crate::voice::Voice;
-use std::alloc::Global;
+use std::alloc::{AllocError, Global};
 use tc_base::{Blob, Blobs, Key, Keys, REPLY_MOST, Reply};
 use tc_engine::{Engine, Rows};
 use tc_model::{maximum_of, stat_lines};
@@ -39,6 +39,17 @@ pub fn done(reply: &mut Blob) -> Result<bool, RecErr>
     Ok(true)
 }
 
+/// Adds the bytes of a reply. An `Err` changes nothing.
+pub fn say(reply: Reply, into: &mut Blob) -> Result<(), AllocError>
+    requires { HasSpelling reply }
+    ensures ok { OnOk result (into.new ≡ into.old ++ reply_bytes reply) }
+    ensures err { OnErr result (into.new ≡ into.old) }
+{
+    let said = write_reply(&reply, into);
+    drop(reply);
+    said
+}
+
 // Answers a number of eight bytes.
 fn eight(number: u64, reply: &mut Blob) -> Result<bool, RecErr>
     ensures ok { IfOk result (λ done. Says (answer.Eight number) done reply.old reply.new) }
@@ -46,7 +57,7 @@ fn eight(number: u64, reply: &mut Blob) -> Result<bool, RecErr>
     ensures prefix { IsPrefix reply.old reply.new }
     ensures cause { OnlyMemory result }
 {
-    write_reply(&Reply::Eight { number }, reply)?;
+    say(Reply::Eight { number }, reply)?;
     Ok(true)
 }
 
@@ -59,7 +70,7 @@ fn four(length: u64, reply: &mut Blob) -> Result<bool, RecErr>
     ensures cause { OnlyMemory result }
 {
     let number = length as u32;
-    write_reply(&Reply::Four { number }, reply)?;
+    say(Reply::Four { number }, reply)?;
     Ok(true)
 }
 

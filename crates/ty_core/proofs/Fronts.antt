@@ -2,7 +2,7 @@
 use Rattle.std.proofs.Common.{◌≡◌, ℕ, ◌≤◌, Bool, true, false, List, [], ◌∷◌, ◌++◌, length, take, drop, sym, ap, subst, ◌∙◌, arith, length-append, length-drop, refl}
 use Rattle.std.proofs.lemmas.Bool.{and_parts, eqb-true}
 use Rattle.std.proofs.lemmas.List.{append_cancel_right, drop-append-le, take-append-drop}
-use Rattle.std.specs.Prelude.{is_ok, is_some, nat_eq, IfSome, Ok, ◌&&◌, ◌||◌, Option, Some, None, option_map, if◌then◌else◌}
+use Rattle.std.specs.Prelude.{is_ok, nat_eq, Ok, ◌&&◌, ◌||◌, Option, Some, None, if◌then◌else◌}
 use Rattle.std.specs.Option.{ForSome}
 use Rattle.tc_base.proofs.Exact.{same_whole}
 use Rattle.tc_base.specs.Bytes.{IsBytes}
@@ -10,9 +10,7 @@ use Rattle.tc_base.specs.Files.{Files}
 use Rattle.tc_base.specs.declared.kind.Form.{Form}
 use Rattle.tc_base.specs.declared.request.Request.{Request}
 use Rattle.tc_base.specs.declared.request.Request.TheVariants.{Put, PutKeep, PutCat, PutShl, PutNr, Out, Get, MGet, Vsiz, IterInit, IterNext, FwmKeys, AddInt, AddDouble, Ext, Sync, Optimize, Vanish, Copy, Restore, SetMst, Rnum, Size, Stat, Misc, Repl}
-use Rattle.tc_base.specs.LabelTexts.{text_of}
 use Rattle.tc_base.specs.Labels.{is_label}
-use Rattle.tc_base.specs.declared.label.Label.{Label}
 use Rattle.tc_base.specs.declared.request.Reply.TheVariants as reply
 use Rattle.tc_model.specs.Apply.{Step, apply, is_updated, refusal_of, tells, took, updates}
 use Rattle.tc_model.specs.Applying.{Applies}
@@ -37,7 +35,7 @@ use Rattle.ty_pieces.specs.Pieces.{Done, done, labels_of, stepped}
 use Rattle.ty_ulog.specs.Updates.{IsUpdating}
 use Rattle.ty_core.specs.declared.serving.Served.{Served}
 use Rattle.ty_core.specs.declared.taking.Taken.{Taken}
-use Rattle.ty_core.specs.Labels.{asks_label}
+use Rattle.ty_core.specs.Labels.{label_in}
 use Rattle.ty_core.specs.Serving.{FillsFront, FillsPiece, IsTaken, IsWhole, Notes, PieceFits, Serves, ServesFront, ServesPiece, TakesOff, TightFront, TightPiece, copy_of, entries, feed_of, is_kept, piece_packs}
 
 pub refused_applies : (replica : Bool) (r : Request) (c : Contents) (w : Walk) (old new : List ℕ) → (replica && updates r) ≡ true → new ≡ old ++ reply_bytes (refusal_of r)
@@ -118,11 +116,6 @@ copied_update logs r s updated is asked = ap (λ (b : Bool). entries (kept_bytes
     go false true x = refl
     go false false x = refl
 
--- the label of a text, where it is one
-pub label_of : (label : Option Label) (text : List ℕ) → is_some label ≡ is_label text → IfSome label (λ l. text_of l ≡ text) → option_map text_of label ≡ (if is_label text then Some text else None)
-label_of None text some is = ap (λ (b : Bool). if b then Some text else None) some
-label_of (Some l) text some is = ap (λ (x : List ℕ). Some x) is ∙ ap (λ (b : Bool). if b then Some text else None) some
-
 took_copy : (a b : Bool) (text : List ℕ) (c : Contents) (w : Walk) → (took (Copy text) (tells c (if a && b then Some reply.Done else None)) c w).ok ≡ (a && b)
 took_copy true true text c w = refl
 took_copy true false text c w = refl
@@ -133,23 +126,21 @@ unfolding apply
 copy_ok true text c w = took_copy (is_label text) (is_stored (kind_of c)) text c w
 copy_ok false text c w = took_copy (is_label text) (is_stored (kind_of c)) text c w
 
-kept_label : (a b : Bool) (text : List ℕ) (label kept : Option Label) (ok : Bool) → option_map text_of label ≡ (if a then Some text else None) → ok ≡ (a && b) → kept ≡ (if ok then label else None) → entries (option_map text_of kept) ≡ only ok text
-kept_label a b text label kept true asks is keeps =
-    ap (λ (o : Option Label). entries (option_map text_of o)) keeps ∙ (ap entries asks ∙ ap (λ (x : Bool). entries (if x then Some text else None)) (and_parts a b (sym is)).0)
-kept_label a b text label kept false asks is keeps = ap (λ (o : Option Label). entries (option_map text_of o)) keeps
+kept_label : (a b : Bool) (text : List ℕ) (label kept : Option (List ℕ)) (ok : Bool) → label ≡ (if a then Some text else None) → ok ≡ (a && b) → kept ≡ (if ok then label else None) → entries kept ≡ only ok text
+kept_label a b text label kept true asks is keeps = ap entries keeps ∙ (ap entries asks ∙ ap (λ (x : Bool). entries (if x then Some text else None)) (and_parts a b (sym is)).0)
+kept_label a b text label kept false asks is keeps = ap entries keeps
 
-none_kept : (label kept : Option Label) (ok : Bool) → option_map text_of label ≡ None → kept ≡ (if ok then label else None) → entries (option_map text_of kept) ≡ []
-none_kept None kept true asks keeps = ap (λ (o : Option Label). entries (option_map text_of o)) keeps
-none_kept None kept false asks keeps = ap (λ (o : Option Label). entries (option_map text_of o)) keeps
-none_kept (Some l) kept ok asks keeps = absurd cc
+none_kept : (label kept : Option (List ℕ)) (ok : Bool) → label ≡ None → kept ≡ (if ok then label else None) → entries kept ≡ []
+none_kept label kept true asks keeps = ap entries (keeps ∙ asks)
+none_kept label kept false asks keeps = ap entries keeps
 
 -- a label that is asked for, where the request succeeded: only a copy under a label does
-copied_label : (replica : Bool) (r : Request) (c : Contents) (w : Walk) (label kept : Option Label) (ok : Bool) → asks_label r label → ok ≡ (apply replica r c w).ok → kept ≡ (if ok then label else None) → entries (option_map text_of kept) ≡ labels_of r (apply replica r c w)
+copied_label : (replica : Bool) (r : Request) (c : Contents) (w : Walk) (label kept : Option (List ℕ)) (ok : Bool) → label ≡ label_in r → ok ≡ (apply replica r c w).ok → kept ≡ (if ok then label else None) → entries kept ≡ labels_of r (apply replica r c w)
 copied_label replica (Copy text) c w label kept ok asks is keeps = kept_label (is_label text) (is_stored (kind_of c)) text label kept ok asks (is ∙ copy_ok replica text c w) keeps ∙ ap (λ (b : Bool). only b text) is
 copied_label replica r c w label kept ok asks is keeps = none_kept label kept ok asks keeps
 
-pub serves : (replica logs : Bool) (r : Request) (a : Applied) (d : Served) (label : Option Label) (packs : Bool) (c c' : Contents) (w w' : Walk) (waiting waiting' : List ℕ) → d.commits ≡ (a.updated || packs) → packs ≡ is_optimize r
-    → d.update ≡ kept_bytes a.updated logs r → asks_label r label → d.copy ≡ (if a.ok then label else None) → Applies (apply replica r c w) r a c' w' waiting waiting' → Serves logs (done replica (piece.Request r) c w) d c' w' waiting waiting'
+pub serves : (replica logs : Bool) (r : Request) (a : Applied) (d : Served) (label : Option (List ℕ)) (packs : Bool) (c c' : Contents) (w w' : Walk) (waiting waiting' : List ℕ) → d.commits ≡ (a.updated || packs) → packs ≡ is_optimize r
+    → d.update ≡ kept_bytes a.updated logs r → label ≡ label_in r → d.copy ≡ (if a.ok then label else None) → Applies (apply replica r c w) r a c' w' waiting waiting' → Serves logs (done replica (piece.Request r) c w) d c' w' waiting waiting'
 serves replica logs r a d label packs c c' w w' waiting waiting' is p u asks copy applied = record {
   contents = applied.contents;
   walk = applied.walk;
@@ -165,13 +156,27 @@ for_none P x is = absurd cc
 for_some : {A : Type 0} (P : A → Type 0) (a : A) → P a → ForSome (Some a) P
 for_some P a p x is = let s : a ≡ x = cc in subst P s p
 
+-- a label that is given back is one
+pub kept_one : (r : Request) (label kept : Option (List ℕ)) (ok : Bool) → label ≡ label_in r → kept ≡ (if ok then label else None) → ForSome kept (λ l. is_label l ≡ true)
+kept_one r label kept false asks keeps = subst (λ (o : Option (List ℕ)). ForSome o (λ l. is_label l ≡ true)) (sym keeps) (for_none (λ l. is_label l ≡ true))
+kept_one r label kept true asks keeps = subst (λ (o : Option (List ℕ)). ForSome o (λ l. is_label l ≡ true)) (sym (keeps ∙ asks)) (one r)
+  where
+    by : (text : List ℕ) (b : Bool) → is_label text ≡ b → ForSome (if b then Some text else None) (λ l. is_label l ≡ true)
+    by text true e = for_some (λ l. is_label l ≡ true) text e
+    by text false e = for_none (λ l. is_label l ≡ true)
+
+    one : (r : Request) → ForSome (label_in r) (λ l. is_label l ≡ true)
+    one (Copy text) = by text (is_label text) refl
+    one r = for_none (λ l. is_label l ≡ true)
+
 -- whatever is told: a copy is kept only where it was made, of a request that may update
-pub notes_of : (replica logs : Bool) (r : Request) (d : Served) (updated packs : Bool) → Fits r → ((replica && updates r) ≡ true → updated ≡ false) → d.commits ≡ (updated || packs) → d.update ≡ kept_bytes updated logs r → Notes replica logs d
-notes_of replica logs r d updated packs fits blocks commits update = record {
+pub notes_of : (replica logs : Bool) (r : Request) (d : Served) (updated packs : Bool) → Fits r → ((replica && updates r) ≡ true → updated ≡ false) → d.commits ≡ (updated || packs) → d.update ≡ kept_bytes updated logs r → ForSome d.copy (λ l. is_label l ≡ true) → Notes replica logs d
+notes_of replica logs r d updated packs fits blocks commits update labelled = record {
   asked = λ none. update ∙ unasked logs updated (updates r) none;
   blocked = λ on. update ∙ stopped updated logs (updates r) on blocks;
   idle = λ none. update ∙ unchanged updated packs (if logs && updates r then Some (spelling r) else None) (sym commits ∙ none);
   noted = subst (λ (o : Option (List ℕ)). ForSome o IsUpdating) (sym update) (kept updated logs (updates r) refl);
+  labelled = labelled;
 }
   where
     unasked : (l o u : Bool) → l ≡ false → (if o then (if l && u then Some (spelling r) else None) else None) ≡ None

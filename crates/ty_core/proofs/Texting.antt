@@ -6,7 +6,7 @@ use Rattle.std.proofs.lemmas.List.{append-nil, take-append-drop, take_all, take_
 use Rattle.std.specs.Prelude.{codes, decimal, is_some, ◌&&◌, ◌||◌, Option, Some, None, option_and_then, option_map, nat_le, if◌then◌else◌}
 use Rattle.std.specs.Option.{ForSome}
 use Rattle.tc_base.specs.Files.{Files}
-use Rattle.tc_base.specs.LabelTexts.{text_of}
+use Rattle.tc_base.specs.Labels.{is_label}
 use Rattle.tc_base.specs.declared.request.Request.{Request}
 use Rattle.tc_base.specs.declared.request.Request.TheVariants as request
 use Rattle.tc_space.specs.Frames.{Keeps, only_reads_then, others_then}
@@ -142,13 +142,13 @@ module _ {S B : Type 0} (s : Ghosts S) (holds : B → Files → Contents → Typ
       → length waiting' ≤ length waiting + 67108864 → waiting' ≡ waiting ++ bounded bytes → ServesPiece s holds replica logs (piece.Text t) d base base' old new w w waiting waiting'
   says_piece replica logs t bytes d base base' old new w waiting waiting' n says reads few is = record {
     feeds = n.feeds;
-    notes = record { asked = λ off. n.update; blocked = λ on. n.update; idle = λ none. n.update; noted = subst (λ (o : Option (List ℕ)). ForSome o IsUpdating) (sym n.update) (for_none IsUpdating) };
+    notes = record { asked = λ off. n.update; blocked = λ on. n.update; idle = λ none. n.update; noted = subst (λ (o : Option (List ℕ)). ForSome o IsUpdating) (sym n.update) (for_none IsUpdating); labelled = subst (λ (o : Option (List ℕ)). ForSome o (λ l. is_label l ≡ true)) (sym n.copy) (for_none (λ l. is_label l ≡ true)) };
     few = omega (arith, few, ap reply_most n.feeds);
     serves = λ c h. (
       c,
       reads.means c h,
       subst (λ (e : Done). Serves logs e d c w waiting waiting') (sym (text_says replica t c w (Say bytes) (says c h)))
-          (record { contents = refl; walk = refl; waiting_is = is; commits = n.commits; update = λ on. ap entries n.update; copy = ap (λ o. entries (option_map text_of o)) n.copy }),
+          (record { contents = refl; walk = refl; waiting_is = is; commits = n.commits; update = λ on. ap entries n.update; copy = ap entries n.copy }),
     );
   }
 
@@ -200,13 +200,13 @@ module _ {S B : Type 0} (s : Ghosts S) (holds : B → Files → Contents → Typ
       → length waiting' ≤ length waiting + 67108864 → AddsValues s holds base old keys waiting waiting' → ServesPiece s holds replica logs (piece.Text t) d base base' old new w w waiting waiting'
   gets_piece replica logs t keys d base base' old new w waiting waiting' is n reads few adds = record {
     feeds = n.feeds;
-    notes = record { asked = λ off. n.update; blocked = λ on. n.update; idle = λ none. n.update; noted = subst (λ (o : Option (List ℕ)). ForSome o IsUpdating) (sym n.update) (for_none IsUpdating) };
+    notes = record { asked = λ off. n.update; blocked = λ on. n.update; idle = λ none. n.update; noted = subst (λ (o : Option (List ℕ)). ForSome o IsUpdating) (sym n.update) (for_none IsUpdating); labelled = subst (λ (o : Option (List ℕ)). ForSome o (λ l. is_label l ≡ true)) (sym n.copy) (for_none (λ l. is_label l ≡ true)) };
     few = omega (arith, few, ap reply_most n.feeds);
     serves = λ c h. (
       c,
       reads.means c h,
       subst (λ (e : Done). Serves logs e d c w waiting waiting') (sym (text_says replica t c w (Say (values (got replica c w) keys)) (ap (then_by (got replica c w)) is)))
-          (record { contents = refl; walk = refl; waiting_is = adds replica w c h; commits = n.commits; update = λ on. ap entries n.update; copy = ap (λ o. entries (option_map text_of o)) n.copy }),
+          (record { contents = refl; walk = refl; waiting_is = adds replica w c h; commits = n.commits; update = λ on. ap entries n.update; copy = ap entries n.copy }),
     );
   }
 
@@ -268,8 +268,9 @@ or_none : (b : Bool) → (b || false) ≡ b
 or_none true = refl
 or_none false = refl
 
-pub asked_notes : (replica logs : Bool) (r : Request) (d : Served) (updated : Bool) → IsAsked r → Fits r → ((replica && updates r) ≡ true → updated ≡ false) → d.commits ≡ updated → d.update ≡ record_by updated logs r → Notes replica logs d
-asked_notes replica logs r d updated asked fits blocks commits update = notes_of replica logs r d updated false fits blocks (commits ∙ sym (or_none updated)) (update ∙ asked_kept updated logs r asked)
+pub asked_notes : (replica logs : Bool) (r : Request) (d : Served) (updated : Bool) → IsAsked r → Fits r → ((replica && updates r) ≡ true → updated ≡ false) → d.commits ≡ updated → d.update ≡ record_by updated logs r → d.copy ≡ None → Notes replica logs d
+asked_notes replica logs r d updated asked fits blocks commits update none =
+    notes_of replica logs r d updated false fits blocks (commits ∙ sym (or_none updated)) (update ∙ asked_kept updated logs r asked) (subst (λ (o : Option (List ℕ)). ForSome o (λ l. is_label l ≡ true)) (sym none) (for_none (λ l. is_label l ≡ true)))
 
 pub reply_few : (ok quiet : Bool) (reply waiting waiting' : List ℕ) → length reply ≤ 67108864 → waiting' ≡ waiting ++ (if ok then reply else server_error quiet) → length waiting' ≤ length waiting + 67108864
 reply_few true quiet reply waiting waiting' short is = omega (arith, short, ap length is, length-append waiting reply)
@@ -286,7 +287,7 @@ asked_serves replica logs quiet r reply a d c c' w w' waiting waiting' bytes byt
   waiting_is = is ∙ (ap (λ (b : Bool). waiting ++ (if b then reply else server_error quiet)) applied.ok ∙ ap (λ (l : List ℕ). waiting ++ (if (apply replica r c w).ok then l else server_error quiet)) (sym (bounded_short reply short)));
   commits = commits ∙ applied.updated;
   update = λ on. ap entries (update ∙ asked_kept a.updated logs r asked) ∙ copied_update logs r (apply replica r c w) a.updated applied.updated on;
-  copy = ap (λ o. entries (option_map text_of o)) copy;
+  copy = ap entries copy;
 }
 
 -- the value of its key, from the bytes that hold it

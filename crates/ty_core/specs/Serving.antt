@@ -1,10 +1,11 @@
 -- What serving the piece at the front of the unread bytes does.
-use Rattle.std.specs.Prelude.{◌≡◌, ◌≤◌, ◌+◌, ℕ, Bool, true, false, List, [], ◌∷◌, ◌++◌, ◌&&◌, length, drop, Ok, Option, Some, None, option_map, if◌then◌else◌}
+use Rattle.std.specs.Prelude.{◌≡◌, ◌≤◌, ◌+◌, ℕ, Bool, true, false, List, [], ◌∷◌, ◌++◌, ◌&&◌, length, drop, Ok, Option, Some, None, if◌then◌else◌}
 use Rattle.std.specs.Option.{ForSome}
 use Rattle.tc_base.specs.Files.{Files}
 use Rattle.tc_base.specs.declared.kind.Form.{Form}
 use Rattle.tc_base.specs.declared.kind.Form.TheVariants.{Keep}
-use Rattle.tc_base.specs.LabelTexts.{text_of}
+use Rattle.tc_base.specs.Labels.{is_label}
+use Rattle.tc_base.specs.declared.request.Request.{Request}
 use Rattle.tc_base.specs.declared.request.Request.TheVariants.{Repl}
 use Rattle.tc_space.specs.declared.space.Space.{Ghosts}
 use Rattle.ty_wire.specs.Spelling.{spelling, Fits}
@@ -111,12 +112,13 @@ abbrev pub entries : Option (List ℕ) → List (List ℕ)
 entries None = []
 entries (Some x) = x ∷ []
 
--- whatever is told: bytes are given back only where they were asked for and there is something to commit, not on a replica, and they are those of one updating request
+-- whatever is told: bytes are given back only where they were asked for and there is something to commit, not on a replica, and they are those of one updating request; a label is one
 pub record Notes (replica logs : Bool) (d : Served) : Type 0 where
   pub asked : logs ≡ false → d.update ≡ None
   pub blocked : replica ≡ true → d.update ≡ None
   pub idle : d.commits ≡ false → d.update ≡ None
   pub noted : ForSome d.update IsUpdating
+  pub labelled : ForSome d.copy (λ l. is_label l ≡ true)
 
 -- what it makes of the database is what the abstract one does with it, and its reply waits
 pub record Serves (logs : Bool) (e : Done) (d : Served) (c : Contents) (w : Walk) (waiting waiting' : List ℕ) : Type 0 where
@@ -125,7 +127,7 @@ pub record Serves (logs : Bool) (e : Done) (d : Served) (c : Contents) (w : Walk
   pub waiting_is : waiting' ≡ waiting ++ e.reply
   pub commits : d.commits ≡ e.made.commits
   pub update : logs ≡ true → entries d.update ≡ e.made.updates
-  pub copy : entries (option_map text_of d.copy) ≡ e.made.labels
+  pub copy : entries d.copy ≡ e.made.labels
 
 -- whatever was held, what a piece makes of that is held now. At most one reply more waits, whatever is told
 pub record ServesPiece {S B : Type 0} (s : Ghosts S) (holds : B → Files → Contents → Type 0) (replica logs : Bool) (x : Piece) (d : Served) (base base' : B) (old new : S) (w w' : Walk) (waiting waiting' : List ℕ) : Type 0 where
@@ -133,6 +135,10 @@ pub record ServesPiece {S B : Type 0} (s : Ghosts S) (holds : B → Files → Co
   pub notes : Notes replica logs d
   pub few : length waiting' ≤ length waiting + reply_most d.feeds
   pub serves : (c : Contents) → Held s holds base old c → (e : Contents) × Held s holds base' new e × Serves logs (done replica x c w) d e w' waiting waiting'
+
+-- the same of a request, whichever bytes of it were copied
+abbrev pub ServesRequest : {S B : Type 0} → Ghosts S → (B → Files → Contents → Type 0) → Bool → Request → Option (List ℕ) → Served → B → B → S → S → Walk → Walk → List ℕ → List ℕ → Type 0
+ServesRequest s holds replica r copied d base base' old new w w' waiting waiting' = (logs : Bool) → copied ≡ copy_of logs (piece.Request r) → ServesPiece s holds replica logs (piece.Request r) d base base' old new w w' waiting waiting'
 
 -- the piece at the front was served
 pub record ServesFront {S B : Type 0} (s : Ghosts S) (holds : B → Files → Contents → Type 0) (replica logs : Bool) (d : Served) (base base' : B) (old new : S) (w w' : Walk) (unread unread' waiting waiting' : List ℕ) : Type 0 where

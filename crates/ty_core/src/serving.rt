@@ -1,20 +1,21 @@
 //! A piece, served.
-ghost use Rattle.std.specs.Prelude.{◌≡◌, ◌&&◌, Bool, true, false, OnErr, OnOk, IfOk, IsErrOf, if◌then◌else◌, None, Some};
+ghost use Rattle.std.specs.Prelude.{◌≡◌, ◌++◌, ◌&&◌, Bool, true, false, OnErr, OnOk, IfOk, IsErrOf, if◌then◌else◌, None, Some};
 ghost use Rattle.tc_base.specs.declared.kind.Form.TheVariants.{Keep};
 ghost use Rattle.tc_space.specs.Frames.{Keeps};
 ghost use Rattle.tc_space.specs.Refusals.{OnFault};
 ghost use Rattle.tc_model.specs.Apply.{refusal_of, updates};
 ghost use Rattle.ty_wire.specs.Prefixes.{IsPrefix};
-ghost use Rattle.ty_wire.specs.Spelling.{Fits};
+ghost use Rattle.ty_wire.specs.Spelling.{Fits, reply_bytes};
 ghost use Rattle.ty_memc.specs.declared.text.Piece.TheVariants as piece;
 ghost use Rattle.ty_base.specs.Holding.{Declines, FillsBy, IsReady, Leaves, ServedBy, TightHeld, contents_after, is_idle};
 ghost use Rattle.tc_model.specs.Packing.{is_optimize};
-ghost use Rattle.ty_core.specs.Serving.{FillsPiece, MayServe, ServesPiece, ServesTaken, TightPiece, copy_of, feed_of, reply_most};
-ghost use Rattle.ty_core.specs.Labels.{asks_label};
+ghost use Rattle.ty_core.specs.Serving.{FillsPiece, MayServe, ServesRequest, ServesTaken, TightPiece, feed_of, reply_most};
+ghost use Rattle.tc_base.specs.Labels.{is_label};
+ghost use Rattle.ty_core.specs.Labels.{label_in};
 
 use crate::taking::{Taken, if_updating};
 use crate::texts::serve_text;
-use std::alloc::Global;
+use std::alloc::{AllocError, Global};
 use tc_base::{Blob, Label, REPLY_MOST, Reply, Request};
 use tc_model::{Applied, Walk};
 use tc_space::{RecErr, Space};
@@ -39,7 +40,7 @@ pub struct Served {
     /// The bytes of the request where it updated and they were asked for.
     pub update: Option<Blob>,
     /// The label under which a copy is to be made once what was done is kept.
-    pub copy: Option<Label>,
+    pub copy: Option<Blob>,
 }
 
 // The reply to a request that is refused.
@@ -51,6 +52,19 @@ fn refusal(request: &Request) -> Reply
         Request::Misc { .. } => Reply::FailMisc,
         _ => Reply::Fail,
     }
+}
+
+// Adds the reply to a request that is refused. An `Err` changes nothing.
+#[inline(never)]
+fn refuse(request: Request, into: &mut Blob) -> Result<(), AllocError>
+    ensures ok { OnOk result (into.new ≡ into.old ++ reply_bytes (refusal_of request)) }
+    ensures err { OnErr result (into.new ≡ into.old) }
+{
+    let refused = refusal(&request);
+    drop(request);
+    let added = write_reply(&refused, into);
+    drop(refused);
+    added
 }
 
 // Whether it packs the files.
@@ -73,13 +87,26 @@ fn asked_feed(request: &Request) -> Option<Feed>
     }
 }
 
+// A text, where it is a label.
+#[inline(never)]
+fn label_of(alloc: Global, text: &[u8]) -> Result<Option<Blob>, AllocError>
+    ensures { IfOk result (λ o. o ≡ (if is_label text.now then Some text.now else None)) }
+{
+    if Label::of(text).is_some() {
+        Ok(Some(Blob::from_slice(alloc, text)?))
+    } else {
+        Ok(None)
+    }
+}
+
 // The label of the copy that it asks for, where that is one.
-fn asked_label(request: &Request) -> Option<Label>
-    ensures { asks_label request.now result }
+#[inline(always)]
+fn asked_label(alloc: Global, request: &Request) -> Result<Option<Blob>, AllocError>
+    ensures { IfOk result (λ o. o ≡ label_in request.now) }
 {
     match request {
-        Request::Copy { path } => Label::of(path.as_slice()),
-        _ => None,
+        Request::Copy { path } => label_of(alloc, path.as_slice()),
+        _ => Ok(None),
     }
 }
 
@@ -94,20 +121,15 @@ fn most_of(feeds: &Option<Feed>) -> usize
 }
 
 /// What was copied, where it is kept.
+#[inline(always)]
 pub fn kept(copied: Option<Blob>, keeps: bool) -> Option<Blob>
     ensures { result ≡ (if keeps then copied else None) }
 {
     if keeps { copied } else { None }
 }
 
-// A label, where a copy is to be made.
-fn label_if(label: Option<Label>, wanted: bool) -> Option<Label>
-    ensures { result ≡ (if wanted then label else None) }
-{
-    if wanted { label } else { None }
-}
-
 /// Serves a request: on a replica each updating one of a client fails, else the base serves it.
+#[inline(always)]
 pub fn answer<B: Base>(
     base: &mut B,
     space: &mut B::S,
@@ -128,9 +150,7 @@ pub fn answer<B: Base>(
     ensures cause { OnFault B.S.Space result space.old space.new }
 {
     if if_updating(&request, replica) {
-        let refused = refusal(&request);
-        drop(request);
-        write_reply(&refused, reply)?;
+        refuse(request, reply)?;
         return Ok(Applied {
             ok: false,
             updated: false,
@@ -143,6 +163,7 @@ pub fn answer<B: Base>(
 // than any may be, which none is whose files are told, is want of memory.
 #[tactic(auto, using(crate::proofs::Fronts::still_inside, tc_space::specs::Frames::keeps_then, tc_space::specs::Frames::keeps_refl))]
 fn serve_request<B: Base>(
+    alloc: Global,
     request: Request,
     copied: Option<Blob>,
     waiting: &mut Blob,
@@ -153,7 +174,7 @@ fn serve_request<B: Base>(
 ) -> Result<Served, RecErr>
     requires ready { IsReady B.S.Space B.holds base.old space.old }
     requires fits { Fits request }
-    ensures served { IfOk result (λ d. (logs : Bool) → copied ≡ copy_of logs (piece.Request request) → ServesPiece B.S.Space B.holds replica logs (piece.Request request) d base.old base.new space.old space.new walk.old walk.new waiting.old waiting.new) }
+    ensures served { IfOk result (λ d. ServesRequest B.S.Space B.holds replica request copied d base.old base.new space.old space.new walk.old walk.new waiting.old waiting.new) }
     ensures tight { OnOk result (TightPiece B.S.Space B.holds B.tight (piece.Request request) base.old base.new space.old space.new) }
     ensures leaves { IfOk result (λ d. Leaves B.S.Space B.own B.layout (d.commits ≡ false) space.old space.new) }
     ensures refused { OnErr result (Declines B.S.Space B.holds base.old base.new space.old space.new walk.old walk.new) }
@@ -164,7 +185,7 @@ fn serve_request<B: Base>(
 {
     let packs = is_packing(&request);
     let feeds = asked_feed(&request);
-    let label = asked_label(&request);
+    let label = asked_label(alloc, &request)?;
     let before = waiting.len();
     let applied = answer(base, space, request, walk, replica, waiting)?;
     if waiting.len() - before > most_of(&feeds) {
@@ -175,7 +196,7 @@ fn serve_request<B: Base>(
         commits: applied.updated | packs,
         feeds,
         update: kept(copied, applied.updated),
-        copy: label_if(label, applied.ok),
+        copy: kept(label, applied.ok),
     })
 }
 
@@ -204,7 +225,7 @@ pub fn serve_taken<B: Base>(
     let Taken { piece, copied } = taken;
     match piece {
         Piece::Request { request } => {
-            serve_request(request, copied, waiting, base, space, walk, replica)
+            serve_request(alloc, request, copied, waiting, base, space, walk, replica)
         }
         Piece::Text { text } => {
             serve_text(alloc, text, waiting, base, space, walk, replica, logs)

@@ -130,7 +130,9 @@ impl Session {
         ensures keeps { Keeps B.S.Space space.old space.new }
         ensures cause { OnFault B.S.Space result space.old space.new }
     {
-        let taken = self.unread.take(logs)?;
+        let Ok(taken) = self.unread.take(logs) else {
+            return Err(RecErr::Memory);
+        };
         serve_taken(
             self.alloc,
             taken,

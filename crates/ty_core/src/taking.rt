@@ -1,6 +1,7 @@
 //! The piece at the front of bytes, taken off them.
-ghost use Rattle.std.specs.Prelude.{◌≡◌, ◌≤◌, ◌&&◌, List, [], ℕ, IfOk, length, drop, if◌then◌else◌, Some, None};
+ghost use Rattle.std.specs.Prelude.{◌≡◌, ◌≤◌, ◌&&◌, false, true, is_ok, List, [], ℕ, IfOk, length, drop, if◌then◌else◌, Some, None};
 ghost use Rattle.tc_model.specs.Apply.{updates};
+ghost use Rattle.ty_memc.specs.Grammar.{begins_text, piece_at};
 ghost use Rattle.ty_core.specs.Gathering.{BeginsPut, MayGather, all_of};
 ghost use Rattle.ty_core.specs.Serving.{IsTaken, IsWhole, is_kept};
 
@@ -9,7 +10,7 @@ use bytes::BytesMut;
 use std::alloc::{AllocError, Global};
 use tc_base::{Blob, Request};
 use ty_memc::{Piece, read_piece};
-use ty_wire::is_updating;
+use ty_wire::{is_updating, read_request};
 
 /// The room of at most so many bytes is used again.
 pub const ROOM_KEPT: usize = 65_536;
@@ -49,14 +50,56 @@ fn copy(alloc: Global, bytes: &[u8], asked: bool) -> Result<Option<Blob>, AllocE
     }
 }
 
+// Whether there is a first byte, and it isn't that of a request.
+fn begins_text(bytes: &[u8]) -> bool
+    ensures { result ≡ begins_text bytes.now }
+{
+    match bytes {
+        [] => false,
+        [first, _rest @ ..] => *first != 0xC8,
+    }
+}
+
+// The request at the front of bytes, of whose own none are copied.
+#[inline(always)]
+fn read_alone(alloc: Global, unread: &[u8]) -> Result<Taken, AllocError>
+    requires whole { is_ok (piece_at unread.now) ≡ true }
+    requires first { begins_text unread.now ≡ false }
+    ensures { IfOk result (λ t. (n : ℕ) → IsWhole n unread.now → IsTaken t false unread.now (drop n unread.now)) }
+{
+    let Ok(request) = read_request(alloc, unread) else {
+        return Err(AllocError);
+    };
+    Ok(Taken {
+        piece: Piece::Request { request },
+        copied: None,
+    })
+}
+
 // The piece at the front of bytes, whose own are the first `whole`.
-fn read_small(alloc: Global, unread: &[u8], whole: usize, logs: bool) -> Result<Taken, AllocError>
+#[inline(never)]
+fn read_any(alloc: Global, unread: &[u8], whole: usize, logs: bool) -> Result<Taken, AllocError>
     requires { IsWhole whole unread.now }
     ensures { IfOk result (λ t. IsTaken t logs unread.now (drop whole unread.now)) }
 {
     let piece = read_piece(alloc, unread)?;
     let copied = copy(alloc, &unread[..whole], is_copied(&piece, logs))?;
     Ok(Taken { piece, copied })
+}
+
+// The same. A request of whose bytes none are copied has a way of its own.
+#[inline(always)]
+fn read_small(alloc: Global, unread: &[u8], whole: usize, logs: bool) -> Result<Taken, AllocError>
+    requires { IsWhole whole unread.now }
+    ensures { IfOk result (λ t. IsTaken t logs unread.now (drop whole unread.now)) }
+{
+    if logs {
+        return read_any(alloc, unread, whole, logs);
+    }
+    if begins_text(unread) {
+        return read_any(alloc, unread, whole, logs);
+    }
+    read_alone(alloc, unread)
 }
 
 /// Drops all bytes. The room of many is given back, that of few is used again from its front.
@@ -91,13 +134,14 @@ fn take_small(
     requires { IsWhole whole bytes.old.items }
     ensures { IfOk result (λ t. IsTaken t logs bytes.old.items bytes.new.items) }
 {
-    let taken = read_small(alloc, bytes.as_slice(), whole, logs)?;
+    let taken = read_small(alloc, bytes.as_slice(), whole, logs);
     pass(alloc, bytes, whole);
-    Ok(taken)
+    taken
 }
 
 // A put whose value was gathered.
 #[tactic(auto, using(crate::proofs::Gathering::head_long, crate::proofs::Gathering::large_taken))]
+#[inline(never)]
 fn take_large(alloc: Global, large: Large, logs: bool) -> Result<Taken, AllocError>
     requires begins { BeginsPut large.head large.size }
     requires full { length large.value ≡ large.size }

@@ -296,6 +296,7 @@ fn serve_plain<B: Base>(
 }
 
 /// Serves a text command. Of one that updated the bytes of its request are given back where `logs` is set.
+#[inline(never)]
 pub fn serve_text<B: Base>(
     alloc: Global,
     text: Text,

@@ -1,5 +1,5 @@
 -- Entry by entry, connection by connection, what there was before.
-use Rattle.std.proofs.Common.{◌≡◌, ◌∙◌, ℕ, suc, ◌+◌, Bool, true, false, cond, not, List, [], ◌∷◌, ◌++◌, map, Ok, Err, refl, sym, ap, subst}
+use Rattle.std.proofs.Common.{◌≡◌, ◌∙◌, ℕ, suc, Bool, true, false, cond, not, List, [], ◌∷◌, ◌++◌, map, Ok, Err, refl, sym, ap, subst}
 use Rattle.std.specs.Prelude.{◌||◌, length, nat_eq}
 use Rattle.std.specs.List.{list_any, filter}
 use Rattle.std.proofs.lemmas.List.{map-append}
@@ -34,7 +34,7 @@ use Rattle.ty_world.specs.Same.{HearsNoTexts, client_of, clients_of, mark_as, Be
 -- ---- what a piece is
 
 -- a request as a piece
-abbrev as_piece : Front Request → Front Piece
+abbrev pub as_piece : Front Request → Front Piece
 as_piece (Ok x) = Ok (piece.Request x.0, x.1)
 as_piece (Err e) = Err e
 
@@ -42,7 +42,7 @@ mapped_as : (f : Front Request) → mapped piece.Request (λ bytes. f) [] ≡ as
 mapped_as (Ok x) = refl
 mapped_as (Err e) = refl
 
-binary_front : (bytes : List ℕ) → begins_text bytes ≡ false → piece_at bytes ≡ as_piece (request_at bytes)
+pub binary_front : (bytes : List ℕ) → begins_text bytes ≡ false → piece_at bytes ≡ as_piece (request_at bytes)
 unfolding piece_at
 binary_front bytes is = rw is (mapped_as (request_at bytes))
 
@@ -66,7 +66,7 @@ counted_as : (ks : List before.Client) → clients_in (clients_of ks) ≡ length
 counted_as [] = refl
 counted_as (k ∷ ks) = ap suc (counted_as ks)
 
-appended_as : (ks ls : List before.Client) → clients_of ks ++ clients_of ls ≡ clients_of (ks ++ ls)
+pub appended_as : (ks ls : List before.Client) → clients_of ks ++ clients_of ls ≡ clients_of (ks ++ ls)
 appended_as ks ls = sym (map-append client_of ks ls)
 
 opened_as : (c : ℕ) (ks : List before.Client) → heard (clients_of ks) (Opened c) [] ≡ clients_of (before.heard ks (Opened c) [])
@@ -178,7 +178,7 @@ joined_as s t ks one rest = rw (one.made.contents_is, one.made.walk_is, one.clie
   ap (λ l. client_of t.client ∷ l) rest.clients,
 )
 
-round_as : (c : Contents) (w : Walk) (ks : List before.Client) → NoTexts (clients_of ks) → RoundsAs c w ks
+pub round_as : (c : Contents) (w : Walk) (ks : List before.Client) → NoTexts (clients_of ks) → RoundsAs c w ks
 round_as c w [] none = record { made = record { contents_is = refl; walk_is = refl; updated_is = refl; commits_is = refl }; clients = refl }
 round_as c w (k ∷ ks) none =
     let t = before.round_one c w k in
@@ -206,18 +206,22 @@ behind_as x v ev bs none =
       refl,
     )
 
+-- those that heard an event
+pub heard_bytes : (x : Besides) (v : before.World) (ev : Ev) (bytes : List ℕ) → clients_of (before.heard (map before.unstopped v.there) ev bytes) ≡ heard_by (world_of x v) ev bytes
+heard_bytes x v ev bytes = sym (ap (λ l. heard l ev bytes) (unstopped_as v.there) ∙ heard_as (map before.unstopped v.there) ev bytes)
+
 event_as : (x : Besides) (v : before.World) (ev : Ev) (bytes : List ℕ) → NoTexts (heard_by (world_of x v) ev bytes)
     → SameWorld (with_round (world_of x v) ev (heard_by (world_of x v) ev bytes) (rounded (world_of x v) ev bytes)) (before.with_round v ev (before.round_of v ev bytes))
 event_as x v ev bytes none =
     let bs = before.heard (map before.unstopped v.there) ev bytes in
-    let same : clients_of bs ≡ heard_by (world_of x v) ev bytes = sym (ap (λ l. heard l ev bytes) (unstopped_as v.there) ∙ heard_as (map before.unstopped v.there) ev bytes) in
+    let same = heard_bytes x v ev bytes in
     subst (λ ks. SameWorld (with_round (world_of x v) ev ks (round_of_all plain x.records v.contents v.walk ks)) (before.with_round v ev (before.round_of v ev bytes))) same
     (behind_as x v ev bs (subst NoTexts (sym same) none))
 
 closed_as : (x : Besides) (v : before.World) (c : ℕ) → SameWorld (happens (world_of x v) (Close c)) (before.happens v (Close c))
 closed_as x v c = rw (picked_as (λ d. not (nat_eq d c)) v.there, picked_as (λ d. nat_eq d c) v.there, appended_as v.past (filter (λ k. nat_eq k.conn c) v.there)) (x, refl)
 
-entry_as : (e : Entry) (x : Besides) (v : before.World) → AsksRight (world_of x v) e → HearsNoTexts (world_of x v) e → SameWorld (happens (world_of x v) e) (before.happens v e)
+pub entry_as : (e : Entry) (x : Besides) (v : before.World) → AsksRight (world_of x v) e → HearsNoTexts (world_of x v) e → SameWorld (happens (world_of x v) e) (before.happens v e)
 entry_as (Open at) x v asked none = (x, refl)
 entry_as (Dial host port answer) x v asked none = absurd asked.1
 entry_as (Event paused busy ev bytes) x v asked none = event_as x v ev bytes none

@@ -288,7 +288,3 @@ pub turns_bound : (es : List Entry) (is : Settings) (ticks : List ℕ) (opens : 
 turns_bound es is ticks opens m acts given asked agrees on =
     let f = (all_fall es (started is ticks opens m) (unplayed acts given) refl (record { each = tt; fresh = λ d le. (refl, refl) }) refl asked agrees).falls on in
     omega (arith, f)
-
--- and at its end each event of the script was given or skipped
-pub all_played : (es : List Entry) (is : Settings) (ticks : List ℕ) (opens : List At) (m : Mark) (acts : List Act) (given : ℕ) → AllAsked (started is ticks opens m) es → AllAgree (unplayed acts given) es → (world_after es (started is ticks opens m)).shut ≡ true → (plays_all es (unplayed acts given)).acts ≡ []
-all_played es is ticks opens m acts given asked agrees off = (all_fall es (started is ticks opens m) (unplayed acts given) refl (record { each = tt; fresh = λ d le. (refl, refl) }) refl asked agrees).played_out refl off

@@ -1,5 +1,5 @@
--- At every moment a feed is owed what it was by then, and all records above its timestamp.
-use Rattle.std.proofs.Common.{◌≡◌, ◌∙◌, ℕ, Bool, true, false, cond, List, [], ◌∷◌, ◌++◌, map, refl, sym, ap, subst}
+-- At every moment a feed is owed what it was by then, and all records above its timestamp; one that was closed, those of that moment.
+use Rattle.std.proofs.Common.{◌≡◌, ◌∙◌, ℕ, Bool, true, false, cond, List, [], ◌∷◌, ◌++◌, append_assoc, map, refl, sym, ap, subst}
 use Rattle.std.specs.Prelude.{◌&&◌, Ok, Err, nat_eq, not}
 use Rattle.std.specs.List.{filter}
 use Rattle.tc_base.specs.declared.request.Request.TheVariants.{Repl}
@@ -18,12 +18,13 @@ use Rattle.ty_memc.specs.declared.text.Piece.{Piece}
 use Rattle.ty_memc.specs.declared.text.Piece.TheVariants as piece
 use Rattle.ty_ulog.specs.declared.record.Record.{Record}
 use Rattle.ty_ulog.specs.Log.{last_of}
-use Rattle.ty_world.specs.Answers.{FedAs, EachFed}
+use Rattle.ty_world.specs.Answers.{FedAs, EachFed, WasFedAs, EachWasFed}
 use Rattle.ty_world.specs.Clients.{Client, Role, of_client, of_feed, to_master, is_client, front_of}
 use Rattle.ty_world.specs.Links.{Looked, look_at, look_next, look_all, unmoved}
 use Rattle.ty_world.specs.Logs.{Settings, is_replica, records_after}
 use Rattle.ty_world.specs.Rounds.{Round, role_after, served, round_one, round_all, look_of, fed, fed_by, feed_all}
 use Rattle.ty_world.specs.World.{World, Mark, started, unstopped, at_conn, new_client, new_link, clients_in, with_dialled, with_read, with_end, heard, heard_by, sent, rounded, added, happens, world_after}
+use Rattle.std.proofs.lemmas.List.{append-nil}
 use Rattle.ty_world.proofs.Follows.{front_client}
 
 -- ---- lists
@@ -151,13 +152,60 @@ dialled_fed : (rs : List Record) (is : Settings) (log : List Record) (ks : List 
 dialled_fed rs is log ks (Conn c) h = fed_more rs ks (new_link is log c ∷ []) h (tt, tt)
 dialled_fed rs is log ks NotNow h = h
 
-feds : (es : List Entry) (w : World) → EachFed w.records w.there → EachFed (world_after es w).records (world_after es w).there
+-- ---- those that were closed
+
+-- more records came
+was_more : (rs more : List Record) (r : Role) (k : Client) → WasFedAs rs r k → WasFedAs (rs ++ more) r k
+was_more rs more of_client k h = tt
+was_more rs more (of_feed stamp base) k h = record { held = h.held; later = h.later ++ more; parts = ap (λ (l : List Record). l ++ more) h.parts ∙ append_assoc h.held h.later more; owed = h.owed }
+was_more rs more (to_master named broken) k h = tt
+
+each_was_more : (rs more : List Record) (ks : List Client) → EachWasFed rs ks → EachWasFed (rs ++ more) ks
+each_was_more rs more [] h = tt
+each_was_more rs more (k ∷ ks) h = (was_more rs more k.role k h.0, each_was_more rs more ks h.1)
+
+event_was : (is : Settings) (rs more : List Record) (ks : List Client) → EachWasFed rs ks → EachWasFed (records_after is rs more) ks
+event_was is rs more ks h = go is.logs
+  where
+    go : (b : Bool) → EachWasFed (cond b (rs ++ more) rs) ks
+    go true = each_was_more rs more ks h
+    go false = h
+
+-- one that is closed now
+was_now : (rs : List Record) (r : Role) (k : Client) → FedAs rs r k → WasFedAs rs r k
+was_now rs of_client k h = tt
+was_now rs (of_feed stamp base) k h = record { held = rs; later = []; parts = sym (append-nil rs); owed = h }
+was_now rs (to_master named broken) k h = tt
+
+each_was_now : (rs : List Record) (ks : List Client) → EachFed rs ks → EachWasFed rs ks
+each_was_now rs [] h = tt
+each_was_now rs (k ∷ ks) h = (was_now rs k.role k h.0, each_was_now rs ks h.1)
+
+was_and : (rs : List Record) (ks ls : List Client) → EachWasFed rs ks → EachWasFed rs ls → EachWasFed rs (ks ++ ls)
+was_and rs [] ls h g = g
+was_and rs (k ∷ ks) ls h g = (h.0, was_and rs ks ls h.1 g)
+
+-- ---- entries
+
+record IsFed (w : World) : Type 0 where
+  there : EachFed w.records w.there
+  past : EachWasFed w.records w.past
+
+feds : (es : List Entry) (w : World) → IsFed w → IsFed (world_after es w)
 feds [] w h = h
-feds (Open at ∷ es) w h = feds es (happens w (Open at)) h
-feds (Dial host port answer ∷ es) w h = feds es (happens w (Dial host port answer)) (dialled_fed w.records w.is w.records w.there answer h)
-feds (Event paused busy ev bytes ∷ es) w h = feds es (happens w (Event paused busy ev bytes)) (event_fed w ev bytes h)
-feds (Send c bytes answer ∷ es) w h = feds es (happens w (Send c bytes answer)) (fed_map w.records (at_conn c (sent bytes answer)) (at_fed w.records c (sent bytes answer) (sent_fed w.records bytes answer)) w.there h)
-feds (Close c ∷ es) w h = feds es (happens w (Close c)) (fed_filter w.records _ w.there h)
+feds (Open at ∷ es) w h = feds es (happens w (Open at)) (record { there = h.there; past = h.past })
+feds (Dial host port answer ∷ es) w h = feds es (happens w (Dial host port answer)) (record { there = dialled_fed w.records w.is w.records w.there answer h.there; past = h.past })
+feds (Event paused busy ev bytes ∷ es) w h = feds es (happens w (Event paused busy ev bytes)) (record { there = event_fed w ev bytes h.there; past = event_was w.is w.records (added w (rounded w ev bytes)) w.past h.past })
+feds (Send c bytes answer ∷ es) w h =
+    feds es (happens w (Send c bytes answer)) (record { there = fed_map w.records (at_conn c (sent bytes answer)) (at_fed w.records c (sent bytes answer) (sent_fed w.records bytes answer)) w.there h.there; past = h.past })
+feds (Close c ∷ es) w h =
+    feds es (happens w (Close c)) (record { there = fed_filter w.records _ w.there h.there; past = was_and w.records w.past _ h.past (each_was_now w.records _ (fed_filter w.records (λ k. nat_eq k.conn c) w.there h.there)) })
+
+fed_from : (es : List Entry) (is : Settings) (ticks : List ℕ) (opens : List At) (m : Mark) → IsFed (world_after es (started is ticks opens m))
+fed_from es is ticks opens m = feds es (started is ticks opens m) (record { there = tt; past = tt })
 
 pub all_fed : (es : List Entry) (is : Settings) (ticks : List ℕ) (opens : List At) (m : Mark) → EachFed (world_after es (started is ticks opens m)).records (world_after es (started is ticks opens m)).there
-all_fed es is ticks opens m = feds es (started is ticks opens m) tt
+all_fed es is ticks opens m = (fed_from es is ticks opens m).there
+
+pub all_was_fed : (es : List Entry) (is : Settings) (ticks : List ℕ) (opens : List At) (m : Mark) → EachWasFed (world_after es (started is ticks opens m)).records (world_after es (started is ticks opens m)).past
+all_was_fed es is ticks opens m = (fed_from es is ticks opens m).past

@@ -17,7 +17,7 @@ use Rattle.tc_io.specs.Lines.{has}
 use Rattle.tc_io.specs.Script.{Script, Lines, can_open, next_act, next_dial, lines_after, lines_dialled, played, Agrees, plays_all, AllAgree}
 use Rattle.ty_ulog.specs.declared.record.Record.{Record}
 use Rattle.ty_world.specs.Answers.{NoLink, Single, is_a_link}
-use Rattle.ty_world.specs.Clients.{Client, waits, is_link}
+use Rattle.ty_world.specs.Clients.{Client, is_link}
 use Rattle.ty_world.specs.Frames.{frames}
 use Rattle.ty_world.specs.Logs.{Settings, is_replica}
 use Rattle.ty_world.specs.Rounds.{round_all, look_of}

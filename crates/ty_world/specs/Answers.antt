@@ -82,6 +82,30 @@ abbrev pub EachFed : List Record → List Client → Type 0
 EachFed rs [] = Unit {0}
 EachFed rs (k ∷ ks) = FedAs rs k.role k × EachFed rs ks
 
+-- of one that was closed: the records above its timestamp of a front of the records
+pub record WasFed (rs : List Record) (stamp : ℕ) (base : List ℕ) (k : Client) : Type 0 where
+  pub held : List Record
+  pub later : List Record
+  pub parts : rs ≡ held ++ later
+  pub owed : k.owed ≡ base ++ log_bytes (above stamp held)
+
+abbrev pub WasFedAs : List Record → Role → Client → Type 0
+WasFedAs rs of_client k = Unit {0}
+WasFedAs rs (of_feed stamp base) k = WasFed rs stamp base k
+WasFedAs rs (to_master named broken) k = Unit {0}
+
+abbrev pub EachWasFed : List Record → List Client → Type 0
+EachWasFed rs [] = Unit {0}
+EachWasFed rs (k ∷ ks) = WasFedAs rs k.role k × EachWasFed rs ks
+
+-- ---- the update log
+
+-- file 2, the records and the clock are as they were
+pub record NotesNothing (w v : World) : Type 0 where
+  pub file : v.log ≡ w.log
+  pub records_are : v.records ≡ w.records
+  pub ticks_are : v.ticks ≡ w.ticks
+
 -- ---- the link
 
 -- fewer than four bytes of a link came whose id wasn't read, but where it is to be closed

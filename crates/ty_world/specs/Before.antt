@@ -268,33 +268,6 @@ AllCame w (e ∷ es) = Came w e × AllCame (happens w e) es
 
 -- ---- one turn
 
--- a send to one of these, or a closing of one
-abbrev pub SendsTo : List ℕ → Entry → Type 0
-SendsTo conns (Open at) = ⊥
-SendsTo conns (Dial host port answer) = ⊥
-SendsTo conns (Event paused busy ev bytes) = ⊥
-SendsTo conns (Send c bytes answer) = list_any (nat_eq c) conns ≡ true
-SendsTo conns (Close c) = ⊥
-
-abbrev pub ClosesOne : List ℕ → Entry → Type 0
-ClosesOne conns (Open at) = ⊥
-ClosesOne conns (Dial host port answer) = ⊥
-ClosesOne conns (Event paused busy ev bytes) = ⊥
-ClosesOne conns (Send c bytes answer) = ⊥
-ClosesOne conns (Close c) = list_any (nat_eq c) conns ≡ true
-
-abbrev pub AllOf : (Entry → Type 0) → List Entry → Type 0
-AllOf P [] = Unit {0}
-AllOf P (e ∷ es) = P e × AllOf P es
-
--- sends, and then closings, of these
-pub record AreFinishing (conns : List ℕ) (es : List Entry) : Type 0 where
-  pub sends : List Entry
-  pub closings : List Entry
-  pub parts : es ≡ sends ++ closings
-  pub are_sends : AllOf (SendsTo conns) sends
-  pub are_closings : AllOf (ClosesOne conns) closings
-
 -- whether the round of a turn has anything to commit
 abbrev pub commits_in : World → List Entry → Bool
 commits_in w [] = false

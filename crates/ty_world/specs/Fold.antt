@@ -39,9 +39,9 @@ AllMarksOf m first [] = Unit {0}
 AllMarksOf m first (k ∷ ks) = IsMarkOf m first k × AllMarksOf m first ks
 
 -- one of the list
-abbrev pub IsIn : Record → List Record → Type 0
-IsIn r [] = ⊥
-IsIn r (q ∷ qs) = (r ≡ q) ⊎ IsIn r qs
+abbrev pub IsIn : {A : Type 0} → A → List A → Type 0
+IsIn x [] = ⊥
+IsIn x (y ∷ ys) = (x ≡ y) ⊎ IsIn x ys
 
 abbrev pub AllIn : List Record → List Record → Type 0
 AllIn [] m = Unit {0}

@@ -2,7 +2,7 @@
 use Rattle.std.specs.Prelude.{ℕ, suc, ◌+◌, ◌&&◌, List, [], ◌∷◌, ◌++◌, length, nat_eq, nat_lt, if◌then◌else◌}
 use Rattle.tc_io.specs.declared.act.Act.{Act}
 use Rattle.tc_io.specs.declared.act.Act.TheVariants.{Opened, Read, Ended, Quiet}
-use Rattle.tc_io.specs.Script.{Lines, is_read}
+use Rattle.tc_io.specs.Script.{Script, Lines, is_read}
 use Rattle.ty_world.specs.Frames.{frames}
 use Rattle.ty_world.specs.Clients.{Client, is_client}
 
@@ -36,3 +36,11 @@ total acts (k ∷ ks) = left_of acts k + total acts ks
 -- what falls with each turn
 abbrev pub measure : List Client → List Act → Lines → ℕ
 measure ks acts l = length acts + (total acts ks + requests_in l.given acts)
+
+-- so many turns suffice where nothing is dialled: one for each event of the script, and each whole piece
+abbrev pub most_alone : Script → ℕ
+most_alone s = length s.acts + requests_in s.lines.given s.acts
+
+-- and with a master: each event counts twice, one more, and one for each event that found a whole record on the link
+abbrev pub most_linked : Script → ℕ → ℕ
+most_linked s looked = (length s.acts + most_alone s) + 1 + looked

@@ -2,9 +2,11 @@
 use Rattle.std.specs.Prelude.{◌≡◌, ◌≤◌, ◌<◌, ℕ, true, false, List, [], ◌∷◌}
 use Rattle.tc_io.specs.declared.act.Act.{Act}
 use Rattle.tc_io.specs.declared.wire.Dialled.{Dialled}
-use Rattle.tc_io.specs.Script.{Script, Lines}
+use Rattle.tc_io.specs.declared.wire.Entry.{Entry}
+use Rattle.tc_io.specs.Script.{AllAgree, Script, Lines}
 use Rattle.tc_io.specs.Lines.{has}
 use Rattle.ty_world.specs.Clients.{Client, is_link}
+use Rattle.ty_world.specs.World.{AllAsked, Opening, begun}
 
 pub record Fits (l : Lines) (k : Client) : Type 0 where
   pub listed : has l.conns k.conn ≡ true
@@ -29,3 +31,10 @@ unplayed_with acts dials given = record { acts = acts; dials = dials; lines = re
 -- with none
 abbrev pub unplayed : List Act → ℕ → Script
 unplayed acts given = unplayed_with acts [] given
+
+-- a run that asked rightly, over such a wire
+pub record AsksOver (s : Script) (o : Opening) (es : List Entry) : Type 0 where
+  pub conns : s.lines.conns ≡ []
+  pub ended : s.lines.ended ≡ []
+  pub asked : AllAsked (begun o) es
+  pub agrees : AllAgree s es

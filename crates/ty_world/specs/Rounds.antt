@@ -1,5 +1,5 @@
 -- A round: one piece of each connection that is ready, and then, on a replica, what the link brought.
-use Rattle.std.specs.Prelude.{◌||◌, ◌&&◌, ℕ, Bool, true, false, not, List, [], ◌∷◌, ◌++◌, map, Ok, Err, nat_eq, if◌then◌else◌}
+use Rattle.std.specs.Prelude.{◌≡◌, ◌||◌, ◌&&◌, ℕ, Bool, true, false, not, List, [], ◌∷◌, ◌++◌, map, Ok, Err, nat_eq, if◌then◌else◌}
 use Rattle.std.specs.Int.{w32, to_be_bytes}
 use Rattle.tc_base.specs.Reading.{Front}
 use Rattle.tc_base.specs.declared.request.Request.TheVariants.{Repl}
@@ -94,6 +94,14 @@ marks_in d = has_any d.round.made.updates || has_any d.looked.dealt_is.taken
 -- there is anything to commit
 abbrev pub commits_of : Rounded → Bool
 commits_of d = d.round.made.commits || has_any d.looked.dealt_is.taken
+
+-- with neither it leaves the contents
+abbrev pub LeavesIdle : Contents → Rounded → Type 0
+LeavesIdle c d = marks_in d ≡ false → d.looked.dealt_is.contents ≡ c
+
+-- with nothing to commit it did neither
+abbrev pub MarksCommitted : Rounded → Type 0
+MarksCommitted d = commits_of d ≡ false → marks_in d ≡ false
 
 -- ---- feeds
 

@@ -7,7 +7,7 @@ use Rattle.ty_memc.specs.Grammar.{begins_text}
 use Rattle.ty_ulog.specs.declared.record.Record.{Record}
 use Rattle.ty_world.specs.Clients.{Client, of_client}
 use Rattle.ty_world.specs.Logs.{plain}
-use Rattle.ty_world.specs.World.{World, Mark, Copied, happens, heard_by}
+use Rattle.ty_world.specs.World.{World, Mark, Copied, AllAsked, happens, heard_by}
 use Rattle.ty_world.specs.Before as before
 
 abbrev pub client_of : before.Client → Client
@@ -78,3 +78,13 @@ HearsNoTexts w (Close c) = Unit {0}
 abbrev pub NeverTexts : World → List Entry → Type 0
 NeverTexts w [] = Unit {0}
 NeverTexts w (e ∷ es) = HearsNoTexts w e × NeverTexts (happens w e) es
+
+-- it was asked rightly, and no client sent a text
+pub record RunsPlainly (w : World) (es : List Entry) : Type 0 where
+  pub asked : AllAsked w es
+  pub plain : NeverTexts w es
+
+-- nor is a text left where a call is made
+abbrev pub LeavesNoTexts : World → List Entry → Type 0
+LeavesNoTexts w [] = Unit {0}
+LeavesNoTexts w (e ∷ es) = NoTexts w.there × LeavesNoTexts (happens w e) es

@@ -214,6 +214,20 @@ abbrev pub world_after : List Entry → World → World
 world_after [] w = w
 world_after (e ∷ es) w = world_after es (happens w e)
 
+-- how a run begins: with what the words say, what the clock will answer, the addresses that were opened, and what was held
+pub record Opening : Type 0 where
+  pub is : Settings
+  pub ticks : List ℕ
+  pub opens : List At
+  pub mark : Mark
+
+abbrev pub begun : Opening → World
+begun o = started o.is o.ticks o.opens o.mark
+
+-- behind these entries
+abbrev pub ran : Opening → List Entry → World
+ran o es = world_after es (begun o)
+
 -- ---- what is asked of the wire
 
 abbrev pub should_pause : World → List ℕ

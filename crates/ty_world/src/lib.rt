@@ -4,6 +4,7 @@
 mod laws;
 
 pub use laws::{
-    a_replica_follows, all_was_sent, as_before, feeds_are_owed_all, links_are_introduced,
-    placed_pieces_came, rounds_are_right, turns_suffice, turns_suffice_a_replica,
+    a_replica_follows, all_was_sent, as_before, feeds_are_owed_all, frames_are_counted,
+    links_are_introduced, nothing_is_noted, placed_pieces_came, rounds_are_right, turns_suffice,
+    turns_suffice_a_replica,
 };

@@ -12,10 +12,10 @@ use Rattle.ty_answers.proofs.Telling.{read_answers}
 use Rattle.ty_answers.proofs.numbers.add.Goals as goal
 
 pub returns-in_err-close-clause-front : goal.returns-in_err-close-clause-front
-returns-in_err-close-clause-front g c = kept_front c.args.reply.now _ c.write_reply.new.into c.close.new.reply c.len-begin.result c.len-begin.ensures c.in_ok-write_reply.ensures.ok c.in_err-close.ensures.front
+returns-in_err-close-clause-front g c = kept_front c.args.reply.now _ c.say.new.into c.close.new.reply c.len-begin.result c.len-begin.ensures c.in_ok-say.ensures.ok c.in_err-close.ensures.front
 
 pub returns-clause-front : goal.returns-clause-front
-returns-clause-front g c = kept_front c.args.reply.now _ c.write_reply.new.into c.close.new.reply c.len-begin.result c.len-begin.ensures c.in_ok-write_reply.ensures.ok c.in_ok-close.ensures.front
+returns-clause-front g c = kept_front c.args.reply.now _ c.say.new.into c.close.new.reply c.len-begin.result c.len-begin.ensures c.in_ok-say.ensures.ok c.in_ok-close.ensures.front
 
 pub returns-clause-answers : goal.returns-clause-answers
 returns-clause-answers g c =
@@ -23,12 +23,12 @@ returns-clause-answers g c =
     let holds = g.E.Storage.holds in
     let sum = c.in-Some.sum in
     let done = c.in_ok-done.done in
-    let said = c.write_reply.new.into in
+    let said = c.say.new.into in
     after_reads s g.E.Storage.own g.E.Storage.layout holds (added c.args.key c.args.number) (changed_by (Four sum) (stored Over c.args.key c.in_ok-value.value)) Fail true done c.args.engine.now c.value.new.self c.store.new.self c.args.space.now c.value.new.space c.store.new.space c.args.reply.now c.close.new.reply
     c.in_ok-held.ensures.reads c.in_ok-held.ensures.keeps
     (λ m h. shows_sum m c.args.key c.args.number sum c.in_ok-held.held c.in_ok-value.value (not_narrow (is_narrow m) (c.if-not-takes_numbers.ensures _ m h.1)) (c.in_ok-held.ensures.value m h) (sym c.in-Some.ensures) c.in_ok-value.ensures)
     (made s g.E.Storage.own g.E.Storage.layout holds (Four sum) Fail (stored Over c.args.key c.in_ok-value.value) done c.value.new.self c.store.new.self c.value.new.space c.store.new.space c.args.reply.now c.close.new.reply refl c.in_ok-done.ensures.makes c.in_ok-done.ensures.keeps
-    (closed done (Four sum) Fail c.args.reply.now said c.close.new.reply c.in_ok-write_reply.ensures.ok
+    (closed done (Four sum) Fail c.args.reply.now said c.close.new.reply c.in_ok-say.ensures.ok
     (c.in_ok-close.ensures.ok ∙ ap (λ n. cond done said (take n said ++ reply_bytes Fail)) c.len-begin.ensures)))
 
 pub returns-in_default-clause-answers : goal.returns-in_default-clause-answers

@@ -1,9 +1,7 @@
-use Rattle.std.proofs.Common.{refl, sym, ap, ◌∙◌, subst}
-use Rattle.std.specs.Prelude.{[], ◌++◌}
+use Rattle.std.proofs.Common.{refl, sym, ◌∙◌, subst}
+use Rattle.std.specs.Prelude.{[]}
 use Rattle.std.proofs.lemmas.List.{append-nil}
 use Rattle.std.proofs.lemmas.Result.{IfOk-weaker}
-use Rattle.tc_base.specs.declared.request.Reply.{Reply}
-use Rattle.ty_wire.specs.Spelling.{reply_bytes}
 use Rattle.tc_model.specs.Apply.{Step}
 use Rattle.tc_model.proofs.Updating.{apply_same}
 use Rattle.ty_base.specs.Holding.{leaves_nothing}
@@ -14,7 +12,7 @@ pub returns-then-if_updating-clause-applied : goal.returns-then-if_updating-clau
 returns-then-if_updating-clause-applied g c = λ d h. record {
   contents = d;
   holds = h;
-  applies = refused_applies c.args.replica c.args.request d _ _ _ (sym c.if_updating.ensures ∙ c.if-if_updating.true) (c.in_ok-write_reply.ensures.ok ∙ ap (λ (a : Reply). c.args.reply.now ++ reply_bytes a) c.refusal-refused.ensures);
+  applies = refused_applies c.args.replica c.args.request d _ _ _ (sym c.if_updating.ensures ∙ c.if-if_updating.true) c.in_ok-refuse.ensures.ok;
 }
 
 pub returns-then-if_updating-clause-leaves : goal.returns-then-if_updating-clause-leaves
@@ -39,5 +37,5 @@ returns-clause-full g c = λ is. let full = c.apply.ensures.full is in record {
   by = λ d h. subst (λ (s : Step). g.B.Storage.fills c.args.base.now c.args.space.now c.apply.new.space d s.contents) (sym (apply_same c.args.replica c.args.request d c.args.walk.now (sym c.if_updating.ensures ∙ c.if-if_updating.false))) (full.by d h);
 }
 
-pub returns-in_err-write_reply-clause-reply_front : goal.returns-in_err-write_reply-clause-reply_front
-returns-in_err-write_reply-clause-reply_front g c = ([], c.in_err-write_reply.ensures.err ∙ sym (append-nil c.args.reply.now))
+pub returns-in_err-refuse-clause-reply_front : goal.returns-in_err-refuse-clause-reply_front
+returns-in_err-refuse-clause-reply_front g c = ([], c.in_err-refuse.ensures.err ∙ sym (append-nil c.args.reply.now))

@@ -1,12 +1,11 @@
-use Rattle.std.proofs.Common.{Bool, ap, ◌∙◌, take, arith}
-use Rattle.std.specs.Prelude.{Some, None, if◌then◌else◌}
-use Rattle.ty_core.proofs.Fronts.{front_is, is_ok_whole, small_taken}
+use Rattle.std.proofs.Common.{Bool, drop, subst, sym}
+use Rattle.std.proofs.lemmas.Result.{IfOk-weaker}
+use Rattle.ty_core.specs.Serving.{IsTaken}
+use Rattle.ty_core.proofs.Fronts.{is_ok_whole}
 use Rattle.ty_core.proofs.taking.read_small.Goals as goal
 
-pub read_piece-requires : goal.read_piece-requires
-read_piece-requires c = is_ok_whole c.args.whole c.args.unread.now c.requires
+pub read_alone-requires-clause-whole : goal.read_alone-requires-clause-whole
+read_alone-requires-clause-whole c = is_ok_whole c.args.whole c.args.unread.now c.requires
 
 pub returns : goal.returns
-returns c =
-    small_taken c.args.whole c.args.unread.now _ c.args.logs (λ i. omega (arith, c.type_inv.unread i)) (front_is c.args.whole c.args.unread.now _ c.requires c.in_ok-piece.ensures)
-    (c.in_ok-copied.ensures ∙ ap (λ (b : Bool). if b then Some (take c.args.whole c.args.unread.now) else None) c.is_copied.ensures)
+returns c = IfOk-weaker c.read_alone.result _ _ (λ t k. subst (λ (b : Bool). IsTaken t b c.args.unread.now (drop c.args.whole c.args.unread.now)) (sym c.if-logs.false) (k c.args.whole c.requires)) c.read_alone.ensures

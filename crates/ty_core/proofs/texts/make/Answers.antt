@@ -8,7 +8,7 @@ pub returns-clause-served : goal.returns-clause-served
 returns-clause-served g c = record {
   feeds = refl;
   notes = asked_notes c.args.replica c.args.logs c.args.request _ c.in_ok-applied.applied.updated c.requires.asked c.requires.fits c.in_ok-applied.ensures.blocked refl
-      (c.kept.ensures ∙ ap (λ (o : Option (List ℕ)). if c.in_ok-applied.applied.updated then o else None) c.in_ok-record.ensures);
+      (c.kept.ensures ∙ ap (λ (o : Option (List ℕ)). if c.in_ok-applied.applied.updated then o else None) c.in_ok-record.ensures) refl;
   few = reply_few c.in_ok-applied.applied.ok c.args.quiet c.args.reply.now c.args.waiting.now _ c.requires.short c.in-Ok.ensures.ok;
   serves = λ d h. let x = c.in_ok-applied.ensures.applied d h in (
     x.contents,

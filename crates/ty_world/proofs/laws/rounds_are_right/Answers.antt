@@ -4,7 +4,7 @@ use Rattle.ty_world.proofs.Served.{none_of}
 use Rattle.ty_world.proofs.laws.rounds_are_right.Goals as goal
 
 pub returns-clause-order : goal.returns-clause-order
-returns-clause-order c = all_in_order
+returns-clause-order c = λ es o. all_in_order es o.is o.ticks o.opens o.mark
 
 pub returns-clause-idle : goal.returns-clause-idle
 returns-clause-idle c = all_idle
