@@ -1,6 +1,8 @@
 -- What comes to a batch, as it is told.
-use Rattle.std.proofs.Common.{◌≡◌, ℕ, List, [], ◌∷◌, ◌++◌, map, refl, ap, ◌∙◌}
-use Rattle.std.specs.Prelude.{Option, Some, None, option_map}
+use Rattle.std.proofs.Common.{◌≡◌, ℕ, false, true, List, [], ◌∷◌, ◌++◌, length, map, refl, sym, ap, arith, ◌∙◌}
+use Rattle.std.proofs.lemmas.Bool.{eqb-true}
+use Rattle.std.specs.Prelude.{is_some, nat_eq, Option, Some, None}
+use Rattle.tc_base.specs.Labels.{is_label}
 use Rattle.tc_base.specs.LabelTexts.{text_of}
 use Rattle.tc_base.specs.declared.label.Label.{Label}
 use Rattle.ty_core.specs.Serving.{entries}
@@ -14,9 +16,12 @@ map_more : (xs ys : List Label) → map text_of (xs ++ ys) ≡ map text_of xs ++
 map_more [] ys = refl
 map_more (x ∷ xs) ys = ap (λ (l : List (List ℕ)). text_of x ∷ l) (map_more xs ys)
 
-listed_texts : (x : Option Label) → map text_of (listed x) ≡ entries (option_map text_of x)
-listed_texts None = refl
-listed_texts (Some x) = refl
+pub more_labels : (old new : List Label) (x : Label) (text : List ℕ) → new ≡ old ++ x ∷ [] → text_of x ≡ text → map text_of new ≡ map text_of old ++ text ∷ []
+more_labels old new x text more is = ap (map text_of) more ∙ map_more old (x ∷ []) ∙ ap (λ (t : List ℕ). map text_of old ++ t ∷ []) is
 
-pub more_labels : (old new : List Label) (x : Option Label) → new ≡ old ++ listed x → map text_of new ≡ map text_of old ++ entries (option_map text_of x)
-more_labels old new x is = ap (map text_of) is ∙ map_more old (listed x) ∙ ap (λ (l : List (List ℕ)). map text_of old ++ l) (listed_texts x)
+pub none_there : {A : Type 0} (l : List A) → nat_eq (length l) 0 ≡ true → l ≡ []
+none_there [] e = refl
+none_there (x ∷ l) e = absurd (let z : length (x ∷ l) ≡ 0 = eqb-true (length (x ∷ l)) 0 e in omega (arith, z))
+
+pub no_label : (o : Option Label) (text : List ℕ) → is_some o ≡ is_label text → is_label text ≡ true → o ≡ None → ⊥
+no_label o text some is none = let e : false ≡ true = sym (ap is_some none) ∙ some ∙ is in cc

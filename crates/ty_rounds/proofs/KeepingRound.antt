@@ -19,15 +19,16 @@ use Rattle.ty_world.specs.Logs.{Settings, news, records_after, file_after}
 use Rattle.ty_world.specs.World.{Mark}
 use Rattle.ty_base.specs.Holding.{AreApart, Frame, IsReady, KeepsLayout, Laid, Layout, NoLogs, SaysAlike, Stays}
 use Rattle.ty_rounds.specs.Books.{Book, IsBook, address, settings_of}
-use Rattle.ty_rounds.specs.Kept.{HasMark, MovesTo}
-use Rattle.ty_rounds.specs.Keeping.{LogLacks, added_to, book_after, mark_after, asks_of, StandsKept, KeepsRound}
+use Rattle.ty_rounds.specs.Kept.{HasMark}
+use Rattle.ty_rounds.specs.Keeping.{LogLacks, added_to, book_after, mark_after, asks_of, StandsKept, KeepsRound, MovesLog}
 use Rattle.ty_rounds.specs.Logging.{LacksRoom}
 use Rattle.ty_rounds.specs.Works.{Work, IsFit}
 use Rattle.ty_rounds.specs.Writing.{AreWritten, LacksAll, Writes, WritesAll, WroteSo, written}
 use Rattle.ty_rounds.specs.declared.logging.Logged.{Logged}
 use Rattle.ty_rounds.specs.declared.outcome.TurnErr.{TurnErr}
 use Rattle.ty_rounds.specs.declared.outcome.TurnErr.TheVariants.{Full}
-use Rattle.ty_rounds.proofs.Keeping.{Settles, none_moved, settled_moves}
+use Rattle.ty_rounds.proofs.Keeping.{Settles}
+use Rattle.ty_rounds.proofs.Leaving.{book_log}
 
 -- ---- what is added is what is written
 
@@ -141,7 +142,7 @@ module _ {S B : Type 0} (s : Ghosts S) (holds : B → Files → Contents → Typ
 
   -- a stop in the commit leaves what was kept or what stands for the mark behind the round
   pub commit_moves : (o : Work) (ticks : List ℕ) (l l1 : Option Logged) (base base' : B) (a b d e : S) → IsReadyToKeep o ticks l l1 base base' a b d → Keeps s a d → (s.tells → LeavesOnly s.moment s.left d e (λ p. (p ≡ s.kept d) ⊎ (p ≡ Some (s.now d)))) → (m : Mark) (k : Book) (later : List ℕ)
-      → HasMark s holds base a m → IsBook l k m.log → MovesTo s reopens a e (mark_after k (ticks ++ later) o m)
+      → HasMark s holds base a m → IsBook l k m.log → MovesLog s reopens a e (book_after k (ticks ++ later) o) (mark_after k (ticks ++ later) o m)
   commit_moves o ticks l l1 base base' a b d e r keeps commits m k later h bk =
       let t = h.held.0 in
       let st = keeps.steady t in
@@ -152,7 +153,10 @@ module _ {S B : Type 0} (s : Ghosts S) (holds : B → Files → Contents → Typ
           later = omega (arith, st.leaves.later, cm.later);
           each = λ u p le left. ⊎_elim
               (λ mid. ⊎_elim (λ was. inl was) (λ is. inr (inl is)) (st.leaves.each u p le mid))
-              (λ q. inr (⊎_elim (λ is. inl (is ∙ st.same)) (λ is. inr (record { files = s.now d; is = is; stand = record { contents = w.holds_it.stand; log = w.holds_it.has.log } })) q))
+              (λ q. inr (⊎_elim (λ is. inl (is ∙ st.same)) (λ is. inr (record {
+                reopen = record { files = s.now d; is = is; stand = record { contents = w.holds_it.stand; log = w.holds_it.has.log } };
+                log = book_log l1 (book_after k (ticks ++ later) o) (mark_after k (ticks ++ later) o m).log w.book;
+              })) q))
               (cm.each u p (omega (arith, le, st.leaves.later)) left);
         };
       }
@@ -178,7 +182,7 @@ module _ {S B : Type 0} (s : Ghosts S) (holds : B → Files → Contents → Typ
     told = told;
     small = none_small;
     few = omega arith;
-    moments = λ m k later h bk. none_moved s reopens a (mark_after k later o m);
+    moments = λ m k later h bk. record { leaves = record { later = omega arith; each = λ u p le left. inl left } };
     kept = record {
       ready = ready;
       untouched = untouched;
@@ -245,7 +249,7 @@ module _ {S B : Type 0} (s : Ghosts S) (holds : B → Files → Contents → Typ
     told = told;
     small = small;
     few = few;
-    moments = λ m k later h bk. settled_moves s reopens a d _ keeps h.held.0;
+    moments = λ m k later h bk. let st = keeps.steady h.held.0 in record { leaves = record { later = st.leaves.later; each = λ u p le left. ⊎_elim (λ was. inl was) (λ is. inr (inl is)) (st.leaves.each u p le left) } };
     kept = tt;
     full = λ is. full (let e : why ≡ Full = cc in e);
   }

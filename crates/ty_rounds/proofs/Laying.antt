@@ -8,16 +8,18 @@ use Rattle.tc_space.specs.declared.space.Space as space
 use Rattle.tc_model.specs.Contents.{Contents}
 use Rattle.ty_base.specs.Holding.{Frame, KeepsFrame, Laid, Layout, Leaves, frame_of, frame_refl, frame_then, laid_then, others_beside}
 use Rattle.ty_world.specs.World.{World, Mark, mark_of}
-use Rattle.ty_rounds.specs.Holding.{Stands, State}
-use Rattle.ty_rounds.specs.Keeping.{IsKept, IsKeptLaid, IsRoundKept, KeepsRound, KeepsRoundLaid, MovesLaid, kept_frame}
-use Rattle.ty_rounds.specs.Kept.{HasMark, HoldsMark, LeavesTwo, MovesTo, Reopens}
-use Rattle.ty_rounds.specs.Turns.{Idles, OnlyCopied, TurnEnds, Turned, Turns}
+use Rattle.ty_rounds.specs.Holding.{Stands, State, book_of}
+use Rattle.ty_rounds.specs.Keeping.{IsKept, IsKeptLaid, IsRoundKept, KeepsRound, KeepsLaid, MovesLaid, MovesLog, ReopensLog, kept_frame}
+use Rattle.ty_rounds.specs.Kept.{HasMark, HoldsMark, MovesTo, Reopens}
+use Rattle.ty_rounds.specs.Books.{Book}
+use Rattle.ty_rounds.specs.Turns.{Idles, LeavesEither, OnlyCopied, ReopensEither, TurnEnds, Turned, Turns, TurnsFull}
 use Rattle.ty_rounds.specs.Works.{Work}
 use Rattle.ty_rounds.specs.declared.logging.Logged.{Logged}
 use Rattle.ty_rounds.specs.declared.outcome.Outcome.{Outcome}
 use Rattle.ty_rounds.specs.declared.outcome.Outcome.TheVariants.{Went, Gap, Shut}
 use Rattle.ty_rounds.specs.declared.outcome.TurnErr.{TurnErr}
 use Rattle.ty_rounds.specs.declared.outcome.TurnErr.TheVariants.{Volume, Full, Wire, Memory}
+use Rattle.ty_rounds.proofs.Leaving.{left_wider}
 
 -- files that stand in one sense stand in a wider one
 
@@ -25,8 +27,11 @@ module _ {S B : Type 0} (s : space.Ghosts S) (holds : B → Files → Contents �
   pub reopens_less : (o : Option Files) (m : Mark) → Reopens P o m → Reopens Q o m
   reopens_less o m r = record { files = r.files; is = r.is; stand = record { contents = wider r.files m.contents r.stand.contents; log = r.stand.log } }
 
-  either_less : (o : Option Files) (m n : Mark) → Reopens P o m ⊎ Reopens P o n → Reopens Q o m ⊎ Reopens Q o n
-  either_less o m n x = ⊎_elim (λ r. inl (reopens_less o m r)) (λ r. inr (reopens_less o n r)) x
+  log_less : (bk : Book) (o : Option Files) (m : Mark) → ReopensLog P bk o m → ReopensLog Q bk o m
+  log_less bk o m r = record { reopen = reopens_less o m r.reopen; log = r.log }
+
+  logs_less : (w v : World) (o : Option Files) → ReopensEither P w v o → ReopensEither Q w v o
+  logs_less w v o x = ⊎_elim (λ r. inl (log_less (book_of v) o (mark_of v) r)) (λ r. inr (log_less (book_of w) o (mark_of w) r)) x
 
   pub mark_less : (base : B) (a : S) (m : Mark) → HoldsMark s holds P base a m → HoldsMark s holds Q base a m
   mark_less base a m h = record { has = h.has; stand = wider (s.now a) m.contents h.stand }
@@ -34,8 +39,11 @@ module _ {S B : Type 0} (s : space.Ghosts S) (holds : B → Files → Contents �
   pub moves_less : (a b : S) (m : Mark) → MovesTo s P a b m → MovesTo s Q a b m
   moves_less a b m x = record { leaves = record { later = x.leaves.later; each = λ t o le l. ⊎_elim (λ was. inl was) (λ r. inr (⊎_elim (λ is. inl is) (λ q. inr (reopens_less o m q)) r)) (x.leaves.each t o le l) } }
 
-  two_less : (a b : S) (m n : Mark) → LeavesTwo s P a b m n → LeavesTwo s Q a b m n
-  two_less a b m n x = record { leaves = record { later = x.leaves.later; each = λ t o le l. ⊎_elim (λ was. inl was) (λ r. inr (either_less o m n r)) (x.leaves.each t o le l) } }
+  pub moves_log_less : (a b : S) (bk : Book) (m : Mark) → MovesLog s P a b bk m → MovesLog s Q a b bk m
+  moves_log_less a b bk m x = record { leaves = record { later = x.leaves.later; each = λ t o le l. ⊎_elim (λ was. inl was) (λ r. inr (⊎_elim (λ is. inl is) (λ q. inr (log_less bk o m q)) r)) (x.leaves.each t o le l) } }
+
+  two_less : (a b : S) (w v : World) → LeavesEither s P a b w v → LeavesEither s Q a b w v
+  two_less a b w v x = record { leaves = left_wider s (ReopensEither P w v) (ReopensEither Q w v) a b (logs_less w v) x.leaves }
 
   stands_less : (base : B) (a : S) (given : ℕ) (v : State) (w : World) → Stands (HoldsMark s holds P base a) given v w → Stands (HoldsMark s holds Q base a) given v w
   stands_less base a given v w st = record {
@@ -70,10 +78,10 @@ module _ {S B : Type 0} (s : space.Ghosts S) (holds : B → Files → Contents �
   ends_less (Ok Went) base a given b w v e = (stands_less base a given b v e.0, e.1, e.2, e.3)
   ends_less (Ok (Gap h f)) base a given b w v e = (stands_less base a given b v e.0, e.1, e.2, e.3)
   ends_less (Ok Shut) base a given b w v e = (stands_less base a given b v e.0, e.1, e.2, e.3)
-  ends_less (Err Wire) base a given b w v e = λ o l. reopens_less o (mark_of v) (e o l)
-  ends_less (Err Memory) base a given b w v e = λ o l. either_less o (mark_of v) (mark_of w) (e o l)
-  ends_less (Err Volume) base a given b w v e = λ o l. either_less o (mark_of v) (mark_of w) (e o l)
-  ends_less (Err Full) base a given b w v e = λ o l. either_less o (mark_of v) (mark_of w) (e o l)
+  ends_less (Err Wire) base a given b w v e = λ o l. log_less (book_of v) o (mark_of v) (e o l)
+  ends_less (Err Memory) base a given b w v e = λ o l. logs_less w v o (e o l)
+  ends_less (Err Volume) base a given b w v e = λ o l. logs_less w v o (e o l)
+  ends_less (Err Full) base a given b w v e = λ o l. logs_less w v o (e o l)
 
   pub turned_less : (result : Result Outcome TurnErr) (later : List ℕ) (base : B) (old new : S) (given : ℕ) (b : State) (w v : World) (es : List Entry) → Turned s P result later old new (HoldsMark s holds P base new) given b w v es → Turned s Q result later old new (HoldsMark s holds Q base new) given b w v es
   turned_less result later base old new given b w v es t = record {
@@ -83,7 +91,7 @@ module _ {S B : Type 0} (s : space.Ghosts S) (holds : B → Files → Contents �
     marks = t.marks;
     opens = t.opens;
     ticks = t.ticks;
-    moments = two_less old new (mark_of w) (mark_of v) t.moments;
+    moments = two_less old new w v t.moments;
     idle = λ none unlabelled. idles_less result old new (t.idle none unlabelled);
     only = λ none. only_less result old new (t.only none);
     copies = t.copies;
@@ -123,14 +131,14 @@ module _ {S B : Type 0} (s : space.Ghosts S) (own : ℕ → Type 0) (layout : Fi
   moves_like l u b1 a a1 a2 was leaves moves m h = moves_less s holds (Laid own layout (kept_frame u (frame_of layout (s.now a1))) reopens) (Laid own layout l reopens) (kept_wider l u a a1 h.held.0 was leaves) a1 a2 m (moves m h)
 
   -- and of what is kept of a round
-  pub round_laid : (o : Work) (x y : Option (List ℕ)) (l l1 : Option Logged) (b1 b2 : B) (a a1 a2 : S) (result : Result (Unit {0}) TurnErr) → Leaves s own layout (o.commits ≡ false) a a1 → KeepsRoundLaid s holds reopens own layout o x y l l1 b1 b2 a1 a2 result
+  pub round_laid : (o : Work) (x y : Option (List ℕ)) (l l1 : Option Logged) (b1 b2 : B) (a a1 a2 : S) (result : Result (Unit {0}) TurnErr) → Leaves s own layout (o.commits ≡ false) a a1 → KeepsLaid s holds reopens own layout o x y l l1 b1 b2 a1 a2 result
       → KeepsRound s holds (Laid own layout (frame_of layout (s.now a)) reopens) o x y l l1 b1 b2 a1 a2 result
   round_laid o x y l l1 b1 b2 a a1 a2 result leaves k = record {
     ticks = k.ticks;
     told = k.told;
     small = k.small;
     few = k.few;
-    moments = λ m b later h bk. moves_less s holds Kept Was (kept_wider (frame_of layout (s.now a)) o.commits a a1 h.held.0 (frame_refl own (frame_of layout (s.now a))) leaves) a1 a2 _ (k.moments m b later h bk);
+    moments = λ m b later h bk. moves_log_less s holds Kept Was (kept_wider (frame_of layout (s.now a)) o.commits a a1 h.held.0 (frame_refl own (frame_of layout (s.now a))) leaves) a1 a2 _ _ (k.moments m b later h bk);
     kept = kept result k.kept;
     full = k.full;
   }
@@ -153,32 +161,51 @@ module _ {S B : Type 0} (s : space.Ghosts S) (own : ℕ → Type 0) (layout : Fi
       }
 
 -- what is laid out like the files before the turn is laid out like whatever they are
-pub laid_turns : {S B W : Type 0} (s : space.Ghosts S) (g : wire.Ghosts W) (holds : B → Files → Contents → Type 0) (reopens : Files → Contents → Type 0) (own : ℕ → Type 0) (layout : Files → Layout) (result : Result Outcome TurnErr) (b b' : B) (a a' : S) (x y : W) (p q : Option (List ℕ)) (v v' : State)
-    → Turns s g holds (Laid own layout (frame_of layout (s.now a)) reopens) result b b' a a' x y p q v v' → (l : Frame) → Turns s g holds (Laid own layout l reopens) result b b' a a' x y p q v v'
-laid_turns s g holds reopens own layout result b b' a a' x y p q v v' t l =
-    let now = frame_of layout (s.now a) in
-    record {
-      entries = t.entries;
-      told = t.told;
-      plays = t.plays;
-      calls = t.calls;
-      ticks = t.ticks;
-      clocked = t.clocked;
-      unticked = t.unticked;
-      ends = λ w later st on ticks.
-          let like = st.mark.stand.like in
-          turned_less s holds (Laid own layout now reopens) (Laid own layout l reopens) (λ files c laid. laid_then own layout reopens l now files c like laid) result later b' a a' (g.given y) v' w _ t.entries
-          (t.ends w later (record {
-            mark = record { has = st.mark.has; stand = record { stand = st.mark.stand.stand; like = frame_refl own now } };
-            book = st.book;
-            due_is = st.due_is;
-            walk_is = st.walk_is;
-            each = st.each;
-            past = st.past;
-            rested = st.rested;
-            introduced = st.introduced;
-            older = st.older;
-            marked = st.marked;
-            above = st.above;
-          }) on ticks);
-    }
+module _ {S B W : Type 0} (s : space.Ghosts S) (g : wire.Ghosts W) (holds : B → Files → Contents → Type 0) (reopens : Files → Contents → Type 0) (own : ℕ → Type 0) (layout : Files → Layout) where
+  abbrev LaidOn : Frame → Files → Contents → Type 0
+  LaidOn l = Laid own layout l reopens
+
+  stands_laid : (b : B) (a : S) (given : ℕ) (v : State) (l : Frame) (w : World) → Stands (HoldsMark s holds (LaidOn l) b a) given v w → Stands (HoldsMark s holds (LaidOn (frame_of layout (s.now a))) b a) given v w
+  stands_laid b a given v l w st = record {
+    mark = record { has = st.mark.has; stand = record { stand = st.mark.stand.stand; like = frame_refl own (frame_of layout (s.now a)) } };
+    book = st.book;
+    due_is = st.due_is;
+    walk_is = st.walk_is;
+    each = st.each;
+    past = st.past;
+    rested = st.rested;
+    introduced = st.introduced;
+    older = st.older;
+    marked = st.marked;
+    above = st.above;
+  }
+
+  pub laid_turns : (fills : S → S → Contents → Contents → Type 0) (result : Result Outcome TurnErr) (b b' : B) (a a' : S) (x y : W) (p q : Option (List ℕ)) (v v' : State)
+      → TurnsFull s g holds (LaidOn (frame_of layout (s.now a))) fills result b b' a a' x y p q v v' → (l : Frame) → TurnsFull s g holds (LaidOn l) fills result b b' a a' x y p q v v'
+  laid_turns fills result b b' a a' x y p q v v' f l =
+      let now = frame_of layout (s.now a) in
+      let t = f.turns in
+      record {
+        turns = record {
+          entries = t.entries;
+          told = t.told;
+          plays = t.plays;
+          calls = t.calls;
+          ticks = t.ticks;
+          clocked = t.clocked;
+          small = t.small;
+          unticked = t.unticked;
+          ends = λ w later st on ticks.
+              turned_less s holds (LaidOn now) (LaidOn l) (λ files c laid. laid_then own layout reopens l now files c st.mark.stand.like laid) result later b' a a' (g.given y) v' w _ t.entries
+              (t.ends w later (stands_laid b a (g.given x) v l w st) on ticks);
+        };
+        full = λ is. let n = f.full is in record {
+          calls = n.calls;
+          paused = n.paused;
+          busy = n.busy;
+          ev = n.ev;
+          bytes = n.bytes;
+          is = n.is;
+          some = λ w later st on ticks. n.some w later (stands_laid b a (g.given x) v l w st) on ticks;
+        };
+      }

@@ -1,13 +1,12 @@
 -- Serving one connection, and all of them.
 use Rattle.std.proofs.Common.{◌≡◌, ◌⊎◌, ⊎_elim, ◌≤◌, ◌<◌, ◌+◌, inl, inr, ℕ, zero, suc, Bool, true, false, not, cond, List, [], ◌∷◌, ◌++◌, length, get_or, set, refl, sym, ap, subst, ◌∙◌, arith, append_assoc, length-append, Ok, Err}
 use Rattle.std.specs.Int.{w32, to_be_bytes}
-use Rattle.std.specs.Prelude.{◌&&◌, ◌||◌, All, Option, Some, None, option_map}
+use Rattle.std.specs.Prelude.{◌&&◌, ◌||◌, All, Option, Some, None}
 use Rattle.std.specs.Option.{ForSome}
 use Rattle.std.proofs.lemmas.List.Elements.{All-append, All-cons, All-nil}
 use Rattle.std.proofs.lemmas.List.{append-nil}
 use Rattle.std.proofs.lemmas.Bool.{and_parts, eqb-true, or_parts}
 use Rattle.tc_base.specs.Files.{Files}
-use Rattle.tc_base.specs.LabelTexts.{text_of}
 use Rattle.tc_base.specs.declared.request.Request.TheVariants.{Repl}
 use Rattle.tc_space.specs.Frames.{only_reads_then, others_then}
 use Rattle.tc_space.specs.declared.space.Space.{Ghosts}
@@ -151,7 +150,7 @@ none_idle l o h c w p p' hc is none = subst (λ (q : Peer). ServesOne l o o c h 
 pub record AddsServed (d : Served) (o p : Work) : Type 0 where
   pub commits : p.commits ≡ (o.commits || d.commits)
   pub updates : p.updates ≡ o.updates ++ entries d.update
-  pub labels : p.labels ≡ o.labels ++ entries (option_map text_of d.copy)
+  pub labels : p.labels ≡ o.labels ++ entries d.copy
 
 adds_made : (logs : Bool) (e : Done) (d : Served) (o p : Work) (c : Contents) (w : Walk) (waiting waiting' : List ℕ) → Serves logs e d c w waiting waiting' → AddsServed d o p → AddsMade logs e.made o p
 adds_made logs e d o p c w waiting waiting' s a = record {

@@ -2,7 +2,7 @@
 use Rattle.std.proofs.Common.{◌≡◌, ◌⊎◌, ◌≤◌, inl, inr, ⊎_elim, ℕ, suc, Bool, true, false, cond, List, [], ◌∷◌, ◌++◌, length, drop, refl, sym, ap, subst, ◌∙◌, map, arith}
 use Rattle.std.proofs.lemmas.Bool.{cond-false, cond-true}
 use Rattle.std.proofs.lemmas.List.{append-nil}
-use Rattle.std.specs.Prelude.{◌||◌, Option, Some, None, Result, Ok, Err, OnOk, IsErrOf}
+use Rattle.std.specs.Prelude.{◌||◌, ◌<◌, ◌^◌, All, Option, Some, None, Result, Ok, Err, OnOk, IsErrOf}
 use Rattle.tc_base.specs.Files.{Files}
 use Rattle.tc_io.specs.Copies.{Named}
 use Rattle.tc_io.specs.Told.{Adds}
@@ -16,11 +16,12 @@ use Rattle.tc_io.specs.declared.wire.Entry.TheVariants.{Dial, Event}
 use Rattle.tc_io.specs.declared.wire.Dialled.{Dialled}
 use Rattle.tc_io.specs.declared.wire.Dialled.TheVariants.{Conn, NotNow}
 use Rattle.tc_space.specs.Frames.{Keeps, OnlyReads, keeps_refl, keeps_then, only_reads_refl, only_reads_then}
-use Rattle.tc_space.specs.Moments.{Steady}
+use Rattle.tc_space.specs.Moments.{LeavesOnly, Steady}
 use Rattle.tc_space.specs.declared.space.Space as space
 use Rattle.tc_model.specs.Contents.{Contents, Walk}
 use Rattle.ty_base.specs.Holding.{FillsAll, Held, Layout}
 use Rattle.ty_ulog.specs.Noting.{Lacks, records_of}
+use Rattle.ty_ulog.proofs.Asking.{none_small}
 use Rattle.ty_ulog.specs.declared.record.Record.{Record}
 use Rattle.ty_ulog.specs.Log.{last_of}
 use Rattle.ty_world.specs.Answers.{Introduced}
@@ -32,14 +33,14 @@ use Rattle.ty_world.proofs.RoundLaws.{all_idle, all_quiet, marks_none, news_none
 use Rattle.ty_world.proofs.Introduced.{introduces, last_gap}
 use Rattle.ty_rounds.specs.Books.{Book, IsBook, SameTerms, settings_of}
 use Rattle.ty_rounds.specs.Copying.{AreMade, OnlyCopies, RoundCopies}
-use Rattle.ty_rounds.specs.Kept.{Reopens, HasMark, HoldsMark, MovesTo, LeavesTwo}
-use Rattle.ty_rounds.specs.Keeping.{added_to, book_after, mark_after, asks_of, KeepsRound}
+use Rattle.ty_rounds.specs.Kept.{Reopens, HasMark, HoldsMark}
+use Rattle.ty_rounds.specs.Keeping.{added_to, book_after, mark_after, asks_of, KeepsRound, MovesLog, ReopensLog}
 use Rattle.ty_rounds.specs.Holding.{AllHold, AllFine, AllGoing, IsFine, State, book_of, Stands, RoundsTo, Same}
 use Rattle.ty_rounds.specs.Dialling.{DialErr, DialFailed}
 use Rattle.ty_rounds.specs.Joining.{Joins}
 use Rattle.ty_rounds.specs.Logging.{LacksRoom}
-use Rattle.ty_rounds.specs.Serving.{FillsPart, Rounds, at_commit, of_client}
-use Rattle.ty_rounds.specs.Turns.{has_send, Call, entries_of, AreFew, given_behind, conns_after, Called, Dials, Asks, Hears, HearErr, Finishes, FullTurn, IsLone, IsWhole, IsAnyWhole, EndsTurn, or_later, MarksMore, MeetsFor, CameToSends, Idles, OnlyCopied, TurnEnds, Turned, Turns, WireAlone, outcome_of, went}
+use Rattle.ty_rounds.specs.Serving.{FillsIn, FillsPart, Rounds, at_commit, of_client}
+use Rattle.ty_rounds.specs.Turns.{has_send, Call, entries_of, AreFew, given_behind, conns_after, Called, Dials, Asks, Hears, HearErr, Finishes, IsLone, IsWhole, IsAnyWhole, EndsTurn, or_later, MarksMore, MeetsFor, CameToSends, Idles, OnlyCopied, LeavesEither, ReopensEither, TurnEnds, Turned, Turns, TurnsFull, WireAlone, outcome_of, went}
 use Rattle.ty_rounds.specs.Works.{Work, gaps_of}
 use Rattle.ty_rounds.specs.declared.batch.Gap.{Gap as GapMet}
 use Rattle.ty_rounds.specs.declared.logging.Logged.{Logged}
@@ -54,7 +55,7 @@ use Rattle.ty_rounds.proofs.Telling.{Adds-then, Adds-none, Plays-then}
 use Rattle.ty_world.proofs.Fine.{heard_fed, unstopped_fed, round_fed, look_of_fed, feed_fine}
 use Rattle.ty_world.proofs.Going.{all_going}
 use Rattle.ty_rounds.proofs.Fine.{hold_fine, hold_fed}
-use Rattle.ty_rounds.proofs.Leaving.{IsClean, Earlier, kept_stands, left_stands, none_two, steady_two, moved_two, two_exit}
+use Rattle.ty_rounds.proofs.Leaving.{IsClean, Earlier, book_log, kept_or, kept_stands, left_stands, left_wider, moved_or, none_left, or_exit, steady_exit, then_kept, was_kept}
 
 -- ---- behind the dial
 
@@ -257,7 +258,7 @@ module _ {S : Type 0} (s : space.Ghosts S) (reopens : Files → Contents → Typ
         marks = record { more = ⊎_elim (λ p. inl (p.0 ∙ same.marks, p.1 ∙ mk)) (λ p. inr (p ∙ ap (λ (l : List Mark). mark_of v ∷ l) same.marks)) t.marks.more };
         opens = t.opens ∙ same.opens;
         ticks = t.ticks;
-        moments = subst (λ (m : Mark). LeavesTwo s reopens a a' m (mark_of v)) mk t.moments;
+        moments = record { leaves = left_wider s (ReopensEither reopens u v) (ReopensEither reopens w v) a a' (either v) t.moments.leaves };
         idle = λ none unlabelled. t.idle (commits ∙ none) (labels ∙ unlabelled);
         only = λ none. t.only (commits ∙ none);
         copies = record {
@@ -272,20 +273,35 @@ module _ {S : Type 0} (s : space.Ghosts S) (reopens : Files → Contents → Typ
       mk : mark_of u ≡ mark_of w
       mk = λ i. record { contents = same.contents i; log = same.log i }
 
+      bk : book_of u ≡ book_of w
+      bk = λ i. record { is = same.is_same i; records = same.records i }
+
+      either : (v : World) (o : Option Files) → ReopensEither reopens u v o → ReopensEither reopens w v o
+      either v o x = ⊎_elim (λ r. inl r) (λ r. inr (subst (λ (c : Book). ReopensLog reopens c o (mark_of w)) bk (subst (λ (m : Mark). ReopensLog reopens (book_of u) o m) mk r))) x
+
       ends : (r : Result Outcome TurnErr) (v : World) → TurnEnds s reopens r a' known given v' u v → TurnEnds s reopens r a' known given v' w v
       ends (Ok Went) v h = (h.0, h.1, h.2 ∙ ap suc same.events, h.3 ∙ same.gaps)
       ends (Ok (Gap n f)) v h = (h.0, h.1, h.2 ∙ ap suc same.events, h.3 ∙ ap (λ (l : List (ℕ × ℕ)). l ++ (n, f) ∷ []) same.gaps)
       ends (Ok Shut) v h = (h.0, h.1, h.2 ∙ ap suc same.events, h.3 ∙ same.gaps)
       ends (Err Wire) v h = h
-      ends (Err Memory) v h = λ o l. subst (λ (m : Mark). Reopens reopens o (mark_of v) ⊎ Reopens reopens o m) mk (h o l)
-      ends (Err Volume) v h = λ o l. subst (λ (m : Mark). Reopens reopens o (mark_of v) ⊎ Reopens reopens o m) mk (h o l)
-      ends (Err Full) v h = λ o l. subst (λ (m : Mark). Reopens reopens o (mark_of v) ⊎ Reopens reopens o m) mk (h o l)
+      ends (Err Memory) v h = λ o l. either v o (h o l)
+      ends (Err Volume) v h = λ o l. either v o (h o l)
+      ends (Err Full) v h = λ o l. either v o (h o l)
 
 -- ---- how a turn ends
 
-module _ {S B W : Type 0} (s : space.Ghosts S) (g : wire.Ghosts W) (own : ℕ → Type 0) (layout : Files → Layout) (not_log : own 2 → ⊥) (holds : B → Files → Contents → Type 0) (reopens : Files → Contents → Type 0) where
+module _ {S B W : Type 0} (s : space.Ghosts S) (g : wire.Ghosts W) (own : ℕ → Type 0) (layout : Files → Layout) (not_log : own 2 → ⊥) (holds : B → Files → Contents → Type 0) (reopens : Files → Contents → Type 0) (fills : S → S → Contents → Contents → Type 0) where
   abbrev Known : B → S → Mark → Type 0
   Known = HoldsMark s holds reopens
+
+  -- a limit was reached in the round, or in what it adds to the update log
+  pub record FullRest (b : B) (a a' : S) (given : ℕ) (l : Option Logged) (k : Walk) (ps : List Peer) (es : List Entry) (ticks : List ℕ) : Type 0 where
+    pub paused : List ℕ
+    pub busy : Bool
+    pub ev : Ev
+    pub bytes : List ℕ
+    pub is : es ≡ Event paused busy ev bytes ∷ []
+    pub some : (w : World) (later : List ℕ) → StandsDialled (Known b a) given l k ps w → w.ticks ≡ ticks ++ later → FillsIn (fills a a') (Lacks s a') w ev bytes
 
   -- a turn behind its dial
   pub record Rest (result : Result Outcome TurnErr) (b b' : B) (a a' : S) (y z : W) (p q : Option (List ℕ)) (l : Option Logged) (k : Walk) (ps : List Peer) (v' : State) : Type 0 where
@@ -295,23 +311,39 @@ module _ {S B W : Type 0} (s : space.Ghosts S) (g : wire.Ghosts W) (own : ℕ �
     pub calls : EndsTurn (settings_of l).logs (g.conns y) result entries
     pub ticks : List ℕ
     pub clocked : Adds p q ticks
+    pub small : All (λ t. t < 2 ^ 64) ticks
     pub unticked : (settings_of l).logs ≡ false → ticks ≡ []
+    pub full : IsErrOf result Full → FullRest b a a' (g.given y) l k ps entries ticks
     pub ends : (w : World) (later : List ℕ) → StandsDialled (Known b a) (g.given y) l k ps w → w.ticks ≡ ticks ++ later → Turned s reopens result later a a' (Known b' a') (g.given z) v' w (world_after entries w) entries
 
   pub whole_turn : (result : Result Outcome TurnErr) (b b' : B) (a a' : S) (x y z : W) (p q : Option (List ℕ)) (v v' : State) (ps : List Peer) (d : Dials g v.logged v.due x y v.peers ps)
-      → Rest result b b' a a' y z p q v.logged v.walk ps v' → Turns s g holds reopens result b b' a a' x z p q v v'
+      → Rest result b b' a a' y z p q v.logged v.walk ps v' → TurnsFull s g holds reopens fills result b b' a a' x z p q v v'
   whole_turn result b b' a a' x y z p q v v' ps d r = record {
-    entries = entries_of d.calls ++ r.entries;
-    told = Adds-then (g.transcript x) (g.transcript y) (g.transcript z) (entries_of d.calls) r.entries d.told r.told;
-    plays = plays result r.plays;
-    calls = record { calls = d.calls; few = d.few; to_master = d.to_master; behind = r.entries; parts = refl; ends = subst (λ (c : List ℕ). EndsTurn (settings_of v.logged).logs c result r.entries) d.conns r.calls };
-    ticks = r.ticks;
-    clocked = r.clocked;
-    unticked = r.unticked;
-    ends = λ w later st on ticks.
-        let e = d.ends w st.book st.due_is st.each st.rested st.above in
-        behind_dial s reopens result later a a' (Known b' a') (g.given z) v' d.calls w r.entries (world_after (entries_of d.calls) w) e.same e.asked e.came refl
-        (r.ends (world_after (entries_of d.calls) w) later (dialled_stands g (Known b a) x y v ps d w st on) (e.same.ticks ∙ ticks));
+    turns = record {
+      entries = entries_of d.calls ++ r.entries;
+      told = Adds-then (g.transcript x) (g.transcript y) (g.transcript z) (entries_of d.calls) r.entries d.told r.told;
+      plays = plays result r.plays;
+      calls = record { calls = d.calls; few = d.few; to_master = d.to_master; behind = r.entries; parts = refl; ends = subst (λ (c : List ℕ). EndsTurn (settings_of v.logged).logs c result r.entries) d.conns r.calls };
+      ticks = r.ticks;
+      clocked = r.clocked;
+      small = r.small;
+      unticked = r.unticked;
+      ends = λ w later st on ticks.
+          let e = d.ends w st.book st.due_is st.each st.rested st.above in
+          behind_dial s reopens result later a a' (Known b' a') (g.given z) v' d.calls w r.entries (world_after (entries_of d.calls) w) e.same e.asked e.came refl
+          (r.ends (world_after (entries_of d.calls) w) later (dialled_stands g (Known b a) x y v ps d w st on) (e.same.ticks ∙ ticks));
+    };
+    full = λ is. let f = r.full is in record {
+      calls = d.calls;
+      paused = f.paused;
+      busy = f.busy;
+      ev = f.ev;
+      bytes = f.bytes;
+      is = ap (λ (es : List Entry). entries_of d.calls ++ es) f.is;
+      some = λ w later st on ticks.
+          let e = d.ends w st.book st.due_is st.each st.rested st.above in
+          f.some (world_after (entries_of d.calls) w) later (dialled_stands g (Known b a) x y v ps d w st on) (e.same.ticks ∙ ticks);
+    };
   }
     where
       plays : (o : Result Outcome TurnErr) → OnOk o (Plays (g.plays y) (g.plays z) r.entries) → OnOk o (Plays (g.plays x) (g.plays z) (entries_of d.calls ++ r.entries))
@@ -332,11 +364,15 @@ module _ {S B W : Type 0} (s : space.Ghosts S) (g : wire.Ghosts W) (own : ℕ �
   only_same a Volume clean = (keeps_refl s a).steady
   only_same a Full clean = (keeps_refl s a).steady
 
-  ends_same : (a : S) (b' : B) (given : ℕ) (v' : State) (e : TurnErr) (w v : World) → ((o : Option Files) → s.left a (s.moment a) o → Reopens reopens o (mark_of w)) → mark_of v ≡ mark_of w → TurnEnds s reopens (Err e) a (Known b' a) given v' w v
-  ends_same a b' given v' Wire w v f is = λ o l. subst (λ (m : Mark). Reopens reopens o m) (sym is) (f o l)
-  ends_same a b' given v' Memory w v f is = λ o l. inr (f o l)
-  ends_same a b' given v' Volume w v f is = λ o l. inr (f o l)
-  ends_same a b' given v' Full w v f is = λ o l. inr (f o l)
+  -- the log of a world that the server stands for
+  own_log : (l : Option Logged) (w : World) → IsBook l (book_of w) w.log → (o : Option Files) → Reopens reopens o (mark_of w) → ReopensLog reopens (book_of w) o (mark_of w)
+  own_log l w bk o r = record { reopen = r; log = book_log l (book_of w) w.log bk }
+
+  ends_same : (a : S) (b' : B) (given : ℕ) (v' : State) (e : TurnErr) (w v : World) → ((o : Option Files) → s.left a (s.moment a) o → ReopensLog reopens (book_of w) o (mark_of w)) → mark_of v ≡ mark_of w → book_of v ≡ book_of w → TurnEnds s reopens (Err e) a (Known b' a) given v' w v
+  ends_same a b' given v' Wire w v f is bk = λ o l. subst (λ (c : Book). ReopensLog reopens c o (mark_of v)) (sym bk) (subst (λ (m : Mark). ReopensLog reopens (book_of w) o m) (sym is) (f o l))
+  ends_same a b' given v' Memory w v f is bk = λ o l. inr (f o l)
+  ends_same a b' given v' Volume w v f is bk = λ o l. inr (f o l)
+  ends_same a b' given v' Full w v f is bk = λ o l. inr (f o l)
 
   none_calls : (logs : Bool) (conns : List ℕ) (e : TurnErr) → (e ≡ Wire) ⊎ (e ≡ Memory) → EndsTurn logs conns (Err e) []
   none_calls logs conns Wire which = inl refl
@@ -345,6 +381,10 @@ module _ {S B W : Type 0} (s : space.Ghosts S) (g : wire.Ghosts W) (own : ℕ �
   none_calls logs conns Volume (inr e) = absurd cc
   none_calls logs conns Full (inl e) = absurd cc
   none_calls logs conns Full (inr e) = absurd cc
+
+  never_full : (e : TurnErr) → (e ≡ Wire) ⊎ (e ≡ Memory) → e ≡ Full → ⊥
+  never_full e (inl w) f = let n : Wire ≡ Full = sym w ∙ f in cc
+  never_full e (inr m) f = let n : Memory ≡ Full = sym m ∙ f in cc
 
   -- the dial failed
   dial_labels : (calls : List Call) (w : World) → labels_in w (entries_of calls) ≡ []
@@ -355,38 +395,42 @@ module _ {S B W : Type 0} (s : space.Ghosts S) (g : wire.Ghosts W) (own : ℕ �
   dial_sends [] = refl
   dial_sends (d ∷ ds) = dial_sends ds
 
-  dial_failed : (b b' : B) (a : S) (x y : W) (p : Option (List ℕ)) (v v' : State) (e : TurnErr) → DialFailed g v.logged v.due x y v.peers → IsClean s a → (e ≡ Wire) ⊎ (e ≡ Memory) → Turns s g holds reopens (Err e) b b' a a x y p p v v'
+  dial_failed : (b b' : B) (a : S) (x y : W) (p : Option (List ℕ)) (v v' : State) (e : TurnErr) → DialFailed g v.logged v.due x y v.peers → IsClean s a → (e ≡ Wire) ⊎ (e ≡ Memory) → TurnsFull s g holds reopens fills (Err e) b b' a a x y p p v v'
   dial_failed b b' a x y p v v' e f clean which = record {
-    entries = entries_of f.calls;
-    told = f.told;
-    plays = tt;
-    calls = record { calls = f.calls; few = f.few; to_master = f.to_master; behind = []; parts = sym (append-nil (entries_of f.calls)); ends = none_calls (settings_of v.logged).logs (conns_after (g.conns x) f.calls) e which };
-    ticks = [];
-    clocked = Adds-none p;
-    unticked = λ off. refl;
-    ends = λ w later st on ticks.
-        let es = entries_of f.calls in
-        let d = f.ends w st.book st.due_is st.each st.rested st.above in
-        let u = world_after es w in
-        let mk : mark_of u ≡ mark_of w = λ i. record { contents = d.same.contents i; log = d.same.log i } in
-        record {
-          asked = d.asked;
-          came = d.came;
-          fine = d.fine (hold_fine (book_of w) v.peers w.there st.each, st.past);
-          marks = record { more = inl (d.same.marks, mk) };
-          opens = d.same.opens;
-          ticks = tt;
-          moments = none_two s reopens a (mark_of w) (mark_of u);
-          idle = λ none unlabelled. idles_same a e clean;
-          only = λ none. only_same a e clean;
-          copies = none_copied s (Err e) a a (labels_in w es) es refl (λ came. dial_labels f.calls w);
-          copied = λ tells. inl (refl, (λ came. dial_labels f.calls w));
-          late = λ some. absurd (let none = dial_sends f.calls in cc);
-          ends = ends_same a b' (g.given y) v' e w u (left_stands s reopens holds b a (mark_of w) clean st.mark) mk;
-        };
+    full = λ is. absurd (never_full e which (let n : e ≡ Full = cc in n));
+    turns = record {
+      entries = entries_of f.calls;
+      told = f.told;
+      plays = tt;
+      calls = record { calls = f.calls; few = f.few; to_master = f.to_master; behind = []; parts = sym (append-nil (entries_of f.calls)); ends = none_calls (settings_of v.logged).logs (conns_after (g.conns x) f.calls) e which };
+      ticks = [];
+      clocked = Adds-none p;
+      small = none_small;
+      unticked = λ off. refl;
+      ends = λ w later st on ticks.
+          let es = entries_of f.calls in
+          let d = f.ends w st.book st.due_is st.each st.rested st.above in
+          let u = world_after es w in
+          let mk : mark_of u ≡ mark_of w = λ i. record { contents = d.same.contents i; log = d.same.log i } in
+          record {
+            asked = d.asked;
+            came = d.came;
+            fine = d.fine (hold_fine (book_of w) v.peers w.there st.each, st.past);
+            marks = record { more = inl (d.same.marks, mk) };
+            opens = d.same.opens;
+            ticks = tt;
+            moments = record { leaves = none_left s (ReopensEither reopens w u) a };
+            idle = λ none unlabelled. idles_same a e clean;
+            only = λ none. only_same a e clean;
+            copies = none_copied s (Err e) a a (labels_in w es) es refl (λ came. dial_labels f.calls w);
+            copied = λ tells. inl (refl, (λ came. dial_labels f.calls w));
+            late = λ some. absurd (let none = dial_sends f.calls in cc);
+            ends = ends_same a b' (g.given y) v' e w u (λ o q. own_log v.logged w st.book o (left_stands s reopens holds b a (mark_of w) clean st.mark o q)) mk (λ i. record { is = d.same.is_same i; records = d.same.records i });
+          };
+    };
   }
 
-  pub dial_ends : (b b' : B) (a : S) (x y : W) (p : Option (List ℕ)) (v v' : State) (e : TurnErr) → DialErr g v.logged v.due x y v.peers e → IsClean s a → Turns s g holds reopens (Err e) b b' a a x y p p v v'
+  pub dial_ends : (b b' : B) (a : S) (x y : W) (p : Option (List ℕ)) (v v' : State) (e : TurnErr) → DialErr g v.logged v.due x y v.peers e → IsClean s a → TurnsFull s g holds reopens fills (Err e) b b' a a x y p p v v'
   dial_ends b b' a x y p v v' Wire d clean = dial_failed b b' a x y p v v' Wire d clean (inl refl)
   dial_ends b b' a x y p v v' Memory d clean = dial_failed b b' a x y p v v' Memory d clean (inr refl)
   dial_ends b b' a x y p v v' Volume d clean = absurd d
@@ -401,7 +445,9 @@ module _ {S B W : Type 0} (s : space.Ghosts S) (g : wire.Ghosts W) (own : ℕ �
     calls = none_calls (settings_of l).logs (g.conns y) e which;
     ticks = [];
     clocked = Adds-none p;
+    small = none_small;
     unticked = λ off. refl;
+    full = λ is. absurd (never_full e which (let n : e ≡ Full = cc in n));
     ends = λ w later st ticks. record {
       asked = tt;
       came = tt;
@@ -409,13 +455,13 @@ module _ {S B W : Type 0} (s : space.Ghosts S) (g : wire.Ghosts W) (own : ℕ �
       marks = record { more = inl (refl, refl) };
       opens = refl;
       ticks = tt;
-      moments = none_two s reopens a (mark_of w) (mark_of w);
+      moments = record { leaves = none_left s (ReopensEither reopens w w) a };
       idle = λ none unlabelled. idles_same a e clean;
       only = λ none. only_same a e clean;
       copies = none_copied s (Err e) a a [] [] refl (λ came. refl);
       copied = λ tells. inl (refl, (λ came. refl));
       late = λ some. absurd cc;
-      ends = ends_same a b' (g.given z) v' e w w (left_stands s reopens holds b a (mark_of w) clean st.mark) refl;
+      ends = ends_same a b' (g.given z) v' e w w (λ o q. own_log l w st.book o (left_stands s reopens holds b a (mark_of w) clean st.mark o q)) refl refl;
     };
   }
 
@@ -445,7 +491,9 @@ module _ {S B W : Type 0} (s : space.Ghosts S) (g : wire.Ghosts W) (own : ℕ �
     calls = inr (alone (settings_of l).logs _ _ (lone y z ps err.0 err.1));
     ticks = [];
     clocked = Adds-none p;
+    small = none_small;
     unticked = λ off. refl;
+    full = λ is. absurd cc;
     ends = λ w later st ticks. record {
       asked = mid_asked g y z (Known b a) l k ps err.0 err.1 w st;
       came = mid_came g y z (Known b a) l k ps err.0 err.1 w st;
@@ -453,13 +501,13 @@ module _ {S B W : Type 0} (s : space.Ghosts S) (g : wire.Ghosts W) (own : ℕ �
       marks = mid_marks g y z (Known b a) l k ps err.0 err.1 w st;
       opens = refl;
       ticks = tt;
-      moments = none_two s reopens a (mark_of w) (mark_of (mid g y z (Known b a) l k ps err.0 err.1 w st));
+      moments = record { leaves = none_left s (ReopensEither reopens w (mid g y z (Known b a) l k ps err.0 err.1 w st)) a };
       idle = λ none unlabelled. keeps_refl s a;
       only = λ none. (keeps_refl s a).steady;
       copies = none_copied s (Err Memory) a a (rounded w err.0 err.1.bytes).round.made.labels (Event err.1.paused err.1.busy err.0 err.1.bytes ∷ []) refl (λ came. absurd cc);
       copied = λ tells. inl (refl, (λ came. absurd cc));
       late = λ some. absurd cc;
-      ends = λ o q. inr (left_stands s reopens holds b a (mark_of w) clean st.mark o q);
+      ends = λ o q. inr (own_log l w st.book o (left_stands s reopens holds b a (mark_of w) clean st.mark o q));
     };
   }
 
@@ -481,7 +529,7 @@ module _ {S B W : Type 0} (s : space.Ghosts S) (g : wire.Ghosts W) (own : ℕ �
   only_err a a' Volume other steady = steady
   only_err a a' Full other steady = steady
 
-  exit_err : (a : S) (b' : B) (given : ℕ) (v' : State) (e : TurnErr) → (e ≡ Wire → ⊥) → (w v : World) → ((o : Option Files) → s.left a (s.moment a) o → Reopens reopens o (mark_of v) ⊎ Reopens reopens o (mark_of w)) → TurnEnds s reopens (Err e) a (Known b' a) given v' w v
+  exit_err : (a : S) (b' : B) (given : ℕ) (v' : State) (e : TurnErr) → (e ≡ Wire → ⊥) → (w v : World) → ((o : Option Files) → s.left a (s.moment a) o → ReopensEither reopens w v o) → TurnEnds s reopens (Err e) a (Known b' a) given v' w v
   exit_err a b' given v' Wire other w v f = absurd (other refl)
   exit_err a b' given v' Memory other w v f = f
   exit_err a b' given v' Volume other w v f = f
@@ -489,20 +537,33 @@ module _ {S B W : Type 0} (s : space.Ghosts S) (g : wire.Ghosts W) (own : ℕ �
 
   -- ---- the round failed
 
-  pub round_ends : (b b' : B) (a a1 : S) (x y : W) (p : Option (List ℕ)) (l : Option Logged) (k : Walk) (ps ps1 : List Peer) (v' : State) (ev : Ev) (e : TurnErr) → Hears g x y ps ps1 ev → (e ≡ Wire → ⊥) → Keeps s a a1 → IsClean s a → Earlier s a1 → Rest (Err e) b b' a a1 x y p p l k ps v'
-  round_ends b b' a a1 x y p l k ps ps1 v' ev e hears other keeps clean earlier = record {
+  pub round_ends : (b b' : B) (a a1 : S) (x y : W) (p : Option (List ℕ)) (l : Option Logged) (k : Walk) (ps ps1 : List Peer) (v' : State) (ev : Ev) (e : TurnErr) → Hears g x y ps ps1 ev → (e ≡ Wire → ⊥) → Keeps s a a1 → IsClean s a → Earlier s a1
+      → (e ≡ Full → (m : Contents) → Held s holds b a m → (bk : Book) (js : List Client) → bk.is ≡ settings_of l → AllHold bk ps1 js → FillsPart bk.is bk.records (fills a a1) m k js) → Rest (Err e) b b' a a1 x y p p l k ps v'
+  round_ends b b' a a1 x y p l k ps ps1 v' ev e hears other keeps clean earlier full = record {
     entries = Event hears.asks.paused hears.asks.busy ev hears.asks.bytes ∷ [];
     told = hears.asks.told;
     plays = tt;
     calls = lone_turn (settings_of l).logs x y ps ev hears.asks e other;
     ticks = [];
     clocked = Adds-none p;
+    small = none_small;
     unticked = λ off. refl;
+    full = λ is. record {
+      paused = hears.asks.paused;
+      busy = hears.asks.busy;
+      ev = ev;
+      bytes = hears.asks.bytes;
+      is = refl;
+      some = λ w later st ticks.
+          let js = heard_by w ev hears.asks.bytes in
+          let full_is : e ≡ Full = cc in
+          inl (subst (λ (c : Walk). FillsPart w.is w.records (fills a a1) w.contents c js) (sym st.walk) (full full_is w.contents st.mark.has.held (book_of w) js st.book.is_same (hears.holds (book_of w) w.there st.each)));
+    };
     ends = λ w later st ticks.
         let t = st.mark.has.held.0 in
         let kw = kept_stands s reopens holds b a (mark_of w) clean st.mark in
         let v = mid g x y (Known b a) l k ps ev hears.asks w st in
-        let two = steady_two s reopens a a1 (mark_of w) (mark_of v) kw (keeps.steady t) in
+        let two = then_kept s (ReopensEither reopens w v) a a a1 (λ o is. inr (own_log l w st.book o (was_kept s reopens a o (mark_of w) kw is))) (none_left s (ReopensEither reopens w v) a) (keeps.steady t) in
         record {
           asked = mid_asked g x y (Known b a) l k ps ev hears.asks w st;
           came = mid_came g x y (Known b a) l k ps ev hears.asks w st;
@@ -510,13 +571,13 @@ module _ {S B W : Type 0} (s : space.Ghosts S) (g : wire.Ghosts W) (own : ℕ �
           marks = mid_marks g x y (Known b a) l k ps ev hears.asks w st;
           opens = refl;
           ticks = tt;
-          moments = two;
+          moments = record { leaves = two };
           idle = λ none unlabelled. idle_err a a1 e other keeps;
           only = λ none. only_err a a1 e other keeps.steady;
           copies = none_copied s (Err e) a a1 (rounded w ev hears.asks.bytes).round.made.labels (Event hears.asks.paused hears.asks.busy ev hears.asks.bytes ∷ []) keeps.same_names (lone_came e _ hears.asks.paused hears.asks.busy ev hears.asks.bytes other);
           copied = λ tells. inl (keeps.same_names, (lone_came e _ hears.asks.paused hears.asks.busy ev hears.asks.bytes other));
           late = λ some. absurd cc;
-          ends = exit_err a1 b' (g.given y) v' e other w v (λ o q. two_exit s reopens a a1 (mark_of w) (mark_of v) (λ o q. clean.only o t q) earlier kw two o q);
+          ends = exit_err a1 b' (g.given y) v' e other w v (λ o q. inr (own_log l w st.book o (steady_exit s reopens a a1 (mark_of w) (λ o q. clean.only o t q) earlier kw (keeps.steady t) o q)));
         };
   }
 
@@ -554,17 +615,63 @@ module _ {S B W : Type 0} (s : space.Ghosts S) (g : wire.Ghosts W) (own : ℕ �
       → book_after (book_of w) ticks o ≡ book_of (happens w (Event paused busy ev bytes))
   book_is o w paused busy ev bytes ticks e = λ i. record { is = w.is; records = records_after w.is w.records (e i) }
 
+  or_either : (x y : Bool) → (x || y) ≡ true → (x ≡ true) ⊎ (y ≡ true)
+  or_either true y e = inl refl
+  or_either false y e = inr e
+
+  none_taken : (rs : List Record) → has_any rs ≡ true → rs ≡ [] → ⊥
+  none_taken [] e is = absurd cc
+  none_taken (r ∷ rs) e is = absurd cc
+
+  -- that of the undo log was reached in a round that has anything to commit
+  fills_committing : (fills : Contents → Contents → Type 0) (u : World) (ev : Ev) (bytes : List ℕ) → commits_of (rounded u ev bytes) ≡ true → FillsAll fills → FillsPart u.is u.records fills u.contents u.walk (heard_by u ev bytes)
+  fills_committing fills u ev bytes commits all =
+      let js = heard_by u ev bytes in
+      let d = rounded u ev bytes in
+      ⊎_elim (λ e. of_client (record { front = js; back = []; parts = sym (append-nil js); next = (e, all) })) (λ e. at_commit (none_taken d.looked.dealt_is.taken e) all) (or_either d.round.made.commits (has_any d.looked.dealt_is.taken) commits)
+
+  moves_behind : (a b : S) (c d : Book) (m n : Mark) → c ≡ d → m ≡ n → MovesLog s reopens a b c m → MovesLog s reopens a b d n
+  moves_behind a b c d m n bk mk x = subst (λ (k : Book). MovesLog s reopens a b k n) bk (subst (MovesLog s reopens a b c) mk x)
+
+  -- at the exit
+  exit_log : (a b : S) (l : Option Logged) (w v : World) → IsBook l (book_of w) w.log → ((o : Option Files) → s.left a (s.moment a) o → o ≡ s.kept a) → Earlier s b → Reopens reopens (s.kept a) (mark_of w)
+      → LeavesOnly s.moment s.left a b (λ o. Reopens reopens o (mark_of w) ⊎ ReopensLog reopens (book_of v) o (mark_of v)) → (o : Option Files) → s.left b (s.moment b) o → ReopensEither reopens w v o
+  exit_log a b l w v bk only earlier k logs o q = ⊎_elim (λ r. inl r) (λ r. inr (own_log l w bk o r)) (or_exit s reopens (λ o. ReopensLog reopens (book_of v) o (mark_of v)) a b (mark_of w) only earlier k logs o q)
+
+  -- at any moment
+  both_logs : (a b : S) (l : Option Logged) (w v : World) → IsBook l (book_of w) w.log → LeavesOnly s.moment s.left a b (λ o. Reopens reopens o (mark_of w) ⊎ ReopensLog reopens (book_of v) o (mark_of v)) → LeavesEither s reopens a b w v
+  both_logs a b l w v bk x = record { leaves = left_wider s (λ o. Reopens reopens o (mark_of w) ⊎ ReopensLog reopens (book_of v) o (mark_of v)) (ReopensEither reopens w v) a b (λ o p. ⊎_elim (λ r. inr (own_log l w bk o r)) (λ q. inl q) p) x }
+
+  is_full : {e : TurnErr} → e ≡ Full → IsErrOf {T = Unit {0}} (Err e) Full
+  is_full is = subst (λ (x : TurnErr). IsErrOf {T = Unit {0}} (Err x) Full) (sym is) refl
+
   -- where it wasn't kept, or was and its copies failed
   pub keep_ends : (b b1 b2 b' : B) (a a1 a2 : S) (x y : W) (p q : Option (List ℕ)) (l l1 : Option Logged) (k k1 : Walk) (ps ps1 ps2 : List Peer) (v' : State) (ev : Ev) (o : Work) (e : TurnErr) → Hears g x y ps ps1 ev → (e ≡ Wire → ⊥) → Rounds s own layout holds l o b b1 a a1 k k1 ps1 ps2 → Keeps s a a1
-      → KeepsRound s holds reopens o p q l l1 b1 b2 a1 a2 (Err e) → (o.commits ≡ false → OnlyReads s a1 a2) → s.names a2 ≡ s.names a1 → IsClean s a → Earlier s a2 → Rest (Err e) b b' a a2 x y p q l k ps v'
-  keep_ends b b1 b2 b' a a1 a2 x y p q l l1 k k1 ps ps1 ps2 v' ev o e hears other rounds keeps kr idle names clean earlier = record {
+      → KeepsRound s holds reopens o p q l l1 b1 b2 a1 a2 (Err e) → (o.commits ≡ false → OnlyReads s a1 a2) → s.names a2 ≡ s.names a1 → IsClean s a → Earlier s a2 → (s.tells → s.log_full a2 → FillsAll (fills a a2)) → Rest (Err e) b b' a a2 x y p q l k ps v'
+  keep_ends b b1 b2 b' a a1 a2 x y p q l l1 k k1 ps ps1 ps2 v' ev o e hears other rounds keeps kr idle names clean earlier all = record {
     entries = Event hears.asks.paused hears.asks.busy ev hears.asks.bytes ∷ [];
     told = hears.asks.told;
     plays = tt;
     calls = lone_turn (settings_of l).logs x y ps ev hears.asks e other;
     ticks = kr.ticks;
     clocked = kr.told;
+    small = kr.small;
     unticked = λ off. no_ticks l o kr.ticks off kr.few;
+    full = λ is. record {
+      paused = hears.asks.paused;
+      busy = hears.asks.busy;
+      ev = ev;
+      bytes = hears.asks.bytes;
+      is = refl;
+      some = λ w later st ticks.
+          let rd = mid_round b b1 a a1 x y l k k1 ps ps1 ps2 ev o hears w st rounds in
+          let has = mid_has b b1 a a1 x y l k k1 ps ps1 ps2 ev o hears w st rounds in
+          let full_is : e ≡ Full = cc in
+          let full = kr.full (is_full full_is) in
+          let news_are = added_is o w (rounded w ev hears.asks.bytes) (kr.ticks ++ later) ticks rd.updates_is rd.taken_is in
+          ⊎_elim (λ f. inl (fills_committing (fills a a2) w ev hears.asks.bytes (sym rd.commits_is ∙ full.0) (let t = has.held.0 in all t (f t))))
+          (λ lacks. inr (subst (λ (rs : List Record). LacksRoom (Lacks s a2) (length w.log) rs) news_are (lacks (base_mark w ev hears.asks.bytes) (book_of w) later has st.book))) full.1;
+    };
     ends = λ w later st ticks.
         let t = st.mark.has.held.0 in
         let kw = kept_stands s reopens holds b a (mark_of w) clean st.mark in
@@ -574,8 +681,10 @@ module _ {S B W : Type 0} (s : space.Ghosts S) (g : wire.Ghosts W) (own : ℕ �
         let has = mid_has b b1 a a1 x y l k k1 ps ps1 ps2 ev o hears w st rounds in
         let e1 = added_is o w d (kr.ticks ++ later) ticks rd.updates_is rd.taken_is in
         let mk = mark_is o w hears.asks.paused hears.asks.busy ev hears.asks.bytes (kr.ticks ++ later) e1 in
-        let moves = subst (MovesTo s reopens a1 a2) mk (kr.moments (base_mark w ev hears.asks.bytes) (book_of w) later has st.book) in
-        let two = moved_two s reopens a a1 a2 (mark_of w) (mark_of v) kw (keeps.steady t) moves in
+        let bk = book_is o w hears.asks.paused hears.asks.busy ev hears.asks.bytes (kr.ticks ++ later) e1 in
+        let moves = moves_behind a1 a2 (book_after (book_of w) (kr.ticks ++ later) o) (book_of v) (mark_after (book_of w) (kr.ticks ++ later) o (base_mark w ev hears.asks.bytes)) (mark_of v) bk mk (kr.moments (base_mark w ev hears.asks.bytes) (book_of w) later has st.book) in
+        let logs = moved_or s reopens (λ o. ReopensLog reopens (book_of v) o (mark_of v)) a a1 a2 (mark_of w) kw (keeps.steady t) moves.leaves in
+        let two = both_logs a a2 l w v st.book logs in
         record {
           asked = mid_asked g x y (Known b a) l k ps ev hears.asks w st;
           came = mid_came g x y (Known b a) l k ps ev hears.asks w st;
@@ -589,7 +698,7 @@ module _ {S B W : Type 0} (s : space.Ghosts S) (g : wire.Ghosts W) (own : ℕ �
           copies = none_copied s (Err e) a a2 d.round.made.labels (Event hears.asks.paused hears.asks.busy ev hears.asks.bytes ∷ []) (names ∙ keeps.same_names) (lone_came e _ hears.asks.paused hears.asks.busy ev hears.asks.bytes other);
           copied = λ tells. inl ((names ∙ keeps.same_names), (lone_came e _ hears.asks.paused hears.asks.busy ev hears.asks.bytes other));
           late = λ some. absurd cc;
-          ends = exit_err a2 b' (g.given y) v' e other w v (λ o q. two_exit s reopens a a2 (mark_of w) (mark_of v) (λ o q. clean.only o t q) earlier kw two o q);
+          ends = exit_err a2 b' (g.given y) v' e other w v (exit_log a a2 l w v st.book (λ o q. clean.only o t q) earlier kw logs);
         };
   }
 
@@ -607,14 +716,6 @@ module _ {S B W : Type 0} (s : space.Ghosts S) (g : wire.Ghosts W) (own : ℕ �
   -- where there is nothing to commit, the files stand as they stood
   stood : (b : B) (a a1 : S) (m : Mark) (c : Contents) → Known b a m → OnlyReads s a a1 → c ≡ m.contents → reopens (s.now a1) c
   stood b a a1 m c h reads is = subst (reopens (s.now a1)) (sym is) (subst (λ (files : Files). reopens files m.contents) (λ i f. sym (reads.files h.has.held.0 f) i) h.stand)
-
-  two_reads : (a b e : S) (m n : Mark) → Reopens reopens (s.kept b) n → Steady s.moment s.files_at s.left s.kept b e → LeavesTwo s reopens a b m n → LeavesTwo s reopens a e m n
-  two_reads a b e m n k st two = record {
-    leaves = record {
-      later = omega (arith, two.leaves.later, st.leaves.later);
-      each = λ t o le l. ⊎_elim (λ was. two.leaves.each t o le was) (λ is. inr (inr (record { files = k.files; is = is ∙ k.is; stand = k.stand }))) (st.leaves.each t o (omega (arith, le, two.leaves.later)) l);
-    };
-  }
 
   -- ---- what was kept, and its copies
 
@@ -643,7 +744,7 @@ module _ {S B W : Type 0} (s : space.Ghosts S) (g : wire.Ghosts W) (own : ℕ �
     gap : o.gap ≡ d.looked.dealt_is.gap
     walk : k1 ≡ m.walk
     copies : RoundCopies (s.now ac) d.round.made.labels (s.names a) (s.names ac)
-    two : LeavesTwo s reopens a ac (mark_of w) (mark_of m)
+    logs : LeavesOnly s.moment s.left a ac (λ o. Reopens reopens o (mark_of w) ⊎ ReopensLog reopens (book_of m) o (mark_of m))
     idle : commits_of d ≡ false → d.round.made.labels ≡ [] → OnlyReads s a ac
     only : commits_of d ≡ false → OnlyCopies s a ac
 
@@ -667,14 +768,15 @@ module _ {S B W : Type 0} (s : space.Ghosts S) (g : wire.Ghosts W) (own : ℕ �
       let known2 : Known b2 a2 (mark_of m) = subst (Known b2 a2) mk stand.holds_it in
       let kept2 = kept_stands s reopens holds b2 a2 (mark_of m) f.clean_kept known2 in
       let kw = kept_stands s reopens holds b a (mark_of w) f.clean st.mark in
-      let moves = subst (MovesTo s reopens a1 a2) mk (f.kept.moments base (book_of w) later has st.book) in
+      let moves = moves_behind a1 a2 (book_after (book_of w) all o) (book_of m) (mark_after (book_of w) all o base) (mark_of m) bk mk (f.kept.moments base (book_of w) later has st.book) in
+      let book : IsBook l1 (book_of m) m.log = subst (λ (c : Book). IsBook l1 c m.log) bk (subst (λ (n : Mark). IsBook l1 (book_after (book_of w) all o) n.log) mk stand.book) in
       let st2 = f.only.steady t in
       let reads = λ (none : commits_of d ≡ false). only_reads_then s a a1 a2 (f.rounds.served.leaves.reads (rd.commits_is ∙ none)) (f.idle (rd.commits_is ∙ none)) in
       record {
         tells = t;
         known = known_by b2 a2 ac (mark_of m) f.only.files known2;
         stands = record { files = kept2.files; is = st2.same ∙ kept2.is; stand = kept2.stand };
-        book = subst (λ (c : Book). IsBook l1 c m.log) bk (subst (λ (n : Mark). IsBook l1 (book_after (book_of w) all o) n.log) mk stand.book);
+        book = book;
         ticks = ap (λ (ts : List ℕ). ticks_after w.is ts d.round.made.updates) ticks ∙ ticks_left l w.is o f.kept.ticks later d.round.made.updates st.book.is_same rd.updates_is f.kept.kept.each;
         hold = λ ps3 joins. subst (λ (c : Book). AllHold c ps3 (feed_all w.is c.records d.looked.clients)) bk (joins.each (book_of w) w.log (mark_after (book_of w) all o base).log all st.book stand.book d.looked.clients rd.each);
         labels = rd.labels_is;
@@ -684,7 +786,9 @@ module _ {S B W : Type 0} (s : space.Ghosts S) (g : wire.Ghosts W) (own : ℕ �
             subst (λ (fs : Files). RoundCopies fs d.round.made.labels (s.names a) (s.names ac)) (λ i g. sym (f.only.files t g) i)
             (subst (λ (n : Named). RoundCopies (s.now a2) d.round.made.labels n (s.names ac)) (f.names ∙ f.keeps.same_names)
             (subst (λ (ls : List (List ℕ)). RoundCopies (s.now a2) ls (s.names a2) (s.names ac)) rd.labels_is (f.copies t)));
-        two = two_reads a a2 ac (mark_of w) (mark_of m) kept2 st2 (moved_two s reopens a a1 a2 (mark_of w) (mark_of m) kw (f.keeps.steady t) moves);
+        logs =
+            kept_or s reopens (λ o. ReopensLog reopens (book_of m) o (mark_of m)) a a2 ac (mark_of w) (λ o is. own_log l1 m book o (record { files = kept2.files; is = is ∙ kept2.is; stand = kept2.stand })) st2
+            (moved_or s reopens (λ o. ReopensLog reopens (book_of m) o (mark_of m)) a a1 a2 (mark_of w) kw (f.keeps.steady t) moves.leaves);
         idle = λ none unlabelled. subst (OnlyReads s a) (sym (f.none (rd.labels_is ∙ unlabelled))) (reads none);
         only = λ none. only_then s a a2 ac (reads_only s a a2 (reads none)) f.only;
       }
@@ -698,7 +802,9 @@ module _ {S B W : Type 0} (s : space.Ghosts S) (g : wire.Ghosts W) (own : ℕ �
     calls = lone_turn (settings_of l).logs x y ps ev f.hears.asks Volume (λ e. cc);
     ticks = f.kept.ticks;
     clocked = f.kept.told;
+    small = f.kept.small;
     unticked = λ off. no_ticks l o f.kept.ticks off f.kept.few;
+    full = λ is. absurd cc;
     ends = λ w later st ticks.
         let t = st.mark.has.held.0 in
         let kw = kept_stands s reopens holds b a (mark_of w) f.clean st.mark in
@@ -711,13 +817,13 @@ module _ {S B W : Type 0} (s : space.Ghosts S) (g : wire.Ghosts W) (own : ℕ �
           marks = mid_marks g x y (Known b a) l k ps ev f.hears.asks w st;
           opens = refl;
           ticks = tt;
-          moments = n.two;
+          moments = both_logs a ac l w m st.book n.logs;
           idle = λ none unlabelled. (n.idle none unlabelled).keeps;
           only = λ none. (n.only none).steady;
           copies = record { copies = λ tells. n.copies; made = λ came. absurd cc };
           copied = λ tells. inr (record { contents = n.known.stand; log = n.known.has.log });
           late = λ some. absurd cc;
-          ends = λ o q. two_exit s reopens a ac (mark_of w) (mark_of m) (λ o q. f.clean.only o t q) earlier kw n.two o q;
+          ends = exit_log a ac l w m st.book (λ o q. f.clean.only o t q) earlier kw n.logs;
         };
   }
 
@@ -731,12 +837,13 @@ module _ {S B W : Type 0} (s : space.Ghosts S) (g : wire.Ghosts W) (own : ℕ �
     marks : MarksMore w v
     opens : v.opens ≡ w.opens
     ticks : v.ticks ≡ later
-    moments : LeavesTwo s reopens a a3 (mark_of w) (mark_of v)
+    moments : LeavesEither s reopens a a3 w v
     idle : commits_of d ≡ false → d.round.made.labels ≡ [] → OnlyReads s a a3
     only : commits_of d ≡ false → OnlyCopies s a a3
     copies : RoundCopies (s.now a3) d.round.made.labels (s.names a) (s.names a3)
     made : AreMade (s.now a3) d.round.made.labels (s.names a3)
     mark : Known b2 a3 (mark_of v)
+    book : IsBook v'.logged (book_of v) v.log
     gaps : v.gaps ≡ w.gaps ++ o.gap
     last : ev ≡ event.Shut → v.gaps ≡ w.gaps
     shut : v.shut ≡ shut_after w.shut ev
@@ -774,7 +881,8 @@ module _ {S B W : Type 0} (s : space.Ghosts S) (g : wire.Ghosts W) (own : ℕ �
       let known3 : Known b2 a3 (mark_of v) = subst (Known b2 a3) (sym same.mark) (known_by b2 ac a3 (mark_of m) reads.files n.known) in
       let bk : book_of m ≡ book_of v = λ i. record { is = (sym same.is_same) i; records = (sym same.records) i } in
       let kept : Reopens reopens (s.kept ac) (mark_of v) = subst (Reopens reopens (s.kept ac)) (sym same.mark) n.stands in
-      let two : LeavesTwo s reopens a ac (mark_of w) (mark_of v) = subst (LeavesTwo s reopens a ac (mark_of w)) (sym same.mark) n.two in
+      let two = both_logs a ac l w v st.book (subst (λ (c : Book). LeavesOnly s.moment s.left a ac (λ o. Reopens reopens o (mark_of w) ⊎ ReopensLog reopens c o (mark_of v))) bk (subst (λ (c : Mark). LeavesOnly s.moment s.left a ac (λ o. Reopens reopens o (mark_of w) ⊎ ReopensLog reopens (book_of m) o c)) (sym same.mark) n.logs)) in
+      let book : IsBook l1 (book_of v) v.log = subst (λ (c : Book). IsBook l1 c v.log) bk (subst (λ (c : Mark). IsBook l1 (book_of m) c.log) (sym same.mark) n.book) in
       let files : s.now ac ≡ s.now a3 = λ i g. sym (reads.files t g) i in
       let files2 : s.now a2 ≡ s.now a3 = (λ i g. sym (f.steps.only.files t g) i) ∙ files in
       record {
@@ -784,7 +892,7 @@ module _ {S B W : Type 0} (s : space.Ghosts S) (g : wire.Ghosts W) (own : ℕ �
         marks = mm;
         opens = same.opens;
         ticks = same.ticks ∙ n.ticks;
-        moments = two_reads a ac a3 (mark_of w) (mark_of v) kept (reads.keeps.steady t) two;
+        moments = record { leaves = then_kept s (ReopensEither reopens w v) a ac a3 (λ o is. inl (own_log l1 v book o (was_kept s reopens ac o (mark_of v) kept is))) two.leaves (reads.keeps.steady t) };
         idle = λ none unlabelled. only_reads_then s a ac a3 (n.idle none unlabelled) reads;
         only = λ none. only_then s a ac a3 (n.only none) (reads_only s ac a3 reads);
         copies =
@@ -794,13 +902,14 @@ module _ {S B W : Type 0} (s : space.Ghosts S) (g : wire.Ghosts W) (own : ℕ �
             subst (λ (fs : Files). AreMade fs d.round.made.labels (s.names a3)) files2
             (subst (λ (c : Named). AreMade (s.now a2) d.round.made.labels c) (sym reads.keeps.same_names) (subst (λ (ls : List (List ℕ)). AreMade (s.now a2) ls (s.names ac)) n.labels (f.made t)));
         mark = known3;
+        book = book;
         gaps = same.gaps ∙ ap (λ (gs : List (ℕ × ℕ)). w.gaps ++ gs) (sym n.gap);
         last = λ is. same.gaps ∙ no_gap w asks.paused asks.busy ev asks.bytes is st (sym asked1.0.busily ∙ (asks.came w.given st.above).last is);
         shut = same.shut;
         events = same.events;
         done = on_ok ok _ _ (λ h. let older = older_of w v st.older st.marked mm in record {
           mark = known3;
-          book = subst (λ (c : Book). IsBook l1 c v.log) bk (subst (λ (c : Mark). IsBook l1 (book_of m) c.log) (sym same.mark) n.book);
+          book = book;
           due_is = same.due;
           walk_is = same.walk ∙ sym n.walk;
           each = subst (λ (c : Book). AllHold c ps4 v.there) bk h.0;
@@ -838,7 +947,9 @@ module _ {S B W : Type 0} (s : space.Ghosts S) (g : wire.Ghosts W) (own : ℕ �
     calls = calls (settings_of l).logs e other logged;
     ticks = f.steps.kept.ticks;
     clocked = f.steps.kept.told;
+    small = f.steps.kept.small;
     unticked = λ off. no_ticks l o f.steps.kept.ticks off f.steps.kept.few;
+    full = λ is. absurd (other (let n : e ≡ Full = cc in n));
     ends = λ w later st ticks. let n = final b b1 b2 a a1 a2 ac a3 x y z p q l l1 k k1 ps ps1 ps2 ps3 ps4 ev o ok f w later st ticks in record {
       asked = n.asked;
       came = n.came;
@@ -852,7 +963,7 @@ module _ {S B W : Type 0} (s : space.Ghosts S) (g : wire.Ghosts W) (own : ℕ �
       copies = record { copies = λ tells. n.copies; made = λ came tells. n.made };
       copied = λ tells. inr (record { contents = n.mark.stand; log = n.mark.has.log });
       late = λ some. left_stands s reopens holds b2 a3 _ clean n.mark;
-      ends = ends e w _ (left_stands s reopens holds b2 a3 _ clean n.mark);
+      ends = ends e w _ (λ o q. own_log l1 (world_after f.finishes.entries (happens w first)) n.book o (left_stands s reopens holds b2 a3 (mark_of (world_after f.finishes.entries (happens w first))) clean n.mark o q));
     };
   }
     where
@@ -885,7 +996,7 @@ module _ {S B W : Type 0} (s : space.Ghosts S) (g : wire.Ghosts W) (own : ℕ �
       onlies Volume r = r.steady
       onlies Full r = r.steady
 
-      ends : (e : TurnErr) → (w v : World) → ((o : Option Files) → s.left a3 (s.moment a3) o → Reopens reopens o (mark_of v)) → TurnEnds s reopens (Err e) a3 (Known b' a3) (g.given z) v' w v
+      ends : (e : TurnErr) → (w v : World) → ((o : Option Files) → s.left a3 (s.moment a3) o → ReopensLog reopens (book_of v) o (mark_of v)) → TurnEnds s reopens (Err e) a3 (Known b' a3) (g.given z) v' w v
       ends Wire w v h = h
       ends Memory w v h = λ o q. inl (h o q)
       ends Volume w v h = λ o q. inl (h o q)
@@ -933,7 +1044,9 @@ module _ {S B W : Type 0} (s : space.Ghosts S) (g : wire.Ghosts W) (own : ℕ �
     calls = went_calls (settings_of l).logs (g.conns x) ev gap es (whole b b1 b2 a a1 a2 ac a3 x y z p q l l1 k k1 ps ps1 ps2 ps3 ps4 ev o (Ok tt) f);
     ticks = f.steps.kept.ticks;
     clocked = f.steps.kept.told;
+    small = f.steps.kept.small;
     unticked = λ off. no_ticks l o f.steps.kept.ticks off f.steps.kept.few;
+    full = λ is. absurd cc;
     ends = λ w later st ticks. let n = final b b1 b2 a a1 a2 ac a3 x y z p q l l1 k k1 ps ps1 ps2 ps3 ps4 ev o (Ok tt) f w later st ticks in record {
       asked = n.asked;
       came = n.came;
@@ -959,64 +1072,3 @@ module _ {S B W : Type 0} (s : space.Ghosts S) (g : wire.Ghosts W) (own : ℕ �
 
       v' : State
       v' = record { logged = l1; due = is_quiet ev; walk = k1; peers = ps4 }
-
-  -- ---- a limit
-
-  or_either : (x y : Bool) → (x || y) ≡ true → (x ≡ true) ⊎ (y ≡ true)
-  or_either true y e = inl refl
-  or_either false y e = inr e
-
-  none_taken : (rs : List Record) → has_any rs ≡ true → rs ≡ [] → ⊥
-  none_taken [] e is = absurd cc
-  none_taken (r ∷ rs) e is = absurd cc
-
-  -- that of the undo log was reached in a round that has anything to commit
-  fills_committing : (fills : Contents → Contents → Type 0) (u : World) (ev : Ev) (bytes : List ℕ) → commits_of (rounded u ev bytes) ≡ true → FillsAll fills → FillsPart u.is u.records fills u.contents u.walk (heard_by u ev bytes)
-  fills_committing fills u ev bytes commits all =
-      let js = heard_by u ev bytes in
-      let d = rounded u ev bytes in
-      ⊎_elim (λ e. of_client (record { front = js; back = []; parts = sym (append-nil js); next = (e, all) })) (λ e. at_commit (none_taken d.looked.dealt_is.taken e) all) (or_either d.round.made.commits (has_any d.looked.dealt_is.taken) commits)
-
-  -- one was reached in the round
-  pub full_round : (fills : Contents → Contents → Type 0) (lacks : ℕ → ℕ → Type 0) (b : B) (a : S) (x y z : W) (c : Option (List ℕ)) (v : State) (ps ps1 : List Peer) (ev : Ev) (d : Dials g v.logged v.due x y v.peers ps) (h : Hears g y z ps ps1 ev)
-      → ((m : Contents) → Held s holds b a m → (bk : Book) (js : List Client) → bk.is ≡ settings_of v.logged → AllHold bk ps1 js → FillsPart bk.is bk.records fills m v.walk js) → FullTurn fills lacks (Known b a) (g.given x) v (g.transcript x) (g.transcript z) c c
-  full_round fills lacks b a x y z c v ps ps1 ev d h full = record {
-    calls = d.calls;
-    paused = h.asks.paused;
-    busy = h.asks.busy;
-    ev = ev;
-    bytes = h.asks.bytes;
-    told = Adds-then (g.transcript x) (g.transcript y) (g.transcript z) (entries_of d.calls) (Event h.asks.paused h.asks.busy ev h.asks.bytes ∷ []) d.told h.asks.told;
-    ticks = [];
-    clocked = Adds-none c;
-    some = λ w later st on ticks.
-        let u = world_after (entries_of d.calls) w in
-        let sd = dialled_stands g (Known b a) x y v ps d w st on in
-        let js = heard_by u ev h.asks.bytes in
-        inl (subst (λ (k : Walk). FillsPart u.is u.records fills u.contents k js) (sym sd.walk) (full u.contents sd.mark.has.held (book_of u) js sd.book.is_same (h.holds (book_of u) u.there sd.each)));
-  }
-
-  -- or as it was kept
-  pub full_keep : (fills : Contents → Contents → Type 0) (b b1 b2 : B) (a a1 a2 : S) (x y z : W) (p q : Option (List ℕ)) (v : State) (l1 : Option Logged) (k1 : Walk) (ps ps1 ps2 : List Peer) (ev : Ev) (o : Work) (result : Result (Unit {0}) TurnErr) (d : Dials g v.logged v.due x y v.peers ps) (h : Hears g y z ps ps1 ev)
-      → Rounds s own layout holds v.logged o b b1 a a1 v.walk k1 ps1 ps2 → KeepsRound s holds reopens o p q v.logged l1 b1 b2 a1 a2 result → IsErrOf result Full → (s.tells → s.log_full a2 → FillsAll fills)
-      → FullTurn fills (Lacks s a2) (Known b a) (g.given x) v (g.transcript x) (g.transcript z) p q
-  full_keep fills b b1 b2 a a1 a2 x y z p q v l1 k1 ps ps1 ps2 ev o result d h rounds kept is all = record {
-    calls = d.calls;
-    paused = h.asks.paused;
-    busy = h.asks.busy;
-    ev = ev;
-    bytes = h.asks.bytes;
-    told = Adds-then (g.transcript x) (g.transcript y) (g.transcript z) (entries_of d.calls) (Event h.asks.paused h.asks.busy ev h.asks.bytes ∷ []) d.told h.asks.told;
-    ticks = kept.ticks;
-    clocked = kept.told;
-    some = λ w later st on ticks.
-        let u = world_after (entries_of d.calls) w in
-        let called = (d.ends w st.book st.due_is st.each st.rested st.above).same in
-        let sd = dialled_stands g (Known b a) x y v ps d w st on in
-        let rd = mid_round b b1 a a1 y z v.logged v.walk k1 ps ps1 ps2 ev o h u sd rounds in
-        let has = mid_has b b1 a a1 y z v.logged v.walk k1 ps ps1 ps2 ev o h u sd rounds in
-        let full = kept.full is in
-        let news_are = added_is o u (rounded u ev h.asks.bytes) (kept.ticks ++ later) (called.ticks ∙ ticks) rd.updates_is rd.taken_is in
-        ⊎_elim (λ f. inl (fills_committing fills u ev h.asks.bytes (sym rd.commits_is ∙ full.0) (let t = has.held.0 in all t (f t))))
-        (λ lacks. inr (subst (λ (rs : List Record). LacksRoom (Lacks s a2) (length u.log) rs) news_are (lacks (base_mark u ev h.asks.bytes) (book_of u) later has sd.book))) full.1;
-  }

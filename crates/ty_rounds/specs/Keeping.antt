@@ -2,8 +2,10 @@
 use Rattle.std.specs.Prelude.{◌≡◌, ◌⊎◌, ◌<◌, ◌≤◌, ◌^◌, ℕ, Bool, true, false, List, ◌++◌, length, All, Option, Some, None, Result, OnOk, IsErrOf}
 use Rattle.tc_base.specs.Files.{Files}
 use Rattle.tc_io.specs.Told.{Adds}
+use Rattle.tc_space.specs.Moments.{LeavesOnly}
 use Rattle.tc_space.specs.declared.space.Space as space
 use Rattle.tc_model.specs.Contents.{Contents}
+use Rattle.ty_ulog.specs.Log.{IsLog}
 use Rattle.ty_ulog.specs.Noting.{Lacks}
 use Rattle.ty_ulog.specs.declared.record.Record.{Record}
 use Rattle.ty_world.specs.Logs.{news, records_after, file_after}
@@ -12,7 +14,7 @@ use Rattle.ty_base.specs.Holding as holding
 use Rattle.ty_base.specs.Holding.{Frame, Laid, Layout, frame_of}
 use Rattle.ty_rounds.specs.Books.{Book, IsBook, with_records}
 use Rattle.ty_rounds.specs.Logging.{LacksRoom}
-use Rattle.ty_rounds.specs.Kept.{HasMark, HoldsMark, MovesTo}
+use Rattle.ty_rounds.specs.Kept.{HasMark, HoldsMark, MovesTo, Reopens}
 use Rattle.ty_rounds.specs.Works.{Work, IsFit}
 use Rattle.ty_rounds.specs.declared.logging.Logged.{Logged}
 use Rattle.ty_rounds.specs.declared.outcome.TurnErr.{TurnErr}
@@ -65,6 +67,15 @@ asks_of (Some l) o = length o.updates
 abbrev pub LogLacks : {S : Type 0} → space.Ghosts S → S → Book → List ℕ → List ℕ → Work → Type 0
 LogLacks s new b file ticks o = LacksRoom (Lacks s new) (length file) (added_to b ticks o)
 
+-- files stand for a mark, whose log is that of these records where an update log is kept
+pub record ReopensLog (reopens : Files → Contents → Type 0) (b : Book) (o : Option Files) (m : Mark) : Type 0 where
+  pub reopen : Reopens reopens o m
+  pub log : b.is.logs ≡ true → IsLog m.log b.records
+
+-- a stop leaves what is kept, or what stands for the mark so
+pub record MovesLog {S : Type 0} (s : space.Ghosts S) (reopens : Files → Contents → Type 0) (old new : S) (b : Book) (m : Mark) : Type 0 where
+  pub leaves : LeavesOnly s.moment s.left old new (λ o. (o ≡ s.kept old) ⊎ ReopensLog reopens b o m)
+
 module _ {S B : Type 0} (s : space.Ghosts S) (holds : B → Files → Contents → Type 0) (reopens : Files → Contents → Type 0) where
   -- a base, a space and what is to be kept of them
   pub record MayKeepRound (l : Option Logged) (o : Work) (base : B) (space : S) : Type 0 where
@@ -90,10 +101,10 @@ module _ {S B : Type 0} (s : space.Ghosts S) (holds : B → Files → Contents �
     pub told : Adds x y ticks
     pub small : All (λ t. t < 2 ^ 64) ticks
     pub few : length ticks ≤ asks_of l o
-    pub moments : (m : Mark) (b : Book) (later : List ℕ) → HasMark s holds base old m → IsBook l b m.log → MovesTo s reopens old new (mark_after b (ticks ++ later) o m)
+    pub moments : (m : Mark) (b : Book) (later : List ℕ) → HasMark s holds base old m → IsBook l b m.log → MovesLog s reopens old new (book_after b (ticks ++ later) o) (mark_after b (ticks ++ later) o m)
     pub kept : OnOk result (IsRoundKept o ticks l l' base base' old new)
     pub full : IsErrOf result Full → (o.commits ≡ true) × ((s.tells → s.log_full new) ⊎ ((m : Mark) (b : Book) (later : List ℕ) → HasMark s holds base old m → IsBook l b m.log → LogLacks s new b m.log (ticks ++ later) o))
 
 -- besides, what is kept is laid out so, and what a stop leaves is
-abbrev pub KeepsRoundLaid : {S B : Type 0} → space.Ghosts S → (B → Files → Contents → Type 0) → (Files → Contents → Type 0) → (ℕ → Type 0) → (Files → Layout) → Work → Option (List ℕ) → Option (List ℕ) → Option Logged → Option Logged → B → B → S → S → Result (Unit {0}) TurnErr → Type 0
-KeepsRoundLaid s holds reopens own layout o x y l l' base base' old new result = KeepsRound s holds (Laid own layout (kept_frame o.commits (frame_of layout (s.now old))) reopens) o x y l l' base base' old new result
+abbrev pub KeepsLaid : {S B : Type 0} → space.Ghosts S → (B → Files → Contents → Type 0) → (Files → Contents → Type 0) → (ℕ → Type 0) → (Files → Layout) → Work → Option (List ℕ) → Option (List ℕ) → Option Logged → Option Logged → B → B → S → S → Result (Unit {0}) TurnErr → Type 0
+KeepsLaid s holds reopens own layout o x y l l' base base' old new result = KeepsRound s holds (Laid own layout (kept_frame o.commits (frame_of layout (s.now old))) reopens) o x y l l' base base' old new result

@@ -21,7 +21,8 @@ use Rattle.ty_rounds.specs.Holding.{AllMid}
 use Rattle.ty_rounds.specs.Peers.{has_link, is_called, numbers}
 use Rattle.ty_rounds.specs.Ready.{AreIntroduced, Each, FewUnread, FewWaiting, IsCalm, LinksKnow}
 use Rattle.ty_rounds.specs.Serving.{FillsTaken}
-use Rattle.ty_rounds.specs.Works.{IsFit, Work}
+use Rattle.ty_rounds.specs.Works.{IsFit, Work, work}
+use Rattle.ty_rounds.specs.declared.batch.Batch.{Batch}
 use Rattle.ty_rounds.specs.declared.logging.Logged.{Logged}
 use Rattle.ty_rounds.specs.declared.peer.Caller.{Caller}
 use Rattle.ty_rounds.specs.declared.peer.Peer.{Peer}
@@ -152,6 +153,10 @@ pub record Looks {S B : Type 0} (s : space.Ghosts S) (own : ℕ → Type 0) (lay
   pub ready : holding.IsReady s holds base' new
   pub leaves : Leaves s own layout (o'.commits ≡ false) old new
   pub each : (c : Contents) → Held s holds base old c → (b : Book) (ks : List Client) → b.is ≡ settings_of l → AllMid b ps ks → DealsAll b o' (Held s holds base' new) w' ps' (looked_by b c w ks)
+
+-- from batch to batch
+abbrev pub LooksAs : {S B : Type 0} → space.Ghosts S → (ℕ → Type 0) → (Files → Layout) → (B → Files → Contents → Type 0) → Option Logged → Batch → Batch → B → B → S → S → Walk → Walk → List Peer → List Peer → Type 0
+LooksAs s own layout holds l a b base base' old new w w' ps ps' = Looks s own layout holds l (work a) (work b) base base' old new w w' ps ps'
 
 -- a limit is reached in the request of the record that the link brought
 abbrev pub FullLinks : {S B : Type 0} → space.Ghosts S → (B → Files → Contents → Type 0) → (S → S → Contents → Contents → Type 0) → Option Logged → B → S → S → Walk → List Peer → Type 0

@@ -1,5 +1,5 @@
 -- What the steps of a turn do to the worlds that the server stands for.
-use Rattle.std.specs.Prelude.{◌≡◌, ◌⊎◌, ◌≤◌, ℕ, suc, Bool, true, false, List, [], ◌∷◌, ◌++◌, map, Option, Some, None, Result, Ok, Err, IfErr, OnOk}
+use Rattle.std.specs.Prelude.{◌≡◌, ◌⊎◌, ◌≤◌, ◌<◌, ◌^◌, ℕ, suc, Bool, true, false, List, [], ◌∷◌, ◌++◌, map, Option, Some, None, Result, Ok, Err, All, IfErr, IsErrOf, OnOk}
 use Rattle.tc_base.specs.Files.{Files}
 use Rattle.tc_io.specs.Told.{Adds}
 use Rattle.tc_io.specs.Script.{Plays}
@@ -11,14 +11,16 @@ use Rattle.tc_io.specs.declared.wire.Entry.{Entry}
 use Rattle.tc_io.specs.declared.wire.Dialled.{Dialled}
 use Rattle.tc_io.specs.declared.wire.Entry.TheVariants.{Open, Dial, Event, Send, Close}
 use Rattle.tc_space.specs.Frames.{Keeps, OnlyReads}
-use Rattle.tc_space.specs.Moments.{Steady}
+use Rattle.tc_space.specs.Moments.{LeavesOnly, Steady}
 use Rattle.tc_space.specs.declared.space.Space as space
 use Rattle.tc_model.specs.Contents.{Contents}
 use Rattle.ty_world.specs.World.{Client, World, Mark, mark_of, heard, unstopped, world_after, commits_in, labels_in, should_pause, is_some_waiting, is_due, IsMaster, IsRested, AreFinishing, AllAsked, Comes, AllCame}
+use Rattle.ty_ulog.specs.Noting.{Lacks}
 use Rattle.ty_world.specs.Logs.{Settings}
 use Rattle.ty_rounds.specs.Books.{Book, IsBook, KnowsLog, settings_of}
 use Rattle.ty_rounds.specs.Copying.{AreMade, OnlyCopies, RoundCopies}
-use Rattle.ty_rounds.specs.Kept.{HoldsMark, Reopens, LeavesTwo, StandFor}
+use Rattle.ty_rounds.specs.Kept.{HoldsMark, Reopens, StandFor}
+use Rattle.ty_rounds.specs.Keeping.{ReopensLog}
 use Rattle.ty_rounds.specs.Serving.{FillsIn}
 use Rattle.ty_rounds.specs.Holding.{AllHold, AllGoing, IsFine, State, book_of, Stands, Same}
 use Rattle.ty_rounds.specs.Ready.{AreIntroduced, Each, IsCalm, KeepsLinks, LinksKnow, NoneOver, StayFew}
@@ -150,17 +152,14 @@ pub record Finishes {S W : Type 0} (s : space.Ghosts S) (g : wire.Ghosts W) (l :
 
 -- ---- the turn
 
--- a limit was reached in the turn, before it sent anything
-pub record FullTurn (fills : Contents → Contents → Type 0) (lacks : ℕ → ℕ → Type 0) (known : Mark → Type 0) (given : ℕ) (v : State) (a b : Told) (c d : Option (List ℕ)) : Type 0 where
+-- these entries are a dial, where one was made, and an event in whose round a limit was reached, or in what that adds to the update log
+pub record FullTurn (fills : Contents → Contents → Type 0) (lacks : ℕ → ℕ → Type 0) (known : Mark → Type 0) (given : ℕ) (v : State) (es : List Entry) (ticks : List ℕ) : Type 0 where
   pub calls : List Call
   pub paused : List ℕ
   pub busy : Bool
   pub ev : Ev
   pub bytes : List ℕ
-  pub told : Adds a b (entries_of calls ++ Event paused busy ev bytes ∷ [])
-  -- what the clock answered
-  pub ticks : List ℕ
-  pub clocked : Adds c d ticks
+  pub is : es ≡ entries_of calls ++ Event paused busy ev bytes ∷ []
   pub some : (w : World) (later : List ℕ) → Stands known given v w → w.shut ≡ false → w.ticks ≡ ticks ++ later → FillsIn fills lacks (world_after (entries_of calls) w) ev bytes
 
 -- ---- which calls of the wire it made, whether anything is told or not
@@ -249,6 +248,14 @@ CameToSends (Ok x) es = Unit {0}
 CameToSends (Err Wire) es = Unit {0}
 CameToSends (Err e) es = has_send es ≡ true
 
+-- files stand for the mark after the round or the one before, and where an update log is kept, it is one
+abbrev pub ReopensEither : (Files → Contents → Type 0) → World → World → Option Files → Type 0
+ReopensEither reopens w v o = ReopensLog reopens (book_of v) o (mark_of v) ⊎ ReopensLog reopens (book_of w) o (mark_of w)
+
+-- so does what a stop leaves at any moment
+pub record LeavesEither {S : Type 0} (s : space.Ghosts S) (reopens : Files → Contents → Type 0) (old new : S) (w v : World) : Type 0 where
+  pub leaves : LeavesOnly s.moment s.left old new (ReopensEither reopens w v)
+
 -- one mark more where the contents were updated
 pub record MarksMore (w v : World) : Type 0 where
   pub more : ((v.marks ≡ w.marks) × (mark_of v ≡ mark_of w)) ⊎ (v.marks ≡ mark_of v ∷ w.marks)
@@ -280,10 +287,10 @@ module _ {S : Type 0} (s : space.Ghosts S) (reopens : Files → Contents → Typ
   TurnEnds (Ok Went) new known given b w v = Stands known given b v × (v.shut ≡ false) × (v.events ≡ suc w.events) × (v.gaps ≡ w.gaps)
   TurnEnds (Ok (Gap h follows)) new known given b w v = Stands known given b v × (v.shut ≡ false) × (v.events ≡ suc w.events) × (v.gaps ≡ w.gaps ++ (h, follows) ∷ [])
   TurnEnds (Ok Shut) new known given b w v = Stands known given b v × (v.shut ≡ true) × (v.events ≡ suc w.events) × (v.gaps ≡ w.gaps)
-  TurnEnds (Err Wire) new known given b w v = (o : Option Files) → s.left new (s.moment new) o → Reopens reopens o (mark_of v)
-  TurnEnds (Err Memory) new known given b w v = (o : Option Files) → s.left new (s.moment new) o → Reopens reopens o (mark_of v) ⊎ Reopens reopens o (mark_of w)
-  TurnEnds (Err Volume) new known given b w v = (o : Option Files) → s.left new (s.moment new) o → Reopens reopens o (mark_of v) ⊎ Reopens reopens o (mark_of w)
-  TurnEnds (Err Full) new known given b w v = (o : Option Files) → s.left new (s.moment new) o → Reopens reopens o (mark_of v) ⊎ Reopens reopens o (mark_of w)
+  TurnEnds (Err Wire) new known given b w v = (o : Option Files) → s.left new (s.moment new) o → ReopensLog reopens (book_of v) o (mark_of v)
+  TurnEnds (Err Memory) new known given b w v = (o : Option Files) → s.left new (s.moment new) o → ReopensEither reopens w v o
+  TurnEnds (Err Volume) new known given b w v = (o : Option Files) → s.left new (s.moment new) o → ReopensEither reopens w v o
+  TurnEnds (Err Full) new known given b w v = (o : Option Files) → s.left new (s.moment new) o → ReopensEither reopens w v o
 
   pub record Turned (result : Result Outcome TurnErr) (later : List ℕ) (old new : S) (known : Mark → Type 0) (given : ℕ) (b : State) (w v : World) (es : List Entry) : Type 0 where
     -- the wire was asked as the world says
@@ -295,8 +302,8 @@ module _ {S : Type 0} (s : space.Ghosts S) (reopens : Files → Contents → Typ
     pub opens : v.opens ≡ w.opens
     -- the clock was asked once for each record
     pub ticks : OnOk result (v.ticks ≡ later)
-    -- a stop at any moment leaves what stands for the mark before the round or after it
-    pub moments : LeavesTwo s reopens old new (mark_of w) (mark_of v)
+    -- a stop at any moment leaves what stands for the mark before the round or after it, with its log
+    pub moments : LeavesEither s reopens old new w v
     pub idle : commits_in w es ≡ false → labels_in w es ≡ [] → Idles result old new
     pub only : commits_in w es ≡ false → OnlyCopied result old new
     pub copies : TurnCopies s result old new (labels_in w es) es
@@ -314,6 +321,12 @@ pub record Turns {S B W : Type 0} (s : space.Ghosts S) (g : wire.Ghosts W) (hold
   -- what the clock answered
   pub ticks : List ℕ
   pub clocked : Adds a b ticks
+  pub small : All (λ t. t < 2 ^ 64) ticks
   -- nothing, where no update log is kept
   pub unticked : (settings_of v.logged).logs ≡ false → ticks ≡ []
   pub ends : (w : World) (later : List ℕ) → Stands (HoldsMark s holds reopens base old) (g.given x) v w → w.shut ≡ false → w.ticks ≡ ticks ++ later → Turned s reopens result later old new (HoldsMark s holds reopens base' new) (g.given y) v' w (world_after entries w) entries
+
+-- and where a limit was reached, it was before anything was sent, with the same answers of the clock
+pub record TurnsFull {S B W : Type 0} (s : space.Ghosts S) (g : wire.Ghosts W) (holds : B → Files → Contents → Type 0) (reopens : Files → Contents → Type 0) (fills : S → S → Contents → Contents → Type 0) (result : Result Outcome TurnErr) (base base' : B) (old new : S) (x y : W) (a b : Option (List ℕ)) (v v' : State) : Type 0 where
+  pub turns : Turns s g holds reopens result base base' old new x y a b v v'
+  pub full : IsErrOf result Full → FullTurn (fills old new) (Lacks s new) (HoldsMark s holds reopens base old) (g.given x) v turns.entries turns.ticks

@@ -1,5 +1,7 @@
 //! What a round leaves to be done behind it.
-ghost use Rattle.std.specs.Prelude.{◌≡◌, ◌||◌, ◌++◌, true, Some, None, map, OnOk};
+ghost use Rattle.std.specs.Prelude.{◌≡◌, ◌||◌, ◌++◌, ◌∷◌, [], true, Some, None, map, OnOk};
+ghost use Rattle.std.specs.Option.{ForSome};
+ghost use Rattle.tc_base.specs.Labels.{is_label};
 ghost use Rattle.tc_base.specs.LabelTexts.{text_of};
 ghost use Rattle.ty_core.specs.Serving.{entries};
 ghost use Rattle.ty_rounds.specs.Works.{listed, no_work, work};
@@ -27,6 +29,7 @@ pub struct Batch {
 }
 
 // What is there comes behind the others.
+#[inline(always)]
 fn push_one<T: Drop>(items: &mut Vec<T>, item: Option<T>) -> Result<(), AllocError>
     ensures { OnOk result (items.new.items ≡ items.old.items ++ listed item) }
 {
@@ -35,6 +38,42 @@ fn push_one<T: Drop>(items: &mut Vec<T>, item: Option<T>) -> Result<(), AllocErr
     };
     items.push(item)?;
     Ok(())
+}
+
+// A label comes behind the others.
+#[inline(never)]
+fn add_label(labels: &mut Vec<Label>, text: &[u8]) -> Result<(), AllocError>
+    requires label { is_label text.now ≡ true }
+    ensures { OnOk result (map text_of labels.new.items ≡ map text_of labels.old.items ++ text.now ∷ []) }
+{
+    let Some(label) = Label::of(text) else {
+        return Ok(());
+    };
+    labels.push(label)?;
+    Ok(())
+}
+
+// A label comes behind the others, where one is there.
+#[inline(always)]
+fn push_label(labels: &mut Vec<Label>, text: Option<Blob>) -> Result<(), AllocError>
+    requires label { ForSome text (λ l. is_label l ≡ true) }
+    ensures { OnOk result (map text_of labels.new.items ≡ map text_of labels.old.items ++ entries text) }
+{
+    let Some(text) = text else {
+        return Ok(());
+    };
+    add_label(labels, text.as_slice())
+}
+
+// Leaves nothing; where nothing is there it is looked at alone.
+#[inline(always)]
+fn empty<T: Drop>(items: &mut Vec<T>)
+    ensures { items.new.items ≡ [] }
+{
+    if items.is_empty() {
+        return;
+    }
+    items.clear();
 }
 
 impl Batch {
@@ -51,27 +90,30 @@ impl Batch {
     }
 
     /// Leaves nothing to be done; its room is used again.
+    #[inline(always)]
     pub fn clear(&mut self)
         ensures { work self.new ≡ no_work }
     {
         self.commits = false;
-        self.updates.clear();
-        self.labels.clear();
+        empty(&mut self.updates);
+        empty(&mut self.labels);
         self.taken = None;
         self.gap = None;
     }
 
     /// What is left to do behind a piece comes to it.
+    #[inline(always)]
     pub fn add(&mut self, served: Served) -> Result<(), AllocError>
+        requires label { ForSome served.copy (λ l. is_label l ≡ true) }
         ensures commits { OnOk result (self.new.commits ≡ (self.old.commits || served.commits)) }
         ensures updates { OnOk result (self.new.updates.items ≡ self.old.updates.items ++ entries served.update) }
-        ensures labels { OnOk result (map text_of self.new.labels.items ≡ map text_of self.old.labels.items ++ entries (option_map text_of served.copy)) }
+        ensures labels { OnOk result (map text_of self.new.labels.items ≡ map text_of self.old.labels.items ++ entries served.copy) }
         ensures taken { self.new.taken ≡ self.old.taken }
         ensures gap { self.new.gap ≡ self.old.gap }
     {
         self.commits = self.commits | served.commits;
         push_one(&mut self.updates, served.update)?;
-        push_one(&mut self.labels, served.copy)?;
+        push_label(&mut self.labels, served.copy)?;
         Ok(())
     }
 
@@ -84,5 +126,4 @@ impl Batch {
     }
 }
 
-ghost use Rattle.std.specs.Prelude.{option_map};
 ghost use Rattle.ty_rounds.specs.Works.{record_taken};

@@ -7,7 +7,7 @@ ghost use Rattle.ty_base.specs.Holding.{PacksHeld};
 ghost use Rattle.ty_world.specs.World.{Mark};
 ghost use Rattle.ty_rounds.specs.declared.outcome.TurnErr.TheVariants.{Wire as wire_err};
 ghost use Rattle.ty_rounds.specs.Kept.{HasMark, MovesTo};
-ghost use Rattle.ty_rounds.specs.Keeping.{IsKept, IsKeptLaid, KeepsRound, KeepsRoundLaid, MayKeep, MayKeepRound, MovesLaid};
+ghost use Rattle.ty_rounds.specs.Keeping.{IsKept, IsKeptLaid, KeepsRound, KeepsLaid, MayKeep, MayKeepRound, MovesLaid};
 ghost use Rattle.ty_rounds.specs.Works.{IsFit, work};
 ghost use Rattle.ty_rounds.specs.Writing.{Writes, WritesAll};
 
@@ -104,7 +104,7 @@ pub fn keep_round<B: Base, K: Clock>(
 ) -> Result<(), TurnErr>
     requires may { MayKeepRound B.S.Space B.holds B.reopens logged.old (work batch.now) base.old space.old }
     ensures keeps { KeepsRound B.S.Space B.holds B.reopens (work batch.now) (K.answers clock.old) (K.answers clock.new) logged.old logged.new base.old base.new space.old space.new result }
-    ensures laid { KeepsRoundLaid B.S.Space B.holds B.reopens B.own B.layout (work batch.now) (K.answers clock.old) (K.answers clock.new) logged.old logged.new base.old base.new space.old space.new result }
+    ensures laid { KeepsLaid B.S.Space B.holds B.reopens B.own B.layout (work batch.now) (K.answers clock.old) (K.answers clock.new) logged.old logged.new base.old base.new space.old space.new result }
     ensures idle { batch.now.commits ≡ false → OnlyReads B.S.Space space.old space.new }
     ensures not_wire { IfErr result (λ e. e ≡ wire_err → ⊥) }
     ensures same { OnOk result (SameTerms logged.old logged.new) }

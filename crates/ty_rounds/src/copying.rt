@@ -8,6 +8,7 @@ use tc_base::{Fault, Label};
 use tc_space::Space;
 
 /// Makes the copies of a round, where nothing was written since the last commit. It takes no memory.
+#[inline(never)]
 pub fn make_copies<S: Space>(space: &mut S, labels: &[Label]) -> Result<(), Fault>
     requires sound { S.sound space.old }
     requires untouched { S.touched space.old ≡ false }

@@ -84,6 +84,7 @@ fn add_link(
 }
 
 // Dials the master that the words name.
+#[inline(never)]
 fn dial_master<W: Wire>(
     alloc: Global,
     logged: &Logged,
@@ -116,6 +117,7 @@ fn dial_master<W: Wire>(
 }
 
 /// Dials the master where one is given, no link is open and it is time. On an `Err` a connection may have been opened of which nothing is known.
+#[inline(always)]
 pub fn dial<W: Wire>(
     alloc: Global,
     logged: &Option<Logged>,

@@ -156,6 +156,7 @@ fn look_behind<B: Base>(
 ghost use Rattle.ty_rounds.specs.Linking.{FullLook, LooksBehind};
 
 // Looks at what the connection brought that is the link.
+#[inline(never)]
 fn look_peer<B: Base>(
     alloc: Global,
     p: &mut Peer,
@@ -206,7 +207,7 @@ pub fn look<B: Base>(
     requires ready { holding.IsReady B.S.Space B.holds base.old space.old }
     requires calm { IsSpan span.old peers.old.items }
     requires alone { (batch.old.taken ≡ None) × (batch.old.gap ≡ None) }
-    ensures looks { OnOk result (Looks B.S.Space B.own B.layout B.holds logged.now (work batch.old) (work batch.new) base.old base.new space.old space.new walk.old walk.new peers.old.items peers.new.items) }
+    ensures looks { OnOk result (LooksAs B.S.Space B.own B.layout B.holds logged.now batch.old batch.new base.old base.new space.old space.new walk.old walk.new peers.old.items peers.new.items) }
     ensures not_wire { IfErr result (λ e. e ≡ wire_err → ⊥) }
     ensures full { IsErrOf result TurnErr.Full → FullLinks B.S.Space B.holds B.fills_since logged.now base.old space.old space.new walk.old peers.old.items }
     ensures span { OnOk result (IsSpan span.new peers.new.items) }
@@ -229,7 +230,7 @@ pub fn look<B: Base>(
 }
 
 ghost use Rattle.std.specs.Prelude.{None};
-ghost use Rattle.ty_rounds.specs.Linking.{FullLinks, Looks};
+ghost use Rattle.ty_rounds.specs.Linking.{FullLinks, LooksAs};
 ghost use Rattle.ty_rounds.specs.Spans.{IsSpan};
 
 use crate::span::Span;

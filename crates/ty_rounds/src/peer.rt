@@ -60,6 +60,7 @@ impl Caller {
     ghost use Rattle.ty_rounds.specs.Sights.{ShortCalled, sight_called};
 
     // What stands behind the id and the records that were looked at.
+    #[inline(never)]
     fn sight(&self) -> Sight
         ensures sight { result ≡ sight_called self.now }
         ensures few { ShortCalled result self.now }
@@ -145,6 +146,7 @@ impl Peer {
     }
 
     /// What stands at the front of what came of it.
+    #[inline(always)]
     pub fn sight(&self) -> Sight
         ensures sight { result ≡ sight self.now }
         ensures few { IsShort result self.now }

@@ -11,7 +11,7 @@ ghost use Rattle.ty_rounds.specs.Feeding.{OwesRepl};
 ghost use Rattle.ty_rounds.specs.Ready.{IsCalm};
 ghost use Rattle.ty_rounds.specs.Serving.{FullOne, FullRound, ServesAll, ServesReady};
 ghost use Rattle.ty_rounds.specs.Spans.{IsSpan};
-ghost use Rattle.ty_rounds.specs.Terms.{IsTerms};
+ghost use Rattle.ty_rounds.specs.Terms.{Under, IsTerms};
 ghost use Rattle.ty_rounds.specs.Works.{no_work, work};
 ghost use Rattle.ty_rounds.specs.declared.logging.Logged.{Logged};
 ghost use Rattle.ty_rounds.specs.declared.outcome.TurnErr.TheVariants.{Wire as wire_err};
@@ -29,6 +29,7 @@ use ty_ulog::Feed;
 
 // What a `repl` is answered: the own id, and the connection is a feed from then on; or a refusal, where no update log is kept or the id is the
 // own.
+#[inline(always)]
 fn owe_repl(p: &mut Peer, terms: Terms, asked: &Option<Asked>) -> Result<(), RecErr>
     ensures owes { OnOk result ((l : Option Logged) (x : Piece) → IsTerms terms l → asked.now ≡ feed_of x → OwesRepl (settings_of l) p.old p.new x) }
     ensures memory { IsErrOf result RecErr.Fault → ⊥ }
@@ -59,8 +60,8 @@ fn serve_one<B: Base>(
 ) -> Result<(), RecErr>
     requires ready { holding.IsReady B.S.Space B.holds base.old space.old }
     requires calm { IsCalm p.old }
-    ensures served { OnOk result ((l : Option Logged) → IsTerms terms l → ServesReady B.S.Space B.own B.layout B.holds l (work batch.old) (work batch.new) base.old base.new space.old space.new walk.old walk.new p.old p.new) }
-    ensures full { IsErrOf result RecErr.Full → (l : Option Logged) → IsTerms terms l → FullOne B.S.Space B.holds B.fills_since l base.old space.old space.new walk.old p.old }
+    ensures served { OnOk result (Under terms (λ l. ServesReady B.S.Space B.own B.layout B.holds l (work batch.old) (work batch.new) base.old base.new space.old space.new walk.old walk.new p.old p.new)) }
+    ensures full { IsErrOf result RecErr.Full → Under terms (λ l. FullOne B.S.Space B.holds B.fills_since l base.old space.old space.new walk.old p.old) }
     ensures keeps { Keeps B.S.Space space.old space.new }
     ensures cause { OnFault B.S.Space result space.old space.new }
 {

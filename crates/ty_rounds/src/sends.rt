@@ -47,6 +47,7 @@ fn offer<W: Wire>(wire: &mut W, p: &mut Peer) -> Result<(), Fault>
 }
 
 // Puts what comes next of the update log where nothing waits, 4,096 bytes at most; none is put exactly where none is left.
+#[inline(never)]
 fn fill<S: Space>(
     p: &mut Peer,
     logged: &Logged,

@@ -6,14 +6,13 @@ ghost use Rattle.tc_space.specs.Frames.{Keeps};
 ghost use Rattle.ty_rounds.specs.Following.{FollowsTold};
 ghost use Rattle.ty_world.specs.World.{is_quiet};
 ghost use Rattle.ty_base.specs.Holding as holding;
-ghost use Rattle.ty_base.specs.Holding.{Frame, Laid};
 ghost use Rattle.ty_rounds.specs.declared.outcome.TurnErr.TheVariants.{Volume as volume_err, Wire as wire_err};
 ghost use Rattle.ty_rounds.specs.Books.{SameTerms, settings_of};
 ghost use Rattle.ty_rounds.specs.Copying.{AreMade, OnlyCopies, RoundCopies};
 ghost use Rattle.ty_rounds.specs.Holding.{Wired};
 ghost use Rattle.ty_rounds.specs.Joining.{held_after};
 ghost use Rattle.ty_rounds.specs.Ready.{Each, FewWaiting, LinksMay};
-ghost use Rattle.ty_rounds.specs.Servers.{FullTurnAs, IsReadyAs, TurnsAs};
+ghost use Rattle.ty_rounds.specs.Servers.{IsReadyAs, TurnsAs, TurnsLaid};
 ghost use Rattle.ty_rounds.specs.Serving.{FullParts, Rounds};
 ghost use Rattle.ty_rounds.specs.Spans.{IsSpan};
 ghost use Rattle.ty_rounds.specs.Turns.{Finishes, MeetsFor, WireAlone, outcome_of};
@@ -170,9 +169,8 @@ pub fn turn<B: Base, W: Wire, K: Clock>(
     requires ready { IsReadyAs B.S.Space W.Wire B.holds server.old space.old wire.old }
     ensures ready { OnOk result (IsReadyAs B.S.Space W.Wire B.holds server.new space.new wire.new) }
     ensures opened { W.opened wire.new ≡ true }
-    ensures told { TurnsAs B.S.Space W.Wire B.holds B.reopens result server.old server.new space.old space.new wire.old wire.new (K.answers clock.old) (K.answers clock.new) }
-    ensures laid { (l : Frame) → TurnsAs B.S.Space W.Wire B.holds (Laid B.own B.layout l B.reopens) result server.old server.new space.old space.new wire.old wire.new (K.answers clock.old) (K.answers clock.new) }
-    ensures full { IsErrOf result TurnErr.Full → FullTurnAs B.S.Space W.Wire B.holds B.reopens B.fills_since server.old space.old space.new wire.old wire.new (K.answers clock.old) (K.answers clock.new) }
+    ensures told { TurnsAs B.S.Space W.Wire B.holds B.reopens B.fills_since K.answers result server.old server.new space.old space.new wire.old wire.new clock.old clock.new }
+    ensures laid { TurnsLaid B.S.Space W.Wire B.holds B.own B.layout B.reopens B.fills_since K.answers result server.old server.new space.old space.new wire.old wire.new clock.old clock.new }
     ensures follows { FollowsTold B.S.Space space.old space.new }
     ensures same { OnOk result (SameTerms server.old.logged server.new.logged) }
     ensures met { IfOk result (MeetsFor (settings_of server.old.logged)) }

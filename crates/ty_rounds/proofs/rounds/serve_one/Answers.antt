@@ -31,3 +31,6 @@ returns-in_err-served-clause-full g c = λ full l is.
     let p = c.args.p.now in
     let both : (is_client p.role && has_whole p) ≡ true = search rules in
     one_full g.B.S.Space g.B.Storage.own g.B.Storage.layout g.B.Storage.holds l c.args.terms is _ _ (λ d e x. x) c.args.base.now c.args.space.now c.args.walk.now p (search rules) (and_parts (is_client p.role) (has_whole p) both).0 (search rules) (c.in_err-served.ensures.full (search (rules, full)))
+
+pub add-requires : goal.add-requires
+add-requires g c = record { label = c.in_ok-served.ensures.served.served.notes.labelled }

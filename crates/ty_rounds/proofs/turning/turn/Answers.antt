@@ -2,7 +2,6 @@ use Rattle.std.proofs.Common.{rules, refl, sym, subst, ◌∙◌}
 use Rattle.std.specs.Prelude.{Ok}
 use Rattle.ty_base.proofs.Refusals.{err_is}
 use Rattle.ty_base.specs.Holding.{Laid, frame_of}
-use Rattle.ty_ulog.specs.Noting.{Lacks}
 use Rattle.ty_world.specs.World.{is_quiet}
 use Rattle.ty_rounds.specs.Books.{settings_of}
 use Rattle.ty_rounds.specs.Joining.{Joins}
@@ -14,42 +13,42 @@ use Rattle.ty_rounds.proofs.FollowLaws.{told_all, told_copied, told_keeps, told_
 use Rattle.ty_rounds.proofs.JoinLaws.{kept_joins, may_join, span_held, wired_as}
 use Rattle.ty_rounds.proofs.Laying.{laid_turns, round_laid}
 use Rattle.ty_rounds.proofs.ReadyAgain.{ready_again}
-use Rattle.ty_rounds.proofs.Turned.{Rest, alone_wire, copy_ends, dial_ends, finish_ends, full_keep, full_round, hear_ends, keep_ends, meets_for, round_ends, went_ends, whole_turn}
+use Rattle.ty_rounds.proofs.Turned.{Rest, alone_wire, copy_ends, dial_ends, finish_ends, hear_ends, keep_ends, meets_for, round_ends, went_ends, whole_turn}
 use Rattle.ty_rounds.proofs.turning.turn.Goals as goal
 
 pub returns-in_err-dial-clause-told : goal.returns-in_err-dial-clause-told
-returns-in_err-dial-clause-told g c = rw (err_is c.from_residual.result _ c.from_residual.ensures.1) (dial_ends g.B.S.Space g.W.Wire g.B.Storage.own g.B.Storage.layout g.met.B.Storage.no_logs.1 g.B.Storage.holds g.B.Storage.reopens _ _ c.args.space.now _ _ _ (state c.args.server.now) _ c.in_err-dial.field-0.0 c.in_err-dial.ensures.err (record { sound = c.requires.ready.base_is.sound; only = λ o t l. g.met.B.S.Space.only_kept c.args.space.now o t c.requires.ready.base_is.sound l; clean = λ t. g.met.B.S.Space.clean c.args.space.now t c.requires.ready.base_is.sound c.requires.ready.untouched }))
+returns-in_err-dial-clause-told g c = rw (err_is c.from_residual.result _ c.from_residual.ensures.1) (dial_ends g.B.S.Space g.W.Wire g.B.Storage.own g.B.Storage.layout g.met.B.Storage.no_logs.1 g.B.Storage.holds g.B.Storage.reopens g.B.Storage.fills_since _ _ c.args.space.now _ _ _ (state c.args.server.now) _ c.in_err-dial.field-0.0 c.in_err-dial.ensures.err (record { sound = c.requires.ready.base_is.sound; only = λ o t l. g.met.B.S.Space.only_kept c.args.space.now o t c.requires.ready.base_is.sound l; clean = λ t. g.met.B.S.Space.clean c.args.space.now t c.requires.ready.base_is.sound c.requires.ready.untouched }))
 
 pub returns-in_err-dial-clause-laid : goal.returns-in_err-dial-clause-laid
-returns-in_err-dial-clause-laid g c = λ l. rw (err_is c.from_residual.result _ c.from_residual.ensures.1) (laid_turns g.B.S.Space g.W.Wire g.B.Storage.holds g.B.Storage.reopens g.B.Storage.own g.B.Storage.layout _ _ _ c.args.space.now _ _ _ _ _ _ _ (dial_ends g.B.S.Space g.W.Wire g.B.Storage.own g.B.Storage.layout g.met.B.Storage.no_logs.1 g.B.Storage.holds (Laid g.B.Storage.own g.B.Storage.layout (frame_of g.B.Storage.layout (g.B.S.Space.now c.args.space.now)) g.B.Storage.reopens) _ _ c.args.space.now _ _ _ (state c.args.server.now) _ c.in_err-dial.field-0.0 c.in_err-dial.ensures.err (record { sound = c.requires.ready.base_is.sound; only = λ o t l. g.met.B.S.Space.only_kept c.args.space.now o t c.requires.ready.base_is.sound l; clean = λ t. g.met.B.S.Space.clean c.args.space.now t c.requires.ready.base_is.sound c.requires.ready.untouched })) l)
+returns-in_err-dial-clause-laid g c = λ l. rw (err_is c.from_residual.result _ c.from_residual.ensures.1) (laid_turns g.B.S.Space g.W.Wire g.B.Storage.holds g.B.Storage.reopens g.B.Storage.own g.B.Storage.layout g.B.Storage.fills_since _ _ _ c.args.space.now _ _ _ _ _ _ _ (dial_ends g.B.S.Space g.W.Wire g.B.Storage.own g.B.Storage.layout g.met.B.Storage.no_logs.1 g.B.Storage.holds (Laid g.B.Storage.own g.B.Storage.layout (frame_of g.B.Storage.layout (g.B.S.Space.now c.args.space.now)) g.B.Storage.reopens) g.B.Storage.fills_since _ _ c.args.space.now _ _ _ (state c.args.server.now) _ c.in_err-dial.field-0.0 c.in_err-dial.ensures.err (record { sound = c.requires.ready.base_is.sound; only = λ o t l. g.met.B.S.Space.only_kept c.args.space.now o t c.requires.ready.base_is.sound l; clean = λ t. g.met.B.S.Space.clean c.args.space.now t c.requires.ready.base_is.sound c.requires.ready.untouched })) l)
 
 pub returns-in_err-ev-clause-told : goal.returns-in_err-ev-clause-told
-returns-in_err-ev-clause-told g c = rw (err_is c.from_residual-in_err-ev.result _ c.from_residual-in_err-ev.ensures.1) (whole_turn g.B.S.Space g.W.Wire g.B.Storage.own g.B.Storage.layout g.met.B.Storage.no_logs.1 g.B.Storage.holds g.B.Storage.reopens _ _ _ c.args.space.now _ _ _ _ _ _ (state c.args.server.now) _ c.dial.new.peers.items c.in_ok-dial.ensures.told
-    (hear_ends g.B.S.Space g.W.Wire g.B.Storage.own g.B.Storage.layout g.met.B.Storage.no_logs.1 g.B.Storage.holds g.B.Storage.reopens _ _ c.args.space.now _ _ _ _ _ _ _ c.in_err-ev.field-0.0 c.in_err-ev.ensures.err (record { sound = c.requires.ready.base_is.sound; only = λ o t l. g.met.B.S.Space.only_kept c.args.space.now o t c.requires.ready.base_is.sound l; clean = λ t. g.met.B.S.Space.clean c.args.space.now t c.requires.ready.base_is.sound c.requires.ready.untouched })))
+returns-in_err-ev-clause-told g c = rw (err_is c.from_residual-in_err-ev.result _ c.from_residual-in_err-ev.ensures.1) (whole_turn g.B.S.Space g.W.Wire g.B.Storage.own g.B.Storage.layout g.met.B.Storage.no_logs.1 g.B.Storage.holds g.B.Storage.reopens g.B.Storage.fills_since _ _ _ c.args.space.now _ _ _ _ _ _ (state c.args.server.now) _ c.dial.new.peers.items c.in_ok-dial.ensures.told
+    (hear_ends g.B.S.Space g.W.Wire g.B.Storage.own g.B.Storage.layout g.met.B.Storage.no_logs.1 g.B.Storage.holds g.B.Storage.reopens g.B.Storage.fills_since _ _ c.args.space.now _ _ _ _ _ _ _ c.in_err-ev.field-0.0 c.in_err-ev.ensures.err (record { sound = c.requires.ready.base_is.sound; only = λ o t l. g.met.B.S.Space.only_kept c.args.space.now o t c.requires.ready.base_is.sound l; clean = λ t. g.met.B.S.Space.clean c.args.space.now t c.requires.ready.base_is.sound c.requires.ready.untouched })))
 
 pub returns-in_err-ev-clause-laid : goal.returns-in_err-ev-clause-laid
-returns-in_err-ev-clause-laid g c = λ l. rw (err_is c.from_residual-in_err-ev.result _ c.from_residual-in_err-ev.ensures.1) (laid_turns g.B.S.Space g.W.Wire g.B.Storage.holds g.B.Storage.reopens g.B.Storage.own g.B.Storage.layout _ _ _ c.args.space.now _ _ _ _ _ _ _ (whole_turn g.B.S.Space g.W.Wire g.B.Storage.own g.B.Storage.layout g.met.B.Storage.no_logs.1 g.B.Storage.holds (Laid g.B.Storage.own g.B.Storage.layout (frame_of g.B.Storage.layout (g.B.S.Space.now c.args.space.now)) g.B.Storage.reopens) _ _ _ c.args.space.now _ _ _ _ _ _ (state c.args.server.now) _ c.dial.new.peers.items c.in_ok-dial.ensures.told
-    (hear_ends g.B.S.Space g.W.Wire g.B.Storage.own g.B.Storage.layout g.met.B.Storage.no_logs.1 g.B.Storage.holds (Laid g.B.Storage.own g.B.Storage.layout (frame_of g.B.Storage.layout (g.B.S.Space.now c.args.space.now)) g.B.Storage.reopens) _ _ c.args.space.now _ _ _ _ _ _ _ c.in_err-ev.field-0.0 c.in_err-ev.ensures.err (record { sound = c.requires.ready.base_is.sound; only = λ o t l. g.met.B.S.Space.only_kept c.args.space.now o t c.requires.ready.base_is.sound l; clean = λ t. g.met.B.S.Space.clean c.args.space.now t c.requires.ready.base_is.sound c.requires.ready.untouched }))) l)
+returns-in_err-ev-clause-laid g c = λ l. rw (err_is c.from_residual-in_err-ev.result _ c.from_residual-in_err-ev.ensures.1) (laid_turns g.B.S.Space g.W.Wire g.B.Storage.holds g.B.Storage.reopens g.B.Storage.own g.B.Storage.layout g.B.Storage.fills_since _ _ _ c.args.space.now _ _ _ _ _ _ _ (whole_turn g.B.S.Space g.W.Wire g.B.Storage.own g.B.Storage.layout g.met.B.Storage.no_logs.1 g.B.Storage.holds (Laid g.B.Storage.own g.B.Storage.layout (frame_of g.B.Storage.layout (g.B.S.Space.now c.args.space.now)) g.B.Storage.reopens) g.B.Storage.fills_since _ _ _ c.args.space.now _ _ _ _ _ _ (state c.args.server.now) _ c.dial.new.peers.items c.in_ok-dial.ensures.told
+    (hear_ends g.B.S.Space g.W.Wire g.B.Storage.own g.B.Storage.layout g.met.B.Storage.no_logs.1 g.B.Storage.holds (Laid g.B.Storage.own g.B.Storage.layout (frame_of g.B.Storage.layout (g.B.S.Space.now c.args.space.now)) g.B.Storage.reopens) g.B.Storage.fills_since _ _ c.args.space.now _ _ _ _ _ _ _ c.in_err-ev.field-0.0 c.in_err-ev.ensures.err (record { sound = c.requires.ready.base_is.sound; only = λ o t l. g.met.B.S.Space.only_kept c.args.space.now o t c.requires.ready.base_is.sound l; clean = λ t. g.met.B.S.Space.clean c.args.space.now t c.requires.ready.base_is.sound c.requires.ready.untouched }))) l)
 
 pub returns-in_err-round-clause-told : goal.returns-in_err-round-clause-told
-returns-in_err-round-clause-told g c = rw (err_is c.from_residual-in_err-round.result _ c.from_residual-in_err-round.ensures.1) (whole_turn g.B.S.Space g.W.Wire g.B.Storage.own g.B.Storage.layout g.met.B.Storage.no_logs.1 g.B.Storage.holds g.B.Storage.reopens _ _ _ c.args.space.now _ _ _ _ _ _ (state c.args.server.now) _ c.dial.new.peers.items c.in_ok-dial.ensures.told
-    (round_ends g.B.S.Space g.W.Wire g.B.Storage.own g.B.Storage.layout g.met.B.Storage.no_logs.1 g.B.Storage.holds g.B.Storage.reopens _ _ c.args.space.now c.round.new.space _ _ _ _ _ _ c.listen.new.peers.items _ c.in_ok-ev.ev c.in_err-round.field-0.0 c.in_ok-ev.ensures.ok c.in_err-round.ensures.not_wire c.round.ensures.keeps (record { sound = c.requires.ready.base_is.sound; only = λ o t l. g.met.B.S.Space.only_kept c.args.space.now o t c.requires.ready.base_is.sound l; clean = λ t. g.met.B.S.Space.clean c.args.space.now t c.requires.ready.base_is.sound c.requires.ready.untouched }) (λ t u o le l. g.met.B.S.Space.earlier c.round.new.space t u o le l)))
+returns-in_err-round-clause-told g c = rw (err_is c.from_residual-in_err-round.result _ c.from_residual-in_err-round.ensures.1) (whole_turn g.B.S.Space g.W.Wire g.B.Storage.own g.B.Storage.layout g.met.B.Storage.no_logs.1 g.B.Storage.holds g.B.Storage.reopens g.B.Storage.fills_since _ _ _ c.args.space.now _ _ _ _ _ _ (state c.args.server.now) _ c.dial.new.peers.items c.in_ok-dial.ensures.told
+    (round_ends g.B.S.Space g.W.Wire g.B.Storage.own g.B.Storage.layout g.met.B.Storage.no_logs.1 g.B.Storage.holds g.B.Storage.reopens g.B.Storage.fills_since _ _ c.args.space.now c.round.new.space _ _ _ _ _ _ c.listen.new.peers.items _ c.in_ok-ev.ev c.in_err-round.field-0.0 c.in_ok-ev.ensures.ok c.in_err-round.ensures.not_wire c.round.ensures.keeps (record { sound = c.requires.ready.base_is.sound; only = λ o t l. g.met.B.S.Space.only_kept c.args.space.now o t c.requires.ready.base_is.sound l; clean = λ t. g.met.B.S.Space.clean c.args.space.now t c.requires.ready.base_is.sound c.requires.ready.untouched }) (λ t u o le l. g.met.B.S.Space.earlier c.round.new.space t u o le l) (λ e. c.in_err-round.ensures.full (search (rules, e)))))
 
 pub returns-in_err-round-clause-laid : goal.returns-in_err-round-clause-laid
-returns-in_err-round-clause-laid g c = λ l. rw (err_is c.from_residual-in_err-round.result _ c.from_residual-in_err-round.ensures.1) (laid_turns g.B.S.Space g.W.Wire g.B.Storage.holds g.B.Storage.reopens g.B.Storage.own g.B.Storage.layout _ _ _ c.args.space.now _ _ _ _ _ _ _ (whole_turn g.B.S.Space g.W.Wire g.B.Storage.own g.B.Storage.layout g.met.B.Storage.no_logs.1 g.B.Storage.holds (Laid g.B.Storage.own g.B.Storage.layout (frame_of g.B.Storage.layout (g.B.S.Space.now c.args.space.now)) g.B.Storage.reopens) _ _ _ c.args.space.now _ _ _ _ _ _ (state c.args.server.now) _ c.dial.new.peers.items c.in_ok-dial.ensures.told
-    (round_ends g.B.S.Space g.W.Wire g.B.Storage.own g.B.Storage.layout g.met.B.Storage.no_logs.1 g.B.Storage.holds (Laid g.B.Storage.own g.B.Storage.layout (frame_of g.B.Storage.layout (g.B.S.Space.now c.args.space.now)) g.B.Storage.reopens) _ _ c.args.space.now c.round.new.space _ _ _ _ _ _ c.listen.new.peers.items _ c.in_ok-ev.ev c.in_err-round.field-0.0 c.in_ok-ev.ensures.ok c.in_err-round.ensures.not_wire c.round.ensures.keeps (record { sound = c.requires.ready.base_is.sound; only = λ o t l. g.met.B.S.Space.only_kept c.args.space.now o t c.requires.ready.base_is.sound l; clean = λ t. g.met.B.S.Space.clean c.args.space.now t c.requires.ready.base_is.sound c.requires.ready.untouched }) (λ t u o le l. g.met.B.S.Space.earlier c.round.new.space t u o le l))) l)
+returns-in_err-round-clause-laid g c = λ l. rw (err_is c.from_residual-in_err-round.result _ c.from_residual-in_err-round.ensures.1) (laid_turns g.B.S.Space g.W.Wire g.B.Storage.holds g.B.Storage.reopens g.B.Storage.own g.B.Storage.layout g.B.Storage.fills_since _ _ _ c.args.space.now _ _ _ _ _ _ _ (whole_turn g.B.S.Space g.W.Wire g.B.Storage.own g.B.Storage.layout g.met.B.Storage.no_logs.1 g.B.Storage.holds (Laid g.B.Storage.own g.B.Storage.layout (frame_of g.B.Storage.layout (g.B.S.Space.now c.args.space.now)) g.B.Storage.reopens) g.B.Storage.fills_since _ _ _ c.args.space.now _ _ _ _ _ _ (state c.args.server.now) _ c.dial.new.peers.items c.in_ok-dial.ensures.told
+    (round_ends g.B.S.Space g.W.Wire g.B.Storage.own g.B.Storage.layout g.met.B.Storage.no_logs.1 g.B.Storage.holds (Laid g.B.Storage.own g.B.Storage.layout (frame_of g.B.Storage.layout (g.B.S.Space.now c.args.space.now)) g.B.Storage.reopens) g.B.Storage.fills_since _ _ c.args.space.now c.round.new.space _ _ _ _ _ _ c.listen.new.peers.items _ c.in_ok-ev.ev c.in_err-round.field-0.0 c.in_ok-ev.ensures.ok c.in_err-round.ensures.not_wire c.round.ensures.keeps (record { sound = c.requires.ready.base_is.sound; only = λ o t l. g.met.B.S.Space.only_kept c.args.space.now o t c.requires.ready.base_is.sound l; clean = λ t. g.met.B.S.Space.clean c.args.space.now t c.requires.ready.base_is.sound c.requires.ready.untouched }) (λ t u o le l. g.met.B.S.Space.earlier c.round.new.space t u o le l) (λ e. c.in_err-round.ensures.full (search (rules, e))))) l)
 
 pub returns-in_err-keep_round-clause-told : goal.returns-in_err-keep_round-clause-told
-returns-in_err-keep_round-clause-told g c = rw (err_is c.from_residual-in_err-keep_round.result _ c.from_residual-in_err-keep_round.ensures.1) (whole_turn g.B.S.Space g.W.Wire g.B.Storage.own g.B.Storage.layout g.met.B.Storage.no_logs.1 g.B.Storage.holds g.B.Storage.reopens _ _ _ c.args.space.now _ _ _ _ _ _ (state c.args.server.now) _ c.dial.new.peers.items c.in_ok-dial.ensures.told
-    (keep_ends g.B.S.Space g.W.Wire g.B.Storage.own g.B.Storage.layout g.met.B.Storage.no_logs.1 g.B.Storage.holds g.B.Storage.reopens _ c.round.new.base _ _ c.args.space.now c.round.new.space c.keep_round.new.space _ _ _ _ _ _ _ c.round.new.walk _ c.listen.new.peers.items c.round.new.peers.items _ c.in_ok-ev.ev (work c.round.new.batch) c.in_err-keep_round.field-0.0 c.in_ok-ev.ensures.ok c.in_err-keep_round.ensures.not_wire c.in_ok-round.ensures.rounds c.round.ensures.keeps c.in_err-keep_round.ensures.keeps c.keep_round.ensures.idle c.keep_round.ensures.follows.same_names (record { sound = c.requires.ready.base_is.sound; only = λ o t l. g.met.B.S.Space.only_kept c.args.space.now o t c.requires.ready.base_is.sound l; clean = λ t. g.met.B.S.Space.clean c.args.space.now t c.requires.ready.base_is.sound c.requires.ready.untouched }) (λ t u o le l. g.met.B.S.Space.earlier c.keep_round.new.space t u o le l)))
+returns-in_err-keep_round-clause-told g c = rw (err_is c.from_residual-in_err-keep_round.result _ c.from_residual-in_err-keep_round.ensures.1) (whole_turn g.B.S.Space g.W.Wire g.B.Storage.own g.B.Storage.layout g.met.B.Storage.no_logs.1 g.B.Storage.holds g.B.Storage.reopens g.B.Storage.fills_since _ _ _ c.args.space.now _ _ _ _ _ _ (state c.args.server.now) _ c.dial.new.peers.items c.in_ok-dial.ensures.told
+    (keep_ends g.B.S.Space g.W.Wire g.B.Storage.own g.B.Storage.layout g.met.B.Storage.no_logs.1 g.B.Storage.holds g.B.Storage.reopens g.B.Storage.fills_since _ c.round.new.base _ _ c.args.space.now c.round.new.space c.keep_round.new.space _ _ _ _ _ _ _ c.round.new.walk _ c.listen.new.peers.items c.round.new.peers.items _ c.in_ok-ev.ev (work c.round.new.batch) c.in_err-keep_round.field-0.0 c.in_ok-ev.ensures.ok c.in_err-keep_round.ensures.not_wire c.in_ok-round.ensures.rounds c.round.ensures.keeps c.in_err-keep_round.ensures.keeps c.keep_round.ensures.idle c.keep_round.ensures.follows.same_names (record { sound = c.requires.ready.base_is.sound; only = λ o t l. g.met.B.S.Space.only_kept c.args.space.now o t c.requires.ready.base_is.sound l; clean = λ t. g.met.B.S.Space.clean c.args.space.now t c.requires.ready.base_is.sound c.requires.ready.untouched }) (λ t u o le l. g.met.B.S.Space.earlier c.keep_round.new.space t u o le l) (λ t full d e. g.met.B.Storage.fills_then c.args.server.now.base c.args.space.now c.keep_round.new.space d e (g.met.B.Storage.log_fills c.args.server.now.base c.args.space.now c.keep_round.new.space d e full))))
 
 pub returns-in_err-keep_round-clause-laid : goal.returns-in_err-keep_round-clause-laid
-returns-in_err-keep_round-clause-laid g c = λ l. rw (err_is c.from_residual-in_err-keep_round.result _ c.from_residual-in_err-keep_round.ensures.1) (laid_turns g.B.S.Space g.W.Wire g.B.Storage.holds g.B.Storage.reopens g.B.Storage.own g.B.Storage.layout _ _ _ c.args.space.now _ _ _ _ _ _ _ (whole_turn g.B.S.Space g.W.Wire g.B.Storage.own g.B.Storage.layout g.met.B.Storage.no_logs.1 g.B.Storage.holds (Laid g.B.Storage.own g.B.Storage.layout (frame_of g.B.Storage.layout (g.B.S.Space.now c.args.space.now)) g.B.Storage.reopens) _ _ _ c.args.space.now _ _ _ _ _ _ (state c.args.server.now) _ c.dial.new.peers.items c.in_ok-dial.ensures.told
-    (keep_ends g.B.S.Space g.W.Wire g.B.Storage.own g.B.Storage.layout g.met.B.Storage.no_logs.1 g.B.Storage.holds (Laid g.B.Storage.own g.B.Storage.layout (frame_of g.B.Storage.layout (g.B.S.Space.now c.args.space.now)) g.B.Storage.reopens) _ c.round.new.base _ _ c.args.space.now c.round.new.space c.keep_round.new.space _ _ _ _ _ _ _ c.round.new.walk _ c.listen.new.peers.items c.round.new.peers.items _ c.in_ok-ev.ev (work c.round.new.batch) c.in_err-keep_round.field-0.0 c.in_ok-ev.ensures.ok c.in_err-keep_round.ensures.not_wire c.in_ok-round.ensures.rounds c.round.ensures.keeps (round_laid g.B.S.Space g.B.Storage.own g.B.Storage.layout g.B.Storage.holds g.B.Storage.reopens (work c.round.new.batch) _ _ _ _ _ _ c.args.space.now c.round.new.space c.keep_round.new.space _ c.in_ok-round.ensures.rounds.served.leaves c.in_err-keep_round.ensures.laid) c.keep_round.ensures.idle c.keep_round.ensures.follows.same_names (record { sound = c.requires.ready.base_is.sound; only = λ o t l. g.met.B.S.Space.only_kept c.args.space.now o t c.requires.ready.base_is.sound l; clean = λ t. g.met.B.S.Space.clean c.args.space.now t c.requires.ready.base_is.sound c.requires.ready.untouched }) (λ t u o le l. g.met.B.S.Space.earlier c.keep_round.new.space t u o le l))) l)
+returns-in_err-keep_round-clause-laid g c = λ l. rw (err_is c.from_residual-in_err-keep_round.result _ c.from_residual-in_err-keep_round.ensures.1) (laid_turns g.B.S.Space g.W.Wire g.B.Storage.holds g.B.Storage.reopens g.B.Storage.own g.B.Storage.layout g.B.Storage.fills_since _ _ _ c.args.space.now _ _ _ _ _ _ _ (whole_turn g.B.S.Space g.W.Wire g.B.Storage.own g.B.Storage.layout g.met.B.Storage.no_logs.1 g.B.Storage.holds (Laid g.B.Storage.own g.B.Storage.layout (frame_of g.B.Storage.layout (g.B.S.Space.now c.args.space.now)) g.B.Storage.reopens) g.B.Storage.fills_since _ _ _ c.args.space.now _ _ _ _ _ _ (state c.args.server.now) _ c.dial.new.peers.items c.in_ok-dial.ensures.told
+    (keep_ends g.B.S.Space g.W.Wire g.B.Storage.own g.B.Storage.layout g.met.B.Storage.no_logs.1 g.B.Storage.holds (Laid g.B.Storage.own g.B.Storage.layout (frame_of g.B.Storage.layout (g.B.S.Space.now c.args.space.now)) g.B.Storage.reopens) g.B.Storage.fills_since _ c.round.new.base _ _ c.args.space.now c.round.new.space c.keep_round.new.space _ _ _ _ _ _ _ c.round.new.walk _ c.listen.new.peers.items c.round.new.peers.items _ c.in_ok-ev.ev (work c.round.new.batch) c.in_err-keep_round.field-0.0 c.in_ok-ev.ensures.ok c.in_err-keep_round.ensures.not_wire c.in_ok-round.ensures.rounds c.round.ensures.keeps (round_laid g.B.S.Space g.B.Storage.own g.B.Storage.layout g.B.Storage.holds g.B.Storage.reopens (work c.round.new.batch) _ _ _ _ _ _ c.args.space.now c.round.new.space c.keep_round.new.space _ c.in_ok-round.ensures.rounds.served.leaves c.in_err-keep_round.ensures.laid) c.keep_round.ensures.idle c.keep_round.ensures.follows.same_names (record { sound = c.requires.ready.base_is.sound; only = λ o t l. g.met.B.S.Space.only_kept c.args.space.now o t c.requires.ready.base_is.sound l; clean = λ t. g.met.B.S.Space.clean c.args.space.now t c.requires.ready.base_is.sound c.requires.ready.untouched }) (λ t u o le l. g.met.B.S.Space.earlier c.keep_round.new.space t u o le l) (λ t full d e. g.met.B.Storage.fills_then c.args.server.now.base c.args.space.now c.keep_round.new.space d e (g.met.B.Storage.log_fills c.args.server.now.base c.args.space.now c.keep_round.new.space d e full)))) l)
 
 pub returns-in_err-copy_kept-clause-told : goal.returns-in_err-copy_kept-clause-told
-returns-in_err-copy_kept-clause-told g c = rw (err_is c.from_residual-in_err-copy_kept.result _ c.from_residual-in_err-copy_kept.ensures.1, c.in_err-copy_kept.ensures.volume) (whole_turn g.B.S.Space g.W.Wire g.B.Storage.own g.B.Storage.layout g.met.B.Storage.no_logs.1 g.B.Storage.holds g.B.Storage.reopens _ _ _ c.args.space.now _ _ _ _ _ _ (state c.args.server.now) _ c.dial.new.peers.items c.in_ok-dial.ensures.told
-    (copy_ends g.B.S.Space g.W.Wire g.B.Storage.own g.B.Storage.layout g.met.B.Storage.no_logs.1 g.B.Storage.holds g.B.Storage.reopens _ c.round.new.base c.keep_round.new.base _ c.args.space.now c.round.new.space c.keep_round.new.space c.copy_kept.new.space _ _ _ _ _ c.keep_round.new.logged _ c.round.new.walk _ c.listen.new.peers.items c.round.new.peers.items _ c.in_ok-ev.ev (work c.round.new.batch) (record {
+returns-in_err-copy_kept-clause-told g c = rw (err_is c.from_residual-in_err-copy_kept.result _ c.from_residual-in_err-copy_kept.ensures.1, c.in_err-copy_kept.ensures.volume) (whole_turn g.B.S.Space g.W.Wire g.B.Storage.own g.B.Storage.layout g.met.B.Storage.no_logs.1 g.B.Storage.holds g.B.Storage.reopens g.B.Storage.fills_since _ _ _ c.args.space.now _ _ _ _ _ _ (state c.args.server.now) _ c.dial.new.peers.items c.in_ok-dial.ensures.told
+    (copy_ends g.B.S.Space g.W.Wire g.B.Storage.own g.B.Storage.layout g.met.B.Storage.no_logs.1 g.B.Storage.holds g.B.Storage.reopens g.B.Storage.fills_since _ c.round.new.base c.keep_round.new.base _ c.args.space.now c.round.new.space c.keep_round.new.space c.copy_kept.new.space _ _ _ _ _ c.keep_round.new.logged _ c.round.new.walk _ c.listen.new.peers.items c.round.new.peers.items _ c.in_ok-ev.ev (work c.round.new.batch) (record {
       hears = c.in_ok-ev.ensures.ok;
       rounds = c.in_ok-round.ensures.rounds;
       keeps = c.round.ensures.keeps;
@@ -64,8 +63,8 @@ returns-in_err-copy_kept-clause-told g c = rw (err_is c.from_residual-in_err-cop
     }) (λ t u o le l. g.met.B.S.Space.earlier c.copy_kept.new.space t u o le l)))
 
 pub returns-in_err-copy_kept-clause-laid : goal.returns-in_err-copy_kept-clause-laid
-returns-in_err-copy_kept-clause-laid g c = λ l. rw (err_is c.from_residual-in_err-copy_kept.result _ c.from_residual-in_err-copy_kept.ensures.1, c.in_err-copy_kept.ensures.volume) (laid_turns g.B.S.Space g.W.Wire g.B.Storage.holds g.B.Storage.reopens g.B.Storage.own g.B.Storage.layout _ _ _ c.args.space.now _ _ _ _ _ _ _ (whole_turn g.B.S.Space g.W.Wire g.B.Storage.own g.B.Storage.layout g.met.B.Storage.no_logs.1 g.B.Storage.holds (Laid g.B.Storage.own g.B.Storage.layout (frame_of g.B.Storage.layout (g.B.S.Space.now c.args.space.now)) g.B.Storage.reopens) _ _ _ c.args.space.now _ _ _ _ _ _ (state c.args.server.now) _ c.dial.new.peers.items c.in_ok-dial.ensures.told
-    (copy_ends g.B.S.Space g.W.Wire g.B.Storage.own g.B.Storage.layout g.met.B.Storage.no_logs.1 g.B.Storage.holds (Laid g.B.Storage.own g.B.Storage.layout (frame_of g.B.Storage.layout (g.B.S.Space.now c.args.space.now)) g.B.Storage.reopens) _ c.round.new.base c.keep_round.new.base _ c.args.space.now c.round.new.space c.keep_round.new.space c.copy_kept.new.space _ _ _ _ _ c.keep_round.new.logged _ c.round.new.walk _ c.listen.new.peers.items c.round.new.peers.items _ c.in_ok-ev.ev (work c.round.new.batch) (record {
+returns-in_err-copy_kept-clause-laid g c = λ l. rw (err_is c.from_residual-in_err-copy_kept.result _ c.from_residual-in_err-copy_kept.ensures.1, c.in_err-copy_kept.ensures.volume) (laid_turns g.B.S.Space g.W.Wire g.B.Storage.holds g.B.Storage.reopens g.B.Storage.own g.B.Storage.layout g.B.Storage.fills_since _ _ _ c.args.space.now _ _ _ _ _ _ _ (whole_turn g.B.S.Space g.W.Wire g.B.Storage.own g.B.Storage.layout g.met.B.Storage.no_logs.1 g.B.Storage.holds (Laid g.B.Storage.own g.B.Storage.layout (frame_of g.B.Storage.layout (g.B.S.Space.now c.args.space.now)) g.B.Storage.reopens) g.B.Storage.fills_since _ _ _ c.args.space.now _ _ _ _ _ _ (state c.args.server.now) _ c.dial.new.peers.items c.in_ok-dial.ensures.told
+    (copy_ends g.B.S.Space g.W.Wire g.B.Storage.own g.B.Storage.layout g.met.B.Storage.no_logs.1 g.B.Storage.holds (Laid g.B.Storage.own g.B.Storage.layout (frame_of g.B.Storage.layout (g.B.S.Space.now c.args.space.now)) g.B.Storage.reopens) g.B.Storage.fills_since _ c.round.new.base c.keep_round.new.base _ c.args.space.now c.round.new.space c.keep_round.new.space c.copy_kept.new.space _ _ _ _ _ c.keep_round.new.logged _ c.round.new.walk _ c.listen.new.peers.items c.round.new.peers.items _ c.in_ok-ev.ev (work c.round.new.batch) (record {
       hears = c.in_ok-ev.ensures.ok;
       rounds = c.in_ok-round.ensures.rounds;
       keeps = c.round.ensures.keeps;
@@ -80,8 +79,8 @@ returns-in_err-copy_kept-clause-laid g c = λ l. rw (err_is c.from_residual-in_e
     }) (λ t u o le l. g.met.B.S.Space.earlier c.copy_kept.new.space t u o le l))) l)
 
 pub returns-in_err-finish-clause-told : goal.returns-in_err-finish-clause-told
-returns-in_err-finish-clause-told g c = rw (err_is c.from_residual-in_err-finish.result _ c.from_residual-in_err-finish.ensures.1) (whole_turn g.B.S.Space g.W.Wire g.B.Storage.own g.B.Storage.layout g.met.B.Storage.no_logs.1 g.B.Storage.holds g.B.Storage.reopens _ _ _ c.args.space.now _ _ _ _ _ _ (state c.args.server.now) _ c.dial.new.peers.items c.in_ok-dial.ensures.told
-    (finish_ends g.B.S.Space g.W.Wire g.B.Storage.own g.B.Storage.layout g.met.B.Storage.no_logs.1 g.B.Storage.holds g.B.Storage.reopens _ c.round.new.base c.keep_round.new.base _ c.args.space.now c.round.new.space c.keep_round.new.space c.copy_kept.new.space c.finish.new.space _ c.listen.new.wire c.finish.new.wire _ _ _ c.keep_round.new.logged _ c.round.new.walk _ c.listen.new.peers.items c.round.new.peers.items c.join_kept.new.peers.items c.finish.new.peers.items _ c.in_ok-ev.ev (work c.round.new.batch) c.finish.result c.in_err-finish.field-0.0 (λ is. c.in_err-finish.ensures.never_full (search (rules, is))) (alone_wire c.args.server.now.logged c.keep_round.new.logged c.in_err-finish.field-0.0 c.in_ok-keep_round.ensures.same c.in_err-finish.ensures.alone) (record { sound = c.finish.ensures.told.reads.is_sound; only = λ o t l. g.met.B.S.Space.only_kept c.finish.new.space o t c.finish.ensures.told.reads.is_sound l; clean = λ t. g.met.B.S.Space.clean c.finish.new.space t c.finish.ensures.told.reads.is_sound (c.finish.ensures.told.reads.untouched ∙ c.copy_kept.ensures.only.touched ∙ c.in_ok-keep_round.ensures.keeps.kept.untouched) }) (record {
+returns-in_err-finish-clause-told g c = rw (err_is c.from_residual-in_err-finish.result _ c.from_residual-in_err-finish.ensures.1) (whole_turn g.B.S.Space g.W.Wire g.B.Storage.own g.B.Storage.layout g.met.B.Storage.no_logs.1 g.B.Storage.holds g.B.Storage.reopens g.B.Storage.fills_since _ _ _ c.args.space.now _ _ _ _ _ _ (state c.args.server.now) _ c.dial.new.peers.items c.in_ok-dial.ensures.told
+    (finish_ends g.B.S.Space g.W.Wire g.B.Storage.own g.B.Storage.layout g.met.B.Storage.no_logs.1 g.B.Storage.holds g.B.Storage.reopens g.B.Storage.fills_since _ c.round.new.base c.keep_round.new.base _ c.args.space.now c.round.new.space c.keep_round.new.space c.copy_kept.new.space c.finish.new.space _ c.listen.new.wire c.finish.new.wire _ _ _ c.keep_round.new.logged _ c.round.new.walk _ c.listen.new.peers.items c.round.new.peers.items c.join_kept.new.peers.items c.finish.new.peers.items _ c.in_ok-ev.ev (work c.round.new.batch) c.finish.result c.in_err-finish.field-0.0 (λ is. c.in_err-finish.ensures.never_full (search (rules, is))) (alone_wire c.args.server.now.logged c.keep_round.new.logged c.in_err-finish.field-0.0 c.in_ok-keep_round.ensures.same c.in_err-finish.ensures.alone) (record { sound = c.finish.ensures.told.reads.is_sound; only = λ o t l. g.met.B.S.Space.only_kept c.finish.new.space o t c.finish.ensures.told.reads.is_sound l; clean = λ t. g.met.B.S.Space.clean c.finish.new.space t c.finish.ensures.told.reads.is_sound (c.finish.ensures.told.reads.untouched ∙ c.copy_kept.ensures.only.touched ∙ c.in_ok-keep_round.ensures.keeps.kept.untouched) }) (record {
       steps = record {
         hears = c.in_ok-ev.ensures.ok;
         rounds = c.in_ok-round.ensures.rounds;
@@ -101,8 +100,8 @@ returns-in_err-finish-clause-told g c = rw (err_is c.from_residual-in_err-finish
     })))
 
 pub returns-in_err-finish-clause-laid : goal.returns-in_err-finish-clause-laid
-returns-in_err-finish-clause-laid g c = λ l. rw (err_is c.from_residual-in_err-finish.result _ c.from_residual-in_err-finish.ensures.1) (laid_turns g.B.S.Space g.W.Wire g.B.Storage.holds g.B.Storage.reopens g.B.Storage.own g.B.Storage.layout _ _ _ c.args.space.now _ _ _ _ _ _ _ (whole_turn g.B.S.Space g.W.Wire g.B.Storage.own g.B.Storage.layout g.met.B.Storage.no_logs.1 g.B.Storage.holds (Laid g.B.Storage.own g.B.Storage.layout (frame_of g.B.Storage.layout (g.B.S.Space.now c.args.space.now)) g.B.Storage.reopens) _ _ _ c.args.space.now _ _ _ _ _ _ (state c.args.server.now) _ c.dial.new.peers.items c.in_ok-dial.ensures.told
-    (finish_ends g.B.S.Space g.W.Wire g.B.Storage.own g.B.Storage.layout g.met.B.Storage.no_logs.1 g.B.Storage.holds (Laid g.B.Storage.own g.B.Storage.layout (frame_of g.B.Storage.layout (g.B.S.Space.now c.args.space.now)) g.B.Storage.reopens) _ c.round.new.base c.keep_round.new.base _ c.args.space.now c.round.new.space c.keep_round.new.space c.copy_kept.new.space c.finish.new.space _ c.listen.new.wire c.finish.new.wire _ _ _ c.keep_round.new.logged _ c.round.new.walk _ c.listen.new.peers.items c.round.new.peers.items c.join_kept.new.peers.items c.finish.new.peers.items _ c.in_ok-ev.ev (work c.round.new.batch) c.finish.result c.in_err-finish.field-0.0 (λ is. c.in_err-finish.ensures.never_full (search (rules, is))) (alone_wire c.args.server.now.logged c.keep_round.new.logged c.in_err-finish.field-0.0 c.in_ok-keep_round.ensures.same c.in_err-finish.ensures.alone) (record { sound = c.finish.ensures.told.reads.is_sound; only = λ o t l. g.met.B.S.Space.only_kept c.finish.new.space o t c.finish.ensures.told.reads.is_sound l; clean = λ t. g.met.B.S.Space.clean c.finish.new.space t c.finish.ensures.told.reads.is_sound (c.finish.ensures.told.reads.untouched ∙ c.copy_kept.ensures.only.touched ∙ c.in_ok-keep_round.ensures.keeps.kept.untouched) }) (record {
+returns-in_err-finish-clause-laid g c = λ l. rw (err_is c.from_residual-in_err-finish.result _ c.from_residual-in_err-finish.ensures.1) (laid_turns g.B.S.Space g.W.Wire g.B.Storage.holds g.B.Storage.reopens g.B.Storage.own g.B.Storage.layout g.B.Storage.fills_since _ _ _ c.args.space.now _ _ _ _ _ _ _ (whole_turn g.B.S.Space g.W.Wire g.B.Storage.own g.B.Storage.layout g.met.B.Storage.no_logs.1 g.B.Storage.holds (Laid g.B.Storage.own g.B.Storage.layout (frame_of g.B.Storage.layout (g.B.S.Space.now c.args.space.now)) g.B.Storage.reopens) g.B.Storage.fills_since _ _ _ c.args.space.now _ _ _ _ _ _ (state c.args.server.now) _ c.dial.new.peers.items c.in_ok-dial.ensures.told
+    (finish_ends g.B.S.Space g.W.Wire g.B.Storage.own g.B.Storage.layout g.met.B.Storage.no_logs.1 g.B.Storage.holds (Laid g.B.Storage.own g.B.Storage.layout (frame_of g.B.Storage.layout (g.B.S.Space.now c.args.space.now)) g.B.Storage.reopens) g.B.Storage.fills_since _ c.round.new.base c.keep_round.new.base _ c.args.space.now c.round.new.space c.keep_round.new.space c.copy_kept.new.space c.finish.new.space _ c.listen.new.wire c.finish.new.wire _ _ _ c.keep_round.new.logged _ c.round.new.walk _ c.listen.new.peers.items c.round.new.peers.items c.join_kept.new.peers.items c.finish.new.peers.items _ c.in_ok-ev.ev (work c.round.new.batch) c.finish.result c.in_err-finish.field-0.0 (λ is. c.in_err-finish.ensures.never_full (search (rules, is))) (alone_wire c.args.server.now.logged c.keep_round.new.logged c.in_err-finish.field-0.0 c.in_ok-keep_round.ensures.same c.in_err-finish.ensures.alone) (record { sound = c.finish.ensures.told.reads.is_sound; only = λ o t l. g.met.B.S.Space.only_kept c.finish.new.space o t c.finish.ensures.told.reads.is_sound l; clean = λ t. g.met.B.S.Space.clean c.finish.new.space t c.finish.ensures.told.reads.is_sound (c.finish.ensures.told.reads.untouched ∙ c.copy_kept.ensures.only.touched ∙ c.in_ok-keep_round.ensures.keeps.kept.untouched) }) (record {
       steps = record {
         hears = c.in_ok-ev.ensures.ok;
         rounds = c.in_ok-round.ensures.rounds;
@@ -122,8 +121,8 @@ returns-in_err-finish-clause-laid g c = λ l. rw (err_is c.from_residual-in_err-
     }))) l)
 
 pub returns-clause-told : goal.returns-clause-told
-returns-clause-told g c = whole_turn g.B.S.Space g.W.Wire g.B.Storage.own g.B.Storage.layout g.met.B.Storage.no_logs.1 g.B.Storage.holds g.B.Storage.reopens _ _ _ c.args.space.now _ _ _ _ _ _ (state c.args.server.now) _ c.dial.new.peers.items c.in_ok-dial.ensures.told
-    (subst (λ d. Rest g.B.S.Space g.W.Wire g.B.Storage.own g.B.Storage.layout g.met.B.Storage.no_logs.1 g.B.Storage.holds g.B.Storage.reopens (Ok c.outcome.result) c.args.server.now.base c.keep_round.new.base c.args.space.now c.finish.new.space c.dial.new.wire c.finish.new.wire (g.K.Clock.answers c.args.clock.now) (g.K.Clock.answers c.keep_round.new.clock) c.args.server.now.logged c.args.server.now.walk c.dial.new.peers.items (record { logged = c.keep_round.new.logged; due = d; walk = c.round.new.walk; peers = c.finish.new.peers.items })) (sym c.is_quiet-server.ensures) (subst (λ o. Rest g.B.S.Space g.W.Wire g.B.Storage.own g.B.Storage.layout g.met.B.Storage.no_logs.1 g.B.Storage.holds g.B.Storage.reopens (Ok o) c.args.server.now.base c.keep_round.new.base c.args.space.now c.finish.new.space c.dial.new.wire c.finish.new.wire (g.K.Clock.answers c.args.clock.now) (g.K.Clock.answers c.keep_round.new.clock) c.args.server.now.logged c.args.server.now.walk c.dial.new.peers.items (record { logged = c.keep_round.new.logged; due = is_quiet c.in_ok-ev.ev; walk = c.round.new.walk; peers = c.finish.new.peers.items })) (sym c.outcome.ensures) (went_ends g.B.S.Space g.W.Wire g.B.Storage.own g.B.Storage.layout g.met.B.Storage.no_logs.1 g.B.Storage.holds g.B.Storage.reopens _ c.round.new.base c.keep_round.new.base c.args.space.now c.round.new.space c.keep_round.new.space c.copy_kept.new.space c.finish.new.space _ c.listen.new.wire c.finish.new.wire _ _ _ c.keep_round.new.logged _ c.round.new.walk _ c.listen.new.peers.items c.round.new.peers.items c.join_kept.new.peers.items c.finish.new.peers.items c.in_ok-ev.ev (work c.round.new.batch) c.round.new.batch.gap refl (record { sound = c.finish.ensures.told.reads.is_sound; only = λ o t l. g.met.B.S.Space.only_kept c.finish.new.space o t c.finish.ensures.told.reads.is_sound l; clean = λ t. g.met.B.S.Space.clean c.finish.new.space t c.finish.ensures.told.reads.is_sound (c.finish.ensures.told.reads.untouched ∙ c.copy_kept.ensures.only.touched ∙ c.in_ok-keep_round.ensures.keeps.kept.untouched) }) (record {
+returns-clause-told g c = whole_turn g.B.S.Space g.W.Wire g.B.Storage.own g.B.Storage.layout g.met.B.Storage.no_logs.1 g.B.Storage.holds g.B.Storage.reopens g.B.Storage.fills_since _ _ _ c.args.space.now _ _ _ _ _ _ (state c.args.server.now) _ c.dial.new.peers.items c.in_ok-dial.ensures.told
+    (subst (λ d. Rest g.B.S.Space g.W.Wire g.B.Storage.own g.B.Storage.layout g.met.B.Storage.no_logs.1 g.B.Storage.holds g.B.Storage.reopens g.B.Storage.fills_since (Ok c.outcome.result) c.args.server.now.base c.keep_round.new.base c.args.space.now c.finish.new.space c.dial.new.wire c.finish.new.wire (g.K.Clock.answers c.args.clock.now) (g.K.Clock.answers c.keep_round.new.clock) c.args.server.now.logged c.args.server.now.walk c.dial.new.peers.items (record { logged = c.keep_round.new.logged; due = d; walk = c.round.new.walk; peers = c.finish.new.peers.items })) (sym c.is_quiet-server.ensures) (subst (λ o. Rest g.B.S.Space g.W.Wire g.B.Storage.own g.B.Storage.layout g.met.B.Storage.no_logs.1 g.B.Storage.holds g.B.Storage.reopens g.B.Storage.fills_since (Ok o) c.args.server.now.base c.keep_round.new.base c.args.space.now c.finish.new.space c.dial.new.wire c.finish.new.wire (g.K.Clock.answers c.args.clock.now) (g.K.Clock.answers c.keep_round.new.clock) c.args.server.now.logged c.args.server.now.walk c.dial.new.peers.items (record { logged = c.keep_round.new.logged; due = is_quiet c.in_ok-ev.ev; walk = c.round.new.walk; peers = c.finish.new.peers.items })) (sym c.outcome.ensures) (went_ends g.B.S.Space g.W.Wire g.B.Storage.own g.B.Storage.layout g.met.B.Storage.no_logs.1 g.B.Storage.holds g.B.Storage.reopens g.B.Storage.fills_since _ c.round.new.base c.keep_round.new.base c.args.space.now c.round.new.space c.keep_round.new.space c.copy_kept.new.space c.finish.new.space _ c.listen.new.wire c.finish.new.wire _ _ _ c.keep_round.new.logged _ c.round.new.walk _ c.listen.new.peers.items c.round.new.peers.items c.join_kept.new.peers.items c.finish.new.peers.items c.in_ok-ev.ev (work c.round.new.batch) c.round.new.batch.gap refl (record { sound = c.finish.ensures.told.reads.is_sound; only = λ o t l. g.met.B.S.Space.only_kept c.finish.new.space o t c.finish.ensures.told.reads.is_sound l; clean = λ t. g.met.B.S.Space.clean c.finish.new.space t c.finish.ensures.told.reads.is_sound (c.finish.ensures.told.reads.untouched ∙ c.copy_kept.ensures.only.touched ∙ c.in_ok-keep_round.ensures.keeps.kept.untouched) }) (record {
       steps = record {
         hears = c.in_ok-ev.ensures.ok;
         rounds = c.in_ok-round.ensures.rounds;
@@ -143,8 +142,8 @@ returns-clause-told g c = whole_turn g.B.S.Space g.W.Wire g.B.Storage.own g.B.St
     }))))
 
 pub returns-clause-laid : goal.returns-clause-laid
-returns-clause-laid g c = λ l. laid_turns g.B.S.Space g.W.Wire g.B.Storage.holds g.B.Storage.reopens g.B.Storage.own g.B.Storage.layout _ _ _ c.args.space.now _ _ _ _ _ _ _ (whole_turn g.B.S.Space g.W.Wire g.B.Storage.own g.B.Storage.layout g.met.B.Storage.no_logs.1 g.B.Storage.holds (Laid g.B.Storage.own g.B.Storage.layout (frame_of g.B.Storage.layout (g.B.S.Space.now c.args.space.now)) g.B.Storage.reopens) _ _ _ c.args.space.now _ _ _ _ _ _ (state c.args.server.now) _ c.dial.new.peers.items c.in_ok-dial.ensures.told
-    (subst (λ d. Rest g.B.S.Space g.W.Wire g.B.Storage.own g.B.Storage.layout g.met.B.Storage.no_logs.1 g.B.Storage.holds (Laid g.B.Storage.own g.B.Storage.layout (frame_of g.B.Storage.layout (g.B.S.Space.now c.args.space.now)) g.B.Storage.reopens) (Ok c.outcome.result) c.args.server.now.base c.keep_round.new.base c.args.space.now c.finish.new.space c.dial.new.wire c.finish.new.wire (g.K.Clock.answers c.args.clock.now) (g.K.Clock.answers c.keep_round.new.clock) c.args.server.now.logged c.args.server.now.walk c.dial.new.peers.items (record { logged = c.keep_round.new.logged; due = d; walk = c.round.new.walk; peers = c.finish.new.peers.items })) (sym c.is_quiet-server.ensures) (subst (λ o. Rest g.B.S.Space g.W.Wire g.B.Storage.own g.B.Storage.layout g.met.B.Storage.no_logs.1 g.B.Storage.holds (Laid g.B.Storage.own g.B.Storage.layout (frame_of g.B.Storage.layout (g.B.S.Space.now c.args.space.now)) g.B.Storage.reopens) (Ok o) c.args.server.now.base c.keep_round.new.base c.args.space.now c.finish.new.space c.dial.new.wire c.finish.new.wire (g.K.Clock.answers c.args.clock.now) (g.K.Clock.answers c.keep_round.new.clock) c.args.server.now.logged c.args.server.now.walk c.dial.new.peers.items (record { logged = c.keep_round.new.logged; due = is_quiet c.in_ok-ev.ev; walk = c.round.new.walk; peers = c.finish.new.peers.items })) (sym c.outcome.ensures) (went_ends g.B.S.Space g.W.Wire g.B.Storage.own g.B.Storage.layout g.met.B.Storage.no_logs.1 g.B.Storage.holds (Laid g.B.Storage.own g.B.Storage.layout (frame_of g.B.Storage.layout (g.B.S.Space.now c.args.space.now)) g.B.Storage.reopens) _ c.round.new.base c.keep_round.new.base c.args.space.now c.round.new.space c.keep_round.new.space c.copy_kept.new.space c.finish.new.space _ c.listen.new.wire c.finish.new.wire _ _ _ c.keep_round.new.logged _ c.round.new.walk _ c.listen.new.peers.items c.round.new.peers.items c.join_kept.new.peers.items c.finish.new.peers.items c.in_ok-ev.ev (work c.round.new.batch) c.round.new.batch.gap refl (record { sound = c.finish.ensures.told.reads.is_sound; only = λ o t l. g.met.B.S.Space.only_kept c.finish.new.space o t c.finish.ensures.told.reads.is_sound l; clean = λ t. g.met.B.S.Space.clean c.finish.new.space t c.finish.ensures.told.reads.is_sound (c.finish.ensures.told.reads.untouched ∙ c.copy_kept.ensures.only.touched ∙ c.in_ok-keep_round.ensures.keeps.kept.untouched) }) (record {
+returns-clause-laid g c = λ l. laid_turns g.B.S.Space g.W.Wire g.B.Storage.holds g.B.Storage.reopens g.B.Storage.own g.B.Storage.layout g.B.Storage.fills_since _ _ _ c.args.space.now _ _ _ _ _ _ _ (whole_turn g.B.S.Space g.W.Wire g.B.Storage.own g.B.Storage.layout g.met.B.Storage.no_logs.1 g.B.Storage.holds (Laid g.B.Storage.own g.B.Storage.layout (frame_of g.B.Storage.layout (g.B.S.Space.now c.args.space.now)) g.B.Storage.reopens) g.B.Storage.fills_since _ _ _ c.args.space.now _ _ _ _ _ _ (state c.args.server.now) _ c.dial.new.peers.items c.in_ok-dial.ensures.told
+    (subst (λ d. Rest g.B.S.Space g.W.Wire g.B.Storage.own g.B.Storage.layout g.met.B.Storage.no_logs.1 g.B.Storage.holds (Laid g.B.Storage.own g.B.Storage.layout (frame_of g.B.Storage.layout (g.B.S.Space.now c.args.space.now)) g.B.Storage.reopens) g.B.Storage.fills_since (Ok c.outcome.result) c.args.server.now.base c.keep_round.new.base c.args.space.now c.finish.new.space c.dial.new.wire c.finish.new.wire (g.K.Clock.answers c.args.clock.now) (g.K.Clock.answers c.keep_round.new.clock) c.args.server.now.logged c.args.server.now.walk c.dial.new.peers.items (record { logged = c.keep_round.new.logged; due = d; walk = c.round.new.walk; peers = c.finish.new.peers.items })) (sym c.is_quiet-server.ensures) (subst (λ o. Rest g.B.S.Space g.W.Wire g.B.Storage.own g.B.Storage.layout g.met.B.Storage.no_logs.1 g.B.Storage.holds (Laid g.B.Storage.own g.B.Storage.layout (frame_of g.B.Storage.layout (g.B.S.Space.now c.args.space.now)) g.B.Storage.reopens) g.B.Storage.fills_since (Ok o) c.args.server.now.base c.keep_round.new.base c.args.space.now c.finish.new.space c.dial.new.wire c.finish.new.wire (g.K.Clock.answers c.args.clock.now) (g.K.Clock.answers c.keep_round.new.clock) c.args.server.now.logged c.args.server.now.walk c.dial.new.peers.items (record { logged = c.keep_round.new.logged; due = is_quiet c.in_ok-ev.ev; walk = c.round.new.walk; peers = c.finish.new.peers.items })) (sym c.outcome.ensures) (went_ends g.B.S.Space g.W.Wire g.B.Storage.own g.B.Storage.layout g.met.B.Storage.no_logs.1 g.B.Storage.holds (Laid g.B.Storage.own g.B.Storage.layout (frame_of g.B.Storage.layout (g.B.S.Space.now c.args.space.now)) g.B.Storage.reopens) g.B.Storage.fills_since _ c.round.new.base c.keep_round.new.base c.args.space.now c.round.new.space c.keep_round.new.space c.copy_kept.new.space c.finish.new.space _ c.listen.new.wire c.finish.new.wire _ _ _ c.keep_round.new.logged _ c.round.new.walk _ c.listen.new.peers.items c.round.new.peers.items c.join_kept.new.peers.items c.finish.new.peers.items c.in_ok-ev.ev (work c.round.new.batch) c.round.new.batch.gap refl (record { sound = c.finish.ensures.told.reads.is_sound; only = λ o t l. g.met.B.S.Space.only_kept c.finish.new.space o t c.finish.ensures.told.reads.is_sound l; clean = λ t. g.met.B.S.Space.clean c.finish.new.space t c.finish.ensures.told.reads.is_sound (c.finish.ensures.told.reads.untouched ∙ c.copy_kept.ensures.only.touched ∙ c.in_ok-keep_round.ensures.keeps.kept.untouched) }) (record {
       steps = record {
         hears = c.in_ok-ev.ensures.ok;
         rounds = c.in_ok-round.ensures.rounds;
@@ -184,13 +183,6 @@ returns-clause-ready g c = ready_again g.B.S.Space g.W.Wire g.B.Storage.own g.B.
       opened = c.finish.ensures.opened;
       wired = c.in_ok-finish.ensures.wired;
     })
-
-pub returns-in_err-round-clause-full : goal.returns-in_err-round-clause-full
-returns-in_err-round-clause-full g c = λ is. full_round g.B.S.Space g.W.Wire g.B.Storage.own g.B.Storage.layout g.met.B.Storage.no_logs.1 g.B.Storage.holds g.B.Storage.reopens (g.B.Storage.fills_since c.args.space.now c.round.new.space) (Lacks g.B.S.Space c.round.new.space) _ c.args.space.now _ c.dial.new.wire c.listen.new.wire _ (state c.args.server.now) c.dial.new.peers.items c.listen.new.peers.items c.in_ok-ev.ev c.in_ok-dial.ensures.told c.in_ok-ev.ensures.ok (c.in_err-round.ensures.full (search (rules, is)))
-
-pub returns-in_err-keep_round-clause-full : goal.returns-in_err-keep_round-clause-full
-returns-in_err-keep_round-clause-full g c = λ is. full_keep g.B.S.Space g.W.Wire g.B.Storage.own g.B.Storage.layout g.met.B.Storage.no_logs.1 g.B.Storage.holds g.B.Storage.reopens (g.B.Storage.fills_since c.args.space.now c.keep_round.new.space) _ c.round.new.base c.keep_round.new.base c.args.space.now c.round.new.space c.keep_round.new.space _ c.dial.new.wire c.listen.new.wire _ _ (state c.args.server.now) c.keep_round.new.logged c.round.new.walk c.dial.new.peers.items c.listen.new.peers.items c.round.new.peers.items c.in_ok-ev.ev (work c.round.new.batch) c.keep_round.result c.in_ok-dial.ensures.told c.in_ok-ev.ensures.ok c.in_ok-round.ensures.rounds c.keep_round.ensures.keeps (search (rules, is))
-    (λ t full d e. g.met.B.Storage.fills_then c.args.server.now.base c.args.space.now c.keep_round.new.space d e (g.met.B.Storage.log_fills c.args.server.now.base c.args.space.now c.keep_round.new.space d e full))
 
 pub returns-clause-same : goal.returns-clause-same
 returns-clause-same g c = c.in_ok-keep_round.ensures.same
