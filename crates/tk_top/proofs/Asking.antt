@@ -40,8 +40,8 @@ module _ {V W O : Type 0} (v : volume.Ghosts V) (g : wire.Ghosts W) (o : sink.Gh
   file_none : (name : List ℕ) (stored : Stored) (limit : ℕ) (at : At) (turns : ℕ) (vol : V) (x : W) → FileRun v g NoMemory name stored limit at turns vol vol x x
   file_none name stored limit at turns vol x = record {
     names = record { told = (ends_unnamed v name vol).names.told };
-    told = files_unopened g plainly (kind_in stored) (reopens_of stored) NoMemory turns at x (ends_unnamed v name vol);
-    laid = λ l. files_unopened g plainly (kind_in stored) (Laid (own_of stored) (layout_of stored) l (reopens_of stored)) NoMemory turns at x (ends_unnamed v name vol);
+    told = files_unopened g plainly (kind_in stored) (reopens_of stored) NoMemory turns at x refl (ends_unnamed v name vol);
+    laid = λ l. files_unopened g plainly (kind_in stored) (Laid (own_of stored) (layout_of stored) l (reopens_of stored)) NoMemory turns at x refl (ends_unnamed v name vol);
     judged = tt;
     guards = record { begun = inl refl; copied = inl (λ t. refl); spared = spares_unnamed (ends_unnamed v name vol) (IsDamaged (Opens stored)); within = λ out. absurd (⊎_elim (λ is. cc) (λ is. cc) out) };
     full = λ e. absurd cc;
@@ -116,6 +116,15 @@ module _ {V W O : Type 0} (v : volume.Ghosts V) (g : wire.Ghosts W) (o : sink.Gh
   not_words (asked.Create name shape) end gaps vol vol' x y p q c d run is = subst (λ (e : End). JudgedMaking e (v.tells → MainIsEmpty (v.calls vol)) (λ file rule. v.tells → BreaksAt (breaks_new_of shape) (v.calls vol) (v.calls vol') file rule) (v.tells → MainIsThere (v.calls vol) (v.calls vol'))) is run.0.judged
   not_words (asked.Drill memory seed n) end gaps vol vol' x y p q c d run is = subst IsDrilled is run.0.ends
 
+  -- and a fault has its cause
+  caused_run : (a : Asked) (end : End) (gaps : List (ℕ × ℕ)) (vol vol' : V) (x y : W) (p q : O) (c d : Option (List ℕ)) → AskedRun v g o end a gaps vol vol' x y p q c d → CausedBy v.faults g.faults o.faults end vol vol' x y p q
+  caused_run (asked.Serve (source.Memory memory) at turns) end gaps vol vol' x y p q c d run = inl (run.0.0.caused (v.faults vol) (v.faults vol'))
+  caused_run (asked.Serve (source.File name stored limit) at turns) end gaps vol vol' x y p q c d run = inl run.0.0.caused
+  caused_run (asked.Serve (source.Logged name stored limit own master) at turns) end gaps vol vol' x y p q c d run = inl run.0.caused
+  caused_run (asked.Task name stored task) end gaps vol vol' x y p q c d run = inr run.0.caused
+  caused_run (asked.Create name shape) end gaps vol vol' x y p q c d run = inl (run.0.caused (g.faults x) (g.faults y))
+  caused_run (asked.Drill memory seed n) end gaps vol vol' x y p q c d run = inr (run.0.caused (v.faults vol) (v.faults vol'))
+
   some_asked : (a b : Asked) → Some a ≡ Some b → a ≡ b
   some_asked a b e = cc
 
@@ -125,11 +134,11 @@ module _ {V W O : Type 0} (v : volume.Ghosts V) (g : wire.Ghosts W) (o : sink.Gh
   pub asked_none : (want : Option Asked) (vol : V) (x : W) (p : O) (c : Option (List ℕ)) → want ≡ None → RunsAsked v g o want [] Words vol vol x x p p c c
   asked_none want vol x p c is = record { served = λ a some. absurd (let f = sym is ∙ some in cc); words = λ e. is; refused = λ n. inl refl; unserved = λ n. (refl, (refl, (refl, refl))); caused = inl tt }
 
-  pub asked_some : (want : Option Asked) (gaps : List (ℕ × ℕ)) (end : End) (a : Asked) (vol vol' : V) (x y : W) (p q : O) (c d : Option (List ℕ)) → want ≡ Some a → AskedRun v g o end a gaps vol vol' x y p q c d → CausedBy v.faults g.faults o.faults end vol vol' x y p q → RunsAsked v g o want gaps end vol vol' x y p q c d
-  asked_some want gaps end a vol vol' x y p q c d is run caused = record {
+  pub asked_some : (want : Option Asked) (gaps : List (ℕ × ℕ)) (end : End) (a : Asked) (vol vol' : V) (x y : W) (p q : O) (c d : Option (List ℕ)) → want ≡ Some a → AskedRun v g o end a gaps vol vol' x y p q c d → RunsAsked v g o want gaps end vol vol' x y p q c d
+  asked_some want gaps end a vol vol' x y p q c d is run = record {
     served = λ b some. subst (λ (e : Asked). AskedRun v g o end e gaps vol vol' x y p q c d) (some_asked a b (sym is ∙ some)) run;
     words = λ e. absurd (not_words a end gaps vol vol' x y p q c d run e);
     refused = λ n. absurd (let f = sym is ∙ n in cc);
     unserved = λ n. absurd (let f = sym is ∙ n in cc);
-    caused = caused;
+    caused = caused_run a end gaps vol vol' x y p q c d run;
   }

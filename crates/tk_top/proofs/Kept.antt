@@ -20,6 +20,7 @@ use Rattle.ty_base.specs.declared.errors.AnyErr.{AnyErr}
 use Rattle.ty_base.specs.declared.errors.AnyErr.TheVariants as any
 use Rattle.ty_base.specs.Holding.{Stays}
 use Rattle.ty_base.specs.Opening.{Breaks, IsOpened}
+use Rattle.ty_ulog.specs.Log.{IsLog, records_in}
 use Rattle.ty_rounds.specs.Kept.{HoldsMark, StandFor, Reopens, MovesTo, LeavesMarks, IsIn}
 use Rattle.ty_rounds.specs.Logging.{LacksRoom}
 use Rattle.ty_rounds.specs.Serving.{FillsIn, FillsPart}
@@ -32,12 +33,13 @@ use Rattle.tk_top.specs.Ends.{end_of}
 use Rattle.tk_top.specs.Over.{Judged}
 use Rattle.tk_top.specs.Runs.{FullRun}
 use Rattle.tk_top.specs.Serving.{Begins, RunsOver}
-use Rattle.tk_top.specs.Starts.{Start, answering, begun}
+use Rattle.tk_top.specs.Starts.{Start, answering, begun, with_log}
 use Rattle.tk_top.specs.Staying.{IsStill}
 use Rattle.tk_top.proofs.CopyLaws.{copies_none, copies_stay}
 use Rattle.tk_top.proofs.Events.{had_none}
 use Rattle.tk_top.proofs.Fresh.{Earlier, Fresh}
 use Rattle.tk_top.proofs.Over.{not_played, unserved}
+use Rattle.tk_top.proofs.Logs.{is_stays, with_logged}
 use Rattle.tk_top.proofs.Running.{fills_wider}
 
 some_files : (a b : Files) → Some a ≡ Some b → a ≡ b
@@ -62,15 +64,6 @@ all_keep (e ∷ es) w c h = all_keep es (happens w e) c (happens_keeps e w c h)
 
 pub first_in : (st : Start) (es : List Entry) (first : Mark) → IsIn first (world_after es (begun st [] first)).marks
 first_in st es first = all_keep es (begun st [] first) first (inl refl)
-
--- what the words say stays
-is_stays : (es : List Entry) (w : World) → (world_after es w).is ≡ w.is
-is_stays [] w = refl
-is_stays (Open at ∷ es) w = is_stays es (happens w (Open at))
-is_stays (Dial host port answer ∷ es) w = is_stays es (happens w (Dial host port answer))
-is_stays (Event paused busy ev bytes ∷ es) w = is_stays es (happens w (Event paused busy ev bytes))
-is_stays (Send k bytes answer ∷ es) w = is_stays es (happens w (Send k bytes answer))
-is_stays (Close k ∷ es) w = is_stays es (happens w (Close k))
 
 -- ---- opening
 
@@ -109,6 +102,15 @@ ended_not any.Full = (λ i. absurd cc, λ i. absurd cc)
 ended_not any.Fault = (λ i. absurd cc, λ i. absurd cc)
 ended_not any.Memory = (λ i. absurd cc, λ i. absurd cc)
 
+module _ {S : Type 0} (s : space.Ghosts S) (reopens : Files → Contents → Type 0) where
+  pub marks_then : (s0 s1 s2 : S) (ms : List Mark) → LeavesMarks s reopens s0 s1 ms → LeavesMarks s reopens s1 s2 ms → LeavesMarks s reopens s0 s2 ms
+  marks_then s0 s1 s2 ms one two = record {
+    leaves = record {
+      later = omega (arith, one.leaves.later, two.leaves.later);
+      each = λ t o le l. ⊎_elim (λ mid. one.leaves.each t o le mid) (λ m. inr m) (two.leaves.each t o (omega (arith, le, one.leaves.later)) l);
+    };
+  }
+
 module _ {S : Type 0} (s : space.Ghosts S) (reopens opens : Files → Contents → Type 0) (stand : (files : Files) (c : Contents) → opens files c → reopens files c) where
   pub kept_stands : (a : S) (first : Mark) → Fresh s a → Begins s opens a first → Reopens reopens (s.kept a) first
   kept_stands a first fresh h = record { files = s.now a; is = (fresh h.0).1; stand = record { contents = stand (s.now a) first.contents h.1.contents; log = h.1.log } }
@@ -119,21 +121,17 @@ module _ {S : Type 0} (s : space.Ghosts S) (reopens opens : Files → Contents �
       let k = kept_stands a first fresh h in
       ⊎_elim (λ was. moved k ((fresh h.0).0 o was)) (λ p. ⊎_elim (λ is. moved k is) (λ r. r) p) (moves.leaves.each (s.moment a) o (omega arith) (earlier (s.moment a) (s.moment b) o moves.leaves.later l))
 
-  pub opening_marks : (s0 s1 : S) (first : Mark) (ms : List Mark) → IsIn first ms → Reopens reopens (s.kept s0) first → MovesTo s reopens s0 s1 first → LeavesMarks s reopens s0 s1 ms
-  opening_marks s0 s1 first ms held k moves = record {
+  pub opening_logged : (logs : Bool) (s0 s1 : S) (first : Mark) (ms : List Mark) → IsIn first ms → (logs ≡ true → IsLog first.log (records_in first.log)) → Reopens reopens (s.kept s0) first → MovesTo s reopens s0 s1 first → LeavesMarks s (with_log logs reopens) s0 s1 ms
+  opening_logged logs s0 s1 first ms held log k moves = record {
     leaves = record {
       later = moves.leaves.later;
-      each = λ t o le l. ⊎_elim (λ was. inl was) (λ p. inr (record { mark = first; listed = held; reopen = ⊎_elim (λ is. moved k is) (λ r. r) p })) (moves.leaves.each t o le l);
+      each = λ t o le l. ⊎_elim (λ was. inl was) (λ p. inr (record { mark = first; listed = held; reopen = with_logged reopens logs o first log (⊎_elim (λ is. moved k is) (λ r. r) p) })) (moves.leaves.each t o le l);
     };
   }
 
-  pub marks_then : (s0 s1 s2 : S) (ms : List Mark) → LeavesMarks s reopens s0 s1 ms → LeavesMarks s reopens s1 s2 ms → LeavesMarks s reopens s0 s2 ms
-  marks_then s0 s1 s2 ms one two = record {
-    leaves = record {
-      later = omega (arith, one.leaves.later, two.leaves.later);
-      each = λ t o le l. ⊎_elim (λ mid. one.leaves.each t o le mid) (λ m. inr m) (two.leaves.each t o (omega (arith, le, one.leaves.later)) l);
-    };
-  }
+  -- with no update log
+  pub opening_marks : (s0 s1 : S) (first : Mark) (ms : List Mark) → IsIn first ms → Reopens reopens (s.kept s0) first → MovesTo s reopens s0 s1 first → LeavesMarks s reopens s0 s1 ms
+  opening_marks s0 s1 first ms held k moves = opening_logged false s0 s1 first ms held (λ on. absurd (let e : false ≡ true = on in cc)) k moves
 
 -- a main file that was empty was made anew, and others stay
 pub still_opened : (made : Files → Type 0) (old new : Files) → ((old 0 ≡ [] → ⊥) → (f : ℕ) → new f ≡ old f) → (old 0 ≡ [] → made new) → IsStill made old (Some new)
@@ -152,18 +150,18 @@ still_then made old mid o opened run = subst (λ (p : Option Files). IsStill mad
 
 module _ {S W : Type 0} (s : space.Ghosts S) (g : wire.Ghosts W) (reopens opens : Files → Contents → Type 0) (made : Files → Type 0) (stand : (files : Files) (c : Contents) → opens files c → reopens files c) where
   -- it was refused
-  unfoldable pub over_refused : (st : Start) (e : AnyErr) (turns : ℕ) (at : At) (s0 s1 : S) (x : W) → Fresh s s0 → Earlier s s1 → s.names s1 ≡ s.names s0 → ((m : Mark) → Begins s opens s0 m → MovesTo s reopens s0 s1 m) → RunsOver s g st reopens made (end_of e) turns at s0 s1 x x (Begins s opens s0)
+  unfoldable pub over_refused : (st : Start) (start : Mark → Type 0) (e : AnyErr) (turns : ℕ) (at : At) (s0 s1 : S) (x : W) → Fresh s s0 → Earlier s s1 → s.names s1 ≡ s.names s0 → ((m : Mark) → Begins s opens s0 m → MovesTo s reopens s0 s1 m) → ((m : Mark) → start m → Begins s opens s0 m) → ((m : Mark) → start m → st.is.logs ≡ true → IsLog m.log (records_in m.log)) → RunsOver s g st reopens made (end_of e) turns at s0 s1 x x start
   unfolding unserved
-  over_refused st e turns at s0 s1 x fresh earlier names moves = record {
+  over_refused st start e turns at s0 s1 x fresh earlier names moves begins logs = record {
     entries = [];
     told = Adds-none (g.transcript x);
     opened = inl refl;
     events = had_none (end_of e) turns (ended_not e).0 (ended_not e).1;
-    ends = λ first h. record {
+    ends = λ first h0. let h = begins first h0 in record {
       asked = tt;
       serves = unserved st (end_of e) turns at [] first [] refl (inr refl) (ended_not e).0 (ended_not e).1;
-      exit = λ o l. inl (still_first s reopens opens stand s0 s1 first fresh earlier h (moves first h) o l);
-      moments = opening_marks s reopens opens stand s0 s1 first (first ∷ []) (inl refl) (kept_stands s reopens opens stand s0 first fresh h) (moves first h);
+      exit = λ o l. inl (record { reopen = still_first s reopens opens stand s0 s1 first fresh earlier h (moves first h) o l; log = logs first h0 });
+      moments = opening_logged s reopens opens stand st.is.logs s0 s1 first (first ∷ []) (inl refl) (logs first h0) (kept_stands s reopens opens stand s0 first fresh h) (moves first h);
       late = λ some. absurd cc;
       copies = λ label tells. subst (λ (n : Named). CopyRun reopens label (StandsAt (end_of e) (begun st [] first) [] label) (first ∷ []) None ((s.names s0).copies label) (n.copies label)) (sym names)
           (copies_stay reopens label (StandsAt (end_of e) (begun st [] first) [] label) (begun st [] first) ((s.names s0).copies label) ((s.names s0).copies label) (copies_none reopens label (begun st [] first) ((s.names s0).copies label) refl));
@@ -175,9 +173,9 @@ module _ {S W : Type 0} (s : space.Ghosts S) (g : wire.Ghosts W) (reopens opens 
   }
 
   -- it wasn't
-  unfoldable pub over_opened : (st : Start) (start : Mark → Type 0) (end : End) (turns : ℕ) (at : At) (s0 s1 s2 : S) (x y : W) → Fresh s s0 → s.names s1 ≡ s.names s0 → ((m : Mark) → Begins s opens s0 m → MovesTo s reopens s0 s1 m) → ((m : Mark) → Begins s opens s0 m → start m) → (s.tells → IsStill made (s.now s0) (Some (s.now s1)))
+  unfoldable pub over_opened : (st : Start) (start : Mark → Type 0) (end : End) (turns : ℕ) (at : At) (s0 s1 s2 : S) (x y : W) → Fresh s s0 → s.names s1 ≡ s.names s0 → ((m : Mark) → Begins s opens s0 m → MovesTo s reopens s0 s1 m) → ((m : Mark) → Begins s opens s0 m → start m) → ((m : Mark) → start m → st.is.logs ≡ true → IsLog m.log (records_in m.log)) → (s.tells → IsStill made (s.now s0) (Some (s.now s1)))
       → RunsOver s g st reopens (λ files. ⊥) end turns at s1 s2 x y start → RunsOver s g st reopens made end turns at s0 s2 x y (Begins s opens s0)
-  over_opened st start end turns at s0 s1 s2 x y fresh names moves begins still run = record {
+  over_opened st start end turns at s0 s1 s2 x y fresh names moves begins logs still run = record {
     entries = run.entries;
     told = run.told;
     opened = run.opened;
@@ -190,7 +188,7 @@ module _ {S W : Type 0} (s : space.Ghosts S) (g : wire.Ghosts W) (reopens opens 
           asked = r.asked;
           serves = r.serves;
           exit = r.exit;
-          moments = marks_then s reopens opens stand s0 s1 s2 _ (opening_marks s reopens opens stand s0 s1 first _ (first_in st run.entries first) k (moves first h)) r.moments;
+          moments = marks_then s (with_log st.is.logs reopens) s0 s1 s2 _ (opening_logged s reopens opens stand st.is.logs s0 s1 first _ (first_in st run.entries first) (logs first (begins first h)) k (moves first h)) r.moments;
           late = r.late;
           copies = λ label tells. subst (λ (n : Named). CopyRun reopens label (StandsAt end (world_after r.serves.last.earlier (begun st [] first)) r.serves.last.last label) v.marks (copied_at label v.copies) (n.copies label) ((s.names s2).copies label)) names (r.copies label tells);
           idle = λ some kept o l. still_then made (s.now s0) (s.now s1) o (still h.0) (r.idle some kept o l);
@@ -200,30 +198,26 @@ module _ {S W : Type 0} (s : space.Ghosts S) (g : wire.Ghosts W) (reopens opens 
     plays = λ first h acts dials given p. run.plays first (begins first h) acts dials given p;
   }
 
-pub full_opened : (fills wide : Contents → Contents → Type 0) (lacks : ℕ → ℕ → Type 0) (is : Settings) (start begun' : Mark → Type 0) (a b : Told) (c d : Option (List ℕ)) → ((m : Mark) → start m → begun' m) → ((m : Mark) → start m → (i j : Contents) → fills i j → wide i j) → FullRun fills lacks is begun' [] a b c d → FullRun wide lacks is start [] a b c d
-full_opened fills wide lacks is start begun' a b c d begins wider x = record {
+pub full_opened : (fills wide : Contents → Contents → Type 0) (lacks : ℕ → ℕ → Type 0) (is : Settings) (start begun' : Mark → Type 0) (ticks : List ℕ) (a b : Told) → ((m : Mark) → start m → begun' m) → ((m : Mark) → start m → (i j : Contents) → fills i j → wide i j) → FullRun fills lacks is begun' [] ticks a b → FullRun wide lacks is start [] ticks a b
+full_opened fills wide lacks is start begun' ticks a b begins wider x = record {
   earlier = x.earlier;
   paused = x.paused;
   busy = x.busy;
   ev = x.ev;
   bytes = x.bytes;
   told = x.told;
-  ticks = x.ticks;
-  clocked = x.clocked;
-  some = λ first h later. fills_wider fills wide lacks (world_after x.earlier (begun (answering is x.ticks later) [] first)) x.ev x.bytes (wider first h) (x.some first (begins first h) later);
+  some = λ first h later. fills_wider fills wide lacks (world_after x.earlier (begun (answering is ticks later) [] first)) x.ev x.bytes (wider first h) (x.some first (begins first h) later);
 }
 
 -- where the update log has no room in one sense, it has none in another
-pub full_lacks : (fills : Contents → Contents → Type 0) (lacks wide : ℕ → ℕ → Type 0) (is : Settings) (start : Mark → Type 0) (opens : List At) (a b : Told) (c d : Option (List ℕ)) → ((at size : ℕ) → lacks at size → wide at size) → FullRun fills lacks is start opens a b c d → FullRun fills wide is start opens a b c d
-full_lacks fills lacks wide is start opens a b c d wider x = record {
+pub full_lacks : (fills : Contents → Contents → Type 0) (lacks wide : ℕ → ℕ → Type 0) (is : Settings) (start : Mark → Type 0) (opens : List At) (ticks : List ℕ) (a b : Told) → ((at size : ℕ) → lacks at size → wide at size) → FullRun fills lacks is start opens ticks a b → FullRun fills wide is start opens ticks a b
+full_lacks fills lacks wide is start opens ticks a b wider x = record {
   earlier = x.earlier;
   paused = x.paused;
   busy = x.busy;
   ev = x.ev;
   bytes = x.bytes;
   told = x.told;
-  ticks = x.ticks;
-  clocked = x.clocked;
   some = λ first h later. ⊎_elim
       (λ part. inl part)
       (λ lack. inr (record { front = lack.front; next = lack.next; behind = lack.behind; parts = lack.parts; full = ⊎_elim (λ late. inl late) (λ l. inr (wider _ _ l)) lack.full }))
@@ -243,17 +237,15 @@ part_alone fills lacks es w0 ev bytes alone x =
     let none : added w d ≡ [] = ap (λ (is : Settings). news is w.records w.ticks d.round.made.updates d.looked.dealt_is.taken) (is_stays es w0 ∙ alone) in
     ⊎_elim (λ part. part) (λ (lack : LacksRoom lacks (length w.log) (added w d)). absurd (no_news lack.front lack.next lack.behind (sym none ∙ lack.parts))) x
 
-pub full_plain : (fills : Contents → Contents → Type 0) (lacks : ℕ → ℕ → Type 0) (start begun' : Mark → Type 0) (opens : List At) (a b : Told) (c d : Option (List ℕ)) → ((m : Mark) → start m → begun' m) → FullRun fills lacks plain begun' opens a b c d → FullRun fills (λ at size. ⊥) plain start opens a b None None
-full_plain fills lacks start begun' opens a b c d begins x = record {
+pub full_plain : (fills : Contents → Contents → Type 0) (lacks : ℕ → ℕ → Type 0) (start begun' : Mark → Type 0) (opens : List At) (a b : Told) → ((m : Mark) → start m → begun' m) → FullRun fills lacks plain begun' opens [] a b → FullRun fills (λ at size. ⊥) plain start opens [] a b
+full_plain fills lacks start begun' opens a b begins x = record {
   earlier = x.earlier;
   paused = x.paused;
   busy = x.busy;
   ev = x.ev;
   bytes = x.bytes;
   told = x.told;
-  ticks = x.ticks;
-  clocked = refl;
-  some = λ first h later. inl (part_alone fills lacks x.earlier (begun (answering plain x.ticks later) opens first) x.ev x.bytes refl (x.some first (begins first h) later));
+  some = λ first h later. inl (part_alone fills lacks x.earlier (begun (answering plain [] later) opens first) x.ev x.bytes refl (x.some first (begins first h) later));
 }
 
 -- ---- ends

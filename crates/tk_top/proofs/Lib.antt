@@ -7,6 +7,7 @@ pub mod Kept
 pub mod Laying
 pub mod Limits
 pub mod LoggedRuns
+pub mod Logs
 pub mod Made
 pub mod Managed
 pub mod Memory
@@ -19,3 +20,4 @@ pub mod Starting
 pub mod Staying
 pub mod Stopping
 pub mod Stops
+pub mod Worked

@@ -1,6 +1,5 @@
 -- A limit that was reached, by the kind of the files.
 use Rattle.std.proofs.Common.{◌≡◌, ◌^◌, ◌⊎◌, inl, inr, ⊎_elim, ℕ, List, [], length, refl, subst}
-use Rattle.std.specs.Prelude.{Option, None}
 use Rattle.tc_base.specs.Files.{Files}
 use Rattle.tc_base.specs.Maps.{Map}
 use Rattle.tc_io.specs.Images.{now}
@@ -77,13 +76,13 @@ task_shown log full fills large task c wide x = record { step = x.step; within =
 
 -- a limit that was reached over a space, in its own files
 module _ {S : Type 0} (s : space.Ghosts S) where
-  abbrev FillsTold : Stored → S → Contents → Contents → Type 0
+  abbrev pub FillsTold : Stored → S → Contents → Contents → Type 0
   FillsTold stored x = fills_of stored (s.limit x) (s.log_full x) (s.brought x) (s.now x)
 
-  abbrev LacksLargeTold : Stored → S → S → Contents → Type 0
+  abbrev pub LacksLargeTold : Stored → S → S → Contents → Type 0
   LacksLargeTold stored z x = lacks_large_of stored (s.limit x) (λ f. length (s.now x f)) (s.brought x) (s.now z)
 
-  abbrev LacksTold : Shape → S → Type 0
+  abbrev pub LacksTold : Shape → S → Type 0
   LacksTold shape x = lacks_of shape (s.limit x 0) (s.log_full x) (s.brought x) (s.now x 0)
 
 module _ {S V : Type 0} (v : volume.Ghosts V) (s : space.Ghosts S) (under : S → V) (log_is : (x : S) → s.log_full x → LogIsFull v (under x)) where
@@ -110,18 +109,18 @@ module _ {S V : Type 0} (v : volume.Ghosts V) (s : space.Ghosts S) (under : S �
     is_full a b x =
         let start = BeginsAt v.tells (Opens stored) (v.calls vol) in
         is_full_as (λ z x. FullPlain (FillsTold s stored x) start a b) (λ limits z. FullPlain (FillsAt v stored limits z) start a b)
-        (λ z x shows full. full_opened (FillsTold s stored x) (FillsAt v stored (s.limit x) (under x)) (λ at size. ⊥) plain start start a b None None (λ m h. h) (λ m h c d fills. fills_under stored x shows c d fills) full) x
+        (λ z x shows full. full_opened (FillsTold s stored x) (FillsAt v stored (s.limit x) (under x)) (λ at size. ⊥) plain start start [] a b (λ m h. h) (λ m h c d fills. fills_under stored x shows c d fills) full) x
 
     -- with an update log
-    pub is_full_logged : (is : Settings) (a b : Told) (c d : Option (List ℕ)) {most : ℕ} → FilesFull s under v.calls v.tells (λ x. LacksTold s (usual_of stored) x) (λ z x. FullRun (FillsTold s stored x) (Lacks s x) is (BeginsAt v.tells (opens_logged (Opens stored)) (v.calls vol)) [] a b c d × CanStand v (opens_logged (Opens stored)) vol) most (v.calls vol) w
-        → IsFull v stored most vol w (λ limits. FullRun (FillsAt v stored limits w) (LacksLog v limits w) is (BeginsAt v.tells (opens_logged (Opens stored)) (v.calls vol)) [] a b c d × CanStand v (opens_logged (Opens stored)) vol)
-    is_full_logged is a b c d x =
+    pub is_full_logged : (is : Settings) (ticks : List ℕ) (a b : Told) {most : ℕ} → FilesFull s under v.calls v.tells (λ x. LacksTold s (usual_of stored) x) (λ z x. FullRun (FillsTold s stored x) (Lacks s x) is (BeginsAt v.tells (opens_logged (Opens stored)) (v.calls vol)) [] ticks a b × CanStand v (opens_logged (Opens stored)) vol) most (v.calls vol) w
+        → IsFull v stored most vol w (λ limits. FullRun (FillsAt v stored limits w) (LacksLog v limits w) is (BeginsAt v.tells (opens_logged (Opens stored)) (v.calls vol)) [] ticks a b × CanStand v (opens_logged (Opens stored)) vol)
+    is_full_logged is ticks a b x =
         let start = BeginsAt v.tells (opens_logged (Opens stored)) (v.calls vol) in
         let stood = CanStand v (opens_logged (Opens stored)) vol in
-        is_full_as (λ z x. FullRun (FillsTold s stored x) (Lacks s x) is start [] a b c d × stood) (λ limits z. FullRun (FillsAt v stored limits z) (LacksLog v limits z) is start [] a b c d × stood)
+        is_full_as (λ z x. FullRun (FillsTold s stored x) (Lacks s x) is start [] ticks a b × stood) (λ limits z. FullRun (FillsAt v stored limits z) (LacksLog v limits z) is start [] ticks a b × stood)
         (λ z x shows full. (
-          full_lacks (FillsAt v stored (s.limit x) (under x)) (Lacks s x) (LacksLog v (s.limit x) (under x)) is start [] a b c d (λ at size lacks. ⊎_elim (λ passes. inl passes) (λ l. inr (log_is x l)) lacks)
-              (full_opened (FillsTold s stored x) (FillsAt v stored (s.limit x) (under x)) (Lacks s x) is start start a b c d (λ m h. h) (λ m h i j fills. fills_under stored x shows i j fills) full.0),
+          full_lacks (FillsAt v stored (s.limit x) (under x)) (Lacks s x) (LacksLog v (s.limit x) (under x)) is start [] ticks a b (λ at size lacks. ⊎_elim (λ passes. inl passes) (λ l. inr (log_is x l)) lacks)
+              (full_opened (FillsTold s stored x) (FillsAt v stored (s.limit x) (under x)) (Lacks s x) is start start ticks a b (λ m h. h) (λ m h i j fills. fills_under stored x shows i j fills) full.0),
           full.1,
         )) x
 

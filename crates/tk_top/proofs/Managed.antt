@@ -279,7 +279,7 @@ module _ {S O : Type 0} (s : space.Ghosts S) (g : sink.Ghosts O) (opens reopens 
               stay = λ is. subst (λ (c : Contents). Reopens reopens o (with_contents first c)) (failed_same task first.contents (sym (m.ok false (refused_is result is)))) (m.last (inl (subst IsThrough (sym (refused_is result is)) tt)) o l);
               packs = λ f pack done. packs first hm f pack (done_is result done) o l;
             };
-            moments = marks_then s reopens opens stand old mid new (marks_of task first) (opening_marks s reopens opens stand old mid first (marks_of task first) (first_marked task first) k (moves first h)) m.moments;
+            moments = marks_then s reopens old mid new (marks_of task first) (opening_marks s reopens opens stand old mid first (marks_of task first) (first_marked task first) k (moves first h)) m.moments;
           };
           looks = λ only o l. still_left s mid new o calm earlier h.0 ((reads only).steady h.0) l ∙ ap (λ (f : Files). Some f) (same h.0 (reads_there task only));
         };

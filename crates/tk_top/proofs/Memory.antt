@@ -69,7 +69,7 @@ none_part none is rs c w ks (at_commit some all) = none c c (all c c)
 
 pub none_filled : {fills : Contents → Contents → Type 0} {start : Mark → Type 0} {a b : Told} → ((c d : Contents) → fills c d → ⊥) → FullPlain fills start a b → (m : Mark) → start m → ⊥
 none_filled {fills} none x m h =
-    let w0 = begun (answering plain x.ticks []) [] m in
+    let w0 = begun (answering plain [] []) [] m in
     let w = world_after x.earlier w0 in
     none_part none w.is w.records w.contents w.walk (heard_by w x.ev x.bytes) (part_alone fills (λ at size. ⊥) x.earlier w0 x.ev x.bytes refl (x.some m h []))
 

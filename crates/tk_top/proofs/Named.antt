@@ -28,7 +28,7 @@ use Rattle.ty_world.specs.World.{Mark}
 use Rattle.ty_rounds.specs.Kept.{StandFor, Reopens}
 use Rattle.ty_rounds.proofs.Telling.{Adds-none}
 use Rattle.tk_top.specs.declared.ends.End.{End}
-use Rattle.tk_top.specs.declared.ends.End.TheVariants.{Done, VolumeFault, NoMemory, TurnsSpent}
+use Rattle.tk_top.specs.declared.ends.End.TheVariants.{Done, NoMemory, TurnsSpent}
 use Rattle.tk_top.specs.Ends.{end_of_undo}
 use Rattle.tk_top.specs.Naming.{EndsUnopened, LeavesOpening, NamesOnce, NamesTold, OpensNamed, OpensOver}
 use Rattle.tk_top.specs.Over.{BeginsAt, IsOver, MainIsBare, StandsFor, StaysWithin}

@@ -1,5 +1,5 @@
 -- A run over a space.
-use Rattle.std.proofs.Common.{◌≡◌, ◌⊎◌, ◌≢◌, ◌≤◌, inl, inr, ⊎_elim, ℕ, List, [], ◌∷◌, ◌++◌, length, refl, sym, ap, subst, ◌∙◌, arith, length-append}
+use Rattle.std.proofs.Common.{◌≡◌, ◌⊎◌, ◌≢◌, ◌≤◌, inl, inr, ⊎_elim, ℕ, true, List, [], ◌∷◌, ◌++◌, length, refl, sym, ap, subst, ◌∙◌, arith, length-append}
 use Rattle.std.specs.Prelude.{Option, Some, None}
 use Rattle.std.proofs.lemmas.List.{append-nil}
 use Rattle.tc_base.specs.Files.{Files}
@@ -13,13 +13,13 @@ use Rattle.tc_io.specs.declared.wire.Entry.{Entry}
 use Rattle.tc_io.specs.declared.wire.Entry.TheVariants.{Open, Event}
 use Rattle.tc_space.specs.declared.space.Space as space
 use Rattle.tc_model.specs.Contents.{Contents}
-use Rattle.ty_ulog.specs.Log.{records_in}
+use Rattle.ty_ulog.specs.Log.{IsLog, records_in}
 use Rattle.ty_world.specs.Clients.{Client}
 use Rattle.ty_world.specs.Logs.{Settings}
 use Rattle.ty_world.specs.World.{World, Mark, world_after, IsRested}
 use Rattle.ty_world.specs.Answers.{AllFine, EachAnswered}
 use Rattle.ty_world.specs.Playing.{unplayed_with}
-use Rattle.ty_world.proofs.Feeds.{all_fed}
+use Rattle.ty_world.proofs.Feeds.{all_fed, all_was_fed}
 use Rattle.ty_world.proofs.Linked.{all_played_by}
 use Rattle.ty_world.proofs.Order.{all_in_order}
 use Rattle.ty_world.proofs.Served.{EachDone, all_done, none_of}
@@ -33,7 +33,7 @@ use Rattle.tk_top.specs.declared.ends.End.TheVariants.{Done, WireFault, TurnsSpe
 use Rattle.tk_top.specs.CopyRuns.{StandsAt}
 use Rattle.tk_top.specs.Runs.{Ends, FullRun, RunEnds}
 use Rattle.tk_top.specs.Serving.{ServesAt, PlaysAll, RunsOver}
-use Rattle.tk_top.specs.Starts.{Start, StartsAs, begun, plainly, start_of}
+use Rattle.tk_top.specs.Starts.{Start, StartsAs, begun, plainly, start_of, with_log}
 use Rattle.tk_top.proofs.CopyLaws.{copies_none, copies_stay}
 use Rattle.tk_top.proofs.Events.{had_none}
 use Rattle.tk_top.proofs.Fresh.{Earlier, Fresh, still_left}
@@ -71,6 +71,7 @@ unserved st end turns at opens first es is which other last = record {
     within = inr (refl, subst (λ (w : World). w.events ≤ turns) is (omega arith));
   };
   fed = tt;
+  was_fed = tt;
   grown = record { more = []; records_are = sym (append-nil (records_in first.log)) };
   logged = λ e. absurd (⊎_elim other last e);
   spent = λ e. absurd (last e);
@@ -83,7 +84,7 @@ not_played is turns now end acts given v other last = record { enough = λ le. l
 -- ---- turns behind the opening
 
 -- what they leave of the world
-pub serves_of : {S : Type 0} (s : space.Ghosts S) (st : Start) (reopens : Files → Contents → Type 0) (end : End) (turns : ℕ) (gaps : List (ℕ × ℕ)) (at : At) (old new : S) (first : Mark) (es : List Entry) → RunEnds s st reopens end turns gaps old new (at ∷ []) first es (world_after es (begun st (at ∷ []) first))
+pub serves_of : {S : Type 0} (s : space.Ghosts S) (st : Start) (reopens : Files → Contents → Type 0) (end : End) (turns : ℕ) (gaps : List (ℕ × ℕ)) (at : At) (old new : S) (first : Mark) (es : List Entry) {later : List ℕ} → RunEnds s st later reopens end turns gaps old new (at ∷ []) first es (world_after es (begun st (at ∷ []) first))
     → ServesAt st end turns at first (Open at ∷ es) (world_after es (begun st (at ∷ []) first))
 serves_of s st reopens end turns gaps at old new first es e = record {
   replies = e.replies;
@@ -96,6 +97,7 @@ serves_of s st reopens end turns gaps at old new first es e = record {
   rested = e.rested;
   last = record { earlier = Open at ∷ e.last.earlier; last = e.last.last; parts = ap (λ (l : List Entry). Open at ∷ l) e.last.parts; rested = e.last.rested; calls = e.last.calls; marks = e.last.marks; within = e.last.within };
   fed = all_fed es st.is st.ticks (at ∷ []) first;
+  was_fed = all_was_fed es st.is st.ticks (at ∷ []) first;
   grown = record { more = e.grown.more; records_are = e.grown.records_are };
   logged = e.logged;
   spent = e.spent;
@@ -116,14 +118,14 @@ start_less s g st reopens made end turns at old new x y start less wider r = rec
 }
 
 module _ {S B W : Type 0} (s : space.Ghosts S) (g : wire.Ghosts W) (holds : B → Files → Contents → Type 0) (reopens : Files → Contents → Type 0) where
-  pub none_marks : (a : S) (ms : List Mark) → LeavesMarks s reopens a a ms
-  none_marks a ms = record { leaves = record { later = omega arith; each = λ t o le l. inl l } }
+  pub none_marks : (P : Files → Contents → Type 0) (a : S) (ms : List Mark) → LeavesMarks s P a a ms
+  none_marks P a ms = record { leaves = record { later = omega arith; each = λ t o le l. inl l } }
 
   -- the wire wasn't opened
-  unfoldable pub over_unopened : (st : Start) (start : Mark → Type 0) (b : B) (turns : ℕ) (at : At) (a : S) (x y : W) → Fresh s a → ((m : Mark) → start m → HoldsMark s holds reopens b a m) → Adds (g.transcript x) (g.transcript y) [] ⊎ Adds (g.transcript x) (g.transcript y) (Open at ∷ [])
+  unfoldable pub over_unopened : (st : Start) (start : Mark → Type 0) (b : B) (turns : ℕ) (at : At) (a : S) (x y : W) → Fresh s a → ((m : Mark) → start m → HoldsMark s holds reopens b a m) → ((m : Mark) → start m → st.is.logs ≡ true → IsLog m.log (records_in m.log)) → Adds (g.transcript x) (g.transcript y) [] ⊎ Adds (g.transcript x) (g.transcript y) (Open at ∷ [])
       → RunsOver s g st reopens (λ files. ⊥) WireFault turns at a a x y start
   unfolding unserved
-  over_unopened st start b turns at a x y only holds_it (inl told) = record {
+  over_unopened st start b turns at a x y only holds_it logs (inl told) = record {
     entries = [];
     told = told;
     opened = inl refl;
@@ -131,8 +133,8 @@ module _ {S B W : Type 0} (s : space.Ghosts S) (g : wire.Ghosts W) (holds : B �
     ends = λ first h. record {
       asked = tt;
       serves = unserved st WireFault turns at [] first [] refl (inr refl) (λ e. absurd cc) (λ e. absurd cc);
-      exit = λ o l. inl (still_stands s g holds reopens b a first only (holds_it first h) o l);
-      moments = none_marks a (first ∷ []);
+      exit = λ o l. inl (record { reopen = still_stands s g holds reopens b a first only (holds_it first h) o l; log = logs first h });
+      moments = none_marks (with_log st.is.logs reopens) a (first ∷ []);
       late = λ some. absurd cc;
       copies = λ label tells. copies_stay reopens label (StandsAt WireFault (begun st [] first) [] label) (begun st [] first) ((s.names a).copies label) ((s.names a).copies label) (copies_none reopens label (begun st [] first) ((s.names a).copies label) refl);
       idle = λ some. absurd (some refl);
@@ -141,7 +143,7 @@ module _ {S B W : Type 0} (s : space.Ghosts S) (g : wire.Ghosts W) (holds : B �
     unserved = λ none. refl;
     plays = λ first h acts dials given p. not_played st.is turns (g.plays y) WireFault acts given (begun st [] first) (λ e. absurd cc) (λ e. absurd cc);
   }
-  over_unopened st start b turns at a x y only holds_it (inr told) = record {
+  over_unopened st start b turns at a x y only holds_it logs (inr told) = record {
     entries = Open at ∷ [];
     told = told;
     opened = inr ([], refl, tt);
@@ -149,8 +151,8 @@ module _ {S B W : Type 0} (s : space.Ghosts S) (g : wire.Ghosts W) (holds : B �
     ends = λ first h. record {
       asked = (tt, tt);
       serves = unserved st WireFault turns at (at ∷ []) first (Open at ∷ []) refl (inl refl) (λ e. absurd cc) (λ e. absurd cc);
-      exit = λ o l. inl (still_stands s g holds reopens b a first only (holds_it first h) o l);
-      moments = none_marks a (first ∷ []);
+      exit = λ o l. inl (record { reopen = still_stands s g holds reopens b a first only (holds_it first h) o l; log = logs first h });
+      moments = none_marks (with_log st.is.logs reopens) a (first ∷ []);
       late = λ some. absurd cc;
       copies = λ label tells. copies_stay reopens label (StandsAt WireFault (begun st (at ∷ []) first) [] label) (begun st (at ∷ []) first) ((s.names a).copies label) ((s.names a).copies label) (copies_none reopens label (begun st (at ∷ []) first) ((s.names a).copies label) refl);
       idle = λ some kept o l. let x = only (holds_it first h).has.held.0 in record { which = inl (x.0 o l ∙ x.1) };
@@ -204,15 +206,13 @@ module _ {S B W : Type 0} (s : space.Ghosts S) (g : wire.Ghosts W) (holds : B �
       (subst (λ (st : Start). RunsOver s g st reopens (λ files. ⊥) end turns at old new x z (λ m. HoldsMark s holds reopens b old m × StartsAs None m)) same run)
 
 -- a limit was reached, with the opening of the wire in front
-pub full_open : (fills : Contents → Contents → Type 0) (lacks : ℕ → ℕ → Type 0) (is : Settings) (start : Mark → Type 0) (at : At) (a b d : Told) (e f : Option (List ℕ)) → Adds a b (Open at ∷ []) → FullRun fills lacks is start (at ∷ []) b d e f → FullRun fills lacks is start [] a d e f
-full_open fills lacks is start at a b d e f told x = record {
+pub full_open : (fills : Contents → Contents → Type 0) (lacks : ℕ → ℕ → Type 0) (is : Settings) (start : Mark → Type 0) (at : At) (ticks : List ℕ) (a b d : Told) → Adds a b (Open at ∷ []) → FullRun fills lacks is start (at ∷ []) ticks b d → FullRun fills lacks is start [] ticks a d
+full_open fills lacks is start at ticks a b d told x = record {
   earlier = Open at ∷ x.earlier;
   paused = x.paused;
   busy = x.busy;
   ev = x.ev;
   bytes = x.bytes;
   told = Adds-then a b d (Open at ∷ []) (x.earlier ++ Event x.paused x.busy x.ev x.bytes ∷ []) told x.told;
-  ticks = x.ticks;
-  clocked = x.clocked;
   some = x.some;
 }

@@ -2,6 +2,7 @@
 use Rattle.std.proofs.Common.{◌≡◌, ◌⊎◌, ◌<◌, ◌≤◌, ◌+◌, ◌-◌, ◌^◌, ◌≢◌, inl, inr, ⊎_elim, ℕ, Bool, true, false, cond, List, [], ◌∷◌, ◌++◌, length, map, refl, sym, ap, subst, ◌∙◌, arith, append_assoc}
 use Rattle.std.specs.Prelude.{Option, Some, None, Result, Ok, Err, OnOk}
 use Rattle.std.proofs.lemmas.List.{append-nil}
+use Rattle.std.proofs.lemmas.List.Elements.{All-append, All-nil}
 use Rattle.tc_base.specs.Files.{Files}
 use Rattle.tc_base.specs.declared.fault.Fault.{Fault}
 use Rattle.tc_io.specs.Causes.{HasCause}
@@ -29,13 +30,14 @@ use Rattle.ty_world.proofs.Undialled.{turns_bound_alone}
 use Rattle.ty_world.specs.World.{World, Mark, copied_at, mark_of, added, happens, heard_by, rounded, world_after, commits_in, labels_in, AllAsked, IsRested}
 use Rattle.ty_ulog.specs.declared.record.Record.{Record}
 use Rattle.ty_ulog.specs.Log.{IsLog}
+use Rattle.ty_ulog.specs.Noting.{Lacks}
 use Rattle.ty_rounds.specs.Books.{IsBook, settings_of}
-use Rattle.ty_rounds.specs.Kept.{HoldsMark, Reopens, LeavesTwo, LeavesMarks, IsIn}
+use Rattle.ty_rounds.specs.Kept.{HoldsMark, Reopens, LeavesMarks, IsIn}
 use Rattle.ty_rounds.specs.Holding.{AllHold, Stands, State, Wired, book_of}
 use Rattle.ty_rounds.specs.Peers.{numbers}
 use Rattle.ty_rounds.specs.Serving.{FillsIn, part_less}
 use Rattle.ty_rounds.specs.Copying.{IsAmong}
-use Rattle.ty_rounds.specs.Turns.{CameToSends, FullTurn, Idles, MarksMore, MeetsFor, OnlyCopied, Turned, Turns, TurnEnds, IsTurn, entries_of, has_send}
+use Rattle.ty_rounds.specs.Turns.{CameToSends, FullTurn, Idles, LeavesEither, MarksMore, MeetsFor, OnlyCopied, Turned, Turns, TurnsFull, TurnEnds, IsTurn, entries_of, has_send}
 use Rattle.ty_rounds.specs.declared.logging.Logged.{Logged}
 use Rattle.ty_rounds.specs.declared.peer.Peer.{Peer}
 use Rattle.ty_rounds.specs.declared.outcome.Outcome.{Outcome}
@@ -52,11 +54,12 @@ use Rattle.tk_top.specs.CopyRuns.{AreMadeAt, CopiesSo, CopyRun, StandsAt}
 use Rattle.tk_top.specs.Ends.{end_of_turn}
 use Rattle.tk_top.specs.Events.{events_of}
 use Rattle.tk_top.specs.GapLines.{TellsGap, TellsGaps, gap_line, gap_lines}
-use Rattle.tk_top.specs.Runs.{AtExit, Ends, EndsTurn, FullRun, IsAt, NoneCopied, NoneKept, RunEnds, RunsTo, conns_of}
-use Rattle.tk_top.specs.Starts.{Grows, Start, StartsAs, begun, most_turns, start_of, when}
+use Rattle.tk_top.specs.Runs.{AtExit, Ends, EndsFull, EndsTurn, FullRun, IsAt, NoneCopied, NoneKept, RunEnds, RunsTo, conns_of}
+use Rattle.tk_top.specs.Starts.{Grows, Start, StartsAs, begun, most_turns, start_of, when, with_log}
 use Rattle.tk_top.proofs.CopyLaws.{copies_end, copies_more, copies_none, copies_same, copies_stay, turn_copies}
 use Rattle.tk_top.proofs.Events.{had_all, had_last, turn_events, went_more, went_none}
 use Rattle.tk_top.proofs.Fresh.{Fresh}
+use Rattle.tk_top.proofs.Logs.{is_stays, world_logged}
 use Rattle.tk_top.proofs.Opened.{served_then, turn_served}
 
 -- ---- marks
@@ -109,6 +112,10 @@ grows (e ∷ es) w =
 pub log_kept : (l : Option Logged) (is : Settings) (w : World) → is ≡ settings_of l → IsBook l (book_of w) w.log → when is.logs (IsLog w.log w.records)
 log_kept None is w same book = subst (λ (s : Settings). when s.logs (IsLog w.log w.records)) (sym same) tt
 log_kept (Some l) is w same book = subst (λ (s : Settings). when s.logs (IsLog w.log w.records)) (sym same) book.holds.log
+
+pub log_stands : (l : Option Logged) (w : World) → IsBook l (book_of w) w.log → w.is.logs ≡ true → IsLog w.log w.records
+log_stands None w book on = absurd (let e : true ≡ false = sym on ∙ ap (λ (is : Settings). is.logs) book.is_same in cc)
+log_stands (Some l) w book on = book.holds.log
 
 -- ---- rounds that have nothing to commit, and none to copy
 
@@ -200,13 +207,13 @@ module _ {S B W : Type 0} (s : space.Ghosts S) (g : wire.Ghosts W) (holds : B �
   pub still_stands : (b : B) (a : S) (m : Mark) → Fresh s a → Known b a m → (o : Option Files) → s.left a (s.moment a) o → Reopens reopens o m
   still_stands b a m only h o l = let x = only h.has.held.0 in record { files = s.now a; is = x.0 o l ∙ x.1; stand = record { contents = h.stand; log = h.has.log } }
 
-  pub moments_more : (s0 a t : S) (w v : World) (older : List Mark) → w.marks ≡ mark_of w ∷ older → MarksMore w v → LeavesMarks s reopens s0 a w.marks → LeavesTwo s reopens a t (mark_of w) (mark_of v) → LeavesMarks s reopens s0 t v.marks
-  moments_more s0 a t w v older is mm first two = record {
+  pub moments_more : (set : Settings) (s0 a t : S) (w v : World) (older : List Mark) → w.is ≡ set → v.is ≡ set → w.marks ≡ mark_of w ∷ older → MarksMore w v → LeavesMarks s (with_log set.logs reopens) s0 a w.marks → LeavesEither s reopens a t w v → LeavesMarks s (with_log set.logs reopens) s0 t v.marks
+  moments_more set s0 a t w v older ws vs is mm first two = record {
     leaves = record {
       later = omega (arith, first.leaves.later, two.leaves.later);
       each = λ n o le l. ⊎_elim
           (λ mid. ⊎_elim (λ was. inl was) (λ m. inr (record { mark = m.mark; listed = marks_stay w v m.mark mm m.listed; reopen = m.reopen })) (first.leaves.each n o le mid))
-          (λ p. inr (⊎_elim (λ r. record { mark = mark_of w; listed = marks_stay w v (mark_of w) mm (now_in w older is); reopen = r }) (λ r. record { mark = mark_of v; listed = last_in w v older is mm; reopen = r }) p))
+          (λ p. inr (⊎_elim (λ r. record { mark = mark_of v; listed = last_in w v older is mm; reopen = world_logged reopens set v o vs r }) (λ r. record { mark = mark_of w; listed = marks_stay w v (mark_of w) mm (now_in w older is); reopen = world_logged reopens set w o ws r }) p))
           (two.leaves.each n o (omega (arith, le, first.leaves.later)) l);
     };
   }
@@ -241,6 +248,7 @@ module _ {S B W : Type 0} (s : space.Ghosts S) (g : wire.Ghosts W) (holds : B �
     plays = Plays-none (g.plays x);
     ticks = [];
     clocked = Adds-none c;
+    small = All-nil (λ (t : ℕ). t < 2 ^ 64);
     unticked = λ off. refl;
     gaps = [];
     at = λ first h starts later opens. record {
@@ -281,6 +289,7 @@ module _ {S B W : Type 0} (s : space.Ghosts S) (g : wire.Ghosts W) (holds : B �
     plays = Plays-then (g.plays x) (g.plays y) (g.plays z) run.entries turned.entries run.plays turned.plays;
     ticks = run.ticks ++ turned.ticks;
     clocked = Adds-then c d e run.ticks turned.ticks run.clocked turned.clocked;
+    small = All-append (λ (t : ℕ). t < 2 ^ 64) run.ticks turned.ticks run.small turned.small;
     unticked = λ off. let first = run.unticked off in let rest = turned.unticked (ap (λ (is : Settings). is.logs) same ∙ off) in (λ i. first i ++ rest i);
     gaps = run.gaps ++ gaps;
     at = λ first h starts later opens.
@@ -306,7 +315,7 @@ module _ {S B W : Type 0} (s : space.Ghosts S) (g : wire.Ghosts W) (holds : B �
               let cs = copied_parts run.entries es w0 copied in
               only_reads_then s s0 a t (at.idle ks.0 cs.0) (f.idle (kept_in es w ks.1) (copied_in es w cs.1));
           only = λ kept. let ks = kept_parts run.entries es w0 kept in only_then s s0 a t (at.only ks.0) (f.only (kept_in es w ks.1));
-          moments = moments_more s0 a t w v at.stands.older at.stands.marked f.marks at.moments f.moments;
+          moments = moments_more (settings_of l) s0 a t w v at.stands.older (is_stays run.entries w0) (is_stays es w ∙ is_stays run.entries w0) at.stands.marked f.marks at.moments f.moments;
           copies = λ label tells. copies_more reopens label (StandsAt Done w es label) v ((s.names s0).copies label) ((s.names t).copies label) (inl (inl refl))
               (copies_behind Done (Ok o) (settings_of l) (g.conns y) later s0 a t (Known base' t) (g.given z) m' w es at.stands.older (λ made. tt) at.stands.marked calls f label tells (at.copies label tells));
         }));
@@ -390,12 +399,13 @@ module _ {S B W E : Type 0} (s : space.Ghosts S) (g : wire.Ghosts W) (k : sink.G
       → (run : RunsTo s g holds reopens l b base s0 a x y c d m n) → Lined k (settings_of l) run.gaps p q → (turned : Turns s g holds reopens res base base' a t y z d f m m')
       → (end ≡ Done → Plays (g.plays y) (g.plays z) turned.entries)
       → ((is : Settings) (conns : List ℕ) → IsTurn is conns res turned.entries → EndsTurn is end conns turned.entries)
-      → ((w v : World) → TurnEnds s reopens res t (HoldsMark s holds reopens base' t) (g.given z) m' w v → (o : Option Files) → s.left t (s.moment t) o → AtExit reopens end (mark_of w) v o)
+      → ((w v : World) → TurnEnds s reopens res t (HoldsMark s holds reopens base' t) (g.given z) m' w v → (o : Option Files) → s.left t (s.moment t) o → AtExit reopens end w v o)
       → ((w v : World) → TurnEnds s reopens res t (HoldsMark s holds reopens base' t) (g.given z) m' w v → end ≡ Done → IsClosed (settings_of l) w v)
       → (AreMadeAt end → CameToSends res turned.entries)
+      → ((P : Type 0) → OnOk res P → end ≡ Done → P)
       → end ≢ TurnsSpent
       → Ends s g k holds reopens end turns l b s0 t x z c f p q
-  run_ended l b base base' s0 a t x y z c d f p q m m' n turns res end few same wired run lines turned plays calls exits closed made other = record {
+  run_ended l b base base' s0 a t x y z c d f p q m m' n turns res end few same wired run lines turned plays calls exits closed made ok other = record {
     entries = all;
     told = Adds-then (g.transcript x) (g.transcript y) (g.transcript z) run.entries turned.entries run.told turned.told;
     served = served_then (settings_of l) run.entries turned.entries run.served (turn_served (settings_of l) (g.conns y) res turned.entries turn);
@@ -403,6 +413,7 @@ module _ {S B W E : Type 0} (s : space.Ghosts S) (g : wire.Ghosts W) (k : sink.G
     plays = λ i. plays_all i;
     ticks = run.ticks ++ turned.ticks;
     clocked = Adds-then c d f run.ticks turned.ticks run.clocked turned.clocked;
+    small = All-append (λ (t : ℕ). t < 2 ^ 64) run.ticks turned.ticks run.small turned.small;
     unticked = λ off. let first = run.unticked off in let rest = turned.unticked (ap (λ (is : Settings). is.logs) same ∙ off) in (λ i. first i ++ rest i);
     gaps = run.gaps;
     tells = lines.tells;
@@ -425,7 +436,7 @@ module _ {S B W E : Type 0} (s : space.Ghosts S) (g : wire.Ghosts W) (k : sink.G
       plays_all i = Plays-then (g.plays x) (g.plays y) (g.plays z) run.entries turned.entries run.plays (⊎_elim plays (λ (j : end ≡ TurnsSpent). absurd (other j)) i)
 
       ends : (first : Mark) → HoldsMark s holds reopens b s0 first → StartsAs l first → (later : List ℕ) (opens : List At)
-          → RunEnds s (start_of l (run.ticks ++ turned.ticks) later) reopens end turns run.gaps s0 t opens first all (world_after all (begun (start_of l (run.ticks ++ turned.ticks) later) opens first))
+          → RunEnds s (start_of l (run.ticks ++ turned.ticks) later) later reopens end turns run.gaps s0 t opens first all (world_after all (begun (start_of l (run.ticks ++ turned.ticks) later) opens first))
       ends first h starts later opens =
           let es = turned.entries in
           let st = start_of l run.ticks (turned.ticks ++ later) in
@@ -436,8 +447,8 @@ module _ {S B W E : Type 0} (s : space.Ghosts S) (g : wire.Ghosts W) (k : sink.G
           let e = turned.ends w later at.stands at.on at.ticks in
           let conns : g.conns y ≡ conns_of w = wired.same ∙ conns_held w m.peers w.there at.stands.each in
           let shut : (i : end ≡ Done) → IsClosed (settings_of l) w v = closed w v e.ends in
-          subst (λ (r : Start). RunEnds s r reopens end turns run.gaps s0 t opens first all (world_after all (begun r opens first))) (start_more l run.ticks turned.ticks later)
-          (subst (λ (u : World). RunEnds s st reopens end turns run.gaps s0 t opens first all u) (sym (after_more run.entries es w0)) (record {
+          subst (λ (r : Start). RunEnds s r later reopens end turns run.gaps s0 t opens first all (world_after all (begun r opens first))) (start_more l run.ticks turned.ticks later)
+          (subst (λ (u : World). RunEnds s st later reopens end turns run.gaps s0 t opens first all u) (sym (after_more run.entries es w0)) (record {
             asked = asked_more run.entries es w0 at.asked e.asked;
             came = came_more run.entries es w0 at.came e.came;
             replies = e.fine;
@@ -454,8 +465,10 @@ module _ {S B W E : Type 0} (s : space.Ghosts S) (g : wire.Ghosts W) (k : sink.G
               within = inl (let i = at.events in omega (arith, i, few));
             };
             gaps_are = sym (run.gaps_are first h starts (turned.ticks ++ later) opens);
+            kept_log = log_kept m.logged (settings_of l) w (sym same) at.stands.book;
+            ticks = λ i. ⊎_elim (λ (j : end ≡ Done). ok (v.ticks ≡ later) e.ticks j) (λ (j : end ≡ TurnsSpent). absurd (other j)) i;
             exit = exits w v e.ends;
-            moments = moments_more s g holds reopens s0 a t w v at.stands.older at.stands.marked e.marks at.moments e.moments;
+            moments = moments_more s g holds reopens (settings_of l) s0 a t w v at.stands.older (is_stays run.entries w0) (is_stays es w ∙ is_stays run.entries w0) at.stands.marked e.marks at.moments e.moments;
             late = e.late;
             copies = λ label tells. copies_behind s g holds reopens end res (settings_of l) (g.conns y) later s0 a t (HoldsMark s holds reopens base' t) (g.given z) m' w es at.stands.older made at.stands.marked turn e label tells (at.copies label tells);
             idle = λ kept copied.
@@ -472,25 +485,26 @@ module _ {S B W E : Type 0} (s : space.Ghosts S) (g : wire.Ghosts W) (k : sink.G
       → (run : RunsTo s g holds reopens l b base s0 a x y c d m n) → Lined k (settings_of l) run.gaps p q → Turns s g holds reopens (Ok Shut) base base' a t y z d f m m' → Ends s g k holds reopens Done turns l b s0 t x z c f p q
   run_shut l b base base' s0 a t x y z c d f p q m m' n turns few only same same' wired run lines turned =
       run_ended l b base base' s0 a t x y z c d f p q m m' n turns (Ok Shut) Done few same wired run lines turned (λ i. turned.plays) (λ is conns h. h)
-      (λ w v e o left. inl (still_stands s g holds reopens base' t (mark_of v) only e.0.mark o left))
+      (λ w v e o left. inl (record { reopen = still_stands s g holds reopens base' t (mark_of v) only e.0.mark o left; log = log_stands m'.logged v e.0.book }))
       (λ w v e i. record { shut = e.1; rested = e.0.rested; log = log_kept m'.logged (settings_of l) v (sym (same' ∙ same)) e.0.book })
       (λ i. tt)
+      (λ P h i. h)
       (λ i. absurd cc)
 
-  pub run_err : (l : Option Logged) (b base base' : B) (s0 a t : S) (x y z : W) (c d f : Option (List ℕ)) (p q : E) (m m' : State) (n turns : ℕ) (err : TurnErr) → n < turns → settings_of m.logged ≡ settings_of l → Wired (g.conns y) m.peers
+  run_err : (l : Option Logged) (b base base' : B) (s0 a t : S) (x y z : W) (c d f : Option (List ℕ)) (p q : E) (m m' : State) (n turns : ℕ) (err : TurnErr) → n < turns → settings_of m.logged ≡ settings_of l → Wired (g.conns y) m.peers
       → (run : RunsTo s g holds reopens l b base s0 a x y c d m n) → Lined k (settings_of l) run.gaps p q → Turns s g holds reopens (Err err) base base' a t y z d f m m' → Ends s g k holds reopens (end_of_turn err) turns l b s0 t x z c f p q
   run_err l b base base' s0 a t x y z c d f p q m m' n turns turn.Wire few same wired run lines turned =
       run_ended l b base base' s0 a t x y z c d f p q m m' n turns (Err turn.Wire) WireFault few same wired run lines turned (λ i. absurd cc) (λ is conns h. h)
-      (λ w v e o left. inl (e o left)) (λ w v e i. absurd cc) (λ i. tt) (λ i. absurd cc)
+      (λ w v e o left. inl (e o left)) (λ w v e i. absurd cc) (λ i. tt) (λ P h i. absurd cc) (λ i. absurd cc)
   run_err l b base base' s0 a t x y z c d f p q m m' n turns turn.Volume few same wired run lines turned =
       run_ended l b base base' s0 a t x y z c d f p q m m' n turns (Err turn.Volume) VolumeFault few same wired run lines turned (λ i. absurd cc) (λ is conns h. h)
-      (λ w v e o left. ⊎_elim (λ r. inl r) (λ r. inr (tt, r)) (e o left)) (λ w v e i. absurd cc) (λ i. absurd (⊎_elim (λ j. cc) (⊎_elim (λ j. cc) (λ j. cc)) i)) (λ i. absurd cc)
+      (λ w v e o left. ⊎_elim (λ r. inl r) (λ r. inr (tt, r)) (e o left)) (λ w v e i. absurd cc) (λ i. absurd (⊎_elim (λ j. cc) (⊎_elim (λ j. cc) (λ j. cc)) i)) (λ P h i. absurd cc) (λ i. absurd cc)
   run_err l b base base' s0 a t x y z c d f p q m m' n turns turn.Full few same wired run lines turned =
       run_ended l b base base' s0 a t x y z c d f p q m m' n turns (Err turn.Full) Full few same wired run lines turned (λ i. absurd cc) (λ is conns h. h)
-      (λ w v e o left. ⊎_elim (λ r. inl r) (λ r. inr (tt, r)) (e o left)) (λ w v e i. absurd cc) (λ i. absurd (⊎_elim (λ j. cc) (⊎_elim (λ j. cc) (λ j. cc)) i)) (λ i. absurd cc)
+      (λ w v e o left. ⊎_elim (λ r. inl r) (λ r. inr (tt, r)) (e o left)) (λ w v e i. absurd cc) (λ i. absurd (⊎_elim (λ j. cc) (⊎_elim (λ j. cc) (λ j. cc)) i)) (λ P h i. absurd cc) (λ i. absurd cc)
   run_err l b base base' s0 a t x y z c d f p q m m' n turns turn.Memory few same wired run lines turned =
       run_ended l b base base' s0 a t x y z c d f p q m m' n turns (Err turn.Memory) NoMemory few same wired run lines turned (λ i. absurd cc) (λ is conns h. h)
-      (λ w v e o left. ⊎_elim (λ r. inl r) (λ r. inr (tt, r)) (e o left)) (λ w v e i. absurd cc) (λ i. absurd (⊎_elim (λ j. cc) (⊎_elim (λ j. cc) (λ j. cc)) i)) (λ i. absurd cc)
+      (λ w v e o left. ⊎_elim (λ r. inl r) (λ r. inr (tt, r)) (e o left)) (λ w v e i. absurd cc) (λ i. absurd (⊎_elim (λ j. cc) (⊎_elim (λ j. cc) (λ j. cc)) i)) (λ P h i. absurd cc) (λ i. absurd cc)
 
   pub run_spent : (l : Option Logged) (b base : B) (s0 a : S) (x y : W) (c d : Option (List ℕ)) (p q : E) (m : State) (n turns : ℕ) → n ≡ turns → Fresh s a → settings_of m.logged ≡ settings_of l
       → (run : RunsTo s g holds reopens l b base s0 a x y c d m n) → Lined k (settings_of l) run.gaps p q → Ends s g k holds reopens TurnsSpent turns l b s0 a x y c d p q
@@ -502,6 +516,7 @@ module _ {S B W E : Type 0} (s : space.Ghosts S) (g : wire.Ghosts W) (k : sink.G
     plays = λ i. run.plays;
     ticks = run.ticks;
     clocked = run.clocked;
+    small = run.small;
     unticked = run.unticked;
     gaps = run.gaps;
     tells = lines.tells;
@@ -519,7 +534,9 @@ module _ {S B W E : Type 0} (s : space.Ghosts S) (g : wire.Ghosts W) (k : sink.G
           logged = λ i. log_kept m.logged (settings_of l) v (sym same) at.stands.book;
           last = record { earlier = run.entries; last = []; parts = sym (append-nil run.entries); rested = at.stands.rested; calls = inl refl; marks = record { more = inl (refl, refl) }; within = inr (refl, (let i = at.events in omega (arith, i, all))) };
           gaps_are = sym (run.gaps_are first h starts later opens);
-          exit = λ o left. inl (still_stands s g holds reopens base a (mark_of v) only at.stands.mark o left);
+          kept_log = log_kept m.logged (settings_of l) v (sym same) at.stands.book;
+          ticks = λ i. at.ticks;
+          exit = λ o left. inl (record { reopen = still_stands s g holds reopens base a (mark_of v) only at.stands.mark o left; log = log_stands m.logged v at.stands.book });
           moments = at.moments;
           late = λ i. absurd (let j : false ≡ true = i in cc);
           copies = λ label tells. copies_stay reopens label (StandsAt TurnsSpent v [] label) v ((s.names s0).copies label) ((s.names a).copies label) (at.copies label tells);
@@ -538,26 +555,24 @@ module _ {S B W E : Type 0} (s : space.Ghosts S) (g : wire.Ghosts W) (k : sink.G
     sent = λ first h starts later opens acts dials given is done. absurd cc;
   }
 
-  pub run_fills : (fills wide : Contents → Contents → Type 0) (lacks : ℕ → ℕ → Type 0) (l : Option Logged) (b base : B) (s0 a : S) (x y z : W) (c d f : Option (List ℕ)) (m : State) (n : ℕ) (opens : List At) → (s.moment s0 ≤ s.moment a → (i j : Contents) → fills i j → wide i j) → RunsTo s g holds reopens l b base s0 a x y c d m n
-      → FullTurn fills lacks (HoldsMark s holds reopens base a) (g.given y) m (g.transcript y) (g.transcript z) d f → FullRun wide lacks (settings_of l) (λ i. HoldsMark s holds reopens b s0 i × StartsAs l i) opens (g.transcript x) (g.transcript z) c f
-  run_fills fills wide lacks l b base s0 a x y z c d f m n opens wider run full = record {
+  run_fills : (fills wide : Contents → Contents → Type 0) (lacks : ℕ → ℕ → Type 0) (l : Option Logged) (b base : B) (s0 a : S) (x y z : W) (c d : Option (List ℕ)) (m : State) (n : ℕ) (opens : List At) (es : List Entry) (ticks : List ℕ) → (s.moment s0 ≤ s.moment a → (i j : Contents) → fills i j → wide i j) → (run : RunsTo s g holds reopens l b base s0 a x y c d m n)
+      → Adds (g.transcript y) (g.transcript z) es → FullTurn fills lacks (HoldsMark s holds reopens base a) (g.given y) m es ticks → FullRun wide lacks (settings_of l) (λ i. HoldsMark s holds reopens b s0 i × StartsAs l i) opens (run.ticks ++ ticks) (g.transcript x) (g.transcript z)
+  run_fills fills wide lacks l b base s0 a x y z c d m n opens es ticks wider run told full = record {
     earlier = run.entries ++ dials;
     paused = full.paused;
     busy = full.busy;
     ev = full.ev;
     bytes = full.bytes;
-    told = subst (Adds (g.transcript x) (g.transcript z)) (sym (append_assoc run.entries dials last)) (Adds-then (g.transcript x) (g.transcript y) (g.transcript z) run.entries (dials ++ last) run.told full.told);
-    ticks = run.ticks ++ full.ticks;
-    clocked = Adds-then c d f run.ticks full.ticks run.clocked full.clocked;
+    told = subst (Adds (g.transcript x) (g.transcript z)) (ap (λ (fs : List Entry). run.entries ++ fs) full.is ∙ sym (append_assoc run.entries dials last)) (Adds-then (g.transcript x) (g.transcript y) (g.transcript z) run.entries es run.told told);
     some = λ first start later.
-        let st = start_of l run.ticks (full.ticks ++ later) in
+        let st = start_of l run.ticks (ticks ++ later) in
         let w0 = begun st opens first in
         let w = world_after run.entries w0 in
         let v = world_after dials w in
-        let at = run.at first start.0 start.1 (full.ticks ++ later) opens in
+        let at = run.at first start.0 start.1 (ticks ++ later) opens in
         let some = full.some w later at.stands at.on at.ticks in
         let more = fills_wider fills wide lacks v full.ev full.bytes (wider at.moments.leaves.later) some in
-        subst (λ (r : Start). FillsIn wide lacks (world_after (run.entries ++ dials) (begun r opens first)) full.ev full.bytes) (start_more l run.ticks full.ticks later)
+        subst (λ (r : Start). FillsIn wide lacks (world_after (run.entries ++ dials) (begun r opens first)) full.ev full.bytes) (start_more l run.ticks ticks later)
         (subst (λ (u : World). FillsIn wide lacks u full.ev full.bytes) (sym (after_more run.entries dials w0)) more);
   }
     where
@@ -566,6 +581,18 @@ module _ {S B W E : Type 0} (s : space.Ghosts S) (g : wire.Ghosts W) (k : sink.G
 
       last : List Entry
       last = Event full.paused full.busy full.ev full.bytes ∷ []
+
+  -- the last turn failed
+  pub run_failed : (fills : S → S → Contents → Contents → Type 0) (l : Option Logged) (b base base' : B) (s0 a t : S) (x y z : W) (c d f : Option (List ℕ)) (p q : E) (m m' : State) (n turns : ℕ) (err : TurnErr) → n < turns → settings_of m.logged ≡ settings_of l → Wired (g.conns y) m.peers → (s.moment s0 ≤ s.moment a → (i j : Contents) → fills a t i j → fills s0 t i j)
+      → (run : RunsTo s g holds reopens l b base s0 a x y c d m n) → Lined k (settings_of l) run.gaps p q → TurnsFull s g holds reopens fills (Err err) base base' a t y z d f m m' → EndsFull s g k holds reopens fills (end_of_turn err) turns l b s0 t x z c f p q
+  unfolding run_err run_ended
+  run_failed fills l b base base' s0 a t x y z c d f p q m m' n turns turn.Full few same wired wider run lines turned = record {
+    ends = run_err l b base base' s0 a t x y z c d f p q m m' n turns turn.Full few same wired run lines turned.turns;
+    full = λ is opens. run_fills (fills a t) (fills s0 t) (Lacks s t) l b base s0 a x y z c d m n opens turned.turns.entries turned.turns.ticks wider run turned.turns.told (turned.full refl);
+  }
+  run_failed fills l b base base' s0 a t x y z c d f p q m m' n turns turn.Wire few same wired wider run lines turned = record { ends = run_err l b base base' s0 a t x y z c d f p q m m' n turns turn.Wire few same wired run lines turned.turns; full = λ is. absurd cc }
+  run_failed fills l b base base' s0 a t x y z c d f p q m m' n turns turn.Volume few same wired wider run lines turned = record { ends = run_err l b base base' s0 a t x y z c d f p q m m' n turns turn.Volume few same wired run lines turned.turns; full = λ is. absurd cc }
+  run_failed fills l b base base' s0 a t x y z c d f p q m m' n turns turn.Memory few same wired wider run lines turned = record { ends = run_err l b base base' s0 a t x y z c d f p q m m' n turns turn.Memory few same wired run lines turned.turns; full = λ is. absurd cc }
 
   -- a turn by what it answered
   pub turn_is : (base base' : B) (a t : S) (y z : W) (c d : Option (List ℕ)) (m m' : State) (o i : Outcome) → o ≡ i → Turns s g holds reopens (Ok o) base base' a t y z c d m m' → Turns s g holds reopens (Ok i) base base' a t y z c d m m'

@@ -1,5 +1,5 @@
 -- A run over a volume.
-use Rattle.std.proofs.Common.{◌≡◌, inl, inr, ⊎_elim, ℕ, List, [], ◌∷◌, refl, sym, ap, subst, ◌∙◌}
+use Rattle.std.proofs.Common.{◌≡◌, inl, inr, ⊎_elim, ℕ, true, false, List, [], ◌∷◌, refl, sym, ap, subst, ◌∙◌}
 use Rattle.std.specs.Prelude.{None}
 use Rattle.tc_base.specs.Files.{Files}
 use Rattle.tc_base.specs.declared.kind.Kind.{Kind}
@@ -13,8 +13,9 @@ use Rattle.tc_space.specs.declared.space.Space as space
 use Rattle.ud_log.specs.Undo.{recovered}
 use Rattle.tc_model.specs.Contents.{Contents}
 use Rattle.ty_base.specs.Opening.{OpensTo}
+use Rattle.ty_ulog.specs.Log.{IsLog, records_in}
 use Rattle.ty_world.specs.Logs.{plain}
-use Rattle.ty_world.specs.World.{Mark, mark_of, copied_at, world_after}
+use Rattle.ty_world.specs.World.{Mark, copied_at, world_after}
 use Rattle.ty_rounds.specs.Turns.{Told}
 use Rattle.ty_rounds.proofs.Telling.{Adds-none}
 use Rattle.tk_top.specs.declared.ends.End.{End}
@@ -23,7 +24,7 @@ use Rattle.tk_top.specs.Over.{BeginsAt, FilesRun, FullFiles, FullPlain, MainIsBa
 use Rattle.tk_top.specs.Runs.{AtExit}
 use Rattle.tk_top.specs.CopyRuns.{CopyRun, StandsAt}
 use Rattle.tk_top.specs.Serving.{Begins, RunsOver}
-use Rattle.tk_top.specs.Starts.{Start, begun}
+use Rattle.tk_top.specs.Starts.{Start, begun, with_log}
 use Rattle.tk_top.specs.Staying.{IsStill}
 use Rattle.tk_top.specs.Stops.{IsEarly, StopsAt}
 use Rattle.tk_top.proofs.CopyLaws.{copies_none, copies_stay}
@@ -34,10 +35,10 @@ use Rattle.tk_top.proofs.Named.{bare_so, begins_so, early_of, not_ended, opened_
 use Rattle.tk_top.proofs.Stops.{Closes, exit_left, stops_run, stops_unopened}
 
 -- the run never came to an open space
-unfoldable pub unopened_for : {V W : Type 0} {v : volume.Ghosts V} (g : wire.Ghosts W) (st : Start) (opens reopens : Files → Contents → Type 0) (made : Files → Type 0) → ((files : Files) (c : Contents) → opens files c → reopens files c) → {name : List ℕ} (end : End) (turns : ℕ) (at : At) {old new : V} (x : W) → EndsUnopened v name end old new
+unfoldable pub unopened_for : {V W : Type 0} {v : volume.Ghosts V} (g : wire.Ghosts W) (st : Start) (opens reopens : Files → Contents → Type 0) (made : Files → Type 0) → ((files : Files) (c : Contents) → opens files c → reopens files c) → {name : List ℕ} (end : End) (turns : ℕ) (at : At) {old new : V} (x : W) → ((first : Mark) → BeginsAt v.tells opens (v.calls old) first → st.is.logs ≡ true → IsLog first.log (records_in first.log)) → EndsUnopened v name end old new
     → FilesRun st v.tells g opens reopens made end turns at (v.calls old) (v.calls new) (v.names old).copies (v.names new).copies x x
 unfolding unserved
-unopened_for {V} {W} {v} g st opens reopens made stand {name} end turns at {old} {new} x u = let other = not_ended u in record {
+unopened_for {V} {W} {v} g st opens reopens made stand {name} end turns at {old} {new} x logs u = let other = not_ended u in record {
   entries = [];
   told = Adds-none (g.transcript x);
   opened = inl refl;
@@ -45,13 +46,13 @@ unopened_for {V} {W} {v} g st opens reopens made stand {name} end turns at {old}
   broken = unopened_broken u;
   ends = λ settled first h.
       let w = begun st [] first in
-      let stops : (before : Mark) → StopsAt reopens (AtExit reopens end before w) (IsEarly end × ◌≡◌ {A = List Entry} [] []) (first ∷ []) (v.calls old) (v.calls new) = λ before.
-      stops_unopened reopens _ _ _ (v.calls old) (v.calls new) first (early_of u, refl) (u.leaves h.0 settled) (reopens_as opens reopens stand _ first h.1) (λ o r. inl r) in
+      let stops : StopsAt reopens (AtExit reopens end w w) (IsEarly end × ◌≡◌ {A = List Entry} [] []) (first ∷ []) (v.calls old) (v.calls new) =
+      stops_unopened reopens _ _ _ (v.calls old) (v.calls new) first (early_of u, refl) (u.leaves h.0 settled) (reopens_as opens reopens stand _ first h.1) (λ o r. inl (record { reopen = r; log = logs first h })) in
       record {
         asked = tt;
         serves = unserved st end turns at [] first [] refl (inr refl) other.0 other.1;
-        exit = (stops _).exit;
-        moments = (stops first).moments;
+        exit = stops.exit;
+        moments = λ ims some. inr ((u.leaves h.0 settled).moments ims some);
         late = λ some. absurd cc;
         copies = λ label. let same = u.names.copies h.0 in subst (λ (n : List ℕ → Calls). CopyRun reopens label (StandsAt end w [] label) (first ∷ []) None ((v.names old).copies label) (n label)) (sym same)
             (copies_stay reopens label (StandsAt end w [] label) w ((v.names old).copies label) ((v.names old).copies label) (copies_none reopens label w ((v.names old).copies label) refl));
@@ -64,9 +65,9 @@ unopened_for {V} {W} {v} g st opens reopens made stand {name} end turns at {old}
 }
 
 -- of files of a kind
-pub files_unopened : {V W : Type 0} {v : volume.Ghosts V} (g : wire.Ghosts W) (st : Start) (kind : Kind) (reopens : Files → Contents → Type 0) {made : Files → Type 0} {name : List ℕ} (end : End) (turns : ℕ) (at : At) {old new : V} (x : W) → EndsUnopened v name end old new
+pub files_unopened : {V W : Type 0} {v : volume.Ghosts V} (g : wire.Ghosts W) (st : Start) (kind : Kind) (reopens : Files → Contents → Type 0) {made : Files → Type 0} {name : List ℕ} (end : End) (turns : ℕ) (at : At) {old new : V} (x : W) → st.is.logs ≡ false → EndsUnopened v name end old new
     → FilesRun st v.tells g (OpensTo kind reopens) reopens made end turns at (v.calls old) (v.calls new) (v.names old).copies (v.names new).copies x x
-files_unopened g st kind reopens {made} end turns at x u = unopened_for g st (OpensTo kind reopens) reopens made (λ files c h. h.stand) end turns at x u
+files_unopened g st kind reopens {made} end turns at x off u = unopened_for g st (OpensTo kind reopens) reopens made (λ files c h. h.stand) end turns at x (λ first h on. absurd (let e : false ≡ true = sym off ∙ on in cc)) u
 
 module _ {S V : Type 0} {s : space.Ghosts S} {v : volume.Ghosts V} {name : List ℕ} {most : ℕ} {vol : V} {a : S} (o : OpensNamed s v name most vol a) (opens : Files → Contents → Type 0) where
   -- the copies of the space are those of the volume, as it was opened and as it was closed
@@ -92,8 +93,8 @@ module _ {S V : Type 0} {s : space.Ghosts S} {v : volume.Ghosts V} {name : List 
     ends = λ settled first h.
         let r = run.ends first (begins_so o opens first h) in
         let last = world_after run.entries (begun st [] first) in
-        let stops : StopsAt reopens (AtExit reopens end (mark_of (world_after r.serves.last.earlier (begun st [] first))) last) (IsEarly end × (run.entries ≡ [])) last.marks (v.calls vol) (v.calls w) =
-        stops_run reopens _ _ _ (o.over h.0) closed settled (record { exit = r.exit; moments = r.moments }) in
+        let stops : StopsAt (with_log st.is.logs reopens) (AtExit reopens end (world_after r.serves.last.earlier (begun st [] first)) last) (IsEarly end × (run.entries ≡ [])) last.marks (v.calls vol) (v.calls w) =
+        stops_run (with_log st.is.logs reopens) _ _ _ (o.over h.0) closed settled (record { exit = r.exit; moments = r.moments }) in
         record {
           asked = r.asked;
           serves = r.serves;
@@ -114,4 +115,4 @@ module _ {S V : Type 0} {s : space.Ghosts S} {v : volume.Ghosts V} {name : List 
 
   pub full_so : {lacks : Type 0} (fills : Contents → Contents → Type 0) (p q : Told) → FullFiles s.tells (s.now a 0 ≡ []) lacks (FullPlain fills (Begins s opens a) p q)
       → FullFiles v.tells (MainIsBare (recovered (now (v.calls vol)))) lacks (FullPlain fills (BeginsAt v.tells opens (v.calls vol)) p q)
-  full_so fills p q x = record { which = ⊎_elim (λ y. inl (bare_so o opens y)) (λ y. inr (full_opened fills fills (λ at size. ⊥) plain (BeginsAt v.tells opens (v.calls vol)) (Begins s opens a) p q None None (begins_so o opens) (λ m h d e full. full) y)) x.which }
+  full_so fills p q x = record { which = ⊎_elim (λ y. inl (bare_so o opens y)) (λ y. inr (full_opened fills fills (λ at size. ⊥) plain (BeginsAt v.tells opens (v.calls vol)) (Begins s opens a) [] p q (begins_so o opens) (λ m h d e full. full) y)) x.which }

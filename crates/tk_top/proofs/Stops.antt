@@ -14,7 +14,6 @@ use Rattle.tk_top.specs.Naming.{LeavesOpening, OpensOver}
 use Rattle.tk_top.specs.Over.{IsOver}
 use Rattle.tk_top.specs.Stops.{StopsAt, StopsOver}
 use Rattle.tk_top.proofs.Kept.{moved}
-use Rattle.tk_top.proofs.Named.{at_exit}
 
 -- a space is closed to this volume: what a stop leaves of its calls, it leaves of the space
 pub record Closes {S V : Type 0} (s : space.Ghosts S) (v : volume.Ghosts V) (t : S) (w : V) : Type 0 where

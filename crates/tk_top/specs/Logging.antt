@@ -1,5 +1,5 @@
 -- What a run that keeps an update log leaves of a space.
-use Rattle.std.specs.Prelude.{◌≡◌, ◌⊎◌, ℕ, false, true, List, [], Option, Some, None, option_map}
+use Rattle.std.specs.Prelude.{◌≡◌, ◌⊎◌, ◌<◌, ◌^◌, ℕ, false, true, List, [], Option, Some, None, All, option_map}
 use Rattle.tc_base.specs.Files.{Files}
 use Rattle.tc_base.specs.declared.kind.Kind.{Kind}
 use Rattle.tc_base.specs.declared.kind.Rule.{Rule}
@@ -24,12 +24,14 @@ use Rattle.ty_rounds.specs.Kept.{HoldsMark}
 use Rattle.ty_rounds.specs.declared.logging.Logged.{Logged}
 use Rattle.ty_rounds.specs.declared.logging.Master.{Master}
 use Rattle.tk_top.specs.declared.ends.End.{End}
-use Rattle.tk_top.specs.declared.ends.End.TheVariants.{WireFault}
+use Rattle.tk_top.specs.declared.ends.End.TheVariants.{Full, WireFault}
+use Rattle.tk_top.specs.declared.ends.Stopped.{Stopped}
 use Rattle.tk_top.specs.GapLines.{TellsGaps}
 use Rattle.tk_top.specs.Over.{BeginsAt, CanStand, FilesFull, FilesRun, FullFiles, IsOut}
-use Rattle.tk_top.specs.Runs.{FullRun, GapsOf}
+use Rattle.tk_top.specs.Runs.{FullRun, TurnedLogged}
+use Rattle.tk_top.specs.Says.{Says}
 use Rattle.tk_top.specs.Serving.{Begins, RunsOver}
-use Rattle.tk_top.specs.Starts.{StartsAs, answering, begun}
+use Rattle.tk_top.specs.Starts.{StartsAs, answering, begun, with_log}
 use Rattle.tk_top.specs.Staying.{BreaksOver, IsStill}
 use Rattle.tk_top.specs.Stops.{Spares}
 
@@ -54,7 +56,7 @@ abbrev pub BeginsLogged : {S : Type 0} → space.Ghosts S → (Files → Content
 BeginsLogged s opens space m = Begins s opens space m × IsLog m.log (records_in m.log)
 
 abbrev pub opens_logged : (Files → Contents → Type 0) → Files → Contents → Type 0
-opens_logged opens files c = opens files c × IsLog (files 2) (records_in (files 2))
+opens_logged opens files c = with_log true opens files c
 
 -- where files are told, they stand so for some contents
 abbrev pub StandsLogged : {S : Type 0} → space.Ghosts S → (Files → Contents → Type 0) → S → Type 0
@@ -86,29 +88,31 @@ pub record RunsLogged {S W : Type 0} (s : space.Ghosts S) (g : wire.Ghosts W) (i
   -- what the clock answered
   pub ticks : List ℕ
   pub clocked : Adds c d ticks
+  pub small : All (λ t. t < 2 ^ 64) ticks
   -- whatever it would have answered then
   pub runs : (later : List ℕ) → RunsOver s g (answering is ticks later) reopens made end turns at old new x y (BeginsLogged s (OpensTo kind reopens) old)
   pub gaps : List (ℕ × ℕ)
   -- none without a master
   pub unmet : is.master ≡ None → gaps ≡ []
-  pub gaps_are : (first : Mark) → BeginsLogged s (OpensTo kind reopens) old first → (later : List ℕ) → GapsOf (answering is ticks later) end turns [] first (runs later).entries (world_after (runs later).entries (begun (answering is ticks later) [] first)) gaps
+  pub turned : (first : Mark) → BeginsLogged s (OpensTo kind reopens) old first → (later : List ℕ) → TurnedLogged (answering is ticks later) later end turns [] first (runs later).entries (world_after (runs later).entries (begun (answering is ticks later) [] first)) gaps
   -- a replica whose update log was a front of a list of updates, and its contents what that makes of the first: at each mark they are
   pub follows : is_replica is ≡ true → (first : Mark) → BeginsLogged s (OpensTo kind reopens) old first → (m : List Record) (c : Contents) → AreUpdates m → Follow 0 m → IsMarkOf m c first
       → (later : List ℕ) → AlwaysOf m (begun (answering is ticks later) [] first) (runs later).entries → AllMarksOf m c (world_after (runs later).entries (begun (answering is ticks later) [] first)).marks
 
 -- a limit was reached as an empty main file was made, or in the round of the last event, or in what that adds to the update log
-abbrev pub FullLogged : {S W : Type 0} → space.Ghosts S → wire.Ghosts W → Settings → (S → Type 0) → (S → S → Contents → Contents → Type 0) → (Files → Contents → Type 0) → S → S → W → W → Option (List ℕ) → Option (List ℕ) → Type 0
-FullLogged s g is lacks fills opens old new x y c d = FullFiles s.tells (s.now old 0 ≡ []) (lacks new) (FullRun (fills old new) (Lacks s new) is (BeginsLogged s opens old) [] (g.transcript x) (g.transcript y) c d × StandsLogged s opens old)
+abbrev pub FullLogged : {S W : Type 0} → space.Ghosts S → wire.Ghosts W → Settings → (S → Type 0) → (S → S → Contents → Contents → Type 0) → (Files → Contents → Type 0) → S → S → W → W → List ℕ → Type 0
+FullLogged s g is lacks fills opens old new x y ticks = FullFiles s.tells (s.now old 0 ≡ []) (lacks new) (FullRun (fills old new) (Lacks s new) is (BeginsLogged s opens old) [] ticks (g.transcript x) (g.transcript y) × StandsLogged s opens old)
 
 -- and of a volume
 pub record RunsLoggedOn {V W : Type 0} (v : volume.Ghosts V) (g : wire.Ghosts W) (is : Settings) (reopens : Files → Contents → Type 0) (made : Files → Type 0) (kind : Kind) (end : End) (turns : ℕ) (at : At) (old new : V) (x y : W) (c d : Option (List ℕ)) : Type 0 where
   pub ticks : List ℕ
   pub clocked : Adds c d ticks
+  pub small : All (λ t. t < 2 ^ 64) ticks
   pub runs : (later : List ℕ) → FilesRun (answering is ticks later) v.tells g (opens_logged (OpensTo kind reopens)) reopens made end turns at (v.calls old) (v.calls new) (v.names old).copies (v.names new).copies x y
   pub gaps : List (ℕ × ℕ)
   -- none without a master
   pub unmet : is.master ≡ None → gaps ≡ []
-  pub gaps_are : (first : Mark) → BeginsAt v.tells (opens_logged (OpensTo kind reopens)) (v.calls old) first → (later : List ℕ) → GapsOf (answering is ticks later) end turns [] first (runs later).entries (world_after (runs later).entries (begun (answering is ticks later) [] first)) gaps
+  pub turned : (first : Mark) → BeginsAt v.tells (opens_logged (OpensTo kind reopens)) (v.calls old) first → (later : List ℕ) → TurnedLogged (answering is ticks later) later end turns [] first (runs later).entries (world_after (runs later).entries (begun (answering is ticks later) [] first)) gaps
   pub follows : is_replica is ≡ true → (first : Mark) → BeginsAt v.tells (opens_logged (OpensTo kind reopens)) (v.calls old) first → (m : List Record) (c : Contents) → AreUpdates m → Follow 0 m → IsMarkOf m c first
       → (later : List ℕ) → AlwaysOf m (begun (answering is ticks later) [] first) (runs later).entries → AllMarksOf m c (world_after (runs later).entries (begun (answering is ticks later) [] first)).marks
 
@@ -123,27 +127,25 @@ CameToWire end = IsOut end ⊎ (end ≡ WireFault)
 -- ---- of a space and of a volume, with what the clock answered before and after
 
 module _ {S W K : Type 0} (s : space.Ghosts S) (g : wire.Ghosts W) (answers : K → Option (List ℕ)) (own : ℕ) (master : Option Master) where
-  -- a line of each gap was told; one is met only where the files stood for contents and an update log
-  abbrev pub LoggedAs : {E : Type 0} → sink.Ghosts E → (Files → Contents → Type 0) → (Files → Type 0) → Kind → End → ℕ → At → S → S → W → W → K → K → E → E → Type 0
-  LoggedAs e reopens made kind end turns at old new x y k l p q =
-      (run : RunsLogged s g (logging own master) reopens made kind end turns at old new x y (answers k) (answers l)) × TellsGaps e run.gaps p q × ((run.gaps ≡ []) ⊎ StandsLogged s (OpensTo kind reopens) old)
+  -- a line of each gap was told; one is met only where the files stood for contents and an update log; and a limit was reached with these answers of the clock
+  abbrev pub LoggedAs : {E B N : Type 0} → sink.Ghosts E → Says B N S → Kind → End → ℕ → At → S → S → W → W → K → K → E → E → Type 0
+  LoggedAs e b kind end turns at old new x y k l p q =
+      (run : RunsLogged s g (logging own master) b.reopens (b.shaped b.usual) kind end turns at old new x y (answers k) (answers l)) × TellsGaps e run.gaps p q × ((run.gaps ≡ []) ⊎ StandsLogged s (OpensTo kind b.reopens) old) × (end ≡ Full → FullLogged s g (logging own master) (λ z. b.lacks z b.usual) b.fills_since (OpensTo kind b.reopens) old new x y run.ticks)
 
   -- whatever the files are laid out like
   abbrev pub LoggedLaid : (ℕ → Type 0) → (Files → Layout) → (Files → Contents → Type 0) → (Files → Type 0) → Kind → End → ℕ → At → S → S → W → W → K → K → Type 0
   LoggedLaid files layout reopens made kind end turns at old new x y k l = (f : Frame) → RunsLogged s g (logging own master) (Laid files layout f reopens) made kind end turns at old new x y (answers k) (answers l)
 
-  abbrev pub FullLoggedAs : (S → Type 0) → (S → S → Contents → Contents → Type 0) → Kind → (Files → Contents → Type 0) → S → S → W → W → K → K → Type 0
-  FullLoggedAs lacks fills kind reopens old new x y k l = FullLogged s g (logging own master) lacks fills (OpensTo kind reopens) old new x y (answers k) (answers l)
+-- a limit was reached over a space of a volume, where the clock answered so
+abbrev pub FillsLogged : {S V W : Type 0} → volume.Ghosts V → space.Ghosts S → wire.Ghosts W → (S → V) → Kind → (Files → Contents → Type 0) → (S → Type 0) → (S → S → Contents → Contents → Type 0) → Settings → ℕ → V → V → W → W → List ℕ → Type 0
+FillsLogged v s g under kind reopens lacks fills is most old new x y ticks =
+    FilesFull s under v.calls v.tells lacks (λ begin space. FullRun (fills begin space) (Lacks s space) is (BeginsAt v.tells (opens_logged (OpensTo kind reopens)) (v.calls old)) [] ticks (g.transcript x) (g.transcript y) × CanStand v (opens_logged (OpensTo kind reopens)) old) most (v.calls old) new
 
 module _ {V W K : Type 0} (v : volume.Ghosts V) (g : wire.Ghosts W) (answers : K → Option (List ℕ)) (own : ℕ) (master : Option Master) where
-  abbrev pub LoggedOn : {E : Type 0} → sink.Ghosts E → (Files → Contents → Type 0) → (Files → Type 0) → Kind → End → ℕ → At → V → V → W → W → K → K → E → E → Type 0
-  LoggedOn e reopens made kind end turns at old new x y k l p q =
-      (run : RunsLoggedOn v g (logging own master) reopens made kind end turns at old new x y (answers k) (answers l)) × TellsGaps e run.gaps p q × ((run.gaps ≡ []) ⊎ CanStand v (opens_logged (OpensTo kind reopens)) old)
+  abbrev pub LoggedOn : {S E B N : Type 0} → space.Ghosts S → sink.Ghosts E → (S → V) → Says B N S → Kind → ℕ → ℕ → At → V → Stopped V → W → W → K → K → E → E → Type 0
+  LoggedOn s e under b kind most turns at old r x y k l p q =
+      (run : RunsLoggedOn v g (logging own master) b.reopens (b.shaped b.usual) kind r.end turns at old r.vol x y (answers k) (answers l)) × TellsGaps e run.gaps p q × ((run.gaps ≡ []) ⊎ CanStand v (opens_logged (OpensTo kind b.reopens)) old)
+      × (r.end ≡ Full → FillsLogged v s g under kind b.reopens (λ z. b.lacks z b.usual) b.fills_since (logging own master) most old r.vol x y run.ticks)
 
   abbrev pub LoggedLaidOn : (ℕ → Type 0) → (Files → Layout) → (Files → Contents → Type 0) → (Files → Type 0) → Kind → End → ℕ → At → V → V → W → W → K → K → Type 0
   LoggedLaidOn files layout reopens made kind end turns at old new x y k l = (f : Frame) → RunsLoggedOn v g (logging own master) (Laid files layout f reopens) made kind end turns at old new x y (answers k) (answers l)
-
-  -- a limit was reached over a space of this volume
-  abbrev pub FillsOn : {S N : Type 0} → space.Ghosts S → (S → V) → (S → N → Type 0) → N → (S → S → Contents → Contents → Type 0) → Kind → (Files → Contents → Type 0) → ℕ → V → V → W → W → K → K → Type 0
-  FillsOn s under lacks usual fills kind reopens most old new x y k l =
-      FilesFull s under v.calls v.tells (λ space. lacks space usual) (λ begin space. FullRun (fills begin space) (Lacks s space) (logging own master) (BeginsAt v.tells (opens_logged (OpensTo kind reopens)) (v.calls old)) [] (g.transcript x) (g.transcript y) (answers k) (answers l) × CanStand v (opens_logged (OpensTo kind reopens)) old) most (v.calls old) new

@@ -34,7 +34,7 @@ use Rattle.tk_top.specs.Runs.{AtExit, FullRun, NoneKept}
 use Rattle.tk_top.specs.Serving.{Begins, ServesAt, PlaysAll}
 use Rattle.tk_top.specs.Events.{HadEvents, events_of}
 use Rattle.tk_top.specs.CopyRuns.{CopyRun, StandsAt}
-use Rattle.tk_top.specs.Starts.{Start, begun, plainly}
+use Rattle.tk_top.specs.Starts.{Start, begun, plainly, with_log}
 use Rattle.tk_top.specs.Staying.{AsOpening, BreaksLog, BreaksOver, FilesStay, IsStill, LeavesBroken}
 use Rattle.tk_top.specs.Stops.{IsEarly}
 use Rattle.tk_top.specs.Volumes.{ShowsNow}
@@ -44,9 +44,9 @@ pub record VolumeRun (st : Start) (reopens : Files → Contents → Type 0) (mad
   pub asked : AllAsked (begun st [] first) es
   pub serves : ServesAt st end turns at first es v
   -- at the exit; where the run ended before the log was brought to the disk, as an opening image
-  pub exit : (ims : Files) → Images new ims → AtExit reopens end (mark_of (world_after serves.last.earlier (begun st [] first))) v (recovered ims) ⊎ ((IsEarly end × (es ≡ [])) × IsLostSync old new 1 × AsOpening old (recovered ims))
-  -- at any moment: a mark, or as an opening image
-  pub moments : (ims : Files) → ImagesSince new (length old) ims → AtMark reopens (recovered ims) v.marks ⊎ AsOpening old (recovered ims)
+  pub exit : (ims : Files) → Images new ims → AtExit reopens end (world_after serves.last.earlier (begun st [] first)) v (recovered ims) ⊎ ((IsEarly end × (es ≡ [])) × IsLostSync old new 1 × AsOpening old (recovered ims))
+  -- at any moment: a mark, with its log, or as an opening image
+  pub moments : (ims : Files) → ImagesSince new (length old) ims → AtMark (with_log st.is.logs reopens) (recovered ims) v.marks ⊎ AsOpening old (recovered ims)
   -- once anything was sent in the last turn, what stands for the last mark
   pub late : has_send serves.last.last ≡ true → (ims : Files) → Images new ims → Reopens reopens (recovered ims) (mark_of v)
   -- of the copy under each label
@@ -80,7 +80,7 @@ MainIsBare o = (files : Files) × (o ≡ Some files) × (files 0 ≡ [])
 
 -- a limit was reached in the round of the last event, with no update log
 abbrev pub FullPlain : (Contents → Contents → Type 0) → (Mark → Type 0) → Told → Told → Type 0
-FullPlain fills start a b = FullRun fills (λ at size. ⊥) plain start [] a b None None
+FullPlain fills start a b = FullRun fills (λ at size. ⊥) plain start [] [] a b
 
 -- of a database that is held
 abbrev pub FullPlainOf : {S W B : Type 0} → space.Ghosts S → wire.Ghosts W → (B → Files → Contents → Type 0) → (Files → Contents → Type 0) → (S → S → Contents → Contents → Type 0) → B → S → S → W → W → Type 0

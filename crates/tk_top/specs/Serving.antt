@@ -12,7 +12,7 @@ use Rattle.tc_io.specs.declared.wire.Entry.{Entry}
 use Rattle.tc_space.specs.declared.space.Space as space
 use Rattle.tc_model.specs.Contents.{Contents}
 use Rattle.ty_world.specs.World.{World, Mark, mark_of, copied_at, world_after, AllAsked, IsRested}
-use Rattle.ty_world.specs.Answers.{AllSpelled, AllAnswered, AllSent, AreInOrder, EachFed}
+use Rattle.ty_world.specs.Answers.{AllSpelled, AllAnswered, AllSent, AreInOrder, EachFed, EachWasFed}
 use Rattle.ty_ulog.specs.Log.{IsLog}
 use Rattle.ty_world.specs.Logs.{Settings}
 use Rattle.ty_world.specs.Playing.{unplayed_with}
@@ -25,7 +25,7 @@ use Rattle.tk_top.specs.declared.ends.End.TheVariants.{Done, TurnsSpent}
 use Rattle.tk_top.specs.Events.{HadEvents, events_of}
 use Rattle.tk_top.specs.Opened.{OpensOnly}
 use Rattle.tk_top.specs.Runs.{IsLast, AtExit, NoneKept}
-use Rattle.tk_top.specs.Starts.{Grows, Start, begun, most_turns, plainly, when}
+use Rattle.tk_top.specs.Starts.{Grows, Start, begun, most_turns, plainly, when, with_log}
 use Rattle.tk_top.specs.Staying.{IsStill}
 use Rattle.tk_top.specs.CopyRuns.{CopyRun, StandsAt}
 
@@ -45,6 +45,8 @@ pub record ServesAt (st : Start) (end : End) (turns : ℕ) (at : At) (first : Ma
   pub last : IsLast st end turns [] first es v
   -- each feed is owed all records above its timestamp
   pub fed : EachFed v.records v.there
+  -- and one that was closed, those of a front of them
+  pub was_fed : EachWasFed v.records v.past
   -- the update log only grows, and where all turns came to their end it is one still
   pub grown : Grows (begun st [] first) v
   pub logged : (end ≡ Done) ⊎ (end ≡ TurnsSpent) → when st.is.logs (IsLog v.log v.records)
@@ -63,8 +65,8 @@ pub record PlaysAll (is : Settings) (turns : ℕ) (now : Option Script) (end : E
 pub record SpaceRun {S : Type 0} (s : space.Ghosts S) (st : Start) (reopens : Files → Contents → Type 0) (made : Files → Type 0) (end : End) (turns : ℕ) (at : At) (old new : S) (first : Mark) (es : List Entry) (v : World) : Type 0 where
   pub asked : AllAsked (begun st [] first) es
   pub serves : ServesAt st end turns at first es v
-  pub exit : (o : Option Files) → s.left new (s.moment new) o → AtExit reopens end (mark_of (world_after serves.last.earlier (begun st [] first))) v o
-  pub moments : LeavesMarks s reopens old new v.marks
+  pub exit : (o : Option Files) → s.left new (s.moment new) o → AtExit reopens end (world_after serves.last.earlier (begun st [] first)) v o
+  pub moments : LeavesMarks s (with_log st.is.logs reopens) old new v.marks
   -- once anything was sent in the last turn, what stands for the last mark
   pub late : has_send serves.last.last ≡ true → (o : Option Files) → s.left new (s.moment new) o → Reopens reopens o (mark_of v)
   -- of the copy under each label

@@ -1,8 +1,10 @@
 -- How the worlds of a run begin.
 use Rattle.std.specs.Prelude.{◌≡◌, ◌++◌, ◌+◌, ℕ, Bool, true, false, List, [], length, Option, if◌then◌else◌}
+use Rattle.tc_base.specs.Files.{Files}
 use Rattle.tc_io.specs.declared.act.Act.{Act}
 use Rattle.tc_io.specs.declared.wire.At.{At}
-use Rattle.ty_ulog.specs.Log.{records_in}
+use Rattle.tc_model.specs.Contents.{Contents}
+use Rattle.ty_ulog.specs.Log.{IsLog, records_in}
 use Rattle.ty_ulog.specs.declared.record.Record.{Record}
 use Rattle.ty_world.specs.Logs.{Settings, is_replica, plain}
 use Rattle.ty_world.specs.Measure.{requests_in}
@@ -38,6 +40,11 @@ StartsAs l m = IsBook l (record { is = settings_of l; records = records_in m.log
 abbrev pub when : Bool → Type 0 → Type 0
 when true P = P
 when false P = Unit {0}
+
+-- files that stand so, and file 2 is an update log, where one is kept
+abbrev pub with_log : Bool → (Files → Contents → Type 0) → Files → Contents → Type 0
+with_log true opens = λ files c. opens files c × IsLog (files 2) (records_in (files 2))
+with_log false opens = opens
 
 -- the records of the update log are those that it had, and others behind them
 pub record Grows (w v : World) : Type 0 where

@@ -14,15 +14,13 @@ use Rattle.tc_io.specs.declared.wire.Wire as wire
 use Rattle.tc_io.specs.declared.wire.At.{At}
 use Rattle.tc_io.specs.declared.wire.Entry.{Entry}
 use Rattle.ud_log.specs.Undo.{data_of, is_data, recovered}
-use Rattle.ud_state.specs.State.{IsSettled}
 use Rattle.tc_model.specs.Contents.{Contents, no_data}
 use Rattle.ty_world.specs.World.{Mark, World, world_after, AllAsked}
 use Rattle.ty_world.specs.Playing.{unplayed_with}
 use Rattle.ty_world.specs.Logs.{Settings}
-use Rattle.ty_base.specs.Holding.{Frame, Laid, no_layout}
 use Rattle.ty_base.specs.Opening.{OpensTo}
 use Rattle.ty_wire.specs.Prefixes.{IsPrefix}
-use Rattle.tk_mgr.specs.Managing.{FillsTask, packing, said_by}
+use Rattle.tk_mgr.specs.Managing.{FillsTask}
 use Rattle.tk_mgr.specs.Tasks.{text_of}
 use Rattle.tk_mgr.specs.declared.task.Task.{Task}
 use Rattle.tk_mgr.specs.declared.task.Task.TheVariants as tasks
@@ -30,20 +28,17 @@ use Rattle.tk_words.specs.Words.{Word}
 use Rattle.tk_top.specs.declared.ends.End.{End}
 use Rattle.tk_top.specs.declared.ends.End.TheVariants.{Done, Words, Refused, VolumeFault, Broken, NoMemory, Full, WireFault, TurnsSpent}
 use Rattle.tk_top.specs.Ends.{line_of, status_of}
-use Rattle.tk_top.specs.Causes.{CausedIn, CausedByVolume, CausedByWire}
+use Rattle.tk_top.specs.Causes.{CausedIn, CausedByWire}
 use Rattle.tk_top.specs.GapLines.{TellsGaps, gap_lines}
-use Rattle.tk_top.specs.Guarding.{GuardsOn, GuardsTaskOn}
-use Rattle.tk_top.specs.Logging.{CameToWire, RunsLoggedOn, SparesUnlogged, breaks_logged, logging, opens_logged}
-use Rattle.tk_top.specs.Making.{InShape, IsThere, JudgedMakingOn, MakesOn}
-use Rattle.tk_top.specs.Naming.{NamesOnce, NamesTold}
-use Rattle.tk_top.specs.Over.{BeginsAt, CanStand, FullFiles, FullPlain, JudgedOn, MainIsBare, RunsOn}
+use Rattle.tk_top.specs.Logging.{logging, opens_logged}
+use Rattle.tk_top.specs.Over.{BeginsAt, CanStand, FullFiles, FullPlain, MainIsBare}
 use Rattle.tk_top.specs.Runs.{FullRun}
 use Rattle.tk_top.specs.Serving.{ServesAt, PlaysAll}
 use Rattle.tk_top.specs.Starts.{begun, plainly}
 use Rattle.tk_top.specs.Stored.{anew_of, breaks_new_of, breaks_of, fills_of, kind_in, lacks_large_of, lacks_of, layout_of, lines_in, numbers_of, own_of, packed_in, reopens_of, stored_as, usual_of}
-use Rattle.tk_top.specs.Stops.{LeavesAlone}
-use Rattle.tk_top.specs.Tasks.{FormsOn, FullTask, JudgedTaskOn, ManagesOn}
+use Rattle.tk_top.specs.Tasks.{FullTask}
 use Rattle.tk_top.specs.Words.{asked_of}
+use Rattle.tk_top.specs.Works.{LogsFiles, RemakesFiles, ServesFiles, TasksFiles}
 use Rattle.tk_top.specs.declared.words.Asked.{Asked}
 use Rattle.tk_top.specs.declared.words.Asked.TheVariants as asked
 use Rattle.tk_top.specs.declared.words.Shape.{Shape}
@@ -135,43 +130,18 @@ abbrev pub FullServed : {V W : Type 0} → volume.Ghosts V → wire.Ghosts W →
 FullServed v g stored vol vol' x y limits = FullPlain (FillsAt v stored limits vol') (BeginsAt v.tells (Opens stored) (v.calls vol)) (g.transcript x) (g.transcript y)
 
 -- with an update log, or in what that round adds to it
-abbrev pub FullRecorded : {V W : Type 0} → volume.Ghosts V → wire.Ghosts W → Stored → Settings → V → V → W → W → Option (List ℕ) → Option (List ℕ) → (ℕ → ℕ) → Type 0
-FullRecorded v g stored is vol vol' x y c d limits = FullRun (FillsAt v stored limits vol') (LacksLog v limits vol') is (BeginsAt v.tells (opens_logged (Opens stored)) (v.calls vol)) [] (g.transcript x) (g.transcript y) c d × CanStand v (opens_logged (Opens stored)) vol
+abbrev pub FullRecorded : {V W : Type 0} → volume.Ghosts V → wire.Ghosts W → Stored → Settings → V → V → W → W → List ℕ → (ℕ → ℕ) → Type 0
+FullRecorded v g stored is vol vol' x y ticks limits = FullRun (FillsAt v stored limits vol') (LacksLog v limits vol') is (BeginsAt v.tells (opens_logged (Opens stored)) (v.calls vol)) [] ticks (g.transcript x) (g.transcript y) × CanStand v (opens_logged (Opens stored)) vol
 
 -- a run that serves the database that the files of a name keep, at an address
-pub record FileRun {V W : Type 0} (v : volume.Ghosts V) (g : wire.Ghosts W) (end : End) (name : List ℕ) (stored : Stored) (limit : ℕ) (at : At) (turns : ℕ) (vol vol' : V) (x y : W) : Type 0 where
-  pub names : NamesTold v name vol vol'
-  -- what came of the wire, and what any stop leaves of a volume that was settled and whose files stood for contents
-  pub told : RunsOn v g (reopens_of stored) (numbers_of (usual_of stored)) (kind_in stored) end turns at vol vol' x y
-  -- whatever the files are laid out like, and whichever stand beside them, so it is with files that have their numbers and nothing more behind, beside those
-  pub laid : (l : Frame) → RunsOn v g (Laid (own_of stored) (layout_of stored) l (reopens_of stored)) (numbers_of (usual_of stored)) (kind_in stored) end turns at vol vol' x y
-  -- where it was served, the files stood for contents; and where a rule is named, it is the first that is broken
-  pub judged : JudgedOn v (Opens stored) (breaks_of stored) end vol vol'
-  -- the wire, files that break a rule and the limits of files
-  pub guards : GuardsOn v (Opens stored) limit end vol vol' x y
-  pub full : end ≡ Full → IsFull v stored limit vol vol' (FullServed v g stored vol vol' x y)
-  pub caused : CausedIn v.faults g.faults end vol vol' x y
+abbrev pub FileRun : {V W : Type 0} → volume.Ghosts V → wire.Ghosts W → End → List ℕ → Stored → ℕ → At → ℕ → V → V → W → W → Type 0
+FileRun v g end name stored limit at turns vol vol' x y =
+    ServesFiles v g (kind_in stored) (reopens_of stored) (own_of stored) (layout_of stored) (numbers_of (usual_of stored)) (breaks_of stored) (IsFull v stored limit vol vol' (FullServed v g stored vol vol' x y)) end name limit at turns vol vol' x y
 
 -- a run that serves the database and the update log that the files of a name keep, at an address, and met these gaps
-pub record LoggedRun {V W : Type 0} (v : volume.Ghosts V) (g : wire.Ghosts W) (end : End) (name : List ℕ) (stored : Stored) (limit : ℕ) (is : Settings) (at : At) (turns : ℕ) (gaps : List (ℕ × ℕ)) (vol vol' : V) (x y : W) (c d : Option (List ℕ)) : Type 0 where
-  pub names : NamesTold v name vol vol'
-  -- what came of the wire and of the clock, and what any stop leaves of a volume that was settled and whose files stood for contents and an update log
-  pub told : RunsLoggedOn v g is (reopens_of stored) (numbers_of (usual_of stored)) (kind_in stored) end turns at vol vol' x y c d
-  pub gaps_are : told.gaps ≡ gaps
-  -- one is met only where the files stood for contents and an update log
-  pub met : (gaps ≡ []) ⊎ CanStand v (opens_logged (Opens stored)) vol
-  -- whatever the files are laid out like, and whichever stand beside them, so it is with files that have their numbers and nothing more behind, beside those
-  pub laid : (l : Frame) → RunsLoggedOn v g is (Laid (own_of stored) (layout_of stored) l (reopens_of stored)) (numbers_of (usual_of stored)) (kind_in stored) end turns at vol vol' x y c d
-  -- where it was served, the files stood for contents; and where a rule is named, it is the first that is broken: of the database, and then of the update log
-  pub judged : JudgedOn v (Opens stored) (breaks_logged (Opens stored) (breaks_of stored)) end vol vol'
-  -- and for an update log, where the wire was come to
-  pub stood : CameToWire end → CanStand v (opens_logged (Opens stored)) vol
-  -- the wire, files that break a rule and the limits of files
-  pub guards : GuardsOn v (opens_logged (Opens stored)) limit end vol vol' x y
-  -- beside a file 2 that is no update log all files stay, also an empty main file, however it ends
-  pub unlogged : SparesUnlogged v end vol vol'
-  pub full : end ≡ Full → IsFull v stored limit vol vol' (FullRecorded v g stored is vol vol' x y c d)
-  pub caused : CausedIn v.faults g.faults end vol vol' x y
+abbrev pub LoggedRun : {V W : Type 0} → volume.Ghosts V → wire.Ghosts W → End → List ℕ → Stored → ℕ → Settings → At → ℕ → List (ℕ × ℕ) → V → V → W → W → Option (List ℕ) → Option (List ℕ) → Type 0
+LoggedRun v g end name stored limit is at turns gaps vol vol' x y c d =
+    LogsFiles v g (kind_in stored) (reopens_of stored) (own_of stored) (layout_of stored) (numbers_of (usual_of stored)) (breaks_of stored) (λ ticks. IsFull v stored limit vol vol' (FullRecorded v g stored is vol vol' x y ticks)) end name limit is at turns gaps vol vol' x y c d
 
 -- a run that serves what it is asked to, and met these gaps; with a database in memory the volume is left alone, and no limit of a file is above 2 ^ 40 bytes
 abbrev pub SourceRun : {V W : Type 0} → volume.Ghosts V → wire.Ghosts W → End → Source → At → ℕ → List (ℕ × ℕ) → V → V → W → W → Option (List ℕ) → Option (List ℕ) → Type 0
@@ -189,20 +159,9 @@ pub record IsFullTask {V : Type 0} (v : volume.Ghosts V) (stored : Stored) (task
   pub full : FullTask v.tells (MainIsBare (recovered (now (v.calls vol)))) (LacksUsual v stored limits vol') (FillsTaskAt v stored limits vol vol') (BeginsAt v.tells (Opens stored) (v.calls vol)) task
 
 -- a run that carries out a task on the files of a name
-pub record TaskOnFiles {V O : Type 0} (v : volume.Ghosts V) (o : sink.Ghosts O) (end : End) (name : List ℕ) (stored : Stored) (task : Task) (vol vol' : V) (p q : O) : Type 0 where
-  pub names : NamesOnce v name vol vol'
-  -- what was printed, and what any stop leaves of a volume that was settled and whose files stood for contents
-  pub told : ManagesOn v o (reopens_of stored) (lines_in stored) (packed_in stored) (kind_in stored) task end vol vol' p q
-  -- so it is with files laid out like them, where the task packs none, beside the same in any case
-  pub laid : (l : Frame) → ManagesOn v o (Laid (own_of stored) (said_by (packing task) (layout_of stored)) l (reopens_of stored)) (lines_in stored) (packed_in stored) (kind_in stored) task end vol vol' p q
-  -- files that were packed have the numbers that they had, in the form that was asked for
-  pub formed : FormsOn v (layout_of stored) (Opens stored) task end vol vol'
-  -- where it was carried out, the files stood for contents; where it was refused, for a reason; and where a rule is named, it is the first that is broken
-  pub judged : JudgedTaskOn v (Opens stored) (breaks_of stored) task end vol vol'
-  -- what is printed to, files that break a rule and a main file that isn't as the task wants it
-  pub guards : GuardsTaskOn v (Opens stored) task end vol vol' p q
-  pub full : end ≡ Full → IsFullTask v stored task vol vol'
-  pub caused : CausedIn v.faults o.faults end vol vol' p q
+abbrev pub TaskOnFiles : {V O : Type 0} → volume.Ghosts V → sink.Ghosts O → End → List ℕ → Stored → Task → V → V → O → O → Type 0
+TaskOnFiles v o end name stored task vol vol' p q =
+    TasksFiles v o (kind_in stored) (reopens_of stored) (own_of stored) (layout_of stored) (breaks_of stored) (lines_in stored) (packed_in stored) (IsFullTask v stored task vol vol') end name task vol vol' p q
 
 -- there was no room for a file made anew
 pub record IsLacking {V : Type 0} (v : volume.Ghosts V) (shape : Shape) (vol vol' : V) : Type 0 where
@@ -211,20 +170,8 @@ pub record IsLacking {V : Type 0} (v : volume.Ghosts V) (shape : Shape) (vol vol
   pub lack : v.tells → lacks_of shape limit (LogIsFull v vol') (Unit {0}) (files_in v vol' 0)
 
 -- a run that makes the files of a name anew
-pub record MakesFiles {V : Type 0} (v : volume.Ghosts V) (end : End) (name : List ℕ) (shape : Shape) (vol vol' : V) : Type 0 where
-  pub names : NamesOnce v name vol vol'
-  -- what any stop leaves of a volume that was settled and whose files stood for contents
-  pub made : MakesOn v (reopens_of (stored_as shape)) (numbers_of shape) (anew_of shape) end vol vol'
-  -- where the main file is empty it is so, or has these numbers, at any moment and however it ends
-  pub shaped : MakesOn v (InShape (reopens_of (stored_as shape)) (numbers_of shape)) (numbers_of shape) (anew_of shape) end vol vol'
-  -- files beside them stay
-  pub laid : (l : Frame) → MakesOn v (Laid (own_of (stored_as shape)) no_layout l (reopens_of (stored_as shape))) (numbers_of shape) (anew_of shape) end vol vol'
-  -- where it was made, the main file was empty; where it was refused, it wasn't; and where a rule is named, it is one of the log
-  pub judged : JudgedMakingOn v (breaks_new_of shape) end vol vol'
-  -- a main file that is there is looked at, and no more
-  pub there : v.tells → LeavesAlone IsThere end (v.calls vol) (v.calls vol')
-  pub full : end ≡ Full → IsLacking v shape vol vol'
-  pub caused : CausedByVolume v.faults end vol vol'
+abbrev pub MakesFiles : {V : Type 0} → volume.Ghosts V → End → List ℕ → Shape → V → V → Type 0
+MakesFiles v end name shape vol vol' = RemakesFiles v (reopens_of (stored_as shape)) (own_of (stored_as shape)) (numbers_of shape) (anew_of shape) (breaks_new_of shape) (IsLacking v shape vol vol') end name vol vol'
 
 -- an end of a drill in memory
 abbrev pub IsDrilled : End → Type 0
@@ -249,7 +196,7 @@ pub record DrillsMemory {O : Type 0} (o : sink.Ghosts O) (end : End) (memory : M
 
 -- ---- what is asked for
 
--- it is served, made or done, and all else is left alone; gaps are met only where it is served
+-- it is served, made or done, and all else but the clock is left alone; gaps are met only where it is served
 abbrev pub AskedRun : {V W O : Type 0} → volume.Ghosts V → wire.Ghosts W → sink.Ghosts O → End → Asked → List (ℕ × ℕ) → V → V → W → W → O → O → Option (List ℕ) → Option (List ℕ) → Type 0
 AskedRun v g o end (asked.Serve source at turns) gaps vol vol' x y p q c d = SourceRun v g end source at turns gaps vol vol' x y c d × (q ≡ p)
 AskedRun v g o end (asked.Task name stored task) gaps vol vol' x y p q c d = TaskOnFiles v o end name stored task vol vol' p q × ((y ≡ x) × (gaps ≡ []))
@@ -280,20 +227,13 @@ pub record Runs {V W O E : Type 0} (v : volume.Ghosts V) (g : wire.Ghosts W) (o 
 
 -- ---- with what the clock answered before and after, and a line of each gap told
 
-module _ {V W K E : Type 0} (v : volume.Ghosts V) (g : wire.Ghosts W) (answers : K → Option (List ℕ)) (e : sink.Ghosts E) where
-  abbrev pub ServesLogged : End → List ℕ → Stored → ℕ → Settings → At → ℕ → V → V → W → W → K → K → E → E → Type 0
-  ServesLogged end name stored limit is at turns vol vol' x y k l r s = (gaps : List (ℕ × ℕ)) × LoggedRun v g end name stored limit is at turns gaps vol vol' x y (answers k) (answers l) × TellsGaps e gaps r s
+module _ {V W K E O : Type 0} (v : volume.Ghosts V) (g : wire.Ghosts W) (answers : K → Option (List ℕ)) (e : sink.Ghosts E) (o : sink.Ghosts O) where
+  abbrev pub CarriesOut : End → Asked → V → V → W → W → O → O → K → K → E → E → Type 0
+  CarriesOut end a vol vol' x y p q k l r s = (gaps : List (ℕ × ℕ)) × AskedRun v g o end a gaps vol vol' x y p q (answers k) (answers l) × TellsGaps e gaps r s
 
-  abbrev pub ServesSource : End → Source → At → ℕ → V → V → W → W → K → K → E → E → Type 0
-  ServesSource end source at turns vol vol' x y k l r s = (gaps : List (ℕ × ℕ)) × SourceRun v g end source at turns gaps vol vol' x y (answers k) (answers l) × TellsGaps e gaps r s
+  abbrev pub RunsWanted : Option Asked → End → V → V → W → W → O → O → K → K → E → E → Type 0
+  RunsWanted want end vol vol' x y p q k l r s = (gaps : List (ℕ × ℕ)) × RunsAsked v g o want gaps end vol vol' x y p q (answers k) (answers l) × TellsGaps e gaps r s
 
-  module _ {O : Type 0} (o : sink.Ghosts O) where
-    abbrev pub CarriesOut : End → Asked → V → V → W → W → O → O → K → K → E → E → Type 0
-    CarriesOut end a vol vol' x y p q k l r s = (gaps : List (ℕ × ℕ)) × AskedRun v g o end a gaps vol vol' x y p q (answers k) (answers l) × TellsGaps e gaps r s
-
-    abbrev pub RunsWanted : Option Asked → End → V → V → W → W → O → O → K → K → E → E → Type 0
-    RunsWanted want end vol vol' x y p q k l r s = (gaps : List (ℕ × ℕ)) × RunsAsked v g o want gaps end vol vol' x y p q (answers k) (answers l) × TellsGaps e gaps r s
-
-    -- on words, with the status of its end
-    abbrev pub RunsOnWords : List Word → ℕ → V → V → W → W → O → O → K → K → E → E → Type 0
-    RunsOnWords ws status vol vol' x y p q k l r s = (end : End) × (status ≡ status_of end) × Runs v g o e ws end vol vol' x y p q (answers k) (answers l) r s
+  -- on words, with the status of its end
+  abbrev pub RunsOnWords : List Word → ℕ → V → V → W → W → O → O → K → K → E → E → Type 0
+  RunsOnWords ws status vol vol' x y p q k l r s = (end : End) × (status ≡ status_of end) × Runs v g o e ws end vol vol' x y p q (answers k) (answers l) r s

@@ -1,5 +1,5 @@
 -- What a space over a volume tells of the volume's files.
-use Rattle.std.specs.Prelude.{◌≡◌, ◌≤◌, ℕ, min, Bool, [], ◌∷◌, length, nat_lt, if◌then◌else◌, Option}
+use Rattle.std.specs.Prelude.{◌≡◌, ◌≤◌, ℕ, min, Bool, [], ◌∷◌, nat_lt, if◌then◌else◌, Option}
 use Rattle.std.proofs.Common.{inl, inr, ⊎_elim, arith, ap, subst, sym}
 use Rattle.std.proofs.lemmas.Bool.{le-ltb}
 use Rattle.tc_base.specs.Files.{Files}

@@ -13,6 +13,7 @@ mod serving;
 mod top;
 mod volumes;
 mod words;
+mod working;
 
 pub use base::serve_base;
 pub use ends::{End, Stopped};

@@ -7,9 +7,8 @@ ghost use Rattle.ty_world.specs.World.{Mark};
 ghost use Rattle.ty_rounds.specs.Kept.{MovesTo};
 ghost use Rattle.tk_top.specs.Serving.{Begins};
 ghost use Rattle.tk_top.specs.Causes.{CausedIn, IsServedFor};
-ghost use Rattle.tk_top.specs.declared.ends.End.TheVariants.{Full};
 ghost use Rattle.tk_top.specs.Guarding.{GuardsOn, GuardsOver};
-ghost use Rattle.tk_top.specs.Logging.{BreaksLogged, CameToWire, FillsOn, FullLoggedAs, KeepsUnlogged, LoggedAs, LoggedLaid, LoggedLaidOn, LoggedOn, OpensLogged, SparesUnlogged, StandsLogged, breaks_logged, logging, opens_logged};
+ghost use Rattle.tk_top.specs.Logging.{BreaksLogged, CameToWire, KeepsUnlogged, LoggedAs, LoggedLaid, LoggedLaidOn, LoggedOn, OpensLogged, SparesUnlogged, StandsLogged, breaks_logged, logging, opens_logged};
 ghost use Rattle.tk_top.specs.Naming.{NamesTold};
 ghost use Rattle.tk_top.specs.Over.{CanStand, HoldsLike, Judged, JudgedOn, MovesLike};
 ghost use Rattle.tk_top.specs.Staying.{OpensThere};
@@ -72,9 +71,8 @@ pub fn serve_logged<B: Base + Opens + Drop, W: Wire, E: Sink, K: Clock>(
     requires opened { W.opened wire.old ≡ false }
     requires sound { B.S.sound space.old }
     requires untouched { B.S.touched space.old ≡ false }
-    ensures told { LoggedAs B.S.Space W.Wire K.answers own master E.Sink B.reopens (B.shaped B.usual) kind result turns at.now space.old space.new wire.old wire.new clock.old clock.new err.old err.new }
+    ensures told { LoggedAs B.S.Space W.Wire K.answers own master E.Sink B.Opens kind result turns at.now space.old space.new wire.old wire.new clock.old clock.new err.old err.new }
     ensures laid { LoggedLaid B.S.Space W.Wire K.answers own master B.own B.layout B.reopens (B.shaped B.usual) kind result turns at.now space.old space.new wire.old wire.new clock.old clock.new }
-    ensures full { result ≡ Full → FullLoggedAs B.S.Space W.Wire K.answers own master (λ x. B.lacks x B.usual) B.fills_since kind B.reopens space.old space.new wire.old wire.new clock.old clock.new }
     ensures judged { Judged result (CanOpen B.S.Space B.reopens kind space.old) (BreaksLogged B.S.Space (OpensTo kind B.reopens) (B.breaks kind) space.old space.new) }
     // The update log was one too where the wire was come to.
     ensures stood { CameToWire result → StandsLogged B.S.Space (OpensTo kind B.reopens) space.old }
@@ -115,7 +113,7 @@ pub fn run_logged<S: OnVolume, B: Base + Opens<S = S> + Drop, W: Wire, E: Sink, 
     requires limit { limit ≤ 2 ^ 40 }
     ensures names { NamesTold S.V.Volume name.now vol result.vol }
     // What came of the wire, of the clock and of the line of each gap, and what any stop leaves of a volume that was settled and whose files stood for contents and an update log.
-    ensures told { LoggedOn S.V.Volume W.Wire K.answers own master E.Sink B.reopens (B.shaped B.usual) kind result.end turns at.now vol result.vol wire.old wire.new clock.old clock.new err.old err.new }
+    ensures told { LoggedOn S.V.Volume W.Wire K.answers own master S.Space E.Sink S.under B.Opens kind limit turns at.now vol result wire.old wire.new clock.old clock.new err.old err.new }
     // Whatever the files are laid out like, and whichever stand beside them, so it is with files that are laid out like them, beside those.
     ensures laid { LoggedLaidOn S.V.Volume W.Wire K.answers own master B.own B.layout B.reopens (B.shaped B.usual) kind result.end turns at.now vol result.vol wire.old wire.new clock.old clock.new }
     // Where it was served, the files stood for contents; and where a rule is named, it is broken.
@@ -125,7 +123,6 @@ pub fn run_logged<S: OnVolume, B: Base + Opens<S = S> + Drop, W: Wire, E: Sink, 
     ensures guards { GuardsOn S.V.Volume (opens_logged (OpensTo kind B.reopens)) limit result.end vol result.vol wire.old wire.new }
     // Beside a file 2 that is no update log all files stay, also an empty main file.
     ensures unlogged { SparesUnlogged S.V.Volume result.end vol result.vol }
-    ensures full { result.end ≡ Full → FillsOn S.V.Volume W.Wire K.answers own master S.Space S.under B.lacks B.usual B.fills_since kind B.reopens limit vol result.vol wire.old wire.new clock.old clock.new }
     ensures caused { CausedIn S.V.faults W.faults result.end vol result.vol wire.old wire.new }
 {
     let mut space = match open_named::<S>(alloc, name, vol, limit) {

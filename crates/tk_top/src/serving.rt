@@ -1,11 +1,9 @@
 //! The loop of turns.
-ghost use Rattle.std.specs.Prelude.{◌≡◌, [], List, None, false, true};
-ghost use Rattle.tc_io.specs.declared.wire.At.{At};
+ghost use Rattle.std.specs.Prelude.{◌≡◌, [], None, false, true};
 ghost use Rattle.ty_rounds.specs.Servers.{IsReadyAs};
-ghost use Rattle.tk_top.specs.declared.ends.End.TheVariants.{Full};
 ghost use Rattle.tk_top.specs.Ends.{IsEnd};
 ghost use Rattle.tk_top.specs.Over.{IsOut};
-ghost use Rattle.tk_top.specs.Runs.{EndsAs, EndsLaid, FullRunAs};
+ghost use Rattle.tk_top.specs.Runs.{EndsAs, EndsLaid};
 ghost use Rattle.tk_top.specs.Causes.{IsServedFor};
 
 use crate::ends::End;
@@ -29,9 +27,8 @@ pub fn serve<B: Base, W: Wire, E: Sink, K: Clock>(
     requires peers { server.old.peers.items ≡ [] }
     requires walk { server.old.walk ≡ None }
     requires due { server.old.due ≡ true }
-    ensures told { EndsAs B.S.Space W.Wire K.answers B.holds B.reopens E.Sink result turns server.old space.old space.new wire.old wire.new clock.old clock.new err.old err.new }
+    ensures told { EndsAs B.S.Space W.Wire K.answers B.holds B.reopens B.fills_since E.Sink result turns server.old space.old space.new wire.old wire.new clock.old clock.new err.old err.new }
     ensures laid { EndsLaid B.S.Space W.Wire K.answers B.holds B.reopens B.own B.layout E.Sink result turns server.old space.old space.new wire.old wire.new clock.old clock.new err.old err.new }
-    ensures full { result ≡ Full → (opens : List At) → FullRunAs B.S.Space W.Wire K.answers B.holds B.reopens B.fills_since opens server.old space.old space.new wire.old wire.new clock.old clock.new }
     ensures accounted { IsServedFor B.S.Space W.faults result space.old space.new wire.old wire.new }
     ensures ends { IsEnd result }
     ensures sound { IsOut result → B.S.sound space.new × (B.S.touched space.new ≡ false) }

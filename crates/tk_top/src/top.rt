@@ -1,37 +1,38 @@
 //! The top call.
-ghost use Rattle.std.specs.Prelude.{◌≡◌, ◌≤◌, ◌^◌, min, Some, false};
+ghost use Rattle.std.specs.Prelude.{◌≡◌, Some, false};
+ghost use Rattle.tc_fixeddb.specs.Shapes as fixed_shape;
+ghost use Rattle.tc_hashdb.specs.Shapes.{MayHave};
+ghost use Rattle.tc_treedb.specs.Shapes as tree_shape;
 ghost use Rattle.tc_memdb.specs.Engines.{contents_in};
 ghost use Rattle.ty_answers.specs.Engines.{engine_of};
 ghost use Rattle.tk_words.specs.Words.{texts};
-ghost use Rattle.tk_top.specs.Logging.{logging};
-ghost use Rattle.tk_top.specs.Top.{CarriesOut, CausedBy, DrillsMemory, FileRun, RunsWanted, MakesFiles, MemoryRun, RunsOnWords, ServesLogged, ServesSource, TaskOnFiles, no_keys};
+ghost use Rattle.tk_top.specs.Top.{CarriesOut, DrillsMemory, MemoryRun, RunsOnWords, RunsWanted, no_keys};
 ghost use Rattle.tk_top.specs.Words.{Fits, MayBeMade, asked_in, asked_of};
-ghost use Rattle.tk_top.specs.Causes.{CausedByWire, CausedIn};
+ghost use Rattle.tk_top.specs.Works.{MayWork, asked_fixed, asked_hash, asked_to, asked_tree};
+ghost use Rattle.tk_top.specs.Causes.{CausedByWire};
+ghost use Rattle.tk_top.specs.declared.words.Asked.TheVariants as asks;
 
 use crate::base::serve_base;
 use crate::ends::{End, Stopped};
-use crate::files::run_files;
 use crate::lines::put_line;
-use crate::logged::run_logged;
-use crate::making::make_files;
-use crate::managing::{end_of, manage_files};
+use crate::managing::end_of;
 use crate::volumes::OnVolume;
 use crate::words::{Asked, Memory, Shape, Source, Stored, what_is_asked};
+use crate::working::{Job, Work, work_on};
 use std::alloc::Global;
 use std::mem::ManuallyDrop;
-use tc_base::{FILE_MOST, Kind};
-use tc_fixeddb::FixedEngine;
-use tc_hashdb::HashEngine;
+use tc_base::Kind;
+use tc_fixeddb::{FixedEngine, FixedShape};
+use tc_hashdb::{HashEngine, HashShape};
 use tc_held::HeldSpace;
 use tc_io::{At, Clock, Sink, Volume, Wire};
 use tc_memdb::MemEngine;
 use tc_space::NoSpace;
-use tc_treedb::TreeEngine;
+use tc_treedb::{TreeEngine, TreeShape};
 use tc_undo::Undo;
 use tk_mgr::{Task, manage};
 use tk_words::{CommandLine, parse};
 use ty_answers::Database;
-use ty_rounds::Master;
 
 // What stands behind a database in files: what is written is held in memory until a commit, and then made at once over the undo log.
 type Kept<V> = HeldSpace<Undo<V>>;
@@ -82,172 +83,222 @@ fn serve_memory<W: Wire, E: Sink, K: Clock>(
     )
 }
 
-// The database that the files of a name keep, served at an address.
-fn serve_stored<S: OnVolume, W: Wire, E: Sink, K: Clock>(
+// What is done with the files of a hash database.
+fn on_hash<S: OnVolume, W: Wire, O: Sink, E: Sink, K: Clock>(
+    alloc: Global,
+    name: &str,
+    work: Work<'_, HashShape>,
+    vol: S::V,
+    wire: &mut W,
+    out: &mut O,
+    err: &mut E,
+    clock: &mut K,
+) -> Stopped<S::V>
+    requires opened { W.opened wire.old ≡ false }
+    requires fits { MayWork MayHave work }
+    ensures { CarriesOut S.V.Volume W.Wire K.answers E.Sink O.Sink result.end (asked_hash name.now work.entry) vol result.vol wire.old wire.new out.old out.new clock.old clock.new err.old err.new }
+{
+    work_on::<S, Database<HashEngine<S>>, W, O, E, K>(
+        alloc,
+        name,
+        Kind::Hash,
+        work,
+        vol,
+        wire,
+        out,
+        err,
+        clock,
+    )
+}
+
+// What is done with the files of a tree database.
+fn on_tree<S: OnVolume, W: Wire, O: Sink, E: Sink, K: Clock>(
+    alloc: Global,
+    name: &str,
+    work: Work<'_, TreeShape>,
+    vol: S::V,
+    wire: &mut W,
+    out: &mut O,
+    err: &mut E,
+    clock: &mut K,
+) -> Stopped<S::V>
+    requires opened { W.opened wire.old ≡ false }
+    requires fits { MayWork tree_shape.MayHave work }
+    ensures { CarriesOut S.V.Volume W.Wire K.answers E.Sink O.Sink result.end (asked_tree name.now work.entry) vol result.vol wire.old wire.new out.old out.new clock.old clock.new err.old err.new }
+{
+    work_on::<S, Database<TreeEngine<S>>, W, O, E, K>(
+        alloc,
+        name,
+        Kind::Tree,
+        work,
+        vol,
+        wire,
+        out,
+        err,
+        clock,
+    )
+}
+
+// What is done with the files of a fixed-length database.
+fn on_fixed<S: OnVolume, W: Wire, O: Sink, E: Sink, K: Clock>(
+    alloc: Global,
+    name: &str,
+    work: Work<'_, FixedShape>,
+    vol: S::V,
+    wire: &mut W,
+    out: &mut O,
+    err: &mut E,
+    clock: &mut K,
+) -> Stopped<S::V>
+    requires opened { W.opened wire.old ≡ false }
+    requires fits { MayWork fixed_shape.MayHave work }
+    ensures { CarriesOut S.V.Volume W.Wire K.answers E.Sink O.Sink result.end (asked_fixed name.now work.entry) vol result.vol wire.old wire.new out.old out.new clock.old clock.new err.old err.new }
+{
+    work_on::<S, Database<FixedEngine<S>>, W, O, E, K>(
+        alloc,
+        name,
+        Kind::Fixed,
+        work,
+        vol,
+        wire,
+        out,
+        err,
+        clock,
+    )
+}
+
+// A job on the files of a name.
+fn do_stored<S: OnVolume, W: Wire, O: Sink, E: Sink, K: Clock>(
     alloc: Global,
     name: &str,
     stored: Stored,
+    job: Job,
     vol: S::V,
-    limit: u64,
-    at: &At,
     wire: &mut W,
+    out: &mut O,
     err: &mut E,
     clock: &mut K,
-    turns: u64,
 ) -> Stopped<S::V>
     requires opened { W.opened wire.old ≡ false }
-    requires limit { limit ≤ 2 ^ 40 }
-    ensures done { FileRun S.V.Volume W.Wire result.end name.now stored limit at.now turns vol result.vol wire.old wire.new }
-    ensures silent { err.new ≡ err.old }
+    ensures { CarriesOut S.V.Volume W.Wire K.answers E.Sink O.Sink result.end (asked_to stored name.now job) vol result.vol wire.old wire.new out.old out.new clock.old clock.new err.old err.new }
 {
     match stored {
-        Stored::Hash => run_files::<S, Database<HashEngine<S>>, W, E, K>(
+        Stored::Hash => on_hash::<S, W, O, E, K>(
             alloc,
             name,
-            Kind::Hash,
+            Work::Do(job),
             vol,
-            limit,
-            at,
             wire,
+            out,
             err,
             clock,
-            turns,
         ),
-        Stored::Tree => run_files::<S, Database<TreeEngine<S>>, W, E, K>(
+        Stored::Tree => on_tree::<S, W, O, E, K>(
             alloc,
             name,
-            Kind::Tree,
+            Work::Do(job),
             vol,
-            limit,
-            at,
             wire,
+            out,
             err,
             clock,
-            turns,
         ),
-        Stored::Fixed => run_files::<S, Database<FixedEngine<S>>, W, E, K>(
+        Stored::Fixed => on_fixed::<S, W, O, E, K>(
             alloc,
             name,
-            Kind::Fixed,
+            Work::Do(job),
             vol,
-            limit,
-            at,
             wire,
+            out,
             err,
             clock,
-            turns,
         ),
     }
 }
 
-// How many bytes a file may have: as many as the words say, and no more than any may.
-fn limited(limit: u64) -> u64
-    ensures is { result ≡ min limit (2 ^ 40) }
-    ensures most { result ≤ 2 ^ 40 }
-{
-    limit.min(FILE_MOST)
-}
-
-// The database and the update log that the files of a name keep, served at an address.
-fn serve_logs<S: OnVolume, W: Wire, E: Sink, K: Clock>(
+// The files of a name made anew.
+fn make_stored<S: OnVolume, W: Wire, O: Sink, E: Sink, K: Clock>(
     alloc: Global,
     name: &str,
-    stored: Stored,
-    own: u16,
-    master: Option<Master>,
+    shape: &Shape,
     vol: S::V,
-    limit: u64,
-    at: &At,
     wire: &mut W,
+    out: &mut O,
     err: &mut E,
     clock: &mut K,
-    turns: u64,
 ) -> Stopped<S::V>
     requires opened { W.opened wire.old ≡ false }
-    requires limit { limit ≤ 2 ^ 40 }
-    ensures { ServesLogged S.V.Volume W.Wire K.answers E.Sink result.end name.now stored limit (logging own master) at.now turns vol result.vol wire.old wire.new clock.old clock.new err.old err.new }
+    requires fits { MayBeMade shape.now }
+    ensures { CarriesOut S.V.Volume W.Wire K.answers E.Sink O.Sink result.end (asks.Create name.now shape.now) vol result.vol wire.old wire.new out.old out.new clock.old clock.new err.old err.new }
 {
-    match stored {
-        Stored::Hash => run_logged::<S, Database<HashEngine<S>>, W, E, K>(
+    match shape {
+        Shape::Hash(hash) => on_hash::<S, W, O, E, K>(
             alloc,
             name,
-            Kind::Hash,
-            own,
-            master,
+            Work::Make(hash),
             vol,
-            limit,
-            at,
             wire,
+            out,
             err,
             clock,
-            turns,
         ),
-        Stored::Tree => run_logged::<S, Database<TreeEngine<S>>, W, E, K>(
+        Shape::Tree(tree) => on_tree::<S, W, O, E, K>(
             alloc,
             name,
-            Kind::Tree,
-            own,
-            master,
+            Work::Make(tree),
             vol,
-            limit,
-            at,
             wire,
+            out,
             err,
             clock,
-            turns,
         ),
-        Stored::Fixed => run_logged::<S, Database<FixedEngine<S>>, W, E, K>(
+        Shape::Fixed(fixed) => on_fixed::<S, W, O, E, K>(
             alloc,
             name,
-            Kind::Fixed,
-            own,
-            master,
+            Work::Make(fixed),
             vol,
-            limit,
-            at,
             wire,
+            out,
             err,
             clock,
-            turns,
         ),
     }
 }
 
 // What is served.
-fn serve_source<S: OnVolume, W: Wire, E: Sink, K: Clock>(
+fn serve_source<S: OnVolume, W: Wire, O: Sink, E: Sink, K: Clock>(
     alloc: Global,
     source: Source,
-    at: &At,
+    at: At,
     turns: u64,
     vol: S::V,
     wire: &mut W,
+    out: &mut O,
     err: &mut E,
     clock: &mut K,
 ) -> Stopped<S::V>
     requires opened { W.opened wire.old ≡ false }
-    ensures served { ServesSource S.V.Volume W.Wire K.answers E.Sink result.end source at.now turns vol result.vol wire.old wire.new clock.old clock.new err.old err.new }
-    ensures caused { CausedIn S.V.faults W.faults result.end vol result.vol wire.old wire.new }
+    ensures { CarriesOut S.V.Volume W.Wire K.answers E.Sink O.Sink result.end (asks.Serve source at turns) vol result.vol wire.old wire.new out.old out.new clock.old clock.new err.old err.new }
 {
     match source {
         Source::Memory(memory) => Stopped {
-            end: serve_memory(alloc, memory, at, wire, err, clock, turns),
+            end: serve_memory(alloc, memory, &at, wire, err, clock, turns),
             vol,
         },
         Source::File {
             name,
             stored,
             limit,
-        } => serve_stored::<S, W, E, K>(
+        } => do_stored::<S, W, O, E, K>(
             alloc,
             name.as_str(),
             stored,
+            Job::Serve { limit, at, turns },
             vol,
-            limited(limit),
-            at,
             wire,
+            out,
             err,
             clock,
-            turns,
         ),
         Source::Logged {
             name,
@@ -255,71 +306,23 @@ fn serve_source<S: OnVolume, W: Wire, E: Sink, K: Clock>(
             limit,
             own,
             master,
-        } => serve_logs::<S, W, E, K>(
+        } => do_stored::<S, W, O, E, K>(
             alloc,
             name.as_str(),
             stored,
-            own,
-            master,
+            Job::Log {
+                own,
+                master,
+                limit,
+                at,
+                turns,
+            },
             vol,
-            limited(limit),
-            at,
             wire,
+            out,
             err,
             clock,
-            turns,
         ),
-    }
-}
-
-// A task on the files of a name.
-fn manage_stored<S: OnVolume, O: Sink>(
-    alloc: Global,
-    name: &str,
-    stored: Stored,
-    task: Task,
-    vol: S::V,
-    out: &mut O,
-) -> Stopped<S::V>
-    ensures { TaskOnFiles S.V.Volume O.Sink result.end name.now stored task vol result.vol out.old out.new }
-{
-    match stored {
-        Stored::Hash => manage_files::<S, Database<HashEngine<S>>, O>(
-            alloc,
-            name,
-            Kind::Hash,
-            vol,
-            task,
-            out,
-        ),
-        Stored::Tree => manage_files::<S, Database<TreeEngine<S>>, O>(
-            alloc,
-            name,
-            Kind::Tree,
-            vol,
-            task,
-            out,
-        ),
-        Stored::Fixed => manage_files::<S, Database<FixedEngine<S>>, O>(
-            alloc,
-            name,
-            Kind::Fixed,
-            vol,
-            task,
-            out,
-        ),
-    }
-}
-
-// The files of a name made anew.
-fn make_stored<S: OnVolume>(alloc: Global, name: &str, shape: &Shape, vol: S::V) -> Stopped<S::V>
-    requires { MayBeMade shape.now }
-    ensures { MakesFiles S.V.Volume result.end name.now shape.now vol result.vol }
-{
-    match shape {
-        Shape::Hash(hash) => make_files::<S, Database<HashEngine<S>>>(alloc, name, vol, hash),
-        Shape::Tree(tree) => make_files::<S, Database<TreeEngine<S>>>(alloc, name, vol, tree),
-        Shape::Fixed(fixed) => make_files::<S, Database<FixedEngine<S>>>(alloc, name, vol, fixed),
     }
 }
 
@@ -352,17 +355,33 @@ fn carry_out<S: OnVolume, W: Wire, O: Sink, E: Sink, K: Clock>(
 ) -> Stopped<S::V>
     requires opened { W.opened wire.old ≡ false }
     requires fits { Fits asked }
-    ensures run { CarriesOut S.V.Volume W.Wire K.answers E.Sink O.Sink result.end asked vol result.vol wire.old wire.new out.old out.new clock.old clock.new err.old err.new }
-    ensures caused { CausedBy S.V.faults W.faults O.faults result.end vol result.vol wire.old wire.new out.old out.new }
+    ensures { CarriesOut S.V.Volume W.Wire K.answers E.Sink O.Sink result.end asked vol result.vol wire.old wire.new out.old out.new clock.old clock.new err.old err.new }
 {
     match asked {
         Asked::Serve { source, at, turns } => {
-            serve_source::<S, W, E, K>(alloc, source, &at, turns, vol, wire, err, clock)
+            serve_source::<S, W, O, E, K>(alloc, source, at, turns, vol, wire, out, err, clock)
         }
-        Asked::Task { name, stored, task } => {
-            manage_stored::<S, O>(alloc, name.as_str(), stored, task, vol, out)
-        }
-        Asked::Create { name, shape } => make_stored::<S>(alloc, name.as_str(), &shape, vol),
+        Asked::Task { name, stored, task } => do_stored::<S, W, O, E, K>(
+            alloc,
+            name.as_str(),
+            stored,
+            Job::Task(task),
+            vol,
+            wire,
+            out,
+            err,
+            clock,
+        ),
+        Asked::Create { name, shape } => make_stored::<S, W, O, E, K>(
+            alloc,
+            name.as_str(),
+            &shape,
+            vol,
+            wire,
+            out,
+            err,
+            clock,
+        ),
         Asked::Drill {
             memory,
             seed,

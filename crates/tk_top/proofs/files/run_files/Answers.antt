@@ -16,7 +16,7 @@ returns-clause-names g c = let end = c.serve_files-end.new.space in
     told_so c.in-Ok.ensures.opened end _ (ap g.S.V.Volume.names c.close_over.ensures ∙ sym (g.met.S.OnVolume.is_over end).names_are) c.serve_files-end.ensures.accounted.follows.same_names
 
 pub returns-in-Err-clause-told : goal.returns-in-Err-clause-told
-returns-in-Err-clause-told g c = files_unopened g.W.Wire plainly c.args.kind g.B.Storage.reopens _ c.args.turns c.args.at.now c.args.wire.now c.in-Err.ensures.unopened
+returns-in-Err-clause-told g c = files_unopened g.W.Wire plainly c.args.kind g.B.Storage.reopens _ c.args.turns c.args.at.now c.args.wire.now refl c.in-Err.ensures.unopened
 
 pub returns-clause-told : goal.returns-clause-told
 returns-clause-told g c = let end = c.serve_files-end.new.space in
@@ -59,7 +59,7 @@ returns-clause-guards g c = let o = c.in-Ok.ensures.opened in let end = c.serve_
     }
 
 pub returns-in-Err-clause-laid : goal.returns-in-Err-clause-laid
-returns-in-Err-clause-laid g c = λ l. files_unopened g.W.Wire plainly c.args.kind (Laid g.B.Storage.own g.B.Storage.layout l g.B.Storage.reopens) _ c.args.turns c.args.at.now c.args.wire.now c.in-Err.ensures.unopened
+returns-in-Err-clause-laid g c = λ l. files_unopened g.W.Wire plainly c.args.kind (Laid g.B.Storage.own g.B.Storage.layout l g.B.Storage.reopens) _ c.args.turns c.args.at.now c.args.wire.now refl c.in-Err.ensures.unopened
 
 pub returns-clause-laid : goal.returns-clause-laid
 returns-clause-laid g c = λ l. let end = c.serve_files-end.new.space in

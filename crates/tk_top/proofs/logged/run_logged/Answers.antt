@@ -1,12 +1,12 @@
-use Rattle.std.proofs.Common.{◌∙◌, inl, inr, ⊎_elim, sym, ap, refl}
+use Rattle.std.proofs.Common.{◌∙◌, inl, inr, ⊎_elim, ℕ, List, sym, ap, refl, subst}
 use Rattle.ty_base.specs.Holding.{Laid}
 use Rattle.ty_base.specs.Opening.{OpensTo}
-use Rattle.tk_top.specs.Logging.{IsUnlogged, breaks_logged, logging, opens_logged}
+use Rattle.tk_top.specs.Logging.{FillsLogged, IsUnlogged, breaks_logged, logging, opens_logged}
 use Rattle.tk_top.specs.Staying.{IsDamaged}
 use Rattle.tk_top.proofs.Stopping.{copied_so}
 use Rattle.tk_top.proofs.Fresh.{fresh}
 use Rattle.tk_top.proofs.Kept.{judged_as}
-use Rattle.tk_top.proofs.LoggedRuns.{breaks_logged_so, full_logged_so, logged_on, logged_unnamed, tells_none, tells_same, unopened_came}
+use Rattle.tk_top.proofs.LoggedRuns.{breaks_logged_so, full_logged_so, logged_on, logged_unnamed, tells_none, tells_same, unopened_came, unopened_full}
 use Rattle.tk_top.proofs.Named.{limits_so, not_ended, stands_so, told_so, within_so}
 use Rattle.tk_top.proofs.Staying.{judged_unnamed, spares_kept, spares_so, spares_unnamed}
 use Rattle.tk_top.proofs.Stops.{closes}
@@ -19,7 +19,7 @@ returns-clause-names g c = let end = c.serve_logged-end.new.space in
 pub returns-in-Err-clause-told : goal.returns-in-Err-clause-told
 returns-in-Err-clause-told g c =
     let x = logged_unnamed g.W.Wire (logging c.args.own c.args.master) g.B.Storage.reopens (g.B.Opens.shaped g.B.Opens.usual) c.args.kind _ c.args.turns c.args.at.now c.args.wire.now (g.K.Clock.answers c.args.clock.now) c.in-Err.ensures.unopened in
-    (x.0, tells_none g.E.Sink x.0.gaps c.args.err.now x.1, inl x.1)
+    (x.0, tells_none g.E.Sink x.0.gaps c.args.err.now x.1, inl x.1, λ is. absurd (unopened_full c.in-Err.ensures.unopened is))
 
 pub returns-in-Err-clause-laid : goal.returns-in-Err-clause-laid
 returns-in-Err-clause-laid g c = λ l.
@@ -32,6 +32,15 @@ returns-clause-told g c = let end = c.serve_logged-end.new.space in let told = c
       x.0,
       tells_same g.E.Sink x.0.gaps told.0.gaps c.args.err.now c.serve_logged-end.new.err x.1 told.1,
       ⊎_elim (λ none. inl (x.1 ∙ none)) (λ can. inr (stands_so c.in-Ok.ensures.opened (opens_logged (OpensTo c.args.kind g.B.Storage.reopens)) can)) told.2,
+      λ is. let o = c.in-Ok.ensures.opened in let st = g.B.Storage in let op = g.B.Opens in
+          subst (λ (ticks : List ℕ). FillsLogged g.S.V.Volume g.S.Space g.W.Wire g.S.OnVolume.under c.args.kind st.reopens (λ z. op.lacks z op.usual) st.fills_since (logging c.args.own c.args.master) c.args.limit c.args.vol c.close_over.result c.args.wire.now c.serve_logged-end.new.wire ticks) (sym x.2) (record {
+            begin = c.in-Ok.space;
+            space = end;
+            vol_is = sym c.close_over.ensures;
+            shows = g.met.S.OnVolume.shows end;
+            limits = limits_so o (g.S.Space.limit end) c.serve_logged-end.ensures.accounted.follows.same_limit;
+            full = full_logged_so o (OpensTo c.args.kind st.reopens) (st.fills_since c.in-Ok.space end) _ (logging c.args.own c.args.master) told.0.ticks (g.W.Wire.transcript c.args.wire.now) (g.W.Wire.transcript c.serve_logged-end.new.wire) (told.3 is);
+          }),
     )
 
 pub returns-clause-laid : goal.returns-clause-laid
@@ -77,13 +86,3 @@ returns-in-Err-clause-unlogged g c = spares_unnamed c.in-Err.ensures.unopened Is
 pub returns-clause-unlogged : goal.returns-clause-unlogged
 returns-clause-unlogged g c = let end = c.serve_logged-end.new.space in
     spares_kept c.in-Ok.ensures.opened (closes g.S.Space g.S.V.Volume g.S.OnVolume.under end _ c.close_over.ensures (g.met.S.OnVolume.is_over end)) (λ x. fresh g.S.Space x g.met.S.Space.only_kept g.met.S.Space.clean) (g.met.S.Space.earlier end) (g.met.S.V.Volume.now_is_image c.args.vol) IsUnlogged c.serve_logged-end.result c.serve_logged-end.ensures.unlogged
-
-pub returns-clause-full : goal.returns-clause-full
-returns-clause-full g c = λ is. let o = c.in-Ok.ensures.opened in let end = c.serve_logged-end.new.space in record {
-  begin = c.in-Ok.space;
-  space = end;
-  vol_is = sym c.close_over.ensures;
-  shows = g.met.S.OnVolume.shows end;
-  limits = limits_so o (g.S.Space.limit end) c.serve_logged-end.ensures.accounted.follows.same_limit;
-  full = full_logged_so o (OpensTo c.args.kind g.B.Storage.reopens) (g.B.Storage.fills_since c.in-Ok.space end) _ (logging c.args.own c.args.master) (g.W.Wire.transcript c.args.wire.now) (g.W.Wire.transcript c.serve_logged-end.new.wire) _ _ (c.serve_logged-end.ensures.full is);
-}

@@ -1,4 +1,4 @@
-use Rattle.std.proofs.Common.{◌≡◌, ◌⊎◌, inl, inr, ⊎_elim, true, [], ◌∷◌, arith, rules, refl, ◌∙◌, sym, subst}
+use Rattle.std.proofs.Common.{◌≡◌, ◌⊎◌, inl, inr, ⊎_elim, ℕ, List, true, [], ◌∷◌, arith, rules, refl, ◌∙◌, sym, subst}
 use Rattle.std.specs.Prelude.{Some}
 use Rattle.tc_io.specs.Causes.{Rose}
 use Rattle.tc_io.specs.Script.{Plays}
@@ -15,10 +15,10 @@ use Rattle.ty_base.specs.Opening.{OpensTo}
 use Rattle.ty_rounds.specs.Books.{settings_of}
 use Rattle.tk_top.specs.declared.ends.End.{End}
 use Rattle.tk_top.specs.Causes.{Caused}
-use Rattle.tk_top.specs.GapLines.{TellsGaps}
-use Rattle.tk_top.specs.Logging.{BeginsLogged, BreaksLogged, CameToWire, RunsLogged, StandsLogged, logging}
+use Rattle.tk_top.specs.Logging.{BeginsLogged, BreaksLogged, CameToWire, FullLogged, LoggedAs, RunsLogged, logging}
 use Rattle.tk_top.specs.Over.{Judged}
-use Rattle.tk_top.specs.Runs.{Ends, FullRun}
+use Rattle.tk_top.specs.Runs.{Ends, EndsFull, FullRun}
+use Rattle.tk_top.specs.Says.{saying}
 use Rattle.tk_top.specs.Starts.{StartsAs}
 use Rattle.tk_top.proofs.Causes.{caused_later, caused_open, told_follows}
 use Rattle.tk_top.proofs.Fresh.{fresh}
@@ -39,8 +39,12 @@ pub returns-in-Err-clause-told : goal.returns-in-Err-clause-told
 returns-in-Err-clause-told g c = let s = g.B.S.Space in let w = g.W.Wire in let made = g.B.Opens.shaped g.B.Opens.usual in let clock = g.K.Clock.answers c.args.clock.now in
     let x = logged_refused s w g.B.Storage.reopens made c.args.kind (logging c.args.own c.args.master) c.in-Err.e c.args.turns c.args.at.now c.args.space.now c.open_logged.new.space c.args.wire.now clock
     (fresh s c.args.space.now g.met.B.S.Space.only_kept g.met.B.S.Space.clean c.requires.sound c.requires.untouched) (g.met.B.S.Space.earlier c.open_logged.new.space) c.open_logged.ensures.follows.same_names c.open_logged.ensures.moments in
-    subst (λ (end : End). (run : RunsLogged s w (logging c.args.own c.args.master) g.B.Storage.reopens made c.args.kind end c.args.turns c.args.at.now c.args.space.now c.open_logged.new.space c.args.wire.now c.args.wire.now clock clock) × TellsGaps g.E.Sink run.gaps c.args.err.now c.args.err.now × ((run.gaps ≡ []) ⊎ StandsLogged s (OpensTo c.args.kind g.B.Storage.reopens) c.args.space.now)) (sym c.from.ensures)
-    (x.0, tells_none g.E.Sink x.0.gaps c.args.err.now x.1, inl x.1)
+    subst (λ (end : End). LoggedAs s w g.K.Clock.answers c.args.own c.args.master g.E.Sink (saying g.B.Storage g.B.Opens) c.args.kind end c.args.turns c.args.at.now c.args.space.now c.open_logged.new.space c.args.wire.now c.args.wire.now c.args.clock.now c.args.clock.now c.args.err.now c.args.err.now) (sym c.from.ensures) (
+      x.0,
+      tells_none g.E.Sink x.0.gaps c.args.err.now x.1,
+      inl x.1,
+      λ is. let e : c.in-Err.e ≡ any.Full = full_err c.in-Err.e is in record { which = inl (λ t. let new = c.in-Err.ensures.full (search rules) t in (new.empty, new.full)) },
+    )
 
 pub returns-in-Err-clause-laid : goal.returns-in-Err-clause-laid
 returns-in-Err-clause-laid g c = λ l. let s = g.B.S.Space in let w = g.W.Wire in let b = g.B.Storage in let made = g.B.Opens.shaped g.B.Opens.usual in let clock = g.K.Clock.answers c.args.clock.now in
@@ -55,7 +59,7 @@ returns-in-Err-open-clause-told g c = let s = g.B.S.Space in let w = g.W.Wire in
     let x = logged_unopened s w g.B.Storage.reopens (g.B.Opens.shaped g.B.Opens.usual) c.args.kind g.B.Storage.holds (logging c.args.own c.args.master) c.in-Ok.opened.0 c.in-Ok.opened.1 c.args.space.now c.open_logged.new.space o.settings o.marks o.still
     (fresh s c.args.space.now g.met.B.S.Space.only_kept g.met.B.S.Space.clean c.requires.sound c.requires.untouched) (fresh s c.open_logged.new.space g.met.B.S.Space.only_kept g.met.B.S.Space.clean o.ready.sound o.untouched)
     c.open_logged.ensures.follows.same_names c.open_logged.ensures.moments c.args.turns c.args.at.now c.args.wire.now c.open.new.self (g.K.Clock.answers c.args.clock.now) told in
-    (x.0, tells_none g.E.Sink x.0.gaps c.args.err.now x.1, inl x.1)
+    (x.0, tells_none g.E.Sink x.0.gaps c.args.err.now x.1, inl x.1, λ is. absurd cc)
 
 pub returns-in-Err-open-clause-laid : goal.returns-in-Err-open-clause-laid
 returns-in-Err-open-clause-laid g c = λ l. let s = g.B.S.Space in let w = g.W.Wire in let b = g.B.Storage in let o = c.in-Ok.ensures.opened in
@@ -67,15 +71,30 @@ returns-in-Err-open-clause-laid g c = λ l. let s = g.B.S.Space in let w = g.W.W
 
 pub returns-clause-told : goal.returns-clause-told
 returns-clause-told g c = let s = g.B.S.Space in let w = g.W.Wire in let b = g.B.Storage in let k = g.E.Sink in let o = c.in-Ok.ensures.opened in let clock = g.K.Clock.answers c.args.clock.now in let later = g.K.Clock.answers c.serve-end.new.clock in
+    let mid = c.open_logged.new.space in let new = c.serve-end.new.space in let op = g.B.Opens in
     let told : Adds (w.transcript c.args.wire.now) (w.transcript c.open.new.self) (Open c.args.at.now ∷ []) = search rules in
     let plays : Plays (w.plays c.args.wire.now) (w.plays c.open.new.self) (Open c.args.at.now ∷ []) = search rules in
-    let ends : Ends s w k b.holds b.reopens c.serve-end.result c.args.turns (Some c.in-Ok.opened.1) c.in-Ok.opened.0 c.open_logged.new.space c.serve-end.new.space c.open.new.self c.serve-end.new.wire clock later c.args.err.now c.serve-end.new.err =
-    subst (λ l. Ends s w k b.holds b.reopens c.serve-end.result c.args.turns l c.in-Ok.opened.0 c.open_logged.new.space c.serve-end.new.space c.open.new.self c.serve-end.new.wire clock later c.args.err.now c.serve-end.new.err) c.new-server.ensures.logged
-    (subst (λ base. Ends s w k b.holds b.reopens c.serve-end.result c.args.turns c.new-server.result.logged base c.open_logged.new.space c.serve-end.new.space c.open.new.self c.serve-end.new.wire clock later c.args.err.now c.serve-end.new.err) c.new-server.ensures.base c.serve-end.ensures.told) in
-    let x = logged_served s w b.reopens (g.B.Opens.shaped g.B.Opens.usual) c.args.kind b.holds (logging c.args.own c.args.master) c.in-Ok.opened.0 c.in-Ok.opened.1 c.args.space.now c.open_logged.new.space o.settings o.marks o.still
-    (fresh s c.args.space.now g.met.B.S.Space.only_kept g.met.B.S.Space.clean c.requires.sound c.requires.untouched) (fresh s c.open_logged.new.space g.met.B.S.Space.only_kept g.met.B.S.Space.clean o.ready.sound o.untouched)
-    c.open_logged.ensures.follows.same_names c.open_logged.ensures.moments k c.serve-end.result c.args.turns c.args.at.now c.serve-end.new.space c.args.wire.now c.open.new.self c.serve-end.new.wire clock later c.args.err.now c.serve-end.new.err (g.met.B.S.Space.earlier c.serve-end.new.space) told plays ends in
-    (x.0, tells_same k x.0.gaps ends.gaps c.args.err.now c.serve-end.new.err x.1 ends.tells, inr o.stands)
+    let all : EndsFull s w k b.holds b.reopens b.fills_since c.serve-end.result c.args.turns (Some c.in-Ok.opened.1) c.in-Ok.opened.0 mid new c.open.new.self c.serve-end.new.wire clock later c.args.err.now c.serve-end.new.err =
+    subst (λ l. EndsFull s w k b.holds b.reopens b.fills_since c.serve-end.result c.args.turns l c.in-Ok.opened.0 mid new c.open.new.self c.serve-end.new.wire clock later c.args.err.now c.serve-end.new.err) c.new-server.ensures.logged
+    (subst (λ base. EndsFull s w k b.holds b.reopens b.fills_since c.serve-end.result c.args.turns c.new-server.result.logged base mid new c.open.new.self c.serve-end.new.wire clock later c.args.err.now c.serve-end.new.err) c.new-server.ensures.base c.serve-end.ensures.told) in
+    let ends = all.ends in
+    let x = logged_served s w b.reopens (op.shaped op.usual) c.args.kind b.holds (logging c.args.own c.args.master) c.in-Ok.opened.0 c.in-Ok.opened.1 c.args.space.now mid o.settings o.marks o.still
+    (fresh s c.args.space.now g.met.B.S.Space.only_kept g.met.B.S.Space.clean c.requires.sound c.requires.untouched) (fresh s mid g.met.B.S.Space.only_kept g.met.B.S.Space.clean o.ready.sound o.untouched)
+    c.open_logged.ensures.follows.same_names c.open_logged.ensures.moments k c.serve-end.result c.args.turns c.args.at.now new c.args.wire.now c.open.new.self c.serve-end.new.wire clock later c.args.err.now c.serve-end.new.err (g.met.B.S.Space.earlier new) told plays ends in
+    let start = λ (m : Mark). HoldsMark s b.holds b.reopens c.in-Ok.opened.0 mid m × StartsAs (Some c.in-Ok.opened.1) m in (
+      x.0,
+      tells_same k x.0.gaps ends.gaps c.args.err.now c.serve-end.new.err x.1 ends.tells,
+      inr o.stands,
+      λ is. subst (λ (ticks : List ℕ). FullLogged s w (logging c.args.own c.args.master) (λ z. op.lacks z op.usual) b.fills_since (OpensTo c.args.kind b.reopens) c.args.space.now new c.args.wire.now c.serve-end.new.wire ticks) (sym x.2) (record {
+        which = inr (
+          full_opened (b.fills_since mid new) (b.fills_since c.args.space.now new) (Lacks s new) (logging c.args.own c.args.master) (BeginsLogged s (OpensTo c.args.kind b.reopens) c.args.space.now) start ends.ticks _ _ (λ m h. o.marks m h.0)
+              (λ m h. (g.met.B.Storage.since_more c.args.space.now mid new (c.open_logged.ensures.moments m h.0).leaves.later).fills)
+              (subst (λ set. FullRun (b.fills_since mid new) (Lacks s new) set start [] ends.ticks (w.transcript c.args.wire.now) (w.transcript c.serve-end.new.wire)) o.settings
+              (full_open (b.fills_since mid new) (Lacks s new) (settings_of (Some c.in-Ok.opened.1)) start c.args.at.now ends.ticks _ _ _ told (all.full is (c.args.at.now ∷ [])))),
+          o.stands,
+        );
+      }),
+    )
 
 pub returns-clause-laid : goal.returns-clause-laid
 returns-clause-laid g c = λ l. let s = g.B.S.Space in let w = g.W.Wire in let b = g.B.Storage in let k = g.E.Sink in let o = c.in-Ok.ensures.opened in let clock = g.K.Clock.answers c.args.clock.now in let later = g.K.Clock.answers c.serve-end.new.clock in
@@ -88,27 +107,6 @@ returns-clause-laid g c = λ l. let s = g.B.S.Space in let w = g.W.Wire in let b
     c.open_logged.ensures.follows.same_names (c.open_logged.ensures.moved l) k c.serve-end.result c.args.turns c.args.at.now c.serve-end.new.space c.args.wire.now c.open.new.self c.serve-end.new.wire clock later c.args.err.now c.serve-end.new.err (g.met.B.S.Space.earlier c.serve-end.new.space) told plays
     (subst (λ m. Ends s w k b.holds like c.serve-end.result c.args.turns m c.in-Ok.opened.0 c.open_logged.new.space c.serve-end.new.space c.open.new.self c.serve-end.new.wire clock later c.args.err.now c.serve-end.new.err) c.new-server.ensures.logged
     (subst (λ base. Ends s w k b.holds like c.serve-end.result c.args.turns c.new-server.result.logged base c.open_logged.new.space c.serve-end.new.space c.open.new.self c.serve-end.new.wire clock later c.args.err.now c.serve-end.new.err) c.new-server.ensures.base (c.serve-end.ensures.laid l)))).0
-
--- ---- limits
-
-pub returns-in-Err-clause-full : goal.returns-in-Err-clause-full
-returns-in-Err-clause-full g c = λ is. let e : c.in-Err.e ≡ any.Full = full_err c.in-Err.e (sym c.from.ensures ∙ is) in record { which = inl (λ t. let new = c.in-Err.ensures.full (search rules) t in (new.empty, new.full)) }
-
-pub returns-clause-full : goal.returns-clause-full
-returns-clause-full g c = λ is. let s = g.B.S.Space in let w = g.W.Wire in let b = g.B.Storage in let o = c.in-Ok.ensures.opened in let mid = c.open_logged.new.space in let new = c.serve-end.new.space in
-    let told : Adds (w.transcript c.args.wire.now) (w.transcript c.open.new.self) (Open c.args.at.now ∷ []) = search rules in
-    let start = λ (m : Mark). HoldsMark s b.holds b.reopens c.in-Ok.opened.0 mid m × StartsAs (Some c.in-Ok.opened.1) m in
-    record {
-      which = inr (
-        full_opened (b.fills_since mid new) (b.fills_since c.args.space.now new) (Lacks s new) (logging c.args.own c.args.master) (BeginsLogged s (OpensTo c.args.kind b.reopens) c.args.space.now) start _ _ _ _ (λ m h. o.marks m h.0)
-            (λ m h. (g.met.B.Storage.since_more c.args.space.now mid new (c.open_logged.ensures.moments m h.0).leaves.later).fills)
-            (subst (λ set. FullRun (b.fills_since mid new) (Lacks s new) set start [] (w.transcript c.args.wire.now) (w.transcript c.serve-end.new.wire) (g.K.Clock.answers c.args.clock.now) (g.K.Clock.answers c.serve-end.new.clock)) o.settings
-            (full_open (b.fills_since mid new) (Lacks s new) (settings_of (Some c.in-Ok.opened.1)) start c.args.at.now _ _ _ _ _ told
-            (subst (λ l. FullRun (b.fills_since mid new) (Lacks s new) (settings_of l) (λ m. HoldsMark s b.holds b.reopens c.in-Ok.opened.0 mid m × StartsAs l m) (c.args.at.now ∷ []) (w.transcript c.open.new.self) (w.transcript c.serve-end.new.wire) (g.K.Clock.answers c.args.clock.now) (g.K.Clock.answers c.serve-end.new.clock)) c.new-server.ensures.logged
-            (subst (λ base. FullRun (b.fills_since mid new) (Lacks s new) (settings_of c.new-server.result.logged) (λ m. HoldsMark s b.holds b.reopens base mid m × StartsAs c.new-server.result.logged m) (c.args.at.now ∷ []) (w.transcript c.open.new.self) (w.transcript c.serve-end.new.wire) (g.K.Clock.answers c.args.clock.now) (g.K.Clock.answers c.serve-end.new.clock)) c.new-server.ensures.base (c.serve-end.ensures.full is (c.args.at.now ∷ [])))))),
-        o.stands,
-      );
-    }
 
 pub returns-in-Err-clause-judged : goal.returns-in-Err-clause-judged
 returns-in-Err-clause-judged g c = let s = g.B.S.Space in let opens = OpensTo c.args.kind g.B.Storage.reopens in

@@ -6,9 +6,9 @@ use Rattle.tk_top.proofs.LoggedRuns.{tells_none}
 use Rattle.tk_top.proofs.top.follow.Goals as goal
 
 pub returns-in-Some : goal.returns-in-Some
-returns-in-Some g c = let run = c.carry_out.ensures.run in (
+returns-in-Some g c = let run = c.carry_out.ensures in (
   run.0,
-  asked_some g.S.V.Volume g.W.Wire g.O.Sink (asked_in (Some c.args.order)) run.0 c.carry_out.result.end c.in-Some.asked c.args.vol c.carry_out.result.vol c.args.wire.now c.carry_out.new.wire c.args.out.now c.carry_out.new.out _ _ (sym c.what_is_asked.ensures.asked ∙ c.in-Some.is) run.1 c.carry_out.ensures.caused,
+  asked_some g.S.V.Volume g.W.Wire g.O.Sink (asked_in (Some c.args.order)) run.0 c.carry_out.result.end c.in-Some.asked c.args.vol c.carry_out.result.vol c.args.wire.now c.carry_out.new.wire c.args.out.now c.carry_out.new.out _ _ (sym c.what_is_asked.ensures.asked ∙ c.in-Some.is) run.1,
   run.2,
 )
 

@@ -1,21 +1,14 @@
 use Rattle.std.proofs.Common.{subst, sym}
-use Rattle.tk_top.specs.Top.{MakesFiles}
+use Rattle.tk_top.specs.Top.{CarriesOut}
+use Rattle.tk_top.specs.declared.words.Asked.TheVariants as asked
 use Rattle.tk_top.specs.declared.words.Shape.{Shape}
-use Rattle.tk_top.specs.declared.words.Shape.TheVariants.{Fixed, Hash, Tree}
-use Rattle.tk_top.proofs.Limits.{is_lacking}
 use Rattle.tk_top.proofs.top.make_stored.Goals as goal
 
 pub returns-in-Hash : goal.returns-in-Hash
-returns-in-Hash g c = let v = g.S.V.Volume in let run = c.make_files.ensures in
-    subst (λ (shape : Shape). MakesFiles v c.make_files.result.end c.args.name.now shape c.args.vol c.make_files.result.vol) (sym c.in-Hash.is)
-    (record { names = run.names; made = run.made; shaped = run.shaped; laid = run.laid; judged = run.judged; there = run.there; full = λ is. is_lacking v g.S.Space g.S.OnVolume.under g.met.S.OnVolume.log_is (Hash c.in-Hash.hash) (run.full is); caused = run.caused })
+returns-in-Hash g c = subst (λ (shape : Shape). CarriesOut g.S.V.Volume g.W.Wire g.K.Clock.answers g.E.Sink g.O.Sink c.on_hash.result.end (asked.Create c.args.name.now shape) c.args.vol c.on_hash.result.vol c.args.wire.now c.on_hash.new.wire c.args.out.now c.on_hash.new.out c.args.clock.now c.on_hash.new.clock c.args.err.now c.on_hash.new.err) (sym c.in-Hash.is) c.on_hash.ensures
 
 pub returns-in-Tree : goal.returns-in-Tree
-returns-in-Tree g c = let v = g.S.V.Volume in let run = c.make_files-in-Tree.ensures in
-    subst (λ (shape : Shape). MakesFiles v c.make_files-in-Tree.result.end c.args.name.now shape c.args.vol c.make_files-in-Tree.result.vol) (sym c.in-Tree.is)
-    (record { names = run.names; made = run.made; shaped = run.shaped; laid = run.laid; judged = run.judged; there = run.there; full = λ is. is_lacking v g.S.Space g.S.OnVolume.under g.met.S.OnVolume.log_is (Tree c.in-Tree.tree) (run.full is); caused = run.caused })
+returns-in-Tree g c = subst (λ (shape : Shape). CarriesOut g.S.V.Volume g.W.Wire g.K.Clock.answers g.E.Sink g.O.Sink c.on_tree.result.end (asked.Create c.args.name.now shape) c.args.vol c.on_tree.result.vol c.args.wire.now c.on_tree.new.wire c.args.out.now c.on_tree.new.out c.args.clock.now c.on_tree.new.clock c.args.err.now c.on_tree.new.err) (sym c.in-Tree.is) c.on_tree.ensures
 
 pub returns-in-Fixed : goal.returns-in-Fixed
-returns-in-Fixed g c = let v = g.S.V.Volume in let run = c.make_files-in-Fixed.ensures in
-    subst (λ (shape : Shape). MakesFiles v c.make_files-in-Fixed.result.end c.args.name.now shape c.args.vol c.make_files-in-Fixed.result.vol) (sym c.in-Fixed.is)
-    (record { names = run.names; made = run.made; shaped = run.shaped; laid = run.laid; judged = run.judged; there = run.there; full = λ is. is_lacking v g.S.Space g.S.OnVolume.under g.met.S.OnVolume.log_is (Fixed c.in-Fixed.fixed) (run.full is); caused = run.caused })
+returns-in-Fixed g c = subst (λ (shape : Shape). CarriesOut g.S.V.Volume g.W.Wire g.K.Clock.answers g.E.Sink g.O.Sink c.on_fixed.result.end (asked.Create c.args.name.now shape) c.args.vol c.on_fixed.result.vol c.args.wire.now c.on_fixed.new.wire c.args.out.now c.on_fixed.new.out c.args.clock.now c.on_fixed.new.clock c.args.err.now c.on_fixed.new.err) (sym c.in-Fixed.is) c.on_fixed.ensures
