@@ -18,7 +18,7 @@ NUMBERS = [0, 1, 2, 5, 200, 0x7FFFFFFF, 0x80000000, 0xFFFFFFFE, 0xFFFFFFFF]
 LIMITS = [b"0", b"1", b"2", b"3", b"10", b"-1", b"-0", b"0000000002", b"9999999999", b"-9999999999"]
 BAD_LIMITS = [b"", b"-", b"+1", b"x", b"1 ", b"--1", b"00000000001", b"1.0"]
 OPERATORS = sorted(model.OPERATORS)
-BAD_OPERATORS = [b"", b"7", b"15", b"16", b"99", b"x", b"-1", b"+0", b"67108864", b"00000000000", b"16777223", b"4294967296", b"9999999999"]
+BAD_OPERATORS = [b"", b"7", b"18", b"19", b"99", b"x", b"-1", b"+0", b"67108864", b"00000000000", b"16777223", b"4294967296", b"9999999999"]
 NAMES = sorted(model.UPDATING_NAMES | {b"get", b"getlist", b"range", b"search"})
 
 # How often each request comes; misc by kind stands in `Draws`.
@@ -201,7 +201,7 @@ class Draws:
     def index(self):
         many = [b"c%d" % number for number in range(20)]
         column = self.weighed_list([(COLUMNS, 4), (many, 8), ([b"", b"n\0"], 1)])
-        return [column, self.weighed_list([([b"0", b"1"], 9), ([b"9999"], 3), ([b"2", b"00", b"", b"09999", b"-1"], 1)])]
+        return [column, self.weighed_list([([b"0", b"1", b"2"], 9), ([b"9999"], 3), ([b"3", b"00", b"", b"09999", b"-1"], 1)])]
 
     # Search.
 
@@ -236,7 +236,7 @@ class Draws:
         return [b"addcond", self.searched_column(), text, self.expression(operator)]
 
     def expression(self, operator):
-        if operator in (4, 5, 6, 13, 14) and self.odds(0.8):
+        if operator in (4, 5, 6, 13, 14, 15, 16, 17) and self.odds(0.8):
             return b" ".join(self.draw.choice([b"2", b"3", b"-3", b"10", b"red", b"blue", b"sky", b"p1", b"x"]) for _ in range(self.draw.randrange(1, 4)))
         text = self.column_value() if self.odds(0.8) else self.draw.choice(ROW_KEYS).replace(b"\0", b"")
         if operator in (1, 2, 3):

@@ -429,7 +429,7 @@ class Table(Values):
         return [part for column in self.held[key].items() for part in column]
 
     def setindex(self, column, code):
-        check(0 < len(column) <= MOST_KEY and b"\0" not in column and code in (b"0", b"1", b"9999"))
+        check(0 < len(column) <= MOST_KEY and b"\0" not in column and code in (b"0", b"1", b"2", b"9999"))
         check(column in self.indexes or code != b"9999" and len(self.indexes) < MOST_INDEXES)
         if code == b"9999":
             del self.indexes[column]
@@ -460,6 +460,11 @@ def between(value, expression):
     return least <= value <= most
 
 
+def follow(value, expression):
+    wanted, there = tokens(expression), tokens(value)
+    return any(there[at : at + len(wanted)] == wanted for at in range(len(there) + 1))
+
+
 OPERATORS = {
     0: lambda v, e: v == e,
     1: lambda v, e: e in v,
@@ -475,6 +480,9 @@ OPERATORS = {
     12: lambda v, e: number_of(v) <= number_of(e),
     13: lambda v, e: between(number_of(v), e),
     14: lambda v, e: number_of(v) in [number_of(token) for token in tokens(e)],
+    15: lambda v, e: follow(v, e),
+    16: lambda v, e: all(token in tokens(v) for token in tokens(e)),
+    17: lambda v, e: any(token in tokens(v) for token in tokens(e)),
 }
 
 

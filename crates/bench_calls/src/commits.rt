@@ -1,13 +1,13 @@
 //! Commits of writes to a file of a folder, each made at once or held until the commit: what `bench/waits` times.
 
-ghost use Rattle.std.specs.Prelude.{◌<◌, ◌≡◌, true, OnOk};
+ghost use Rattle.std.specs.Prelude.{◌<◌, ◌≡◌, true, false, OnOk};
 
 use anyhow::{Error, anyhow};
 use std::alloc::Global;
 use tc_held::{Held, HeldSpace};
 use tc_io::Volume;
 use tc_space::Space;
-use tc_undo::Undo;
+use tc_undo::{Batched, Undo};
 
 // How many places the file has. It is prime to what is added to one of them, so all come in turn.
 const PLACES: u64 = 16_384;
@@ -56,6 +56,29 @@ fn commit_all<S: Space>(space: &mut S, commits: u64, writes: u64) -> Result<(), 
     Ok(())
 }
 
+// The same of a space that is let go behind it.
+fn commit_through<S: Space + Drop>(space: S, commits: u64, writes: u64) -> Result<(), Error>
+    requires { S.sound space }
+{
+    let mut space = space;
+    let made = commit_all(&mut space, commits, writes);
+    drop(space);
+    made
+}
+
+// The same with writes that are held until a commit.
+fn commit_held<S: Batched + Drop>(
+    space: S,
+    held: Held,
+    commits: u64,
+    writes: u64,
+) -> Result<(), Error>
+    requires sound { S.sound space }
+    requires untouched { S.touched space ≡ false }
+{
+    commit_through(HeldSpace::new(space, held), commits, writes)
+}
+
 /// Makes so many commits of so many writes of 64 bytes.
 pub fn keep<V: Volume + Drop>(alloc: Global, vol: V, words: &[String]) -> Result<(), Error>
     requires { V.bound vol ≡ true }
@@ -64,13 +87,15 @@ pub fn keep<V: Volume + Drop>(alloc: Global, vol: V, words: &[String]) -> Result
         return Err(anyhow!("commits NAME through|held COMMITS WRITES"));
     };
     let (commits, writes) = (commits.parse()?, writes.parse()?);
+    let held = match how.as_str() {
+        "held" => Some(Held::new(alloc)?),
+        _ => None,
+    };
     let Ok(space) = Undo::open(vol, 1 << 20) else {
         return Err(anyhow!("the file can't be opened"));
     };
-    let mut space = space;
-    if matches!(how.as_str(), "held") {
-        let mut held = HeldSpace::new(space, Held::new(alloc)?);
-        return commit_all(&mut held, commits, writes);
+    match held {
+        Some(held) => commit_held(space, held, commits, writes),
+        None => commit_through(space, commits, writes),
     }
-    commit_all(&mut space, commits, writes)
 }

@@ -2,6 +2,8 @@
 //! `commits NAME through|held COMMITS WRITES`.
 #![tactic(auto)]
 
+ghost use Rattle.std.specs.Prelude.{◌≡◌, true};
+
 mod blocks;
 mod commits;
 mod copying;
@@ -12,9 +14,29 @@ use anyhow::{Error, anyhow};
 use commits::keep;
 use copying::copy;
 use pools::make;
+use std::alloc::Global;
 use std::env;
 use tc_io::Volume;
 use tc_realfs::FolderVolume;
+
+// What is done with a volume that is bound.
+fn run_on<V: Volume + Drop>(
+    alloc: Global,
+    vol: V,
+    what: &str,
+    words: &[String],
+) -> Result<(), Error>
+    requires { V.bound vol ≡ true }
+{
+    match what {
+        "copy" => copy(vol, words),
+        "commits" => keep(alloc, vol, words),
+        _ => {
+            drop(vol);
+            Err(anyhow!("make, list, turn, copy or commits"))
+        }
+    }
+}
 
 fn main(rt: HostRuntime) -> Result<(), Error> {
     let alloc = rt.alloc();
@@ -31,11 +53,7 @@ fn main(rt: HostRuntime) -> Result<(), Error> {
     let Ok(()) = vol.bind(first) else {
         return Err(anyhow!("no database of this name"));
     };
-    match what.as_str() {
-        "copy" => copy(vol, rest)?,
-        "commits" => keep(alloc, vol, rest)?,
-        _ => return Err(anyhow!("make, list, turn, copy or commits")),
-    }
+    run_on(alloc, vol, what.as_str(), rest)?;
     println!(rt; "done")?;
     Ok(())
 }

@@ -1,4 +1,4 @@
-//! Cases of files with commits, over a volume in memory that counts its syncs.
+//! Cases of files with commits, over a volume in memory that counts its syncs and writes.
 ghost use Rattle.std.specs.Prelude.{◌≡◌, ◌≤◌, ◌^◌, true, false, IfOk, OnOk};
 ghost use Rattle.tc_space.specs.Ranges.{IsDataFile};
 
@@ -160,7 +160,7 @@ pub fn change<S: Space>(space: &mut S, what: &str, line: &mut Line) -> Result<()
 
 type Vol = Counted<MemVolume>;
 
-/// A volume in memory, bound, with no syncs counted.
+/// A volume in memory, bound, with no syncs and writes counted.
 fn bound(vol: MemVolume) -> Result<Vol, Wrong>
     ensures { IfOk result (λ v. v.vol.bound ≡ true) }
 {
@@ -168,7 +168,11 @@ fn bound(vol: MemVolume) -> Result<Vol, Wrong>
     let Ok(()) = vol.bind("a") else {
         return Err(Wrong::Not(Why::Fault));
     };
-    Ok(Counted { vol, syncs: 0 })
+    Ok(Counted {
+        vol,
+        syncs: 0,
+        writes: 0,
+    })
 }
 
 /// Recovers a volume in memory, and answers what that answers; none where it can't be bound.
@@ -201,13 +205,14 @@ fn is_recovered_to(
     line.told(wanted, vol.bytes(file))
 }
 
-/// Files in a volume, the limit of their lengths, and how many syncs the last opening and all behind it took.
+/// Files in a volume, the limit of their lengths, and how many syncs and writes the last opening and all behind it took.
 #[derive(Drop)]
 pub struct Files {
     alloc: Global,
     vol: MemVolume,
     limit: u64,
     syncs: u64,
+    writes: u64,
 }
 
 impl Files {
@@ -218,6 +223,7 @@ impl Files {
             vol: MemVolume::new(alloc)?,
             limit: LIMIT,
             syncs: 0,
+            writes: 0,
         })
     }
 
@@ -246,13 +252,14 @@ impl Files {
         }
     }
 
-    // Takes the volume back, and how many syncs it took.
+    // Takes the volume back, and how many syncs and writes it took.
     fn keep(&mut self, vol: Vol) {
         self.syncs = vol.syncs;
+        self.writes = vol.writes;
         self.vol = vol.vol;
     }
 
-    // Recovers the files, and counts the syncs.
+    // Recovers the files, and counts the syncs and writes.
     fn recover(&mut self) -> Result<Option<RecoverErr>, Wrong> {
         let mut vol = bound(self.take()?)?;
         let answer = recover(&mut vol).err();
@@ -310,7 +317,7 @@ impl Files {
         }
     }
 
-    /// Plays a line: `load FILE BYTES`, `limit N`, `open` or `open held PIECES BYTES` up to `close`, `recover`, or `broken RULE` where that is refused, `syncs N`, `file FILE BYTES`, `stopped FILE BYTES`,
+    /// Plays a line: `load FILE BYTES`, `limit N`, `open` or `open held PIECES BYTES` up to `close`, `recover`, or `broken RULE` where that is refused, `syncs N`, `writes N`, `file FILE BYTES`, `stopped FILE BYTES`,
     /// `copied LABEL FILE BYTES`.
     pub fn play(
         &mut self,
@@ -331,6 +338,7 @@ impl Files {
             "recover" => self.is_recovered(),
             "broken" => self.is_broken(line),
             "syncs" => is_number(self.alloc, line, self.syncs),
+            "writes" => is_number(self.alloc, line, self.writes),
             "file" => self.is_file(line),
             "stopped" => self.is_left(line),
             "copied" => self.is_copied(line),

@@ -1,12 +1,13 @@
-//! A volume that counts its syncs.
+//! A volume that counts its syncs and writes.
 use tc_base::Fault;
 use tc_io::Volume;
 
-/// Another volume, and how many syncs it was asked for.
+/// Another volume, and how many syncs and writes it was asked for, those of copies too.
 #[derive(Drop)]
 pub struct Counted<V: Volume> {
     pub vol: V,
     pub syncs: u64,
+    pub writes: u64,
 }
 
 impl<V: Volume> Volume for Counted<V> {
@@ -37,6 +38,7 @@ impl<V: Volume> Volume for Counted<V> {
     }
 
     fn write(&mut self, file: u32, at: u64, bytes: &[u8]) -> Result<(), Fault> {
+        self.writes = self.writes.saturating_add(1);
         self.vol.write(file, at, bytes)
     }
 
@@ -62,6 +64,7 @@ impl<V: Volume> Volume for Counted<V> {
     }
 
     fn copy_write(&mut self, file: u32, at: u64, bytes: &[u8]) -> Result<(), Fault> {
+        self.writes = self.writes.saturating_add(1);
         self.vol.copy_write(file, at, bytes)
     }
 

@@ -1,4 +1,5 @@
 //! Lines on a cursor of a tree, and on items that are sought in it.
+ghost use Rattle.std.specs.Prelude.{◌≡◌, true};
 
 use crate::looks::{are_pairs, usable};
 use crate::refusals::refused;
@@ -10,7 +11,7 @@ use play_text::{Line, Wrong};
 use std::alloc::{AllocError, Global};
 use tc_base::{Blob, Order, Pair, Pairs, Steps};
 use tc_memstores::OneFile;
-use tc_space::Records;
+use tc_space::{RecErr, Records};
 
 // Whether a line ends in `yes`, else `no`.
 fn is_yes(line: &mut Line) -> Result<bool, Wrong> {
@@ -39,23 +40,42 @@ fn stands<R: Records<S = OneFile>, O: Order>(
     are_pairs(alloc, line, &pairs)
 }
 
-// A call that moves the cursor: `to_first`, `to_last`, `to_next`, `to_prev => #KEY #VALUE`, nothing where it is nowhere then.
+// A call that moves the cursor: `jump KEY`, `to_first`, `to_last`, `to_next`, `to_prev => #KEY #VALUE`, nothing where it is nowhere then.
 fn moves<R: Records<S = OneFile>, O: Order>(
     tree: &mut Tree<R, O>,
     space: &mut OneFile,
     cursor: &mut Cursor,
     what: &str,
-) -> Result<bool, Wrong> {
-    usable(space)?;
-    Ok(match what {
-        "to_first" => cursor.first(tree, space).map_err(refused)?,
-        "to_last" => cursor.last(tree, space).map_err(refused)?,
-        "to_next" => cursor.next(tree, space).map_err(refused)?,
-        _ => cursor.prev(tree, space).map_err(refused)?,
-    })
+    key: &[u8],
+) -> Result<bool, RecErr>
+    requires { space.old.sound ≡ true }
+{
+    match what {
+        "jump" => cursor.jump(tree, space, key),
+        "to_first" => cursor.first(tree, space),
+        "to_last" => cursor.last(tree, space),
+        "to_next" => cursor.next(tree, space),
+        _ => cursor.prev(tree, space),
+    }
 }
 
-// A line on the cursor. Besides those: `jump KEY => #KEY #VALUE`, `at => #KEY #VALUE`, `set VALUE => yes|no` and `cut => yes|no`.
+// A call that changes the value at the cursor: `set VALUE => yes|no` and `cut => yes|no`.
+fn changes<R: Records<S = OneFile>, O: Order>(
+    tree: &mut Tree<R, O>,
+    space: &mut OneFile,
+    cursor: &mut Cursor,
+    what: &str,
+    value: &[u8],
+) -> Result<bool, RecErr>
+    requires { space.old.sound ≡ true }
+{
+    match what {
+        "set" => cursor.put(tree, space, value),
+        _ => cursor.out(tree, space),
+    }
+}
+
+// A line on the cursor. Besides those: `at => #KEY #VALUE`.
 fn on_cursor<R: Records<S = OneFile>, O: Order>(
     alloc: Global,
     tree: &mut Tree<R, O>,
@@ -68,22 +88,13 @@ fn on_cursor<R: Records<S = OneFile>, O: Order>(
     let given = line.given()?;
     match what {
         "at" => stands(alloc, tree, space, cursor, None, line),
-        "jump" => {
-            let moved = cursor.jump(tree, space, given.as_slice()).map_err(refused)?;
-            stands(alloc, tree, space, cursor, Some(moved), line)
-        }
-        "set" => {
+        "set" | "cut" => {
             let yes = is_yes(line)?;
-            let done = cursor.put(tree, space, given.as_slice()).map_err(refused)?;
-            line.is_so(done == yes)
-        }
-        "cut" => {
-            let yes = is_yes(line)?;
-            let done = cursor.out(tree, space).map_err(refused)?;
+            let done = changes(tree, space, cursor, what, given.as_slice()).map_err(refused)?;
             line.is_so(done == yes)
         }
         _ => {
-            let moved = moves(tree, space, cursor, what)?;
+            let moved = moves(tree, space, cursor, what, given.as_slice()).map_err(refused)?;
             stands(alloc, tree, space, cursor, Some(moved), line)
         }
     }
@@ -116,7 +127,44 @@ fn as_items(alloc: Global, item: Option<Item>) -> Result<Items, AllocError> {
     Ok(items)
 }
 
-// Items that are sought: `seek KEY => #KEY #VALUE ..` from a key on, `behind KEY` from the next one on, those of one leaf; `before KEY` the last one below a key; `first_item`, `last_item`.
+// Items that are sought: `seek KEY => #KEY #VALUE ..` from a key on, `behind KEY` from the next one on, those of one leaf.
+fn items_sought<R: Records<S = OneFile>, O: Order>(
+    tree: &mut Tree<R, O>,
+    space: &mut OneFile,
+    what: &str,
+    key: &[u8],
+) -> Result<Items, RecErr>
+    requires { space.old.sound ≡ true }
+{
+    let mut steps: Steps<()> = Steps::new();
+    let stretch = Stretch {
+        first: key,
+        end: None,
+    };
+    match what {
+        "seek" => tree.seek(space, &stretch, &mut steps),
+        _ => tree.items_behind(space, key, &mut steps),
+    }
+}
+
+// An item that is sought: `before KEY => #KEY #VALUE ..` the last one below a key; `first_item`, `last_item`.
+fn item_sought<R: Records<S = OneFile>, O: Order>(
+    tree: &mut Tree<R, O>,
+    space: &mut OneFile,
+    what: &str,
+    key: &[u8],
+) -> Result<Option<Item>, RecErr>
+    requires { space.old.sound ≡ true }
+{
+    let mut steps: Steps<()> = Steps::new();
+    match what {
+        "before" => tree.before(space, key, &mut steps),
+        "first_item" => tree.first(space),
+        _ => tree.last(space),
+    }
+}
+
+// Items that are sought, or the one that is.
 fn sought<R: Records<S = OneFile>, O: Order>(
     alloc: Global,
     tree: &mut Tree<R, O>,
@@ -125,27 +173,13 @@ fn sought<R: Records<S = OneFile>, O: Order>(
     key: &[u8],
 ) -> Result<Items, Wrong> {
     usable(space)?;
-    let mut steps: Steps<()> = Steps::new();
-    let stretch = Stretch {
-        first: key,
-        end: None,
-    };
-    Ok(match what {
-        "seek" => tree.seek(space, &stretch, &mut steps).map_err(refused)?,
-        "behind" => tree.items_behind(space, key, &mut steps).map_err(refused)?,
-        "before" => {
-            let item = tree.before(space, key, &mut steps).map_err(refused)?;
-            as_items(alloc, item)?
-        }
-        "first_item" => {
-            let item = tree.first(space).map_err(refused)?;
-            as_items(alloc, item)?
-        }
+    match what {
+        "seek" | "behind" => items_sought(tree, space, what, key).map_err(refused),
         _ => {
-            let item = tree.last(space).map_err(refused)?;
-            as_items(alloc, item)?
+            let item = item_sought(tree, space, what, key).map_err(refused)?;
+            Ok(as_items(alloc, item)?)
         }
-    })
+    }
 }
 
 // A value at a place among those of a key: `value_at KEY PLACE VALUE => yes|no`, and `drop_at KEY PLACE => yes|no`.

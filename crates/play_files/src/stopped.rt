@@ -453,6 +453,22 @@ impl<'a> Trial<'a> {
         let found = format!(in self.alloc; "at call {call}")?;
         Err(Wrong::Differs(found))
     }
+
+    // Plays the lines of a case, up to the trial.
+    fn play(&mut self, script: &mut Script<'_>) -> Result<(), Wrong> {
+        for _ in 0..script.len() {
+            let Some((what, mut line)) = script.next_line()? else {
+                return Ok(());
+            };
+            if matches!(what, "trial") {
+                self.try_all(&mut line)?;
+                return script.end(line);
+            }
+            self.take(what, &mut line)?;
+            script.end(line)?;
+        }
+        Ok(())
+    }
 }
 
 /// Plays a case of transactions in trouble: `trial stops|faults` behind lines of transactions, in which `kept FILE BYTES = FILE BYTES` says what two files have at first and behind each commit.
@@ -467,16 +483,7 @@ pub fn play_trial(alloc: Global, line: &mut Line, script: &mut Script<'_>) -> Re
         trouble: Trouble::Stop,
         memory,
     };
-    for _ in 0..script.len() {
-        let Some((what, mut line)) = script.next_line()? else {
-            return Ok(());
-        };
-        if matches!(what, "trial") {
-            trial.try_all(&mut line)?;
-            return script.end(line);
-        }
-        trial.take(what, &mut line)?;
-        script.end(line)?;
-    }
-    Ok(())
+    let played = trial.play(script);
+    drop(trial);
+    played
 }

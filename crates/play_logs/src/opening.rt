@@ -31,6 +31,24 @@ fn volume(alloc: Global, bytes: &[u8]) -> Result<MemVolume, Failure>
     Ok(vol)
 }
 
+// Plays the lines.
+fn play_all<S: Space>(
+    played: &mut Played,
+    space: &mut S,
+    script: &mut Script<'_>,
+) -> Result<(), Failure>
+    requires { S.sound space.old }
+{
+    for _ in 0..script.len() {
+        let Some((what, mut line)) = script.next_line()? else {
+            return Ok(());
+        };
+        played.play(space, what, &mut line)?;
+        script.end(line)?;
+    }
+    Ok(())
+}
+
 // Opens the log, and plays the lines.
 fn play_lines<S: Space>(
     alloc: Global,
@@ -42,14 +60,9 @@ fn play_lines<S: Space>(
 {
     let log = Ulog::open(alloc, space)?;
     let mut played = Played::new(alloc, log, clock);
-    for _ in 0..script.len() {
-        let Some((what, mut line)) = script.next_line()? else {
-            return Ok(());
-        };
-        played.play(space, what, &mut line)?;
-        script.end(line)?;
-    }
-    Ok(())
+    let done = play_all(&mut played, space, script);
+    drop(played);
+    done
 }
 
 // An opened log: `FIRST STEP BYTES`, the clock's first answer, how far it goes on, and file 2.

@@ -57,6 +57,22 @@ fn file_of(line: &mut Line) -> Result<u32, Wrong>
     Ok(file as u32)
 }
 
+// A file of a volume has these bytes: `FILE BYTES`.
+fn has_file(vol: &MemVolume, line: &mut Line) -> Result<(), Wrong> {
+    let file = file_of(line)?;
+    line.is_bytes(vol.bytes(file))
+}
+
+// A file has the same bytes in two volumes.
+fn have_same(vol: &MemVolume, other: &MemVolume, line: &mut Line) -> Result<(), Wrong> {
+    let file = file_of(line)?;
+    line.compares();
+    if vol.bytes(file) == other.bytes(file) {
+        return Ok(());
+    }
+    Err(Wrong::Not(Why::AnotherFile))
+}
+
 impl Runs {
     pub fn new(alloc: Global) -> Result<Runs, AllocError> {
         Ok(Runs {
@@ -219,19 +235,17 @@ impl Runs {
     // Looks at the bytes of a file of the copy under a label.
     fn is_copied(&mut self, line: &mut Line) -> Result<(), Wrong> {
         let copy = self.vol.copy(line.word().as_bytes())?;
-        let file = file_of(line)?;
-        line.is_bytes(copy.bytes(file))
+        let found = has_file(&copy, line);
+        drop(copy);
+        found
     }
 
     // A file of the copy under a label is as that of the database.
     fn is_same(&mut self, line: &mut Line) -> Result<(), Wrong> {
         let copy = self.vol.copy(line.word().as_bytes())?;
-        let file = file_of(line)?;
-        line.compares();
-        if copy.bytes(file) == self.vol.bytes(file) {
-            return Ok(());
-        }
-        Err(Wrong::Not(Why::AnotherFile))
+        let same = have_same(&copy, &self.vol, line);
+        drop(copy);
+        same
     }
 
     // Looks at a line that says what the wire was asked next, or that it was asked nothing.

@@ -151,6 +151,26 @@ impl<'a> Course<'a> {
         }
         Ok(())
     }
+
+    // Each call of a run goes wrong in turn, until none does.
+    fn try_calls(&mut self, plan: &Plan, files: &MemVolume) -> Result<(), Wrong> {
+        for call in 1..=self.trial.calls {
+            if try_at(plan, files, self, call)? {
+                return Ok(());
+            }
+        }
+        Err(ENDLESS)
+    }
+
+    // The same of a copy.
+    fn try_copies(&mut self, plan: &Plan, files: &MemVolume, label: &str) -> Result<(), Wrong> {
+        for call in 1..=self.trial.calls {
+            if try_copy_at(plan, files, self, label, call)? {
+                return Ok(());
+            }
+        }
+        Err(ENDLESS)
+    }
 }
 
 // A copy of a volume on which trouble is met at a call.
@@ -242,12 +262,10 @@ pub fn try_all(
     }
     let again = Plan::asking(alloc, trial.again.clone()?, trial.asks.as_slice())?;
     let mut course = Course::new(alloc, trial, &again, trouble, false);
-    for call in 1..=trial.calls {
-        if try_at(plan, files, &mut course, call)? {
-            return Ok(());
-        }
-    }
-    Err(ENDLESS)
+    let tried = course.try_calls(plan, files);
+    drop(course);
+    drop(again);
+    tried
 }
 
 // What a stop leaves of a copy can't be opened, or has the old contents or the new ones; where the run had ended well, the new ones.
@@ -315,10 +333,8 @@ pub fn try_copies(
     }
     let again = Plan::asking(alloc, trial.again.clone()?, trial.asks.as_slice())?;
     let mut course = Course::new(alloc, trial, &again, Trouble::Stop, false);
-    for call in 1..=trial.calls {
-        if try_copy_at(plan, files, &mut course, label, call)? {
-            return Ok(());
-        }
-    }
-    Err(ENDLESS)
+    let tried = course.try_copies(plan, files, label);
+    drop(course);
+    drop(again);
+    tried
 }

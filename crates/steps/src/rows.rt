@@ -92,6 +92,17 @@ fn opened<R: Records<S = OneFile> + Drop, O: Order>(
     }
 }
 
+// Makes the steps that are left on a tree that was opened.
+fn play_left<R: Records<S = OneFile>, O: Order>(
+    tree: &mut Btree<R, O>,
+    space: &mut OneFile,
+    script: &mut Script<'_>,
+    into: &mut Blob,
+) -> Result<(), Error> {
+    usable(space)?;
+    Ok(play_looking(tree, space, script, into)?)
+}
+
 // Puts the records of a script into a store, gives it its region, opens the tree that it then has, and makes the steps that are left.
 fn play_store<R: Records<S = OneFile> + Drop, O: Order>(
     alloc: Global,
@@ -104,8 +115,9 @@ fn play_store<R: Records<S = OneFile> + Drop, O: Order>(
     let mut script = Script::new(bytes);
     fill(&mut store, space, &mut script)?;
     let mut tree = opened::<R, O>(alloc, store, space)?;
-    usable(space)?;
-    Ok(play_looking(&mut tree, space, &mut script, into)?)
+    let played = play_left(&mut tree, space, &mut script, into);
+    drop(tree);
+    played
 }
 
 /// Puts records into a file in memory, `w`, gives it a region, `h`, and opens the tree that it then has, which must keep all rules. The steps that are left are made on the tree as `play_hash` makes them.

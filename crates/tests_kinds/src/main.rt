@@ -7,7 +7,7 @@ mod script;
 
 use anyhow::{Error, anyhow};
 use asking::Database;
-use script::{Head, Script};
+use script::{Head, Script, Step};
 use std::alloc::{AllocError, Global};
 use std::io::Read;
 use tc_base::Kind;
@@ -23,27 +23,43 @@ fn name(kind: Kind) -> &'static str {
     }
 }
 
-// Asks a database its next requests. Answers the number, counted from 0, of the first that is answered otherwise or is missing.
+// Whether a step is answered as it says.
+fn is_right(alloc: Global, database: &mut Database, step: &Step<'_>) -> Result<bool, AllocError> {
+    match database.ask(alloc, step.request)? {
+        Some(answer) => Ok(answer.is_that_of(step)),
+        None => Ok(false),
+    }
+}
+
+// Asks a database so many requests. Answers the number, counted from 0, of the first that is answered otherwise or is missing.
+fn ask_all(
+    alloc: Global,
+    database: &mut Database,
+    script: &mut Script<'_>,
+    count: u64,
+) -> Result<Option<u64>, AllocError> {
+    let mut wrong = None;
+    for number in 0..count {
+        let Some(step) = script.step() else {
+            return Ok(wrong.or(Some(number)));
+        };
+        if !is_right(alloc, database, &step)? {
+            wrong = wrong.or(Some(number));
+        }
+    }
+    Ok(wrong)
+}
+
+// The same of the next database.
 fn first_wrong(
     alloc: Global,
     script: &mut Script<'_>,
     head: &Head,
 ) -> Result<Option<u64>, AllocError> {
     let mut database = Database::new(alloc, head);
-    let mut wrong = None;
-    for number in 0..head.count {
-        let Some(step) = script.step() else {
-            return Ok(wrong.or(Some(number)));
-        };
-        let is_right = match database.ask(alloc, step.request)? {
-            Some(answer) => answer.is_that_of(&step),
-            None => false,
-        };
-        if !is_right {
-            wrong = wrong.or(Some(number));
-        }
-    }
-    Ok(wrong)
+    let wrong = ask_all(alloc, &mut database, script, head.count);
+    drop(database);
+    wrong
 }
 
 fn main(rt: HostRuntime) -> Result<(), Error> {

@@ -76,6 +76,29 @@ fn dialled(wire: &mut MemWire) -> Option<Dialled>
     wire.dial(b"host", 1978).ok()
 }
 
+// Whether the first of four dials gives a connection, and no other does.
+fn dials_once(wire: &mut MemWire) -> bool
+    requires { wire.old.opened ≡ true }
+    ensures { wire.new.opened ≡ true }
+{
+    let first = dialled(wire);
+    let second = dialled(wire);
+    let third = dialled(wire);
+    let fourth = dialled(wire);
+    let none = Some(Dialled::NotNow);
+    first == Some(Dialled::Conn(5)) && second == none && third == none && fourth == none
+}
+
+// Whether 1 open, 4 dials and 8 events were told, nothing was closed or sent, and each call found memory.
+fn is_told(wire: &MemWire) -> bool {
+    wire.log().len() == 13
+        && !wire.is_closed(5)
+        && !wire.is_closed(7)
+        && !wire.is_closed(9)
+        && wire.sent(7).is_empty()
+        && wire.starved() == 0
+}
+
 fn opened(wire: &mut MemWire) -> bool
     requires { wire.old.opened ≡ false }
     ensures { result ≡ wire.new.opened }
@@ -83,35 +106,50 @@ fn opened(wire: &mut MemWire) -> bool
     wire.open(&At::Pipe).is_ok()
 }
 
+// Whether it opens, dials, plays its script to the end, and tells all of it.
+fn is_played(wire: &mut MemWire) -> bool
+    requires { wire.old.opened ≡ false }
+{
+    if !opened(wire) {
+        return false;
+    }
+    if !dials_once(wire) || !plays_its_script(wire) {
+        return false;
+    }
+    ends(wire) && is_told(wire)
+}
+
+// Whether of two dials and two events the first of each fails. The failed dial tells its address, the failed event nothing.
+fn fails_as_listed(wire: &mut MemWire) -> bool
+    requires { wire.old.opened ≡ false }
+{
+    if !opened(wire) {
+        return false;
+    }
+    let mut into = [0; 4096];
+    let no_dial = dialled(wire);
+    let dial = dialled(wire);
+    let no_event = next(wire, &[], false, &mut into);
+    let event = next(wire, &[], false, &mut into);
+    no_dial.is_none()
+        && dial == Some(Dialled::Conn(5))
+        && no_event.is_none()
+        && event == Some(Ev::Opened(7))
+        && wire.log().len() == 4
+}
+
 #[test]
 fn a_wire_in_memory_plays_its_script(rt: HostRuntime) -> Result<(), Fail> {
     let mut wire = script(rt.alloc())?;
-    assert!(rt; opened(&mut wire));
-    assert_eq!(rt; dialled(&mut wire), Some(Dialled::Conn(5)));
-    assert_eq!(rt; dialled(&mut wire), Some(Dialled::NotNow));
-    assert_eq!(rt; dialled(&mut wire), Some(Dialled::NotNow));
-    assert_eq!(rt; dialled(&mut wire), Some(Dialled::NotNow));
-    assert!(rt; plays_its_script(&mut wire));
-    assert!(rt; ends(&mut wire));
-    // 1 open, 4 dials, 8 events
-    assert_eq!(rt; wire.log().len(), 13);
-    assert!(rt; !wire.is_closed(5) && !wire.is_closed(7) && !wire.is_closed(9));
-    assert_eq!(rt; wire.sent(7).len(), 0);
-    assert_eq!(rt; wire.starved(), 0);
+    assert!(rt; is_played(&mut wire));
     Ok(())
 }
 
 #[test]
 fn a_listed_call_fails(rt: HostRuntime) -> Result<(), Fail> {
+    let fails = vec![in rt.alloc(); 2, 4]?;
     let mut wire = script(rt.alloc())?;
-    wire.fail_at(vec![in rt.alloc(); 2, 4]?);
-    assert!(rt; opened(&mut wire));
-    assert!(rt; dialled(&mut wire).is_none());
-    assert_eq!(rt; dialled(&mut wire), Some(Dialled::Conn(5)));
-    let mut into = [0; 4096];
-    assert!(rt; next(&mut wire, &[], false, &mut into).is_none());
-    assert_eq!(rt; next(&mut wire, &[], false, &mut into), Some(Ev::Opened(7)));
-    // the failed dial told its address, the failed event nothing
-    assert_eq!(rt; wire.log().len(), 4);
+    wire.fail_at(fails);
+    assert!(rt; fails_as_listed(&mut wire));
     Ok(())
 }

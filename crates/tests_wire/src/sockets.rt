@@ -16,7 +16,7 @@ const ASKED: &[u8] = b"\xC8\x10\0\0\0\x03\0\0\0\x05onefirst\xC8\x30\0\0\0\x03one
 const ANSWERED: &[u8] = b"\0\0\0\0\0\x05first";
 
 // What came so far.
-#[derive(Debug, PartialEq, Eq, Drop)]
+#[derive(Clone, Copy, PartialEq, Eq)]
 struct Seen {
     opened: u32,
     right: u32,
@@ -108,27 +108,27 @@ fn ask<W: Wire>(wire: &mut W, port: u16) -> bool
     }
 }
 
-#[test]
-fn asks_itself(rt: HostRuntime) -> Result<(), Fail> {
-    let alloc: Global = rt.alloc();
-    let mut near = SocketWire::new(alloc, &rt, 0);
-    let mut far = NetWire::new(alloc, &rt, rt.stdin(), rt.stdout())?;
-    let Some(_) = open_some(alloc, &mut near) else {
-        assert!(rt; false, "no port is free");
-        return Ok(());
+// Whether one wire asks another, which is asked and answers, and each sees what it is to see.
+fn is_answered<N: Wire, F: Wire>(alloc: Global, near: &mut N, far: &mut F) -> bool
+    requires near { N.opened near.old ≡ false }
+    requires far { F.opened far.old ≡ false }
+{
+    let Some(_) = open_some(alloc, near) else {
+        return false;
     };
-    let Some(port) = open_some(alloc, &mut far) else {
-        assert!(rt; false, "no port is free");
-        return Ok(());
+    let Some(port) = open_some(alloc, far) else {
+        return false;
     };
-    assert!(rt; ask(&mut near, port));
+    if !ask(near, port) {
+        return false;
+    }
     let (mut asked, mut answered) = (Seen::none(), Seen::none());
-    play(&mut near, ANSWERED, b"", &mut asked);
-    play(&mut far, ASKED, ANSWERED, &mut answered);
-    play(&mut far, ASKED, ANSWERED, &mut answered);
-    play(&mut far, ASKED, ANSWERED, &mut answered);
-    play(&mut near, ANSWERED, b"", &mut asked);
-    play(&mut far, ASKED, ANSWERED, &mut answered);
+    play(near, ANSWERED, b"", &mut asked);
+    play(far, ASKED, ANSWERED, &mut answered);
+    play(far, ASKED, ANSWERED, &mut answered);
+    play(far, ASKED, ANSWERED, &mut answered);
+    play(near, ANSWERED, b"", &mut asked);
+    play(far, ASKED, ANSWERED, &mut answered);
     let wanted = Seen {
         opened: 1,
         right: 1,
@@ -136,15 +136,53 @@ fn asks_itself(rt: HostRuntime) -> Result<(), Fail> {
         ended: 1,
         shut: false,
     };
-    assert_eq!(rt; answered, wanted);
-    assert_eq!(rt;
-        asked,
-        Seen {
-            opened: 0,
-            ended: 0,
-            ..wanted
-        }
-    );
+    answered == wanted
+        && asked
+            == Seen {
+                opened: 0,
+                ended: 0,
+                ..wanted
+            }
+}
+
+// Whether a wire dials no name that is none, and is told that nothing listens at an address.
+fn is_told_of_none<W: Wire>(alloc: Global, wire: &mut W) -> bool
+    requires { W.opened wire.old ≡ false }
+{
+    let Some(_) = open_some(alloc, wire) else {
+        return false;
+    };
+    let dialled = wire.dial(b"\xFF", 1);
+    let is_asked = ask(wire, 1);
+    let mut seen = Seen::none();
+    play_four(wire, b"", b"", &mut seen);
+    dialled == Ok(Dialled::NotNow) && is_asked && seen.ended == 1 && seen.wrong == 0
+}
+
+// Whether a wire over a pipe is asked, answers and is shut.
+fn is_asked<W: Wire>(wire: &mut W) -> bool
+    requires { W.opened wire.old ≡ false }
+{
+    let Ok(()) = wire.open(&At::Pipe) else {
+        return false;
+    };
+    let mut seen = Seen::none();
+    play_four(wire, ASKED, ANSWERED, &mut seen);
+    seen == Seen {
+        opened: 1,
+        right: 1,
+        wrong: 0,
+        ended: 1,
+        shut: true,
+    }
+}
+
+#[test]
+fn asks_itself(rt: HostRuntime) -> Result<(), Fail> {
+    let alloc: Global = rt.alloc();
+    let mut far = NetWire::new(alloc, &rt, rt.stdin(), rt.stdout())?;
+    let mut near = SocketWire::new(alloc, &rt, 0);
+    assert!(rt; is_answered(alloc, &mut near, &mut far));
     Ok(())
 }
 
@@ -152,16 +190,7 @@ fn asks_itself(rt: HostRuntime) -> Result<(), Fail> {
 fn is_refused(rt: HostRuntime) -> Result<(), Fail> {
     let alloc: Global = rt.alloc();
     let mut wire = SocketWire::new(alloc, &rt, 0);
-    let Some(_) = open_some(alloc, &mut wire) else {
-        assert!(rt; false, "no port is free");
-        return Ok(());
-    };
-    assert!(rt; wire.dial(b"\xFF", 1) == Ok(Dialled::NotNow));
-    // nothing listens there
-    assert!(rt; ask(&mut wire, 1));
-    let mut seen = Seen::none();
-    play_four(&mut wire, b"", b"", &mut seen);
-    assert_eq!(rt; (seen.ended, seen.wrong), (1, 0));
+    assert!(rt; is_told_of_none(alloc, &mut wire));
     Ok(())
 }
 
@@ -173,21 +202,11 @@ fn plays_a_pipe(rt: HostRuntime) -> Result<(), Fail> {
     to.write_all(ASKED)?;
     drop(to);
     let mut wire = PipeWire::new(alloc, input, output)?;
-    assert!(rt; wire.open(&At::Pipe).is_ok());
-    let mut seen = Seen::none();
-    play_four(&mut wire, ASKED, ANSWERED, &mut seen);
-    let wanted = Seen {
-        opened: 1,
-        right: 1,
-        wrong: 0,
-        ended: 1,
-        shut: true,
-    };
-    assert_eq!(rt; seen, wanted);
+    let was_asked = is_asked(&mut wire);
     drop(wire);
     let mut all = Vec::new(alloc);
     from.read_to_end(&mut all)?;
-    assert!(rt; all.as_slice() == ANSWERED);
+    assert!(rt; was_asked && all.as_slice() == ANSWERED);
     Ok(())
 }
 
