@@ -77,7 +77,7 @@ fn read_alone(alloc: Global, unread: &[u8]) -> Result<Taken, AllocError>
 }
 
 // The piece at the front of bytes, whose own are the first `whole`.
-#[inline(never)]
+#[inline(always)]
 fn read_any(alloc: Global, unread: &[u8], whole: usize, logs: bool) -> Result<Taken, AllocError>
     requires { IsWhole whole unread.now }
     ensures { IfOk result (λ t. IsTaken t logs unread.now (drop whole unread.now)) }
@@ -125,6 +125,7 @@ fn pass(alloc: Global, bytes: &mut BytesMut, n: usize)
 }
 
 // A piece that stands whole among the bytes.
+#[inline(always)]
 fn take_small(
     alloc: Global,
     bytes: &mut BytesMut,
@@ -141,7 +142,7 @@ fn take_small(
 
 // A put whose value was gathered.
 #[tactic(auto, using(crate::proofs::Gathering::head_long, crate::proofs::Gathering::large_taken))]
-#[inline(never)]
+#[inline(always)]
 fn take_large(alloc: Global, large: Large, logs: bool) -> Result<Taken, AllocError>
     requires begins { BeginsPut large.head large.size }
     requires full { length large.value ≡ large.size }
@@ -161,6 +162,7 @@ fn take_large(alloc: Global, large: Large, logs: bool) -> Result<Taken, AllocErr
 }
 
 /// The piece at the front. Its own bytes are the first `whole`.
+#[inline(always)]
 pub fn take_front(
     alloc: Global,
     large: &mut Option<Large>,

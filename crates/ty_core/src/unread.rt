@@ -112,6 +112,7 @@ impl Unread {
     }
 
     /// Takes off the piece at the front, and where `logs` is set a copy of its bytes if it is a request that may update. After an `Err` nothing is said of the bytes.
+    #[inline(always)]
     pub fn take(&mut self, logs: bool) -> Result<Taken, AllocError>
         requires { (n : ℕ) × IsPieceRead self.old (Whole n) }
         ensures { IfOk result (λ t. IsTaken t logs self.old self.new) }

@@ -87,6 +87,7 @@ fn text_piece(alloc: Global, bytes: &[u8]) -> Result<Piece, AllocError>
 }
 
 /// The piece at the front, where a whole one stands there, copied from the bytes.
+#[inline(never)]
 pub fn read_piece(alloc: Global, bytes: &[u8]) -> Result<Piece, AllocError>
     requires { is_ok (piece_at bytes.now) ≡ true }
     ensures { IfOk result (λ x. (rest : List ℕ) × (piece_at bytes.now ≡ Ok (x, rest))) }

@@ -90,6 +90,7 @@ fn of_numbers(what: Bare) -> Request
 }
 
 /// A copy of a request.
+#[inline(always)]
 pub fn copied(alloc: Global, p: Parsed<'_>) -> Result<Request, AllocError>
     requires { IsWhole p }
     ensures { IfOk result (λ r. r ≡ parsed p.entry) }

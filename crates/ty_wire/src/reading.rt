@@ -69,6 +69,7 @@ fn call_of(bytes: &[u8]) -> Read<'_, (&[u8], u32, Items<'_>)>
     Ok(((name, options, args), rest))
 }
 
+#[inline(always)]
 fn named_of(command: u8, bytes: &[u8]) -> Read<'_, Parsed<'_>>
     ensures read { Gives (λ x. (parsed x.0, x.1.now)) result (pick named_entries command bytes.now) }
     ensures whole { IfOk result (λ x. IsWhole x.0) }
@@ -100,6 +101,7 @@ fn named_of(command: u8, bytes: &[u8]) -> Read<'_, Parsed<'_>>
     }
 }
 
+#[inline(always)]
 fn number_of(command: u8, bytes: &[u8]) -> Read<'_, Parsed<'_>>
     ensures read { Gives (λ x. (parsed x.0, x.1.now)) result (pick number_entries command bytes.now) }
     ensures whole { IfOk result (λ x. IsWhole x.0) }
@@ -131,6 +133,7 @@ fn number_of(command: u8, bytes: &[u8]) -> Read<'_, Parsed<'_>>
     }
 }
 
+#[inline(always)]
 fn bare_of(command: u8, bytes: &[u8]) -> Read<'_, Parsed<'_>>
     ensures read { Gives (λ x. (parsed x.0, x.1.now)) result (pick bare_entries command bytes.now) }
     ensures whole { IfOk result (λ x. IsWhole x.0) }
@@ -147,6 +150,7 @@ fn bare_of(command: u8, bytes: &[u8]) -> Read<'_, Parsed<'_>>
     }
 }
 
+#[inline(always)]
 fn keyed_of(command: u8, bytes: &[u8]) -> Read<'_, Parsed<'_>>
     ensures read { Gives (λ x. (parsed x.0, x.1.now)) result (pick key_entries command bytes.now) }
     ensures whole { IfOk result (λ x. IsWhole x.0) }
@@ -180,6 +184,7 @@ fn keyed_of(command: u8, bytes: &[u8]) -> Read<'_, Parsed<'_>>
     }
 }
 
+#[inline(always)]
 fn stored_of(command: u8, bytes: &[u8]) -> Read<'_, Parsed<'_>>
     ensures read { Gives (λ x. (parsed x.0, x.1.now)) result (pick entries command bytes.now) }
     ensures whole { IfOk result (λ x. IsWhole x.0) }
@@ -210,6 +215,7 @@ fn stored_of(command: u8, bytes: &[u8]) -> Read<'_, Parsed<'_>>
 }
 
 #[tactic(auto, unfolding(crate::specs::Reading::request_at, crate::specs::Reading::fields_at))]
+#[inline(always)]
 fn request_of(bytes: &[u8]) -> Read<'_, Parsed<'_>>
     ensures read { Gives (λ x. (parsed x.0, x.1.now)) result (request_at bytes.now) }
     ensures whole { IfOk result (λ x. IsWhole x.0) }
@@ -223,6 +229,7 @@ fn request_of(bytes: &[u8]) -> Read<'_, Parsed<'_>>
 }
 
 /// What stands at the front, by the grammar. It looks at sizes alone, whatever the length of keys and values.
+#[inline(always)]
 pub fn take(bytes: &[u8]) -> Front
     ensures grammar { Takes bytes.now result }
     ensures reading { IsRead bytes.now result }
@@ -236,6 +243,7 @@ pub fn take(bytes: &[u8]) -> Front
 }
 
 /// The request at the front, where `take` says that a whole one stands there.
+#[inline(always)]
 pub fn read_request(alloc: Global, bytes: &[u8]) -> Result<Request, AllocError>
     requires { (r : Request) × Fits r × IsPrefix (spelling r) bytes.now }
     ensures { IfOk result (λ r. Fits r × IsPrefix (spelling r) bytes.now) }

@@ -38,6 +38,7 @@ fn has_out(args: &[Blob]) -> bool
 }
 
 /// Whether a misc of this name changes contents where it succeeds: `search` does where `out` is among its arguments.
+#[inline(never)]
 pub fn is_updating_call(name: &[u8], args: &[Blob]) -> bool
     ensures { IsTrue result ↔ IsUpdatingCall name.now args.now }
 {
@@ -45,6 +46,7 @@ pub fn is_updating_call(name: &[u8], args: &[Blob]) -> bool
 }
 
 /// Whether a request changes contents where it succeeds; of a misc `is_updating_call` says so.
+#[inline(always)]
 pub fn is_updating(r: &Request) -> bool
     ensures { IsTrue result ↔ IsUpdating r.now }
 {
