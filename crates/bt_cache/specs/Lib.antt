@@ -1,4 +1,5 @@
 pub mod Effects
 pub mod Held
 pub mod Ids
+pub mod Marks
 pub mod Shared

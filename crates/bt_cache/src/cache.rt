@@ -102,8 +102,8 @@ impl<R: Records> Cache<R> {
         Ok(page.leaf(self.alloc)?)
     }
 
-    /// The value of a number of the item at a place in the leaf of an id, as a copy; None where it has none, or where the leaf isn't held. From the value of the same item on that was given
-    /// last, if it isn't behind, it passes over those in front of this one; else over all in front.
+    /// The value of a number of the item at a place in the leaf of an id, as a copy; None where it has none, or where the leaf isn't held. The leaf as it is held has marks of one item, the
+    /// one of which a value was asked for last: of the value that was given last, and of every 64th as far as values were passed over. The values behind the nearest mark are passed over.
     pub fn nth(&mut self, id: u64, place: usize, n: u64) -> Result<Option<Blob>, AllocError>
         ensures value { IfOk result (λ v. (l : the_leaf) → HoldsLeaf id l self.old.pages → OfItem (λ x. slice_get x.values n) l.items place v) }
         ensures same { self.new ≡ self.old }

@@ -2,6 +2,7 @@
 #![tactic(auto, using(tc_space::specs::Frames::keeps_refl))]
 
 mod cache;
+mod marking;
 mod reading;
 mod shared;
 mod writing;

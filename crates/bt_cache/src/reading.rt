@@ -22,7 +22,7 @@ fn parse_leaf(alloc: Global, id: u64, bytes: Blob) -> Result<SharedPage, AllocEr
     ensures { IfOk result (λ s. (p : Page) → IsPage id bytes p → page_of s ≡ p) }
 {
     match SlottedLeaf::read(alloc, bytes) {
-        Ok(leaf) => Ok(SharedPage::Leaf(HeldLeaf::new(Rc::new(alloc, leaf)?))),
+        Ok(leaf) => Ok(SharedPage::Leaf(HeldLeaf::new(alloc, Rc::new(alloc, leaf)?))),
         Err(PageErr::Bad) => empty_page(alloc, true),
         Err(PageErr::Memory) => Err(AllocError),
     }

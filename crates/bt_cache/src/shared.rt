@@ -5,38 +5,39 @@ ghost use Rattle.bt_rows.specs.declared.page.Page.TheVariants.{Leaf as leaf_page
 ghost use Rattle.bt_slots.specs.Slots.{OfItem};
 ghost use Rattle.bt_cache.specs.Shared.{IsLeaf, IsNode, page_of};
 
+use crate::marking::Marks;
 use bt_page::{Leaf, Node};
-use bt_slots::{Mark, SlottedLeaf, SlottedNode};
+use bt_slots::{SlottedLeaf, SlottedNode};
 use std::alloc::{AllocError, Global};
 use std::marker::Model;
 use std::rc::Rc;
 use tc_base::{Blob, Seq};
 
-/// A leaf that the cache holds, with where a value of it was found last. A contract sees the leaf.
+/// A leaf that the cache holds, with where values of it were found. A contract sees the leaf.
 #[derive(Drop)]
 pub struct HeldLeaf {
     leaf: Rc<SlottedLeaf>,
-    mark: Mark,
+    marks: Marks,
 }
 
 impl Model for HeldLeaf {
     ghost use Rattle.bt_page.specs.declared.page.Leaf.{Leaf};
-    ghost use Rattle.bt_slots.specs.Marks.{IsMark};
+    ghost use Rattle.bt_cache.specs.Marks.{AreMarks};
 
     ghost Value = { Leaf };
 
     ghost view = { λ h. h.leaf.value };
 
-    ghost invariant = { λ h. IsMark h.leaf.value h.mark };
+    ghost invariant = { λ h. AreMarks h.leaf.value h.marks };
 }
 
 impl HeldLeaf {
-    pub(crate) fn new(leaf: Rc<SlottedLeaf>) -> HeldLeaf
+    pub(crate) fn new(alloc: Global, leaf: Rc<SlottedLeaf>) -> HeldLeaf
         ensures { result ≡ leaf.value }
     {
         HeldLeaf {
             leaf,
-            mark: Mark::new(),
+            marks: Marks::new(alloc),
         }
     }
 
@@ -61,10 +62,7 @@ impl HeldLeaf {
         if place >= self.leaf.len() {
             return Ok(None);
         }
-        match self.leaf.nth(place, n, &mut self.mark) {
-            Some(value) => Ok(Some(Blob::from_slice(alloc, value)?)),
-            None => Ok(None),
-        }
+        self.marks.value(alloc, &self.leaf, place, n)
     }
 }
 
@@ -95,7 +93,7 @@ pub(crate) fn empty_node(alloc: Global) -> Result<Rc<SlottedNode>, AllocError> {
 /// The page that is taken where none stands: an empty leaf or node.
 pub(crate) fn empty_page(alloc: Global, is_leaf: bool) -> Result<SharedPage, AllocError> {
     if is_leaf {
-        Ok(SharedPage::Leaf(HeldLeaf::new(empty_leaf(alloc)?)))
+        Ok(SharedPage::Leaf(HeldLeaf::new(alloc, empty_leaf(alloc)?)))
     } else {
         Ok(SharedPage::Node(empty_node(alloc)?))
     }

@@ -83,7 +83,7 @@ impl<R: Records> Cache<R> {
             return Err(RecErr::Memory);
         };
         let held = leaf.clone()?;
-        let page = SharedPage::Leaf(HeldLeaf::new(leaf));
+        let page = SharedPage::Leaf(HeldLeaf::new(self.alloc, leaf));
         self.put_page(store, space, id, page, held.as_slice())
     }
 

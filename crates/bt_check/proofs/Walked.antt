@@ -2,7 +2,7 @@
 use Rattle.std.proofs.Common.{◌≡◌, ◌≢◌, ◌↔◌, ℕ, zero, suc, ◌+◌, ◌<◌, ◌≤◌, ◌⊎◌, List, [], ◌∷◌, ◌++◌, Bool, true, false, Option, Some, None, length, map, take, drop, get_or, refl, sym, ap, ◌∙◌, subst, inl, inr, ⊎_elim, arith, append_assoc, length-append}
 use Rattle.std.specs.Prelude.{◌==◌, ◌||◌, nat_lt, IsTrue, if◌then◌else◌}
 use Rattle.std.specs.BTreeSet.{BTreeSet, btree_set_len, contains}
-use Rattle.std.proofs.lemmas.List.{append-nil, take_more, take-append-drop}
+use Rattle.std.proofs.lemmas.List.{append-nil, length-map, take_more, take-append-drop}
 use Rattle.std.proofs.lemmas.Bool.{cases_eq, cases_lt, ne_eqb, eq-eqb, lt-ltb, le-ltb}
 use Rattle.bt_page.specs.declared.page.Leaf.{Leaf}
 use Rattle.bt_page.specs.declared.page.Node.{Node}
@@ -13,7 +13,7 @@ use Rattle.bt_rows.specs.declared.page.Page.TheVariants.{Leaf as leaf_page, Node
 use Rattle.bt_rows.specs.declared.page.Slot.{Slot}
 use Rattle.bt_rows.specs.Pages.{Map, PageMap, IsGiven, IsHeldAs, AreHeld}
 use Rattle.bt_rows.specs.declared.page.LeafAt.{LeafAt}
-use Rattle.bt_rows.specs.Rows.{root_slot, children_of, children_at, leaf_at, next_row, leaves_among, row, leaves_in, times, reached, held, HasLeaf}
+use Rattle.bt_rows.specs.Rows.{entry_slot, root_slot, children_of, children_at, leaf_at, next_row, leaves_among, row, leaves_in, times, reached, held, HasLeaf}
 use Rattle.bt_rows.specs.Rules.{B3}
 use Rattle.bt_rows.proofs.Building.{held_is, held_most, reached_nil, row_nil, times-front}
 use Rattle.bt_check.specs.Collected.{IsSetTo, has}
@@ -92,6 +92,10 @@ spread_none h m pages s next r a one read not = let p = page_of pages s.id one i
     go : (p : Page) → pages s.id ≡ Some p → r ≡ Some p → SpreadsOn (children_at s (pages s.id)) next next
     go (leaf_page l) e is = same_spread (children_at s (pages s.id)) next (ap (children_at s) e)
     go (node_page n) e is = absurd (not n is)
+
+-- what a node names is in the room that is left
+pub named_within : (places : List Slot) (bound : Option (List ℕ)) (n : Node) (room : ℕ) → length places + length n.entries < room → length (places ++ children_of bound n) ≤ room
+named_within places bound n room lt = omega (arith, lt, length-append places (children_of bound n), length-map n.entries entry_slot)
 
 -- what a node names, or that there was no room for it
 pub spread_node : (h : TreeHead) (m : Map) (pages : PageMap) (s : Slot) (old new : Naming) (n : Node) (r : Option Page) → AreHeld h m pages → held pages s.id ≡ 1 → IsReadAs s.id (m (key_of s.id)) r → r ≡ Some (node_page n) → SpreadsOn (children_of s.bound n) old new → SpreadsOn (children_at s (pages s.id)) old new

@@ -29,6 +29,10 @@ abbrev pub leaf_places : List Slot → List Slot
 leaf_places [] = []
 leaf_places (s ∷ ss) = (if nat_lt s.id node_offset then s ∷ [] else []) ++ leaf_places ss
 
+-- it has no more places than there may be
+abbrev pub IsWithin : Naming → Type 0
+IsWithin n = length n.places ≤ n.room
+
 -- what a page names was added to the next row, if it is a node and there was room
 pub record SpreadsOn (children : List Slot) (old new : Naming) : Type 0 where
   pub added : new.full ≡ false → (old.full ≡ false) × (new.places ≡ old.places ++ children)

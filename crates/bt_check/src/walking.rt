@@ -5,7 +5,7 @@ ghost use Rattle.tc_space.specs.Refusals.{OnFault};
 ghost use Rattle.bt_page.specs.Keys.{node_offset};
 ghost use Rattle.bt_rows.specs.Rows.{children_of, root_slot};
 ghost use Rattle.bt_check.specs.Looks.{AsksOrKeeps, Gives, Looks, MayLook};
-ghost use Rattle.bt_check.specs.Walks.{IsNextRow, IsStuck, IsTakenOut, LeavesRoom, Spreads, Walks, leaf_places};
+ghost use Rattle.bt_check.specs.Walks.{IsNextRow, IsStuck, IsTakenOut, IsWithin, LeavesRoom, Spreads, Walks, leaf_places};
 
 use crate::ids::{is_empty, take};
 use crate::pages::read_node;
@@ -54,6 +54,7 @@ fn spread<R: Records>(
     requires ready { MayLook R.S.Space R.Records store.old space.old }
     ensures next { Gives R.S.Space R.Records result store.old space.old (λ _. Spreads slot next.old next.new) }
     ensures room { next.new.room ≡ next.old.room }
+    ensures few { OnOk result (IsWithin next.old → IsWithin next.new) }
     ensures looks { Looks R.S.Space R.Records store.old store.new space.old space.new }
     ensures asks { R.gets store.new ≤ R.gets store.old + 1 }
     ensures cause { OnFault R.S.Space result space.old space.new }
@@ -82,6 +83,7 @@ fn pass_one<R: Records>(
     requires { MayLook R.S.Space R.Records store.old space.old }
     ensures next { Gives R.S.Space R.Records result store.old space.old (λ _. Spreads slot next.old next.new) }
     ensures room { next.new.room ≡ next.old.room }
+    ensures few { OnOk result (IsWithin next.old → IsWithin next.new) }
     ensures leaves { OnOk result (leaves.new ≡ leaves.old ++ leaf_places (slot ∷ [])) }
     ensures looks { Looks R.S.Space R.Records store.old store.new space.old space.new }
     ensures asks { AsksOrKeeps R.Records 1 store.old store.new leaves.old leaves.new }
@@ -108,6 +110,7 @@ fn pass<R: Records>(
 ) -> Result<Naming, RecErr>
     requires { MayLook R.S.Space R.Records store.old space.old }
     ensures next { Gives R.S.Space R.Records result store.old space.old (IsNextRow row room) }
+    ensures few { IfOk result (λ n. length n.places ≤ room) }
     ensures leaves { OnOk result (leaves.new ≡ leaves.old ++ leaf_places row) }
     ensures looks { Looks R.S.Space R.Records store.old store.new space.old space.new }
     ensures asks { AsksOrKeeps R.Records (length row) store.old store.new leaves.old leaves.new }

@@ -1,12 +1,13 @@
 -- A value of an item found from where another was.
-use Rattle.std.proofs.Common.{◌≡◌, ◌≢◌, ℕ, zero, suc, ◌-◌, ◌<◌, ◌≤◌, List, [], ◌∷◌, length, take, drop, Some, None, refl, sym, ap, subst, ◌∙◌, arith}
+use Rattle.std.proofs.Common.{◌≡◌, ◌≢◌, ℕ, zero, suc, ◌-◌, ◌<◌, ◌≤◌, List, [], ◌∷◌, length, take, drop, Option, Some, None, refl, sym, ap, subst, ◌∙◌, arith}
 use Rattle.std.specs.Prelude.{slice_get}
 use Rattle.std.specs.List.{flat_map}
 use Rattle.std.proofs.lemmas.List.{take-append-drop}
 use Rattle.bt_page.specs.declared.page.Item.{Item}
 use Rattle.bt_page.specs.Pages.{value_bytes, ItemFits}
 use Rattle.bt_slots.specs.Lying.{behind_values}
-use Rattle.bt_slots.specs.Marks.{StandsAt, further_bytes}
+use Rattle.bt_slots.specs.declared.marking.Mark.{Mark}
+use Rattle.bt_slots.specs.Marks.{Moves, StandsAt, further_bytes}
 use Rattle.bt_slots.specs.Reads.{value_in, values_in}
 use Rattle.bt_slots.specs.Slots.{ArePartsOf}
 use Rattle.bt_slots.proofs.BareReads.{values_long}
@@ -24,6 +25,20 @@ dropped_ends bytes rest n is = subst (EndsWith bytes) (sym is) (record { front =
 
 pub stands_end : (n i : ℕ) (bytes rest : List ℕ) → i ≡ n → rest ≡ behind_values i bytes → EndsWith bytes rest → StandsAt n (length bytes - length rest) bytes
 stands_end n i bytes rest e at ends = record { within = omega arith; begins = begins_drop bytes rest ends ∙ at ∙ ap (λ (k : ℕ). behind_values k bytes) e }
+
+-- ---- where the mark is then
+
+pub stays_first : (place n : ℕ) (found : Option (List ℕ)) (m : Mark) → n ≡ 0 → Moves place n found m m
+stays_first place zero found m e = refl
+stays_first place (suc n) found m e = absurd (omega (arith, e))
+
+pub stays_none : (place n : ℕ) (m : Mark) → Moves place n None m m
+stays_none place zero m = refl
+stays_none place (suc n) m = refl
+
+pub moves_on : (place n : ℕ) (value : List ℕ) (old new : Mark) → n ≢ 0 → new.place ≡ place → new.number ≡ n - 1 → Moves place n (Some value) old new
+moves_on place zero value old new some e is = absurd (some refl)
+moves_on place (suc n) value old new some e is = (e, omega (arith, is))
 
 -- ---- values of an item
 

@@ -1,7 +1,7 @@
 //! A value of an item found from where another was.
 ghost use Rattle.std.specs.Prelude.{◌≡◌, ◌<◌, ◌≤◌, List, ℕ, drop, length, option_map, slice_get};
 ghost use Rattle.bt_page.specs.declared.page.Leaf.{Leaf as the_leaf};
-ghost use Rattle.bt_slots.specs.Marks.{IsMark, StandsAt};
+ghost use Rattle.bt_slots.specs.Marks.{IsMark, Moves, StandsAt};
 ghost use Rattle.bt_slots.specs.Reads.{value_in};
 ghost use Rattle.bt_slots.specs.Slots.{OfItem};
 
@@ -34,6 +34,7 @@ impl Mark {
 fn start(mark: &Mark, place: usize, n: u64) -> (u64, usize)
     ensures order { result.0 ≤ n }
     ensures at { (further : List ℕ) → (mark.now.place ≡ place → StandsAt mark.now.number mark.now.offset further) → StandsAt result.0 result.1 further }
+    ensures marked { mark.now.place ≡ place → mark.now.number ≤ n → result ≡ (mark.now.number, mark.now.offset) }
 {
     if mark.place != place {
         return (0, 0);
@@ -73,6 +74,7 @@ impl SlottedLeaf {
         requires mark { IsMark self.now mark.old }
         ensures value { OfItem (λ x. slice_get x.values n) self.now.items place (option_map (λ v. v.now) result) }
         ensures mark { IsMark self.now mark.new }
+        ensures moved { Moves place n (option_map (λ v. v.now) result) mark.old mark.new }
     {
         let parts = self.parts(place);
         if n == 0 {

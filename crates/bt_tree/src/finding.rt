@@ -79,8 +79,8 @@ impl<R: Records, O: Order> Tree<R, O> {
         Ok(copy_first::<O>(self.alloc, &leaf, key)?)
     }
 
-    /// The value of a number among those of a key, counted from 0, as a copy; None where there is none. It reads what `find` does. From the value of the same key on that was given last of
-    /// the leaf as it is held, if it isn't behind, it passes over those in front of this one; else over all in front.
+    /// The value of a number among those of a key, counted from 0, as a copy; None where there is none. It reads what `find` does. While the
+    /// leaf is held as it is and no other of its keys is asked so, it passes over values that none passed over before, and over 64 others at most.
     pub fn nth_value<L>(
         &mut self,
         space: &mut R::S,

@@ -22,6 +22,7 @@ loop-slot-preserved g c =
       asks = omega (arith, v.asks, e.asks, length-append c.loop-slot.yielded (c.in-Some.slot ∷ []));
       kept = kept_more c.loop-slot.yielded c.in-Some.slot c.args.leaves.now c.loop-slot.leaves c.pass_one.new.leaves v.kept e.leaves;
       room = e.room ∙ v.room;
+      few = omega (arith, e.few (omega (arith, v.few, v.room)), e.room, v.room);
       next_is = λ m i h pages a. next_more pages c.loop-slot.yielded c.in-Some.slot c.args.room c.loop-slot.next c.pass_one.new.next v.room (v.next_is m i h pages a) (e.next m (v.looks.reads.means m i) h pages a);
     }
 

@@ -1,8 +1,8 @@
-use Rattle.std.proofs.Common.{◌∙◌, ◌-◌, List, ℕ, sym, subst, ap, arith}
+use Rattle.std.proofs.Common.{◌∙◌, ◌-◌, List, ℕ, refl, sym, subst, ap, arith}
 use Rattle.std.specs.Prelude.{slice_get}
 use Rattle.bt_page.specs.Pages.{ItemFits}
 use Rattle.bt_slots.specs.Marks.{StandsAt}
-use Rattle.bt_slots.proofs.Marks.{further_is, nth_first, nth_more, nth_none}
+use Rattle.bt_slots.proofs.Marks.{further_is, moves_on, nth_first, nth_more, nth_none, stays_first, stays_none}
 use Rattle.bt_slots.proofs.Places.{held, some_at}
 use Rattle.bt_slots.proofs.leaf.SlottedLeaf.nth.Goals as goal
 
@@ -33,3 +33,12 @@ pub returns-clause-mark : goal.returns-clause-mark
 returns-clause-mark c = λ x at.
     let fits = held ItemFits c.args.self.now.items c.args.place x c.parts-parts.ensures.fits.items at in
     subst (StandsAt (c.args.n - 1) c.offset_on-offset.result) (sym (further_is x _ _ _ _ fits (c.parts-parts.ensures.are x at))) c.offset_on-offset.ensures
+
+pub returns-then-n-eq0-clause-moved : goal.returns-then-n-eq0-clause-moved
+returns-then-n-eq0-clause-moved c = stays_first c.args.place c.args.n _ c.args.mark.now c.if-n-eq0.true
+
+pub returns-then-n-parts-clause-moved : goal.returns-then-n-parts-clause-moved
+returns-then-n-parts-clause-moved c = stays_none c.args.place c.args.n c.args.mark.now
+
+pub returns-clause-moved : goal.returns-clause-moved
+returns-clause-moved c = moves_on c.args.place c.args.n _ c.args.mark.now _ c.if-n-eq0.false refl refl
