@@ -8,7 +8,7 @@ use Rattle.tc_space.specs.Changes.{out_of, put_in, put_value}
 use Rattle.tc_space.specs.Frames.{In}
 use Rattle.tc_space.specs.declared.space.Space.{Ghosts}
 use Rattle.tc_hash.specs.declared.hash.Hash.{Hash}
-use Rattle.tc_hash.specs.Keeping.{HasNoBlock, LacksBlock, LacksIts, WantsFrom, file_of, holds, size_for}
+use Rattle.tc_hash.specs.Keeping.{LacksBlock, LacksIts, WantsFrom, file_of, holds, size_for}
 use Rattle.tc_hash.proofs.Least.{own_most}
 use Rattle.hf_pool.specs.declared.pool.Pool.{Pool}
 use Rattle.hf_pool.specs.Pools.{frees}
@@ -39,16 +39,17 @@ kept_from h key value m held bytes own (inr larger) =
     inr (larger.map, λ had. let most : size_for h key value ≤ larger.room = own_most h.body.head h.body.pool.size (frees h.body.pool) m key value larger.at larger.room bytes larger.stood had in omega (arith, larger.few, most))
 
 module _ {S : Type 0} (s : Ghosts S) where
-  pub wants_key : (h : Hash S) (a b : S) (m : Map) (key value : List ℕ) → h.body.file ≡ 0 → LacksIts s h key m a b (size_for h key value) → WantsKey (s.limit b 0) (s.now b 0) m key value
-  wants_key h a b m key value file lacks = record {
+  -- in the file of the store
+  pub wants_own : (h : Hash S) (a b : S) (m : Map) (key value : List ℕ) → LacksIts s h key m a b (size_for h key value) → WantsKey (s.limit b h.body.file) (s.now b h.body.file) m key value
+  wants_own h a b m key value lacks = record {
     held = lacks.held;
     kept = kept_from h key value m lacks.held (s.now a h.body.file) lacks.none.own lacks.since;
-    wants = record {
-      head = h.body.head;
-      fields = h.body.valid;
-      none = subst (λ (f : ℕ). HasNoBlock (s.limit b f) (s.now b f) h.body.head lacks.held (size_for h key value)) file lacks.none;
-    };
+    wants = record { head = h.body.head; fields = h.body.valid; none = lacks.none };
   }
+
+  -- which is file 0
+  pub wants_key : (h : Hash S) (a b : S) (m : Map) (key value : List ℕ) → h.body.file ≡ 0 → LacksIts s h key m a b (size_for h key value) → WantsKey (s.limit b 0) (s.now b 0) m key value
+  wants_key h a b m key value file lacks = subst (λ (f : ℕ). WantsKey (s.limit b f) (s.now b f) m key value) file (wants_own h a b m key value lacks)
 
   -- no block was to be had for the record of a key that was put
   pub key_fills : (mode : Mode) (key value : List ℕ) (h : Hash S) (a b : S) (m : Map) → h.body.file ≡ 0 → In s file_of holds h a m → LacksBlock s mode key value h a b → FillsKey s b m key (put_value mode (get m key) value)

@@ -26,10 +26,10 @@ use Rattle.tc_hashdb.specs.Changing.{all_out, all_set, is_short, last_values, ou
 use Rattle.tc_hashdb.specs.Filling.{FillsBy, WantsKey}
 use Rattle.tc_hashdb.proofs.Filled.{between_out}
 
-abbrev Entry : Type 0
+abbrev pub Entry : Type 0
 Entry = List ℕ × List ℕ
 
-abbrev order : List ℕ → List ℕ → Ordering
+abbrev pub order : List ℕ → List ℕ → Ordering
 order = slice_cmp nat_cmp
 
 -- ---- what several puts leave of a key
@@ -46,13 +46,13 @@ over_one : (b : Bool) (v : List ℕ) (o : Option (List ℕ)) → cond b (Some v)
 over_one true v o = refl
 over_one false v o = refl
 
-get_set : (m : Map) (k v q : List ℕ) → get (insert m k v) q ≡ cond (eq_by_cmp order q k) (Some v) (get m q)
+pub get_set : (m : Map) (k v q : List ℕ) → get (insert m k v) q ≡ cond (eq_by_cmp order q k) (Some v) (get m q)
 get_set m k v q = get-insert nat_list_cmp_total m k v q
 
-abbrev nothing : Map
+abbrev pub nothing : Map
 nothing = empty
 
-get_none : (q : List ℕ) → get nothing q ≡ None
+pub get_none : (q : List ℕ) → get nothing q ≡ None
 get_none q = get-empty order q
 
 put_over : (m : Map) (k v q : List ℕ) → get (insert m k v) q ≡ over (get (insert nothing k v) q) (get m q)
@@ -70,7 +70,7 @@ all_over (p ∷ ps) m q =
 
 -- ---- entries, each key once
 
-abbrev Once : List Entry → Type 0
+abbrev pub Once : List Entry → Type 0
 Once [] = Unit {0}
 Once (e ∷ es) = (find order e.0 es ≡ None) × Once es
 
@@ -78,7 +78,7 @@ less_none : (k : List ℕ) (es : List Entry) → AllByRecursion (λ y. order k y
 less_none k [] all = refl
 less_none k (e ∷ es) all = ap (λ r. cond (is_eq r) (Some e.1) (find order k es)) all.0 ∙ less_none k es all.1
 
-rising_once : (es : List Entry) → IsStrictlySortedBy order (keys_of es) → Once es
+pub rising_once : (es : List Entry) → IsStrictlySortedBy order (keys_of es) → Once es
 rising_once [] s = tt
 rising_once (e ∷ es) s = (less_none e.0 es (sorted_head order e.0 (keys_of es) s), rising_once es (sorted_tail order e.0 (keys_of es) s))
 
@@ -148,7 +148,7 @@ on_the_way es fs m q once = go (find order q es) refl
 same_key : (k : List ℕ) → eq_by_cmp order k k ≡ true
 same_key k = rw (tied_itself nat_list_cmp_total k) refl
 
-find_at : (es : List Entry) (e : Entry) (fs : List Entry) → Once (es ++ e ∷ fs) → find order e.0 (es ++ e ∷ fs) ≡ Some e.1
+pub find_at : (es : List Entry) (e : Entry) (fs : List Entry) → Once (es ++ e ∷ fs) → find order e.0 (es ++ e ∷ fs) ≡ Some e.1
 find_at [] e fs once = ap (λ b. cond b (Some e.1) (find order e.0 fs)) (same_key e.0)
 find_at (x ∷ es) e fs once = elim (order e.0 x.0) as (λ r. order e.0 x.0 ≡ r → cond (is_eq r) (Some x.1) (find order e.0 (es ++ e ∷ fs)) ≡ Some e.1) [
   | Less ↦ λ is. find_at es e fs once.1

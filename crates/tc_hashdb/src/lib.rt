@@ -13,4 +13,6 @@ mod shape;
 mod storing;
 
 pub use holding::HashEngine;
+pub use listing::{add_items, add_texts, beginning, key_list};
+pub use many::last_of_each;
 pub use shape::HashShape;

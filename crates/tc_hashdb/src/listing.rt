@@ -10,7 +10,7 @@ use tc_base::{Blob, Blobs, Key, Keys};
 use tc_engine::Rows;
 
 /// Byte strings as keys.
-pub(crate) fn key_list(alloc: Global, texts: Blobs) -> Result<Keys, AllocError>
+pub fn key_list(alloc: Global, texts: Blobs) -> Result<Keys, AllocError>
     ensures { IfOk result (λ keys. keys ≡ texts) }
 {
     let mut keys = Keys::new(alloc);
@@ -31,7 +31,7 @@ fn has_room(most: Option<u64>, count: usize) -> bool
 }
 
 /// Those of some texts that begin with a prefix, at most so many.
-pub(crate) fn beginning(
+pub fn beginning(
     alloc: Global,
     texts: Blobs,
     prefix: &[u8],
@@ -52,7 +52,7 @@ pub(crate) fn beginning(
 }
 
 /// Adds texts as rows.
-pub(crate) fn add_texts(texts: &[Blob], rows: &mut Rows) -> Result<(), AllocError>
+pub fn add_texts(texts: &[Blob], rows: &mut Rows) -> Result<(), AllocError>
     ensures rows { OnOk result (Adds rows.old rows.new (map item_row texts.now)) }
     ensures front { Extends rows.old rows.new }
 {
@@ -63,7 +63,7 @@ pub(crate) fn add_texts(texts: &[Blob], rows: &mut Rows) -> Result<(), AllocErro
 }
 
 /// Adds a key and its value, a row each.
-pub(crate) fn add_items(key: &[u8], value: &[u8], rows: &mut Rows) -> Result<(), AllocError>
+pub fn add_items(key: &[u8], value: &[u8], rows: &mut Rows) -> Result<(), AllocError>
     ensures rows { OnOk result (Adds rows.old rows.new (item_row key.now ∷ item_row value.now ∷ [])) }
     ensures front { Extends rows.old rows.new }
 {

@@ -33,8 +33,8 @@ pub(crate) fn are_short(pairs: &[Pair]) -> bool
     true
 }
 
-// The last value that pairs give each of their keys.
-fn last_of_each(alloc: Global, pairs: Pairs) -> Result<Bytemap, AllocError>
+/// The last value that pairs give each of their keys.
+pub fn last_of_each(alloc: Global, pairs: Pairs) -> Result<Bytemap, AllocError>
     ensures { IfOk result (λ m. m ≡ last_values pairs) }
 {
     let mut last = Bytemap::new(alloc);

@@ -80,7 +80,7 @@ module _ {S : Type 0} (s : Ghosts S) where
         (subst (λ (n : ℕ). IsRefusedFor head (head.first + blocks_long head one.before) one.lacks.free (s.limit b f) n (block_len (width head) one.pair.key one.pair.value (unit head))) is_long one.lacks.refused);
   }
 
-  large_up : (h : Hash S) (a b : S) (m : Map) → s.tells → h.body.file ≡ 0 → holds h (s.now a 0) m → LacksIts s h a b → LacksLargeAt (s.limit b 0) (length (s.now b 0)) (s.brought b) (s.now a 0) m
+  pub large_up : (h : Hash S) (a b : S) (m : Map) → s.tells → h.body.file ≡ 0 → holds h (s.now a 0) m → LacksIts s h a b → LacksLargeAt (s.limit b 0) (length (s.now b 0)) (s.brought b) (s.now a 0) m
   large_up h a b m told file held lacks =
       let here : holds h (s.now a h.body.file) m = subst (λ (n : ℕ). holds h (s.now a n) m) (sym file) held in
       ⊎_elim

@@ -24,10 +24,10 @@ use Rattle.tc_treedb.specs.declared.kept.Kept.TheVariants.{Lexical, Decimal}
 
 -- ---- lines one behind the other
 
-then : (a b c x y : List ℕ) → b ≡ a ++ x → c ≡ b ++ y → c ≡ a ++ (x ++ y)
+pub then : (a b c x y : List ℕ) → b ≡ a ++ x → c ≡ b ++ y → c ≡ a ++ (x ++ y)
 then a b c x y first second = second ∙ (ap (λ t. t ++ y) first ∙ append_assoc a x y)
 
-fronts_then : (a b c : List ℕ) → IsPrefix a b → IsPrefix b c → IsPrefix a c
+pub fronts_then : (a b c : List ℕ) → IsPrefix a b → IsPrefix b c → IsPrefix a c
 fronts_then a b c first second = (first.0 ++ second.0, then a b c first.0 second.0 first.1 second.1)
 
 pub head_added : (a b c d e f : List ℕ) (h : Head) (one power : ℕ) → one ≡ unit h → power ≡ h.fpow → b ≡ a ++ line (codes "bucket number: ") h.buckets → c ≡ b ++ line (codes "alignment: ") one → d ≡ c ++ line (codes "free pool power: ") power → e ≡ d ++ line (codes "file size: ") h.size

@@ -8,6 +8,7 @@ pub mod Kept
 pub mod Laws
 pub mod Laying
 pub mod Layouts
+pub mod Lending
 pub mod Lifting
 pub mod OneTree
 pub mod Opening

@@ -18,23 +18,22 @@ ghost use Rattle.tc_treedb.specs.Reading.{AddsFirstOf, bytes_in, keys_beginning,
 
 use crate::laws::{decimal_tree, lexical_tree};
 use crate::many::{clear_each, push_all, set_all};
+use crate::ordered::Ordered;
 use crate::reading::{add_first, add_keys, add_pairs, add_range, all_bytes, all_keys, first_len};
 use crate::storing::{Change, push_last, store_first, take_first};
 use bt_order::{All, PrefixCut};
-use bt_tree::Tree;
 use std::alloc::Global;
 use tc_base::{Blob, Decimal, Form, Keys, Lexical, Mode, Pair, Steps};
 use tc_engine::Rows;
-use tc_hash::Hash;
 use tc_space::{RecErr, Space};
 
 /// A tree whose pages are the records of a hash file.
 #[derive(Drop)]
 pub enum Kept<S> {
     /// In the order of bytes.
-    Lexical(Tree<Hash<S>, Lexical>),
+    Lexical(Ordered<S, Lexical>),
     /// In the order of numbers.
-    Decimal(Tree<Hash<S>, Decimal>),
+    Decimal(Ordered<S, Decimal>),
 }
 
 impl<S: Space> Kept<S> {
@@ -45,11 +44,11 @@ impl<S: Space> Kept<S> {
         match self {
             Kept::Lexical(tree) => {
                 lexical_tree::<S>();
-                tree.count()
+                tree.seen().count()
             }
             Kept::Decimal(tree) => {
                 decimal_tree::<S>();
-                tree.count()
+                tree.seen().count()
             }
         }
     }
@@ -59,8 +58,8 @@ impl<S: Space> Kept<S> {
         ensures { result ≡ height_of self.now }
     {
         match self {
-            Kept::Lexical(tree) => tree.height(),
-            Kept::Decimal(tree) => tree.height(),
+            Kept::Lexical(tree) => tree.seen().height(),
+            Kept::Decimal(tree) => tree.seen().height(),
         }
     }
 
@@ -74,11 +73,11 @@ impl<S: Space> Kept<S> {
         match self {
             Kept::Lexical(tree) => {
                 lexical_tree::<S>();
-                first_len(tree, space, key)
+                first_len(tree.lent(), space, key)
             }
             Kept::Decimal(tree) => {
                 decimal_tree::<S>();
-                first_len(tree, space, key)
+                first_len(tree.lent(), space, key)
             }
         }
     }
@@ -94,11 +93,11 @@ impl<S: Space> Kept<S> {
         match self {
             Kept::Lexical(tree) => {
                 lexical_tree::<S>();
-                tree.first_value(space, key, &mut steps)
+                tree.lent().first_value(space, key, &mut steps)
             }
             Kept::Decimal(tree) => {
                 decimal_tree::<S>();
-                tree.first_value(space, key, &mut steps)
+                tree.lent().first_value(space, key, &mut steps)
             }
         }
     }
@@ -113,11 +112,11 @@ impl<S: Space> Kept<S> {
         match self {
             Kept::Lexical(tree) => {
                 lexical_tree::<S>();
-                all_bytes(tree, space)
+                all_bytes(tree.lent(), space)
             }
             Kept::Decimal(tree) => {
                 decimal_tree::<S>();
-                all_bytes(tree, space)
+                all_bytes(tree.lent(), space)
             }
         }
     }
@@ -132,11 +131,11 @@ impl<S: Space> Kept<S> {
         match self {
             Kept::Lexical(tree) => {
                 lexical_tree::<S>();
-                all_keys(alloc, tree, space)
+                all_keys(alloc, tree.lent(), space)
             }
             Kept::Decimal(tree) => {
                 decimal_tree::<S>();
-                all_keys(alloc, tree, space)
+                all_keys(alloc, tree.lent(), space)
             }
         }
     }
@@ -159,11 +158,11 @@ impl<S: Space> Kept<S> {
         match self {
             Kept::Lexical(tree) => {
                 lexical_tree::<S>();
-                add_first(alloc, tree, space, key, with_key, into)
+                add_first(alloc, tree.lent(), space, key, with_key, into)
             }
             Kept::Decimal(tree) => {
                 decimal_tree::<S>();
-                add_first(alloc, tree, space, key, with_key, into)
+                add_first(alloc, tree.lent(), space, key, with_key, into)
             }
         }
     }
@@ -185,11 +184,11 @@ impl<S: Space> Kept<S> {
         match self {
             Kept::Lexical(tree) => {
                 lexical_tree::<S>();
-                add_pairs(alloc, tree, space, key, into)
+                add_pairs(alloc, tree.lent(), space, key, into)
             }
             Kept::Decimal(tree) => {
                 decimal_tree::<S>();
-                add_pairs(alloc, tree, space, key, into)
+                add_pairs(alloc, tree.lent(), space, key, into)
             }
         }
     }
@@ -213,11 +212,11 @@ impl<S: Space> Kept<S> {
         match self {
             Kept::Lexical(tree) => {
                 lexical_tree::<S>();
-                add_range(alloc, tree, space, from, to, most, into)
+                add_range(alloc, tree.lent(), space, from, to, most, into)
             }
             Kept::Decimal(tree) => {
                 decimal_tree::<S>();
-                add_range(alloc, tree, space, from, to, most, into)
+                add_range(alloc, tree.lent(), space, from, to, most, into)
             }
         }
     }
@@ -241,11 +240,11 @@ impl<S: Space> Kept<S> {
             Kept::Lexical(tree) => {
                 lexical_tree::<S>();
                 let cut = PrefixCut { prefix };
-                add_keys(alloc, tree, space, &cut, prefix, most, into)
+                add_keys(alloc, tree.lent(), space, &cut, prefix, most, into)
             }
             Kept::Decimal(tree) => {
                 decimal_tree::<S>();
-                add_keys(alloc, tree, space, &All, prefix, most, into)
+                add_keys(alloc, tree.lent(), space, &All, prefix, most, into)
             }
         }
     }
@@ -271,11 +270,11 @@ impl<S: Space> Kept<S> {
         match self {
             Kept::Lexical(tree) => {
                 lexical_tree::<S>();
-                store_first(alloc, tree, space, mode, key, value)
+                store_first(alloc, tree.lent(), space, mode, key, value)
             }
             Kept::Decimal(tree) => {
                 decimal_tree::<S>();
-                store_first(alloc, tree, space, mode, key, value)
+                store_first(alloc, tree.lent(), space, mode, key, value)
             }
         }
     }
@@ -293,11 +292,11 @@ impl<S: Space> Kept<S> {
         match self {
             Kept::Lexical(tree) => {
                 lexical_tree::<S>();
-                push_last(tree, space, key, value)
+                push_last(tree.lent(), space, key, value)
             }
             Kept::Decimal(tree) => {
                 decimal_tree::<S>();
-                push_last(tree, space, key, value)
+                push_last(tree.lent(), space, key, value)
             }
         }
     }
@@ -316,11 +315,11 @@ impl<S: Space> Kept<S> {
         match self {
             Kept::Lexical(tree) => {
                 lexical_tree::<S>();
-                take_first(tree, space, key)
+                take_first(tree.lent(), space, key)
             }
             Kept::Decimal(tree) => {
                 decimal_tree::<S>();
-                take_first(tree, space, key)
+                take_first(tree.lent(), space, key)
             }
         }
     }
@@ -344,11 +343,11 @@ impl<S: Space> Kept<S> {
         match self {
             Kept::Lexical(tree) => {
                 lexical_tree::<S>();
-                set_all(tree, space, pairs, total)
+                set_all(tree.lent(), space, pairs, total)
             }
             Kept::Decimal(tree) => {
                 decimal_tree::<S>();
-                set_all(tree, space, pairs, total)
+                set_all(tree.lent(), space, pairs, total)
             }
         }
     }
@@ -372,11 +371,11 @@ impl<S: Space> Kept<S> {
         match self {
             Kept::Lexical(tree) => {
                 lexical_tree::<S>();
-                push_all(tree, space, pairs, total)
+                push_all(tree.lent(), space, pairs, total)
             }
             Kept::Decimal(tree) => {
                 decimal_tree::<S>();
-                push_all(tree, space, pairs, total)
+                push_all(tree.lent(), space, pairs, total)
             }
         }
     }
@@ -400,11 +399,11 @@ impl<S: Space> Kept<S> {
         match self {
             Kept::Lexical(tree) => {
                 lexical_tree::<S>();
-                clear_each(tree, space, keys, total)
+                clear_each(tree.lent(), space, keys, total)
             }
             Kept::Decimal(tree) => {
                 decimal_tree::<S>();
-                clear_each(tree, space, keys, total)
+                clear_each(tree.lent(), space, keys, total)
             }
         }
     }
@@ -422,11 +421,11 @@ impl<S: Space> Kept<S> {
         match self {
             Kept::Lexical(tree) => {
                 lexical_tree::<S>();
-                tree.clear_all(space)
+                tree.lent().clear_all(space)
             }
             Kept::Decimal(tree) => {
                 decimal_tree::<S>();
-                tree.clear_all(space)
+                tree.lent().clear_all(space)
             }
         }
     }
@@ -447,11 +446,11 @@ impl<S: Space> Kept<S> {
         match self {
             Kept::Lexical(tree) => {
                 lexical_tree::<S>();
-                tree.settle(space)
+                tree.lent().settle(space)
             }
             Kept::Decimal(tree) => {
                 decimal_tree::<S>();
-                tree.settle(space)
+                tree.lent().settle(space)
             }
         }
     }
@@ -471,11 +470,11 @@ impl<S: Space> Kept<S> {
         match self {
             Kept::Lexical(tree) => {
                 lexical_tree::<S>();
-                tree.pack(space, form)
+                tree.lent().pack(space, form)
             }
             Kept::Decimal(tree) => {
                 decimal_tree::<S>();
-                tree.pack(space, form)
+                tree.lent().pack(space, form)
             }
         }
     }

@@ -10,6 +10,7 @@ mod laws;
 mod listing;
 mod many;
 mod opening;
+mod ordered;
 mod reading;
 mod shape;
 mod storing;

@@ -12,6 +12,7 @@ ghost use Rattle.tc_treedb.specs.Unbroken.{stands_unbroken};
 use crate::holding::TreeEngine;
 use crate::kept::Kept;
 use crate::laws::{decimal_tree, lexical_tree};
+use crate::ordered::Ordered;
 use crate::shape::{TreeShape, USUAL};
 use bt_tree::Tree;
 use std::alloc::Global;
@@ -43,7 +44,7 @@ impl<S: Space> Kept<S> {
     {
         decimal_tree::<S>();
         let tree = Tree::open(alloc, hash, space)?;
-        Ok(Kept::Decimal(tree))
+        Ok(Kept::Decimal(Ordered { tree }))
     }
 
     // The same in the order of bytes, where the file doesn't tell the other.
@@ -57,7 +58,7 @@ impl<S: Space> Kept<S> {
     {
         lexical_tree::<S>();
         let tree = Tree::open(alloc, hash, space)?; // a byte other than 0 and 1 breaks a rule
-        Ok(Kept::Lexical(tree))
+        Ok(Kept::Lexical(Ordered { tree }))
     }
 
     // The tree of a hash file that was opened, in the order that the file tells. Another byte than 0 and 1 is a broken rule, whatever the order.
@@ -91,7 +92,7 @@ impl<S: Space> Kept<S> {
     {
         decimal_tree::<S>();
         let tree = Tree::create(alloc, hash, space, shape.leaf_limit, shape.node_limit)?;
-        Ok(Kept::Decimal(tree))
+        Ok(Kept::Decimal(Ordered { tree }))
     }
 
     // The same in the order of bytes.
@@ -111,7 +112,7 @@ impl<S: Space> Kept<S> {
     {
         lexical_tree::<S>();
         let tree = Tree::create(alloc, hash, space, shape.leaf_limit, shape.node_limit)?;
-        Ok(Kept::Lexical(tree))
+        Ok(Kept::Lexical(Ordered { tree }))
     }
 
     // A tree of no pairs in a hash file of no records.

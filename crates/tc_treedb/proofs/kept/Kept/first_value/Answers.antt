@@ -6,19 +6,19 @@ use Rattle.tc_treedb.proofs.Keeping.{finds_kept, looks_kept, ready_tree}
 use Rattle.tc_treedb.proofs.kept.Kept.first_value.Goals as goal
 
 pub first_value-requires : goal.first_value-requires
-first_value-requires g c = ready_tree g.S.Space _ _ false Lexical c.lexical_tree.ensures _ _ (rw c.in-Lexical.is at c.requires)
+first_value-requires g c = ready_tree g.S.Space _ _ false Lexical c.lexical_tree.ensures _ _ (rw (c.in-Lexical.is, ← c.lent.ensures.value) at c.requires)
 
 pub returns-in-Lexical-clause-value : goal.returns-in-Lexical-clause-value
-returns-in-Lexical-clause-value g c = rw c.in-Lexical.is (finds_kept g.S.Space _ _ false Lexical c.lexical_tree.ensures c.first_value.result (λ ps. first ps c.args.key.now) _ _ c.first_value.ensures.value)
+returns-in-Lexical-clause-value g c = rw (c.in-Lexical.is, ← c.lent.ensures.value) (finds_kept g.S.Space _ _ false Lexical c.lexical_tree.ensures c.first_value.result (λ ps. first ps c.args.key.now) _ _ c.first_value.ensures.value)
 
 pub returns-in-Lexical-clause-looks : goal.returns-in-Lexical-clause-looks
-returns-in-Lexical-clause-looks g c = rw c.in-Lexical.is (looks_kept g.S.Space _ _ false Lexical c.lexical_tree.ensures _ _ _ _ (looks_asks g.S.Space _ _ _ _ _ _ _ _ _ c.first_value.ensures.asks))
+returns-in-Lexical-clause-looks g c = rw (c.in-Lexical.is, ← c.lent.ensures.value) (looks_kept g.S.Space _ _ false Lexical c.lexical_tree.ensures _ _ _ _ (looks_asks g.S.Space _ _ _ _ _ _ _ _ _ c.first_value.ensures.asks))
 
 pub first_value-requires-in-Decimal : goal.first_value-requires-in-Decimal
-first_value-requires-in-Decimal g c = ready_tree g.S.Space _ _ true Decimal c.decimal_tree.ensures _ _ (rw c.in-Decimal.is at c.requires)
+first_value-requires-in-Decimal g c = ready_tree g.S.Space _ _ true Decimal c.decimal_tree.ensures _ _ (rw (c.in-Decimal.is, ← c.lent-in-Decimal.ensures.value) at c.requires)
 
 pub returns-in-Decimal-clause-value : goal.returns-in-Decimal-clause-value
-returns-in-Decimal-clause-value g c = rw c.in-Decimal.is (finds_kept g.S.Space _ _ true Decimal c.decimal_tree.ensures c.first_value-in-Decimal.result (λ ps. first ps c.args.key.now) _ _ c.first_value-in-Decimal.ensures.value)
+returns-in-Decimal-clause-value g c = rw (c.in-Decimal.is, ← c.lent-in-Decimal.ensures.value) (finds_kept g.S.Space _ _ true Decimal c.decimal_tree.ensures c.first_value-in-Decimal.result (λ ps. first ps c.args.key.now) _ _ c.first_value-in-Decimal.ensures.value)
 
 pub returns-in-Decimal-clause-looks : goal.returns-in-Decimal-clause-looks
-returns-in-Decimal-clause-looks g c = rw c.in-Decimal.is (looks_kept g.S.Space _ _ true Decimal c.decimal_tree.ensures _ _ _ _ (looks_asks g.S.Space _ _ _ _ _ _ _ _ _ c.first_value-in-Decimal.ensures.asks))
+returns-in-Decimal-clause-looks g c = rw (c.in-Decimal.is, ← c.lent-in-Decimal.ensures.value) (looks_kept g.S.Space _ _ true Decimal c.decimal_tree.ensures _ _ _ _ (looks_asks g.S.Space _ _ _ _ _ _ _ _ _ c.first_value-in-Decimal.ensures.asks))

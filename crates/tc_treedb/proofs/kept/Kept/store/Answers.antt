@@ -8,37 +8,37 @@ use Rattle.tc_treedb.proofs.Keeping.{fills_kept, grows_kept, makes_kept, of_kept
 use Rattle.tc_treedb.proofs.kept.Kept.store.Goals as goal
 
 pub store_first-requires : goal.store_first-requires
-store_first-requires g c = ready_tree g.S.Space _ _ false Lexical c.lexical_tree.ensures _ _ (rw c.in-Lexical.is at c.requires)
+store_first-requires g c = ready_tree g.S.Space _ _ false Lexical c.lexical_tree.ensures _ _ (rw (c.in-Lexical.is, ← c.lent.ensures.value) at c.requires)
 
 pub returns-in-Lexical-clause-makes : goal.returns-in-Lexical-clause-makes
-returns-in-Lexical-clause-makes g c = rw c.in-Lexical.is (IfOk-weaker _ _ _ (λ done takes. makes_kept g.S.Space _ _ false Lexical c.lexical_tree.ensures (λ d. stored_in (order d) c.args.mode c.args.key.now c.args.value.now) _ _ _ _ _ (rw c.in-Lexical.is at c.requires) c.store_first.ensures.stays.made takes) c.store_first.ensures.takes)
+returns-in-Lexical-clause-makes g c = rw (c.in-Lexical.is, ← c.lent.ensures.value) (IfOk-weaker _ _ _ (λ done takes. makes_kept g.S.Space _ _ false Lexical c.lexical_tree.ensures (λ d. stored_in (order d) c.args.mode c.args.key.now c.args.value.now) _ _ _ _ _ (rw (c.in-Lexical.is, ← c.lent.ensures.value) at c.requires) c.store_first.ensures.stays.made takes) c.store_first.ensures.takes)
 
 pub returns-in-Lexical-clause-full : goal.returns-in-Lexical-clause-full
-returns-in-Lexical-clause-full g c = rw c.in-Lexical.is (λ full. fills_kept g.S.Space _ _ false Lexical c.lexical_tree.ensures (λ d. after (stored_in (order d) c.args.mode c.args.key.now c.args.value.now)) _ _ _ (c.store_first.ensures.full full))
+returns-in-Lexical-clause-full g c = rw (c.in-Lexical.is, ← c.lent.ensures.value) (λ full. fills_kept g.S.Space _ _ false Lexical c.lexical_tree.ensures (λ d. after (stored_in (order d) c.args.mode c.args.key.now c.args.value.now)) _ _ _ (c.store_first.ensures.full full))
 
 pub returns-in-Lexical-clause-refused : goal.returns-in-Lexical-clause-refused
-returns-in-Lexical-clause-refused g c = rw c.in-Lexical.is (refused_kept g.S.Space _ _ false Lexical c.lexical_tree.ensures c.store_first.result _ _ _ _ c.store_first.ensures.stays.made c.store_first.ensures.refused)
+returns-in-Lexical-clause-refused g c = rw (c.in-Lexical.is, ← c.lent.ensures.value) (refused_kept g.S.Space _ _ false Lexical c.lexical_tree.ensures c.store_first.result _ _ _ _ c.store_first.ensures.stays.made c.store_first.ensures.refused)
 
 pub returns-in-Lexical-clause-lengths : goal.returns-in-Lexical-clause-lengths
-returns-in-Lexical-clause-lengths g c = rw c.in-Lexical.is (IfOk-weaker _ _ _ (λ done told. lengths_kept done (λ l lengths. of_kept g.S.Space _ _ false Lexical c.lexical_tree.ensures (λ d ps. AreLengths c.args.mode c.args.key.now c.args.value.now l ps) _ _ lengths) told) c.store_first.ensures.lengths)
+returns-in-Lexical-clause-lengths g c = rw (c.in-Lexical.is, ← c.lent.ensures.value) (IfOk-weaker _ _ _ (λ done told. lengths_kept done (λ l lengths. of_kept g.S.Space _ _ false Lexical c.lexical_tree.ensures (λ d ps. AreLengths c.args.mode c.args.key.now c.args.value.now l ps) _ _ lengths) told) c.store_first.ensures.lengths)
 
 pub store_first-requires-in-Decimal : goal.store_first-requires-in-Decimal
-store_first-requires-in-Decimal g c = ready_tree g.S.Space _ _ true Decimal c.decimal_tree.ensures _ _ (rw c.in-Decimal.is at c.requires)
+store_first-requires-in-Decimal g c = ready_tree g.S.Space _ _ true Decimal c.decimal_tree.ensures _ _ (rw (c.in-Decimal.is, ← c.lent-in-Decimal.ensures.value) at c.requires)
 
 pub returns-in-Decimal-clause-makes : goal.returns-in-Decimal-clause-makes
-returns-in-Decimal-clause-makes g c = rw c.in-Decimal.is (IfOk-weaker _ _ _ (λ done takes. makes_kept g.S.Space _ _ true Decimal c.decimal_tree.ensures (λ d. stored_in (order d) c.args.mode c.args.key.now c.args.value.now) _ _ _ _ _ (rw c.in-Decimal.is at c.requires) c.store_first-in-Decimal.ensures.stays.made takes) c.store_first-in-Decimal.ensures.takes)
+returns-in-Decimal-clause-makes g c = rw (c.in-Decimal.is, ← c.lent-in-Decimal.ensures.value) (IfOk-weaker _ _ _ (λ done takes. makes_kept g.S.Space _ _ true Decimal c.decimal_tree.ensures (λ d. stored_in (order d) c.args.mode c.args.key.now c.args.value.now) _ _ _ _ _ (rw (c.in-Decimal.is, ← c.lent-in-Decimal.ensures.value) at c.requires) c.store_first-in-Decimal.ensures.stays.made takes) c.store_first-in-Decimal.ensures.takes)
 
 pub returns-in-Decimal-clause-full : goal.returns-in-Decimal-clause-full
-returns-in-Decimal-clause-full g c = rw c.in-Decimal.is (λ full. fills_kept g.S.Space _ _ true Decimal c.decimal_tree.ensures (λ d. after (stored_in (order d) c.args.mode c.args.key.now c.args.value.now)) _ _ _ (c.store_first-in-Decimal.ensures.full full))
+returns-in-Decimal-clause-full g c = rw (c.in-Decimal.is, ← c.lent-in-Decimal.ensures.value) (λ full. fills_kept g.S.Space _ _ true Decimal c.decimal_tree.ensures (λ d. after (stored_in (order d) c.args.mode c.args.key.now c.args.value.now)) _ _ _ (c.store_first-in-Decimal.ensures.full full))
 
 pub returns-in-Decimal-clause-refused : goal.returns-in-Decimal-clause-refused
-returns-in-Decimal-clause-refused g c = rw c.in-Decimal.is (refused_kept g.S.Space _ _ true Decimal c.decimal_tree.ensures c.store_first-in-Decimal.result _ _ _ _ c.store_first-in-Decimal.ensures.stays.made c.store_first-in-Decimal.ensures.refused)
+returns-in-Decimal-clause-refused g c = rw (c.in-Decimal.is, ← c.lent-in-Decimal.ensures.value) (refused_kept g.S.Space _ _ true Decimal c.decimal_tree.ensures c.store_first-in-Decimal.result _ _ _ _ c.store_first-in-Decimal.ensures.stays.made c.store_first-in-Decimal.ensures.refused)
 
 pub returns-in-Decimal-clause-lengths : goal.returns-in-Decimal-clause-lengths
-returns-in-Decimal-clause-lengths g c = rw c.in-Decimal.is (IfOk-weaker _ _ _ (λ done told. lengths_kept done (λ l lengths. of_kept g.S.Space _ _ true Decimal c.decimal_tree.ensures (λ d ps. AreLengths c.args.mode c.args.key.now c.args.value.now l ps) _ _ lengths) told) c.store_first-in-Decimal.ensures.lengths)
+returns-in-Decimal-clause-lengths g c = rw (c.in-Decimal.is, ← c.lent-in-Decimal.ensures.value) (IfOk-weaker _ _ _ (λ done told. lengths_kept done (λ l lengths. of_kept g.S.Space _ _ true Decimal c.decimal_tree.ensures (λ d ps. AreLengths c.args.mode c.args.key.now c.args.value.now l ps) _ _ lengths) told) c.store_first-in-Decimal.ensures.lengths)
 
 pub returns-in-Lexical-clause-stays : goal.returns-in-Lexical-clause-stays
-returns-in-Lexical-clause-stays g c = rw c.in-Lexical.is (grows_kept g.S.Space _ _ false Lexical c.lexical_tree.ensures c.store_first.result _ _ _ _ (rw c.in-Lexical.is at c.requires) c.store_first.ensures.stays)
+returns-in-Lexical-clause-stays g c = rw (c.in-Lexical.is, ← c.lent.ensures.value) (grows_kept g.S.Space _ _ false Lexical c.lexical_tree.ensures c.store_first.result _ _ _ _ (rw (c.in-Lexical.is, ← c.lent.ensures.value) at c.requires) c.store_first.ensures.stays)
 
 pub returns-in-Decimal-clause-stays : goal.returns-in-Decimal-clause-stays
-returns-in-Decimal-clause-stays g c = rw c.in-Decimal.is (grows_kept g.S.Space _ _ true Decimal c.decimal_tree.ensures c.store_first-in-Decimal.result _ _ _ _ (rw c.in-Decimal.is at c.requires) c.store_first-in-Decimal.ensures.stays)
+returns-in-Decimal-clause-stays g c = rw (c.in-Decimal.is, ← c.lent-in-Decimal.ensures.value) (grows_kept g.S.Space _ _ true Decimal c.decimal_tree.ensures c.store_first-in-Decimal.result _ _ _ _ (rw (c.in-Decimal.is, ← c.lent-in-Decimal.ensures.value) at c.requires) c.store_first-in-Decimal.ensures.stays)
