@@ -1,8 +1,9 @@
 -- The parts of a text, looked for from the front.
 use Rattle.std.proofs.Common.{◌≡◌, ◌∙◌, ℕ, ◌+◌, ◌<◌, Bool, true, false, cond, List, [], ◌∷◌, length, take, drop, get_or, sym, ap, arith}
-use Rattle.std.specs.Prelude.{◌&&◌, ◌==◌, fold, Option, Some, None, Err, IsErrOf, if◌then◌else◌}
+use Rattle.std.specs.Prelude.{◌&&◌, ◌==◌, fold, Option, Some, None, Result, Err, IsErrOf, IsErrAnd, if◌then◌else◌}
 use Rattle.std.specs.List.{list_all}
 use Rattle.std.proofs.lemmas.Bool.{ne_eqb, eq-eqb}
+use Rattle.std.proofs.lemmas.Result.{err_from_is_err_and}
 use Rattle.std.proofs.lemmas.List.{get_or_default}
 use Rattle.std.proofs.lemmas.List.Splits.{slice_split_first, slice_split_none}
 use Rattle.std.proofs.lemmas.List.Sums.{position_or_len_is}
@@ -42,6 +43,10 @@ pub part_refused : (row : Row) (left rest : List (List ℕ)) (name value : List 
 part_refused row left rest name value all is fit so =
     sym so ∙ ap (λ ps. row_onto row (pairs_of ps)) is ∙ ap (λ b. cond (b && list_all is_column (pairs_of rest)) (Some (fold with_column (with_column row (pair name value)) (pairs_of rest))) None) fit
 
--- the same error of another result
-pub moved : {T U E : Type 0} (e b : E) → IsErrOf {T = T} (Err e) b → IsErrOf {T = U} (Err e) b
-moved e b h = let same : e ≡ b = cc in ap Err same
+-- an error that `?` hands on is named by the call that it came from
+pub err_handed : {A B E : Type 0} (r : Result A E) (w e : E) → IsErrAnd r (λ y. y ≡ w) → IsErrOf r e → IsErrOf {T = B} (Err w) e
+err_handed r w e is named =
+    let p = err_from_is_err_and r is in
+    let f : Err p.0 ≡ Err e = sym p.1 ∙ named in
+    let s : p.0 ≡ e = cc in
+    ap Err (sym p.2 ∙ s)

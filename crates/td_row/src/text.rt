@@ -69,10 +69,7 @@ impl Row {
                 return Ok(row);
             };
             let (value, more) = part_of(behind);
-            match row.replace(name, value) {
-                Ok(()) => {}
-                Err(e) => return Err(e),
-            }
+            row.replace(name, value)?;
             left = more;
         }
         Ok(row)

@@ -1,0 +1,16 @@
+pub mod Added
+pub mod Asked
+pub mod Asking
+pub mod Cleared
+pub mod Finding
+pub mod Gathering
+pub mod Holding
+pub mod Listing
+pub mod Naming
+pub mod Opened
+pub mod Overs
+pub mod Packed
+pub mod Settled
+pub mod Spelled
+pub mod Testing
+pub mod Turning

@@ -1,0 +1,14 @@
+pub mod Adding
+pub mod Clearing
+pub mod Full
+pub mod Laws
+pub mod Opening
+pub mod Over
+pub mod Packing
+pub mod Parts
+pub mod Searching
+pub mod Settling
+pub mod Sides
+pub mod Tables
+pub mod Valued
+pub mod Wholes
