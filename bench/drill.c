@@ -1,10 +1,11 @@
-/* The requests of `tokyo drill SEED COUNT` on a database of Tokyo Cabinet, and the same line: drill SEED COUNT NAME, whose name is *, + or one in .tch or .tcf. In files each hundred of them, and
-   the rest, are a transaction, synced. */
+/* The requests of `tokyo drill SEED COUNT` on a database of Tokyo Cabinet, and the same line: drill SEED COUNT NAME, whose name is *, + or one in .tch, .tcb or .tcf. In files each hundred of them,
+   and the rest, are a transaction, synced. */
 #include <stdbool.h>
 #include <stdint.h>
 #include <stdio.h>
 #include <stdlib.h>
 #include <string.h>
+#include <tcbdb.h>
 #include <tcfdb.h>
 #include <tchdb.h>
 #include <tcutil.h>
@@ -12,6 +13,7 @@
 static TCMDB *map;
 static TCNDB *tree;
 static TCHDB *hash;
+static TCBDB *pages;
 static TCFDB *fixed;
 
 /* Deed 0 and 1 put, 2 joins behind, 3 takes out. Answers whether it was done. */
@@ -27,15 +29,29 @@ static bool make(int deed, const char *key, int k, const char *value, int v) {
     return true;
   }
   if (hash) return deed == 3 ? tchdbout(hash, key, k) : deed == 2 ? tchdbputcat(hash, key, k, value, v) : tchdbput(hash, key, k, value, v);
+  if (pages) return deed == 3 ? tcbdbout(pages, key, k) : deed == 2 ? tcbdbputcat(pages, key, k, value, v) : tcbdbput(pages, key, k, value, v);
   return deed == 3 ? tcfdbout2(fixed, key, k) : deed == 2 ? tcfdbputcat2(fixed, key, k, value, v) : tcfdbput2(fixed, key, k, value, v);
 }
 
 static void begin(void) {
-  if ((hash && !tchdbtranbegin(hash)) || (fixed && !tcfdbtranbegin(fixed))) exit(3);
+  if ((hash && !tchdbtranbegin(hash)) || (pages && !tcbdbtranbegin(pages)) || (fixed && !tcfdbtranbegin(fixed))) exit(3);
 }
 
 static void commit(void) {
-  if ((hash && !tchdbtrancommit(hash)) || (fixed && !tcfdbtrancommit(fixed))) exit(4);
+  if ((hash && !tchdbtrancommit(hash)) || (pages && !tcbdbtrancommit(pages)) || (fixed && !tcfdbtrancommit(fixed))) exit(4);
+}
+
+/* The bytes of all pairs of a tree in a file. */
+static uint64_t size_of_pages(void) {
+  uint64_t all = 0;
+  int k, v;
+  BDBCUR *cursor = tcbdbcurnew(pages);
+  for (bool more = tcbdbcurfirst(cursor); more; more = tcbdbcurnext(cursor)) {
+    if (!tcbdbcurkey3(cursor, &k) || !tcbdbcurval3(cursor, &v)) exit(5);
+    all += k + v;
+  }
+  tcbdbcurdel(cursor);
+  return all;
 }
 
 /* The bytes of all keys and values. */
@@ -43,6 +59,7 @@ static uint64_t size(void) {
   uint64_t all = 0;
   void *key;
   int k, v;
+  if (pages) return size_of_pages();
   if (map) tcmdbiterinit(map);
   if (tree) tcndbiterinit(tree);
   if (hash) tchdbiterinit(hash);
@@ -57,12 +74,13 @@ static uint64_t size(void) {
   return all;
 }
 
-static uint64_t records(void) { return map ? tcmdbrnum(map) : tree ? tcndbrnum(tree) : hash ? tchdbrnum(hash) : tcfdbrnum(fixed); }
+static uint64_t records(void) { return map ? tcmdbrnum(map) : tree ? tcndbrnum(tree) : hash ? tchdbrnum(hash) : pages ? tcbdbrnum(pages) : tcfdbrnum(fixed); }
 
 static bool opened(const char *name) {
   if (!strcmp(name, "*")) return (map = tcmdbnew()) != NULL;
   if (!strcmp(name, "+")) return (tree = tcndbnew()) != NULL;
   if (strstr(name, ".tch")) return (hash = tchdbnew()) && tchdbopen(hash, name, HDBOWRITER | HDBOCREAT | HDBOTRUNC | HDBOTSYNC);
+  if (strstr(name, ".tcb")) return (pages = tcbdbnew()) && tcbdbopen(pages, name, BDBOWRITER | BDBOCREAT | BDBOTRUNC | BDBOTSYNC);
   return (fixed = tcfdbnew()) && tcfdbopen(fixed, name, FDBOWRITER | FDBOCREAT | FDBOTRUNC | FDBOTSYNC);
 }
 
@@ -78,5 +96,5 @@ int main(int argc, char **argv) {
     if (i % 100 == 99 || i + 1 == count) commit();
   }
   printf("requests %llu ok %llu refused %llu records %llu size %llu\n", (unsigned long long)count, (unsigned long long)ok, (unsigned long long)(count - ok), (unsigned long long)records(), (unsigned long long)size());
-  return (hash && !tchdbclose(hash)) || (fixed && !tcfdbclose(fixed)) ? 6 : 0;
+  return (hash && !tchdbclose(hash)) || (pages && !tcbdbclose(pages)) || (fixed && !tcfdbclose(fixed)) ? 6 : 0;
 }

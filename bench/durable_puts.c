@@ -1,4 +1,5 @@
-// Durable puts of a library in this process: puts FILE HELD. The one that is compiled in is CABINET (Tokyo Cabinet's hash database), CABINET_FIXED (its fixed-length one), SQLITE or LMDB.
+// Durable puts of a library in this process: puts FILE HELD. The one that is compiled in is CABINET (Tokyo Cabinet's hash database), CABINET_TREE (its B+ tree), CABINET_FIXED (its fixed-length
+// one), SQLITE or LMDB.
 #include "durable.h"
 
 static void load_begin(void);
@@ -26,6 +27,27 @@ static void put(long number, const char *value) {
 }
 static long count(void) { return (long)tchdbrnum(db); }
 static void close_it(void) { must(tchdbclose(db), "tchdbclose"); }
+static const char *version(void) { return tcversion; }
+
+#elif defined CABINET_TREE
+#include <tcbdb.h>
+static TCBDB *db;
+
+static void open_it(const char *name) {
+  db = tcbdbnew();
+  must(tcbdbopen(db, name, BDBOWRITER | BDBOCREAT | BDBOTSYNC), "tcbdbopen");
+}
+static void load_begin(void) {}
+static void load_end(void) { must(tcbdbsync(db), "tcbdbsync"); }
+static void begin(int list) { must(tcbdbtranbegin(db), "tcbdbtranbegin"), (void)list; }
+static void commit(int list) { must(tcbdbtrancommit(db), "tcbdbtrancommit"), (void)list; }
+static void put(long number, const char *value) {
+  char key[KEY];
+  spell_key(key, number);
+  must(tcbdbput(db, key, KEY, value, VALUE), "tcbdbput");
+}
+static long count(void) { return (long)tcbdbrnum(db); }
+static void close_it(void) { must(tcbdbclose(db), "tcbdbclose"); }
 static const char *version(void) { return tcversion; }
 
 #elif defined CABINET_FIXED
