@@ -309,8 +309,9 @@ impl Held {
         done
     }
 
-    /// Lays what it holds over bytes that show a file from a place on.
-    pub fn lay(&self, file: u32, at: u64, into: &mut [u8])
+    // Lays the pieces that it holds over bytes that show a file from a place on.
+    #[inline(never)]
+    fn lay_pieces(&self, file: u32, at: u64, into: &mut [u8])
         requires tidy { IsTidy self.now }
         ensures lays { Lays self.now file at into.old into.new }
         ensures long { length into.new ≡ length into.old }
@@ -324,5 +325,18 @@ impl Held {
             at,
             into,
         );
+    }
+
+    /// Lays what it holds over bytes that show a file from a place on.
+    #[inline(always)]
+    pub fn lay(&self, file: u32, at: u64, into: &mut [u8])
+        requires tidy { IsTidy self.now }
+        ensures lays { Lays self.now file at into.old into.new }
+        ensures long { length into.new ≡ length into.old }
+    {
+        if self.is_empty() {
+            return;
+        }
+        self.lay_pieces(file, at, into);
     }
 }

@@ -43,6 +43,15 @@ pub fn len_of(files: &mut [RealFile], file: u32) -> io::Result<u64> {
     Ok(file_of(files, file)?.len())
 }
 
+/// Fills bytes with those from a place on of a file by its number, if they are kept, all in one page. Answers whether they are.
+#[inline(always)]
+pub fn copy_of(files: &[RealFile], file: u32, at: u64, into: &mut [u8]) -> bool {
+    match files.get(file as usize) {
+        Some(one) => one.copy_kept(at, into),
+        None => false,
+    }
+}
+
 pub fn read_of(files: &mut [RealFile], file: u32, at: u64, into: &mut [u8]) -> io::Result<()> {
     file_of(files, file)?.read(at, into)
 }

@@ -3,7 +3,7 @@ ghost use Rattle.std.specs.Prelude.{◌≡◌, None, false, IfOk, Ok};
 ghost use Rattle.tc_io.specs.Causes.{HasCause};
 
 use crate::bound_copy::BoundCopy;
-use crate::file_list::{clear_log, cut_of, len_of, open_all, sync_of, write_of};
+use crate::file_list::{clear_log, copy_of, cut_of, len_of, open_all, sync_of, write_of};
 use crate::names::folder_of;
 use crate::real_file::RealFile;
 use std::alloc::Global;
@@ -50,6 +50,17 @@ impl<'a, R: Files<File = File>> FolderVolume<'a, R> {
             copy: BoundCopy::none(alloc),
             faults: 0,
         }
+    }
+
+    // Fills bytes from a place on, and asks the system where not all of them are kept.
+    #[inline(never)]
+    fn read_through(&mut self, file: u32, at: u64, into: &mut [u8]) -> Result<(), Fault>
+        ensures bound { self.new.is_bound ≡ self.old.is_bound }
+        ensures label { self.new.copy.label ≡ self.old.copy.label }
+        ensures cause { HasCause self.old.faults self.new.faults result }
+    {
+        let done = self.copy.read_source(&mut self.files, file, at, into);
+        counted(&mut self.faults, done)
     }
 
     /// Lets go of the byte that stays of an undo log that was cut to nothing. Where that fails it stays, and counts as no log.
@@ -112,9 +123,12 @@ impl<'a, R: Files<File = File>> Volume for FolderVolume<'a, R> {
         counted(&mut self.faults, len)
     }
 
+    #[inline(always)]
     fn read(&mut self, file: u32, at: u64, into: &mut [u8]) -> Result<(), Fault> {
-        let done = self.copy.read_source(&mut self.files, file, at, into);
-        counted(&mut self.faults, done)
+        if copy_of(&self.files, file, at, into) {
+            return Ok(());
+        }
+        self.read_through(file, at, into)
     }
 
     fn write(&mut self, file: u32, at: u64, bytes: &[u8]) -> Result<(), Fault> {

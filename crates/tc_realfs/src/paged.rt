@@ -38,6 +38,7 @@ pub fn take_from(start: u64, bytes: &[u8], at: u64, into: &mut [u8])
 }
 
 // Fills bytes of a page that isn't kept. It is read whole, if there is memory for it.
+#[inline(never)]
 fn read_one<S: Source>(
     pages: &mut Pages,
     source: S,
@@ -63,6 +64,7 @@ fn read_one<S: Source>(
 }
 
 // Fills bytes of two pages of which none is kept. Both are read whole, and kept if there is memory for them.
+#[inline(never)]
 fn read_both<S: Source>(
     pages: &mut Pages,
     source: S,
@@ -93,6 +95,7 @@ fn read_both<S: Source>(
 const FEW: usize = 5 * PAGE as usize;
 
 // Fills bytes of a few pages. These are read whole, and kept as far as there is memory for them.
+#[inline(never)]
 fn read_few<S: Source>(
     pages: &mut Pages,
     source: S,
@@ -117,6 +120,7 @@ fn read_few<S: Source>(
 }
 
 // Fills bytes by one call, and keeps what was read as far as there is memory for it. Where the pages that the bytes lie in are few they are read whole.
+#[inline(never)]
 fn read_kept<S: Source>(
     pages: &mut Pages,
     source: S,
@@ -142,6 +146,7 @@ fn read_kept<S: Source>(
 
 // Fills as many bytes as a page has, or more: those at the front from pages that are kept, and the rest by one call. That rest is kept, but for a read of just a page's length from a file
 // that is longer than all pages together.
+#[inline(never)]
 fn read_long<S: Source + Drop>(
     pages: &mut Pages,
     source: S,

@@ -29,6 +29,7 @@ struct Spot {
 impl Spot {
     ghost use Rattle.tc_realfs.specs.Paging.{IsSpot};
 
+    #[inline(always)]
     fn of(at: u64) -> Spot
         ensures { IsSpot result at }
     {
@@ -99,6 +100,7 @@ impl Page {
     }
 
     // Fills bytes with those from a place in the page on. Answers whether they are there.
+    #[inline(always)]
     fn copy(&self, skip: usize, into: &mut [u8]) -> bool
         ensures inside { IsTrue result → skip + length into.old ≤ length self.now.bytes.items }
         ensures bytes { IsTrue result → into.new ≡ take (length into.old) (drop skip self.now.bytes.items) }
@@ -163,6 +165,7 @@ impl Pages {
     }
 
     /// Fills bytes with those from a place on. Answers whether they are there, all in one page; none always are.
+    #[inline(always)]
     pub fn copy(&self, at: u64, into: &mut [u8]) -> bool
         ensures none { length into.old ≡ 0 → IsTrue result }
         ensures bytes { IsTrue result → (file : List ℕ) → Shows self.now file → into.new ≡ take (length into.old) (drop at file) }

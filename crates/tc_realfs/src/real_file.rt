@@ -110,6 +110,13 @@ impl RealFile {
         self.len
     }
 
+    /// Fills bytes from a place on that lie in it, if they are kept, all in one page. Answers whether they are.
+    #[inline(always)]
+    pub fn copy_kept(&self, at: u64, into: &mut [u8]) -> bool {
+        let size = into.len() as u64;
+        at <= self.len && size <= self.len - at && self.pages.copy(at, into)
+    }
+
     /// Fills bytes from a place on. The system is asked once at most, and not where all of them are kept.
     pub fn read(&mut self, at: u64, into: &mut [u8]) -> io::Result<()> {
         let Some(end) = at.checked_add(into.len() as u64) else {

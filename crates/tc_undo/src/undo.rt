@@ -264,6 +264,7 @@ impl<V: Volume> Batched for Undo<V> {
     }
 
     /// One read of the volume.
+    #[inline(always)]
     fn look(&mut self, file: u32, at: u64, into: &mut [u8]) -> Result<(), Fault> {
         self.read = self.read.saturating_add(into.len() as u64);
         self.vol.read(file, at, into)
