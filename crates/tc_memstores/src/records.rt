@@ -38,6 +38,13 @@ impl<S> MemRecords<S> {
             of: PhantomData,
         }
     }
+
+    /// How many gets were made. The count stays at the greatest u64.
+    pub fn gets(&self) -> u64
+        ensures { result ≡ self.now.gets }
+    {
+        self.gets
+    }
 }
 
 // A copy of the value of a key.

@@ -3,7 +3,7 @@ ghost use Rattle.std.specs.Prelude.{◌≡◌, [], OnOk, OnErr, IsErrOf, false};
 ghost use Rattle.tc_space.specs.Frames.{In, Keeps, Refuses};
 ghost use Rattle.tc_space.specs.Lists.{FullFrom, StaysList};
 ghost use Rattle.tc_space.specs.Refusals.{OnFault};
-ghost use Rattle.tc_space.specs.Stores.{IsReady};
+ghost use Rattle.tc_space.specs.Stores.{IsReady, WritesIn};
 ghost use Rattle.tc_space.specs.Changes.{first_out, put_last};
 ghost use Rattle.td_index.specs.Entries.{AreWhole, FullOuts, FullPuts, FullTurns, Gains, GainsAll, GainsSome, Loses, LosesAll, LosesSome, StopsIn, Turns, TurnsPartly, entry, has_zero};
 
@@ -20,7 +20,7 @@ pub struct Index<M> {
     pub name: Blob,
 }
 
-/// Adds the tree key of a part and a primary key.
+/// Adds the tree key of a part and a primary key, with an empty value.
 pub fn put_entry<M: Multi>(
     alloc: Global,
     tree: &mut M,
@@ -31,6 +31,7 @@ pub fn put_entry<M: Multi>(
     requires ready { IsReady M.S.Space (In M.S.Space M.file_of M.holds) tree.old space.old }
     requires whole { has_zero part.now ≡ false }
     ensures put { OnOk result (Gains M.S.Space M.Multi part.now key.now tree.old tree.new space.old space.new) }
+    ensures wrote { OnOk result (WritesIn M.S.Space M.file_of M.holds (put_last M.O.cmp (entry part.now key.now) []) tree.old tree.new space.old space.new) }
     ensures ready { OnOk result (IsReady M.S.Space (In M.S.Space M.file_of M.holds) tree.new space.new) }
     ensures refused { OnErr result (Refuses M.S.Space (In M.S.Space M.file_of M.holds) tree.old tree.new space.old space.new) }
     ensures full { IsErrOf result RecErr.Full → FullFrom (In M.S.Space M.file_of M.holds) M.fills (put_last M.O.cmp (entry part.now key.now) []) tree.old space.old space.new }

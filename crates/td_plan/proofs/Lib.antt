@@ -5,4 +5,3 @@ pub mod Firsts
 pub mod Following
 pub mod Parting
 pub mod Planning
-pub mod Ranking

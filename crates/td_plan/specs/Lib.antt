@@ -1,4 +1,3 @@
 pub mod Choices
-pub mod Ordered
 pub mod Plans
 pub mod Spans
