@@ -251,6 +251,7 @@ module _ {S R L OL D OD : Type 0} (s : Ghosts S) (r : records.Ghosts R S) (l : m
       like = filling.side;
       moment = full.moment;
       since = keeps_then s a b full.moment filling.keeps full.since;
+      others = record { same = λ tells g other. full.same tells g ∙ filling.others.same tells g other };
       done = i;
       front = take i ks;
       are = refl;

@@ -21,6 +21,10 @@ push : (f : List ℕ → List Found) (xs : List (List ℕ)) (x : List ℕ) → f
 push f [] x = append-nil (f x)
 push f (y ∷ xs) x = ap (λ (l : List Found). f y ++ l) (push f xs x) ∙ sym (behind (f y) (flat_map f xs) (f x))
 
+-- the rows under one key more
+pub under_more : (q : Query) (rows : Rows) (ks : List (List ℕ)) (i : ℕ) (k at : List ℕ) (row : Option Row) → i < length ks → k ≡ get_or ks i k → at ≡ k → row ≡ get rows at → found_under q rows (take (i + 1) ks) ≡ found_under q rows (take i ks) ++ found_row q at row
+under_more q rows ks i k at row less is same got = ap (found_under q rows) (up_to ks i k at less is same) ∙ (push (found_at q rows) (take i ks) at ∙ ap (λ (o : Option Row). found_under q rows (take i ks) ++ found_row q at o) (sym got))
+
 -- one row more
 pub one_more : (q : Query) (rows : Rows) (ks : List (List ℕ)) (i : ℕ) (k at : List ℕ) (row : Option Row) (xs next : List Found) → i < length ks → k ≡ get_or ks i k → at ≡ k → row ≡ get rows at
     → AreOne q xs (found_under q rows (take i ks)) → AreOne q next (xs ++ found_row q at row) → AreOne q next (found_under q rows (take (i + 1) ks))
@@ -31,7 +35,7 @@ one_more q rows ks i k at row xs next less is same got so step more =
     ∙ ap (λ (l : List Found). arranged q (reverse l)) (sym (behind (found_under q rows (take i ks)) (found_row q at row) more) ∙ ap (λ (l : List Found). l ++ more) (sym under))))
   where
     under : found_under q rows (take (i + 1) ks) ≡ found_under q rows (take i ks) ++ found_row q at row
-    under = ap (found_under q rows) (up_to ks i k at less is same) ∙ (push (found_at q rows) (take i ks) at ∙ ap (λ (o : Option Row). found_under q rows (take i ks) ++ found_row q at o) (sym got))
+    under = under_more q rows ks i k at row less is same got
 
 pub all_found : (q : Query) (rows : Rows) (ks : List (List ℕ)) (i : ℕ) (xs : List Found) → length ks ≤ i → AreOne q xs (found_under q rows (take i ks)) → arranged q (reverse xs) ≡ arranged q (reverse (found_under q rows ks))
 all_found q rows ks i xs all so =

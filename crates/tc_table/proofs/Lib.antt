@@ -2,6 +2,8 @@ pub mod Added
 pub mod Asked
 pub mod Asking
 pub mod Cleared
+pub mod Counted
+pub mod Exact
 pub mod Finding
 pub mod Gathering
 pub mod Holding

@@ -107,6 +107,7 @@ module _ {S R L OL D OD : Type 0} (s : Ghosts S) (r : records.Ghosts R S) (l : m
       pub like : StaysSide l d x side
       pub moment : S
       pub since : Keeps s a moment
+      pub others : Others s (Only (tree_file l d x.tree)) a moment
       pub done : ℕ
       pub front : List (List ℕ)
       pub are : front ≡ take done ks

@@ -1,5 +1,5 @@
 -- Which rows a search reads, and what it makes of them.
-use Rattle.std.specs.Prelude.{◌≡◌, ◌≤◌, ◌+◌, ℕ, Bool, true, false, List, [], ◌∷◌, ◌++◌, length, map, filter, flat_map, reverse, slice_get, Option, Some, None, if◌then◌else◌}
+use Rattle.std.specs.Prelude.{◌≡◌, ◌≤◌, ◌+◌, ◌-◌, min, ℕ, Bool, true, false, List, [], ◌∷◌, ◌++◌, length, map, filter, flat_map, reverse, slice_get, Option, Some, None, if◌then◌else◌}
 use Rattle.std.specs.FinMap.{entries, get}
 use Rattle.tc_model.specs.Contents.{Rows}
 use Rattle.tc_model.specs.Operators.{all_tokens, meets, some_token}
@@ -78,6 +78,14 @@ found_under q rows keys = flat_map (found_at q rows) keys
 abbrev pub AreOne : Query → List Found → List Found → Type 0
 AreOne q xs ys = (more : List Found) → arranged q (reverse (xs ++ more)) ≡ arranged q (reverse (ys ++ more))
 
+-- how many are kept of so many, and how many are found where so many rows meet the query
+abbrev pub most_of : Option ℕ → ℕ → ℕ
+most_of None n = n
+most_of (Some m) n = min m n
+
+abbrev pub kept : Query → ℕ → ℕ
+kept q n = most_of q.maximum (n - q.skip)
+
 -- each row that meets the query is under one of these keys, none of which comes twice
 pub record HasAllUnder (q : Query) (rows : Rows) (keys : List (List ℕ)) : Type 0 where
   pub once : (k : List ℕ) → times k keys ≤ 1
@@ -94,9 +102,38 @@ module _ {S R L OL D OD : Type 0} (s : Ghosts S) (r : records.Ghosts R S) (l : m
   abbrev pub FindsUnder : Query → Table R L D → S → List (List ℕ) → List Found → Type 0
   FindsUnder q t space keys fs = (rows : Rows) → Holds s r l d t space rows → arranged q (reverse fs) ≡ arranged q (reverse (found_under q rows keys))
 
+  -- so many of the rows under these keys meet the query
+  abbrev pub CountsUnder : Query → Table R L D → S → List (List ℕ) → ℕ → Type 0
+  CountsUnder q t space keys n = (rows : Rows) → Holds s r l d t space rows → n ≡ length (found_under q rows keys)
+
   -- these are the keys of the rows that the chosen index names
   abbrev pub NamesPlanned : Query → Choice → Table R L D → S → List (List ℕ) → Type 0
   NamesPlanned q x t space keys = (c : Cond) (i : Indexed) (rows : Rows) → slice_get q.conds x.cond ≡ Some c → slice_get (indexed t.sides.items) x.index ≡ Some i → Holds s r l d t space rows → AreNamed i.kind c rows keys
+
+-- ---- the only condition
+
+-- an index of values, not of tokens
+abbrev pub of_values : IndexKind → Bool
+of_values kinds.Lexical = true
+of_values kinds.Decimal = true
+of_values kinds.Token = false
+
+-- there is one condition alone, and the chosen index is one of values
+pub record IsAlone (q : Query) (indexes : List Indexed) (x : Choice) : Type 0 where
+  pub one : length q.conds ≡ 1
+  pub by : (i : Indexed) × (slice_get indexes x.index ≡ Some i) × (of_values i.kind ≡ true)
+
+-- an index of values serves the only condition: its pairs say which rows meet the query
+abbrev pub IsExact : Query → List Indexed → Type 0
+IsExact q indexes = (x : Choice) × IsChosen q indexes x × IsAlone q indexes x
+
+-- the primary keys of rows
+abbrev pub firsts_of : List Found → List (List ℕ)
+firsts_of fs = map (λ f. f.0) fs
+
+-- what a query without an order finds of rows that have these keys
+abbrev pub AreArranged : Query → List (List ℕ) → List (List ℕ) → Type 0
+AreArranged q keys found = (fs : List Found) → firsts_of fs ≡ keys → found ≡ firsts_of (arranged q (reverse fs))
 
 -- ---- what tokens name
 

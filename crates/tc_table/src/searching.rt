@@ -1,13 +1,13 @@
 //! Searches of a table.
 #![tactic(auto, using(tc_space::specs::Frames::keeps_refl, tc_space::specs::Frames::keeps_then, tc_space::specs::Frames::reads_refl, tc_space::specs::Frames::reads_then, crate::proofs::Holding::table_stays, crate::proofs::Holding::stays_then))]
 
-ghost use Rattle.std.specs.Prelude.{◌≡◌, ◌≤◌, ◌+◌, ◌++◌, length, Some, IfOk};
+ghost use Rattle.std.specs.Prelude.{◌≡◌, ◌≤◌, ◌+◌, ◌++◌, length, Some, None, IfOk, IfSome, MatchOption};
 ghost use Rattle.tc_model.specs.Contents.{Rows};
 ghost use Rattle.tc_model.specs.Search.{found};
 ghost use Rattle.tc_space.specs.Frames.{Keeps, Reads};
 ghost use Rattle.tc_space.specs.Refusals.{Blames};
 ghost use Rattle.tc_space.specs.Stores.{IsReady, Ticks};
-ghost use Rattle.tc_table.specs.Searching.{AreOne, FindsUnder, HasAllUnder, NamesAt, NamesPlanned, OfPlanned, as_indexed, found_row, indexed};
+ghost use Rattle.tc_table.specs.Searching.{AreArranged, AreOne, CountsUnder, FindsUnder, HasAllUnder, IsAlone, IsExact, NamesAt, NamesPlanned, OfPlanned, as_indexed, firsts_of, found_row, indexed, kept, of_values};
 ghost use Rattle.tc_table.specs.Sides.{AllReady, AllStand, AllStay};
 ghost use Rattle.tc_table.specs.Tables.{Holds, StaysTable};
 ghost use Rattle.td_plan.specs.Choices.{IsChosen};
@@ -18,7 +18,7 @@ use crate::side::Side;
 use crate::table::Table;
 use std::alloc::{AllocError, Global};
 use tc_base::{Blob, Blobs, Decimal, Lexical, Seq, Steps};
-use tc_model::{Cond, Query};
+use tc_model::{Cond, IndexKind, Query};
 use tc_space::{Multi, RecErr, Records};
 use td_plan::{Indexed, Names, Plan, Span, make_plan};
 use td_query::{FoundRows, arrange_back, cut, holds};
@@ -97,6 +97,102 @@ fn with_found(
     }
 }
 
+// One for a row that the query asks for, else none.
+fn count_row(q: &Query, key: &[u8], row: &Row) -> usize
+    ensures found { result ≡ length (found_row q.now key.now (Some row.now)) }
+    ensures few { result ≤ 1 }
+{
+    if !holds(q, key, row) {
+        return 0;
+    }
+    1
+}
+
+// The same of the row of a key, if it has one.
+fn count_one(q: &Query, key: &[u8], row: Option<Row>) -> usize
+    ensures found { result ≡ length (found_row q.now key.now row) }
+    ensures few { result ≤ 1 }
+{
+    match row {
+        Some(row) => count_row(q, key, &row),
+        None => 0,
+    }
+}
+
+// How many are found where so many rows meet the query.
+fn kept_of(q: &Query, n: u64) -> u64
+    ensures { result ≡ kept q.now n }
+{
+    let left = n.saturating_sub(q.skip);
+    match q.maximum {
+        Some(most) => most.min(left),
+        None => left,
+    }
+}
+
+// Whether an index of that type has values, and not tokens.
+fn has_values(kind: IndexKind) -> bool
+    ensures { result ≡ of_values kind }
+{
+    match kind {
+        IndexKind::Lexical => true,
+        IndexKind::Decimal => true,
+        IndexKind::Token => false,
+    }
+}
+
+// The plan of a query whose only condition an index of values serves; none of any other query.
+fn exact_plan(alloc: Global, q: &Query, names: &Names) -> Result<Option<Plan>, AllocError>
+    ensures chosen { IfOk result (λ o. IfSome o (λ p. IsChosen q.now names.now p.choice)) }
+    ensures covers { IfOk result (λ o. IfSome o (λ p. IsCovered q.now names.now p.choice p.span)) }
+    ensures exact { IfOk result (λ o. MatchOption o (IsExact q.now names.now → ⊥) (λ p. IsAlone q.now names.now p.choice)) }
+{
+    if q.conds.len() != 1 {
+        return Ok(None);
+    }
+    let Some(plan) = make_plan(alloc, q, names)? else {
+        return Ok(None);
+    };
+    let kind = names.at(plan.choice.index).kind;
+    if !has_values(kind) {
+        return Ok(None);
+    }
+    Ok(Some(plan))
+}
+
+// Rows of these primary keys, without columns.
+fn bare_rows(alloc: Global, keys: Blobs) -> Result<FoundRows, AllocError>
+    ensures { IfOk result (λ fs. firsts_of fs ≡ keys) }
+{
+    let mut rows = FoundRows::new(alloc);
+    for key in keys.into_vec() {
+        rows.push((key, Row::new(alloc)))?;
+    }
+    Ok(rows)
+}
+
+// The primary keys of rows.
+fn keys_of(alloc: Global, rows: FoundRows) -> Result<Blobs, AllocError>
+    ensures { IfOk result (λ ks. ks ≡ firsts_of rows) }
+{
+    let mut keys = Blobs::new(alloc);
+    for row in rows.into_vec() {
+        let (key, _columns) = row;
+        keys.push(key)?;
+    }
+    Ok(keys)
+}
+
+// The keys that a query without an order finds where these are those of the rows that meet it.
+fn arranged_keys(alloc: Global, q: &Query, keys: Blobs) -> Result<Blobs, AllocError>
+    requires { q.now.sort ≡ None }
+    ensures { IfOk result (λ ks. AreArranged q.now keys ks) }
+{
+    let rows = bare_rows(alloc, keys)?;
+    let found = arrange_back(q, rows)?;
+    keys_of(alloc, found)
+}
+
 impl<R: Records, L: Multi<S = R::S, O = Lexical>, D: Multi<S = R::S, O = Decimal>> Table<R, L, D> {
     // The rows under these keys that a query asks for, or those of them that may be among what is found. Each is read once.
     fn gather<T>(
@@ -125,6 +221,35 @@ impl<R: Records, L: Multi<S = R::S, O = Lexical>, D: Multi<S = R::S, O = Decimal
             found = with_found(self.alloc, q, key, row, found)?;
         }
         Ok(found)
+    }
+
+    // How many of the rows under these keys a query asks for. Each is read once.
+    fn tally<T>(
+        &mut self,
+        space: &mut R::S,
+        q: &Query,
+        row_keys: &[Blob],
+        steps: &mut Steps<T>,
+    ) -> Result<usize, RecErr>
+        requires { IsReady R.S.Space (Holds R.S.Space R.Records L.Multi D.Multi) self.old space.old }
+        ensures found { IfOk result (λ n. CountsUnder R.S.Space R.Records L.Multi D.Multi q.now self.old space.old row_keys.now n) }
+        ensures reads { Reads R.S.Space (Holds R.S.Space R.Records L.Multi D.Multi) self.old self.new space.old space.new }
+        ensures keeps { Keeps R.S.Space space.old space.new }
+        ensures stays { StaysTable R.Records L.Multi D.Multi self.old self.new }
+        ensures few { R.gets self.new.rows ≤ R.gets self.old.rows + length row_keys.now }
+        ensures most { steps.new ≤ steps.old + length row_keys.now }
+        ensures steps { Ticks (R.gets self.old.rows) (R.gets self.new.rows) steps.old steps.new }
+        ensures cause { Blames R.S.Space result space.old space.new }
+    {
+        let mut number: usize = 0;
+        for i in 0..row_keys.len() {
+            let key = row_keys[i].as_slice();
+            let _counted = steps.count();
+            steps.tick();
+            let row = self.get(space, key)?;
+            number += count_one(q, key, row);
+        }
+        Ok(number)
     }
 
     // The keys that a stretch of the index at a place names.
@@ -208,6 +333,103 @@ impl<R: Records, L: Multi<S = R::S, O = Lexical>, D: Multi<S = R::S, O = Decimal
         let keys = self.asked_keys(space, q)?;
         let rows = self.gather(space, q, keys.as_slice(), steps)?;
         let found = arrange_back(q, rows)?;
+        Ok(found)
+    }
+
+    // How many rows a query finds, where they are read. By its code it keeps no row.
+    fn count_read<T>(
+        &mut self,
+        space: &mut R::S,
+        q: &Query,
+        steps: &mut Steps<T>,
+    ) -> Result<u64, RecErr>
+        requires { IsReady R.S.Space (Holds R.S.Space R.Records L.Multi D.Multi) self.old space.old }
+        ensures found { IfOk result (λ n. (rows : Rows) → Holds R.S.Space R.Records L.Multi D.Multi self.old space.old rows → n ≡ length (found q.now rows)) }
+        ensures planned { OfPlanned R.S.Space R.Records L.Multi D.Multi q.now self.old space.old (λ n. R.gets self.new.rows ≤ R.gets self.old.rows + n) }
+        ensures counted { OfPlanned R.S.Space R.Records L.Multi D.Multi q.now self.old space.old (λ n. steps.new ≤ steps.old + n) }
+        ensures reads { Reads R.S.Space (Holds R.S.Space R.Records L.Multi D.Multi) self.old self.new space.old space.new }
+        ensures keeps { Keeps R.S.Space space.old space.new }
+        ensures stays { StaysTable R.Records L.Multi D.Multi self.old self.new }
+        ensures steps { Ticks (R.gets self.old.rows) (R.gets self.new.rows) steps.old steps.new }
+        ensures cause { Blames R.S.Space result space.old space.new }
+    {
+        let keys = self.asked_keys(space, q)?;
+        let number = self.tally(space, q, keys.as_slice(), steps)?;
+        Ok(kept_of(q, number as u64))
+    }
+    // The plan by which no row need be read to know which ones meet a query, if there is one.
+    fn plan_exactly(&self, q: &Query) -> Result<Option<Plan>, AllocError>
+        ensures chosen { IfOk result (λ o. IfSome o (λ p. IsChosen q.now (indexed self.now.sides.items) p.choice)) }
+        ensures covers { IfOk result (λ o. IfSome o (λ p. IsCovered q.now (indexed self.now.sides.items) p.choice p.span)) }
+        ensures exact { IfOk result (λ o. MatchOption o (IsExact q.now (indexed self.now.sides.items) → ⊥) (λ p. IsAlone q.now (indexed self.now.sides.items) p.choice)) }
+    {
+        let indexes = names_of(self.alloc, self.sides.as_slice())?;
+        exact_plan(self.alloc, q, &indexes)
+    }
+
+    // The same of a query without an order.
+    fn plan_unsorted(&self, q: &Query) -> Result<Option<Plan>, AllocError>
+        ensures chosen { IfOk result (λ o. IfSome o (λ p. IsChosen q.now (indexed self.now.sides.items) p.choice)) }
+        ensures covers { IfOk result (λ o. IfSome o (λ p. IsCovered q.now (indexed self.now.sides.items) p.choice p.span)) }
+        ensures sort { IfOk result (λ o. IfSome o (λ p. q.now.sort ≡ None)) }
+        ensures exact { IfOk result (λ o. MatchOption o (IsExact q.now (indexed self.now.sides.items) → q.now.sort ≡ None → ⊥) (λ p. IsAlone q.now (indexed self.now.sides.items) p.choice)) }
+    {
+        match q.sort {
+            Some(_) => Ok(None),
+            None => self.plan_exactly(q),
+        }
+    }
+
+    /// How many rows a query finds. It reads at most what a search reads at most, and none where an index of values serves the only condition. By its code it keeps no row.
+    pub fn count_found<T>(
+        &mut self,
+        space: &mut R::S,
+        q: &Query,
+        steps: &mut Steps<T>,
+    ) -> Result<u64, RecErr>
+        requires { IsReady R.S.Space (Holds R.S.Space R.Records L.Multi D.Multi) self.old space.old }
+        ensures found { IfOk result (λ n. (rows : Rows) → Holds R.S.Space R.Records L.Multi D.Multi self.old space.old rows → n ≡ length (found q.now rows)) }
+        ensures planned { OfPlanned R.S.Space R.Records L.Multi D.Multi q.now self.old space.old (λ n. R.gets self.new.rows ≤ R.gets self.old.rows + n) }
+        ensures counted { OfPlanned R.S.Space R.Records L.Multi D.Multi q.now self.old space.old (λ n. steps.new ≤ steps.old + n) }
+        ensures few { IsExact q.now (indexed self.old.sides.items) → R.gets self.new.rows ≡ R.gets self.old.rows }
+        ensures reads { Reads R.S.Space (Holds R.S.Space R.Records L.Multi D.Multi) self.old self.new space.old space.new }
+        ensures keeps { Keeps R.S.Space space.old space.new }
+        ensures stays { StaysTable R.Records L.Multi D.Multi self.old self.new }
+        ensures steps { Ticks (R.gets self.old.rows) (R.gets self.new.rows) steps.old steps.new }
+        ensures cause { Blames R.S.Space result space.old space.new }
+    {
+        let Some(plan) = self.plan_exactly(q)? else {
+            return self.count_read(space, q, steps);
+        };
+        let keys = self.named_keys(space, q, &plan)?;
+        Ok(kept_of(q, keys.len() as u64))
+    }
+
+    /// The primary keys of the rows that a query finds. It reads at most what a search reads at most, and none where the query has no order and an index of values serves its only condition.
+    pub fn search_keys<T>(
+        &mut self,
+        space: &mut R::S,
+        q: &Query,
+        steps: &mut Steps<T>,
+    ) -> Result<Blobs, RecErr>
+        requires { IsReady R.S.Space (Holds R.S.Space R.Records L.Multi D.Multi) self.old space.old }
+        ensures found { IfOk result (λ ks. (rows : Rows) → Holds R.S.Space R.Records L.Multi D.Multi self.old space.old rows → ks ≡ firsts_of (found q.now rows)) }
+        ensures planned { OfPlanned R.S.Space R.Records L.Multi D.Multi q.now self.old space.old (λ n. R.gets self.new.rows ≤ R.gets self.old.rows + n) }
+        ensures counted { OfPlanned R.S.Space R.Records L.Multi D.Multi q.now self.old space.old (λ n. steps.new ≤ steps.old + n) }
+        ensures few { IsExact q.now (indexed self.old.sides.items) → q.now.sort ≡ None → R.gets self.new.rows ≡ R.gets self.old.rows }
+        ensures reads { Reads R.S.Space (Holds R.S.Space R.Records L.Multi D.Multi) self.old self.new space.old space.new }
+        ensures keeps { Keeps R.S.Space space.old space.new }
+        ensures stays { StaysTable R.Records L.Multi D.Multi self.old self.new }
+        ensures steps { Ticks (R.gets self.old.rows) (R.gets self.new.rows) steps.old steps.new }
+        ensures cause { Blames R.S.Space result space.old space.new }
+    {
+        let Some(plan) = self.plan_unsorted(q)? else {
+            let found = self.search(space, q, steps)?;
+            let keys = keys_of(self.alloc, found)?;
+            return Ok(keys);
+        };
+        let keys = self.named_keys(space, q, &plan)?;
+        let found = arranged_keys(self.alloc, q, keys)?;
         Ok(found)
     }
 }
