@@ -1,5 +1,5 @@
 -- A file that is opened, or made anew.
-use Rattle.std.proofs.Common.{◌≡◌, ◌∙◌, inl, inr, ⊎_elim, ℕ, ◌≤◌, List, length, refl, sym, ap, subst, arith}
+use Rattle.std.proofs.Common.{◌≡◌, ◌∙◌, inl, inr, ⊎_elim, ℕ, ◌≤◌, List, [], length, refl, sym, ap, subst, arith}
 use Rattle.std.specs.Prelude.{Result, Ok, Err, IfOk, OnOk}
 use Rattle.std.specs.FinMap.{empty}
 use Rattle.tc_base.specs.Endian.{le_bytes}
@@ -11,7 +11,7 @@ use Rattle.tc_space.specs.declared.space.Space.{Ghosts}
 use Rattle.tc_model.specs.Arrays.{Array}
 use Rattle.tc_model.specs.Contents.{Contents, fixed}
 use Rattle.ty_base.specs.Holding.{KeepsLayout, StaysLaid, StaysUsable, layout_refl}
-use Rattle.ty_base.specs.Opening.{CreatesAs, IsCreated, IsOpened, OpensFor, OpensTo, OpensUsable}
+use Rattle.ty_base.specs.Opening.{CreatesAs, DoStand, IsCreated, IsOpened, OpensFor, OpensTo, OpensUsable}
 use Rattle.ty_base.proofs.Refusals.{no_bytes}
 use Rattle.hf_head.specs.declared.fixed.FixedHead.{FixedHead}
 use Rattle.hf_head.specs.FixedHeads.{fixed_spelled}
@@ -66,6 +66,10 @@ module _ {S : Type 0} (s : Ghosts S) where
   opens_made e kind a b none created t = made_opened e kind a b (none t) (created t)
 
   -- it was made of the usual numbers
+  -- an empty file stood for no data before it was made anew
+  pub none_stood : (a : S) → (s.tells → s.now a 0 ≡ []) → DoStand s Reopens a
+  none_stood a none = λ t. (anew usual, inl (none t, refl))
+
   pub made_usual : {E : Type 0} (r : Result (FixedEngine S) E) (a b : S) → IfOk r (λ e. CreatesAs s Reopens HoldsIds Shaped e (anew usual) usual b) → OnOk r (StaysUsable s (Only 0) a b) → OnOk r (OpensUsable s (Only 0) (Shaped usual) a b)
   made_usual (Ok e) a b created usable = record { sound = usable.sound; others = usable.others; made = λ t none. (created t).numbers }
   made_usual (Err x) a b created usable = tt

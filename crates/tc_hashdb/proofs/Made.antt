@@ -1,5 +1,5 @@
 -- A file that is opened, or made anew.
-use Rattle.std.proofs.Common.{◌≡◌, ◌∙◌, inl, inr, ⊎_elim, ℕ, ◌≤◌, false, List, length, take, refl, sym, ap, subst, arith}
+use Rattle.std.proofs.Common.{◌≡◌, ◌∙◌, inl, inr, ⊎_elim, ℕ, ◌≤◌, false, List, [], length, take, refl, sym, ap, subst, arith}
 use Rattle.std.specs.Prelude.{IfOk, OnOk, IfSome, Some, None, Result, Ok, Err}
 use Rattle.std.specs.FinMap.{empty, get}
 use Rattle.tc_base.specs.Files.{Files}
@@ -9,7 +9,7 @@ use Rattle.tc_base.specs.declared.kind.Kind.TheVariants as kinds
 use Rattle.tc_maps.specs.Sizes.{size_of}
 use Rattle.tc_maps.proofs.Bytes.{size-empty}
 use Rattle.tc_space.specs.declared.space.Space.{Ghosts}
-use Rattle.ty_base.specs.Opening.{CanOpen, CreatesAs, IsCreated, IsOpened, OpensFor, OpensTo, OpensUsable}
+use Rattle.ty_base.specs.Opening.{CanOpen, CreatesAs, DoStand, IsCreated, IsOpened, OpensFor, OpensTo, OpensUsable}
 use Rattle.tc_space.specs.Stores.{Only}
 use Rattle.ty_base.specs.Holding.{KeepsLayout, StaysLaid, StaysUsable, layout_refl}
 use Rattle.ty_base.proofs.Refusals.{no_bytes}
@@ -60,6 +60,10 @@ module _ {S : Type 0} (s : Ghosts S) where
   -- an opening that made it
   pub made_opened : (e : HashEngine S) (kind : Kind) (a b : S) → length (s.now a 0) ≡ 0 → IsCreated HoldsKeys Reopens Shaped e (anew usual) usual (s.now b) → (c : Contents) → OpensTo kind Reopens (s.now a) c → IsOpened HoldsKeys Reopens e (s.now b) c
   made_opened e kind a b none created c opens = subst (λ d. IsOpened HoldsKeys Reopens e (s.now b) d) (sym (only_none (s.now a) c none opens.stand)) (record { holds = created.holds; stand = created.stand })
+
+  -- an empty file stood for no data before it was made anew
+  pub none_stood : (a : S) → (s.tells → s.now a 0 ≡ []) → DoStand s Reopens a
+  none_stood a none = λ t. (hash false empty, inl (none t, refl))
 
   pub all_stand : {A E : Type 0} (r : Result A E) (kind : Kind) (a : S) → kinds.Hash ≡ kind → (s.tells → length (s.now a 0) ≡ 0) → OnOk r (CanOpen s Reopens kind a)
   all_stand (Ok x) kind a is none = λ t. (hash false empty, made_opens kind (s.now a) is (none t))

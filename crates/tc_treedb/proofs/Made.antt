@@ -19,7 +19,7 @@ use Rattle.tc_space.specs.declared.errors.RecErr.{RecErr}
 use Rattle.tc_space.specs.declared.errors.RecErr.TheVariants as rec
 use Rattle.tc_space.specs.declared.space.Space.{Ghosts}
 use Rattle.ty_base.specs.Holding.{KeepsLayout, Layout, StaysLaid, StaysUsable, layout_refl}
-use Rattle.ty_base.specs.Opening.{Breaks, CanOpen, CreatesAs, IsCreated, IsOpened, OpensFor, OpensTo, OpensUsable, RefusesToOpen, any_of, any_of_open}
+use Rattle.ty_base.specs.Opening.{Breaks, CanOpen, CreatesAs, DoStand, IsCreated, IsOpened, OpensFor, OpensTo, OpensUsable, RefusesToOpen, any_of, any_of_open}
 use Rattle.ty_base.specs.declared.errors.AnyErr.{AnyErr}
 use Rattle.ty_base.specs.declared.errors.AnyErr.TheVariants as any
 use Rattle.ty_base.proofs.Refusals.{cause_is, no_bytes}
@@ -157,6 +157,10 @@ module _ {S : Type 0} (s : Ghosts S) where
   -- an opening that made it
   made_opened : (e : TreeEngine S) (kind : Kind) (a b : S) → length (s.now a 0) ≡ 0 → IsCreated HoldsPairs Reopens Shaped e (anew usual) usual (s.now b) → (c : Contents) → OpensTo kind Reopens (s.now a) c → IsOpened HoldsPairs Reopens e (s.now b) c
   made_opened e kind a b none created c opens = subst (λ d. IsOpened HoldsPairs Reopens e (s.now b) d) (sym (only_none (s.now a) c none opens.stand)) (record { holds = created.holds; stand = created.stand })
+
+  -- an empty file stood for no data before it was made anew
+  pub none_stood : (a : S) → (s.tells → s.now a 0 ≡ []) → DoStand s Reopens a
+  none_stood a none = λ t. (tree false false [], inl (none t, refl))
 
   pub all_stand : {A E : Type 0} (r : Result A E) (kind : Kind) (a : S) → kinds.Tree ≡ kind → (s.tells → length (s.now a 0) ≡ 0) → OnOk r (CanOpen s Reopens kind a)
   all_stand (Ok x) kind a is none = λ t. (tree false false [], made_opens kind (s.now a) is (none t))

@@ -65,6 +65,10 @@ module _ {S : Type 0} (s : Ghosts S) (reopens : Files → Contents → Type 0) w
   abbrev pub CanOpen : Kind → S → Type 0
   CanOpen kind space = s.tells → (c : Contents) × OpensTo kind reopens (s.now space) c
 
+  -- the files stand for contents
+  abbrev pub DoStand : S → Type 0
+  DoStand space = s.tells → (c : Contents) × reopens (s.now space) c
+
   -- for whichever they stood, these are held
   abbrev pub OpensFor : {B : Type 0} → (B → Files → Contents → Type 0) → Kind → B → S → S → Type 0
   OpensFor held kind base old new = s.tells → (c : Contents) → OpensTo kind reopens (s.now old) c → IsOpened held reopens base (s.now new) c

@@ -6,7 +6,7 @@ ghost use Rattle.tc_base.specs.declared.kind.Rule.{Rule};
 ghost use Rattle.tc_space.specs.Frames.{Keeps, OnlyReads};
 ghost use Rattle.tc_model.specs.Contents.{Contents};
 ghost use Rattle.ty_base.specs.Holding.{StaysLaid, StaysUsable};
-ghost use Rattle.ty_base.specs.Opening.{CanOpen, CreatesAs, LacksNew, NamesNew, NamesRule, OpensFor, OpensTo, OpensUsable, RefusesToOpen};
+ghost use Rattle.ty_base.specs.Opening.{CanOpen, CreatesAs, DoStand, LacksNew, NamesNew, NamesRule, OpensFor, OpensTo, OpensUsable, RefusesToOpen};
 
 use crate::errors::AnyErr;
 use crate::storage::Storage;
@@ -54,17 +54,20 @@ pub trait Opens: Storage {
         ensures full { IsErrOf result AnyErr.Full → LacksNew Self.S.Space Self.reopens (lacks space.new usual) kind space.old }
         ensures keeps { Keeps Self.S.Space space.old space.new };
 
-    /// Makes the empty main file one of that shape, with no data, which isn't committed yet. A rule is named where another file of its own stands beside it.
+    /// Makes the empty main file one of that shape, with no data, which isn't committed yet. Where it does so, and where there is no room for it, the files stood for contents.
+    /// A rule is named where another file of its own stands beside it.
     /// After a refusal the space isn't sound, or nothing is written.
     fn create(alloc: Global, shape: &Self::Shape, space: &mut Self::S) -> Result<Self, AnyErr>
         requires sound { Self.S.sound space.old }
         requires empty { Self.S.tells → Self.S.now space.old 0 ≡ [] }
         requires numbers { may_be shape.now }
+        ensures stood { OnOk result (DoStand Self.S.Space Self.reopens space.old) }
         ensures created { IfOk result (λ b. CreatesAs Self.S.Space Self.reopens Self.holds shaped b (anew shape.now) shape.now space.new) }
         ensures broken { NamesNew Self.S.Space result breaks_new space.old }
         ensures usable { OnOk result (StaysUsable Self.S.Space Self.own space.old space.new) }
         ensures refused { RefusesToOpen Self.S.Space result space.old space.new }
         ensures full { IsErrOf result AnyErr.Full → Self.S.tells → lacks space.new shape.now }
+        ensures beside { IsErrOf result AnyErr.Full → DoStand Self.S.Space Self.reopens space.old }
         ensures keeps { Keeps Self.S.Space space.old space.new };
 
     /// Files that stand for contents break no rule.

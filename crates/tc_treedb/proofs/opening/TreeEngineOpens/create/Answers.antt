@@ -3,7 +3,7 @@ use Rattle.std.specs.Prelude.{Err}
 use Rattle.tc_space.specs.Frames.{keeps_then, others_then}
 use Rattle.tc_space.specs.Stores.{Only}
 use Rattle.ty_base.proofs.Refusals.{full_from, full_of, none_broken, on_err_of}
-use Rattle.tc_treedb.proofs.Made.{created_as, gave_up, lacks_same, lacks_sections, names_no_rule, rose_on}
+use Rattle.tc_treedb.proofs.Made.{created_as, gave_up, lacks_same, lacks_sections, names_no_rule, none_stood, rose_on}
 use Rattle.tc_treedb.proofs.opening.TreeEngineOpens.create.Goals as goal
 
 pub returns-in_err-hash-clause-refused : goal.returns-in_err-hash-clause-refused
@@ -46,3 +46,12 @@ returns-in-Err-clause-keeps g c = keeps_then g.S.Space _ _ _ c.create.ensures.ke
   same_names = c.spoil.ensures.stays.follows.same_names;
   later = c.spoil.ensures.stays.follows.later;
 }))
+
+pub returns-in-Ok-clause-stood : goal.returns-in-Ok-clause-stood
+returns-in-Ok-clause-stood g c = none_stood g.S.Space c.args.space.now c.requires.empty
+
+pub returns-in_err-hash-clause-beside : goal.returns-in_err-hash-clause-beside
+returns-in_err-hash-clause-beside g c = λ full. none_stood g.S.Space c.args.space.now c.requires.empty
+
+pub returns-in-Err-clause-beside : goal.returns-in-Err-clause-beside
+returns-in-Err-clause-beside g c = λ full. none_stood g.S.Space c.args.space.now c.requires.empty
