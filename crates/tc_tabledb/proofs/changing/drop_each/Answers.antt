@@ -1,0 +1,11 @@
+use Rattle.std.proofs.Common.{ap}
+use Rattle.std.specs.Prelude.{Err}
+use Rattle.tc_space.specs.Frames.{keeps_then}
+use Rattle.tc_tabledb.proofs.Dropped.{given_dropping}
+use Rattle.tc_tabledb.proofs.changing.drop_each.Goals as goal
+
+pub returns-in-Err-clause-full : goal.returns-in-Err-clause-full
+returns-in-Err-clause-full g c = λ is. given_dropping g.R.S.Space g.R.Records g.L.Multi g.D.Multi g.L.O.Order.cmp g.D.O.Order.cmp c.args.row_keys.now c.args.table.now c.args.space.now c.drop_some.new.space c.give_up.new.space (c.in-Err.ensures.full is) c.give_up.ensures
+
+pub returns-in-Err-clause-keeps : goal.returns-in-Err-clause-keeps
+returns-in-Err-clause-keeps g c = keeps_then g.R.S.Space c.args.space.now c.drop_some.new.space c.give_up.new.space c.drop_some.ensures.keeps c.give_up.ensures.keeps

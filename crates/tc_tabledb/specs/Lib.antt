@@ -1,0 +1,17 @@
+pub mod Changing
+pub mod Files
+pub mod Filling
+pub mod Holding
+pub mod Indexing
+pub mod Informing
+pub mod Laws
+pub mod Laying
+pub mod Members
+pub mod OneTable
+pub mod Opened
+pub mod Opening
+pub mod Reading
+pub mod Searching
+pub mod Shapes
+pub mod Storing
+pub mod Unbroken
