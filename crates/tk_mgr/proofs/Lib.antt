@@ -1,3 +1,4 @@
+pub mod Between
 pub mod DrillEnds
 pub mod Ends
 pub mod Hundreds

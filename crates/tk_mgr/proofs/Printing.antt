@@ -18,8 +18,7 @@ use Rattle.ty_base.specs.Holding.{Held}
 use Rattle.ty_rounds.proofs.Telling.{Adds-none, Adds-then}
 use Rattle.tk_mgr.specs.declared.errors.MgrErr.{MgrErr}
 use Rattle.tk_mgr.specs.declared.task.Task.{Task}
-use Rattle.tk_mgr.specs.declared.task.Task.TheVariants as task
-use Rattle.tk_mgr.specs.Tasks.{Prints, keys_listed, ok_of, pair_line, shown}
+use Rattle.tk_mgr.specs.Tasks.{Prints, ok_of, pair_line, shown}
 use Rattle.tk_mgr.specs.Asking.{Looks, looks_refl, looks_then}
 use Rattle.tk_mgr.specs.Showing.{HasKeys, IsShown, IsValue, Listed, PrintsLine, Shows, StopsLine, line_of, lines_of}
 
@@ -193,29 +192,33 @@ module _ {S B : Type 0} (s : space.Ghosts S) (holds : B → Files → Contents �
     whole = tt;
   }
 
--- ---- a list is printed
+-- ---- a line for each key is printed
 
-module _ {S B : Type 0} (s : space.Ghosts S) (holds : B → Files → Contents → Type 0) (lines : Files → List ℕ → Type 0) where
-  abbrev pub IsReply : Option ℕ → B → S → B → S → List ℕ → Type 0
-  IsReply maximum base a base' a' items = (c : Contents) → Held s holds base a c → Held s holds base' a' c × HasKeys items (keys_listed maximum c) × (true ≡ ok_of (task.List maximum false) c)
+module _ {S B : Type 0} (s : space.Ghosts S) (holds : B → Files → Contents → Type 0) (lines : Files → List ℕ → Type 0) (task : Task) (values : Bool) (keys : Contents → List (List ℕ)) where
+  -- the task prints a line for each of these keys
+  abbrev pub PrintsKeys : Type 0
+  PrintsKeys = (files : Files) (c : Contents) → Prints lines task files c (lines_of values c (keys c))
 
-  pub shows_lines : (maximum : Option ℕ) (values : Bool) (base b1 : B) (a a1 : S) (items : List ℕ) (p q : Option (List ℕ)) → IsReply maximum base a b1 a1 items → Listed s holds values (Ok tt) items b1 a1 p q → Shows s holds lines (task.List maximum values) (Ok true) base a p q
-  shows_lines maximum values base b1 a a1 items p q reply x = record {
+  abbrev pub IsReply : B → S → B → S → List ℕ → Type 0
+  IsReply base a base' a' items = (c : Contents) → Held s holds base a c → Held s holds base' a' c × HasKeys items (keys c) × (true ≡ ok_of task c)
+
+  pub shows_lines : (base b1 : B) (a a1 : S) (items : List ℕ) (p q : Option (List ℕ)) → PrintsKeys → IsReply base a b1 a1 items → Listed s holds values (Ok tt) items b1 a1 p q → Shows s holds lines task (Ok true) base a p q
+  shows_lines base b1 a a1 items p q prints reply x = record {
     taken = x.taken;
     told = x.told;
     none = λ is. absurd cc;
     by = λ c h.
         let r = reply c h in
-        let text : x.taken ≡ lines_of values c (keys_listed maximum c) = x.whole c (keys_listed maximum c) r.0 r.1 in
+        let text : x.taken ≡ lines_of values c (keys c) = x.whole c (keys c) r.0 r.1 in
         record {
           ok = λ b is. let same : true ≡ b = cc in sym same ∙ r.2;
-          printed = inr (record { ok = sym r.2; text = lines_of values c (keys_listed maximum c); prints = refl; front = ([], sym text ∙ sym (append-nil x.taken)) });
-          whole = λ is. text;
+          printed = inr (record { ok = sym r.2; text = lines_of values c (keys c); prints = prints (s.now a) c; front = ([], sym text ∙ sym (append-nil x.taken)) });
+          whole = λ is. subst (λ (l : List ℕ). Prints lines task (s.now a) c l) (sym text) (prints (s.now a) c);
         };
   }
 
-  pub shows_front : (maximum : Option ℕ) (values : Bool) (e : MgrErr) (base b1 : B) (a a1 : S) (items : List ℕ) (p q : Option (List ℕ)) → IsReply maximum base a b1 a1 items → Listed s holds values (Err e) items b1 a1 p q → Shows s holds lines (task.List maximum values) (Err e) base a p q
-  shows_front maximum values e base b1 a a1 items p q reply x = record {
+  pub shows_front : (e : MgrErr) (base b1 : B) (a a1 : S) (items : List ℕ) (p q : Option (List ℕ)) → PrintsKeys → IsReply base a b1 a1 items → Listed s holds values (Err e) items b1 a1 p q → Shows s holds lines task (Err e) base a p q
+  shows_front e base b1 a a1 items p q prints reply x = record {
     taken = x.taken;
     told = x.told;
     none = λ is. absurd cc;
@@ -223,7 +226,7 @@ module _ {S B : Type 0} (s : space.Ghosts S) (holds : B → Files → Contents �
         let r = reply c h in
         record {
           ok = λ b is. absurd cc;
-          printed = inr (record { ok = sym r.2; text = lines_of values c (keys_listed maximum c); prints = refl; front = x.front c (keys_listed maximum c) r.0 r.1 });
+          printed = inr (record { ok = sym r.2; text = lines_of values c (keys c); prints = prints (s.now a) c; front = x.front c (keys c) r.0 r.1 });
           whole = λ is. absurd cc;
         };
   }

@@ -1,6 +1,7 @@
 -- What replies hold.
 use Rattle.std.proofs.Common.{◌≡◌, ◌≤◌, ◌+◌, ◌/◌, ◌%◌, ℕ, zero, suc, Bool, true, false, cond, List, [], ◌∷◌, ◌++◌, length, take, drop, refl, sym, ap, subst, ◌∙◌, append_assoc, arith, length-append}
-use Rattle.std.specs.Prelude.{◌==◌, ℤ, Option, Some, None, option_map, unwrap_or, codes, nat_lt}
+use Rattle.std.specs.Prelude.{◌==◌, ℤ, Option, Some, None, option_map, unwrap_or, codes, nat_lt, ◌%◌, ◌&&◌, option_and_then}
+use Rattle.std.specs.List.{list_any}
 use Rattle.std.specs.Int.{w32, to_be_bytes}
 use Rattle.std.specs.Fmt.{decimal, digits, digits_onto, digit_glyph}
 use Rattle.std.specs.List.{position_or_len}
@@ -10,7 +11,7 @@ use Rattle.std.proofs.lemmas.Bool.Decides.{nat_tests}
 use Rattle.tc_base.specs.declared.kind.Kind.{Kind}
 use Rattle.tc_base.specs.declared.kind.Kind.TheVariants as kind
 use Rattle.tc_base.specs.declared.request.Request.{Request}
-use Rattle.tc_base.specs.declared.request.Request.TheVariants.{Get, FwmKeys, Stat}
+use Rattle.tc_base.specs.declared.request.Request.TheVariants.{Get, FwmKeys, Misc, Stat}
 use Rattle.tc_base.specs.declared.request.Reply.{Reply}
 use Rattle.tc_base.specs.declared.request.Reply.TheVariants as reply
 use Rattle.ty_wire.specs.Form.{items_bytes}
@@ -19,8 +20,13 @@ use Rattle.tc_model.specs.Contents.{Contents, hash, tree, fixed, table, kind_of,
 use Rattle.tc_model.specs.Stores.{count, held, size_of, value_of}
 use Rattle.tc_model.specs.Stats.{kind_text, line, stat_text}
 use Rattle.tc_model.specs.Apply.{apply, at_most, fits, keys_from, refused, tells, told, took}
-use Rattle.tk_mgr.specs.Tasks.{keys_listed, maximum_of, shown, told_line, told_of}
-use Rattle.tk_mgr.specs.Asking.{IsTold}
+use Rattle.tc_model.specs.Meaning.{done as outcome}
+use Rattle.tc_model.specs.Misc.{misc_of, updates_call}
+use Rattle.tc_base.specs.Texts.{is_text}
+use Rattle.tc_base.specs.declared.seq.Pair.{Pair}
+use Rattle.tk_mgr.specs.Tasks.{answered, condition_args, elements, find_request, keys_found, keys_listed, limit_arg, maximum_of, search_args, shown, sort_args, told_line, told_of}
+use Rattle.tk_mgr.specs.declared.task.Wanted.{Wanted}
+use Rattle.tk_mgr.specs.Asking.{IsIdle, IsTold}
 use Rattle.tk_mgr.specs.Showing.{AreCounts, HasKeys, IsValue, is_break, is_table_kind, shown_as}
 
 -- ---- steps that succeeded
@@ -45,6 +51,23 @@ keys_reply : (maximum : ℤ) (c : Contents) → (apply false (FwmKeys [] maximum
 unfolding apply
 keys_reply maximum c e = told_reply (FwmKeys [] maximum) (reply.List (at_most maximum (keys_from c []))) c None c None e
 
+-- a reply is a list that fits
+abbrev IsListed : Reply → Type 0
+IsListed answer = (answer ≡ reply.List (elements answer)) × (fits (reply.List (elements answer)) ≡ true)
+
+-- so is that to a call that succeeded
+took_list : (r : Request) (c : Contents) (b : Bool) (o : Option (Contents × List (List ℕ))) → (took r (cond b None (option_map (λ x. (x.0, reply.List x.1)) o)) c None).ok ≡ true → IsListed (took r (cond b None (option_map (λ x. (x.0, reply.List x.1)) o)) c None).reply
+took_list r c true o e = absurd cc
+took_list r c false None e = absurd cc
+took_list r c false (Some x) e =
+    let p = told_reply r (reply.List x.1) x.0 None c None e in
+    let same : x.1 ≡ elements (told r (reply.List x.1) x.0 None c None).reply = sym (ap elements p.0) in
+    (p.0 ∙ ap (λ (items : List (List ℕ)). reply.List items) same, subst (λ (items : List (List ℕ)). fits (reply.List items) ≡ true) same p.1)
+
+call_reply : (name : List ℕ) (options : ℕ) (args : List (List ℕ)) (c : Contents) → (apply false (Misc name options args) c None).ok ≡ true → IsListed (apply false (Misc name options args) c None).reply
+unfolding apply
+call_reply name options args c e = took_list (Misc name options args) c (options % 2 == 1 && updates_call name args) (option_and_then (λ m. outcome m c) (misc_of name args (kind_of c))) e
+
 stat_reply : (c : Contents) → (apply false Stat c None).ok ≡ true → (apply false Stat c None).reply ≡ reply.Value (stat_text c)
 unfolding apply
 stat_reply c e = (told_reply Stat (reply.Value (stat_text c)) c None c None e).0
@@ -60,19 +83,51 @@ items_behind items = refl
 pub value_told : (key : List ℕ) (c : Contents) (bytes : List ℕ) (done : Bool) → done ≡ true → IsTold (Get key) done c bytes → drop 5 bytes ≡ value_of c key
 value_told key c bytes done is h = ap (drop 5) (h.bytes ∙ ap reply_bytes (get_reply key c (sym h.ok ∙ is))) ∙ value_behind (value_of c key)
 
+-- the keys that a list in a reply has
+listed_behind : (keys : List (List ℕ)) (bytes : List ℕ) → bytes ≡ reply_bytes (reply.List keys) → fits (reply.List keys) ≡ true → HasKeys (drop 5 bytes) keys
+listed_behind keys bytes all fit =
+    let items : drop 5 bytes ≡ items_bytes keys = ap (drop 5) all ∙ items_behind keys in
+    let few : length (reply_bytes (reply.List keys)) ≤ 67108864 = leb-true _ _ fit in
+    record { bytes = items; short = omega (arith, few, ap length items, length-append (to_be_bytes w32 (length keys)) (items_bytes keys)) }
+
 pub keys_told : (maximum : Option ℕ) (c : Contents) (bytes : List ℕ) (done : Bool) → done ≡ true → IsTold (FwmKeys [] (maximum_of maximum)) done c bytes → HasKeys (drop 5 bytes) (keys_listed maximum c)
-keys_told maximum c bytes done is h =
-    let r = keys_reply (maximum_of maximum) c (sym h.ok ∙ is) in
-    let all : bytes ≡ reply_bytes (reply.List (keys_listed maximum c)) = h.bytes ∙ ap reply_bytes r.0 in
-    let items : drop 5 bytes ≡ items_bytes (keys_listed maximum c) = ap (drop 5) all ∙ items_behind (keys_listed maximum c) in
-    let few : length (reply_bytes (reply.List (keys_listed maximum c))) ≤ 67108864 = leb-true _ _ r.1 in
-    record { bytes = items; short = omega (arith, few, ap length items, length-append (to_be_bytes w32 (length (keys_listed maximum c))) (items_bytes (keys_listed maximum c))) }
+keys_told maximum c bytes done is h = let r = keys_reply (maximum_of maximum) c (sym h.ok ∙ is) in listed_behind (keys_listed maximum c) bytes (h.bytes ∙ ap reply_bytes r.0) r.1
 
 pub keys_asked : (maximum : Option ℕ) (c : Contents) (prefix : List ℕ) (most : ℤ) (bytes items : List ℕ) (done : Bool) → done ≡ true → prefix ≡ [] → most ≡ maximum_of maximum → IsTold (FwmKeys prefix most) done c bytes → items ≡ drop 5 bytes
     → HasKeys items (keys_listed maximum c) × (true ≡ (apply false (FwmKeys [] (maximum_of maximum)) c None).ok)
 keys_asked maximum c prefix most bytes items done is none limit h at =
     let told : IsTold (FwmKeys [] (maximum_of maximum)) done c bytes = subst (λ (m : ℤ). IsTold (FwmKeys [] m) done c bytes) limit (subst (λ (p : List ℕ). IsTold (FwmKeys p most) done c bytes) none h) in
     (subst (λ (l : List ℕ). HasKeys l (keys_listed maximum c)) (sym at) (keys_told maximum c bytes done is told), sym is ∙ told.ok)
+
+-- ---- the keys that a search finds
+
+found_told : (w : Wanted) (c : Contents) (bytes : List ℕ) (done : Bool) → done ≡ true → IsTold (find_request w) done c bytes → HasKeys (drop 5 bytes) (keys_found w c)
+found_told w c bytes done is h = let r = call_reply (codes "search") 0 (search_args w) c (sym h.ok ∙ is) in listed_behind (keys_found w c) bytes (h.bytes ∙ ap reply_bytes r.0) r.1
+
+pub keys_wanted : (w : Wanted) (c : Contents) (r : Request) (bytes items : List ℕ) (done : Bool) → done ≡ true → r ≡ find_request w → IsTold r done c bytes → items ≡ drop 5 bytes → HasKeys items (keys_found w c) × (true ≡ answered (Some (find_request w)) c)
+keys_wanted w c r bytes items done is same h at =
+    let asked : IsTold (find_request w) done c bytes = subst (λ (q : Request). IsTold q done c bytes) same h in
+    (subst (λ (l : List ℕ). HasKeys l (keys_found w c)) (sym at) (found_told w c bytes done is asked), sym is ∙ asked.ok)
+
+-- none of its arguments is `out`
+abbrev outs : List (List ℕ) → Bool
+outs args = list_any (is_text (codes "out")) args
+
+conditions_none : (ws more : List (List ℕ)) → outs more ≡ false → outs (condition_args ws ++ more) ≡ false
+conditions_none [] more e = e
+conditions_none (a ∷ []) more e = e
+conditions_none (a ∷ b ∷ []) more e = e
+conditions_none (a ∷ b ∷ d ∷ ws) more e = conditions_none ws more e
+
+sort_none : (s : Option Pair) (more : List (List ℕ)) → outs more ≡ false → outs (sort_args s ++ more) ≡ false
+sort_none None more e = e
+sort_none (Some p) more e = e
+
+args_none : (w : Wanted) → outs (search_args w) ≡ false
+args_none w = conditions_none w.conditions (sort_args w.sort ++ limit_arg w.maximum w.skip ∷ []) (sort_none w.sort (limit_arg w.maximum w.skip ∷ []) refl)
+
+pub find_idle : (w : Wanted) → IsIdle (find_request w)
+find_idle w = record { updates_none = args_none w; packs_none = refl }
 
 -- ---- values as they are printed
 

@@ -16,7 +16,7 @@ use Rattle.ty_rounds.specs.Kept.{HoldsMark, LeavesMarks, Reopens}
 use Rattle.tk_mgr.specs.declared.errors.MgrErr.{MgrErr}
 use Rattle.tk_mgr.specs.declared.errors.MgrErr.TheVariants as err
 use Rattle.tk_mgr.specs.declared.task.Task.{Task}
-use Rattle.tk_mgr.specs.declared.task.Task.TheVariants.{Get, List as Lists, Optimize, Inform}
+use Rattle.tk_mgr.specs.declared.task.Task.TheVariants.{Get, List as Lists, Optimize, Inform, Search}
 use Rattle.tk_mgr.specs.Tasks.{Prints, after, all_marks, at_step, ok_of, steps_of}
 
 -- it may be used, nothing is left to commit, and its files stand for what it holds
@@ -111,6 +111,7 @@ abbrev pub writes_files : Task → Bool
 writes_files (Get key) = false
 writes_files (Lists maximum values) = false
 writes_files Inform = false
+writes_files (Search wanted values) = false
 writes_files _ = true
 
 -- the undo log is full, or the large form that a task packs files in has no room for contents

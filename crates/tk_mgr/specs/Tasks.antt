@@ -1,9 +1,13 @@
 -- What a task makes of contents, where it commits, and what it prints.
 use Rattle.std.specs.Prelude.{◌≡◌, ℕ, zero, suc, ℤ, pos, negsuc, ◌/◌, ◌*◌, ◌==◌, min, Bool, true, false, List, [], ◌∷◌, ◌++◌, map, flat_map, Option, Some, None, codes, if◌then◌else◌}
 use Rattle.std.specs.Fmt.{decimal}
+use Rattle.std.specs.List.{join_with_byte}
 use Rattle.tc_base.specs.Files.{Files}
 use Rattle.tc_base.specs.declared.request.Request.{Request}
 use Rattle.tc_base.specs.declared.request.Request.TheVariants as request
+use Rattle.tc_base.specs.declared.request.Reply.{Reply}
+use Rattle.tc_base.specs.declared.request.Reply.TheVariants as reply
+use Rattle.tc_base.specs.declared.seq.Pair.{Pair}
 use Rattle.tc_model.specs.Contents.{Contents, kind_of, is_table}
 use Rattle.tc_model.specs.Stores.{count, size_of, value_of}
 use Rattle.tc_model.specs.Stats.{kind_text}
@@ -11,7 +15,8 @@ use Rattle.tc_model.specs.Apply.{apply, at_most, keys_from}
 use Rattle.tk_words.specs.declared.order.PutWord.{PutWord}
 use Rattle.tk_words.specs.declared.order.PutWord.TheVariants.{Over, Keep, Cat, Dup}
 use Rattle.tk_mgr.specs.declared.task.Task.{Task}
-use Rattle.tk_mgr.specs.declared.task.Task.TheVariants.{Put, Out, Get, List as Lists, Optimize, Inform, Drill}
+use Rattle.tk_mgr.specs.declared.task.Task.TheVariants.{Put, Out, Get, List as Lists, Optimize, Inform, SetIndex, Search, SearchOut, Drill}
+use Rattle.tk_mgr.specs.declared.task.Wanted.{Wanted}
 use Rattle.tk_mgr.specs.Drills.{drilled, summary}
 
 -- ---- the request that a task stands for
@@ -27,6 +32,42 @@ abbrev pub maximum_of : Option ℕ → ℤ
 maximum_of None = negsuc 0
 maximum_of (Some n) = pos (min n 2147483647)
 
+-- ---- the calls of a table
+
+-- a column and the code of a type
+abbrev pub index_request : List ℕ → ℕ → Request
+index_request column code = request.Misc (codes "setindex") 0 (column ∷ decimal code ∷ [])
+
+-- an argument of a search is a word and parts, with zero bytes between
+abbrev pub condition_arg : List ℕ → List ℕ → List ℕ → List ℕ
+condition_arg column operator expression = join_with_byte 0 (codes "addcond" ∷ column ∷ operator ∷ expression ∷ [])
+
+-- three texts each; fewer at the end are none
+abbrev pub condition_args : List (List ℕ) → List (List ℕ)
+condition_args (column ∷ operator ∷ expression ∷ more) = condition_arg column operator expression ∷ condition_args more
+condition_args _ = []
+
+abbrev pub sort_args : Option Pair → List (List ℕ)
+sort_args None = []
+sort_args (Some p) = join_with_byte 0 (codes "setorder" ∷ p.key ∷ p.value ∷ []) ∷ []
+
+-- without a maximum there is no limit
+abbrev pub most_text : Option ℕ → List ℕ
+most_text None = codes "-1"
+most_text (Some n) = decimal n
+
+abbrev pub limit_arg : Option ℕ → ℕ → List ℕ
+limit_arg maximum skip = join_with_byte 0 (codes "setlimit" ∷ most_text maximum ∷ decimal skip ∷ [])
+
+abbrev pub search_args : Wanted → List (List ℕ)
+search_args w = condition_args w.conditions ++ (sort_args w.sort ++ limit_arg w.maximum w.skip ∷ [])
+
+abbrev pub find_request : Wanted → Request
+find_request w = request.Misc (codes "search") 0 (search_args w)
+
+abbrev pub out_request : Wanted → Request
+out_request w = request.Misc (codes "search") 0 (search_args w ++ codes "out" ∷ [])
+
 -- none where files are packed or told of; a drill makes many
 abbrev pub request_of : Task → Option Request
 request_of (Put word key value) = Some (put_request word key value)
@@ -35,6 +76,9 @@ request_of (Get key) = Some (request.Get key)
 request_of (Lists maximum values) = Some (request.FwmKeys [] (maximum_of maximum))
 request_of (Optimize large) = None
 request_of Inform = None
+request_of (SetIndex column code) = Some (index_request column code)
+request_of (Search wanted values) = Some (find_request wanted)
+request_of (SearchOut wanted) = Some (out_request wanted)
 request_of (Drill seed n) = None
 
 -- ---- contents along a task
@@ -97,8 +141,24 @@ keys_listed maximum c = at_most (maximum_of maximum) (keys_from c [])
 abbrev pub pair_line : Contents → List ℕ → List ℕ
 pair_line c key = key ++ (9 ∷ line (shown c (value_of c key)))
 
+-- a line for each of these keys
+abbrev pub key_lines : Bool → Contents → List (List ℕ) → List ℕ
+key_lines values c keys = flat_map (λ key. if values then pair_line c key else line key) keys
+
 abbrev pub list_text : Bool → Option ℕ → Contents → List ℕ
-list_text values maximum c = flat_map (λ key. if values then pair_line c key else line key) (keys_listed maximum c)
+list_text values maximum c = key_lines values c (keys_listed maximum c)
+
+-- ---- the keys that a search finds: the elements of its reply
+
+abbrev pub elements : Reply → List (List ℕ)
+elements (reply.List items) = items
+elements _ = []
+
+abbrev pub keys_found : Wanted → Contents → List (List ℕ)
+keys_found w c = elements (apply false (find_request w) c None).reply
+
+abbrev pub search_text : Bool → Wanted → Contents → List ℕ
+search_text values w c = key_lines values c (keys_found w c)
 
 -- a name, a colon, a space, and a value
 abbrev pub told_line : List ℕ → List ℕ → List ℕ
@@ -110,6 +170,7 @@ told_of c = told_line (codes "type") (kind_text (kind_of c)) ++ (told_line (code
 abbrev pub text_of : Task → Contents → List ℕ
 text_of (Get key) c = line (shown c (value_of c key))
 text_of (Lists maximum values) c = list_text values maximum c
+text_of (Search wanted values) c = search_text values wanted c
 text_of (Drill seed n) c = summary n (drilled n seed c)
 text_of _ c = []
 

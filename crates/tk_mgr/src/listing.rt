@@ -153,8 +153,8 @@ fn print_line<B: Base, O: Sink>(
     Ok(())
 }
 
-// Prints a line for each of the keys that these bytes hold. Bytes that hold none are answered as want of memory.
-fn print_lines<B: Base, O: Sink>(
+/// Prints a line for each of the keys that these bytes hold. Bytes that hold none are answered as want of memory.
+pub fn print_lines<B: Base, O: Sink>(
     alloc: Global,
     values: bool,
     items: &[u8],

@@ -8,9 +8,11 @@ ghost use Rattle.tk_mgr.specs.Asking.{Accounts};
 use crate::changing::{optimize, put, take_out};
 use crate::drill::drill;
 use crate::errors::MgrErr;
+use crate::indexing::set_index;
 use crate::informing::inform;
 use crate::listing::list;
 use crate::reading::get;
+use crate::searching::{search, search_out};
 use crate::task::Task;
 use std::alloc::Global;
 use tc_io::Sink;
@@ -48,6 +50,9 @@ pub fn manage<B: Base, O: Sink>(
         Task::List { maximum, values } => list(alloc, maximum, values, base, space, out),
         Task::Optimize { large } => optimize(large, base, space),
         Task::Inform => inform(alloc, base, space, out),
+        Task::SetIndex { column, code } => set_index(alloc, column, code, base, space),
+        Task::Search { wanted, values } => search(alloc, &wanted, values, base, space, out),
+        Task::SearchOut { wanted } => search_out(alloc, &wanted, base, space),
         Task::Drill { seed, count } => drill(alloc, seed, count, base, space, out),
     }
 }

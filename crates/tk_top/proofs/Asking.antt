@@ -113,7 +113,7 @@ module _ {V W O : Type 0} (v : volume.Ghosts V) (g : wire.Ghosts W) (o : sink.Gh
   not_words : (a : Asked) (end : End) (gaps : List (ℕ × ℕ)) (vol vol' : V) (x y : W) (p q : O) (c d : Option (List ℕ)) → AskedRun v g o end a gaps vol vol' x y p q c d → end ≡ Words → ⊥
   not_words (asked.Serve source at turns) end gaps vol vol' x y p q c d run is = served_words source end at turns gaps vol vol' x y c d run.0 is
   not_words (asked.Task name stored task) end gaps vol vol' x y p q c d run is = subst (λ (e : End). JudgedTask e (v.tells → StandsFor (Opens stored) (v.calls vol)) (λ file rule. v.tells → BreaksAt (breaks_of stored) (v.calls vol) (v.calls vol') file rule) (v.tells → RefusedAt (Opens stored) task (v.calls vol))) is run.0.judged
-  not_words (asked.Create name shape) end gaps vol vol' x y p q c d run is = subst (λ (e : End). JudgedMaking e (v.tells → MainIsEmpty (v.calls vol)) (λ file rule. v.tells → BreaksAt (breaks_new_of shape) (v.calls vol) (v.calls vol') file rule) (v.tells → MainIsThere (v.calls vol) (v.calls vol'))) is run.0.judged
+  not_words (asked.Create name shape) end gaps vol vol' x y p q c d run is = subst (λ (e : End). JudgedMaking e (v.tells → MainIsEmpty (reopens_of (stored_as shape)) (v.calls vol)) (λ file rule. v.tells → BreaksAt (breaks_new_of shape) (v.calls vol) (v.calls vol') file rule) (v.tells → MainIsThere (v.calls vol) (v.calls vol'))) is run.0.judged
   not_words (asked.Drill memory seed n) end gaps vol vol' x y p q c d run is = subst IsDrilled is run.0.ends
 
   -- and a fault has its cause

@@ -1,5 +1,5 @@
 -- A limit that was reached, by the kind of the files.
-use Rattle.std.proofs.Common.{◌≡◌, ◌^◌, ◌⊎◌, inl, inr, ⊎_elim, ℕ, List, [], length, refl, subst}
+use Rattle.std.proofs.Common.{◌≡◌, ◌^◌, ◌⊎◌, inl, inr, ⊎_elim, ℕ, List, [], length, refl, ap, subst}
 use Rattle.tc_base.specs.Files.{Files}
 use Rattle.tc_base.specs.Maps.{Map}
 use Rattle.tc_io.specs.Images.{now}
@@ -9,6 +9,7 @@ use Rattle.ud_log.specs.Undo.{recovered}
 use Rattle.tc_model.specs.Contents.{Contents, fixed, hash, table, tree}
 use Rattle.tc_hash.specs.Creating.{HasNoRoom}
 use Rattle.tc_hashdb.specs.Filling.{LacksLargeAt as LacksAt, LacksOne, WantsAny}
+use Rattle.tc_tabledb.specs.Filling.{LacksIndex, LacksRow}
 use Rattle.tc_treedb.specs.Filling.{fills_moved}
 use Rattle.tc_treedb.specs.Shapes.{new_moved}
 use Rattle.ty_ulog.specs.Noting.{Lacks}
@@ -27,14 +28,16 @@ use Rattle.tk_top.specs.Volumes.{ShowsNow}
 use Rattle.tk_top.specs.declared.words.Shape.{Shape}
 use Rattle.tk_top.specs.declared.words.Shape.TheVariants as shapes
 use Rattle.tk_top.specs.declared.words.Stored.{Stored}
-use Rattle.tk_top.specs.declared.words.Stored.TheVariants.{Fixed, Hash, Tree}
+use Rattle.tk_top.specs.declared.words.Stored.TheVariants.{Fixed, Hash, Table, Tree}
 use Rattle.tk_top.proofs.Kept.{full_lacks, full_opened}
 
 -- files that were brought to where they are kept are those there, and so it is of the undo log
-fills_shown : (stored : Stored) (limits : ℕ → ℕ) (log full brought : Type 0) (files shown : Files) → (log → full) → (brought → files 0 ≡ shown 0) → (c d : Contents) → fills_of stored limits log brought files c d → fills_of stored limits full (Unit {0}) shown c d
-fills_shown Hash limits log full brought files shown wide same c d fills = ⊎_elim (λ l. inl (wide l)) (λ x. inr (tt, subst (λ (bytes : List ℕ). WantsAny (limits 0) bytes c d) (same x.0) x.1)) fills
-fills_shown Tree limits log full brought files shown wide same c d fills = ⊎_elim (λ l. inl (wide l)) (λ x. inr x) (fills_moved (limits 0) log brought (Unit {0}) (files 0) (shown 0) (λ all. tt) same c d fills)
+fills_shown : (stored : Stored) (limits : ℕ → ℕ) (log full brought : Type 0) (files shown : Files) → (log → full) → (brought → files ≡ shown) → (c d : Contents) → fills_of stored limits log brought files c d → fills_of stored limits full (Unit {0}) shown c d
+fills_shown Hash limits log full brought files shown wide same c d fills = ⊎_elim (λ l. inl (wide l)) (λ x. inr (tt, subst (λ (fs : Files). WantsAny (limits 0) (fs 0) c d) (same x.0) x.1)) fills
+fills_shown Tree limits log full brought files shown wide same c d fills = ⊎_elim (λ l. inl (wide l)) (λ x. inr x) (fills_moved (limits 0) log brought (Unit {0}) (files 0) (shown 0) (λ all. tt) (λ all. ap (λ (fs : Files). fs 0) (same all)) c d fills)
 fills_shown Fixed limits log full brought files shown wide same c d fills = ⊎_elim (λ passes. inl passes) (λ l. inr (wide l)) fills
+fills_shown Table limits log full brought files shown wide same c d fills =
+    ⊎_elim (λ l. inl (wide l)) (λ x. inr (⊎_elim (λ sections. inl sections) (λ y. inr (tt, subst (λ (fs : Files). LacksRow (limits 0) (fs 0) c d ⊎ LacksIndex limits fs c d) (same y.0) y.1)) x)) fills
 
 large_at : (limit : ℕ) (brought : Type 0) (bytes shown first : List ℕ) (held : Map) → (brought → bytes ≡ shown) → LacksAt limit (length bytes) brought first held → LacksAt limit (length shown) (Unit {0}) first held
 large_at limit brought bytes shown first held same x = record {
@@ -58,6 +61,10 @@ large_shown Tree limits brought files shown first same (tree a decimal ps) x = r
 large_shown Tree limits brought files shown first same (hash a held) x = absurd x
 large_shown Tree limits brought files shown first same (fixed width most ids) x = absurd x
 large_shown Tree limits brought files shown first same (table rows indexes) x = absurd x
+large_shown Table limits brought files shown first same (table rows indexes) x = record { held = x.held; spelled = x.spelled; lacks = large_at (limits 0) brought (files 0) (shown 0) (first 0) x.held same x.lacks }
+large_shown Table limits brought files shown first same (hash a held) x = absurd x
+large_shown Table limits brought files shown first same (tree a decimal ps) x = absurd x
+large_shown Table limits brought files shown first same (fixed width most ids) x = absurd x
 
 -- so it is where there is no room for a file that is made
 sections_wider : (limit long : ℕ) (log full : Type 0) → (log → full) → HasNoRoom limit log long → HasNoRoom limit full long
@@ -69,6 +76,7 @@ lacks_shown (shapes.Tree shape) limit log full brought bytes shown wide same lac
     let there = new_moved limit log brought (Unit {0}) bytes shown shape (λ all. tt) same lacks in
     record { head = there.head; new = there.new; passes = ⊎_elim (λ none. inl (sections_wider limit there.head.first log full wide none)) (λ lone. inr lone) there.passes }
 lacks_shown (shapes.Fixed shape) limit log full brought bytes shown wide same lacks = ⊎_elim (λ passes. inl passes) (λ l. inr (wide l)) lacks
+lacks_shown (shapes.Table shape) limit log full brought bytes shown wide same lacks = record { head = lacks.head; new = lacks.new; passes = sections_wider limit lacks.head.first log full wide lacks.passes }
 
 -- and along a task
 task_shown : (log full : Type 0) (fills : Contents → Contents → Type 0) (large : Contents → Type 0) (task : Task) (c : Contents) → (log → full) → FillsTask log fills large task c → FillsTask full fills large task c
@@ -91,7 +99,7 @@ module _ {S V : Type 0} (v : volume.Ghosts V) (s : space.Ghosts S) (under : S �
   lacks_under shape x shows lacks = lacks_shown shape (s.limit x 0) (s.log_full x) (LogIsFull v (under x)) (s.brought x) (s.now x 0) (files_in v (under x) 0) (log_is x) (λ all. (shows all).same 0) lacks
 
   fills_under : (stored : Stored) (x : S) → (s.brought x → ShowsNow (v.calls (under x)) (s.now x)) → (c d : Contents) → FillsTold s stored x c d → FillsAt v stored (s.limit x) (under x) c d
-  fills_under stored x shows c d fills = fills_shown stored (s.limit x) (s.log_full x) (LogIsFull v (under x)) (s.brought x) (s.now x) (files_in v (under x)) (log_is x) (λ all. (shows all).same 0) c d fills
+  fills_under stored x shows c d fills = fills_shown stored (s.limit x) (s.log_full x) (LogIsFull v (under x)) (s.brought x) (s.now x) (files_in v (under x)) (log_is x) (λ all i f. (shows all).same f i) c d fills
 
   module _ (stored : Stored) {vol w : V} where
     -- of what was full behind the opening: so it is of the volume
@@ -128,7 +136,7 @@ module _ {S V : Type 0} (v : volume.Ghosts V) (s : space.Ghosts S) (under : S �
     is_full_task task x =
         let limits = s.limit x.space in
         let log = LogIsFull v (under x.space) in
-        let shown : s.brought x.space → s.now x.space 0 ≡ files_in v (under x.space) 0 = λ all. (x.shows all).same 0 in
+        let shown : s.brought x.space → s.now x.space ≡ files_in v (under x.space) = λ all i f. (x.shows all).same f i in
         record {
           limits = limits;
           limits_are = x.limits;
@@ -139,7 +147,7 @@ module _ {S V : Type 0} (v : volume.Ghosts V) (s : space.Ghosts S) (under : S �
                     task_shown (s.log_full x.space) log (FillsAt v stored limits (under x.space)) (LacksLargeAt v stored limits vol (under x.space)) task first.contents (log_is x.space)
                     (task_less (s.log_full x.space) (FillsTold s stored x.space) (FillsAt v stored limits (under x.space)) (LacksLargeTold s stored x.begin x.space) (LacksLargeAt v stored limits vol (under x.space)) task first.contents
                     (fills_shown stored limits (s.log_full x.space) log (s.brought x.space) (s.now x.space) (files_in v (under x.space)) (log_is x.space) shown)
-                    (λ packs c lacks. record { first = s.now x.begin; is = x.first h.0; lacks = large_shown stored limits (s.brought x.space) (s.now x.space) (files_in v (under x.space)) (s.now x.begin) shown c lacks })
+                    (λ packs c lacks. record { first = s.now x.begin; is = x.first h.0; lacks = large_shown stored limits (s.brought x.space) (s.now x.space) (files_in v (under x.space)) (s.now x.begin) (λ all. (x.shows all).same 0) c lacks })
                     (y first h)))) x.full.which;
               });
         }

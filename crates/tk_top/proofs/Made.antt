@@ -7,7 +7,7 @@ use Rattle.tc_io.specs.declared.volume.Volume as volume
 use Rattle.tc_space.specs.declared.space.Space as space
 use Rattle.tc_model.specs.Contents.{Contents}
 use Rattle.ty_world.specs.World.{Mark}
-use Rattle.ty_base.specs.Opening.{Breaks}
+use Rattle.ty_base.specs.Opening.{Breaks, DoStand}
 use Rattle.ty_base.specs.declared.errors.AnyErr.{AnyErr}
 use Rattle.ty_base.specs.declared.errors.AnyErr.TheVariants as any
 use Rattle.ty_rounds.specs.Kept.{AtMark, LeavesMarks, MovesTo, Reopens}
@@ -15,7 +15,7 @@ use Rattle.tk_mgr.specs.Managing.{with_contents}
 use Rattle.tk_top.specs.declared.ends.End.{End}
 use Rattle.tk_top.specs.declared.ends.End.TheVariants.{Done, Words, Refused, VolumeFault, Broken, NoMemory, Full, WireFault, TurnsSpent}
 use Rattle.tk_top.specs.Ends.{end_of}
-use Rattle.tk_top.specs.Making.{ExitsMaking, FilesMade, IsMade, JudgedMaking, MakingOver}
+use Rattle.tk_top.specs.Making.{CanBeMade, ExitsMaking, FilesMade, IsMade, JudgedMaking, MakingOver}
 use Rattle.tk_top.specs.Naming.{EndsUnopened, OpensNamed}
 use Rattle.tk_top.specs.Serving.{Begins}
 use Rattle.tk_top.proofs.Fresh.{Earlier, Fresh}
@@ -35,11 +35,15 @@ judged_made Full empty some empty' some' breaks breaks' f g h j = f j
 judged_made WireFault empty some empty' some' breaks breaks' f g h j = j
 judged_made TurnsSpent empty some empty' some' breaks breaks' f g h j = j
 
-pub making_err : (e : AnyErr) (empty some : Type 0) (breaks : ℕ → Rule → Type 0) → empty → Breaks e breaks → JudgedMaking (end_of e) empty breaks some
+pub making_err : (e : AnyErr) (empty some : Type 0) (breaks : ℕ → Rule → Type 0) → (e ≡ any.Full → empty) → Breaks e breaks → JudgedMaking (end_of e) empty breaks some
 making_err (any.Broken file rule) empty some breaks is broken = broken
-making_err any.Full empty some breaks is broken = is
+making_err any.Full empty some breaks is broken = is refl
 making_err any.Fault empty some breaks is broken = tt
 making_err any.Memory empty some breaks is broken = tt
+
+-- where the main file is empty, and the files stood for contents
+pub can_be_made : {S : Type 0} (s : space.Ghosts S) (reopens : Files → Contents → Type 0) (a : S) → (s.tells → s.now a 0 ≡ []) → DoStand s reopens a → s.tells → CanBeMade reopens (s.now a)
+can_be_made s reopens a empty stood = λ t. record { none = empty t; contents = (stood t).0; stand = (stood t).1 }
 
 module _ (reopens : Files → Contents → Type 0) (numbers : Files → Type 0) (anew : Contents) where
   at_first : (first : Mark) (o : Option Files) → Reopens reopens o first → AtMark reopens o (with_contents first anew ∷ first ∷ [])

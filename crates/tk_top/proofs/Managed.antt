@@ -25,11 +25,11 @@ use Rattle.tc_base.specs.declared.kind.Rule.{Rule}
 use Rattle.tk_words.specs.declared.order.PutWord.{PutWord}
 use Rattle.tk_words.specs.declared.order.PutWord.TheVariants.{Over, Keep, Cat, Dup}
 use Rattle.tk_mgr.specs.Managing.{IsThrough, Manages, PacksTask, marks_of, with_contents, writes_files, packing}
-use Rattle.tk_mgr.specs.Tasks.{Prints, after, hundreds, maximum_of, ok_of, put_request}
+use Rattle.tk_mgr.specs.Tasks.{Prints, after, find_request, hundreds, index_request, maximum_of, ok_of, out_request, put_request}
 use Rattle.tk_mgr.specs.declared.errors.MgrErr.{MgrErr}
 use Rattle.tk_mgr.specs.declared.errors.MgrErr.TheVariants as mgr
 use Rattle.tk_mgr.specs.declared.task.Task.{Task}
-use Rattle.tk_mgr.specs.declared.task.Task.TheVariants.{Put, Out, Get, List as Lists, Optimize, Inform, Drill}
+use Rattle.tk_mgr.specs.declared.task.Task.TheVariants.{Put, Out, Get, List as Lists, Optimize, Inform, SetIndex, Search, SearchOut, Drill}
 use Rattle.tk_top.specs.declared.ends.End.{End}
 use Rattle.tk_top.specs.declared.ends.End.TheVariants.{Done, Words, Refused, VolumeFault, Broken, NoMemory, Full, WireFault, TurnsSpent}
 use Rattle.tk_top.specs.Ends.{end_of}
@@ -129,6 +129,9 @@ failed_same (Get key) c failed = failed_took (request.Get key) (effect (request.
 failed_same (Lists maximum values) c failed = let r = request.FwmKeys [] (maximum_of maximum) in failed_took r (effect r c) c failed
 failed_same (Optimize large) c failed = absurd cc
 failed_same Inform c failed = absurd cc
+failed_same (SetIndex column code) c failed = let r = index_request column code in failed_took r (effect r c) c failed
+failed_same (Search wanted values) c failed = let r = find_request wanted in failed_took r (effect r c) c failed
+failed_same (SearchOut wanted) c failed = let r = out_request wanted in failed_took r (effect r c) c failed
 failed_same (Drill seed n) c failed = absurd cc
 
 -- a task that is for an empty main file may write
@@ -139,6 +142,9 @@ placed_writes (Get key) files placed empty = absurd (placed empty)
 placed_writes (Lists maximum values) files placed empty = absurd (placed empty)
 placed_writes (Optimize large) files placed empty = refl
 placed_writes Inform files placed empty = absurd (placed empty)
+placed_writes (SetIndex column code) files placed empty = refl
+placed_writes (Search wanted values) files placed empty = absurd (placed empty)
+placed_writes (SearchOut wanted) files placed empty = refl
 placed_writes (Drill seed n) files placed empty = refl
 
 -- nor is one that only reads for an empty one
@@ -149,6 +155,9 @@ reads_there (Get key) reads = refl
 reads_there (Lists maximum values) reads = refl
 reads_there (Optimize large) reads = refl
 reads_there Inform reads = refl
+reads_there (SetIndex column code) reads = refl
+reads_there (Search wanted values) reads = refl
+reads_there (SearchOut wanted) reads = refl
 reads_there (Drill seed n) reads = absurd cc
 
 -- nor is one that packs files
@@ -159,6 +168,9 @@ packs_there (Get key) f packs = refl
 packs_there (Lists maximum values) f packs = refl
 packs_there (Optimize large) f packs = refl
 packs_there Inform f packs = refl
+packs_there (SetIndex column code) f packs = refl
+packs_there (Search wanted values) f packs = refl
+packs_there (SearchOut wanted) f packs = refl
 packs_there (Drill seed n) f packs = absurd cc
 
 -- ---- marks
@@ -174,6 +186,9 @@ first_marked (Get key) m = inr (inl refl)
 first_marked (Lists maximum values) m = inr (inl refl)
 first_marked (Optimize large) m = inr (inl refl)
 first_marked Inform m = inr (inl refl)
+first_marked (SetIndex column code) m = inr (inl refl)
+first_marked (Search wanted values) m = inr (inl refl)
+first_marked (SearchOut wanted) m = inr (inl refl)
 first_marked (Drill seed n) m = inr (hundreds_have seed _ m)
 
 -- ---- what is printed
@@ -187,6 +202,9 @@ module _ (lines : Files → List ℕ → Type 0) where
   prints_same (Lists maximum values) f g c text same prints = prints
   prints_same (Optimize large) f g c text same prints = prints
   prints_same Inform f g c text same prints = subst (λ (h : Files). Prints lines Inform h c text) (same refl) prints
+  prints_same (SetIndex column code) f g c text same prints = prints
+  prints_same (Search wanted values) f g c text same prints = prints
+  prints_same (SearchOut wanted) f g c text same prints = prints
   prints_same (Drill seed n) f g c text same prints = prints
 
   on_unbegun : (task : Task) (end : End) (files : Files) (first : Mark) → IsUnbegun end → TaskOn lines task end files [] first

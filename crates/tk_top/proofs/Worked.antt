@@ -1,6 +1,8 @@
 -- What is done with the files of a name, of a kind that stands today.
 use Rattle.std.proofs.Common.{◌≡◌, ℕ, List, sym, subst}
 use Rattle.std.specs.Prelude.{Option}
+use Rattle.tc_base.specs.Files.{Files}
+use Rattle.tc_base.specs.declared.kind.Rule.{Rule}
 use Rattle.tc_io.specs.declared.sink.Sink as sink
 use Rattle.tc_io.specs.declared.volume.Volume as volume
 use Rattle.tc_io.specs.declared.wire.Wire as wire
@@ -82,9 +84,13 @@ module _ {S V W O : Type 0} (v : volume.Ghosts V) (s : space.Ghosts S) (g : wire
   })
 
   -- so what was done is what was asked for
-  pub work_so : {N : Type 0} (shaped : N → Shape) → ((n : N) → stored_as (shaped n) ≡ stored) → (work : Work N) (end : End) (name : List ℕ) (gaps : List (ℕ × ℕ)) (old new : V) (x y : W) (p q : O) (c d : Option (List ℕ))
+  pub work_so : {N : Type 0} (shaped : N → Shape) (breaks_new : Files → ℕ → Rule → Type 0) → ((n : N) → stored_as (shaped n) ≡ stored) → ((n : N) → breaks_new ≡ breaks_new_of (shaped n)) → (work : Work N) (end : End) (name : List ℕ) (gaps : List (ℕ × ℕ)) (old new : V) (x y : W) (p q : O) (c d : Option (List ℕ))
       → WorkBy v s g o under (kind_in stored) (reopens_of stored) (own_of stored) (layout_of stored) (numbers_of (usual_of stored)) (breaks_of stored) (lines_in stored) (packed_in stored) (λ z. LacksTold s (usual_of stored) z) (λ a z. FillsTold s stored z) (λ a z. LacksLargeTold s stored a z)
-      (λ n. numbers_of (shaped n)) (λ n. anew_of (shaped n)) (λ files file rule. ⊥) (λ z n. LacksTold s (shaped n) z) work end name gaps old new x y p q c d
+      (λ n. numbers_of (shaped n)) (λ n. anew_of (shaped n)) breaks_new (λ z n. LacksTold s (shaped n) z) work end name gaps old new x y p q c d
       → AskedRun v g o end (asked_as stored shaped name work) gaps old new x y p q c d
-  work_so shaped same (works.Do job) end name gaps old new x y p q c d done = job_so job end name gaps old new x y p q c d done
-  work_so shaped same (works.Make n) end name gaps old new x y p q c d done = (remade_so (shaped n.now) end name old new (same n.now) done.0, done.1)
+  work_so shaped breaks_new same named (works.Do job) end name gaps old new x y p q c d done = job_so job end name gaps old new x y p q c d done
+  work_so shaped breaks_new same named (works.Make n) end name gaps old new x y p q c d done = (
+    remade_so (shaped n.now) end name old new (same n.now)
+        (subst (λ (b : Files → ℕ → Rule → Type 0). RemakesFiles v (reopens_of stored) (own_of stored) (numbers_of (shaped n.now)) (anew_of (shaped n.now)) b (LacksOn v s under (λ z h. LacksTold s h z) (shaped n.now) old new) end name old new) (named n.now) done.0),
+    done.1,
+  )

@@ -35,11 +35,17 @@ JudgedMaking TurnsSpent empty breaks some = ⊥
 abbrev pub IsThere : Files → Type 0
 IsThere files = files 0 ≡ [] → ⊥
 
--- the volume reads and recovers to files, and the main file is empty; or it isn't, and they stay
-pub record MainIsEmpty (old : Calls) : Type 0 where
+-- the main file is empty, and the files stand for contents
+pub record CanBeMade (reopens : Files → Contents → Type 0) (files : Files) : Type 0 where
+  pub none : files 0 ≡ []
+  pub contents : Contents
+  pub stand : reopens files contents
+
+-- the volume reads and recovers to such files; or to others whose main file isn't empty, and they stay
+pub record MainIsEmpty (reopens : Files → Contents → Type 0) (old : Calls) : Type 0 where
   pub files : Files
   pub is : recovered (now old) ≡ Some files
-  pub none : files 0 ≡ []
+  pub can : CanBeMade reopens files
 
 pub record MainIsThere (old new : Calls) : Type 0 where
   pub files : Files
@@ -90,9 +96,9 @@ module _ {S : Type 0} (s : space.Ghosts S) where
   abbrev pub MakesOver : (Files → Contents → Type 0) → (Files → Type 0) → Contents → End → S → S → Type 0
   MakesOver reopens numbers anew end old new = (first : Mark) → Begins s reopens old first → MakingOver s reopens numbers anew end old new first
 
-  -- what it is made in had an empty main file; where it is refused it hadn't, and is left alone; and a rule that is named is broken
-  abbrev pub JudgedMakingOver : (Files → ℕ → Rule → Type 0) → End → S → S → Type 0
-  JudgedMakingOver breaks end old new = JudgedMaking end (s.tells → s.now old 0 ≡ []) (BreaksOver s breaks old new) ((s.tells → s.now old 0 ≡ [] → ⊥) × (new ≡ old))
+  -- what it is made in had an empty main file, and stood for contents; where it is refused the main file wasn't empty, and all is left alone; and a rule that is named is broken
+  abbrev pub JudgedMakingOver : (Files → Contents → Type 0) → (Files → ℕ → Rule → Type 0) → End → S → S → Type 0
+  JudgedMakingOver reopens breaks end old new = JudgedMaking end (s.tells → CanBeMade reopens (s.now old)) (BreaksOver s breaks old new) ((s.tells → s.now old 0 ≡ [] → ⊥) × (new ≡ old))
 
 -- and no file with other numbers is left, at any moment and however it ends
 pub record MakesShaped {S : Type 0} (s : space.Ghosts S) (reopens : Files → Contents → Type 0) (numbers : Files → Type 0) (anew : Contents) (end : End) (old new : S) : Type 0 where
@@ -106,8 +112,8 @@ module _ {V : Type 0} (v : volume.Ghosts V) where
   MakesOn reopens numbers anew end old new = FilesMade v.tells reopens reopens numbers anew end (v.calls old) (v.calls new)
 
   -- a rule that is named is one of the log, or of files beside an empty main file
-  abbrev pub JudgedMakingOn : (Files → ℕ → Rule → Type 0) → End → V → V → Type 0
-  JudgedMakingOn breaks end old new = JudgedMaking end (v.tells → MainIsEmpty (v.calls old)) (BreaksOn v breaks old new) (v.tells → MainIsThere (v.calls old) (v.calls new))
+  abbrev pub JudgedMakingOn : (Files → Contents → Type 0) → (Files → ℕ → Rule → Type 0) → End → V → V → Type 0
+  JudgedMakingOn reopens breaks end old new = JudgedMaking end (v.tells → MainIsEmpty reopens (v.calls old)) (BreaksOn v breaks old new) (v.tells → MainIsThere (v.calls old) (v.calls new))
 
   -- of files that may have so many bytes as any may
   abbrev pub LacksOn : {S N : Type 0} → space.Ghosts S → (S → V) → (S → N → Type 0) → N → V → V → Type 0

@@ -12,6 +12,7 @@ use Rattle.tc_space.specs.declared.space.Space as space
 use Rattle.tc_model.specs.Contents.{Contents}
 use Rattle.tc_fixeddb.specs.declared.shape.FixedShape.{FixedShape}
 use Rattle.tc_hashdb.specs.declared.shape.HashShape.{HashShape}
+use Rattle.tc_tabledb.specs.declared.shape.TableShape.{TableShape}
 use Rattle.tc_treedb.specs.declared.shape.TreeShape.{TreeShape}
 use Rattle.ty_base.specs.Holding.{Frame, Laid, Layout, no_layout}
 use Rattle.ty_base.specs.Opening.{OpensTo}
@@ -65,6 +66,9 @@ asked_tree name work = asked_as stores.Tree (λ n. shapes.Tree n) name work
 
 abbrev pub asked_fixed : Word → Work FixedShape → Asked
 asked_fixed name work = asked_as stores.Fixed (λ n. shapes.Fixed n) name work
+
+abbrev pub asked_table : Word → Work TableShape → Asked
+asked_table name work = asked_as stores.Table (λ n. shapes.Table n) name work
 
 -- what is made anew has numbers that it may have
 abbrev pub MayWork : {N : Type 0} → (N → Type 0) → Work N → Type 0
@@ -134,8 +138,8 @@ pub record RemakesFiles {V : Type 0} (v : volume.Ghosts V) (reopens : Files → 
   pub shaped : MakesOn v (InShape reopens numbers) numbers anew end vol vol'
   -- files beside them stay
   pub laid : (l : Frame) → MakesOn v (Laid own no_layout l reopens) numbers anew end vol vol'
-  -- where it was made, the main file was empty; where it was refused, it wasn't; and where a rule is named, it is one of the log
-  pub judged : JudgedMakingOn v breaks end vol vol'
+  -- where it was made, or there was no room for it, the main file was empty and the files stood for contents; where it was refused, the main file wasn't empty; and where a rule is named, it is one of the log, or of files beside the main file
+  pub judged : JudgedMakingOn v reopens breaks end vol vol'
   -- a main file that is there is looked at, and no more
   pub there : v.tells → LeavesAlone IsThere end (v.calls vol) (v.calls vol')
   pub full : end ≡ Full → lacks

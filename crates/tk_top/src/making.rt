@@ -26,7 +26,7 @@ pub fn make_opened<B: Opens + Drop>(alloc: Global, shape: &B::Shape, space: &mut
     // At any moment and however it ends, the main file is empty or one of that shape.
     ensures made { MakesShaped B.S.Space B.reopens (B.shaped shape.now) (B.anew shape.now) result space.old space.new }
     ensures laid { (l : Frame) → MakesOver B.S.Space (Laid B.own no_layout l B.reopens) (B.shaped shape.now) (B.anew shape.now) result space.old space.new }
-    ensures judged { JudgedMakingOver B.S.Space B.breaks_new result space.old space.new }
+    ensures judged { JudgedMakingOver B.S.Space B.reopens B.breaks_new result space.old space.new }
     // A main file that is there is looked at, and no more.
     ensures there { B.S.tells → IsThere (B.S.now space.old) → (result ≡ Refused) × (space.new ≡ space.old) }
     ensures full { result ≡ Full → B.S.tells → B.lacks space.new shape.now }
@@ -62,8 +62,8 @@ pub fn make_files<S: OnVolume, B: Opens<S = S> + Drop>(
     ensures shaped { MakesOn S.V.Volume (InShape B.reopens (B.shaped shape.now)) (B.shaped shape.now) (B.anew shape.now) result.end vol result.vol }
     // Files beside them stay.
     ensures laid { (l : Frame) → MakesOn S.V.Volume (Laid B.own no_layout l B.reopens) (B.shaped shape.now) (B.anew shape.now) result.end vol result.vol }
-    // Where it was made, the main file was empty; where it was refused, it wasn't; and where a rule is named, it is broken.
-    ensures judged { JudgedMakingOn S.V.Volume B.breaks_new result.end vol result.vol }
+    // Where it was made, the main file was empty and the files stood for contents; where it was refused, the main file wasn't empty; and where a rule is named, it is broken.
+    ensures judged { JudgedMakingOn S.V.Volume B.reopens B.breaks_new result.end vol result.vol }
     ensures there { S.V.tells → LeavesAlone IsThere result.end (S.V.calls vol) (S.V.calls result.vol) }
     ensures full { result.end ≡ Full → LacksOn S.V.Volume S.Space S.under B.lacks shape.now vol result.vol }
     ensures caused { CausedByVolume S.V.faults result.end vol result.vol }

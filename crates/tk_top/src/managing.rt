@@ -46,6 +46,9 @@ fn wants_empty(task: &Task) -> bool
         Task::List { .. } => false,
         Task::Optimize { .. } => false,
         Task::Inform => false,
+        Task::SetIndex { .. } => false,
+        Task::Search { .. } => false,
+        Task::SearchOut { .. } => false,
         Task::Drill { .. } => true,
     }
 }

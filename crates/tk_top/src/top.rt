@@ -2,13 +2,14 @@
 ghost use Rattle.std.specs.Prelude.{◌≡◌, Some, false};
 ghost use Rattle.tc_fixeddb.specs.Shapes as fixed_shape;
 ghost use Rattle.tc_hashdb.specs.Shapes.{MayHave};
+ghost use Rattle.tc_tabledb.specs.Shapes as table_shape;
 ghost use Rattle.tc_treedb.specs.Shapes as tree_shape;
 ghost use Rattle.tc_memdb.specs.Engines.{contents_in};
 ghost use Rattle.ty_answers.specs.Engines.{engine_of};
 ghost use Rattle.tk_words.specs.Words.{texts};
 ghost use Rattle.tk_top.specs.Top.{CarriesOut, DrillsMemory, MemoryRun, RunsOnWords, RunsWanted, no_keys};
 ghost use Rattle.tk_top.specs.Words.{Fits, MayBeMade, asked_in, asked_of};
-ghost use Rattle.tk_top.specs.Works.{MayWork, asked_fixed, asked_hash, asked_to, asked_tree};
+ghost use Rattle.tk_top.specs.Works.{MayWork, asked_fixed, asked_hash, asked_table, asked_to, asked_tree};
 ghost use Rattle.tk_top.specs.Causes.{CausedByWire};
 ghost use Rattle.tk_top.specs.declared.words.Asked.TheVariants as asks;
 
@@ -28,6 +29,7 @@ use tc_held::HeldSpace;
 use tc_io::{At, Clock, Sink, Volume, Wire};
 use tc_memdb::MemEngine;
 use tc_space::NoSpace;
+use tc_tabledb::{TableEngine, TableShape};
 use tc_treedb::{TreeEngine, TreeShape};
 use tc_undo::Undo;
 use tk_mgr::{Task, manage};
@@ -167,6 +169,34 @@ fn on_fixed<S: OnVolume, W: Wire, O: Sink, E: Sink, K: Clock>(
     )
 }
 
+// What is done with the files of a table database.
+fn on_table<S: OnVolume, W: Wire, O: Sink, E: Sink, K: Clock>(
+    alloc: Global,
+    name: &str,
+    work: Work<'_, TableShape>,
+    vol: S::V,
+    wire: &mut W,
+    out: &mut O,
+    err: &mut E,
+    clock: &mut K,
+) -> Stopped<S::V>
+    requires opened { W.opened wire.old ≡ false }
+    requires fits { MayWork table_shape.MayHave work }
+    ensures { CarriesOut S.V.Volume W.Wire K.answers E.Sink O.Sink result.end (asked_table name.now work.entry) vol result.vol wire.old wire.new out.old out.new clock.old clock.new err.old err.new }
+{
+    work_on::<S, Database<TableEngine<S>>, W, O, E, K>(
+        alloc,
+        name,
+        Kind::Table,
+        work,
+        vol,
+        wire,
+        out,
+        err,
+        clock,
+    )
+}
+
 // A job on the files of a name.
 fn do_stored<S: OnVolume, W: Wire, O: Sink, E: Sink, K: Clock>(
     alloc: Global,
@@ -204,6 +234,16 @@ fn do_stored<S: OnVolume, W: Wire, O: Sink, E: Sink, K: Clock>(
             clock,
         ),
         Stored::Fixed => on_fixed::<S, W, O, E, K>(
+            alloc,
+            name,
+            Work::Do(job),
+            vol,
+            wire,
+            out,
+            err,
+            clock,
+        ),
+        Stored::Table => on_table::<S, W, O, E, K>(
             alloc,
             name,
             Work::Do(job),
@@ -256,6 +296,16 @@ fn make_stored<S: OnVolume, W: Wire, O: Sink, E: Sink, K: Clock>(
             alloc,
             name,
             Work::Make(fixed),
+            vol,
+            wire,
+            out,
+            err,
+            clock,
+        ),
+        Shape::Table(table) => on_table::<S, W, O, E, K>(
+            alloc,
+            name,
+            Work::Make(table),
             vol,
             wire,
             out,
@@ -406,7 +456,16 @@ fn follow<S: OnVolume, W: Wire, O: Sink, E: Sink, K: Clock>(
     requires opened { W.opened wire.old ≡ false }
     ensures { RunsWanted S.V.Volume W.Wire K.answers E.Sink O.Sink (asked_in (Some order)) result.end vol result.vol wire.old wire.new out.old out.new clock.old clock.new err.old err.new }
 {
-    match what_is_asked(order) {
+    let asked = match what_is_asked(alloc, order) {
+        Ok(asked) => asked,
+        Err(_) => {
+            return Stopped {
+                end: End::NoMemory,
+                vol,
+            };
+        }
+    };
+    match asked {
         Some(asked) => carry_out::<S, W, O, E, K>(alloc, asked, vol, wire, out, err, clock),
         None => Stopped {
             end: End::Words,
@@ -446,11 +505,11 @@ fn follow_words<S: OnVolume, W: Wire, O: Sink, E: Sink, K: Clock>(
     }
 }
 
-/// What the program does with the words behind its name. Today it serves a database in memory, or a hash, a tree or a fixed-length database in files: `pipe NAME`
-/// over the standard streams, `serve NAME` with its options at an address, with an update log in files and as a replica; it makes such files with `hash create NAME`, `tree create NAME` and `fixed create NAME`,
-/// and carries out the commands `put`, `out`, `get`, `list`, `inform` and `optimize` of these kinds, and `drill`. The name `*` is a map and `+` a tree in the order of bytes,
-/// both in memory, where a limit has no effect; a name that ends in `.tch`, `.tcb` or `.tcf` is that of files, which `pipe`, `serve` and `drill` make where there are none. All
-/// other words are answered with status 1.
+/// What the program does with the words behind its name. Today it serves a database in memory, or a hash, a tree, a fixed-length or a table database in files: `pipe NAME`
+/// over the standard streams, `serve NAME` with its options at an address, with an update log in files and as a replica; it makes such files with `hash create NAME`, `tree create NAME`,
+/// `fixed create NAME` and `table create NAME`, and carries out the commands `put`, `out`, `get`, `list`, `inform` and `optimize` of these kinds, `table setindex`, `table search`, and `drill`.
+/// The name `*` is a map and `+` a tree in the order of bytes, both in memory, where a limit has no effect; a name that ends in `.tch`, `.tcb`, `.tcf` or `.tct` is that of files, which
+/// `pipe`, `serve` and `drill` make where there are none. All other words are answered with status 1.
 pub fn run<V: Volume, W: Wire, O: Sink, E: Sink, K: Clock>(
     alloc: Global,
     words: &Vec<String>,

@@ -21,6 +21,7 @@ A name is
   x.tch    a hash database in files: a value to each key
   x.tcb    a tree in files: one value or several to each key
   x.tcf    a fixed-length database in files: values by number
+  x.tct    a table in files: a row of columns to each key, with indexes
 Files that aren't there are made by serve, pipe and drill.
 
   -host    the address, 127.0.0.1 where it is left out; who reaches it may
@@ -36,8 +37,7 @@ Files that aren't there are made by serve, pipe and drill.
   seed     determines the requests, 0 to 18446744073709551615
   n        so many requests, 0 to 1000000
 
-Words that are not carried out yet: names of tables in files, x.tct; all commands on
-these; and restore.
+A word that is not carried out yet: restore.
 
 A status other than 0 writes its line to the standard error:
   0  it is done; of serve and pipe: the input ended, and all was answered
@@ -130,34 +130,40 @@ others where it is or isn't there. The contents stay then.
 ";
 
 const TABLE: &[u8] = b"tokyo table: commands on a table, whose name ends in .tct.
-None of them is carried out yet, nor are such files served: they end with status 1.
 
-tokyo table create [-tl] name [bnum [apow [fpow]]]
-tokyo table inform name
-tokyo table put [-dk|-dc] name key [column value ..]
-tokyo table out name key
-tokyo table get name key
-tokyo table list [-m n] [-pv] name
-tokyo table optimize [-tl] name
-tokyo table restore [-ts n] name
-tokyo table setindex [-it t] name column
+tokyo table create [-tl] name [bnum [apow [fpow]]]   makes its main file
+tokyo table inform name                              prints what it is
+tokyo table put [-dk|-dc] name key [column value ..] gives a key a row
+tokyo table out name key                             takes a key out
+tokyo table get name key                             prints a row, with tabs in it
+tokyo table list [-m n] [-pv] name                   prints the keys, a line each
+tokyo table optimize [-tl] name                      packs the files
+tokyo table restore [-ts n] name                     isn't carried out yet
+tokyo table setindex [-it t] name column             gives a column an index
 tokyo table search [-ord column n] [-m n] [-sk n] [-pv|-rm] name
-                   [column operator expression ..]
+                   [column operator expression ..]   prints the keys of the rows that
+                                                     meet all conditions, a line each
 
   bnum     buckets, 1 to 16777216; 131071
   apow     the power of 2 that records are aligned to, 4 to 16; 4
   fpow     the power of 2 of the free block pool, 0 to 20; 10
-  -tl      the large form
-  -dk      only where the key isn't held
+  -tl      makes the main file large, or has it packed to a large one
+  -dk      refused where the key is held
   -dc      adds the columns that the row lacks
   -it      lexical, decimal, token or void (takes it out); lexical
   -ord     in the order of a column: 0 its bytes ascending, 1 descending,
            2 its numbers ascending, 3 descending
   -m       so many rows at most, 0 to 2147483647
   -sk      leaves out so many before, 0 to 2147483647; 0
-  -pv      with columns
-  -rm      takes the rows out
-  -ts      up to this time, in microseconds since 1970
+  -pv      behind each key a tab and its row
+  -rm      takes the rows out, and prints nothing
+An operator is 0 equal, 1 includes, 2 begins with, 3 ends with, 4 and 16 all tokens,
+5 and 17 some token, 6 equals some token, 15 tokens in a row; of numbers 8 equal, 9
+greater, 10 at least, 11 less, 12 at most, 13 between, 14 equals some.
+
+Refused, with status 2: get and out of a key that isn't held; void without an index; a
+17th index; an operator that isn't there; create where the main file isn't empty, and
+all others where it is or isn't there. The contents stay then.
 ";
 
 // What is said where the only word is this.

@@ -29,7 +29,7 @@ returns-clause-shaped g c = let shape = c.args.shape.now in let end = c.make_ope
 pub returns-clause-judged : goal.returns-clause-judged
 returns-clause-judged g c = let o = c.in-Ok.ensures.opened in let end = c.make_opened-end.new.space in
     judged_made c.make_opened-end.result _ _ _ _ _ _
-    (λ h t. let b = o.over t in record { files = _; is = b.files; none = h b.tells })
+    (λ h t. let b = o.over t in record { files = _; is = b.files; can = h b.tells })
     (there_so o (closes g.S.Space g.S.V.Volume g.S.OnVolume.under end _ c.close_over.ensures (g.met.S.OnVolume.is_over end)) (λ x. fresh g.S.Space x g.met.S.Space.only_kept g.met.S.Space.clean))
     (breaks_so o (closes g.S.Space g.S.V.Volume g.S.OnVolume.under end _ c.close_over.ensures (g.met.S.OnVolume.is_over end)) (λ x. fresh g.S.Space x g.met.S.Space.only_kept g.met.S.Space.clean) (g.met.S.V.Volume.now_is_image c.args.vol) g.B.Opens.breaks_new)
     c.make_opened-end.ensures.judged

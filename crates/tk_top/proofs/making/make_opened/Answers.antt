@@ -1,12 +1,13 @@
-use Rattle.std.proofs.Common.{arith, inr, sym, subst, ◌∙◌, ◌≡◌, []}
+use Rattle.std.proofs.Common.{ap, arith, inr, sym, subst, ◌∙◌, ◌≡◌, []}
 use Rattle.std.proofs.lemmas.List.{nil_from_length}
+use Rattle.std.specs.Prelude.{Err}
 use Rattle.tk_top.specs.declared.ends.End.{End}
 use Rattle.tk_top.specs.declared.ends.End.TheVariants.{Done, VolumeFault}
 use Rattle.ty_base.specs.Holding.{Laid, no_layout}
 use Rattle.ty_rounds.specs.Kept.{StandFor}
 use Rattle.tk_mgr.specs.Managing.{with_contents}
 use Rattle.tk_top.specs.Ends.{end_of}
-use Rattle.tk_top.specs.Making.{InShape, JudgedMaking, MakesShaped, MakingOver}
+use Rattle.tk_top.specs.Making.{CanBeMade, InShape, JudgedMaking, MakesShaped, MakingOver}
 use Rattle.tk_top.specs.Serving.{Begins}
 use Rattle.tc_base.specs.Files.{Files}
 use Rattle.tc_model.specs.Contents.{Contents}
@@ -14,7 +15,7 @@ use Rattle.ty_world.specs.World.{Mark}
 use Rattle.tk_top.specs.Staying.{BreaksOver}
 use Rattle.tk_top.proofs.Staying.{breaks_over}
 use Rattle.tk_top.proofs.Kept.{commit_moves, steady_moves}
-use Rattle.tk_top.proofs.Made.{making_err, making_over}
+use Rattle.tk_top.proofs.Made.{can_be_made, making_err, making_over}
 use Rattle.tk_top.proofs.Managed.{unbegun_of}
 use Rattle.tk_top.proofs.Fresh.{fresh}
 use Rattle.tk_top.proofs.Laying.{stays_beside}
@@ -78,9 +79,13 @@ returns-in-Err-commit-clause-there g c = λ t some. absurd (some (nil_from_lengt
 
 pub returns-in-Err-clause-judged : goal.returns-in-Err-clause-judged
 returns-in-Err-clause-judged g c = let s = g.B.S.Space in let old = c.args.space.now in let new = c.create.new.space in let breaks = BreaksOver s g.B.Opens.breaks_new old new in
+    let like = g.B.Storage.reopens in
     let empty : s.tells → s.now old 0 ≡ [] = λ t. nil_from_length _ (omega (arith, c.len.ensures t)) in
-    subst (λ (end : End). JudgedMaking end (s.tells → s.now old 0 ≡ []) breaks ((s.tells → s.now old 0 ≡ [] → ⊥) × (new ≡ old))) (sym c.from.ensures)
-    (making_err c.in-Err.e _ _ breaks empty (breaks_over s g.B.Opens.breaks_new c.in-Err.e old new c.in-Err.ensures.broken c.in-Err.ensures.refused.sound))
+    subst (λ (end : End). JudgedMaking end (s.tells → CanBeMade like (s.now old)) breaks ((s.tells → s.now old 0 ≡ [] → ⊥) × (new ≡ old))) (sym c.from.ensures)
+    (making_err c.in-Err.e _ _ breaks (λ full. can_be_made s like old empty (c.in-Err.ensures.beside (ap (λ e. Err e) full))) (breaks_over s g.B.Opens.breaks_new c.in-Err.e old new c.in-Err.ensures.broken c.in-Err.ensures.refused.sound))
+
+pub returns-in-Ok-commit-clause-judged : goal.returns-in-Ok-commit-clause-judged
+returns-in-Ok-commit-clause-judged g c = can_be_made g.B.S.Space g.B.Storage.reopens c.args.space.now (λ t. nil_from_length _ (omega (arith, c.len.ensures t))) c.in-Ok.ensures.stood
 
 -- ---- files beside them
 

@@ -7,6 +7,6 @@ use Rattle.tk_top.proofs.top.on_tree.Goals as goal
 pub returns : goal.returns
 returns g c = let run = c.work_on.ensures in (
   run.0,
-  work_so g.S.V.Volume g.S.Space g.W.Wire g.O.Sink g.S.OnVolume.under g.met.S.OnVolume.log_is Tree (λ n. shapes.Tree n) (λ n. refl) c.args.work c.work_on.result.end c.args.name.now run.0 c.args.vol c.work_on.result.vol c.args.wire.now c.work_on.new.wire c.args.out.now c.work_on.new.out (g.K.Clock.answers c.args.clock.now) (g.K.Clock.answers c.work_on.new.clock) run.1,
+  work_so g.S.V.Volume g.S.Space g.W.Wire g.O.Sink g.S.OnVolume.under g.met.S.OnVolume.log_is Tree (λ n. shapes.Tree n) (λ files file rule. ⊥) (λ n. refl) (λ n. refl) c.args.work c.work_on.result.end c.args.name.now run.0 c.args.vol c.work_on.result.vol c.args.wire.now c.work_on.new.wire c.args.out.now c.work_on.new.out (g.K.Clock.answers c.args.clock.now) (g.K.Clock.answers c.work_on.new.clock) run.1,
   run.2,
 )
