@@ -1,8 +1,9 @@
-//! Plays searches of rows of a table. A case has rows and indexed columns, what keys the indexes have, and what a search of the rows asks for, reads and finds; also the tokens
-//! of texts, and these each once.
+//! Plays tables in memory, which count the rows that are got. A case has rows and indexes that come and go, what keys the indexes have, and what a search asks for, reads and finds;
+//! also the tokens of texts, and these each once.
 //! Its words are files of cases; without words its standard input is one.
 #![tactic(auto)]
 
+mod kept;
 mod plans;
 mod tables;
 mod texts;

@@ -1,6 +1,6 @@
 //! The rows that a search reads by its plan: those that an index names, or all.
 
-use crate::texts::add_text;
+use crate::kept::ColumnIndex;
 use play_text::Wrong;
 use std::alloc::{AllocError, Global};
 use tc_base::{Blob, Blobs, Cut, Seq, Side};
@@ -8,7 +8,7 @@ use tc_model::{Cond, IndexKind, Query};
 use td_index::entry_of;
 use td_plan::{Indexed, Names, Span, make_plan};
 use td_row::Row;
-use td_token::{common, firsts, tokens};
+use td_token::{common, tokens};
 
 /// The type of an index by its number.
 pub fn kind_of(code: &[u8]) -> Result<IndexKind, Wrong> {
@@ -61,64 +61,30 @@ fn is_read(
     }
 }
 
-// The index's keys of a row's parts, with a slash for the zero byte.
-fn put_entries(
+/// The columns and types of indexes.
+pub fn names_of(alloc: Global, sides: &[ColumnIndex]) -> Result<Names, AllocError> {
+    let mut names: Names = Seq::new(alloc);
+    for side in sides {
+        let column = Blob::from_slice(alloc, side.tree.name().as_slice())?;
+        let kind = side.kind;
+        names.push(Indexed { column, kind })?;
+    }
+    Ok(names)
+}
+
+/// Whether a search reads a row, where there are these indexes.
+pub fn reads(
     alloc: Global,
-    all: &mut Blob,
-    parts: &[Blob],
+    names: &Names,
+    q: &Query,
     key: &[u8],
-) -> Result<(), AllocError> {
-    for part in parts {
-        let mut entry = Blob::from_slice(alloc, part.as_slice())?;
-        entry.push(b'/')?;
-        entry.append(key)?;
-        add_text(all, b' ', entry.as_slice())?;
-    }
-    Ok(())
-}
-
-/// Indexed columns.
-#[derive(Drop)]
-pub struct Indexes {
-    alloc: Global,
-    names: Names,
-}
-
-impl Indexes {
-    pub fn new(alloc: Global) -> Indexes {
-        Indexes {
-            alloc,
-            names: Seq::new(alloc),
-        }
-    }
-
-    pub fn add(&mut self, column: &[u8], code: &[u8]) -> Result<(), Wrong> {
-        let kind = kind_of(code)?;
-        let column = Blob::from_slice(self.alloc, column)?;
-        self.names.push(Indexed { column, kind })?;
-        Ok(())
-    }
-
-    /// Whether a search reads a row.
-    pub fn reads(&self, q: &Query, key: &[u8], row: &Row) -> Result<bool, Wrong> {
-        let Some(plan) = make_plan(self.alloc, q, &self.names)? else {
-            return Ok(true);
-        };
-        let Some(cond) = q.conds.as_slice().get(plan.choice.cond) else {
-            return Ok(false);
-        };
-        Ok(is_read(self.alloc, &plan.span, cond, row, key)?)
-    }
-
-    /// The keys of all indexes for a row, with a blank between each two.
-    pub fn entries(&self, key: &[u8], row: &Row) -> Result<Blob, Wrong> {
-        let mut all = Blob::new(self.alloc);
-        for index in self.names.as_slice() {
-            if let Some(value) = row.get(index.column.as_slice()) {
-                let parts = firsts(self.alloc, index.kind, value)?;
-                put_entries(self.alloc, &mut all, parts.as_slice(), key)?;
-            }
-        }
-        Ok(all)
-    }
+    row: &Row,
+) -> Result<bool, AllocError> {
+    let Some(plan) = make_plan(alloc, q, names)? else {
+        return Ok(true);
+    };
+    let Some(cond) = q.conds.as_slice().get(plan.choice.cond) else {
+        return Ok(false);
+    };
+    is_read(alloc, &plan.span, cond, row, key)
 }
