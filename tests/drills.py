@@ -14,6 +14,7 @@ def requests(seed, count):
 
 def ask(base, deed, key, value):
     """Makes a request on a database of the model, and tells whether it succeeds."""
+    value = b"v\0" + value if base.type == b"table" else value
     try:
         if deed == "out":
             base.out(key)
