@@ -36,7 +36,7 @@ MOST_KEY = 1_048_576
 MOST_VALUE = 16_777_216
 MOST_REQUEST = 33_554_432
 
-HASH, DECIMAL, REMOVE = "0", "1", "9999"  # types of an index: by bytes, by number, none any more
+LEXICAL, DECIMAL, TOKEN, REMOVE = "0", "1", "2", "9999"  # types of an index: by bytes, by number, of tokens, none any more
 PIECE = 1 << 18
 
 
@@ -356,8 +356,8 @@ class Requests:
         """The pairs from the first key on and before the end key, at most so many. For trees alone."""
         return self.misc("range", first, str(maximum), *([] if end is None else [end]), make=in_pairs)
 
-    def setindex(self, column, kind=HASH):
-        """Makes an index on a column of a table by bytes (HASH) or by number (DECIMAL), or takes it out (REMOVE)."""
+    def setindex(self, column, kind=LEXICAL):
+        """Makes an index on a column of a table by bytes (LEXICAL), by number (DECIMAL) or of tokens (TOKEN), or takes it out (REMOVE)."""
         return self.misc("setindex", column, kind, make=lambda _: None)
 
     def search(self, *conditions, order=None, limit=None, do=None):
