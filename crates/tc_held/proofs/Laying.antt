@@ -41,7 +41,7 @@ unfolding wrote
 wrote_longer at x y old older same le = grind (arith, places)
 
 -- a write makes nothing shorter
-wrote_grows : (at : ℕ) (x old : List ℕ) → length old ≤ length (wrote at x old)
+pub wrote_grows : (at : ℕ) (x old : List ℕ) → length old ≤ length (wrote at x old)
 unfolding wrote
 wrote_grows at x old = grind (arith, places)
 

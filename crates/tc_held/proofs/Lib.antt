@@ -4,5 +4,6 @@ pub mod History
 pub mod Holding
 pub mod Laying
 pub mod Moments
+pub mod Narrowed
 pub mod Showing
 pub mod Taking

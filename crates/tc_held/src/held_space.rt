@@ -1,5 +1,5 @@
 //! A space that holds what is written until a commit, or until what holds it is full.
-ghost use Rattle.std.specs.Prelude.{◌≡◌, ◌+◌, ◌-◌, ◌^◌, ◌≤◌, ◌<◌, ◌⊎◌, [], ℕ, true, false, length, take, drop, Some, OnOk, OnErr, IsErrOf};
+ghost use Rattle.std.specs.Prelude.{◌≡◌, ◌+◌, ◌-◌, ◌^◌, ◌≤◌, ◌<◌, ◌⊎◌, [], ℕ, true, false, length, take, drop, Some, IfOk, OnOk, OnErr, IsErrOf};
 ghost use Rattle.tc_io.specs.Causes.{Rose};
 ghost use Rattle.tc_space.specs.Effects.{Caused, Changes, Outcome};
 ghost use Rattle.tc_space.specs.Frames.{Follows, Keeps, OnlyReads};
@@ -10,6 +10,7 @@ ghost use Rattle.tc_undo.specs.Room.{needs};
 ghost use Rattle.tc_held.specs.Held.{Brings, FindsFull, IsBare, IsHeld, Written, over};
 ghost use Rattle.tc_held.specs.History.{IsSound};
 
+use crate::differing::{BLOCK, alike_front, differing_front};
 use crate::held::{Held, behind};
 use crate::stood::Stood;
 use tc_base::Fault;
@@ -25,6 +26,9 @@ const RESERVE: u64 = 1 << 29;
 
 /// The most bytes of a data file.
 const MOST_LEN: u64 = 1 << 40;
+
+/// How many bytes are read at a time to see which of them change.
+const STEP: usize = 4096;
 
 /// Files over a space. What is written is held in memory, and brought to the space in one call by a commit, a cut, a write for which there is no room or that passes a limit, or as the space is given up.
 #[derive(Drop)]
@@ -201,6 +205,7 @@ impl<S: Batched> HeldSpace<S> {
         ensures sound { S.sound self.new.below }
         ensures held { IsHeld S.Space S.logged self.new.below self.new.held }
         ensures touched { S.touched self.new.below ≡ S.touched self.old.below }
+        ensures logged { S.logged self.new.below ≡ S.logged self.old.below }
         ensures same { self.new ≡ record self.old { below = self.new.below } }
         ensures cause { OnErr result (Rose (S.faults self.old.below) (S.faults self.new.below)) }
     {
@@ -292,6 +297,119 @@ impl<S: Batched> HeldSpace<S> {
         self.held.put(file, at, bytes)
     }
 
+    // Fills the front with what stands in a file from a place on.
+    fn read_front(&mut self, file: u32, at: u64, long: usize, into: &mut [u8]) -> Result<(), Fault>
+        requires sound { S.sound self.old.below }
+        requires held { IsHeld S.Space S.logged self.old.below self.old.held }
+        requires room { long ≤ length into.old }
+        requires reaches { Reaches S.tells (over self.old.held (S.now self.old.below)) file (at + long) }
+        ensures bytes { OnOk result (S.tells → take long into.new ≡ take long (drop at (over self.old.held (S.now self.old.below) file))) }
+        ensures now { S.tells → (g : ℕ) → S.now self.new.below g ≡ S.now self.old.below g }
+        ensures keeps { Keeps S.Space self.old.below self.new.below }
+        ensures sound { S.sound self.new.below }
+        ensures held { IsHeld S.Space S.logged self.new.below self.new.held }
+        ensures logged { S.logged self.new.below ≡ S.logged self.old.below }
+        ensures same { self.new ≡ record self.old { below = self.new.below } }
+        ensures cause { OnErr result (Rose (S.faults self.old.below) (S.faults self.new.below)) }
+    {
+        self.read_over(file, at, &mut into[..long])
+    }
+
+    // Holds the blocks that differ from the bytes that stand in a file, as far as there is room. Answers how many bytes it is through with.
+    fn hold_blocks(&mut self, file: u32, at: u64, was: &[u8], bytes: &[u8]) -> usize
+        requires sound { S.sound self.old.below }
+        requires held { IsHeld S.Space S.logged self.old.below self.old.held }
+        requires reaches { Reaches S.tells (over self.old.held (S.now self.old.below)) file (at + length bytes.now) }
+        requires below { at + length bytes.now ≤ S.limit self.old.below file }
+        requires room { S.logged self.old.below + 2 ^ 28 ≤ 2 ^ 62 }
+        requires long { length was.now ≡ length bytes.now }
+        requires stands { S.tells → was.now ≡ take (length bytes.now) (drop at (over self.old.held (S.now self.old.below) file)) }
+        ensures most { result ≤ length bytes.now }
+        ensures held { IsHeld S.Space S.logged self.new.below self.new.held }
+        ensures wrote { S.tells → Written file at (take result bytes.now) (over self.old.held (S.now self.old.below)) (over self.new.held (S.now self.new.below)) }
+        ensures sound { S.sound self.new.below }
+        ensures keeps { Keeps S.Space self.old.below self.new.below }
+        ensures logged { S.logged self.new.below ≡ S.logged self.old.below }
+        ensures same { self.new ≡ record self.old { held = self.new.held } }
+    {
+        let mut done = 0;
+        while done < bytes.len() {
+            let next = done + alike_front(behind(was, done), behind(bytes, done));
+            let other = differing_front(behind(was, next), behind(bytes, next));
+            let n = self.hold(file, at + next as u64, &bytes[next..next + other]);
+            if next + n == done {
+                return done;
+            }
+            done = next + n;
+        }
+        done
+    }
+
+    // Holds the blocks of bytes that differ from those over which they lie, as far as there is room. Answers how many bytes it is through with.
+    fn hold_changed(&mut self, file: u32, at: u64, bytes: &[u8]) -> Result<usize, Fault>
+        requires sound { S.sound self.old.below }
+        requires held { IsHeld S.Space S.logged self.old.below self.old.held }
+        requires reaches { Reaches S.tells (over self.old.held (S.now self.old.below)) file (at + length bytes.now) }
+        requires below { at + length bytes.now ≤ S.limit self.old.below file }
+        requires room { S.logged self.old.below + 2 ^ 28 ≤ 2 ^ 62 }
+        ensures most { IfOk result (λ n. n ≤ length bytes.now) }
+        ensures held { IsHeld S.Space S.logged self.new.below self.new.held }
+        ensures wrote { IfOk result (λ n. S.tells → Written file at (take n bytes.now) (over self.old.held (S.now self.old.below)) (over self.new.held (S.now self.new.below))) }
+        ensures sound { S.sound self.new.below }
+        ensures keeps { Keeps S.Space self.old.below self.new.below }
+        ensures logged { S.logged self.new.below ≡ S.logged self.old.below }
+        ensures same { self.new ≡ record self.old { below = self.new.below; held = self.new.held } }
+        ensures cause { OnErr result (Rose (S.faults self.old.below) (S.faults self.new.below)) }
+    {
+        let mut was = [0; STEP];
+        let mut done = 0;
+        while done < bytes.len() {
+            let long = STEP.min(bytes.len() - done);
+            let place = at + done as u64;
+            self.read_front(file, place, long, &mut was)?;
+            let n = self.hold_blocks(file, place, &was[..long], &bytes[done..done + long]);
+            if n == 0 {
+                return Ok(done);
+            }
+            done += n;
+        }
+        Ok(done)
+    }
+
+    // So many bytes from a place on stand in a file of the space below.
+    fn stand(&self, file: u32, at: u64, size: usize) -> bool
+        requires sound { S.sound self.now.below }
+        requires held { IsHeld S.Space S.logged self.now.below self.now.held }
+        requires file { IsDataFile file }
+        requires small { at + size ≤ 2 ^ 40 }
+        ensures { result ≡ true → S.tells → at + size ≤ length (over self.now.held (S.now self.now.below) file) }
+    {
+        at + size as u64 <= self.below.len(file)
+    }
+
+    // Holds bytes for a file, as far as there is room: of a block and more that lies over bytes of the space below, and for all of which there is room, the blocks that differ. Answers how many it is through with.
+    fn hold_some(&mut self, file: u32, at: u64, bytes: &[u8]) -> Result<usize, Fault>
+        requires sound { S.sound self.old.below }
+        requires held { IsHeld S.Space S.logged self.old.below self.old.held }
+        requires reaches { Reaches S.tells (over self.old.held (S.now self.old.below)) file at }
+        requires below { at + length bytes.now ≤ S.limit self.old.below file }
+        requires room { S.logged self.old.below + 2 ^ 28 ≤ 2 ^ 62 }
+        ensures most { IfOk result (λ n. n ≤ length bytes.now) }
+        ensures held { IsHeld S.Space S.logged self.new.below self.new.held }
+        ensures wrote { IfOk result (λ n. S.tells → Written file at (take n bytes.now) (over self.old.held (S.now self.old.below)) (over self.new.held (S.now self.new.below))) }
+        ensures sound { S.sound self.new.below }
+        ensures keeps { Keeps S.Space self.old.below self.new.below }
+        ensures logged { S.logged self.new.below ≡ S.logged self.old.below }
+        ensures same { self.new ≡ record self.old { below = self.new.below; held = self.new.held } }
+        ensures cause { OnErr result (Rose (S.faults self.old.below) (S.faults self.new.below)) }
+    {
+        let size = bytes.len();
+        if size < BLOCK || !self.stand(file, at, size) || !self.held.has_room(file, at, size) {
+            return Ok(self.hold(file, at, bytes));
+        }
+        self.hold_changed(file, at, bytes)
+    }
+
     // Holds bytes for a file, and brings those to the space for which there is no room.
     fn put_some(&mut self, file: u32, at: u64, bytes: &[u8]) -> Result<(), Fault>
         requires sound { S.sound self.old.below }
@@ -302,11 +420,11 @@ impl<S: Batched> HeldSpace<S> {
         ensures held { OnOk result (IsHeld S.Space S.logged self.new.below self.new.held) }
         ensures wrote { OnOk result (S.tells → Written file at bytes.now (over self.old.held (S.now self.old.below)) (over self.new.held (S.now self.new.below))) }
         ensures keeps { Keeps S.Space self.old.below self.new.below }
-        ensures outcome { Outcome S.sound S.flag result self.new.below }
+        ensures sound { OnOk result (S.sound self.new.below) }
         ensures same { self.new ≡ record self.old { below = self.new.below; held = self.new.held } }
         ensures cause { OnErr result (Rose (S.faults self.old.below) (S.faults self.new.below)) }
     {
-        let done = self.hold(file, at, bytes);
+        let done = self.hold_some(file, at, bytes)?;
         if done == bytes.len() {
             return Ok(());
         }
@@ -344,7 +462,7 @@ impl<S: Batched> HeldSpace<S> {
         ensures held { OnOk result (IsHeld S.Space S.logged self.new.below self.new.held) }
         ensures wrote { OnOk result (S.tells → Written file at bytes.now (over self.old.held (S.now self.old.below)) (over self.new.held (S.now self.new.below))) }
         ensures keeps { Keeps S.Space self.old.below self.new.below }
-        ensures outcome { Outcome S.sound S.flag result self.new.below }
+        ensures sound { OnOk result (S.sound self.new.below) }
         ensures same { self.new ≡ record self.old { below = self.new.below; held = self.new.held } }
         ensures cause { OnErr result (Rose (S.faults self.old.below) (S.faults self.new.below)) }
     {
@@ -424,7 +542,7 @@ impl<S: Batched> Space for HeldSpace<S> {
         self.read_over(file, at, into)
     }
 
-    /// It holds the bytes. Where there is no room it brings all of it to the space, also as the file's limit is passed.
+    /// It holds the bytes. Of 256 and more that all lie over bytes of the space below, which it reads, it holds the blocks of 256 that differ, counted from the write's place. Where there is no room it brings all of it to the space, also as the file's limit is passed.
     fn write(&mut self, file: u32, at: u64, bytes: &[u8]) -> Result<(), SpaceErr> {
         self.stood = self.stood.and(&self.below, &self.held);
         self.touched = true;

@@ -63,7 +63,7 @@ pub returns-in-Ok-clause-outcome : goal.returns-in-Ok-clause-outcome
 returns-in-Ok-clause-outcome g c = record {
   ok = record {
     good_is = ap (λ s. s.good) c.put.ensures.same ∙ c.requires.sound.good_is;
-    below_is = c.in-Ok.ensures.outcome.ok;
+    below_is = c.in-Ok.ensures.sound;
     held_is = c.in-Ok.ensures.held;
     lens_are = λ t.
         let s = g.S.Space in
