@@ -80,62 +80,50 @@ fn range(alloc: Global, args: &[Blob]) -> Result<Option<Misc>, AllocError>
     }
 }
 
-// Two by two, an even number.
-fn pairs(alloc: Global, args: &[Blob]) -> Result<Option<Pairs>, AllocError>
-    ensures { IfOk result (λ o. o ≡ paired args.now) }
+// Two by two, an even number; each text is moved.
+fn pairs(alloc: Global, args: Blobs) -> Result<Option<Pairs>, AllocError>
+    ensures { IfOk result (λ o. o ≡ paired args) }
 {
-    let mut found = Pairs::new(alloc);
-    let mut rest = args;
-    while let [key, value, behind @ ..] = rest {
-        found.push(Pair {
-            key: copied(alloc, key)?,
-            value: copied(alloc, value)?,
-        })?;
-        rest = behind;
+    let mut found = Vec::with_capacity(alloc, args.len() / 2)?;
+    let mut front: Option<Blob> = None;
+    for text in args.into_vec() {
+        let Some(key) = front.take() else {
+            front = Some(text);
+            continue;
+        };
+        found.push(Pair { key, value: text })?;
     }
-    if rest.is_empty() {
-        return Ok(Some(found));
+    if front.is_some() {
+        return Ok(None);
     }
-    Ok(None)
+    Ok(Some(Pairs::from_vec(found)))
 }
 
-fn put_row(alloc: Global, mode: Mode, args: &[Blob]) -> Result<Option<Misc>, AllocError>
-    ensures { IfOk result (λ o. o ≡ key_and_twos (λ key columns. misc.PutRow mode key columns) args.now) }
+fn put_row(alloc: Global, mode: Mode, args: Blobs) -> Result<Option<Misc>, AllocError>
+    ensures { IfOk result (λ o. o ≡ key_and_twos (λ key columns. misc.PutRow mode key columns) args) }
 {
-    let [key, rest @ ..] = args else {
+    let [_, ..] = args.as_slice() else {
         return Ok(None);
     };
-    let Some(columns) = pairs(alloc, rest)? else {
+    let mut texts = args.into_vec();
+    let key = texts.remove(0);
+    let Some(columns) = pairs(alloc, Blobs::from_vec(texts))? else {
         return Ok(None);
     };
-    Ok(Some(Misc::PutRow {
-        mode,
-        key: copied(alloc, key)?,
-        columns,
-    }))
-}
-
-fn all(alloc: Global, args: &[Blob]) -> Result<Blobs, AllocError>
-    ensures { IfOk result (λ bs. bs ≡ args.now) }
-{
-    let mut found = Blobs::new(alloc);
-    for arg in args {
-        found.push(copied(alloc, arg)?)?;
-    }
-    Ok(found)
+    Ok(Some(Misc::PutRow { mode, key, columns }))
 }
 
 // The last names of the table.
 fn read_other(
     alloc: Global,
     name: &[u8],
-    args: &[Blob],
+    args: Blobs,
     kind: Kind,
 ) -> Result<Option<Misc>, AllocError>
-    ensures { IfOk result (λ o. o ≡ pick other_entries name.now kind args.now) }
+    ensures { IfOk result (λ o. o ≡ pick other_entries name.now kind args) }
 {
     if name == b"putdup".as_slice() && is_tree(kind) {
-        let [key, value] = args else {
+        let [key, value] = args.as_slice() else {
             return Ok(None);
         };
         return Ok(Some(Misc::PutDup {
@@ -144,16 +132,16 @@ fn read_other(
         }));
     }
     if name == b"range".as_slice() && is_tree(kind) {
-        return range(alloc, args);
+        return range(alloc, args.as_slice());
     }
     if name == b"vanish".as_slice() {
-        if args.is_empty() {
+        if args.as_slice().is_empty() {
             return Ok(Some(Misc::Vanish));
         }
         return Ok(None);
     }
     if name == b"setindex".as_slice() && is_table(kind) {
-        let [column, code] = args else {
+        let [column, code] = args.as_slice() else {
             return Ok(None);
         };
         return Ok(Some(Misc::SetIndex {
@@ -162,9 +150,7 @@ fn read_other(
         }));
     }
     if name == b"search".as_slice() && is_table(kind) {
-        return Ok(Some(Misc::Search {
-            conditions: all(alloc, args)?,
-        }));
+        return Ok(Some(Misc::Search { conditions: args }));
     }
     Ok(None)
 }
@@ -173,10 +159,10 @@ fn read_other(
 fn read_list(
     alloc: Global,
     name: &[u8],
-    args: &[Blob],
+    args: Blobs,
     kind: Kind,
 ) -> Result<Option<Misc>, AllocError>
-    ensures { IfOk result (λ o. o ≡ pick list_entries name.now kind args.now) }
+    ensures { IfOk result (λ o. o ≡ pick list_entries name.now kind args) }
 {
     if name == b"putlist".as_slice() && is_map(kind) {
         let Some(pairs) = pairs(alloc, args)? else {
@@ -191,26 +177,17 @@ fn read_list(
         return Ok(Some(Misc::PutDups { pairs }));
     }
     if name == b"outlist".as_slice() {
-        return Ok(Some(Misc::OutList {
-            keys: all(alloc, args)?,
-        }));
+        return Ok(Some(Misc::OutList { keys: args }));
     }
     if name == b"getlist".as_slice() && has_values(kind) {
-        return Ok(Some(Misc::GetList {
-            keys: all(alloc, args)?,
-        }));
+        return Ok(Some(Misc::GetList { keys: args }));
     }
     read_other(alloc, name, args, kind)
 }
 
 // Those and the names of rows.
-fn read_row(
-    alloc: Global,
-    name: &[u8],
-    args: &[Blob],
-    kind: Kind,
-) -> Result<Option<Misc>, AllocError>
-    ensures { IfOk result (λ o. o ≡ pick row_entries name.now kind args.now) }
+fn read_row(alloc: Global, name: &[u8], args: Blobs, kind: Kind) -> Result<Option<Misc>, AllocError>
+    ensures { IfOk result (λ o. o ≡ pick row_entries name.now kind args) }
 {
     if name == b"put".as_slice() && is_table(kind) {
         return put_row(alloc, Mode::Over, args);
@@ -222,7 +199,7 @@ fn read_row(
         return put_row(alloc, Mode::Cat, args);
     }
     if name == b"get".as_slice() && is_table(kind) {
-        let [key] = args else {
+        let [key] = args.as_slice() else {
             return Ok(None);
         };
         return Ok(Some(Misc::GetRow {
@@ -235,22 +212,22 @@ fn read_row(
 fn read_name(
     alloc: Global,
     name: &[u8],
-    args: &[Blob],
+    args: Blobs,
     kind: Kind,
 ) -> Result<Option<Misc>, AllocError>
-    ensures { IfOk result (λ o. o ≡ pick entries name.now kind args.now) }
+    ensures { IfOk result (λ o. o ≡ pick entries name.now kind args) }
 {
     if name == b"put".as_slice() && has_values(kind) {
-        return put(alloc, Mode::Over, args);
+        return put(alloc, Mode::Over, args.as_slice());
     }
     if name == b"putkeep".as_slice() && has_values(kind) {
-        return put(alloc, Mode::Keep, args);
+        return put(alloc, Mode::Keep, args.as_slice());
     }
     if name == b"putcat".as_slice() && has_values(kind) {
-        return put(alloc, Mode::Cat, args);
+        return put(alloc, Mode::Cat, args.as_slice());
     }
     if name == b"get".as_slice() && has_values(kind) {
-        let [key] = args else {
+        let [key] = args.as_slice() else {
             return Ok(None);
         };
         return Ok(Some(Misc::Get {
@@ -258,7 +235,7 @@ fn read_name(
         }));
     }
     if name == b"out".as_slice() {
-        let [key] = args else {
+        let [key] = args.as_slice() else {
             return Ok(None);
         };
         return Ok(Some(Misc::Out {
@@ -273,10 +250,10 @@ fn read_name(
 pub fn read_misc(
     alloc: Global,
     name: &[u8],
-    args: &Blobs,
+    args: Blobs,
     kind: Kind,
 ) -> Result<Option<Misc>, AllocError>
-    ensures { IfOk result (λ o. o ≡ misc_of name.now args.now kind) }
+    ensures { IfOk result (λ o. o ≡ misc_of name.now args kind) }
 {
-    read_name(alloc, name, args.as_slice(), kind)
+    read_name(alloc, name, args, kind)
 }

@@ -11,6 +11,7 @@ ghost use Rattle.tc_plain.specs.Views.{contents_of, effect_seen, outcome_seen};
 ghost use Rattle.tc_plain.specs.Bodies.{is_change};
 
 use crate::contents::{Data, kind_of};
+use crate::maps::Copied;
 use crate::meaning::{Outcome, done};
 use crate::reads::{all_keys, count, first_pairs, held, size_of};
 use crate::stores::{add, emptied, out, shift, store};
@@ -136,6 +137,7 @@ fn called(
         drop(old);
         return Ok(None);
     }
+    let args = args.copied(alloc)?;
     let Some(m) = read_misc(alloc, name.as_slice(), args, kind_of(&old))? else {
         drop(old);
         return Ok(None);

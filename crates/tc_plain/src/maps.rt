@@ -8,7 +8,7 @@ use std::alloc::{AllocError, Global};
 use std::collections::BTreeMap;
 use std::collections::btree_map::Iter;
 use std::marker::Model;
-use tc_base::{Blob, Key, Keys, Pair, Pairs};
+use tc_base::{Blob, Blobs, Key, Keys, Pair, Pairs};
 use tc_model::IndexKind;
 
 /// What can be copied as it is.
@@ -37,6 +37,16 @@ impl Copied for Pairs {
         let mut copy = Pairs::new(alloc);
         for pair in self.as_slice() {
             copy.push(pair.copied(alloc)?)?;
+        }
+        Ok(copy)
+    }
+}
+
+impl Copied for Blobs {
+    fn copied(&self, alloc: Global) -> Result<Blobs, AllocError> {
+        let mut copy = Blobs::new(alloc);
+        for text in self.as_slice() {
+            copy.push(text.copied(alloc)?)?;
         }
         Ok(copy)
     }

@@ -102,7 +102,7 @@ fn serve<E: Engine>(
             name,
             options,
             args,
-        } => call(alloc, engine, space, &name, options, &args, updating, reply),
+        } => call(alloc, engine, space, &name, options, args, updating, reply),
         Request::Repl { .. } => Ok(true),
     }
 }

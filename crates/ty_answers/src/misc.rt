@@ -79,17 +79,17 @@ pub fn call<E: Engine>(
     space: &mut E::S,
     name: &Blob,
     options: u32,
-    args: &Blobs,
+    args: Blobs,
     updating: bool,
     reply: &mut Blob,
 ) -> Result<bool, RecErr>
     requires ready { IsReady E.S.Space E.holds engine.old space.old }
-    requires updating { updating ≡ updates_call name.now args.now }
-    ensures answers { AnswersCalled E.S.Space E.own E.layout E.holds result name.now options args.now engine.old engine.new space.old space.new reply.old reply.new }
+    requires updating { updating ≡ updates_call name.now args }
+    ensures answers { AnswersCalled E.S.Space E.own E.layout E.holds result name.now options args engine.old engine.new space.old space.new reply.old reply.new }
     ensures refused { RefusesHeld E.S.Space E.holds result engine.old engine.new space.old space.new }
     ensures front { IsPrefix reply.old reply.new }
-    ensures writes { IsErrOf result RecErr.Full → updates_call name.now args.now ≡ true }
-    ensures full { FullAnswer E.S.Space E.holds E.fills result (called name.now options args.now) engine.old space.old space.new }
+    ensures writes { IsErrOf result RecErr.Full → updates_call name.now args ≡ true }
+    ensures full { FullAnswer E.S.Space E.holds E.fills result (called name.now options args) engine.old space.old space.new }
     ensures keeps { Keeps E.S.Space space.old space.new }
     ensures cause { OnFault E.S.Space result space.old space.new }
 {

@@ -14,7 +14,7 @@ returns-then-not-has_short_keys-clause-answers g c =
     let s = g.E.S.Space in
     let holds = g.E.Storage.holds in
     let name = c.args.name.now in
-    let args = c.args.args.now in
+    let args = c.args.args in
     let options = c.args.options in
     let misc = c.in-Some.misc in
     let kept = ap (λ u. options % 2 == 1 && u) (sym c.requires.updating) ∙ (sym c.is_omitted.ensures ∙ c.if-is_omitted.false) in
@@ -29,7 +29,7 @@ returns-clause-answers g c =
     let s = g.E.S.Space in
     let holds = g.E.Storage.holds in
     let name = c.args.name.now in
-    let args = c.args.args.now in
+    let args = c.args.args in
     let options = c.args.options in
     let misc = c.in-Some.misc in
     let kept = ap (λ u. options % 2 == 1 && u) (sym c.requires.updating) ∙ (sym c.is_omitted.ensures ∙ c.if-is_omitted.false) in
@@ -45,7 +45,7 @@ returns-clause-full g c =
     let s = g.E.S.Space in
     let holds = g.E.Storage.holds in
     let name = c.args.name.now in
-    let args = c.args.args.now in
+    let args = c.args.args in
     let options = c.args.options in
     let misc = c.in-Some.misc in
     let kept = ap (λ u. options % 2 == 1 && u) (sym c.requires.updating) ∙ (sym c.is_omitted.ensures ∙ c.if-is_omitted.false) in
@@ -58,6 +58,6 @@ returns-clause-full g c =
 pub returns-clause-writes : goal.returns-clause-writes
 returns-clause-writes g c =
     let name = c.args.name.now in
-    let args = c.args.args.now in
+    let args = c.args.args in
     let read = ap (λ n. misc_of n args c.kind.result) (sym c.as_slice.ensures) ∙ (sym c.in_ok-misc.ensures ∙ c.in-Some.is) in
     λ is. updates_named name args c.kind.result c.in-Some.misc read (c.perform.ensures.writes is)
