@@ -7,6 +7,7 @@ mod Joining
 mod Lines
 mod Listed
 mod Made
+mod NoWords
 mod Settled
 mod Several
 mod Spelled

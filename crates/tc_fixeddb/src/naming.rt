@@ -1,12 +1,14 @@
 //! The ids that keys name, by the least and the greatest id held.
-ghost use Rattle.std.specs.Prelude.{◌≡◌};
+ghost use Rattle.std.specs.Prelude.{◌≡◌, false};
+ghost use Rattle.tc_model.specs.Texts.{is_number};
 ghost use Rattle.tc_fixeddb.specs.Naming.{all_named, id_by, least_with, number_by};
 
 use crate::numbers::number_of;
 use tc_base::Pair;
 
-/// The number that a key names: one of four words, or one to twenty digits. 0 of any other key.
-pub fn number_named(least: u64, greatest: u64, key: &[u8]) -> u128
+// The number that a word names, and 0 of another key that spells no number.
+fn number_of_word(least: u64, greatest: u64, key: &[u8]) -> u128
+    requires { is_number 20 key.now ≡ false }
     ensures { result ≡ number_by least greatest key.now }
 {
     if key == b"min".as_slice() {
@@ -21,9 +23,16 @@ pub fn number_named(least: u64, greatest: u64, key: &[u8]) -> u128
     if key == b"next".as_slice() {
         return u128::from(greatest) + 1;
     }
+    0
+}
+
+/// The number that a key names: one of four words, or one to twenty digits. 0 of any other key.
+pub fn number_named(least: u64, greatest: u64, key: &[u8]) -> u128
+    ensures { result ≡ number_by least greatest key.now }
+{
     match number_of(key) {
         Some(n) => n,
-        None => 0,
+        None => number_of_word(least, greatest, key),
     }
 }
 
